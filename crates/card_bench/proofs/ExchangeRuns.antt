@@ -2,15 +2,13 @@
 use Rattle.std.specs.Prelude.{◌≡◌, ◌<◌, ◌-◌, ℕ, zero, suc, List, Option, Result, Some, Ok, Err, refl}
 use Rattle.std.proofs.Common.{arith, inl, inr, subst, sym}
 use Rattle.t1_link.specs.ReaderTable.{Reader}
-use Rattle.card_bench.specs.BenchStates.{BenchState, off, on, IsOn}
-use Rattle.card_bench.specs.Exchanges.{Arrives, CardTakes, Commands, Desk, Ends, Exchanged, Exchanges}
-use Rattle.card_bench.specs.Exchanges.{Passes, NextBlock, left_by, printed_by, toward_card}
+use Rattle.card_bench.specs.BenchStates.{BenchState}
+use Rattle.card_bench.specs.Exchanges.{Arrives, CardTakes, Ends, Exchanges}
+use Rattle.card_bench.specs.Exchanges.{Passes, NextBlock, toward_card}
 use Rattle.card_bench.specs.Exchanges.{Ended}
 use Rattle.card_bench.specs.Exchanges.{link_lost}
 use Rattle.card_bench.specs.declared.line.Line.{Line}
 use Rattle.card_bench.specs.Lines.{arriving, line_after}
-use Rattle.card_bench.specs.Performing.{PerformsCommand}
-use Rattle.card_bench.specs.Printouts.{Print}
 
 -- However the exchange goes on from here, with so many blocks left, so it goes from where it began.
 pub record HasPassed (limit : ℕ) (first : Ends) (way : NextBlock) (left : ℕ) (here : Ends)
@@ -59,20 +57,6 @@ module _ (limit : ℕ) (first : Ends) (way : NextBlock) (left : ℕ) (here : End
   pub gives_up : left ≡ 0 → Exchanges limit first way here link_lost
   gives_up e =
       past.continues here link_lost (subst (λ (n : ℕ). Exchanges n here next here link_lost) (sym e) (none here next))
-
--- a command where the reader's end is there
-pub commands-open : (old new : Desk) (command : List ℕ) (prints : Print) (reader after : Reader) (ending : Ended)
-    → Some reader ≡ old.reader → Exchanged (record { bench = old.bench; reader = reader; line = old.line }) command
-    (record { bench = new.bench; reader = after; line = new.line }) ending
-    → new.reader ≡ left_by ending after → prints ≡ printed_by ending → Commands old old.reader command new prints
-commands-open old new command prints reader after ending e exchanged left printed =
-    subst (λ (r : Option Reader). Commands old r command new prints) e (after, ending, exchanged, left, printed)
-
--- with power on a command goes through both ends
-pub powered_command : (b : BenchState) (old new : Desk) (command : List ℕ) (prints : Print) → IsOn b
-    → Commands old old.reader command new prints → PerformsCommand b old command new prints
-powered_command (off facts) old new command prints power commands = absurd power
-powered_command (on powered) old new command prints power commands = commands
 
 -- a block arrives at the card's end: it replies, or power is lost there
 pub takes_there : (bench after : BenchState) (reader : Reader) (old new : Line) (block got : List ℕ)

@@ -19,15 +19,6 @@ findings-set (x ∷ seen) (suc i) s d same = ap (λ (fs : List Finding). finding
 pub adds-none : (Is : Finding → Type 0) (old : List Finding) → Adds Is old old
 adds-none Is old = record { more = []; all = sym (append-nil old); each = λ k d lt. absurd (omega arith) }
 
--- one is added
-pub adds-one : (Is : Finding → Type 0) (old : List Finding) (f : Finding) → Is f → Adds Is old (old ++ f ∷ [])
-adds-one Is old f is = record {
-  more = f ∷ [];
-  all = refl;
-  each = λ k d lt. let here : k ≡ 0 = omega arith in
-      let P : ℕ → Type 0 = λ i. Is (get_or (f ∷ []) i d) in subst P (sym here) is;
-}
-
 -- some, and then more
 pub adds-on : (Is : Finding → Type 0) (old between new : List Finding) → Adds Is old between
     → Adds Is between new → Adds Is old new
@@ -71,10 +62,3 @@ tally-again runs seen i s d lt same more tally =
       given = All-set (λ x. 1 ≤ x.count) seen i s (omega (arith, more)) tally.given;
       different = subst P (sym (findings-set seen i s d same)) tally.different;
     }
-
--- all that there are were added
-pub adds-all : (Is : Finding → Type 0) (old new : List Finding) → old ≡ [] → Adds Is old new → All Is new
-adds-all Is old new none some =
-    let P : List Finding → Type 0 = All Is in
-    let more : new ≡ some.more = some.all ∙ ap (λ (l : List Finding). l ++ some.more) none in
-    subst P (sym more) some.each

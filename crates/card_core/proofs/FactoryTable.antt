@@ -48,12 +48,6 @@ free_anywhere zero k = refl
 free_anywhere (suc n) zero = refl
 free_anywhere (suc n) (suc k) = free_anywhere n k
 
--- the two used entries
-used_two : (n e : ℕ) → IsUsed (entries_with n) e → (e ≡ 0) ⊎ (e ≡ 1)
-used_two n zero used = inl refl
-used_two n (suc zero) used = inr refl
-used_two n (suc (suc e)) used = absurd (used (ap (λ (x : Entry). x.kind) (free_anywhere n e)))
-
 used_below : (n e : ℕ) → 0 < e → IsUsed (entries_with n) e → e ≡ 1
 used_below n zero low used = absurd (omega arith)
 used_below n (suc zero) low used = refl

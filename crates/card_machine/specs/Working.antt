@@ -53,10 +53,6 @@ pub record IsCurrent (t : List Entry) (x : Current) : Type 0 where
   pub ef : IfSome x.ef (IsElementary t x.df)
   pub marks : length x.verified ≡ 8
 
--- the PINs that are verified, each of PIN 1 to 8 marked
-abbrev pub verified_in : Current → List Bool
-verified_in x = x.verified
-
 -- the PINs of a memory of format 2 that are disabled, each of PIN 1 to 8 marked
 abbrev pub disabled_in : List ℕ → List Bool
 disabled_in m = map (λ pin. not pin.enabled) (pins_of m)
@@ -197,7 +193,7 @@ abbrev pub data_in : Returned → Entry → List ℕ
 data_in Template entry = template_in entry
 data_in Nothing entry = []
 
--- An empty answer once data is found: what is given of it by Le;
+-- What becomes of an empty answer where data is found: what Le gives of the data;
 -- or nothing, and the refusal of an Le that asks for less.
 abbrev pub IsGiven : Option ℕ → List ℕ → List ℕ → Option Sw → Type 0
 IsGiven expected found text None =

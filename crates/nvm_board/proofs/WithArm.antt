@@ -213,17 +213,3 @@ aims_unarmed a old new none aims = record {
   off = λ off. ap (with_arm a) (aims.off off);
   cut = inl (aim-armed a new ∙ ap (aimed new.writes) none ∙ sym (aim-armed a old ∙ ap (aimed old.writes) none));
 }
-
--- a torn write spends it
-pub aims_torn : (a : Option Arm) (old new : Facts) (mask : ℕ) → a ≡ fires_by mask → old.dark ≡ false → new.dark ≡ true
-    → AimsAtWrite (with_arm a old) (with_arm None new)
-aims_torn a old new mask fires lit dark = record {
-  off = λ off. absurd (let dark : old.dark ≡ true = off in cc);
-  cut = inr (record {
-    dark = dark;
-    none = refl;
-    cut = record { write = old.writes + 0 + 1; mask = mask };
-    was = aim-armed a old ∙ ap (aimed old.writes) fires;
-    next = omega arith;
-  });
-}

@@ -109,10 +109,6 @@ module _ (m run : List ℕ) (a : ℕ) (shut : gate m ≡ 0)
       let mixture : IsMixture m a run n = IsMixture-Torn m run n a fits torn in
       mixture.elsewhere GATE apart ∙ shut
 
-  pub torn-sound : (n : List ℕ) → a + length run ≤ length m → (GATE < a) ⊎ (a + length run ≤ GATE) → Torn m a run n
-      → IsSound n
-  torn-sound n fits apart torn = sound_shut n (torn-gate n fits apart torn)
-
   pub torn-shut : (n : List ℕ) → 0 < length run → a + length run ≤ length m → (GATE < a) ⊎ (a + length run ≤ GATE)
       → Torn m a run n
       → Torn (data_words (undo m)) a run (data_words (undo n))

@@ -130,12 +130,6 @@ pub length-pair_words : (m : List ℕ) (sets : List Waiting) → length (pair_wo
 length-pair_words m [] = refl
 length-pair_words m (s ∷ rest) = omega (arith, length-pair_words m rest)
 
-pub pair_words-append : (m : List ℕ) (sets others : List Waiting)
-    → pair_words m (sets ++ others) ≡ pair_words m sets ++ pair_words m others
-pair_words-append m [] others = refl
-pair_words-append m (s ∷ rest) others =
-    ap (λ (l : List ℕ). s.at ∷ slice_index m s.at ∷ l) (pair_words-append m rest others)
-
 -- written into the journal they are its pairs
 pub pairs_from-written : (e m : List ℕ) (sets : List Waiting) (g : ℕ) → JOURNAL + 2 * (g + length sets) ≤ length m
     → pairs_from (written m (JOURNAL + 2 * g) (pair_words e sets)) g (length sets) ≡ pairs_of e sets

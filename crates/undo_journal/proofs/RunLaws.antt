@@ -235,10 +235,6 @@ run-short (s ∷ rest) next = elim (going next s.at) [
       omega (arith, run)
 ]
 
-pub turn-some : (ps : List Waiting) → 0 < length ps → 0 < length (first_words ps)
-turn-some [] some = absurd (omega arith)
-turn-some (s ∷ rest) some = omega arith
-
 pub turn-few : (ps : List Waiting) → length (first_words ps) ≤ length ps
 turn-few [] = omega arith
 turn-few (s ∷ rest) = omega (arith, run-short rest (s.at + 1))

@@ -14,7 +14,7 @@ use Rattle.file_tree.specs.declared.entry.Entry.{Entry}
 use Rattle.card_machine.specs.laws.FoundLaws.{same-of}
 use Rattle.card_machine.specs.declared.current.Current.{Current}
 use Rattle.card_machine.specs.Sessions.{marked, marks_of}
-use Rattle.card_machine.specs.Working.{session_of, verified_in}
+use Rattle.card_machine.specs.Working.{session_of}
 
 -- whether a number is one of 1 to 8
 abbrev is_pin : ℕ → Bool
@@ -165,5 +165,5 @@ marks_of-marked marks sized =
 
 -- the marks of a session are those that the code keeps
 pub marks-are : (t : List Entry) (x : Current) → length x.verified ≡ 8
-    → marks_of (session_of t x).verified ≡ verified_in x
+    → marks_of (session_of t x).verified ≡ x.verified
 marks-are t x sized = marks_of-marked x.verified sized

@@ -1,20 +1,16 @@
 -- What the boards in working memory are known to be.
-use Rattle.std.specs.Prelude.{◌≡◌, ◌≤◌, ℕ, Option}
+use Rattle.std.specs.Prelude.{◌≤◌, ℕ, Option}
 use Rattle.std.proofs.Common.{arith}
 use Rattle.nvm_board.specs.declared.board.Arm.{Arm}
 use Rattle.nvm_board.specs.declared.board.TheConstants.{COUNT_END}
 use Rattle.nvm_board.specs.declared.ram_board.RamBoard.{RamBoard}
 use Rattle.nvm_board.specs.declared.cut_board.CutBoard.{CutBoard}
 use Rattle.nvm_board.specs.declared.fault_board.FaultBoard.{FaultBoard}
-use Rattle.nvm_board.specs.Facts.{Facts, IsBoard, pages_of}
+use Rattle.nvm_board.specs.Facts.{Facts, IsBoard}
 use Rattle.nvm_board.specs.laws.Sizes.{memory_of_pages}
 use Rattle.nvm_board.specs.Ram.{ram_facts}
 use Rattle.nvm_board.specs.Cut.{cut_facts}
 use Rattle.nvm_board.specs.Faulty.{fault_facts}
-
--- it has as many pages as it says
-pub ram_pages : (b : RamBoard) → pages_of (ram_facts b).words ≡ b.pages
-ram_pages b = (memory_of_pages (ram_facts b).words b.pages b.least b.most b.sized).1
 
 -- a board in working memory is one
 pub ram_is_board : (b : RamBoard) → IsBoard (ram_facts b)

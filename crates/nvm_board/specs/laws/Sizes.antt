@@ -8,10 +8,6 @@ use Rattle.nvm_board.specs.Facts.{IsMemory, address, pages_of}
 pub least_words : (m : List ℕ) → IsMemory m → PAGE_WORDS * LEAST_PAGES ≤ length m
 least_words m memory = omega (arith, memory.whole, memory.least)
 
--- and at most so many
-pub most_words : (m : List ℕ) → IsMemory m → length m ≤ PAGE_WORDS * MOST_PAGES
-most_words m memory = omega (arith, memory.whole, memory.most)
-
 -- as many words are as many pages
 pub pages_same : (m after : List ℕ) → length after ≡ length m → pages_of after ≡ pages_of m
 pages_same m after size = ap (λ (n : ℕ). n / PAGE_WORDS) size

@@ -44,15 +44,6 @@ spends_after n a b c kept costs = record {
   matches = costs.matches ∙ kept.matches;
 }
 
-pub spends_before : (n : ℕ) (a b c : Facts) → WritesAtMost n a b → KeepsBoard b c → WritesAtMost n a c
-spends_before n a b c costs kept = record {
-  writes = omega (arith, kept.writes, costs.writes);
-  more = omega (arith, kept.writes, costs.more);
-  cut = aims_then a b c costs.cut (aims_kept b c kept.cut);
-  compares = kept.compares ∙ costs.compares;
-  matches = kept.matches ∙ costs.matches;
-}
-
 -- what was written is counted on
 pub advances_by : (n : ℕ) (a b : Facts) → WritesAtMost n a b → Advances a b
 advances_by n a b costs = record { more = costs.more; cut = costs.cut }

@@ -1,17 +1,12 @@
 -- What is said at the exits of a function that answers a result.
-use Rattle.std.specs.Prelude.{◌≡◌, Option, Some, Result, Ok, Err, IsErrAnd, IfOk, OnOk, is_some}
+use Rattle.std.specs.Prelude.{◌≡◌, Option, Some, Result, Ok, Err, IsErrAnd, IfOk, OnOk}
 use Rattle.std.specs.Result.{result_err}
-use Rattle.std.proofs.Common.{sym, ◌∙◌, ap, true≢false}
+use Rattle.std.proofs.Common.{sym, ◌∙◌, ap}
 
 -- of a success, said in other words
 pub on_then : {T E : Type 0} (P Q : Type 0) (r : Result T E) → (P → Q) → OnOk r P → OnOk r Q
 on_then P Q (Ok v) f h = f h
 on_then P Q (Err e) f h = tt
-
--- where there was an error, nothing is said of a success
-pub on_error : {T E : Type 0} (P : Type 0) (r : Result T E) (e : E) → result_err r ≡ Some e → OnOk r P
-on_error {T} {E} P (Ok v) e is = absurd (true≢false (sym (ap (λ (o : Option E). is_some o) is)))
-on_error {T} {E} P (Err f) e is = tt
 
 -- an error is no answer, so nothing is said of one
 pub none_ok : {T E : Type 0} (result : Result T E) (e : E) (P : T → Type 0) → IsErrAnd result (λ f. f ≡ e)

@@ -4,11 +4,9 @@ use Rattle.std.proofs.Common.{◌≡◌, ℕ, List, refl, sym, ◌∙◌, ap, su
 use Rattle.std.proofs.Math.Logic.{⊎_map}
 use Rattle.nvm_board.specs.Facts.{Facts}
 use Rattle.nvm_board.specs.laws.Aims.{aims_same}
-use Rattle.undo_journal.specs.Calls.{OnlyReads}
-use Rattle.undo_journal.specs.Commits.{CommitsByGate, StaysShut, TurnsGate}
+use Rattle.undo_journal.specs.Commits.{CommitsByGate, TurnsGate}
 use Rattle.undo_journal.specs.Memory.{Memory, committed, current, IsReady}
 use Rattle.undo_journal.specs.Spending.{WritesAtMost}
-use Rattle.undo_journal.specs.Undo.{gate}
 
 -- it begins with the words that are committed
 pub begun : (a b : Memory) → b ≡ a → IsReady a → committed a ≡ current b
@@ -24,10 +22,6 @@ stays a b t c x same last kept still =
 pub by_gate_after : (a b c : Memory) → committed b ≡ committed a → CommitsByGate b c → CommitsByGate a c
 by_gate_after a b c same exit =
     ⊎_map (λ still. still ∙ same) (λ turned. subst (λ (l : List ℕ). TurnsGate l c) same turned) exit
-
--- reads open no gate
-pub reads_shut : (a b : Memory) → OnlyReads a b → StaysShut a b
-reads_shut a b reads = λ shut. ap gate reads.board.words ∙ shut
 
 -- a board that stays costs nothing
 pub stays_spends : (f g : Facts) → g ≡ f → WritesAtMost 0 f g

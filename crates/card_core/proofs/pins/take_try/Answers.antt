@@ -1,13 +1,11 @@
-use Rattle.std.proofs.Common.{◌≡◌, Err, Result, refl, subst, rules}
-use Rattle.card_rules.specs.declared.status.Sw.{Sw}
-use Rattle.card_rules.specs.declared.status.TheConstants.Sw.{METHOD_BLOCKED}
+use Rattle.std.proofs.Common.{◌≡◌, Err, Result, subst, rules}
 use Rattle.undo_journal.specs.Calls.{Changes}
 use Rattle.undo_journal.specs.Memory.{Memory}
 use Rattle.undo_journal.specs.laws.Told.{changes_after}
 use Rattle.pin_store.specs.Trials.{store_failure}
 use Rattle.pin_store.specs.declared.errors.PinErr.{PinErr}
 use Rattle.pin_store.specs.declared.errors.PinErr.TheVariants as pin_err
-use Rattle.card_machine.specs.Stops.{failure_of, stop_of_pin, IfRefused}
+use Rattle.card_machine.specs.Stops.{failure_of, stop_of_pin}
 use Rattle.card_machine.specs.laws.Stopping.{changes-stopped}
 use Rattle.card_core.proofs.pins.take_try.Goals as goal
 
@@ -18,10 +16,6 @@ charge-failed {T} a b told pin_err.Blocked is changes =
     subst (λ (r : Result T PinErr). Changes 1 a b (store_failure r)) is changes
 charge-failed {T} a b told (pin_err.Store e) is changes =
     subst (λ (r : Result T PinErr). Changes 1 a b (store_failure r)) is changes
-
-charge-said : (e : PinErr) (Q : Sw → Type 0) → (e ≡ pin_err.Blocked → Q METHOD_BLOCKED) → IfRefused (stop_of_pin e) Q
-charge-said pin_err.Blocked Q said = said refl
-charge-said (pin_err.Store e) Q said = tt
 
 pub returns-in_err-charge-clause-takes : goal.returns-in_err-charge-clause-takes
 returns-in_err-charge-clause-takes g c = record {
