@@ -6,8 +6,8 @@ use Rattle.apdu_core.specs.declared.records.RecordPlace.{RecordPlace}
 use Rattle.apdu_core.specs.declared.records.RecordPlace.TheVariants.{CurrentRecord, Number}
 use Rattle.apdu_core.specs.declared.records.RecordChoice.{RecordChoice}
 use Rattle.apdu_core.specs.declared.records.RecordChoice.TheVariants.{Next, Previous, At}
-use Rattle.apdu_core.specs.declared.records.Direction.{Direction}
-use Rattle.apdu_core.specs.declared.records.Direction.TheVariants.{Forward, Backward}
+use Rattle.card_rules.specs.declared.direction.Direction.{Direction}
+use Rattle.card_rules.specs.declared.direction.Direction.TheVariants.{Forward, Backward}
 use Rattle.apdu_core.specs.FileRows.{is_no_parameter}
 use Rattle.apdu_core.specs.Requests.{read_record, update_record, append_record, search_record, increase}
 use Rattle.apdu_core.specs.Rows.{Row}

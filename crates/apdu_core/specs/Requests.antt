@@ -14,7 +14,7 @@ use Rattle.apdu_core.specs.declared.binary.Target.{Target}
 use Rattle.apdu_core.specs.declared.files.Subject.{Subject}
 use Rattle.apdu_core.specs.declared.records.RecordPlace.{RecordPlace}
 use Rattle.apdu_core.specs.declared.records.RecordChoice.{RecordChoice}
-use Rattle.apdu_core.specs.declared.records.Direction.{Direction}
+use Rattle.card_rules.specs.declared.direction.Direction.{Direction}
 use Rattle.apdu_core.specs.declared.life_cycles.LifeCycleChange.{LifeCycleChange}
 use Rattle.apdu_core.specs.declared.pins.RequirementChange.{RequirementChange}
 use Rattle.apdu_core.specs.Selections.{Selection, selection_of}

@@ -11,11 +11,11 @@ use crate::pins::{
     parse_reset_retry_counter, parse_verify,
 };
 use crate::records::{
-    Direction, RecordChoice, RecordPlace, parse_append_record, parse_increase, parse_read_record,
+    RecordChoice, RecordPlace, parse_append_record, parse_increase, parse_read_record,
     parse_search_record, parse_update_record,
 };
 use crate::select::{Returned, Selector, parse_select};
-use card_rules::Sw;
+use card_rules::{Direction, Sw};
 
 /// A command as a value. `expected` is its Le byte: how many bytes of data are wanted, 0 for all that there are.
 #[derive(Clone, Copy)]

@@ -7,7 +7,7 @@ ghost use Rattle.apdu_core.specs.declared.life_cycles.LifeCycleChange.{LifeCycle
 ghost use Rattle.apdu_core.specs.declared.life_cycles.LifeCycleChange.TheVariants.{TerminateEf};
 ghost use Rattle.apdu_core.specs.declared.pins.RequirementChange.{RequirementChange};
 ghost use Rattle.apdu_core.specs.declared.pins.RequirementChange.TheVariants.{Disable, Enable};
-ghost use Rattle.apdu_core.specs.declared.records.Direction.TheVariants.{Backward};
+ghost use Rattle.card_rules.specs.declared.direction.Direction.TheVariants.{Backward};
 ghost use Rattle.apdu_core.specs.declared.records.RecordChoice.TheVariants.{Previous, At};
 ghost use Rattle.apdu_core.specs.declared.records.RecordPlace.TheVariants.{CurrentRecord, Number};
 ghost use Rattle.apdu_core.specs.declared.select.Returned.TheVariants.{Template, Nothing};

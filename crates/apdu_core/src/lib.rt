@@ -21,7 +21,7 @@ pub use files::Subject;
 pub use life_cycles::LifeCycleChange;
 pub use path::FilePath;
 pub use pins::{Replacement, RequirementChange};
-pub use records::{Direction, RecordChoice, RecordPlace};
+pub use records::{RecordChoice, RecordPlace};
 pub use select::{Returned, Selector};
 
 /// The most bytes of an answer: its data, and a status word.

@@ -9,7 +9,7 @@ ghost use Rattle.apdu_core.specs.RecordRows.{record_choice, is_direction, direct
 use crate::binary::Target;
 use crate::commands::{Command, Parsed};
 use crate::form::{CommandBody, Operands};
-use card_rules::Sw;
+use card_rules::{Direction, Sw};
 
 /// A record by its number, or the current one.
 #[derive(Clone, Copy)]
@@ -29,15 +29,6 @@ pub enum RecordChoice {
     Previous,
     /// The one at this place.
     At(RecordPlace),
-}
-
-/// Which way a search goes from the record that it begins at.
-#[derive(Clone, Copy)]
-pub enum Direction {
-    /// Up to the last record.
-    Forward,
-    /// Down to record 1.
-    Backward,
 }
 
 /// A record of an elementary file.
@@ -89,16 +80,14 @@ impl RecordChoice {
     }
 }
 
-impl Direction {
-    /// The direction that the mode in P2 names, if it names one.
-    fn of(p2: u8) -> Option<Direction>
-        ensures { Names result (is_direction p2) (λ way. way ≡ direction p2) }
-    {
-        match p2 % 8 {
-            4 => Some(Direction::Forward),
-            5 => Some(Direction::Backward),
-            _ => None,
-        }
+/// The direction that the mode in P2 names, if it names one.
+fn direction_of(p2: u8) -> Option<Direction>
+    ensures { Names result (is_direction p2) (λ way. way ≡ direction p2) }
+{
+    match p2 % 8 {
+        4 => Some(Direction::Forward),
+        5 => Some(Direction::Backward),
+        _ => None,
     }
 }
 
@@ -162,7 +151,7 @@ pub(crate) fn parse_search_record(operands: Operands<'_>) -> Parsed<'_>
     ensures { Parses (Some search_record_row) operands.entry result }
 {
     let target = Target::of_records(operands.p2).ok_or(Sw::WRONG_PARAMETERS)?;
-    let direction = Direction::of(operands.p2).ok_or(Sw::WRONG_PARAMETERS)?;
+    let direction = direction_of(operands.p2).ok_or(Sw::WRONG_PARAMETERS)?;
     let body = CommandBody::parse(operands.rest)?;
     let text = body.text()?;
     Ok(Command::SearchRecord {

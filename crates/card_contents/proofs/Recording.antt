@@ -8,7 +8,7 @@ use Rattle.card_rules.specs.declared.status.Sw.{Sw}
 use Rattle.card_rules.specs.declared.status.TheConstants.Sw.{DONE, RECORD_NOT_FOUND}
 use Rattle.apdu_core.specs.declared.binary.Target.{Target}
 use Rattle.apdu_core.specs.declared.binary.Target.TheVariants.{Current, Short}
-use Rattle.apdu_core.specs.declared.records.Direction.{Direction}
+use Rattle.card_rules.specs.declared.direction.Direction.{Direction}
 use Rattle.apdu_core.specs.declared.records.RecordChoice.{RecordChoice}
 use Rattle.apdu_core.specs.declared.records.RecordChoice.TheVariants.{Next, Previous, At}
 use Rattle.apdu_core.specs.declared.records.RecordPlace.{RecordPlace}
@@ -36,7 +36,7 @@ use Rattle.card_machine.specs.Outcomes.{refused, refused_by, Refusal, Refusals}
 use Rattle.card_machine.specs.Records.{has_records, next_record, place_number, pointer_after, pointer_at, pointer_found}
 use Rattle.card_machine.specs.Records.{matches, no_record}
 use Rattle.card_machine.specs.declared.named.Structure.TheVariants.{Records}
-use Rattle.card_machine.specs.Records.{pointing, previous_record, records_of, search_status, searching, target_number}
+use Rattle.card_machine.specs.Records.{pointing, previous_record, records_of, search_status, target_number}
 use Rattle.card_machine.specs.Sessions.{Session}
 use Rattle.card_machine.specs.Standing.{card_of, IsCard}
 use Rattle.card_machine.specs.Steps.{effect, refusals_of, served}
@@ -249,7 +249,7 @@ module _ (m : List ℕ) (sized : IsMemory m) (words : IsCard m) (x : CurrentFile
       start = place_number first (pointer_from x target)
 
       abbrev numbers : List ℕ
-      numbers = found_in (searching direction) start sought (cyclic_records m file.ring)
+      numbers = found_in direction start sought (cyclic_records m file.ring)
 
       abbrev search_verdict : Bool → List ℕ → Option Sw
       search_verdict has ns =
@@ -258,10 +258,10 @@ module _ (m : List ℕ) (sized : IsMemory m) (words : IsCard m) (x : CurrentFile
       start-is : place_number first (pointer_at s target) ≡ start
       start-is = ap (place_number first) pointer-is
 
-      numbers-are : found_in (searching direction) (place_number first (pointer_at s target)) sought (records_of kind)
+      numbers-are : found_in direction (place_number first (pointer_at s target)) sought (records_of kind)
           ≡ numbers
       numbers-are = let records = agree.records in let n = start-is in λ i.
-          found_in (searching direction) (n i) sought (records i)
+          found_in direction (n i) sought (records i)
 
       search-is : refused_by (refusals_of c s (search_record target first direction sought expected))
           ≡ search_verdict (has_in file.ring start) numbers
@@ -288,7 +288,7 @@ module _ (m : List ℕ) (sized : IsMemory m) (words : IsCard m) (x : CurrentFile
       unfolding effect
       search-whole has enough =
           let ns = numbers-are in
-          let pointer : pointer_found (pointer_at s target) (found_in (searching direction) (place_number first
+          let pointer : pointer_found (pointer_at s target) (found_in direction (place_number first
           (pointer_at s target)) sought (records_of kind)) ≡ pointer_found (pointer_from x target) numbers =
           (let p = pointer-is in λ i. pointer_found (p i) (ns i)) in
           let session = ap (pointing s target (target_path c s target)) pointer

@@ -13,15 +13,14 @@ ghost use Rattle.card_machine.specs.Serving.{ServesInPlace};
 ghost use Rattle.card_machine.specs.Stops.{reply, Looks};
 ghost use Rattle.card_machine.specs.Working.{card_in, fits, session_in, IsKept};
 ghost use Rattle.card_contents.specs.RecordParts.{need_replacing, IsRecordFile};
-ghost use Rattle.card_machine.specs.Records.{pointer_found, search_status, searching as searching_way};
+ghost use Rattle.card_machine.specs.Records.{pointer_found, search_status};
 
 use crate::record_file::{RecordFile, pointer_after};
-use apdu_core::{Answer, Direction as Way, RecordChoice, RecordPlace, Sw, Target};
+use apdu_core::{Answer, RecordChoice, RecordPlace, Sw, Target};
 use card_machine::{
     Current, Need, ResponseData, Stop, Structure, asks_less, find_file, give, right_length,
 };
-use card_rules::AccessBit;
-use ef_body::Direction;
+use card_rules::{AccessBit, Direction};
 use undo_journal::{Board, Store};
 
 /// What READ RECORD and SEARCH RECORD need of their file.
@@ -47,16 +46,6 @@ fn replacing(choice: RecordChoice) -> Need
     Need {
         structure,
         bit: AccessBit::Update,
-    }
-}
-
-/// The way of a search, as bodies know it.
-fn way_of(direction: Way) -> Direction
-    ensures { result ≡ searching_way direction }
-{
-    match direction {
-        Way::Forward => Direction::Forward,
-        Way::Backward => Direction::Backward,
     }
 }
 
@@ -160,7 +149,7 @@ pub fn search_record<B: Board>(
     current: &mut Current,
     target: Target,
     first: RecordPlace,
-    direction: Way,
+    direction: Direction,
     text: &[u8],
     expected: Option<u8>,
     answer: &mut Answer,
@@ -175,9 +164,8 @@ pub fn search_record<B: Board>(
     let file = find_records(store, current, target, READING)?;
     let pointer = current.pointer_at(target);
     let slot = file.find_chosen(pointer, RecordChoice::At(first))?;
-    let way = way_of(direction);
     let mut numbers = ResponseData::new();
-    slot.search(store, way, text, &mut numbers)?;
+    slot.search(store, direction, text, &mut numbers)?;
     if asks_less(expected, &numbers) {
         return Err(Stop::Refused(right_length(&numbers)));
     }

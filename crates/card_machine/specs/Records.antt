@@ -6,17 +6,14 @@ use Rattle.std.specs.FinMap.{insert}
 use Rattle.card_rules.specs.declared.status.Sw.{Sw}
 use Rattle.card_rules.specs.declared.status.TheConstants.Sw.{DONE, END_REACHED, RECORD_NOT_FOUND, NO_ROOM, WRONG_LENGTH}
 use Rattle.card_rules.specs.declared.access_mode.AccessBit.TheVariants.{Append, Read, Update}
+use Rattle.card_rules.specs.declared.direction.Direction.{Direction}
 use Rattle.apdu_core.specs.declared.binary.Target.{Target}
 use Rattle.apdu_core.specs.declared.binary.Target.TheVariants.{Current, Short}
 use Rattle.apdu_core.specs.declared.records.RecordPlace.{RecordPlace}
 use Rattle.apdu_core.specs.declared.records.RecordPlace.TheVariants.{CurrentRecord, Number}
 use Rattle.apdu_core.specs.declared.records.RecordChoice.{RecordChoice}
 use Rattle.apdu_core.specs.declared.records.RecordChoice.TheVariants.{Next, Previous, At}
-use Rattle.apdu_core.specs.declared.records.Direction.{Direction}
-use Rattle.apdu_core.specs.declared.records.Direction.TheVariants as ways
 use Rattle.undo_journal.specs.Spending.{transaction_writes}
-use Rattle.ef_body.specs.declared.search.Direction.{Direction as SearchDirection}
-use Rattle.ef_body.specs.declared.search.Direction.TheVariants as searches
 use Rattle.ef_body.specs.Records.{front, has_record, record_of}
 use Rattle.ef_body.specs.Searching.{found}
 use Rattle.card_machine.specs.Behaviours.{Behaviour, changes, looks}
@@ -226,13 +223,9 @@ on_append_record target bytes =
     changes (λ c s. append_refusals c s target bytes) (λ c s. record_appended c s target bytes) record_writes
 
 -- SEARCH RECORD: from the record that is named on, up to the last or down to the first
-abbrev pub searching : Direction → SearchDirection
-searching ways.Forward = searches.Forward
-searching ways.Backward = searches.Backward
-
 abbrev pub matches : Card → Session → Target → RecordPlace → Direction → List ℕ → List ℕ
 matches c s target first direction text =
-    found (searching direction) (place_number first (pointer_at s target)) text (records_of (target_kind c s target))
+    found direction (place_number first (pointer_at s target)) text (records_of (target_kind c s target))
 
 abbrev pub search_refusals : Card → Session → Target → RecordPlace → Direction → List ℕ → Option ℕ → Refusals
 search_refusals c s target first direction text expected =

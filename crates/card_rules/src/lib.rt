@@ -1,8 +1,10 @@
-//! The words, states and rules that all layers of the card speak of: status words, life cycles and access rules.
+//! The words, states and rules that all layers of the card speak of: status words, life cycles, access rules, PIN
+//! numbers, and which way a search goes.
 #![tactic(auto)]
 
 mod access_mode;
 mod compact;
+mod direction;
 pub mod identifiers;
 pub mod laws;
 mod life_cycle;
@@ -12,6 +14,7 @@ mod status;
 
 pub use access_mode::{AccessBit, AccessMode};
 pub use compact::{Compact, allows};
+pub use direction::Direction;
 pub use life_cycle::{LifeCycle, LifeCycleCommand};
 pub use pins::{PINS, PinNumber, PinSet};
 pub use status::Sw;

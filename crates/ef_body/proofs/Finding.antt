@@ -9,8 +9,8 @@ use Rattle.std.specs.Prelude.{◌≡◌, ◌<◌, ◌≤◌, ◌+◌, ◌-◌, �
 use Rattle.std.specs.Prelude.{drop}
 use Rattle.std.specs.Prelude.{slice_index, nat_eq}
 use Rattle.std.specs.List.{filter, range_with_len, starts_with}
-use Rattle.ef_body.specs.declared.search.Direction.{Direction}
-use Rattle.ef_body.specs.declared.search.Direction.TheVariants.{Forward, Backward}
+use Rattle.card_rules.specs.declared.direction.Direction.{Direction}
+use Rattle.card_rules.specs.declared.direction.Direction.TheVariants.{Forward, Backward}
 use Rattle.ef_body.specs.Searching.{stands_in, numbers_on, found}
 use Rattle.ef_body.specs.Records.{record_of}
 use Rattle.block_chain.specs.Changes.{AppendsSome}

@@ -1,8 +1,8 @@
 -- SEARCH RECORD: which records hold a text (ISO/IEC 7816-4, 11.4.7).
 use Rattle.std.specs.Prelude.{ℕ, ◌+◌, ◌-◌, Bool, List, length, drop, reverse, nat_eq}
 use Rattle.std.specs.List.{filter, list_any, range_with_len, starts_with}
-use Rattle.ef_body.specs.declared.search.Direction.{Direction}
-use Rattle.ef_body.specs.declared.search.Direction.TheVariants.{Forward, Backward}
+use Rattle.card_rules.specs.declared.direction.Direction.{Direction}
+use Rattle.card_rules.specs.declared.direction.Direction.TheVariants.{Forward, Backward}
 use Rattle.ef_body.specs.Records.{record_of}
 
 -- whether the text stands anywhere in the record

@@ -20,6 +20,5 @@ pub use error::BodyErr;
 pub use layout::{MOST_RECORD_BYTES, RECORD_WRITES, UPDATE_WRITES};
 pub use linear::Linear;
 pub use record_body::RecordBody;
-pub use search::Direction;
 pub use slot::{FreeSlot, RecordSlot};
 pub use transparent::Transparent;

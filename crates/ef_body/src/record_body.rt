@@ -10,10 +10,9 @@ ghost use Rattle.ef_body.specs.Calls.{FindsRecord, ReadsUnlessRefused};
 
 use crate::cyclic::Cyclic;
 use crate::error::{BodyErr, from_store};
-use crate::search::Direction;
 use crate::slot::RecordSlot;
 use arrayvec::ArrayVec;
-use card_rules::Sw;
+use card_rules::{Direction, Sw};
 use undo_journal::{Board, Store};
 
 /// A body of records, which lie in the slots of a ring: a linear one, of which record 1 is the first, or a cyclic one,

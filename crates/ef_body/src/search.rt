@@ -13,16 +13,8 @@ use crate::cyclic::Cyclic;
 use crate::layout::MOST_RECORD_BYTES;
 use crate::slot::RecordSlot;
 use arrayvec::ArrayVec;
+use card_rules::Direction;
 use undo_journal::{Board, Store, StoreErr};
-
-/// Which way a search goes from the record that it begins at.
-#[derive(Clone, Copy)]
-pub enum Direction {
-    /// Up to the last record.
-    Forward,
-    /// Down to record 1.
-    Backward,
-}
 
 /// Whether a text begins at a place of a record.
 fn begins_at(text: &[u8], bytes: &[u8], at: usize) -> bool

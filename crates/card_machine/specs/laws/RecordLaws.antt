@@ -7,15 +7,14 @@ use Rattle.std.proofs.lemmas.Bool.{and_parts, eqb-true, leb-false, leb-true, not
 use Rattle.std.proofs.lemmas.List.{length-append}
 use Rattle.std.proofs.lemmas.List.Elements.{All-nil, All-cons, All-push, All-take, All-set}
 use Rattle.std.proofs.lemmas.List.Elements.{All-filter, All-from_get_or}
+use Rattle.card_rules.specs.declared.direction.Direction.{Direction}
+use Rattle.card_rules.specs.declared.direction.Direction.TheVariants.{Backward, Forward}
 use Rattle.card_rules.specs.declared.status.TheConstants.Sw.{DONE}
 use Rattle.apdu_core.specs.declared.binary.Target.{Target}
 use Rattle.apdu_core.specs.declared.records.RecordPlace.{RecordPlace}
 use Rattle.apdu_core.specs.declared.records.RecordChoice.{RecordChoice}
-use Rattle.apdu_core.specs.declared.records.Direction.{Direction}
 use Rattle.apdu_core.specs.OfBytes.{AreBytes, IsStatusWord}
 use Rattle.apdu_core.specs.Requests.{read_record, update_record, append_record, search_record}
-use Rattle.ef_body.specs.declared.search.Direction.{Direction as SearchDirection}
-use Rattle.ef_body.specs.declared.search.Direction.TheVariants as searches
 use Rattle.ef_body.specs.Records.{front, has_record, record_of}
 use Rattle.ef_body.specs.Searching.{found, numbers_on, stands_in}
 use Rattle.ef_body.proofs.Finding.{filter-few, number_backward, number_forward, steps_few, steps_forward}
@@ -31,7 +30,7 @@ use Rattle.card_machine.specs.Records.{is_oldest, matches, on_append_record, on_
 use Rattle.card_machine.specs.Records.{on_update_record, place_number, pointer_at, record_appended}
 use Rattle.card_machine.specs.Records.{record_length, record_read, record_updated, records_of, records_searched}
 use Rattle.card_machine.specs.Records.{replaces}
-use Rattle.card_machine.specs.Records.{search_refusals, search_status, searching, target_number, update_record_refusals}
+use Rattle.card_machine.specs.Records.{search_refusals, search_status, target_number, update_record_refusals}
 use Rattle.card_machine.specs.Records.{updated_records, with_records, with_records_at}
 use Rattle.card_machine.specs.Sessions.{Session}
 use Rattle.card_machine.specs.laws.FileLaws.{short-given}
@@ -154,17 +153,17 @@ fine-appended (elementary short (cyclic long capacity records)) new holds some r
     fine-front kind capacity new records same fine holds.each
 
 -- the numbers of records that are found: at most 254, each at most 254
-bytes-numbers : (direction : SearchDirection) (first last : ℕ) → first ≤ last → last ≤ 254
+bytes-numbers : (direction : Direction) (first last : ℕ) → first ≤ last → last ≤ 254
     → AreBytes (numbers_on direction first last)
-bytes-numbers searches.Forward first last below most =
-    All-from_get_or byte (numbers_on searches.Forward first last) 0 (λ i lt.
-    let long = steps_forward searches.Forward first last refl in
-    let number = number_forward searches.Forward first last i refl lt in omega (arith, lt, long, number, below, most))
-bytes-numbers searches.Backward first last below most =
-    All-from_get_or byte (numbers_on searches.Backward first last) 0 (λ i lt.
-    let number = number_backward searches.Backward first last i refl lt in omega (arith, number, below, most))
+bytes-numbers Forward first last below most =
+    All-from_get_or byte (numbers_on Forward first last) 0 (λ i lt.
+    let long = steps_forward Forward first last refl in
+    let number = number_forward Forward first last i refl lt in omega (arith, lt, long, number, below, most))
+bytes-numbers Backward first last below most =
+    All-from_get_or byte (numbers_on Backward first last) 0 (λ i lt.
+    let number = number_backward Backward first last i refl lt in omega (arith, number, below, most))
 
-text-found : (direction : SearchDirection) (first : ℕ) (text : List ℕ) (records : List (List ℕ))
+text-found : (direction : Direction) (first : ℕ) (text : List ℕ) (records : List (List ℕ))
     → has_record records first ≡ true → length records ≤ 254 → IsText (found direction first text records)
 text-found direction first text records there most =
     let numbers = numbers_on direction first (length records) in
@@ -264,7 +263,7 @@ module _ (c : Card) (s : Session) (proper : IsProper c) (target : Target) where
       let most = holds.capacity in
       let numbers = matches c s target first direction text in
       let given = short-given expected numbers
-      (text-found (searching direction) number text records there (omega (arith, few, most))) in
+      (text-found direction number text records there (omega (arith, few, most))) in
       record {
         card = proper;
         response = record { size = given.size; bytes = given.bytes; status = search-word numbers };

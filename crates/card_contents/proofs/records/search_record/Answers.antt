@@ -10,7 +10,7 @@ use Rattle.card_machine.specs.declared.current.Current.{Current}
 use Rattle.card_machine.specs.declared.stop.Stop.TheVariants.{Refused}
 use Rattle.card_machine.specs.Lengths.{asks_less, given, right_length}
 use Rattle.card_machine.specs.Outcomes.{refused}
-use Rattle.card_machine.specs.Records.{place_number, pointer_found, search_status, searching}
+use Rattle.card_machine.specs.Records.{place_number, pointer_found, search_status}
 use Rattle.card_machine.specs.Working.{card_in, outcome, pointer_from, pointing_from, session_in, table_in, IsCurrent}
 use Rattle.card_contents.proofs.Recording.{choice-barred, choice-gone, chosen-body, chosen-has, current-is}
 use Rattle.card_contents.proofs.Recording.{declined-empty, is-chosen, search-less, search-refused, search-whole}
@@ -41,10 +41,9 @@ returns-then-asks_less g c =
     let number : c.in_ok-slot.slot.number ≡ place_number c.args.first (pointer_from x c.args.target) =
     found.number_is in
     let has = chosen-has _ _ _ _ _ _ found in
-    let way = c.way_of-way.ensures in
-    let numbers : c.search.new.numbers.items ≡ found_in (searching c.args.direction) (place_number c.args.first
+    let numbers : c.search.new.numbers.items ≡ found_in c.args.direction (place_number c.args.first
     (pointer_from x c.args.target)) c.args.text.now (cyclic_records (committed old) file.ring) =
-    c.in_ok-search.ensures.bytes ∙ (λ i. found_in (way i) (number i) c.args.text.now (cyclic_records (same i)
+    c.in_ok-search.ensures.bytes ∙ (λ i. found_in c.args.direction (number i) c.args.text.now (cyclic_records (same i)
     (found.ring_is i))) in
     let less = ap (asks_less c.args.expected) (sym numbers) ∙ sym c.asks_less.ensures
     ∙ c.if-asks_less.true in
@@ -71,12 +70,11 @@ returns g c =
     let number : c.in_ok-slot.slot.number ≡ place_number c.args.first (pointer_from x c.args.target) =
     found.number_is in
     let has = chosen-has _ _ _ _ _ _ found in
-    let way = c.way_of-way.ensures in
-    let all : List ℕ = found_in (searching c.args.direction) (place_number c.args.first
+    let all : List ℕ = found_in c.args.direction (place_number c.args.first
     (pointer_from x c.args.target))
     c.args.text.now (cyclic_records (committed old) file.ring) in
     let numbers : c.search.new.numbers.items ≡ all =
-    c.in_ok-search.ensures.bytes ∙ (λ i. found_in (way i) (number i) c.args.text.now (cyclic_records (same i)
+    c.in_ok-search.ensures.bytes ∙ (λ i. found_in c.args.direction (number i) c.args.text.now (cyclic_records (same i)
     (found.ring_is i))) in
     let enough = ap (asks_less c.args.expected) (sym numbers) ∙ sym c.asks_less.ensures
     ∙ c.if-asks_less.false in
