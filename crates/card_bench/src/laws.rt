@@ -117,9 +117,9 @@ pub fn guesses_add_up()
 {}
 
 /// A board's counts last. A turn takes at most 700 steps of each, and only a start of a memory that isn't of format 2
-/// yet more, at most 3,787; turns what each of them takes; and a line of a script 700,000. Where so many are left, no
-/// power-on is mute, and power is lost, in a turn or in a block, only where a cut was due; behind a line that prints
-/// dark no cut is set any more. In a script, whose board is new, so many are left behind every line.
+/// yet more, at most 3,787; turns what each of them takes. Where so many are left, no power-on is mute, and power is
+/// lost, in a turn or in a block, only where a cut was due. In a script, whose board is new, 700,000 are left behind
+/// every line; where so many are left, no cut is set any more behind a line that prints dark.
 pub fn counts_last()
     ensures starts { (old new : BenchState) (item : Item) → GoodTurn old On item new → HasLeft 700 (bench_facts old)
         → item ≢ Mute }
