@@ -54,9 +54,30 @@ fn is_said(next: Next, reader: &ReaderEnd, block: &BlockBytes, says: Says) -> bo
 /// What the end is told, and what it says.
 type Row = (Event, Says);
 
-const SELECT: Row = (
-    Event::Send(b"\x00\xA4\x00\x0C\x02\x3F\x00"),
-    Says::Block(b"\x00\x00\x07\x00\xA4\x00\x0C\x02\x3F\x00\x92"),
+// The end is to send a command, and says its block.
+macro_rules! sends {
+    ($command:expr, $block:expr) => {
+        (Event::Send($command), Says::Block($block))
+    };
+}
+
+// It gets a block, and says the next one.
+macro_rules! goes_on {
+    ($block:expr, $next:expr) => {
+        (Event::Got($block), Says::Block($next))
+    };
+}
+
+// It gets the last block of an answer, and says the answer.
+macro_rules! answers {
+    ($block:expr, $answer:expr) => {
+        (Event::Got($block), Says::Answer($answer))
+    };
+}
+
+const SELECT: Row = sends!(
+    b"\x00\xA4\x00\x0C\x02\x3F\x00",
+    b"\x00\x00\x07\x00\xA4\x00\x0C\x02\x3F\x00\x92"
 );
 
 // Three blocks are sent again, and the fourth want sends RESYNCH.
@@ -68,38 +89,23 @@ const RESYNCH: Row = (Event::TimedOut, Says::Block(b"\x00\xC0\x00\xC0"));
 const EXCHANGES: &[&[Row]] = &[
     &[
         SELECT,
-        (
-            Event::Got(b"\x00\x00\x02\x90\x00\x92"),
-            Says::Answer(b"\x90\x00"),
+        answers!(b"\x00\x00\x02\x90\x00\x92", b"\x90\x00"),
+        sends!(
+            b"\x00\xB0\x82\x00\x01",
+            b"\x00\x40\x05\x00\xB0\x82\x00\x01\x76"
         ),
-        (
-            Event::Send(b"\x00\xB0\x82\x00\x01"),
-            Says::Block(b"\x00\x40\x05\x00\xB0\x82\x00\x01\x76"),
-        ),
-        (
-            Event::Got(b"\x00\x40\x03\x98\x90\x00\x4B"),
-            Says::Answer(b"\x98\x90\x00"),
-        ),
+        answers!(b"\x00\x40\x03\x98\x90\x00\x4B", b"\x98\x90\x00"),
     ],
     // A block that is spoiled, a block of another number, and an R-block that asks for the command again.
     &[
         SELECT,
-        (
-            Event::Got(b"\x00\x00\x02\x90\x00\x93"),
-            Says::Block(b"\x00\x81\x00\x81"),
+        goes_on!(b"\x00\x00\x02\x90\x00\x93", b"\x00\x81\x00\x81"),
+        goes_on!(b"\x00\x40\x02\x90\x00\xD2", b"\x00\x82\x00\x82"),
+        goes_on!(
+            b"\x00\x80\x00\x80",
+            b"\x00\x00\x07\x00\xA4\x00\x0C\x02\x3F\x00\x92"
         ),
-        (
-            Event::Got(b"\x00\x40\x02\x90\x00\xD2"),
-            Says::Block(b"\x00\x82\x00\x82"),
-        ),
-        (
-            Event::Got(b"\x00\x80\x00\x80"),
-            Says::Block(b"\x00\x00\x07\x00\xA4\x00\x0C\x02\x3F\x00\x92"),
-        ),
-        (
-            Event::Got(b"\x00\x00\x02\x90\x00\x92"),
-            Says::Answer(b"\x90\x00"),
-        ),
+        answers!(b"\x00\x00\x02\x90\x00\x92", b"\x90\x00"),
     ],
     // RESYNCH that is answered: whether the command was carried out isn't known, and numbers begin anew.
     &[
@@ -118,10 +124,7 @@ const EXCHANGES: &[&[Row]] = &[
         TIME_OUT,
         TIME_OUT,
         RESYNCH,
-        (
-            Event::Got(b"\x00\x00\x02\x90\x00\x92"),
-            Says::Block(b"\x00\xC0\x00\xC0"),
-        ),
+        goes_on!(b"\x00\x00\x02\x90\x00\x92", b"\x00\xC0\x00\xC0"),
         RESYNCH,
         (Event::TimedOut, Says::LinkLost),
         (Event::Send(b"\x00\xA4\x00\x0C\x02\x3F\x00"), Says::LinkLost),
@@ -134,18 +137,12 @@ const EXCHANGES: &[&[Row]] = &[
     ],
     // An answer in two blocks.
     &[
-        (
-            Event::Send(b"\x00\xB0\x82\x00\x02"),
-            Says::Block(b"\x00\x00\x05\x00\xB0\x82\x00\x02\x35"),
+        sends!(
+            b"\x00\xB0\x82\x00\x02",
+            b"\x00\x00\x05\x00\xB0\x82\x00\x02\x35"
         ),
-        (
-            Event::Got(b"\x00\x20\x02\x01\x02\x21"),
-            Says::Block(b"\x00\x90\x00\x90"),
-        ),
-        (
-            Event::Got(b"\x00\x40\x02\x90\x00\xD2"),
-            Says::Answer(b"\x01\x02\x90\x00"),
-        ),
+        goes_on!(b"\x00\x20\x02\x01\x02\x21", b"\x00\x90\x00\x90"),
+        answers!(b"\x00\x40\x02\x90\x00\xD2", b"\x01\x02\x90\x00"),
     ],
 ];
 
@@ -179,9 +176,5 @@ fn longest_command_goes_in_a_chain(rt: HostRuntime) {
     };
     assert!(rt; begins);
     let rest = b"\x00\x40\x07\xAA\xAA\xAA\xAA\xAA\xAA\xAA\xED";
-    check(
-        &rt,
-        &mut reader,
-        (Event::Got(b"\x00\x90\x00\x90"), Says::Block(rest)),
-    );
+    check(&rt, &mut reader, goes_on!(b"\x00\x90\x00\x90", rest));
 }
