@@ -4,6 +4,7 @@ ghost use Rattle.std.specs.Prelude.{◌≤◌, OnOk};
 ghost use Rattle.undo_journal.specs.Memory.{room, IsOpen, IsReady};
 ghost use Rattle.undo_journal.specs.Lent.{memory_of};
 
+use crate::endings::{End, MASKS};
 use crate::fixtures::opened;
 use nvm_board::{Armed, Board, CutBoard, Socket};
 use std::alloc::Global;
@@ -26,30 +27,17 @@ fn set_words<B: Board>(txn: &mut Txn<'_, B>) -> Result<(), StoreErr>
     txn.set_run(3000, &[1, 2, 3, 4, 5, 6, 7, 8])
 }
 
-// What becomes of the sets, and how many device writes they then make.
-#[derive(Clone, Copy)]
-enum End {
-    Commits,
-    Abandons,
-}
-
-// The pairs of a batch, the gate and its four runs; the pairs of the other five words, the gate and their run; the
-// commit. Taken back, it is the eight pairs of the batch, and the gate.
+// What becomes of the sets, and how many device writes they then make: the pairs of a batch, the gate and its four runs;
+// the pairs of the other five words, the gate and their run; the commit. Taken back, it is the eight pairs of the batch,
+// and the gate.
 const ENDS: &[(End, u32)] = &[(End::Commits, 6 + 3 + 1), (End::Abandons, 6 + 8 + 1)];
-
-const MASKS: &[u16] = &[0x0000, 0xFFFF, 0x0001, 0x0002];
 
 fn change<B: Board>(store: &mut Store<B>, end: End) -> Result<(), StoreErr>
     requires { IsReady store.old }
 {
     let mut txn = store.begin();
-    if txn.room() < 14 {
-        return txn.abandon();
-    }
-    match (set_words(&mut txn), end) {
-        (Ok(()), End::Commits) => txn.commit(),
-        _ => txn.abandon(),
-    }
+    let set = set_words(&mut txn);
+    end.of(txn, set)
 }
 
 /// The five words.

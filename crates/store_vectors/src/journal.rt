@@ -4,6 +4,7 @@ ghost use Rattle.std.specs.Prelude.{◌≤◌, OnOk};
 ghost use Rattle.undo_journal.specs.Memory.{room, IsOpen, IsReady};
 ghost use Rattle.undo_journal.specs.Lent.{memory_of};
 
+use crate::endings::{End, MASKS};
 use crate::fixtures::{opened, with_words};
 use nvm_board::{Armed, Board, CutBoard, DeviceErr, Socket};
 use std::alloc::Global;
@@ -49,24 +50,12 @@ fn set_words<B: Board>(txn: &mut Txn<'_, B>) -> Result<(), StoreErr>
     txn.set_run(2048, &[2, 4])
 }
 
-// What becomes of the sets: a commit writes them, in five device writes; nothing is to be taken back.
-#[derive(Clone, Copy)]
-enum End {
-    Commits,
-    Abandons,
-}
-
 fn change<B: Board>(store: &mut Store<B>, end: End) -> Result<(), StoreErr>
     requires { IsReady store.old }
 {
     let mut txn = store.begin();
-    if txn.room() < 4 {
-        return txn.abandon();
-    }
-    match (set_words(&mut txn), end) {
-        (Ok(()), End::Commits) => txn.commit(),
-        _ => txn.abandon(),
-    }
+    let set = set_words(&mut txn);
+    end.of(txn, set)
 }
 
 // A cut at a device write, counted from 1, with those words new whose bit of the mask is set.
@@ -116,10 +105,9 @@ fn is_after(end: End, cut: Cut) -> bool {
     }
 }
 
-// The ends of a change, and how many device writes it then makes.
+// What becomes of the sets, and how many device writes they then make: a commit writes them, in five; nothing is to be
+// taken back.
 const ENDS: &[(End, u32)] = &[(End::Commits, 5), (End::Abandons, 0)];
-
-const MASKS: &[u16] = &[0x0000, 0xFFFF, 0x0001, 0x0002];
 
 /// A change is cut, and the next opening isn't or is.
 fn check_cut<R: Abort + AllocGlobal>(rt: &R, end: End, cut: Cut) -> Result<(), Fail>

@@ -6,6 +6,8 @@
 mod batches;
 #[cfg(test)]
 mod boards;
+#[cfg(test)]
+mod endings;
 pub mod fixtures;
 #[cfg(test)]
 mod journal;
