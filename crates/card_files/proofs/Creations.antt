@@ -66,9 +66,11 @@ unread-step c s template unbarred (Ok fcp) is never = absurd (never fcp refl)
 unread-step c s template unbarred (Err fault) is never = create-unread c s template unbarred fault is
 
 -- whether the current dedicated file is barred, and what its rule allows, as the code finds it
-pub barred-is : (m : List ℕ) (x : CurrentFiles) (barred : Bool) → barred
-    ≡ is_barred (tree_of m) (path_of (table m) x.df) → is_barred (card_of m).tree (path_of (table m) x.df) ≡ barred
-barred-is m x barred is = ap (λ (tree : Tree). is_barred tree (path_of (table m) x.df)) (card-tree m) ∙ sym is
+pub barred-is : (m now : List ℕ) (x : CurrentFiles) → now ≡ m → (barred : Bool) → barred
+    ≡ is_barred (tree_of now) (path_of (table now) x.df) → is_barred (card_of m).tree (path_of (table m) x.df) ≡ barred
+barred-is m now x same barred is =
+    ap (λ (tree : Tree). is_barred tree (path_of (table m) x.df)) (card-tree m)
+    ∙ sym (is ∙ ap (λ (l : List ℕ). is_barred (tree_of l) (path_of (table l) x.df)) same)
 
 pub permits-is : (m now : List ℕ) (x : CurrentFiles) → now ≡ m → (bit wanted : AccessBit) → bit ≡ wanted
     → (permits : Bool) → permits ≡ allowed (card_of now) (session_of (table now) x) (path_of (table now) x.df) bit

@@ -5,8 +5,8 @@ ghost use Rattle.undo_journal.specs.Memory.{committed};
 ghost use Rattle.apdu_core.specs.Requests.{create_file as creation, delete_file as deletion};
 ghost use Rattle.card_rules.specs.declared.access_mode.AccessBit.TheVariants.{DeleteChild, DeleteSelf};
 ghost use Rattle.file_tree.specs.Indexes.{IsIndex};
-ghost use Rattle.file_tree.specs.States.{is_barred as is_barred_at};
-ghost use Rattle.file_tree.specs.Table.{path_of, IsUsed};
+ghost use Rattle.file_tree.specs.States.{is_barred as is_barred_in};
+ghost use Rattle.file_tree.specs.Table.{entry_in, path_of, IsUsed};
 ghost use Rattle.card_files.specs.FileGuards.{IsDeletable, IsNewFile};
 ghost use Rattle.card_machine.specs.Files.{create_refusals, creation_bit, delete_refusals};
 ghost use Rattle.card_machine.specs.Guards.{allowed};
@@ -20,7 +20,7 @@ use apdu_core::{Subject, Sw};
 use card_machine::{Current, Findings, Named, Stop, allows};
 use card_rules::AccessBit;
 use fcp_template::{Fcp, FileKind, parse};
-use file_changes::{Creation, create, delete, is_barred};
+use file_changes::{Creation, create, delete, is_barred_at};
 use file_tree::{FreeSpace, Index, read_entry, select};
 use undo_journal::{Board, Store, StoreErr};
 
@@ -68,14 +68,19 @@ fn find_new_file<'a, B: Board>(
         (λ refusal. refused_by (create_refusals (card_in store.old) (session_in store.old current.now) template.now)
         ≡ Some refusal) }
 {
-    if is_barred(store, current.df)? {
+    let entry = read_entry(store, current.df)?;
+    let df = Named {
+        number: current.df,
+        entry,
+    };
+    if is_barred_at(store, df.number, &df.entry)? {
         return Err(Stop::Refused(Sw::CONDITIONS_NOT_SATISFIED));
     }
     let Ok(fcp) = parse(template) else {
         return Err(Stop::Refused(Sw::WRONG_DATA));
     };
     let bit = creation_bit(&fcp.kind);
-    if !allows(store, current, current.df, bit)? {
+    if !allows(store, current, &df, bit)? {
         return Err(Stop::Refused(Sw::ACCESS_DENIED));
     }
     Ok(fcp)
@@ -147,8 +152,9 @@ fn find_deletable<B: Board>(
         return Err(Stop::Refused(Sw::CONDITIONS_NOT_SATISFIED));
     }
     let entry = read_entry(store, number)?;
-    check_deletion(store, current, number, entry.parent)?;
-    Ok(Named { number, entry })
+    let file = Named { number, entry };
+    check_deletion(store, current, &file)?;
+    Ok(file)
 }
 
 /// Refuses DELETE FILE by a file and its parent: the parent, or a file above it, is barred;
@@ -157,21 +163,26 @@ fn find_deletable<B: Board>(
 fn check_deletion<B: Board>(
     store: &mut Store<B>,
     current: &Current,
-    number: u8,
-    parent: u8,
+    file: &Named,
 ) -> Result<(), Stop>
     requires kept { IsKept store.old current.now }
-    requires used { IsUsed (table_in store.old) number }
-    requires above { IsUsed (table_in store.old) parent }
+    requires used { IsUsed (table_in store.old) file.now.number }
+    requires entry { file.now.entry ≡ entry_in (table_in store.old) file.now.number }
+    requires above { IsUsed (table_in store.old) file.now.entry.parent }
     ensures { Checks store.old store.new (file_refusal
-        (is_barred_at (card_in store.old).tree (path_of (table_in store.old) parent)) true
-        (allowed (card_in store.old) (session_in store.old current.now) (path_of (table_in store.old) number) DeleteSelf
-        || allowed (card_in store.old) (session_in store.old current.now) (path_of (table_in store.old) parent)
-        DeleteChild)) result }
+        (is_barred_in (card_in store.old).tree (path_of (table_in store.old) file.now.entry.parent)) true
+        (allowed (card_in store.old) (session_in store.old current.now) (path_of (table_in store.old) file.now.number)
+        DeleteSelf || allowed (card_in store.old) (session_in store.old current.now)
+        (path_of (table_in store.old) file.now.entry.parent) DeleteChild)) result }
 {
-    let barred = is_barred(store, parent)?;
-    let own = allows(store, current, number, AccessBit::DeleteSelf)?;
-    let by_parent = allows(store, current, parent, AccessBit::DeleteChild)?;
+    let entry = read_entry(store, file.entry.parent)?;
+    let parent = Named {
+        number: file.entry.parent,
+        entry,
+    };
+    let barred = is_barred_at(store, parent.number, &parent.entry)?;
+    let own = allows(store, current, file, AccessBit::DeleteSelf)?;
+    let by_parent = allows(store, current, &parent, AccessBit::DeleteChild)?;
     let findings = Findings {
         barred,
         fits: true,

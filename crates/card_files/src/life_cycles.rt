@@ -15,7 +15,7 @@ ghost use Rattle.card_machine.specs.Working.{card_in, session_in, table_in, IsKe
 
 use crate::files::find_subject;
 use apdu_core::{LifeCycleChange, Subject, Sw};
-use card_machine::{Current, Stop, allows};
+use card_machine::{Current, Named, Stop, allows};
 use card_rules::{AccessBit, LifeCycle, LifeCycleCommand};
 use file_changes::{next_life_cycle, set_life_cycle, terminate_card};
 use file_tree::{Entry, EntryKind, Index, read_entry};
@@ -55,7 +55,9 @@ pub fn terminate_card_usage<B: Board>(store: &mut Store<B>, current: &Current) -
     requires kept { IsKept store.old current.now }
     ensures { Serves (terminating) store.old current.now store.new current.now [] (reply result) }
 {
-    if !allows(store, current, 0, AccessBit::Terminate)? {
+    let entry = read_entry(store, 0)?;
+    let master = Named { number: 0, entry };
+    if !allows(store, current, &master, AccessBit::Terminate)? {
         return Err(Stop::Refused(Sw::ACCESS_DENIED));
     }
     terminate_card(store)?;
@@ -103,9 +105,9 @@ fn read_change<B: Board>(
         (λ refusal. change_at (committed store.old) current.now change number ≡ Err refusal) }
 {
     let (command, bit) = row_of(change);
-    let next = next_life_cycle(store, number, command)?;
-    let allowed = allows(store, current, number, bit)?;
     let entry = read_entry(store, number)?;
+    let next = next_life_cycle(store, number, &entry, command)?;
+    let allowed = allows(store, current, &Named { number, entry }, bit)?;
     Ok(changed_by(change, number, entry, next, allowed)?)
 }
 

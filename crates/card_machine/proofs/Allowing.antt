@@ -2,10 +2,13 @@
 use Rattle.std.specs.Prelude.{map, not}
 use Rattle.std.proofs.Common.{◌≡◌, ℕ, List, length, sym, ◌∙◌, ap}
 use Rattle.card_rules.specs.declared.access_mode.AccessBit.{AccessBit}
+use Rattle.file_tree.specs.declared.entry.Entry.{Entry}
 use Rattle.file_tree.specs.Cards.{Tree}
+use Rattle.file_tree.specs.Entries.{is_allowed_by}
 use Rattle.file_tree.specs.States.{is_allowed}
-use Rattle.file_tree.specs.Table.{table, path_of}
+use Rattle.file_tree.specs.Table.{table, entry_in, path_of, IsUsed}
 use Rattle.file_tree.specs.Trees.{tree_of}
+use Rattle.file_changes.specs.laws.Barring.{allowed_by_there}
 use Rattle.card_machine.specs.declared.current.Current.{Current}
 use Rattle.card_machine.specs.Cards.{Pin}
 use Rattle.card_machine.specs.Guards.{allowed, disabled_of}
@@ -16,7 +19,7 @@ use Rattle.card_machine.specs.laws.CardLaws.{card_pins_are}
 use Rattle.card_machine.specs.laws.Entries.{card-tree}
 use Rattle.card_machine.specs.laws.Verified.{marks-are}
 
-pub allowed-by-marks : (m : List ℕ) → IsCard m → (x : Current) → length x.verified ≡ 8 → (e : ℕ) (bit : AccessBit)
+allowed-by-marks : (m : List ℕ) → IsCard m → (x : Current) → length x.verified ≡ 8 → (e : ℕ) (bit : AccessBit)
     → is_allowed (tree_of m) (path_of (table m) e) bit x.verified (disabled_in m)
     ≡ allowed (card_of m) (session_of (table m) x) (path_of (table m) e) bit
 allowed-by-marks m card x marked e bit =
@@ -26,3 +29,12 @@ allowed-by-marks m card x marked e bit =
     let disabled = sym (ap (map (λ (pin : Pin). not pin.enabled)) (card_pins_are m card)) in
     (λ i. is_allowed (tree_of m) path bit (marks i) (disabled i))
     ∙ sym (ap (λ (tree : Tree). is_allowed tree path bit shown (disabled_of (card_of m))) (card-tree m))
+
+-- and so what the rule of a used entry allows, by these marks, is what that of its file allows in the session
+pub allowed-by-entry : (m : List ℕ) → IsCard m → (x : Current) → length x.verified ≡ 8 → (e : ℕ) → IsUsed (table m) e
+    → (entry : Entry) → entry ≡ entry_in (table m) e → (bit : AccessBit)
+    → is_allowed_by entry bit x.verified (disabled_in m)
+    ≡ allowed (card_of m) (session_of (table m) x) (path_of (table m) e) bit
+allowed-by-entry m card x marked e used entry is bit =
+    allowed_by_there m card.tree.entries e used entry is bit x.verified (disabled_in m)
+    ∙ allowed-by-marks m card x marked e bit

@@ -4,15 +4,14 @@ ghost use Rattle.card_rules.specs.Pins.{with_pin};
 ghost use Rattle.pin_store.specs.declared.layout.TheConstants.{PINS};
 ghost use Rattle.undo_journal.specs.Calls.{Learns};
 ghost use Rattle.undo_journal.specs.Memory.{committed, IsReady};
-ghost use Rattle.file_tree.specs.Entries.{is_allowed_by};
-ghost use Rattle.file_tree.specs.Table.{path_of, IsUsed};
+ghost use Rattle.file_tree.specs.Table.{entry_in, path_of, IsUsed};
 ghost use Rattle.card_machine.specs.Guards.{allowed};
 ghost use Rattle.card_machine.specs.Working.{card_in, disabled_in, session_in, table_in, IsKept};
 
 use crate::current::Current;
+use crate::named::Named;
 use card_rules::{AccessBit, PinNumber, PinSet};
-use file_changes::{is_allowed, is_allowed_at};
-use file_tree::Entry;
+use file_changes::is_allowed_at;
 use pin_store::{PINS, is_enabled};
 use undo_journal::{Board, Store, StoreErr};
 
@@ -40,37 +39,24 @@ fn insert(pins: &mut PinSet, secret: u8)
     }
 }
 
-/// Whether the rule of an entry's file allows what the bit stands for, in this session.
+/// Whether the rule of a file allows what the bit stands for, in this session. The entry is at hand: no word of it is
+/// read. A PIN that is disabled refuses nothing: so the marks of the PINs are read only where the rule isn't met without
+/// them.
 pub fn allows<B: Board>(
     store: &mut Store<B>,
     current: &Current,
-    number: u8,
+    file: &Named,
     bit: AccessBit,
 ) -> Result<bool, StoreErr>
     requires kept { IsKept store.old current.now }
-    requires used { IsUsed (table_in store.old) number }
-    ensures { Learns store.old store.new result (λ permits. permits
-        ≡ allowed (card_in store.old) (session_in store.old current.now) (path_of (table_in store.old) number) bit) }
+    requires used { IsUsed (table_in store.old) file.now.number }
+    requires entry { file.now.entry ≡ entry_in (table_in store.old) file.now.number }
+    ensures { Learns store.old store.new result (λ permits. permits ≡ allowed (card_in store.old)
+        (session_in store.old current.now) (path_of (table_in store.old) file.now.number) bit) }
 {
-    let disabled = disabled_pins(store)?;
-    is_allowed(store, number, bit, &current.verified, &disabled)
-}
-
-/// The same, by the file's entry, which is at hand. A PIN that is disabled refuses nothing: so the marks of the PINs
-/// are read only where the rule isn't met without them.
-pub(crate) fn allows_at<B: Board>(
-    store: &mut Store<B>,
-    current: &Current,
-    entry: &Entry,
-    bit: AccessBit,
-) -> Result<bool, StoreErr>
-    requires ready { IsReady store.old }
-    ensures { Learns store.old store.new result (λ permits. permits
-        ≡ is_allowed_by entry.now bit current.now.verified (disabled_in (committed store.old))) }
-{
-    if is_allowed_at(entry, bit, &current.verified, &PinSet::new()) {
+    if is_allowed_at(&file.entry, bit, &current.verified, &PinSet::new()) {
         return Ok(true);
     }
     let disabled = disabled_pins(store)?;
-    Ok(is_allowed_at(entry, bit, &current.verified, &disabled))
+    Ok(is_allowed_at(&file.entry, bit, &current.verified, &disabled))
 }

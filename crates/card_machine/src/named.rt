@@ -15,7 +15,7 @@ ghost use Rattle.card_machine.specs.Stops.{Checks, Looks};
 ghost use Rattle.card_machine.specs.Working.{card_in, file_refusal, fits, fits_kind, session_in, table_in};
 ghost use Rattle.card_machine.specs.Working.{IsElementary, IsKept, IsNamed};
 
-use crate::access::allows_at;
+use crate::access::allows;
 use crate::current::Current;
 use crate::stop::Stop;
 use apdu_core::{Sw, Target};
@@ -95,7 +95,7 @@ fn check_file<B: Board>(
     let findings = Findings {
         barred: is_barred_at(store, file.number, &file.entry)?,
         fits: need.structure.fits(&file.entry),
-        allowed: allows_at(store, current, &file.entry, need.bit)?,
+        allowed: allows(store, current, file, need.bit)?,
     };
     findings.check()?;
     Ok(())

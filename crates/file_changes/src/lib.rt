@@ -11,6 +11,5 @@ mod writing;
 pub use creating::{Creation, create};
 pub use deleting::delete;
 pub use life_cycles::{
-    is_allowed, is_allowed_at, is_barred, is_barred_at, next_life_cycle, set_life_cycle,
-    terminate_card,
+    is_allowed_at, is_barred_at, next_life_cycle, set_life_cycle, terminate_card,
 };

@@ -7,7 +7,7 @@ ghost use Rattle.undo_journal.specs.Commits.{CommitsByGate};
 ghost use Rattle.undo_journal.specs.Memory.{committed, IsReady};
 ghost use Rattle.undo_journal.specs.Calls.{Learns, OnlyReads, Changes};
 ghost use Rattle.card_rules.specs.LifeCycle.{life_cycle_byte};
-ghost use Rattle.file_tree.specs.States.{bars, is_allowed, is_barred, life_at, next_life};
+ghost use Rattle.file_tree.specs.States.{bars, is_barred, life_at, next_life};
 ghost use Rattle.file_tree.specs.States.{with_card_terminated, ChangesLife};
 ghost use Rattle.file_tree.specs.Table.{table, entry_in, path_of};
 ghost use Rattle.file_tree.specs.Trees.{tree_of};
@@ -54,20 +54,8 @@ fn is_below_barred<B: Board>(store: &mut Store<B>, e: u8, parent: u8) -> Result<
     Ok(false)
 }
 
-/// The file of an entry is barred: it, or a file above it, is deactivated or terminated.
-///
-/// # Errors
-/// What the store answers: power was lost, or the device failed.
-pub fn is_barred<B: Board>(store: &mut Store<B>, e: u8) -> Result<bool, StoreErr>
-    requires file { HasFile store.old e }
-    ensures { Learns store.old store.new result (λ barred. barred
-        ≡ is_barred (tree_of (committed store.old)) (path_of (table (committed store.old)) e)) }
-{
-    let entry = read_entry(store, e)?;
-    is_barred_at(store, e, &entry)
-}
-
-/// The same, where the entry is at hand: it isn't read again.
+/// The file of an entry is barred: it, or a file above it, is deactivated or terminated. The entry is at hand: it isn't
+/// read again.
 ///
 /// # Errors
 /// What the store answers: power was lost, or the device failed.
@@ -84,20 +72,22 @@ pub fn is_barred_at<B: Board>(store: &mut Store<B>, e: u8, entry: &Entry) -> Res
 }
 
 /// The state of an entry's file after a life cycle command. None where it is refused, as its conditions of use aren't
-/// satisfied: a file above is deactivated or terminated, or the state found does not allow it.
+/// satisfied: a file above is deactivated or terminated, or the state found does not allow it. The entry is at hand: it
+/// isn't read again.
 ///
 /// # Errors
 /// What the store answers: power was lost, or the device failed.
 pub fn next_life_cycle<B: Board>(
     store: &mut Store<B>,
     e: u8,
+    entry: &Entry,
     command: LifeCycleCommand,
 ) -> Result<Option<LifeCycle>, StoreErr>
     requires file { HasFile store.old e }
+    requires entry { entry.now ≡ entry_in (table (committed store.old)) e }
     ensures { Learns store.old store.new result (λ next. next
         ≡ next_life (tree_of (committed store.old)) (path_of (table (committed store.old)) e) command) }
 {
-    let entry = read_entry(store, e)?;
     let barred = is_below_barred(store, e, entry.parent)?;
     if barred {
         return Ok(None);
@@ -155,26 +145,7 @@ pub fn set_life_cycle<B: Board>(
 }
 
 /// Whether the access rule of an entry's file allows what the bit stands for, where these PINs are verified, and these
-/// are disabled (ISO/IEC 7816-4, 9.3.3).
-///
-/// # Errors
-/// What the store answers: power was lost, or the device failed.
-pub fn is_allowed<B: Board>(
-    store: &mut Store<B>,
-    e: u8,
-    bit: AccessBit,
-    verified: &PinSet,
-    disabled: &PinSet,
-) -> Result<bool, StoreErr>
-    requires file { HasFile store.old e }
-    ensures { Learns store.old store.new result (λ allowed. allowed ≡ is_allowed (tree_of (committed store.old))
-        (path_of (table (committed store.old)) e) bit verified.now disabled.now) }
-{
-    let entry = read_entry(store, e)?;
-    Ok(is_allowed_at(&entry, bit, verified, disabled))
-}
-
-/// The same, where the entry is at hand: its rule is asked where it lies.
+/// are disabled (ISO/IEC 7816-4, 9.3.3). The entry is at hand: its rule is asked where it lies.
 pub fn is_allowed_at(entry: &Entry, bit: AccessBit, verified: &PinSet, disabled: &PinSet) -> bool
     ensures { result ≡ is_allowed_by entry.now bit verified.now disabled.now }
 {

@@ -25,6 +25,12 @@ pub current_still : (a b : Memory) (x : Current) → OnlyReads a b → IsCurrent
 current_still a b x reads current =
     subst (λ (l : List ℕ). IsCurrent (table l) x) (sym reads.keeps.committed_words) current
 
+-- what was read of an entry is still what stands there
+pub entry_still : (a b : Memory) (e : ℕ) (x : Entry) → OnlyReads a b → x ≡ entry_in (table (committed a)) e
+    → x ≡ entry_in (table (committed b)) e
+entry_still a b e x reads is =
+    subst (λ (l : List ℕ). x ≡ entry_in (table l) e) (sym reads.keeps.committed_words) is
+
 -- and so what is kept stays so
 pub kept_still : (a b : Memory) (x : Current) → OnlyReads a b → IsReady b → IsKept a x → IsKept b x
 kept_still a b x reads ready kept = record {

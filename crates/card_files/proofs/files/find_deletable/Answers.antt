@@ -15,7 +15,7 @@ use Rattle.card_files.proofs.Deletions.{deletable, deletion_verdict, file-verdic
 use Rattle.card_files.proofs.Living.{current-there}
 use Rattle.apdu_core.specs.declared.life_cycles.LifeCycleChange.TheVariants.{Activate}
 use Rattle.card_files.proofs.FileSteps.{delete-master}
-use Rattle.card_machine.specs.laws.Readings.{kept_still, used_still}
+use Rattle.card_machine.specs.laws.Readings.{entry_still, kept_still, used_still}
 use Rattle.undo_journal.specs.laws.Told.{reads_on}
 use Rattle.card_machine.specs.declared.stop.Stop.TheVariants.{Failed}
 use Rattle.card_machine.specs.laws.Stopping.{finds-stopped, reads-stopped, refused-weaker}
@@ -141,3 +141,8 @@ find_subject-requires-clause-own g c =
     let t = table (committed c.args.store.now) in
     subst (λ (e : ℕ). IsUsed t e) (sym c.unwrap_or-own.ensures)
     (current-there t c.args.current.now c.requires.kept.current Activate)
+
+pub check_deletion-requires-clause-entry : goal.check_deletion-requires-clause-entry
+check_deletion-requires-clause-entry g c =
+    entry_still c.find_subject.new.store c.read_entry.new.store c.in-Some.number c.in_ok-entry.entry
+    c.read_entry.ensures.store.only c.in_ok-entry.ensures.entry

@@ -1,36 +1,41 @@
-use Rattle.std.specs.Prelude.{IfOk}
-use Rattle.std.proofs.Common.{◌≡◌, Bool, ◌∙◌, subst}
+use Rattle.std.proofs.Common.{List, Bool, sym, ◌∙◌, ap}
 use Rattle.undo_journal.specs.Memory.{committed}
-use Rattle.undo_journal.specs.laws.Told.{reads_on}
-use Rattle.file_tree.specs.States.{is_allowed}
-use Rattle.file_tree.specs.Table.{table, path_of}
-use Rattle.file_tree.specs.Trees.{tree_of}
-use Rattle.card_machine.specs.Guards.{allowed}
-use Rattle.card_machine.specs.Standing.{card_of}
-use Rattle.card_machine.specs.Working.{session_of}
-use Rattle.card_machine.proofs.Allowing.{allowed-by-marks}
-use Rattle.card_machine.specs.laws.Readings.{file_kept}
-use Rattle.file_tree.specs.laws.StoredFiles.{file_still}
+use Rattle.undo_journal.specs.laws.Exits.{none_ok}
+use Rattle.undo_journal.specs.laws.Told.{reads_handed, reads_none}
+use Rattle.card_rules.specs.laws.DisabledPins.{allows-anyhow}
+use Rattle.file_tree.specs.Entries.{is_allowed_by, life_told, rule_of}
+use Rattle.card_machine.specs.Working.{disabled_in}
+use Rattle.card_machine.proofs.Allowing.{allowed-by-entry}
 use Rattle.card_machine.proofs.access.allows.Goals as goal
+
+pub returns-then-is_allowed_at : goal.returns-then-is_allowed_at
+returns-then-is_allowed_at g c = record {
+  told = let m = committed c.args.store.now in
+      let entry = c.args.file.now.entry in
+      let bit = c.args.bit in
+      let x = c.args.current.now in
+      sym (allows-anyhow (rule_of entry) bit (life_told entry) x.verified (disabled_in m)
+      (sym (c.is_allowed_at.ensures
+      ∙ ap (λ (disabled : List Bool). is_allowed_by entry bit x.verified disabled) c.new.ensures)
+      ∙ c.if-is_allowed_at.true))
+      ∙ allowed-by-entry m c.requires.kept.card x c.requires.kept.current.marks c.args.file.now.number c.requires.used
+      entry c.requires.entry bit;
+  store = reads_none _ c.requires.kept.ready;
+}
 
 pub returns : goal.returns
 returns g c = record {
-  told = let m = committed c.args.store.now in
+  told = let entry = c.args.file.now.entry in
       let x = c.args.current.now in
-      let e = c.args.number in
-      let same = c.disabled_pins.ensures.store.only.keeps.committed_words in
-      let disabled = c.in_ok-disabled.ensures.told in
-      let is : is_allowed (tree_of (committed c.disabled_pins.new.store))
-      (path_of (table (committed c.disabled_pins.new.store)) e) c.args.bit x.verified c.in_ok-disabled.disabled
-      ≡ allowed (card_of m) (session_of (table m) x) (path_of (table m) e) c.args.bit =
-      (λ i. is_allowed (tree_of (same i)) (path_of (table (same i)) e) c.args.bit x.verified (disabled i))
-      ∙ allowed-by-marks m c.requires.kept.card x c.requires.kept.current.marks e c.args.bit in
-      subst (λ (b : Bool). IfOk c.is_allowed.result (λ permits. permits ≡ b)) is c.is_allowed.ensures.told;
-  store = reads_on _ _ _ _ c.disabled_pins.ensures.store.only c.is_allowed.ensures.store;
+      c.is_allowed_at-2.ensures
+      ∙ ap (λ (disabled : List Bool). is_allowed_by entry c.args.bit x.verified disabled) c.in_ok-disabled.ensures.told
+      ∙ allowed-by-entry (committed c.args.store.now) c.requires.kept.card x c.requires.kept.current.marks
+      c.args.file.now.number c.requires.used entry c.requires.entry c.args.bit;
+  store = c.in_ok-disabled.ensures.store;
 }
 
-pub is_allowed-requires : goal.is_allowed-requires
-is_allowed-requires g c = record {
-  file = file_still _ _ _ c.disabled_pins.ensures.store.only c.in_ok-disabled.ensures.store.ready
-      (file_kept _ _ _ c.requires.kept c.requires.used);
+pub returns-in_err-disabled : goal.returns-in_err-disabled
+returns-in_err-disabled g c = record {
+  told = none_ok _ _ _ c.from_residual.ensures.1;
+  store = reads_handed _ _ _ _ c.from_residual.ensures.1 c.in_err-disabled.ensures.store;
 }
