@@ -40,8 +40,8 @@ fn insert(pins: &mut PinSet, secret: u8)
 }
 
 /// Whether the rule of a file allows what the bit stands for, in this session. The entry is at hand: no word of it is
-/// read. A PIN that is disabled refuses nothing: so the marks of the PINs are read only where the rule isn't met without
-/// them.
+/// read. A PIN that is disabled refuses nothing: so the marks of the PINs are read only where the rule isn't met
+/// without them.
 pub fn allows<B: Board>(
     store: &mut Store<B>,
     current: &Current,

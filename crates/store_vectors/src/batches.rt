@@ -27,9 +27,9 @@ fn set_words<B: Board>(txn: &mut Txn<'_, B>) -> Result<(), StoreErr>
     txn.set_run(3000, &[1, 2, 3, 4, 5, 6, 7, 8])
 }
 
-// What becomes of the sets, and how many device writes they then make: the pairs of a batch, the gate and its four runs;
-// the pairs of the other five words, the gate and their run; the commit. Taken back, it is the eight pairs of the batch,
-// and the gate.
+// What becomes of the sets, and how many device writes they then make: the pairs of a batch, the gate and its four
+// runs; the pairs of the other five words, the gate and their run; the commit. Taken back, it is the eight pairs of the
+// batch, and the gate.
 const ENDS: &[(End, u32)] = &[(End::Commits, 6 + 3 + 1), (End::Abandons, 6 + 8 + 1)];
 
 fn change<B: Board>(store: &mut Store<B>, end: End) -> Result<(), StoreErr>

@@ -22,8 +22,8 @@ pub returns-in_err-by_parent : goal.returns-in_err-by_parent
 returns-in_err-by_parent g c = record {
   told = search rules;
   store = reads-stopped _ (Failed c.in_err-by_parent.field-0.0) c.from_residual-in_err-by_parent.ensures.1 _ _
-      (reads_on _ _ _ _ (reads_then _ _ _ (reads_then _ _ _ c.read_entry.ensures.store.only c.is_barred_at.ensures.store.only)
-      c.allows.ensures.store.only)
+      (reads_on _ _ _ _ (reads_then _ _ _
+      (reads_then _ _ _ c.read_entry.ensures.store.only c.is_barred_at.ensures.store.only) c.allows.ensures.store.only)
       c.in_err-by_parent.ensures.store);
 }
 
@@ -54,9 +54,10 @@ returns g c = record {
         | else-own w ↦ w.findings-is ∙ sym (ap (λ (b : Bool). b || c.in_ok-by_parent.by_parent) w.if-own.false)
       ] in
       sym (c.in_ok-check.ensures ∙ (λ i. file_refusal (barred i) true (both i))
-      ∙ (λ i. file_refusal (is_barred (card_of m).tree (path_of t c.args.file.now.entry.parent)) true (own i || by_parent i)));
-  store = reads_on _ _ _ _ (reads_then _ _ _ (reads_then _ _ _ c.read_entry.ensures.store.only c.is_barred_at.ensures.store.only)
-      c.allows.ensures.store.only)
+      ∙ (λ i. file_refusal (is_barred (card_of m).tree (path_of t c.args.file.now.entry.parent)) true
+      (own i || by_parent i)));
+  store = reads_on _ _ _ _ (reads_then _ _ _
+      (reads_then _ _ _ c.read_entry.ensures.store.only c.is_barred_at.ensures.store.only) c.allows.ensures.store.only)
       c.in_ok-by_parent.ensures.store;
 }
 
@@ -88,10 +89,11 @@ returns-in_err-check g c = record {
       ] in
       finds-stopped _ (Refused c.in_err-check.field-0.0) c.from_residual-in_err-check.ensures.1 _ _
       (sym (c.in_err-check.ensures ∙ (λ i. file_refusal (barred i) true (both i))
-      ∙ (λ i. file_refusal (is_barred (card_of m).tree (path_of t c.args.file.now.entry.parent)) true (own i || by_parent i))));
+      ∙ (λ i. file_refusal (is_barred (card_of m).tree (path_of t c.args.file.now.entry.parent)) true
+      (own i || by_parent i))));
   store = reads-stopped _ (Refused c.in_err-check.field-0.0) c.from_residual-in_err-check.ensures.1 _ _
-      (reads_on _ _ _ _ (reads_then _ _ _ (reads_then _ _ _ c.read_entry.ensures.store.only c.is_barred_at.ensures.store.only)
-      c.allows.ensures.store.only)
+      (reads_on _ _ _ _ (reads_then _ _ _
+      (reads_then _ _ _ c.read_entry.ensures.store.only c.is_barred_at.ensures.store.only) c.allows.ensures.store.only)
       c.in_ok-by_parent.ensures.store);
 }
 
