@@ -37,7 +37,9 @@ use Rattle.card_machine.specs.Stops.{failure_of, reply, IfRefused}
 use Rattle.card_machine.specs.laws.Guarding.{served-refused}
 use Rattle.card_machine.specs.declared.stop.Stop.{Stop}
 use Rattle.card_contents.specs.RecordParts.{IsRecordFile}
-use Rattle.card_machine.specs.Working.{card_in, outcome, pointing_from, session_in, space_in, IsKept}
+use Rattle.card_machine.specs.Working.{card_in, session_in, space_in, IsKept}
+use Rattle.card_machine.specs.CurrentParts.{pointing_from}
+use Rattle.card_machine.specs.AnswerParts.{outcome}
 use Rattle.card_contents.proofs.RecordBodies.{replaced-fits}
 use Rattle.card_contents.proofs.Halting.{halted-in-place}
 use Rattle.card_contents.proofs.RecordSums.{increase-commits, increase-effect, increase-free, increase-less}

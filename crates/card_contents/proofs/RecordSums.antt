@@ -26,7 +26,8 @@ use Rattle.card_machine.specs.Sessions.{Session}
 use Rattle.card_machine.specs.Stages.{commits}
 use Rattle.card_machine.specs.Standing.{card_of, IsCard}
 use Rattle.card_machine.specs.Steps.{effect, refusals_of}
-use Rattle.card_machine.specs.Working.{outcome, session_of}
+use Rattle.card_machine.specs.Working.{session_of}
+use Rattle.card_machine.specs.AnswerParts.{outcome}
 use Rattle.card_contents.specs.RecordParts.{IsRecordFile}
 use Rattle.card_machine.specs.laws.Guarding.{guarded-free, guarded-refused}
 use Rattle.card_contents.proofs.RecordBodies.{Agree}

@@ -42,12 +42,12 @@ use Rattle.card_machine.specs.Stages.{commits}
 use Rattle.card_machine.specs.Standing.{card_of, IsCard}
 use Rattle.card_machine.specs.Steps.{effect, refusals_of}
 use Rattle.card_contents.specs.RecordParts.{appended_in, has_in, number_added_in}
-use Rattle.card_machine.specs.Working.{card_in, fits}
+use Rattle.card_machine.specs.Working.{card_in, session_in, session_of, space_in, table_in, IsCurrent}
+use Rattle.card_machine.specs.CurrentParts.{pointer_from, pointing_from}
+use Rattle.card_machine.specs.NamedParts.{fits}
+use Rattle.card_machine.specs.AnswerParts.{outcome}
 use Rattle.card_contents.specs.RecordParts.{number_replaced_in, replaced_in, ring_in}
-use Rattle.card_machine.specs.Working.{outcome, pointer_from, pointing_from}
-use Rattle.card_machine.specs.Working.{session_in, session_of, space_in, table_in}
 use Rattle.card_contents.specs.RecordParts.{need_replacing, structure_replaced, unadded, unreplaced}
-use Rattle.card_machine.specs.Working.{IsCurrent}
 use Rattle.card_contents.specs.RecordParts.{IsRecordFile, RingBecomes}
 use Rattle.card_machine.specs.laws.Doing.{doing-one}
 use Rattle.card_machine.specs.laws.Guarding.{guarded-free, guarded-refused, served-done}

@@ -16,7 +16,9 @@ use Rattle.apdu_core.specs.Requests.{Request, read_record, search_record}
 use Rattle.undo_journal.specs.Calls.{OnlyReads}
 use Rattle.undo_journal.specs.Memory.{Memory, committed, IsReady}
 use Rattle.card_machine.specs.Served.{Serves}
-use Rattle.card_machine.specs.Working.{card_in, session_in, table_in}
+use Rattle.card_machine.specs.Working.{card_in, session_in, table_in, session_of, IsCurrent}
+use Rattle.card_machine.specs.CurrentParts.{pointer_from, pointing_from}
+use Rattle.card_machine.specs.AnswerParts.{outcome}
 use Rattle.ef_body.specs.declared.cyclic.Cyclic.{Cyclic as Ring}
 use Rattle.ef_body.specs.declared.slot.RecordSlot.{RecordSlot}
 use Rattle.ef_body.specs.Bodies.{cyclic_records, IsCyclic}
@@ -41,8 +43,6 @@ use Rattle.card_machine.specs.Sessions.{Session}
 use Rattle.card_machine.specs.Standing.{card_of, IsCard}
 use Rattle.card_machine.specs.Steps.{effect, refusals_of, served}
 use Rattle.card_contents.specs.RecordParts.{chosen_in, has_in}
-use Rattle.card_machine.specs.Working.{outcome, pointer_from, pointing_from, session_of}
-use Rattle.card_machine.specs.Working.{IsCurrent}
 use Rattle.card_contents.specs.RecordParts.{IsRecordFile}
 use Rattle.card_contents.proofs.RecordBodies.{file-agrees, has-slot, Agree}
 use Rattle.card_machine.specs.laws.Entries.{there}

@@ -57,9 +57,10 @@ use Rattle.card_machine.specs.Served.{IsDoing, Serves}
 use Rattle.card_machine.specs.Spending.{most_writes}
 use Rattle.card_machine.specs.Standing.{card_of, IsCard}
 use Rattle.card_machine.specs.Steps.{served}
-use Rattle.card_machine.specs.Working.{card_in, end_status, named_from, outcome, session_in, session_of, space_in}
-use Rattle.card_machine.specs.Working.{table_in}
-use Rattle.card_machine.specs.Working.{IsCurrent, IsElementary, IsNamed}
+use Rattle.card_machine.specs.Working.{card_in, session_in, session_of, space_in, table_in, IsCurrent, IsElementary}
+use Rattle.card_machine.specs.CurrentParts.{named_from}
+use Rattle.card_machine.specs.NamedParts.{IsNamed}
+use Rattle.card_machine.specs.AnswerParts.{end_status, outcome}
 use Rattle.card_contents.proofs.BinarySteps.{read-past, read-within, update-commits, update-decided, update-past}
 use Rattle.card_contents.proofs.BinarySteps.{update-within}
 use Rattle.card_machine.specs.laws.Doing.{doing-one}

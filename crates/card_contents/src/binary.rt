@@ -6,7 +6,8 @@ ghost use Rattle.apdu_core.specs.Sizes.{HasBetween};
 ghost use Rattle.card_machine.specs.Served.{Serves};
 ghost use Rattle.card_machine.specs.Serving.{ServesInPlace};
 ghost use Rattle.card_machine.specs.Stops.{reply};
-ghost use Rattle.card_machine.specs.Working.{end_status, IsKept};
+ghost use Rattle.card_machine.specs.Working.{IsKept};
+ghost use Rattle.card_machine.specs.AnswerParts.{end_status};
 
 use apdu_core::{Answer, BinaryPlace, Sw};
 use block_chain::Chain;

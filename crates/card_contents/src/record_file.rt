@@ -13,7 +13,7 @@ ghost use Rattle.card_contents.specs.RecordParts.{appended_in, chosen_in, is_ful
 ghost use Rattle.card_contents.specs.RecordParts.{number_replaced_in, record_file_in};
 ghost use Rattle.card_contents.specs.RecordParts.{replaced_in, ring_room, unadded, unreplaced};
 ghost use Rattle.card_contents.specs.RecordParts.{wraps_room, RingBecomes};
-ghost use Rattle.card_machine.specs.Working.{IsToldEntry};
+ghost use Rattle.card_machine.specs.TemplateParts.{IsToldEntry};
 
 use apdu_core::{RecordChoice, RecordPlace};
 use block_chain::Chain;

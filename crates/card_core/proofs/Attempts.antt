@@ -53,7 +53,9 @@ use Rattle.card_machine.specs.Spending.{most_writes}
 use Rattle.card_machine.specs.Stages.{commits, commits_unless}
 use Rattle.card_machine.specs.Standing.{card_of, IsCard}
 use Rattle.card_machine.specs.Steps.{effect, refusals_of, served}
-use Rattle.card_machine.specs.Working.{card_in, outcome, session_in, session_of, table_in, tried_from, IsCurrent}
+use Rattle.card_machine.specs.Working.{card_in, session_in, session_of, table_in, IsCurrent}
+use Rattle.card_machine.specs.CurrentParts.{tried_from}
+use Rattle.card_machine.specs.AnswerParts.{outcome}
 use Rattle.card_core.specs.PinParts.{end_of_attempt}
 use Rattle.card_core.proofs.Comparisons.{costs-told}
 use Rattle.card_machine.specs.laws.Guarding.{served-done, served-refused}

@@ -35,7 +35,8 @@ use Rattle.card_machine.specs.Spending.{writes_asked}
 use Rattle.card_machine.specs.Standing.{IsCard, card_of}
 use Rattle.card_machine.specs.Steps.{carried_out, outcome_of, served, step}
 use Rattle.card_machine.specs.Words.{StandsAsked, StandsByWord, StandsServed, alone_served, gated_served}
-use Rattle.card_machine.specs.Working.{card_in, outcome, session_in, session_of, IsKept}
+use Rattle.card_machine.specs.Working.{card_in, session_in, session_of, IsKept}
+use Rattle.card_machine.specs.AnswerParts.{outcome}
 use Rattle.card_machine.specs.laws.StageLaws.{doing_lasts, stage_doing, stage_first}
 use Rattle.card_machine.specs.laws.Readings.{kept_still}
 use Rattle.card_machine.specs.laws.Serves.{reads-compared, reads-nothing}

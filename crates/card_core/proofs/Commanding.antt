@@ -24,7 +24,8 @@ use Rattle.card_core.specs.Running.{card_found, memory_failure, FailsIn, IsCutIn
 use Rattle.card_machine.specs.Served.{CarriesOut}
 use Rattle.card_machine.specs.Sessions.{Session}
 use Rattle.card_machine.specs.Steps.{carried_out}
-use Rattle.card_machine.specs.Working.{card_in, outcome, session_in, space_in, table_in, IsKept}
+use Rattle.card_machine.specs.Working.{card_in, session_in, space_in, table_in, IsKept}
+use Rattle.card_machine.specs.AnswerParts.{outcome}
 use Rattle.card_core.specs.ShownSessions.{session_while}
 
 -- a fact of a result, where it is one or isn't

@@ -18,7 +18,8 @@ use Rattle.file_tree.specs.declared.tree.Survey.{Survey}
 use Rattle.card_core.specs.declared.faults.StartFault.TheVariants.{Damaged}
 use Rattle.card_machine.specs.Finding.{words_found, HasCard}
 use Rattle.card_machine.specs.Standing.{IsAnyCard}
-use Rattle.card_machine.specs.Working.{fresh_current, space_in, table_in, IsKept}
+use Rattle.card_machine.specs.Working.{space_in, table_in, IsKept}
+use Rattle.card_machine.specs.CurrentParts.{fresh_current}
 use Rattle.card_core.specs.StartParts.{TellsSurvey}
 use Rattle.card_core.specs.declared.faults.StartFault.{StartFault}
 use Rattle.card_core.specs.StartFaults.{fault_of_open, fault_of_store}

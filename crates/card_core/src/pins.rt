@@ -16,7 +16,8 @@ ghost use Rattle.card_machine.specs.Pins.{is_enabled_by, tries_told, unusable_by
 ghost use Rattle.card_machine.specs.Served.{Serves};
 ghost use Rattle.card_machine.specs.Stops.{failure, reply, Checks, Finds};
 ghost use Rattle.card_core.specs.PinParts.{end_of_attempt, refused_use, use_refusals};
-ghost use Rattle.card_machine.specs.Working.{tried_from, unverifies, IsKept};
+ghost use Rattle.card_machine.specs.Working.{IsKept};
+ghost use Rattle.card_machine.specs.CurrentParts.{tried_from, unverifies};
 
 use apdu_core::{Replacement, RequirementChange, Sw};
 use card_machine::{Current, Shown, Stop};

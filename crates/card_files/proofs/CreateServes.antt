@@ -32,8 +32,9 @@ use Rattle.card_files.specs.FileGuards.{IsNewFile}
 use Rattle.card_machine.specs.Served.{IsDoing, Serves}
 use Rattle.card_machine.specs.Files.{creation_writes}
 use Rattle.card_machine.specs.Standing.{card_of, IsCard}
-use Rattle.card_machine.specs.Working.{card_in, current_at, outcome, session_in, session_of, space_in, table_in}
-use Rattle.card_machine.specs.Working.{IsCurrent}
+use Rattle.card_machine.specs.Working.{card_in, session_in, session_of, space_in, table_in, IsCurrent}
+use Rattle.card_machine.specs.CurrentParts.{current_at}
+use Rattle.card_machine.specs.AnswerParts.{outcome}
 use Rattle.card_files.proofs.Creations.{any-creating, any-stage, any-stands, created-current, created-is-card}
 use Rattle.card_files.proofs.Creations.{created-space, filled-card, filled-stands}
 use Rattle.card_files.proofs.Creations.{created-step, refused-step, taken-blocks, taken-entries}

@@ -35,7 +35,9 @@ use Rattle.card_machine.specs.Sessions.{Session}
 use Rattle.card_machine.specs.Standing.{card_of, IsCard}
 use Rattle.card_machine.specs.Served.{IsDoing}
 use Rattle.card_machine.specs.Steps.{served}
-use Rattle.card_machine.specs.Working.{current_at, outcome, session_of, IsCurrent}
+use Rattle.card_machine.specs.Working.{session_of, IsCurrent}
+use Rattle.card_machine.specs.CurrentParts.{current_at}
+use Rattle.card_machine.specs.AnswerParts.{outcome}
 use Rattle.card_machine.specs.laws.Entries.{card-tree, current-entry, selecting-entry}
 use Rattle.card_machine.specs.laws.Doing.{doing-one}
 use Rattle.card_files.proofs.FileSteps.{create-commits, create-done, create-refused, create-unread, create-unrefused}

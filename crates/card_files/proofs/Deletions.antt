@@ -35,7 +35,9 @@ use Rattle.card_machine.specs.Sessions.{Session, at_dedicated_file, marked}
 use Rattle.card_machine.specs.Standing.{card_of, IsCard}
 use Rattle.card_machine.specs.Served.{IsDoing}
 use Rattle.card_machine.specs.Steps.{served}
-use Rattle.card_machine.specs.Working.{file_refusal, outcome, session_of, IsCurrent}
+use Rattle.card_machine.specs.Working.{session_of, IsCurrent}
+use Rattle.card_machine.specs.NamedParts.{file_refusal}
+use Rattle.card_machine.specs.AnswerParts.{outcome}
 use Rattle.card_machine.specs.laws.Entries.{card-tree, current-path}
 use Rattle.card_files.proofs.Above.{above-barred}
 use Rattle.card_machine.specs.laws.Doing.{doing-one}

@@ -20,7 +20,7 @@ use Rattle.card_machine.specs.Reaching.{subject_of}
 use Rattle.card_machine.specs.Sessions.{Session, at_dedicated_file}
 use Rattle.card_machine.specs.Stages.{commits}
 use Rattle.card_machine.specs.Steps.{served, refusals_of, effect}
-use Rattle.card_machine.specs.Working.{file_refusal}
+use Rattle.card_machine.specs.NamedParts.{file_refusal}
 use Rattle.card_machine.specs.laws.Guarding.{served-done, served-refused}
 use Rattle.card_machine.specs.Guards.{allowed}
 use Rattle.file_tree.specs.States.{has_barred_above, is_barred}

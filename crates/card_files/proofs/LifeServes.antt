@@ -33,7 +33,8 @@ use Rattle.card_machine.specs.Outcomes.{refused, refused_by}
 use Rattle.card_machine.specs.Sessions.{Session}
 use Rattle.card_machine.specs.Steps.{refusals_of, served}
 use Rattle.card_machine.specs.Standing.{card_of, IsCard}
-use Rattle.card_machine.specs.Working.{card_in, current_at, session_in, space_in, table_in, IsCurrent}
+use Rattle.card_machine.specs.Working.{card_in, session_in, space_in, table_in, IsCurrent}
+use Rattle.card_machine.specs.CurrentParts.{current_at}
 use Rattle.card_machine.specs.laws.Guarding.{served-refused}
 use Rattle.card_files.proofs.Living.{card-is, changed-current, changed-space, changed-stands, changed-step, doing}
 use Rattle.card_files.proofs.Living.{same-state}

@@ -48,7 +48,9 @@ use Rattle.card_machine.specs.Stages.{commits}
 use Rattle.card_machine.specs.LifeCycles.{life_commits}
 use Rattle.card_machine.specs.Standing.{card_of, IsCard}
 use Rattle.card_machine.specs.Steps.{effect, refusals_of, served}
-use Rattle.card_machine.specs.Working.{current_at, outcome, session_of, IsCurrent, IsElementary}
+use Rattle.card_machine.specs.Working.{session_of, IsCurrent, IsElementary}
+use Rattle.card_machine.specs.CurrentParts.{current_at}
+use Rattle.card_machine.specs.AnswerParts.{outcome}
 use Rattle.card_machine.specs.laws.Doing.{doing-one}
 use Rattle.card_machine.specs.laws.Entries.{card-tree, current-entry, current-path, selecting-entry}
 use Rattle.card_machine.specs.laws.Keeping.{files-after, files-stand}

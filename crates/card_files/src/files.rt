@@ -14,7 +14,8 @@ ghost use Rattle.card_machine.specs.Outcomes.{refused_by};
 ghost use Rattle.card_machine.specs.Reaching.{subject_or};
 ghost use Rattle.card_machine.specs.Served.{Serves};
 ghost use Rattle.card_machine.specs.Stops.{Looks, reply, Checks};
-ghost use Rattle.card_machine.specs.Working.{card_in, file_refusal, session_in, space_in, table_in, IsKept};
+ghost use Rattle.card_machine.specs.Working.{card_in, session_in, space_in, table_in, IsKept};
+ghost use Rattle.card_machine.specs.NamedParts.{file_refusal};
 
 use apdu_core::{Subject, Sw};
 use card_machine::{Current, Findings, Named, Stop, allows};

@@ -22,7 +22,8 @@ use Rattle.card_machine.specs.Stages.{commits, ChangesNothing, IsStage}
 use Rattle.card_machine.specs.Standing.{IsCard}
 use Rattle.card_machine.specs.Steps.{carried_out, refusals_of, served}
 use Rattle.card_machine.specs.Words.{StandsAsked, StandsServed}
-use Rattle.card_machine.specs.Working.{card_in, outcome, session_in, table_in, IsKept}
+use Rattle.card_machine.specs.Working.{card_in, session_in, table_in, IsKept}
+use Rattle.card_machine.specs.AnswerParts.{outcome}
 
 -- A request that isn't refused and changes something lasting, at whatever exit: the card is the one before it, or the
 -- one after one of its commits.

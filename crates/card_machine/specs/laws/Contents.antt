@@ -22,7 +22,7 @@ use Rattle.file_tree.specs.laws.Tables.{length-table}
 use Rattle.card_machine.specs.Binaries.{read_response}
 use Rattle.card_machine.specs.Outcomes.{Response}
 use Rattle.card_machine.specs.Standing.{IsCard}
-use Rattle.card_machine.specs.Working.{end_status}
+use Rattle.card_machine.specs.AnswerParts.{end_status}
 
 -- What READ BINARY answers, by the bytes from the offset on: as many as Le asks for at most, and a status word that
 -- tells where they are fewer.

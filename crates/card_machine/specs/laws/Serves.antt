@@ -30,7 +30,8 @@ use Rattle.card_machine.specs.declared.stop.Stop.{Stop}
 use Rattle.card_machine.specs.declared.stop.Stop.TheVariants.{Refused, Failed}
 use Rattle.card_machine.specs.Stops.{failure_of, reply, IfRefused}
 use Rattle.card_machine.specs.laws.CompareLaws.{compares-none}
-use Rattle.card_machine.specs.Working.{card_in, outcome, session_in, session_of, table_in, IsCurrent}
+use Rattle.card_machine.specs.Working.{card_in, session_in, session_of, table_in, IsCurrent}
+use Rattle.card_machine.specs.AnswerParts.{outcome}
 use Rattle.card_machine.specs.laws.Stopping.{err-is, refused-weaker}
 use Rattle.card_machine.specs.laws.Words.{Went, went-reads}
 

@@ -7,7 +7,8 @@ use Rattle.card_rules.specs.declared.access_mode.AccessBit.TheVariants.{Read}
 use Rattle.ef_body.specs.Bodies.{transparent_bytes}
 use Rattle.card_machine.specs.declared.current.Current.{Current}
 use Rattle.card_machine.specs.Stops.{stop_of_body}
-use Rattle.card_machine.specs.Working.{card_in, end_status, outcome, session_in, table_in, IsCurrent}
+use Rattle.card_machine.specs.Working.{card_in, session_in, table_in, IsCurrent}
+use Rattle.card_machine.specs.AnswerParts.{end_status, outcome}
 use Rattle.card_contents.proofs.BinarySteps.{read-refused}
 use Rattle.card_machine.specs.laws.Serves.{answered, halted, halted-with}
 use Rattle.card_contents.proofs.Serving.{asked-most, found-body, found-read, found-read-past, named-current, read-short}

@@ -10,7 +10,9 @@ use Rattle.card_machine.specs.declared.current.Current.{Current}
 use Rattle.card_machine.specs.declared.stop.Stop.TheVariants.{Refused}
 use Rattle.card_machine.specs.Lengths.{right_length}
 use Rattle.card_machine.specs.Records.{pointer_after}
-use Rattle.card_machine.specs.Working.{card_in, outcome, pointer_from, pointing_from, session_in, table_in, IsCurrent}
+use Rattle.card_machine.specs.Working.{card_in, session_in, table_in, IsCurrent}
+use Rattle.card_machine.specs.CurrentParts.{pointer_from, pointing_from}
+use Rattle.card_machine.specs.AnswerParts.{outcome}
 use Rattle.card_contents.specs.RecordParts.{chosen_in}
 use Rattle.card_machine.specs.Outcomes.{refused}
 use Rattle.card_contents.proofs.RecordBodies.{slot-few}

@@ -11,7 +11,9 @@ use Rattle.card_machine.specs.declared.stop.Stop.TheVariants.{Refused}
 use Rattle.card_machine.specs.Lengths.{asks_less, given, right_length}
 use Rattle.card_machine.specs.Outcomes.{refused}
 use Rattle.card_machine.specs.Records.{place_number, pointer_found, search_status}
-use Rattle.card_machine.specs.Working.{card_in, outcome, pointer_from, pointing_from, session_in, table_in, IsCurrent}
+use Rattle.card_machine.specs.Working.{card_in, session_in, table_in, IsCurrent}
+use Rattle.card_machine.specs.CurrentParts.{pointer_from, pointing_from}
+use Rattle.card_machine.specs.AnswerParts.{outcome}
 use Rattle.card_contents.proofs.Recording.{choice-barred, choice-gone, chosen-body, chosen-has, current-is}
 use Rattle.card_contents.proofs.Recording.{declined-empty, is-chosen, search-less, search-refused, search-whole}
 use Rattle.card_machine.specs.laws.Serves.{answered, halted, handed}
