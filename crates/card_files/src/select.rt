@@ -14,7 +14,7 @@ ghost use Rattle.card_machine.specs.Served.{Serves};
 ghost use Rattle.card_machine.specs.Stops.{Looks, reply};
 ghost use Rattle.card_machine.specs.Working.{card_in, session_in, table_in, IsKept};
 ghost use Rattle.card_machine.specs.TemplateParts.{data_in, template_in, IsToldEntry};
-ghost use Rattle.card_machine.specs.AnswerParts.{IsGiven};
+ghost use Rattle.card_machine.specs.Lengths.{IsGiven};
 
 use crate::templates::template_of;
 use apdu_core::{Answer, FilePath, Returned, Selector, Sw};

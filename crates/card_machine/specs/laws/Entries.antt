@@ -28,9 +28,9 @@ use Rattle.card_machine.specs.Standing.{card_of, IsCard}
 use Rattle.card_machine.specs.Steps.{served}
 use Rattle.card_machine.specs.Templates.{template_of}
 use Rattle.card_machine.specs.Working.{session_of, IsCurrent, IsElementary}
-use Rattle.card_machine.specs.CurrentParts.{current_at}
+use Rattle.card_machine.specs.CurrentFiles.{current_at}
 use Rattle.card_machine.specs.TemplateParts.{data_in, template_in}
-use Rattle.card_machine.specs.AnswerParts.{outcome}
+use Rattle.card_machine.specs.Outcomes.{outcome}
 use Rattle.card_machine.specs.laws.SelectSteps.{select-less, select-reached}
 use Rattle.card_machine.specs.laws.Told.{parameters-are}
 

@@ -7,7 +7,7 @@ use Rattle.file_tree.specs.Table.{table, path_of}
 use Rattle.card_machine.specs.Guards.{allowed}
 use Rattle.card_machine.specs.Standing.{card_of}
 use Rattle.card_machine.specs.Working.{session_of}
-use Rattle.card_machine.specs.NamedParts.{file_refusal}
+use Rattle.card_machine.specs.NamedFiles.{file_refusal}
 use Rattle.card_machine.specs.laws.Entries.{card-tree}
 use Rattle.card_machine.specs.declared.stop.Stop.TheVariants.{Refused, Failed}
 use Rattle.card_machine.specs.laws.Stopping.{finds-stopped, reads-stopped}

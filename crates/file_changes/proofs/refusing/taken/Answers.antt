@@ -9,7 +9,7 @@ use Rattle.file_tree.specs.Cards.{exists}
 use Rattle.file_tree.specs.Table.{table, path_of, IsTable}
 use Rattle.file_tree.specs.Trees.{tree_of}
 use Rattle.file_tree.specs.NewFiles.{has_name, has_short_given}
-use Rattle.file_tree.specs.Parts.{TellsNamed}
+use Rattle.file_tree.specs.Naming.{TellsNamed}
 use Rattle.file_tree.specs.laws.Tables.{length-table}
 use Rattle.file_tree.specs.laws.Refusing.{child_told, name_told}
 use Rattle.file_changes.specs.laws.Allowed.{taken_is, creatable_short}

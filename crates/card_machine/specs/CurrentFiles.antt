@@ -1,5 +1,5 @@
--- How the current files, the record pointer and the verified PINs change, as the code keeps them. No public clause names
--- these.
+-- How the current files, the record pointer and the verified PINs change, as the code keeps them. No clause of a card's
+-- calls names these.
 use Rattle.std.specs.Prelude.{◌==◌, ℕ, Bool, true, false, if◌then◌else◌, Option, Some, None}
 use Rattle.apdu_core.specs.declared.binary.Target.{Target}
 use Rattle.apdu_core.specs.declared.binary.Target.TheVariants as target
