@@ -71,11 +71,6 @@ returns g c = record {
       c.in_ok-fill.ensures.store c.in_ok-fill.ensures.done;
 }
 
-pub room_for-requires : goal.room_for-requires
-room_for-requires g c =
-    (agree (committed c.args.store.now) c.requires.kept.ready.usable.committed_size c.requires.kept.card
-    c.args.current.now c.args.target _ c.in_ok-file.file c.in_ok-file.ensures.told).straight
-
 pub returns-in_err-file : goal.returns-in_err-file
 returns-in_err-file g c =
     let old = c.args.store.now in
