@@ -89,7 +89,8 @@ five : (identifier name short deep full : Bool)
     → (if identifier then Some FILE_EXISTS else if name then Some NAME_EXISTS else if short then Some WRONG_DATA else
     if deep then Some CONDITIONS_NOT_SATISFIED else if full then Some NO_ROOM else None)
     ≡ first_reason
-    (if identifier then Some FILE_EXISTS else if name then Some NAME_EXISTS else if short then Some WRONG_DATA else None)
+    (if identifier then Some FILE_EXISTS else if name then Some NAME_EXISTS else
+    if short then Some WRONG_DATA else None)
     (if deep then Some CONDITIONS_NOT_SATISFIED else if full then Some NO_ROOM else None)
 five true name short deep full = refl
 five false true short deep full = refl

@@ -10,7 +10,7 @@ use fcp_template::{DfName, Fcp, FileKind, Records, ShortIdentifier, write};
 use file_tree::{Entry, EntryKind};
 
 /// The template that tells of the file of a used entry.
-#[tactic(auto, unfolding(card_machine::specs::Working::template_in))]
+#[tactic(auto, unfolding(card_machine::specs::TemplateParts::template_in))]
 pub(crate) fn template_of(entry: &Entry) -> ResponseData
     requires { IsToldEntry entry.now }
     ensures { result.items ≡ template_in entry.now }

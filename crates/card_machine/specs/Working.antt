@@ -1,5 +1,5 @@
--- What a card that works keeps of its memory and its session: which card and session these are, and the files that can be
--- current.
+-- What a card that works keeps of its memory and its session: which card and session these are, and the files that can
+-- be current.
 use Rattle.std.specs.Prelude.{◌≡◌, ◌≤◌, ℕ, Bool, not, List, length, map, option_map, IfSome}
 use Rattle.undo_journal.specs.Memory.{Memory, committed, IsReady}
 use Rattle.file_tree.specs.declared.entry.Entry.{Entry}

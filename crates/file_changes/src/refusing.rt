@@ -14,9 +14,7 @@ ghost use Rattle.file_changes.specs.CreationParts.{TellsFreeEntry};
 
 use card_rules::Sw;
 use fcp_template::{Fcp, ShortIdentifier};
-use file_tree::{
-    DEEPEST, ENTRIES_END, Entry, Index, ancestor, entry_named, find_short,
-};
+use file_tree::{DEEPEST, ENTRIES_END, Entry, Index, ancestor, entry_named, find_short};
 use undo_journal::{Board, Store, StoreErr};
 
 /// A dedicated file is on the last level: six steps to parents do not lead to the master file.

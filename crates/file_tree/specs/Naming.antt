@@ -1,5 +1,5 @@
 -- Which entry bears the name of a dedicated file (ISO/IEC 7816-4, 7.2.2): what a look-up by a name tells.
-use Rattle.std.specs.Prelude.{◌≡◌, ◌≢◌, ⊥, ℕ, List, Option, None, Some}
+use Rattle.std.specs.Prelude.{◌≡◌, ◌≢◌, ℕ, List, Option, None, Some}
 use Rattle.file_tree.specs.declared.entry.Entry.{Entry}
 use Rattle.file_tree.specs.Entries.{name_of}
 use Rattle.file_tree.specs.Table.{entry_in}

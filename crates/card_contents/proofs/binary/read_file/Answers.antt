@@ -12,7 +12,8 @@ use Rattle.card_machine.specs.Binaries.{end_status}
 use Rattle.card_machine.specs.Outcomes.{outcome}
 use Rattle.card_contents.proofs.BinarySteps.{read-refused}
 use Rattle.card_machine.specs.laws.Serves.{answered, halted, halted-with}
-use Rattle.card_contents.proofs.BinaryServes.{asked-most, found-body, found-read, found-read-past, named-current, read-short}
+use Rattle.card_contents.proofs.BinaryServes.{asked-most, found-body, found-read, found-read-past, named-current}
+use Rattle.card_contents.proofs.BinaryServes.{read-short}
 use Rattle.card_machine.specs.laws.Stopping.{body-reads, body-said}
 use Rattle.card_contents.proofs.binary.read_file.Goals as goal
 

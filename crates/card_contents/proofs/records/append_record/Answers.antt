@@ -11,7 +11,6 @@ use Rattle.card_contents.proofs.Halting.{halted-in-place}
 use Rattle.card_contents.proofs.AppendServes.{appended-body, appended-done, appended-few, appended-long, appended-space}
 use Rattle.card_contents.proofs.AppendServes.{appended-torn, is-appendable}
 use Rattle.card_contents.proofs.RecordWrites.{append-decided, append-refused}
-use Rattle.card_contents.proofs.RecordSteps.{agree}
 use Rattle.card_machine.specs.laws.Stopping.{none-failed, reply-failed}
 use Rattle.card_contents.proofs.records.append_record.Goals as goal
 

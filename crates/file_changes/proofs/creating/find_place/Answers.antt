@@ -97,6 +97,6 @@ place_for-requires-clause-df g c =
 
 pub place_for-requires-clause-entries : goal.place_for-requires-clause-entries
 place_for-requires-clause-entries g c =
-    c.as_slice-2.ensures.value ∙ c.in_ok-entries.ensures.table
+    c.as_slice-in-None.ensures.value ∙ c.in_ok-entries.ensures.table
     ∙ ap table (sym (c.taken.ensures.store.only.keeps.committed_words
     ∙ c.read_table.ensures.store.only.keeps.committed_words))
