@@ -1,7 +1,7 @@
 -- The files of records that entries tell of.
 use Rattle.std.proofs.Common.{◌≡◌, ◌≢◌, ◌⊎◌, ◌<◌, ◌≤◌, ◌+◌, ◌/◌, ◌%◌, ◌==◌, ◌&&◌, ℕ, Bool, true, false, not, nat_le}
 use Rattle.std.proofs.Common.{List, [], ◌∷◌, ◌-◌, length, length-append, length-set, length-take, take, slice_index}
-use Rattle.std.proofs.Common.{Some, None, if◌then◌else◌, sym, ◌∙◌, ap, arith, ⊎_elim, true≢false}
+use Rattle.std.proofs.Common.{Some, None, if◌then◌else◌, sym, ◌∙◌, ap, arith, ⊎_elim}
 use Rattle.std.proofs.lemmas.Bool.{le-leb, leb-false}
 use Rattle.nvm_board.specs.Facts.{IsMemory}
 use Rattle.block_chain.specs.Words.{page_words}
