@@ -1,8 +1,8 @@
 pub mod Bodies
-pub mod BodyView
+pub mod BodyParts
 pub mod Numbers
 pub mod Selections
-pub mod Ways
+pub mod WayParts
 pub mod Requests
 pub mod OfBytes
 pub mod Sizes

@@ -9,7 +9,7 @@ use Rattle.apdu_core.specs.declared.form.CommandBody.{CommandBody}
 use Rattle.apdu_core.specs.declared.form.Operands.{Operands}
 use Rattle.apdu_core.specs.Asked.{asked_by_row}
 use Rattle.apdu_core.specs.Bodies.{body_of}
-use Rattle.apdu_core.specs.BodyView.{body_view}
+use Rattle.apdu_core.specs.BodyParts.{body_view}
 use Rattle.apdu_core.specs.Fields.{IsInRange}
 use Rattle.apdu_core.specs.Requests.{Request, Gives}
 use Rattle.apdu_core.specs.Rows.{Row}

@@ -4,7 +4,7 @@ ghost use Rattle.apdu_core.specs.Selections.{selection_of};
 ghost use Rattle.apdu_core.specs.SelectRows.{select_row, is_way, is_returned, returned_by, names_file, named_file};
 ghost use Rattle.apdu_core.specs.Parsing.{Parses, Names};
 ghost use Rattle.apdu_core.specs.Ranges.{IsSelector};
-ghost use Rattle.apdu_core.specs.Ways.{byte_of};
+ghost use Rattle.apdu_core.specs.WayParts.{byte_of};
 
 use crate::commands::{Command, Parsed};
 use crate::form::{CommandBody, Operands};

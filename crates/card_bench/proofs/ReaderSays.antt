@@ -14,7 +14,7 @@ use Rattle.t1_link.specs.ReaderTable.{is_dead, reader_sends}
 use Rattle.t1_link.specs.ReaderTable.{reader_times_out, requesting, requesting_again, sends, unknown}
 use Rattle.card_bench.specs.declared.exchange.Blocks.{Blocks}
 use Rattle.card_bench.specs.Exchanges.{following, toward_card}
-use Rattle.card_bench.specs.ExchangeViews.{flow_of, follows_of}
+use Rattle.card_bench.specs.ExchangeParts.{flow_of, follows_of}
 
 pub follows-so : (o : Outcome) (next : Next) (blocks : Blocks) (held : List ℕ) (reader : Reader) → next ≡ next_of o
     → blocks.toward_card ≡ left_in o held → HasAnswer o reader

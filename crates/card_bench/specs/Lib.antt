@@ -7,7 +7,7 @@ pub mod Guessing
 pub mod Plays
 pub mod Faults
 pub mod Prints
-pub mod DeskViews
+pub mod DeskParts
 pub mod Endings
 pub mod Worlds
 pub mod WorldLaw
@@ -16,7 +16,7 @@ pub mod TreeMachine
 pub mod Exchanges
 pub mod ExchangeWorlds
 pub mod Lines
-pub mod ExchangeViews
+pub mod ExchangeParts
 pub mod Performing
 pub mod ScriptWorlds
 pub mod Printouts
@@ -24,4 +24,4 @@ pub mod Masks
 pub mod Sweeps
 pub mod SweptRuns
 pub mod Tallies
-pub mod Plans
+pub mod PlanParts

@@ -25,7 +25,7 @@ pub(crate) enum Came {
 }
 
 impl Came {
-    ghost use Rattle.card_bench.specs.DeskViews.{is_started};
+    ghost use Rattle.card_bench.specs.DeskParts.{is_started};
 
     /// Whether a card started.
     pub(crate) fn is_started(&self) -> bool

@@ -3,9 +3,9 @@ ghost use Rattle.std.specs.Prelude.{◌≡◌, ◌≢◌, ◌≤◌, ℕ, List, 
 ghost use Rattle.std.specs.Io.KnownBytes.{Appends};
 ghost use Rattle.bench_lines.specs.declared.order.TheConstants.{COMMAND_LIMIT};
 ghost use Rattle.card_bench.specs.BenchStates.{off};
-ghost use Rattle.card_bench.specs.DeskViews.{print_of};
+ghost use Rattle.card_bench.specs.DeskParts.{print_of};
 ghost use Rattle.card_bench.specs.Exchanges.{printed_by};
-ghost use Rattle.card_bench.specs.ExchangeViews.{ended_of};
+ghost use Rattle.card_bench.specs.ExchangeParts.{ended_of};
 ghost use Rattle.bench_lines.specs.OrderViews.{order_with};
 ghost use Rattle.bench_lines.specs.Orders.{IsSized};
 ghost use Rattle.card_bench.specs.Performing.{Performs, PerformsCommand, TakesTurn, free_shown};
@@ -39,7 +39,7 @@ impl<B: Socket> Model for Desk<B> {
     ghost use Rattle.std.specs.Prelude.{◌≢◌, IsTrue};
     ghost use Rattle.t1_link.specs.declared.reader_end.Phase.TheVariants.{Busy};
     ghost use Rattle.card_machine.specs.Sessions.{session_code};
-    ghost use Rattle.card_bench.specs.DeskViews.{DeskState, print_of, reader_there};
+    ghost use Rattle.card_bench.specs.DeskParts.{DeskState, print_of, reader_there};
 
     ghost Value = { DeskState };
 

@@ -5,7 +5,7 @@ ghost use Rattle.t1_link.specs.ReaderTable.{reader_sends, reader_step, reader_ti
 ghost use Rattle.bench_lines.specs.declared.order.TheConstants.{COMMAND_LIMIT};
 ghost use Rattle.card_bench.specs.BenchStates.{IsOn};
 ghost use Rattle.card_bench.specs.Exchanges.{Exchanged, Exchanges, GoesOn, Passes, ReaderTurns};
-ghost use Rattle.card_bench.specs.ExchangeViews.{ended_of, ends_of, flow_of, follows_of, next_block};
+ghost use Rattle.card_bench.specs.ExchangeParts.{ended_of, ends_of, flow_of, follows_of, next_block};
 ghost use Rattle.card_bench.specs.Plays.{IsGood};
 
 use crate::came::Came;

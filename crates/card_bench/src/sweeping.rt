@@ -9,7 +9,7 @@ ghost use Rattle.card_bench.specs.BenchStates.{IsWell, bench_facts};
 ghost use Rattle.card_bench.specs.Turns.{Runs};
 ghost use Rattle.card_bench.specs.Tallies.{findings, count_of, Counts};
 ghost use Rattle.card_bench.specs.declared.sweeping.Stop.TheVariants.{Memory};
-ghost use Rattle.card_bench.specs.Plans.{board_of, AreAll, AreAtWrite, IsGiven, Sweeps};
+ghost use Rattle.card_bench.specs.PlanParts.{board_of, AreAll, AreAtWrite, IsGiven, Sweeps};
 ghost use Rattle.card_bench.specs.SweptRuns.{SparesCommand, IsOneLook, AreAllBehind, AreAllRuns};
 ghost use Rattle.card_bench.specs.Sweeps.{CutsCommand, CutsStart, SparesStart, EndsIn, EndsBehindStarts};
 ghost use Rattle.card_bench.specs.Sweeps.{GivenByRun, free_of};

@@ -24,13 +24,13 @@ use Rattle.card_contents.specs.declared.record_file.Room.{Room}
 use Rattle.card_machine.specs.Served.{Serves}
 use Rattle.card_machine.specs.Standing.{IsCard}
 use Rattle.card_contents.specs.RecordParts.{appended_in, is_full_in, number_added_in, ring_room, unadded, wraps_room}
-use Rattle.card_machine.specs.Working.{pointing_from, space_in, table_in}
-use Rattle.card_machine.specs.Working.{IsCurrent}
+use Rattle.card_machine.specs.Working.{space_in, table_in, IsCurrent}
+use Rattle.card_machine.specs.CurrentFiles.{pointing_from}
 use Rattle.card_contents.specs.RecordParts.{IsRecordFile, RingBecomes}
 use Rattle.card_contents.proofs.RecordBodies.{appended-fits, count-few}
 use Rattle.card_contents.proofs.RecordWrites.{PutsRecords, append-commits, append-decided, append-effect}
 use Rattle.card_contents.proofs.RecordWrites.{records-made, records-space, records-torn, verdict-free}
-use Rattle.card_contents.proofs.Recording.{agree}
+use Rattle.card_contents.proofs.RecordSteps.{agree}
 
 -- a file that APPEND RECORD adds the bytes to, and where they go: nothing refuses them
 pub record IsAppendable (m : List ℕ) (x : Current) (target : Target) (bytes : List ℕ) (file : RecordFile) (room : Room)

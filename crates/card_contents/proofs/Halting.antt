@@ -9,7 +9,7 @@ use Rattle.card_machine.specs.declared.current.Current.{Current}
 use Rattle.card_machine.specs.declared.stop.Stop.{Stop}
 use Rattle.card_machine.specs.Counting.{CountsServed}
 use Rattle.card_machine.specs.Outcomes.{refused}
-use Rattle.card_machine.specs.Serving.{ServesInPlace}
+use Rattle.card_machine.specs.InPlace.{ServesInPlace}
 use Rattle.card_machine.specs.Standing.{IsCard}
 use Rattle.card_machine.specs.Steps.{served}
 use Rattle.card_machine.specs.Stops.{failure_of, reply, IfRefused}

@@ -28,23 +28,24 @@ use Rattle.card_machine.specs.declared.named.Structure.TheVariants.{Cyclic as Cy
 use Rattle.card_contents.specs.declared.record_file.RecordFile.{RecordFile}
 use Rattle.card_machine.specs.Elementary.{target_path}
 use Rattle.card_machine.specs.Lengths.{asks_less, given, right_length}
-use Rattle.card_machine.specs.Outcomes.{refused_by}
+use Rattle.card_machine.specs.Outcomes.{refused_by, outcome}
 use Rattle.card_machine.specs.Records.{pointing, with_records_at}
 use Rattle.card_machine.specs.Served.{Serves}
-use Rattle.card_machine.specs.Serving.{ServesInPlace}
+use Rattle.card_machine.specs.InPlace.{ServesInPlace}
 use Rattle.card_machine.specs.Steps.{refusals_of}
 use Rattle.card_machine.specs.Stops.{failure_of, reply, IfRefused}
 use Rattle.card_machine.specs.laws.Guarding.{served-refused}
 use Rattle.card_machine.specs.declared.stop.Stop.{Stop}
 use Rattle.card_contents.specs.RecordParts.{IsRecordFile}
-use Rattle.card_machine.specs.Working.{card_in, outcome, pointing_from, session_in, space_in, IsKept}
+use Rattle.card_machine.specs.Working.{card_in, session_in, space_in, IsKept}
+use Rattle.card_machine.specs.CurrentFiles.{pointing_from}
 use Rattle.card_contents.proofs.RecordBodies.{replaced-fits}
 use Rattle.card_contents.proofs.Halting.{halted-in-place}
 use Rattle.card_contents.proofs.RecordSums.{increase-commits, increase-effect, increase-free, increase-less}
 use Rattle.card_contents.proofs.RecordSums.{length-spelled, short-fits, too_long}
 use Rattle.card_contents.proofs.RecordWrites.{records-made, records-space, records-torn}
 use Rattle.card_contents.proofs.RecordWrites.{PutsRecords}
-use Rattle.card_contents.proofs.Recording.{agree}
+use Rattle.card_contents.proofs.RecordSteps.{agree}
 
 -- what stops INCREASE before it writes
 pub increase-halted : {old new : Memory} {x : Current} → IsKept old x → (sent : List ℕ) (expected : Option ℕ)

@@ -1,7 +1,7 @@
 pub mod BinarySteps
 pub mod RecordBodies
-pub mod Serving
-pub mod Recording
+pub mod BinaryServes
+pub mod RecordSteps
 pub mod RecordTables
 pub mod RecordChanges
 pub mod RecordWrites

@@ -1,7 +1,7 @@
 -- The files of records that entries tell of.
 use Rattle.std.proofs.Common.{◌≡◌, ◌≢◌, ◌⊎◌, ◌<◌, ◌≤◌, ◌+◌, ◌/◌, ◌%◌, ◌==◌, ◌&&◌, ℕ, Bool, true, false, not, nat_le}
 use Rattle.std.proofs.Common.{List, [], ◌∷◌, ◌-◌, length, length-append, length-set, length-take, take, slice_index}
-use Rattle.std.proofs.Common.{Some, None, if◌then◌else◌, sym, ◌∙◌, ap, arith, ⊎_elim, true≢false}
+use Rattle.std.proofs.Common.{Some, None, if◌then◌else◌, sym, ◌∙◌, ap, arith, ⊎_elim}
 use Rattle.std.proofs.lemmas.Bool.{le-leb, leb-false}
 use Rattle.nvm_board.specs.Facts.{IsMemory}
 use Rattle.block_chain.specs.Words.{page_words}
@@ -36,7 +36,6 @@ pub record Agree (m : List ℕ) (kind : Kind) (file : RecordFile) : Type 0 where
   pub full : (is_linear kind && nat_le (capacity_in kind) (length (records_of kind))) ≡ is_full_in file
   pub number : length (records_of kind) ≡ file.ring.records
   pub stands : IsCyclic m file.ring
-  pub straight : file.wraps ≡ false → file.ring.start ≡ 0
 
 -- how many records a ring has, and at most 254
 pub count-at : (m : List ℕ) (ring : Ring) → IsCyclic m ring → length (cyclic_records m ring) ≡ ring.records
@@ -202,8 +201,6 @@ module _ (m : List ℕ) (sized : IsMemory m) (words : IsCard m) (e : ℕ) (used 
           full = λ i. linear_is i && nat_le (capacity_is i) (number_is i);
           number = number_is;
           stands = ring-stands;
-          straight = λ other. ⊎_elim (λ (three : x.kind ≡ 3). rules.linear three)
-              (λ (four : x.kind ≡ 4). absurd (true≢false (sym (ap (λ (k : ℕ). k == 4) four) ∙ other))) of_records;
         }
 
 -- the record of a receipt is there, and its number is a byte

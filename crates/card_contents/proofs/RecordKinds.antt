@@ -4,7 +4,7 @@ use Rattle.std.proofs.Common.{◌≡◌, ◌≢◌, ◌⊎◌, ◌==◌, ◌||�
 use Rattle.card_machine.specs.declared.named.Structure.{Structure}
 use Rattle.card_machine.specs.declared.named.Structure.TheVariants.{Bytes, Records, Linear, Cyclic}
 use Rattle.card_machine.specs.laws.FoundLaws.{same-of}
-use Rattle.card_machine.specs.Working.{fits_kind}
+use Rattle.card_machine.specs.NamedFiles.{fits_kind}
 
 either : (a b : Bool) → (a || b) ≡ true → (a ≡ true) ⊎ (b ≡ true)
 either true b is = inl refl

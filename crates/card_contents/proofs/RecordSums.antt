@@ -20,17 +20,17 @@ use Rattle.card_machine.specs.Cards.{Card, Kind}
 use Rattle.card_machine.specs.Elementary.{file_refusals, target_kind, target_path}
 use Rattle.card_machine.specs.Increasing.{increased_data}
 use Rattle.card_machine.specs.Lengths.{asks_less, given, length_refusal, right_length}
-use Rattle.card_machine.specs.Outcomes.{refused_by, Refusal}
+use Rattle.card_machine.specs.Outcomes.{refused_by, Refusal, outcome}
 use Rattle.card_machine.specs.Records.{is_cyclic, no_record, pointing, record_length, records_of, with_records_at}
 use Rattle.card_machine.specs.Sessions.{Session}
 use Rattle.card_machine.specs.Stages.{commits}
 use Rattle.card_machine.specs.Standing.{card_of, IsCard}
 use Rattle.card_machine.specs.Steps.{effect, refusals_of}
-use Rattle.card_machine.specs.Working.{outcome, session_of}
+use Rattle.card_machine.specs.Working.{session_of}
 use Rattle.card_contents.specs.RecordParts.{IsRecordFile}
 use Rattle.card_machine.specs.laws.Guarding.{guarded-free, guarded-refused}
 use Rattle.card_contents.proofs.RecordBodies.{Agree}
-use Rattle.card_contents.proofs.Recording.{agree}
+use Rattle.card_contents.proofs.RecordSteps.{agree}
 
 -- as many bytes as are asked for spell a number
 pub length-spelled : (size n : ℕ) → length (spelled size n) ≡ size

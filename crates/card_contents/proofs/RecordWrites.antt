@@ -30,7 +30,7 @@ use Rattle.card_machine.specs.Cards.{Card, Kind, Path}
 use Rattle.card_machine.specs.Comparing.{attempt_of, comparisons, ComparesBy, ComparesShown}
 use Rattle.card_machine.specs.Attempts.{Attempt}
 use Rattle.card_machine.specs.Elementary.{file_refusals, target_kind, target_path}
-use Rattle.card_machine.specs.Outcomes.{refused_by, Refusal}
+use Rattle.card_machine.specs.Outcomes.{refused_by, Refusal, outcome}
 use Rattle.card_machine.specs.Records.{appended_records, capacity_of, has_records, is_linear, no_record}
 use Rattle.card_machine.specs.Records.{no_record_length, pointer_after, pointing, records_of}
 use Rattle.card_machine.specs.Records.{replaced_number, replaces, target_number, updated_records, with_records_at}
@@ -42,18 +42,17 @@ use Rattle.card_machine.specs.Stages.{commits}
 use Rattle.card_machine.specs.Standing.{card_of, IsCard}
 use Rattle.card_machine.specs.Steps.{effect, refusals_of}
 use Rattle.card_contents.specs.RecordParts.{appended_in, has_in, number_added_in}
-use Rattle.card_machine.specs.Working.{card_in, fits}
+use Rattle.card_machine.specs.Working.{card_in, session_in, session_of, space_in, table_in, IsCurrent}
+use Rattle.card_machine.specs.CurrentFiles.{pointer_from, pointing_from}
+use Rattle.card_machine.specs.NamedFiles.{fits}
 use Rattle.card_contents.specs.RecordParts.{number_replaced_in, replaced_in, ring_in}
-use Rattle.card_machine.specs.Working.{outcome, pointer_from, pointing_from}
-use Rattle.card_machine.specs.Working.{session_in, session_of, space_in, table_in}
 use Rattle.card_contents.specs.RecordParts.{need_replacing, structure_replaced, unadded, unreplaced}
-use Rattle.card_machine.specs.Working.{IsCurrent}
 use Rattle.card_contents.specs.RecordParts.{IsRecordFile, RingBecomes}
 use Rattle.card_machine.specs.laws.Doing.{doing-one}
 use Rattle.card_machine.specs.laws.Guarding.{guarded-free, guarded-refused, served-done}
 use Rattle.card_contents.proofs.RecordBodies.{Agree}
 use Rattle.card_contents.proofs.RecordChanges.{records-become, Records}
-use Rattle.card_contents.proofs.Recording.{agree, chosen-is, current-is, has-is, path-is, pointer-is, session-is}
+use Rattle.card_contents.proofs.RecordSteps.{agree, chosen-is, current-is, has-is, path-is, pointer-is, session-is}
 use Rattle.card_machine.specs.laws.Serves.{compared-none, counts-none, torn, written}
 use Rattle.card_machine.specs.laws.Stopping.{err-is}
 use Rattle.card_machine.specs.laws.Words.{Went, went-after}

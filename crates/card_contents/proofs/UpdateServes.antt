@@ -28,13 +28,13 @@ use Rattle.card_machine.specs.Records.{pointer_after, replaces}
 use Rattle.card_machine.specs.Served.{Serves}
 use Rattle.card_machine.specs.Standing.{card_of, IsCard}
 use Rattle.card_contents.specs.RecordParts.{has_in, number_replaced_in, replaced_in, unreplaced, IsRecordFile}
-use Rattle.card_machine.specs.Working.{pointer_from, pointing_from, session_of, space_in}
+use Rattle.card_machine.specs.Working.{session_of, space_in, table_in, IsCurrent}
+use Rattle.card_machine.specs.CurrentFiles.{pointer_from, pointing_from}
 use Rattle.card_contents.specs.RecordParts.{need_replacing, RingBecomes}
-use Rattle.card_machine.specs.Working.{table_in, IsCurrent}
 use Rattle.card_contents.proofs.RecordBodies.{replaced-fits, slot-few}
 use Rattle.card_contents.proofs.RecordWrites.{PutsRecords, records-made, records-space, records-torn}
 use Rattle.card_contents.proofs.RecordWrites.{replaces-is, update-commits, update-decided, update-effect, verdict-free}
-use Rattle.card_contents.proofs.Recording.{agree}
+use Rattle.card_contents.proofs.RecordSteps.{agree}
 
 -- a record that UPDATE RECORD replaces: it is there, and nothing refuses the bytes in its place
 pub record IsReplaceable (m : List ℕ) (x : Current) (target : Target) (choice : RecordChoice) (bytes : List ℕ)

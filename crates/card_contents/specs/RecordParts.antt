@@ -24,7 +24,7 @@ use Rattle.card_machine.specs.declared.current.Current.{Current}
 use Rattle.card_machine.specs.declared.named.Need.{Need}
 use Rattle.card_machine.specs.declared.named.Structure.{Structure}
 use Rattle.card_machine.specs.declared.named.Structure.TheVariants.{Records, Linear}
-use Rattle.card_machine.specs.Working.{IsNamed}
+use Rattle.card_machine.specs.NamedFiles.{IsNamed}
 
 -- the address of the word of an entry that tells of its records
 abbrev pub told_address : ℕ → ℕ

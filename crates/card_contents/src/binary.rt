@@ -4,9 +4,10 @@ ghost use Rattle.apdu_core.specs.Ranges.{IsTarget};
 ghost use Rattle.apdu_core.specs.Requests.{read_binary, update_binary};
 ghost use Rattle.apdu_core.specs.Sizes.{HasBetween};
 ghost use Rattle.card_machine.specs.Served.{Serves};
-ghost use Rattle.card_machine.specs.Serving.{ServesInPlace};
+ghost use Rattle.card_machine.specs.InPlace.{ServesInPlace};
 ghost use Rattle.card_machine.specs.Stops.{reply};
-ghost use Rattle.card_machine.specs.Working.{end_status, IsKept};
+ghost use Rattle.card_machine.specs.Working.{IsKept};
+ghost use Rattle.card_machine.specs.Binaries.{end_status};
 
 use apdu_core::{Answer, BinaryPlace, Sw};
 use block_chain::Chain;

@@ -1,7 +1,7 @@
 //! INCREASE (ETSI TS 102 221, 11.1.8).
 ghost use Rattle.std.specs.Prelude.{◌≡◌, ◌≤◌, ◌+◌, ◌++◌, ◌||◌, nat_lt, [], length, Some};
 ghost use Rattle.apdu_core.specs.Requests.{increase as increasing};
-ghost use Rattle.card_machine.specs.Serving.{ServesInPlace};
+ghost use Rattle.card_machine.specs.InPlace.{ServesInPlace};
 ghost use Rattle.card_machine.specs.Stops.{reply};
 ghost use Rattle.card_machine.specs.Working.{IsKept};
 

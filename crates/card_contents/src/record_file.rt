@@ -1,5 +1,5 @@
 //! An elementary file of records, as its entry tells of it, and what a command finds of it before it writes.
-ghost use Rattle.std.specs.Prelude.{◌≡◌, ◌≤◌, ◌⊎◌, ◌==◌, if◌then◌else◌, false, length, None, Some, IfOk};
+ghost use Rattle.std.specs.Prelude.{◌≡◌, ◌≤◌, ◌⊎◌, ◌==◌, if◌then◌else◌, length, None, Some, IfOk};
 ghost use Rattle.std.specs.Result.{result_err};
 ghost use Rattle.card_rules.specs.declared.status.TheConstants.Sw.{NO_ROOM};
 ghost use Rattle.undo_journal.specs.Memory.{committed, IsReady};
@@ -13,12 +13,12 @@ ghost use Rattle.card_contents.specs.RecordParts.{appended_in, chosen_in, is_ful
 ghost use Rattle.card_contents.specs.RecordParts.{number_replaced_in, record_file_in};
 ghost use Rattle.card_contents.specs.RecordParts.{replaced_in, ring_room, unadded, unreplaced};
 ghost use Rattle.card_contents.specs.RecordParts.{wraps_room, RingBecomes};
-ghost use Rattle.card_machine.specs.Working.{IsToldEntry};
+ghost use Rattle.card_machine.specs.TemplateParts.{IsToldEntry};
 
 use apdu_core::{RecordChoice, RecordPlace};
 use block_chain::Chain;
 use card_rules::Sw;
-use ef_body::{Cyclic, FreeSlot, Linear, RecordBody, RecordSlot};
+use ef_body::{Cyclic, FreeSlot, RecordBody, RecordSlot};
 use file_tree::{Entry, EntryKind, FIRST_ENTRY_PAGE, RECORDS_WORD};
 use undo_journal::{Board, PAGE_WORDS, Store, StoreErr};
 
@@ -183,7 +183,6 @@ impl RecordFile {
     /// 6A84 exactly where a linear file has as many records as there is room for, and 6700 where there is room, and its
     /// records aren't as long.
     pub fn room_for(self, bytes: &[u8]) -> Result<Room, Sw>
-        requires { self.wraps ≡ false → self.ring.start ≡ 0 }
         ensures ring { IfOk result (λ room. ring_room room ≡ self.ring) }
         ensures wraps { IfOk result (λ room. wraps_room room ≡ self.wraps) }
         ensures refusal { result_err result ≡ unadded self bytes.now }
@@ -200,7 +199,6 @@ impl RecordFile {
     /// # Errors
     /// 6A84 exactly where a linear file has as many records as there is room for.
     fn find_room(self) -> Result<Room, Sw>
-        requires { self.wraps ≡ false → self.ring.start ≡ 0 }
         ensures ring { IfOk result (λ room. ring_room room ≡ self.ring) }
         ensures wraps { IfOk result (λ room. wraps_room room ≡ self.wraps) }
         ensures refusal { result_err result ≡ (if is_full_in self then Some NO_ROOM else None) }
@@ -208,27 +206,8 @@ impl RecordFile {
         if self.wraps {
             return Ok(Room::InFront(self.ring));
         }
-        let slot = self.linear().find_room()?;
+        let slot = self.ring.find_behind()?;
         Ok(Room::Behind(slot))
-    }
-
-    /// The records of a linear file, as bodies know it.
-    fn linear(self) -> Linear
-        ensures { result ≡ record {
-          chain = self.ring.chain;
-          record_length = self.ring.record_length;
-          capacity = self.ring.capacity;
-          records = self.ring.records;
-          told_at = self.ring.told_at;
-        } }
-    {
-        Linear {
-            chain: self.ring.chain,
-            record_length: self.ring.record_length,
-            capacity: self.ring.capacity,
-            records: self.ring.records,
-            told_at: self.ring.told_at,
-        }
     }
 }
 

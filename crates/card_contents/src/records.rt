@@ -9,9 +9,10 @@ ghost use Rattle.card_machine.specs.declared.named.Structure.TheVariants as Stru
 ghost use Rattle.card_machine.specs.Outcomes.{refused_by};
 ghost use Rattle.card_machine.specs.Elementary.{file_refusals};
 ghost use Rattle.card_machine.specs.Served.{Serves};
-ghost use Rattle.card_machine.specs.Serving.{ServesInPlace};
+ghost use Rattle.card_machine.specs.InPlace.{ServesInPlace};
 ghost use Rattle.card_machine.specs.Stops.{reply, Looks};
-ghost use Rattle.card_machine.specs.Working.{card_in, fits, session_in, IsKept};
+ghost use Rattle.card_machine.specs.Working.{card_in, session_in, IsKept};
+ghost use Rattle.card_machine.specs.NamedFiles.{fits};
 ghost use Rattle.card_contents.specs.RecordParts.{need_replacing, IsRecordFile};
 ghost use Rattle.card_machine.specs.Records.{pointer_found, search_status};
 

@@ -39,7 +39,7 @@ use Rattle.card_machine.specs.declared.current.Current.{Current}
 use Rattle.card_machine.specs.Cards.{Card}
 use Rattle.card_machine.specs.Comparing.{attempt_of, comparisons, ComparesBy, ComparesShown, CostsATry}
 use Rattle.card_machine.specs.Counting.{CountsAttempt, CountsServed, CountsShown}
-use Rattle.card_machine.specs.Outcomes.{Refusal, first_applying, no_refusals, refused, refused_by}
+use Rattle.card_machine.specs.Outcomes.{Refusal, first_applying, no_refusals, refused, refused_by, outcome}
 use Rattle.card_machine.specs.Attempts.{Attempt, attempt_commits, charged_card, is_right}
 use Rattle.card_machine.specs.Pins.{attempt_refusals, attempted, attempted_as}
 use Rattle.card_machine.specs.Pins.{changing, marking, resetting, told_tries, tries_told}
@@ -53,7 +53,8 @@ use Rattle.card_machine.specs.Spending.{most_writes}
 use Rattle.card_machine.specs.Stages.{commits, commits_unless}
 use Rattle.card_machine.specs.Standing.{card_of, IsCard}
 use Rattle.card_machine.specs.Steps.{effect, refusals_of, served}
-use Rattle.card_machine.specs.Working.{card_in, outcome, session_in, session_of, table_in, tried_from, IsCurrent}
+use Rattle.card_machine.specs.Working.{card_in, session_in, session_of, table_in, IsCurrent}
+use Rattle.card_machine.specs.CurrentFiles.{tried_from}
 use Rattle.card_core.specs.PinParts.{end_of_attempt}
 use Rattle.card_core.proofs.Comparisons.{costs-told}
 use Rattle.card_machine.specs.laws.Guarding.{served-done, served-refused}

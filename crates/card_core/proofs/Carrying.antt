@@ -28,14 +28,14 @@ use Rattle.card_machine.specs.Cards.{Card}
 use Rattle.card_machine.specs.Comparing.{attempt_of, comparisons, Comparisons, ComparesAsked, ComparesBy}
 use Rattle.card_machine.specs.Counting.{CountsAnswered, CountsServed, CountsShown}
 use Rattle.card_machine.specs.Attempts.{Attempt}
-use Rattle.card_machine.specs.Outcomes.{refused}
+use Rattle.card_machine.specs.Outcomes.{refused, outcome}
 use Rattle.card_machine.specs.Served.{CarriesOut, IsDoing, Serves}
 use Rattle.card_machine.specs.Sessions.{Session}
 use Rattle.card_machine.specs.Spending.{writes_asked}
 use Rattle.card_machine.specs.Standing.{IsCard, card_of}
 use Rattle.card_machine.specs.Steps.{carried_out, outcome_of, served, step}
 use Rattle.card_machine.specs.Words.{StandsAsked, StandsByWord, StandsServed, alone_served, gated_served}
-use Rattle.card_machine.specs.Working.{card_in, outcome, session_in, session_of, IsKept}
+use Rattle.card_machine.specs.Working.{card_in, session_in, session_of, IsKept}
 use Rattle.card_machine.specs.laws.StageLaws.{doing_lasts, stage_doing, stage_first}
 use Rattle.card_machine.specs.laws.Readings.{kept_still}
 use Rattle.card_machine.specs.laws.Serves.{reads-compared, reads-nothing}

@@ -19,12 +19,12 @@ use Rattle.card_core.specs.declared.card_state.CardState.{CardState}
 use Rattle.card_core.specs.declared.card_state.CardState.TheVariants.{Working, Failed, Dark}
 use Rattle.card_machine.specs.declared.current.Current.{Current}
 use Rattle.card_core.specs.declared.faults.PowerLost.{PowerLost as Lost}
-use Rattle.card_machine.specs.Outcomes.{answer_bytes, Outcome}
+use Rattle.card_machine.specs.Outcomes.{answer_bytes, Outcome, outcome}
 use Rattle.card_core.specs.Running.{card_found, memory_failure, FailsIn, IsCutIn, Running, Steps}
 use Rattle.card_machine.specs.Served.{CarriesOut}
 use Rattle.card_machine.specs.Sessions.{Session}
 use Rattle.card_machine.specs.Steps.{carried_out}
-use Rattle.card_machine.specs.Working.{card_in, outcome, session_in, space_in, table_in, IsKept}
+use Rattle.card_machine.specs.Working.{card_in, session_in, space_in, table_in, IsKept}
 use Rattle.card_core.specs.ShownSessions.{session_while}
 
 -- a fact of a result, where it is one or isn't

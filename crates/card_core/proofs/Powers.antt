@@ -18,10 +18,11 @@ use Rattle.file_tree.specs.declared.tree.Survey.{Survey}
 use Rattle.card_core.specs.declared.faults.StartFault.TheVariants.{Damaged}
 use Rattle.card_machine.specs.Finding.{words_found, HasCard}
 use Rattle.card_machine.specs.Standing.{IsAnyCard}
-use Rattle.card_machine.specs.Working.{fresh_current, space_in, table_in, IsKept}
+use Rattle.card_machine.specs.Working.{space_in, table_in, IsKept}
+use Rattle.card_machine.specs.CurrentFiles.{fresh_current}
 use Rattle.card_core.specs.StartParts.{TellsSurvey}
 use Rattle.card_core.specs.declared.faults.StartFault.{StartFault}
-use Rattle.card_core.specs.StartFaults.{fault_of_open, fault_of_store}
+use Rattle.card_core.specs.FaultParts.{fault_of_open, fault_of_store}
 use Rattle.card_core.specs.Running.{StartStopsBy}
 
 module _ (a b c : Facts) (before : Steady a b) where
@@ -77,10 +78,10 @@ answered_handed {T = T} {U = U} a b (Err f) e is answer = record {
 -- a store that fails, over a board that held when it was opened
 pub stops-by : (e : StoreErr) (stop : StartFault) (a b c : Facts) → stop ≡ fault_of_store e → Steady a b
     → StoreFailsBy e b c → StartStopsBy stop a c
-stops-by PowerLost stop a b c is before fails = subst (λ (f : StartFault). StartStopsBy f a c) (sym is) (inl
-    (goes_dark_then a b c before fails))
-stops-by Fault stop a b c is before fails = subst (λ (f : StartFault). StartStopsBy f a c) (sym is) (fails_then a b c
-    before fails)
+stops-by PowerLost stop a b c is before fails =
+    subst (λ (f : StartFault). StartStopsBy f a c) (sym is) (inl (goes_dark_then a b c before fails))
+stops-by Fault stop a b c is before fails =
+    subst (λ (f : StartFault). StartStopsBy f a c) (sym is) (fails_then a b c before fails)
 
 -- what a start tells of what it found
 abbrev Found : Result (Option Survey) StoreErr → Result Survey StartFault → Type 0

@@ -3,7 +3,7 @@
 pub mod Factory
 pub mod Starting
 pub mod Running
-pub mod StartFaults
+pub mod FaultParts
 pub mod ShownSessions
 pub mod StartParts
 pub mod PinParts

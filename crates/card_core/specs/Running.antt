@@ -66,6 +66,6 @@ pub record Starts (old : Facts) (new : Running) : Type 0 where
 abbrev pub StartStopsBy : StartFault → Facts → Facts → Type 0
 StartStopsBy PowerLost old new = GoesDark old new ⊎ ((old.dark ≡ true) × (new ≡ old))
 StartStopsBy Fault old new = Fails old new
-StartStopsBy BadJournal old new = IsBadJournal old.words × Steady old new × (new.words ≡ old.words) × (new.writes
-    ≡ old.writes)
+StartStopsBy BadJournal old new =
+    IsBadJournal old.words × Steady old new × (new.words ≡ old.words) × (new.writes ≡ old.writes)
 StartStopsBy Damaged old new = IsSound old.words × ¬ IsAnyCard (words_found old.words) × Steady old new

@@ -1,6 +1,6 @@
 //! Why a card stops answering, and why it doesn't start.
 ghost use Rattle.std.specs.Prelude.{◌≡◌};
-ghost use Rattle.card_core.specs.StartFaults.{fault_of_open};
+ghost use Rattle.card_core.specs.FaultParts.{fault_of_open};
 
 use undo_journal::OpenFault;
 

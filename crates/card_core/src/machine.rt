@@ -5,7 +5,7 @@ ghost use Rattle.nvm_board.specs.Aims.{due_of};
 ghost use Rattle.nvm_board.specs.Calls.{Arms};
 ghost use Rattle.undo_journal.specs.declared.error.StoreErr.TheVariants as StoreErr;
 ghost use Rattle.card_core.specs.declared.faults.StartFault.TheVariants as StartFault;
-ghost use Rattle.card_core.specs.StartFaults.{fault_of_store};
+ghost use Rattle.card_core.specs.FaultParts.{fault_of_store};
 ghost use Rattle.undo_journal.specs.Spending.{Advances, WritesAtMost, KeepsBoard};
 ghost use Rattle.ef_body.specs.Changes.{update_writes};
 ghost use Rattle.apdu_core.specs.Asked.{asked};

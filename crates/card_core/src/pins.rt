@@ -14,9 +14,10 @@ ghost use Rattle.pin_store.specs.Trials.{pin_in, Charges, TakesTry};
 ghost use Rattle.card_machine.specs.Outcomes.{first_applying};
 ghost use Rattle.card_machine.specs.Pins.{is_enabled_by, tries_told, unusable_by};
 ghost use Rattle.card_machine.specs.Served.{Serves};
-ghost use Rattle.card_machine.specs.Stops.{failure, reply, Checks, Finds};
+ghost use Rattle.card_machine.specs.Stops.{failure, reply, Checks, FindsOrRefuses};
 ghost use Rattle.card_core.specs.PinParts.{end_of_attempt, refused_use, use_refusals};
-ghost use Rattle.card_machine.specs.Working.{tried_from, unverifies, IsKept};
+ghost use Rattle.card_machine.specs.Working.{IsKept};
+ghost use Rattle.card_machine.specs.CurrentFiles.{tried_from, unverifies};
 
 use apdu_core::{Replacement, RequirementChange, Sw};
 use card_machine::{Current, Shown, Stop};
@@ -162,7 +163,7 @@ fn take_try<B: Board>(store: &mut Store<B>, secret: u8, usable: Usable) -> Resul
     requires ready { IsReady store.old }
     requires secret { secret < SECRETS }
     requires pages { ArePinPages (committed store.old) }
-    ensures done { Finds result
+    ensures done { FindsOrRefuses result
         (λ charged. (charged ≡ secret) × Charges secret store.old store.new
         × (refused_use usable secret (pin_in store.old secret) ≡ None))
         (λ refusal. (refused_use usable secret (pin_in store.old secret) ≡ Some refusal) × IsReady store.new) }

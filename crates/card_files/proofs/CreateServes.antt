@@ -28,12 +28,13 @@ use Rattle.card_machine.specs.Cards.{card_space}
 use Rattle.file_tree.specs.Table.{table, entry_in, path_of, IsUsed}
 use Rattle.file_tree.specs.Trees.{tree_of}
 use Rattle.card_machine.specs.declared.current.Current.{Current}
-use Rattle.card_files.specs.FileGuards.{IsNewFile}
+use Rattle.card_files.specs.FileParts.{IsNewFile}
 use Rattle.card_machine.specs.Served.{IsDoing, Serves}
 use Rattle.card_machine.specs.Files.{creation_writes}
 use Rattle.card_machine.specs.Standing.{card_of, IsCard}
-use Rattle.card_machine.specs.Working.{card_in, current_at, outcome, session_in, session_of, space_in, table_in}
-use Rattle.card_machine.specs.Working.{IsCurrent}
+use Rattle.card_machine.specs.Working.{card_in, session_in, session_of, space_in, table_in, IsCurrent}
+use Rattle.card_machine.specs.CurrentFiles.{current_at}
+use Rattle.card_machine.specs.Outcomes.{outcome}
 use Rattle.card_files.proofs.Creations.{any-creating, any-stage, any-stands, created-current, created-is-card}
 use Rattle.card_files.proofs.Creations.{created-space, filled-card, filled-stands}
 use Rattle.card_files.proofs.Creations.{created-step, refused-step, taken-blocks, taken-entries}

@@ -29,13 +29,14 @@ use Rattle.card_machine.specs.declared.current.Current.{Current as CurrentFiles}
 use Rattle.card_machine.specs.Cards.{Card, File, Kind, Path, Tree, dedicated, elementary, no_file}
 use Rattle.card_machine.specs.Files.{create_refusals, creation_bit, with_new}
 use Rattle.card_machine.specs.Guards.{allowed}
-use Rattle.card_machine.specs.Outcomes.{refused, refused_by, only_status}
+use Rattle.card_machine.specs.Outcomes.{refused, refused_by, only_status, outcome}
 use Rattle.card_machine.specs.Selecting.{selecting}
 use Rattle.card_machine.specs.Sessions.{Session}
 use Rattle.card_machine.specs.Standing.{card_of, IsCard}
 use Rattle.card_machine.specs.Served.{IsDoing}
 use Rattle.card_machine.specs.Steps.{served}
-use Rattle.card_machine.specs.Working.{current_at, outcome, session_of, IsCurrent}
+use Rattle.card_machine.specs.Working.{session_of, IsCurrent}
+use Rattle.card_machine.specs.CurrentFiles.{current_at}
 use Rattle.card_machine.specs.laws.Entries.{card-tree, current-entry, selecting-entry}
 use Rattle.card_machine.specs.laws.Doing.{doing-one}
 use Rattle.card_files.proofs.FileSteps.{create-commits, create-done, create-refused, create-unread, create-unrefused}

@@ -26,16 +26,17 @@ use Rattle.file_tree.specs.Trees.{tree_of}
 use Rattle.file_tree.specs.laws.Paths.{parent_path, parent_used, path_of-child}
 use Rattle.card_machine.specs.declared.current.Current.{Current as CurrentFiles}
 use Rattle.card_machine.specs.Cards.{Card, Path, Tree, parent}
-use Rattle.card_files.specs.FileGuards.{IsDeletable}
+use Rattle.card_files.specs.FileParts.{IsDeletable}
 use Rattle.card_machine.specs.Files.{delete_refusals, without}
 use Rattle.card_machine.specs.Guards.{allowed}
-use Rattle.card_machine.specs.Outcomes.{only_status, refused_by}
+use Rattle.card_machine.specs.Outcomes.{only_status, refused_by, outcome}
 use Rattle.card_machine.specs.Reaching.{subject_of, subject_or}
 use Rattle.card_machine.specs.Sessions.{Session, at_dedicated_file, marked}
 use Rattle.card_machine.specs.Standing.{card_of, IsCard}
 use Rattle.card_machine.specs.Served.{IsDoing}
 use Rattle.card_machine.specs.Steps.{served}
-use Rattle.card_machine.specs.Working.{file_refusal, outcome, session_of, IsCurrent}
+use Rattle.card_machine.specs.Working.{session_of, IsCurrent}
+use Rattle.card_machine.specs.NamedFiles.{file_refusal}
 use Rattle.card_machine.specs.laws.Entries.{card-tree, current-path}
 use Rattle.card_files.proofs.Above.{above-barred}
 use Rattle.card_machine.specs.laws.Doing.{doing-one}

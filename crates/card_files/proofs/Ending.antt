@@ -37,13 +37,13 @@ use Rattle.card_machine.specs.Cards.{Card}
 use Rattle.card_machine.specs.Comparing.{comparisons, ComparesNothing}
 use Rattle.card_machine.specs.Guards.{allowed}
 use Rattle.card_machine.specs.LifeCycles.{card_terminated, terminate_card_refusals, terminated_card}
-use Rattle.card_machine.specs.Outcomes.{refused, refused_by}
+use Rattle.card_machine.specs.Outcomes.{refused, refused_by, outcome}
 use Rattle.card_machine.specs.Served.{IsDoing, Serves}
 use Rattle.card_machine.specs.Sessions.{Session}
 use Rattle.card_machine.specs.Stages.{commits}
 use Rattle.card_machine.specs.Standing.{card_of, IsCard}
 use Rattle.card_machine.specs.Steps.{effect, refusals_of, served}
-use Rattle.card_machine.specs.Working.{card_in, outcome, session_in, session_of, table_in, IsCurrent}
+use Rattle.card_machine.specs.Working.{card_in, session_in, session_of, table_in, IsCurrent}
 use Rattle.card_machine.specs.laws.Doing.{doing-one}
 use Rattle.card_machine.specs.laws.Entries.{master-path}
 use Rattle.card_machine.specs.laws.Guarding.{served-done, served-refused}

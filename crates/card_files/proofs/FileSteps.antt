@@ -20,7 +20,7 @@ use Rattle.card_machine.specs.Reaching.{subject_of}
 use Rattle.card_machine.specs.Sessions.{Session, at_dedicated_file}
 use Rattle.card_machine.specs.Stages.{commits}
 use Rattle.card_machine.specs.Steps.{served, refusals_of, effect}
-use Rattle.card_machine.specs.Working.{file_refusal}
+use Rattle.card_machine.specs.NamedFiles.{file_refusal}
 use Rattle.card_machine.specs.laws.Guarding.{served-done, served-refused}
 use Rattle.card_machine.specs.Guards.{allowed}
 use Rattle.file_tree.specs.States.{has_barred_above, is_barred}
@@ -88,8 +88,10 @@ module _ (c : Card) (s : Session) (subject : Subject) where
 five : (identifier name short deep full : Bool)
     → (if identifier then Some FILE_EXISTS else if name then Some NAME_EXISTS else if short then Some WRONG_DATA else
     if deep then Some CONDITIONS_NOT_SATISFIED else if full then Some NO_ROOM else None)
-    ≡ first_reason (if identifier then Some FILE_EXISTS else if name then Some NAME_EXISTS else if short then
-    Some WRONG_DATA else None) (if deep then Some CONDITIONS_NOT_SATISFIED else if full then Some NO_ROOM else None)
+    ≡ first_reason
+    (if identifier then Some FILE_EXISTS else if name then Some NAME_EXISTS else
+    if short then Some WRONG_DATA else None)
+    (if deep then Some CONDITIONS_NOT_SATISFIED else if full then Some NO_ROOM else None)
 five true name short deep full = refl
 five false true short deep full = refl
 five false false true deep full = refl

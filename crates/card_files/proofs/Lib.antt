@@ -3,7 +3,7 @@ pub mod Above
 pub mod Deletions
 pub mod Creations
 pub mod CreateServes
-pub mod Living
+pub mod LifeSteps
 pub mod LifeServes
 pub mod Ending
 pub mod Missing

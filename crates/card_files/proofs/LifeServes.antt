@@ -25,7 +25,7 @@ use Rattle.file_tree.specs.laws.Indexed.{life_places}
 use Rattle.card_machine.specs.declared.current.Current.{Current}
 use Rattle.card_files.specs.declared.life_cycles.Changed.{Changed}
 use Rattle.card_machine.specs.Cards.{Card}
-use Rattle.card_files.specs.Changing.{IsChanged}
+use Rattle.card_files.specs.LifeParts.{IsChanged}
 use Rattle.card_machine.specs.Comparing.{comparisons, ComparesNothing}
 use Rattle.card_machine.specs.Served.{IsDoing, Serves}
 use Rattle.card_machine.specs.LifeCycles.{change_refusals}
@@ -33,10 +33,11 @@ use Rattle.card_machine.specs.Outcomes.{refused, refused_by}
 use Rattle.card_machine.specs.Sessions.{Session}
 use Rattle.card_machine.specs.Steps.{refusals_of, served}
 use Rattle.card_machine.specs.Standing.{card_of, IsCard}
-use Rattle.card_machine.specs.Working.{card_in, current_at, session_in, space_in, table_in, IsCurrent}
+use Rattle.card_machine.specs.Working.{card_in, session_in, space_in, table_in, IsCurrent}
+use Rattle.card_machine.specs.CurrentFiles.{current_at}
 use Rattle.card_machine.specs.laws.Guarding.{served-refused}
-use Rattle.card_files.proofs.Living.{card-is, changed-current, changed-space, changed-stands, changed-step, doing}
-use Rattle.card_files.proofs.Living.{same-state}
+use Rattle.card_files.proofs.LifeSteps.{card-is, changed-current, changed-space, changed-stands, changed-step, doing}
+use Rattle.card_files.proofs.LifeSteps.{same-state}
 use Rattle.card_machine.specs.laws.Serves.{compared-none, reads-compared, torn, written}
 use Rattle.card_machine.specs.laws.Stopping.{err-is}
 use Rattle.card_machine.specs.laws.Words.{Went, went-after}

@@ -1,3 +1,3 @@
 -- What a command on files has found.
-pub mod Changing
-pub mod FileGuards
+pub mod LifeParts
+pub mod FileParts

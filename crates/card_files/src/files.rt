@@ -7,14 +7,15 @@ ghost use Rattle.card_rules.specs.declared.access_mode.AccessBit.TheVariants.{De
 ghost use Rattle.file_tree.specs.Indexes.{IsIndex};
 ghost use Rattle.file_tree.specs.States.{is_barred as is_barred_in};
 ghost use Rattle.file_tree.specs.Table.{entry_in, path_of, IsUsed};
-ghost use Rattle.card_files.specs.FileGuards.{IsDeletable, IsNewFile};
+ghost use Rattle.card_files.specs.FileParts.{IsDeletable, IsNewFile};
 ghost use Rattle.card_machine.specs.Files.{create_refusals, creation_bit, delete_refusals};
 ghost use Rattle.card_machine.specs.Guards.{allowed};
 ghost use Rattle.card_machine.specs.Outcomes.{refused_by};
 ghost use Rattle.card_machine.specs.Reaching.{subject_or};
 ghost use Rattle.card_machine.specs.Served.{Serves};
 ghost use Rattle.card_machine.specs.Stops.{Looks, reply, Checks};
-ghost use Rattle.card_machine.specs.Working.{card_in, file_refusal, session_in, space_in, table_in, IsKept};
+ghost use Rattle.card_machine.specs.Working.{card_in, session_in, space_in, table_in, IsKept};
+ghost use Rattle.card_machine.specs.NamedFiles.{file_refusal};
 
 use apdu_core::{Subject, Sw};
 use card_machine::{Current, Findings, Named, Stop, allows};

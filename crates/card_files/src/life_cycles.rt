@@ -5,11 +5,11 @@ ghost use Rattle.undo_journal.specs.Memory.{committed};
 ghost use Rattle.apdu_core.specs.Requests.{change_life_cycle as changing, terminate_card_usage as terminating};
 ghost use Rattle.file_tree.specs.Indexes.{IsIndex};
 ghost use Rattle.file_tree.specs.Table.{IsUsed};
-ghost use Rattle.card_files.specs.Changing.{change_at, changed_by, current_changed, is_for_kind, IsChanged};
+ghost use Rattle.card_files.specs.LifeParts.{change_at, changed_by, current_changed, is_for_kind, IsChanged};
 ghost use Rattle.card_machine.specs.LifeCycles.{change_bit, change_refusals, command_of, no_subject};
 ghost use Rattle.card_machine.specs.Outcomes.{refused_by};
 ghost use Rattle.card_machine.specs.Served.{Serves};
-ghost use Rattle.card_machine.specs.Serving.{ServesInPlace};
+ghost use Rattle.card_machine.specs.InPlace.{ServesInPlace};
 ghost use Rattle.card_machine.specs.Stops.{Looks, reply};
 ghost use Rattle.card_machine.specs.Working.{card_in, session_in, table_in, IsKept};
 

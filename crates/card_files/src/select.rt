@@ -12,8 +12,9 @@ ghost use Rattle.card_machine.specs.Reaching.{selected_from};
 ghost use Rattle.card_machine.specs.Selecting.{selection_status};
 ghost use Rattle.card_machine.specs.Served.{Serves};
 ghost use Rattle.card_machine.specs.Stops.{Looks, reply};
-ghost use Rattle.card_machine.specs.Working.{card_in, data_in, session_in, table_in, template_in, IsGiven, IsKept};
-ghost use Rattle.card_machine.specs.Working.{IsToldEntry};
+ghost use Rattle.card_machine.specs.Working.{card_in, session_in, table_in, IsKept};
+ghost use Rattle.card_machine.specs.TemplateParts.{data_in, template_in, IsToldEntry};
+ghost use Rattle.card_machine.specs.Lengths.{IsGiven};
 
 use crate::templates::template_of;
 use apdu_core::{Answer, FilePath, Returned, Selector, Sw};

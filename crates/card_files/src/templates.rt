@@ -1,8 +1,8 @@
 //! The template that tells of a file (ISO/IEC 7816-4, 7.4.3), from the file's entry.
 ghost use Rattle.std.specs.Prelude.{◌≡◌};
 ghost use Rattle.file_tree.specs.Table.{IsRecordBody};
-ghost use Rattle.card_machine.specs.Working.{kind_in_entry, parameters_in, records_in_entry, short_in_entry};
-ghost use Rattle.card_machine.specs.Working.{template_in, IsToldEntry};
+ghost use Rattle.card_machine.specs.TemplateParts.{kind_in_entry, parameters_in, records_in_entry, short_in_entry};
+ghost use Rattle.card_machine.specs.TemplateParts.{template_in, IsToldEntry};
 
 use card_machine::ResponseData;
 use card_rules::Compact;
@@ -10,7 +10,7 @@ use fcp_template::{DfName, Fcp, FileKind, Records, ShortIdentifier, write};
 use file_tree::{Entry, EntryKind};
 
 /// The template that tells of the file of a used entry.
-#[tactic(auto, unfolding(card_machine::specs::Working::template_in))]
+#[tactic(auto, unfolding(card_machine::specs::TemplateParts::template_in))]
 pub(crate) fn template_of(entry: &Entry) -> ResponseData
     requires { IsToldEntry entry.now }
     ensures { result.items ≡ template_in entry.now }

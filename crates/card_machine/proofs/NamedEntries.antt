@@ -21,7 +21,8 @@ use Rattle.card_machine.specs.Outcomes.{refused_by}
 use Rattle.card_machine.specs.Reaching.{target_of}
 use Rattle.card_machine.specs.Sessions.{Session}
 use Rattle.card_machine.specs.Standing.{card_of, IsCard}
-use Rattle.card_machine.specs.Working.{file_refusal, fits, fits_kind, session_of, IsElementary, IsNamed}
+use Rattle.card_machine.specs.Working.{session_of, IsElementary}
+use Rattle.card_machine.specs.NamedFiles.{file_refusal, fits, fits_kind, IsNamed}
 use Rattle.card_machine.specs.laws.Entries.{there}
 use Rattle.card_machine.specs.laws.Guarding.{guarded-named}
 use Rattle.card_machine.specs.laws.Told.{told-entry}

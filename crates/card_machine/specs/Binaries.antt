@@ -2,6 +2,7 @@
 use Rattle.std.specs.Prelude.{ℕ, ◌+◌, ◌==◌, nat_lt, nat_le, List, [], ◌∷◌, length, take, drop}
 use Rattle.std.specs.Prelude.{if◌then◌else◌}
 use Rattle.card_rules.specs.declared.access_mode.AccessBit.TheVariants.{Read, Update}
+use Rattle.card_rules.specs.declared.status.Sw.{Sw}
 use Rattle.card_rules.specs.declared.status.TheConstants.Sw.{DONE, END_REACHED, NO_ROOM, WRONG_OFFSET}
 use Rattle.apdu_core.specs.declared.binary.Target.{Target}
 use Rattle.undo_journal.specs.Spending.{transaction_writes}
@@ -42,6 +43,10 @@ read_response rest expected =
     if expected == 0 then record { text = take 256 rest; status = DONE } else
     if nat_lt (length rest) expected then record { text = rest; status = END_REACHED } else
     record { text = take expected rest; status = DONE }
+
+-- the status word that tells where fewer bytes are left than an Le byte asks for
+abbrev pub end_status : ℕ → ℕ → Sw
+end_status rest expected = if nat_lt rest expected then END_REACHED else DONE
 
 -- READ BINARY that isn't refused
 abbrev pub binary_read : Card → Session → Target → ℕ → ℕ → Outcome

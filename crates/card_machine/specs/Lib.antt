@@ -28,7 +28,10 @@ pub mod Finding
 pub mod Words
 pub mod Proper
 pub mod Working
+pub mod CurrentFiles
+pub mod NamedFiles
+pub mod TemplateParts
 pub mod Stops
 pub mod Served
-pub mod Serving
+pub mod InPlace
 pub mod laws

@@ -70,3 +70,7 @@ refused c s status = record { card = c; session = s; response = only_status stat
 abbrev pub unless_refused : Card → Session → Option Sw → Outcome → Outcome
 unless_refused c s None done = done
 unless_refused c s (Some status) done = refused c s status
+
+-- the outcome that leaves this session, and answers this data and status word
+abbrev pub outcome : Card → Session → List ℕ → Sw → Outcome
+outcome c s text status = record { card = c; session = s; response = record { text = text; status = status } }

@@ -15,14 +15,14 @@ use Rattle.card_machine.specs.declared.current.Current.{Current}
 use Rattle.card_machine.specs.Cards.{Card}
 use Rattle.card_machine.specs.Comparing.{comparisons, ComparesAsked, ComparesBy}
 use Rattle.card_machine.specs.Counting.{CountsAnswered, CountsServed}
-use Rattle.card_machine.specs.Outcomes.{refused_by}
+use Rattle.card_machine.specs.Outcomes.{refused_by, outcome}
 use Rattle.card_machine.specs.Sessions.{Session}
 use Rattle.card_machine.specs.Spending.{most_writes, writes_of}
 use Rattle.card_machine.specs.Stages.{commits, ChangesNothing, IsStage}
 use Rattle.card_machine.specs.Standing.{IsCard}
 use Rattle.card_machine.specs.Steps.{carried_out, refusals_of, served}
 use Rattle.card_machine.specs.Words.{StandsAsked, StandsServed}
-use Rattle.card_machine.specs.Working.{card_in, outcome, session_in, table_in, IsKept}
+use Rattle.card_machine.specs.Working.{card_in, session_in, table_in, IsKept}
 
 -- A request that isn't refused and changes something lasting, at whatever exit: the card is the one before it, or the
 -- one after one of its commits.

@@ -43,15 +43,15 @@ IfRefused (Refused status) said = said status
 IfRefused (Failed e) said = Unit {0}
 
 -- said of what was found, or else of the status word of the refusal; nothing is said where the store failed
-abbrev pub Finds : {T : Type 0} → Result T Stop → (T → Type 0) → (Sw → Type 0) → Type 0
-Finds (Ok x) found refused = found x
-Finds (Err stop) found refused = IfRefused stop refused
+abbrev pub FindsOrRefuses : {T : Type 0} → Result T Stop → (T → Type 0) → (Sw → Type 0) → Type 0
+FindsOrRefuses (Ok x) found refused = found x
+FindsOrRefuses (Err stop) found refused = IfRefused stop refused
 
 -- Calls that only read, with no transaction open, and find what a command needs, or else refuse the command, unless the
 -- store fails.
 pub record Looks {T : Type 0} (old new : Memory) (result : Result T Stop) (found : T → Type 0) (refused : Sw → Type 0)
     : Type 0 where
-  pub told : Finds result found refused
+  pub told : FindsOrRefuses result found refused
   pub store : Reads old new (failure result)
 
 -- a check, which finds nothing but that: it refuses just where a refusal is due

@@ -2,8 +2,8 @@
 //! and the PINs that are verified in it.
 ghost use Rattle.std.specs.Prelude.{◌≡◌};
 ghost use Rattle.card_rules.specs.Pins.{IsPinNumber};
-ghost use Rattle.card_machine.specs.Working.{current_at, current_by, fresh_current, named_from, pointer_from};
-ghost use Rattle.card_machine.specs.Working.{pointing_from, tried_from, unverifies};
+ghost use Rattle.card_machine.specs.CurrentFiles.{current_at, current_by, fresh_current, named_from, pointer_from};
+ghost use Rattle.card_machine.specs.CurrentFiles.{pointing_from, tried_from, unverifies};
 
 use apdu_core::Target;
 use card_rules::{PinNumber, PinSet};

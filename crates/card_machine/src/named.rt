@@ -12,8 +12,8 @@ ghost use Rattle.card_machine.specs.Guards.{allowed};
 ghost use Rattle.card_machine.specs.Outcomes.{refused_by};
 ghost use Rattle.card_machine.specs.Reaching.{target_of};
 ghost use Rattle.card_machine.specs.Stops.{Checks, Looks};
-ghost use Rattle.card_machine.specs.Working.{card_in, file_refusal, fits, fits_kind, session_in, table_in};
-ghost use Rattle.card_machine.specs.Working.{IsElementary, IsKept, IsNamed};
+ghost use Rattle.card_machine.specs.Working.{card_in, session_in, table_in, IsElementary, IsKept};
+ghost use Rattle.card_machine.specs.NamedFiles.{file_refusal, fits, fits_kind, IsNamed};
 
 use crate::access::allows;
 use crate::current::Current;

@@ -45,8 +45,8 @@ condition_there mode conditions (suc place) all some few =
     slice_get-get_or conditions place 0 (omega arith) in
     rw there (elim (cases_Bool (is_some (condition_of (get_or conditions place 0)))) [
       | inl allowed ↦ allowed
-      | inr other ↦ absurd (false≢true (sym
-          (list_all_at (λ b. is_some (condition_of b)) conditions place 0 (omega arith) other) ∙ all))
+      | inr other ↦ absurd (false≢true
+          (sym (list_all_at (λ b. is_some (condition_of b)) conditions place 0 (omega arith) other) ∙ all))
     ])
 
 pub condition-set : (mode : ℕ) (conditions : List ℕ) (bit : AccessBit) → IsTrue (is_rule (mode ∷ conditions))

@@ -58,16 +58,16 @@ steps_few Backward first last some few = let e = steps_backward Backward first l
 
 -- each of them
 pub number_forward : (direction : Direction) (first last step : ℕ) → direction ≡ Forward
-    → step < length (numbers_on direction first last) → slice_index (numbers_on direction first last) step ≡ first +
-    step
+    → step < length (numbers_on direction first last)
+    → slice_index (numbers_on direction first last) step ≡ first + step
 number_forward direction first last step is lt =
     let many = steps_forward direction first last is in
     ap (λ (d : Direction). slice_index (numbers_on d first last) step) is
     ∙ get_or-range_with_len first (last + 1 - first) step 0 (omega (arith, many, lt))
 
 pub number_backward : (direction : Direction) (first last step : ℕ) → direction ≡ Backward
-    → step < length (numbers_on direction first last) → slice_index (numbers_on direction first last) step ≡ first -
-    step
+    → step < length (numbers_on direction first last)
+    → slice_index (numbers_on direction first last) step ≡ first - step
 number_backward direction first last step is lt =
     let many = steps_backward direction first last is in
     let long = length-range_with_len 1 first in

@@ -1,12 +1,13 @@
 //! Cyclic bodies: records of one length, the newest first (ETSI TS 102 221, 8.2.2.3).
 ghost use Rattle.std.specs.Prelude.{◌≡◌, ◌≤◌, ◌<◌, ◌⊎◌, ◌↔◌, ◌+◌, min, length, None, Some, IsTrue, IfOk, OnOk};
-ghost use Rattle.std.specs.Prelude.{refl};
+ghost use Rattle.std.specs.Prelude.{refl, nat_le, if◌then◌else◌};
 ghost use Rattle.std.specs.Result.{result_err};
 ghost use Rattle.undo_journal.specs.Commits.{CommitsByGate};
 ghost use Rattle.undo_journal.specs.Memory.{committed, IsReady};
 ghost use Rattle.undo_journal.specs.Calls.{OnlyReads, Reads, Changes};
 ghost use Rattle.ef_body.specs.declared.layout.TheConstants.{RECORD_WRITES};
 ghost use Rattle.card_rules.specs.declared.status.Sw.{Sw};
+ghost use Rattle.card_rules.specs.declared.status.TheConstants.Sw.{NO_ROOM};
 ghost use Rattle.ef_body.specs.Records.{front};
 ghost use Rattle.ef_body.specs.Refusals.{missing_record, unraised, failure};
 ghost use Rattle.ef_body.specs.Bodies.{cyclic_records, IsCyclic};
@@ -16,7 +17,7 @@ ghost use Rattle.ef_body.specs.Calls.{Commits, CommitsUnlessRefused, ReceivesSum
 use crate::error::{BodyErr, from_store};
 use crate::number::add;
 use crate::record_body::RecordBody;
-use crate::slot::RecordSlot;
+use crate::slot::{FreeSlot, RecordSlot};
 use crate::writing::put_front;
 use arrayvec::ArrayVec;
 use block_chain::Chain;
@@ -58,6 +59,21 @@ impl Cyclic {
         ensures { IsTrue result ↔ ((1 ≤ number) × (number ≤ self.records)) }
     {
         (1..=self.records).contains(&number)
+    }
+
+    /// Looks for a slot behind the last record, the last slot being followed by none: for one record more of a linear
+    /// body.
+    ///
+    /// # Errors
+    /// 6A84 exactly where there are as many records as slots.
+    pub fn find_behind(self) -> Result<FreeSlot, Sw>
+        ensures found { IfOk result (λ slot. slot.ring ≡ self) }
+        ensures refusal { result_err result ≡ (if nat_le self.capacity self.records then Some NO_ROOM else None) }
+    {
+        if self.capacity <= self.records {
+            return Err(Sw::NO_ROOM);
+        }
+        Ok(FreeSlot { ring: self })
     }
 
     /// Puts a record in front and drops the oldest one, in one transaction: the number of records stays (UPDATE

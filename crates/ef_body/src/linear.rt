@@ -1,5 +1,5 @@
 //! Linear bodies: records of one length, in number order (ETSI TS 102 221, 8.2.2.2).
-ghost use Rattle.std.specs.Prelude.{◌≡◌, ◌≤◌, ◌<◌, ◌+◌, ◌-◌, ◌↔◌, ◌++◌, ◌∷◌, [], length, slice_set, IsTrue};
+ghost use Rattle.std.specs.Prelude.{◌≡◌, ◌-◌, ◌++◌, ◌∷◌, [], length, slice_set};
 ghost use Rattle.std.specs.Prelude.{ℕ, List, IfOk};
 ghost use Rattle.std.specs.Result.{result_err};
 ghost use Rattle.undo_journal.specs.Memory.{committed, IsReady};
@@ -54,13 +54,6 @@ impl RecordBody for Linear {
 }
 
 impl Linear {
-    /// Whether there is no room for one more record.
-    fn is_full(self) -> bool
-        ensures { IsTrue result ↔ (self.capacity ≤ self.records) }
-    {
-        self.capacity <= self.records
-    }
-
     /// Looks for room behind the last record.
     ///
     /// # Errors
@@ -70,10 +63,7 @@ impl Linear {
         ensures refusal { (records : List (List ℕ)) → length records ≡ self.records
             → full self.capacity records ≡ result_err result }
     {
-        if self.is_full() {
-            return Err(Sw::NO_ROOM);
-        }
-        Ok(FreeSlot { ring: self.ring() })
+        self.ring().find_behind()
     }
 
     /// Puts a record in place of the one of a number, in one transaction (UPDATE RECORD, ISO/IEC 7816-4, 11.4.5).

@@ -7,9 +7,8 @@ use arrayvec::ArrayVec;
 
 /// A byte of a number, by its place from the least significant one, 0; before the first byte there are zeros.
 fn digit(bytes: &[u8], place: usize) -> u16
-    ensures digit { result ≡ (if nat_lt place (length bytes.now) then slice_index bytes.now (length bytes.now - 1 -
-        place)
-        else 0) }
+    ensures digit { result ≡ (if nat_lt place (length bytes.now)
+        then slice_index bytes.now (length bytes.now - 1 - place) else 0) }
     ensures small { result < 256 }
 {
     if place < bytes.len() {

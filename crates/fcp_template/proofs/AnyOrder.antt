@@ -178,8 +178,8 @@ record SameValues (os ps : List DataObject) : Type 0 where
 
 df_same : (os ps : List DataObject) → SameValues os ps → df_of os ≡ df_of ps
 unfolding df_of
-df_same os ps s = λ i. (name_of (s.name i) >>= λ name. if s.has_short i || s.has_size i && not
-    (is_some (s.size i >>= number_of)) then None else Some (kinds.Df name))
+df_same os ps s = λ i. (name_of (s.name i) >>= λ name.
+    if s.has_short i || s.has_size i && not (is_some (s.size i >>= number_of)) then None else Some (kinds.Df name))
 
 transparent_same : (os ps : List DataObject) → SameValues os ps → transparent_of os ≡ transparent_of ps
 unfolding transparent_of

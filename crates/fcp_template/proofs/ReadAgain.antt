@@ -119,8 +119,8 @@ module _ (identifier : ℕ) (state : LifeCycle) (rule : List ℕ) (mf : identifi
   of_kind kind = record { identifier = identifier; life_cycle = state; rule = rule; kind = kind }
 
   record_descriptor_again : (structure : Structure) (records : Records)
-      → ◌≡◌ {A = Option Descriptor} (Some
-      (descriptors.Records structure (256 * (records.record_length / 256) + records.record_length % 256)
+      → ◌≡◌ {A = Option Descriptor}
+      (Some (descriptors.Records structure (256 * (records.record_length / 256) + records.record_length % 256)
       (Some records.existing))) (Some (descriptors.Records structure records.record_length (Some records.existing)))
   record_descriptor_again structure records =
       ap (λ (n : ℕ). Some (descriptors.Records structure n (Some records.existing)))

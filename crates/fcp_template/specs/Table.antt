@@ -79,8 +79,8 @@ name_of (Some name) = if nat_le 1 (length name) && nat_le (length name) 16 then 
 abbrev pub short_of : Option (List ℕ) → Option ShortIdentifier
 short_of None = Some Absent
 short_of (Some []) = Some Empty
-short_of (Some (byte ∷ [])) = if (byte % 8 == 0) && nat_le 1 (byte / 8) && nat_le (byte / 8) 30 then Some
-    (Given (byte / 8)) else None
+short_of (Some (byte ∷ [])) =
+    if (byte % 8 == 0) && nat_le 1 (byte / 8) && nat_le (byte / 8) 30 then Some (Given (byte / 8)) else None
 short_of (Some _) = None
 
 -- 80, a number in 2 to 4 bytes

@@ -12,7 +12,7 @@ use Rattle.file_tree.specs.declared.entry.Entry.{Entry}
 use Rattle.file_changes.specs.declared.deleting.Removal.{Removal}
 use Rattle.file_tree.specs.Entries.{free_entry}
 use Rattle.file_tree.specs.Table.{table, entry_in, extents, free_entries}
-use Rattle.file_tree.specs.SubtreeParts.{leads_up}
+use Rattle.file_tree.specs.Subtrees.{leads_up}
 
 -- whether an entry's file is the one of another entry, or stands below it
 abbrev pub is_gone : List Entry → ℕ → ℕ → Bool

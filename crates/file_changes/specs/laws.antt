@@ -11,4 +11,4 @@ pub mod Places
 pub mod Entering
 pub mod Made
 pub mod Barring
-pub mod Living
+pub mod LifeChanges

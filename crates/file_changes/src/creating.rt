@@ -32,7 +32,7 @@ use block_chain::{fill, take};
 use card_rules::Sw;
 use card_rules::limits::MOST_SHORT;
 use fcp_template::{Fcp, FileKind, ShortIdentifier};
-use file_tree::{Entry, EntryKind, Index, blocks_for, find_short};
+use file_tree::{Entry, EntryKind, Index, blocks_for, find_short, read_table};
 use undo_journal::{Board, Store, StoreErr, Txn};
 
 /// What came of a creation.
@@ -210,7 +210,7 @@ fn write_file<B: Board>(
     txn.end(work)
 }
 
-/// The place of a new file in a dedicated file, or the first reason why it is refused.
+/// The place of a new file in a dedicated file, or the first reason why it is refused: all entries are read, once.
 fn find_place<B: Board>(
     store: &mut Store<B>,
     index: &Index,
@@ -222,9 +222,10 @@ fn find_place<B: Board>(
     requires fcp { IsCreatable fcp.now }
     ensures { Learns store.old store.new result (FindsPlace (committed store.old) df fcp.now) }
 {
-    match taken(store, index, df, fcp)? {
+    let entries = read_table(store)?;
+    match taken(store, index, entries.as_slice(), df, fcp)? {
         Some(status) => Ok(Place::Refused(status)),
-        None => place_for(store, df, fcp),
+        None => place_for(store, entries.as_slice(), df, fcp),
     }
 }
 

@@ -14,9 +14,7 @@ ghost use Rattle.file_changes.specs.CreationParts.{TellsFreeEntry};
 
 use card_rules::Sw;
 use fcp_template::{Fcp, ShortIdentifier};
-use file_tree::{
-    DEEPEST, ENTRIES_END, Entry, Index, ancestor, entry_named, find_short, read_table,
-};
+use file_tree::{DEEPEST, ENTRIES_END, Entry, Index, ancestor, entry_named, find_short};
 use undo_journal::{Board, Store, StoreErr};
 
 /// A dedicated file is on the last level: six steps to parents do not lead to the master file.
@@ -83,22 +81,24 @@ fn first_taken(taken: TakenNames) -> Option<Sw>
     }
 }
 
-/// Why a name of a new file is taken, if one is: its identifier, its name, or its short identifier.
+/// Why a name of a new file is taken, if one is: its identifier, its name, or its short identifier. The entries are at
+/// hand.
 pub(crate) fn taken<B: Board>(
     store: &mut Store<B>,
     index: &Index,
+    entries: &[Entry],
     df: u8,
     fcp: &Fcp<'_>,
 ) -> Result<Option<Sw>, StoreErr>
     requires df { HasFile store.old df }
     requires index { IsIndex (table (committed store.old)) index.now }
+    requires entries { entries.now ≡ table (committed store.old) }
     requires fcp { IsCreatable fcp.now }
     ensures { Learns store.old store.new result (λ status. status
         ≡ taken_refusal (tree_of (committed store.old)) (path_of (table (committed store.old)) df) fcp.now) }
 {
     let child = index.child(df, fcp.identifier);
-    let entries = read_table(store)?;
-    let named = entry_named(entries.as_slice(), fcp.kind.name());
+    let named = entry_named(entries, fcp.kind.name());
     let short = is_short_taken(store, df, fcp.kind.short())?;
     Ok(first_taken(TakenNames {
         identifier: child.is_some(),

@@ -8,7 +8,7 @@ use Rattle.file_tree.specs.declared.index.Place.{Place}
 use Rattle.file_tree.specs.declared.index.Index.{Index}
 use Rattle.file_tree.specs.Keys.{IsBefore}
 use Rattle.file_tree.specs.Table.{IsUsed, HaveIdentifiers}
-use Rattle.file_tree.specs.SubtreeParts.{leads}
+use Rattle.file_tree.specs.Subtrees.{leads}
 use Rattle.file_tree.specs.Indexes.{AreSorted, IsPlace, IsIndex, place_of}
 
 -- the key of the place with a number

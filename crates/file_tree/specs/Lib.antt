@@ -8,14 +8,15 @@ pub mod Kinds
 pub mod Entries
 pub mod Table
 pub mod Formats
-pub mod Migration
+pub mod MigrationParts
 pub mod Trees
 pub mod StoredFiles
 pub mod Changes
 pub mod Adding
 pub mod NewFiles
+pub mod Naming
 pub mod Parts
-pub mod SubtreeParts
+pub mod Subtrees
 pub mod Keys
 pub mod Indexes
 pub mod Surveys

@@ -54,27 +54,12 @@ TellsAbove t df id found =
     if (entry_in t df).identifier == id then Some df else
     if master_file == id then Some 0 else None)
 
--- An entry is a dedicated file's with this name.
-pub record BearsName (x : Entry) (text : List ℕ) : Type 0 where
-  pub kind : x.kind ≡ 1
-  pub some : x.name_length ≢ 0
-  pub name : name_of x ≡ text
-
--- the same of an entry by its number
-abbrev pub IsNamed : List Entry → List ℕ → ℕ → Type 0
-IsNamed t text f = BearsName (entry_in t f) text
-
--- the dedicated file that has this name, or None where none has it
-abbrev pub TellsNamed : List Entry → List ℕ → Option ℕ → Type 0
-TellsNamed t name None = (f : ℕ) → IsNamed t name f → ⊥
-TellsNamed t name (Some f) = IsNamed t name f
-
 -- whether at most so many steps to parents lead by a file that bars
 unfoldable pub barred_up : List Entry → ℕ → ℕ → Bool
 barred_up t zero e = false
 barred_up t (suc n) e =
-    if e
-    == 0 then false else (bars (life_told (entry_in t (entry_in t e).parent)) || barred_up t n (entry_in t e).parent)
+    if e == 0 then false
+    else (bars (life_told (entry_in t (entry_in t e).parent)) || barred_up t n (entry_in t e).parent)
 
 -- A word tells the kind and the identifier of an entry, and another state.
 pub record TellsLife (x : Entry) (state w : ℕ) : Type 0 where

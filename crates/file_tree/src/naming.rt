@@ -9,7 +9,7 @@ ghost use Rattle.file_tree.specs.Reaching.{selected, the_parent, by_name, path_f
 ghost use Rattle.file_tree.specs.Table.{table, path_of, IsUsed};
 ghost use Rattle.file_tree.specs.Trees.{tree_of, TreeStands};
 ghost use Rattle.file_tree.specs.Indexes.{IsIndex};
-ghost use Rattle.file_tree.specs.Parts.{BearsName, TellsNamed};
+ghost use Rattle.file_tree.specs.Naming.{BearsName, TellsNamed};
 ghost use Rattle.file_tree.specs.StoredFiles.{HasFile};
 
 use crate::entry::Entry;

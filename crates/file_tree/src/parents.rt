@@ -1,7 +1,7 @@
 //! Steps from files to their parents.
 
 ghost use Rattle.std.specs.Prelude.{◌≡◌, ℕ};
-ghost use Rattle.file_tree.specs.SubtreeParts.{leads, TellsParents};
+ghost use Rattle.file_tree.specs.Subtrees.{leads, TellsParents};
 
 use crate::layout::DEEPEST;
 

@@ -6,7 +6,7 @@ use Rattle.undo_journal.specs.Memory.{Memory, Joins}
 use Rattle.block_chain.specs.Words.{word}
 use Rattle.block_chain.specs.declared.layout.TheConstants.{FREE_HEAD, FREE_HEAD_WORD, HEADER_PAGE}
 use Rattle.file_tree.specs.declared.layout.TheConstants.{MARK, MARK_WORD, OLD_END_PAGE, PAGES_WORD}
-use Rattle.file_tree.specs.Migration.{Renames}
+use Rattle.file_tree.specs.MigrationParts.{Renames}
 use Rattle.pin_store.specs.declared.layout.TheConstants.{FIRST_PIN_PAGE, PIN_MARK_WORD}
 use Rattle.pin_store.specs.Pages.{KeepsSecrets}
 

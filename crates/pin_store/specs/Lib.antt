@@ -2,6 +2,6 @@
 pub mod Pins
 pub mod Pages
 pub mod Trials
-pub mod Renewals
-pub mod Puts
+pub mod RenewalParts
+pub mod PutParts
 pub mod laws

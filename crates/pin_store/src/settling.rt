@@ -7,7 +7,7 @@ ghost use Rattle.undo_journal.specs.Memory.{committed, IsReady};
 ghost use Rattle.nvm_board.specs.declared.board.TheConstants.{SECRETS};
 ghost use Rattle.pin_store.specs.declared.layout.TheConstants.{PINS};
 ghost use Rattle.pin_store.specs.Pins.{changed_pin, kept, marked_pin, reset_pin, verified_pin};
-ghost use Rattle.pin_store.specs.Renewals.{renewal_writes, renewed_pin};
+ghost use Rattle.pin_store.specs.RenewalParts.{renewal_writes, renewed_pin};
 ghost use Rattle.pin_store.specs.Pages.{ArePinPages};
 ghost use Rattle.pin_store.specs.Trials.{pin_in, Compared, ComparesOnce, Ends};
 

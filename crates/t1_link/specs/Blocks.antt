@@ -65,8 +65,9 @@ bare field b = if length field == 0 then Some b else None
 
 -- the information field size that an S-block tells: one byte, 01 to FE
 abbrev pub size_told : List ℕ → Option ℕ
-size_told field = if length field == 1 && (nat_le 1 (slice_index field 0) && nat_le (slice_index field 0) 254) then Some
-    (slice_index field 0) else None
+size_told field =
+    if length field == 1 && (nat_le 1 (slice_index field 0) && nat_le (slice_index field 0) 254)
+    then Some (slice_index field 0) else None
 
 -- each control byte, and the block that it makes of an information field, if its kind has such a field
 abbrev pub kinds : List ℕ → List (ℕ × Option Block)
@@ -99,8 +100,8 @@ first_of (row ∷ rows) otherwise = if row.0 then row.1 else first_of rows other
 
 -- fewer than 4 bytes, or a length byte that isn't 00 to FE, or not that many bytes between prologue and check byte
 abbrev pub has_wrong_length : List ℕ → Bool
-has_wrong_length bytes = nat_lt (length bytes) 4 || nat_lt 254 (slice_index bytes 2) || not
-    (length bytes == slice_index bytes 2 + 4)
+has_wrong_length bytes =
+    nat_lt (length bytes) 4 || nat_lt 254 (slice_index bytes 2) || not (length bytes == slice_index bytes 2 + 4)
 
 -- What bytes are: a block, or the first of three faults. Their length is wrong; their exclusive-or isn't 00;
 -- the node address isn't 00, or no kind of block has this control byte and information field.

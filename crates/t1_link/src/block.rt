@@ -6,7 +6,7 @@ ghost use Rattle.arrayvec.specs.ArrayVec.{array_vec_len};
 ghost use Rattle.t1_link.specs.Blocks.{at_byte, bare, control_byte, error_code, exclusive_or, field_of, frame};
 ghost use Rattle.t1_link.specs.Blocks.{has_wrong_length, heard, information, kinds, receive_ready, size_told, told_as};
 ghost use Rattle.t1_link.specs.Garbled.{last_bit_turned};
-ghost use Rattle.t1_link.specs.Spoken.{block_of, spoken};
+ghost use Rattle.t1_link.specs.SpokenParts.{block_of, spoken};
 
 use crate::sequence_number::SequenceNumber;
 use arrayvec::ArrayVec;

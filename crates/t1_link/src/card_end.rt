@@ -5,9 +5,9 @@ ghost use Rattle.t1_link.specs.Blocks.{IsSpellable, receive_ready};
 ghost use Rattle.t1_link.specs.CardTable.{CardLink, link_step, action_of, after, answers, reply_bytes};
 ghost use Rattle.t1_link.specs.CardTable.{card_takes, fresh};
 ghost use Rattle.t1_link.specs.CardTable.{sending, sent_block, sent_more, takes_information, takes_receive_ready};
-ghost use Rattle.t1_link.specs.Ends.{Replies, Takes};
+ghost use Rattle.t1_link.specs.EndParts.{Replies, Takes};
 ghost use Rattle.t1_link.specs.SequenceNumbers.{same};
-ghost use Rattle.t1_link.specs.Spoken.{block_of};
+ghost use Rattle.t1_link.specs.SpokenParts.{block_of};
 
 use crate::block::{Block, BlockBytes, ErrorKind, Piece};
 use crate::outgoing::{LONGEST_COMMAND, Outgoing};

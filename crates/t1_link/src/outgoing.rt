@@ -1,9 +1,9 @@
 //! Bytes that are sent in pieces, each in an I-block.
 
 ghost use Rattle.std.specs.Prelude.{◌≡◌, ◌≤◌, ◌==◌, length, not};
-ghost use Rattle.t1_link.specs.Cut.{cut, last_piece, loaded, no_pieces};
+ghost use Rattle.t1_link.specs.CutParts.{cut, last_piece, loaded, no_pieces};
 ghost use Rattle.t1_link.specs.SequenceNumbers.{other_number, same};
-ghost use Rattle.t1_link.specs.Spoken.{block_of};
+ghost use Rattle.t1_link.specs.SpokenParts.{block_of};
 
 use crate::block::{Block, Piece};
 use crate::sequence_number::SequenceNumber;
@@ -25,7 +25,7 @@ pub(crate) struct Outgoing {
 
 impl Model for Outgoing {
     ghost use Rattle.std.specs.Prelude.{◌≤◌, length, slice_range, drop};
-    ghost use Rattle.t1_link.specs.Cut.{Pieces, IsPlaced};
+    ghost use Rattle.t1_link.specs.CutParts.{Pieces, IsPlaced};
 
     ghost Value = { Pieces };
 

@@ -8,8 +8,8 @@ ghost use Rattle.t1_link.specs.ReaderTable.{reader_sends, reader_times_out};
 ghost use Rattle.t1_link.specs.ReaderTable.{requesting, requesting_again, sends, trying, turns_answer, turns_block};
 ghost use Rattle.t1_link.specs.ReaderTable.{turns_information, turns_receive_ready, turns_resynch};
 ghost use Rattle.t1_link.specs.ReaderFields.{HasAnswer, IsSend, left_in, next_of};
-ghost use Rattle.t1_link.specs.Ends.{Says, Turns};
-ghost use Rattle.t1_link.specs.Spoken.{block_of, spoken};
+ghost use Rattle.t1_link.specs.EndParts.{Says, Turns};
+ghost use Rattle.t1_link.specs.SpokenParts.{block_of, spoken};
 
 use crate::block::{Block, BlockBytes, ErrorKind, FIELD_LIMIT, Fault, Piece};
 use crate::card_end::{AnswerBytes, LONGEST_ANSWER};

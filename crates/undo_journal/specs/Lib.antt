@@ -7,7 +7,7 @@ pub mod Parts
 pub mod Memory
 pub mod Commits
 pub mod Endings
-pub mod Working
+pub mod BatchParts
 pub mod Lent
 pub mod Calls
 pub mod laws

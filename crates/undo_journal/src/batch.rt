@@ -12,7 +12,7 @@ ghost use Rattle.undo_journal.specs.Spending.{WritesAtMost, KeepsBoard};
 ghost use Rattle.undo_journal.specs.Batches.{overlay, look_up, batch_writes, runs_from, AreSets, joined};
 ghost use Rattle.undo_journal.specs.Parts.{before, first_words, pair_words, AllNamed};
 ghost use Rattle.undo_journal.specs.Memory.{commit_writes, set_writes, EndsAt, GoesOn, InRuns, IsHeld, Joins};
-ghost use Rattle.undo_journal.specs.Working.{working};
+ghost use Rattle.undo_journal.specs.BatchParts.{working};
 
 use crate::address::Address;
 use crate::journal::{write_gate, write_pairs};

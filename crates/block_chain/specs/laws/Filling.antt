@@ -103,8 +103,8 @@ filled_more now after ps n i page w once lt enough is block sized done filled k 
           (address page 1 + length (replicate BLOCK_WORDS w) ≤ address (slice_index ps k) place) = ⊎_elim
           (λ (less : slice_index ps k < page). inl (let z : address (slice_index ps k) place < address page 1 =
           omega (arith, less, high) in z))
-          (λ (more : page ≤ slice_index ps k). inr (let z : address page 1 + length
-          (replicate BLOCK_WORDS w) ≤ address (slice_index ps k) place =
+          (λ (more : page ≤ slice_index ps k). inr
+          (let z : address page 1 + length (replicate BLOCK_WORDS w) ≤ address (slice_index ps k) place =
           omega (arith, more, differ, long) in z))
           (cases_lt (slice_index ps k) page) in
           let earlier : slice_index (take i ps) k ≡ slice_index ps k = get_or-take i ps k 0 before in

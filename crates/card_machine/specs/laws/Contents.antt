@@ -19,10 +19,9 @@ use Rattle.file_tree.specs.Table.{table, entry_in, extents}
 use Rattle.file_tree.specs.Trees.{content, file_in}
 use Rattle.file_tree.specs.laws.Costs.{all_extents, entry_extent, extent_of-some, room_for_size}
 use Rattle.file_tree.specs.laws.Tables.{length-table}
-use Rattle.card_machine.specs.Binaries.{read_response}
+use Rattle.card_machine.specs.Binaries.{read_response, end_status}
 use Rattle.card_machine.specs.Outcomes.{Response}
 use Rattle.card_machine.specs.Standing.{IsCard}
-use Rattle.card_machine.specs.Working.{end_status}
 
 -- What READ BINARY answers, by the bytes from the offset on: as many as Le asks for at most, and a status word that
 -- tells where they are fewer.

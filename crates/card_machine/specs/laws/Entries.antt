@@ -27,8 +27,10 @@ use Rattle.card_machine.specs.Sessions.{marked}
 use Rattle.card_machine.specs.Standing.{card_of, IsCard}
 use Rattle.card_machine.specs.Steps.{served}
 use Rattle.card_machine.specs.Templates.{template_of}
-use Rattle.card_machine.specs.Working.{current_at, data_in, outcome, session_of, template_in, IsCurrent}
-use Rattle.card_machine.specs.Working.{IsElementary}
+use Rattle.card_machine.specs.Working.{session_of, IsCurrent, IsElementary}
+use Rattle.card_machine.specs.CurrentFiles.{current_at}
+use Rattle.card_machine.specs.TemplateParts.{data_in, template_in}
+use Rattle.card_machine.specs.Outcomes.{outcome}
 use Rattle.card_machine.specs.laws.SelectSteps.{select-less, select-reached}
 use Rattle.card_machine.specs.laws.Told.{parameters-are}
 

@@ -19,7 +19,7 @@ use Rattle.card_machine.specs.declared.current.Current.{Current}
 use Rattle.card_machine.specs.Comparing.{attempt_of, comparisons, ComparesBy, ComparesNothing}
 use Rattle.card_machine.specs.Counting.{CountsServed, CountsShown}
 use Rattle.card_machine.specs.Cards.{Card}
-use Rattle.card_machine.specs.Outcomes.{refused}
+use Rattle.card_machine.specs.Outcomes.{refused, outcome}
 use Rattle.card_machine.specs.Attempts.{Attempt}
 use Rattle.card_machine.specs.Sessions.{Session}
 use Rattle.card_machine.specs.Served.{moves_files, IsDoing, Serves}
@@ -30,7 +30,7 @@ use Rattle.card_machine.specs.declared.stop.Stop.{Stop}
 use Rattle.card_machine.specs.declared.stop.Stop.TheVariants.{Refused, Failed}
 use Rattle.card_machine.specs.Stops.{failure_of, reply, IfRefused}
 use Rattle.card_machine.specs.laws.CompareLaws.{compares-none}
-use Rattle.card_machine.specs.Working.{card_in, outcome, session_in, session_of, table_in, IsCurrent}
+use Rattle.card_machine.specs.Working.{card_in, session_in, session_of, table_in, IsCurrent}
 use Rattle.card_machine.specs.laws.Stopping.{err-is, refused-weaker}
 use Rattle.card_machine.specs.laws.Words.{Went, went-reads}
 

@@ -10,7 +10,7 @@ use Rattle.ef_body.specs.declared.error.BodyErr.TheVariants as body
 use Rattle.ef_body.specs.Refusals.{Decides, DecidesUnlessFailed, failure as body_failure, IfRefused as body_refused}
 use Rattle.card_machine.specs.declared.stop.Stop.{Stop}
 use Rattle.card_machine.specs.declared.stop.Stop.TheVariants.{Refused, Failed}
-use Rattle.card_machine.specs.Stops.{failure, failure_of, reply, stop_of_body, Finds, IfRefused}
+use Rattle.card_machine.specs.Stops.{failure, failure_of, reply, stop_of_body, FindsOrRefuses, IfRefused}
 
 -- an error that is one is this one
 pub err-is : {T E : Type 0} (r : Result T E) (e : E) → IsErrAnd r (λ f. f ≡ e) → r ≡ Err e
@@ -40,8 +40,8 @@ refused-weaker (Failed e) P Q weaker said = tt
 
 -- what a look tells, where what stopped it is handed on
 module _ {T : Type 0} (r : Result T Stop) (stop : Stop) (is : IsErrAnd r (λ f. f ≡ stop)) where
-  pub finds-stopped : (P : T → Type 0) (Q : Sw → Type 0) → IfRefused stop Q → Finds r P Q
-  finds-stopped P Q said = subst (λ (s : Result T Stop). Finds s P Q) (sym (err-is r stop is)) said
+  pub finds-stopped : (P : T → Type 0) (Q : Sw → Type 0) → IfRefused stop Q → FindsOrRefuses r P Q
+  finds-stopped P Q said = subst (λ (s : Result T Stop). FindsOrRefuses s P Q) (sym (err-is r stop is)) said
 
   pub reads-stopped : (a b : Memory) → Reads a b (failure_of stop) → Reads a b (failure r)
   reads-stopped a b reads = subst (λ (s : Result T Stop). Reads a b (failure s)) (sym (err-is r stop is)) reads
@@ -82,7 +82,7 @@ body-kept r e is kept P said serves =
 -- a look that is told by an answer without a store
 pub finds-by : {T : Type 0} (P : T → Type 0) (Q : Sw → Type 0) (due : Result T Sw) (r : Result T Stop)
     → ((answer : Result T Sw) → due ≡ answer → MatchResult answer P Q)
-    → Finds r (λ x. due ≡ Ok x) (λ status. due ≡ Err status) → Finds r P Q
+    → FindsOrRefuses r (λ x. due ≡ Ok x) (λ status. due ≡ Err status) → FindsOrRefuses r P Q
 finds-by {T} P Q due (Ok x) say is = say (Ok x) is
 finds-by {T} P Q due (Err (Refused status)) say is = say (Err status) is
 finds-by {T} P Q due (Err (Failed e)) say is = tt

@@ -21,8 +21,8 @@ use Rattle.file_tree.specs.laws.Tables.{length-table}
 use Rattle.card_machine.specs.laws.FoundLaws.{other-of}
 use Rattle.card_machine.specs.Standing.{IsCard}
 use Rattle.card_machine.specs.Templates.{kind_told, parameters_of, records_told, short_told}
-use Rattle.card_machine.specs.Working.{kind_in_entry, name_in_entry, parameters_in, records_in_entry}
-use Rattle.card_machine.specs.Working.{short_in_entry, IsToldEntry}
+use Rattle.card_machine.specs.TemplateParts.{kind_in_entry, name_in_entry, parameters_in, records_in_entry}
+use Rattle.card_machine.specs.TemplateParts.{short_in_entry, IsToldEntry}
 use Rattle.card_machine.specs.laws.Contents.{room-is}
 
 -- the short identifier

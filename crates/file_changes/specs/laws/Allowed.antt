@@ -20,7 +20,7 @@ use Rattle.file_tree.specs.Reaching.{child_by_short}
 use Rattle.file_tree.specs.Table.{table, entry_in, ancestor, path_of, IsUsed, IsTable}
 use Rattle.file_tree.specs.Trees.{tree_of}
 use Rattle.file_tree.specs.NewFiles.{short_for, short_of_new, low_bits, has_name, has_short_given, taken_refusal}
-use Rattle.file_tree.specs.Parts.{BearsName}
+use Rattle.file_tree.specs.Naming.{BearsName}
 use Rattle.file_changes.specs.CreationParts.{entry_for, kind_number, short_option}
 use Rattle.file_tree.specs.laws.Tables.{length-table}
 use Rattle.file_tree.specs.laws.Nodes.{used_small}

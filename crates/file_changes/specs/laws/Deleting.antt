@@ -37,7 +37,7 @@ use Rattle.file_tree.specs.Table.{table, entry_in, ancestor, path_in, path_of, e
 use Rattle.file_tree.specs.Table.{IsEntry, IsMasterFile, IsTable}
 use Rattle.file_tree.specs.Trees.{content, tree_of, TreeStands, file_in}
 use Rattle.file_tree.specs.Changes.{KeepsRest, Deletes, with_freed}
-use Rattle.file_tree.specs.SubtreeParts.{leads_up}
+use Rattle.file_tree.specs.Subtrees.{leads_up}
 use Rattle.file_changes.specs.DeletionParts.{is_gone, going, part_below, FreesUpTo, FreesEntries}
 use Rattle.file_tree.specs.laws.Tables.{length-table, entry_in-table, entry_of-free, entry_past, entry_within}
 use Rattle.file_tree.specs.laws.Tables.{index-mapped, table-same}

@@ -17,7 +17,7 @@ use Rattle.file_tree.specs.Table.{table, extents, IsTable}
 use Rattle.file_tree.specs.Formats.{block_count}
 use Rattle.file_tree.specs.Trees.{tree_of, TreeStands}
 use Rattle.file_tree.specs.Changes.{KeepsTree}
-use Rattle.file_tree.specs.Migration.{Renames}
+use Rattle.file_tree.specs.MigrationParts.{Renames}
 use Rattle.file_tree.specs.laws.Formats.{count_is, end_new, end_old}
 use Rattle.file_tree.specs.laws.Footprints.{content_same, tree_same}
 use Rattle.file_tree.specs.laws.Tables.{length-table, table-same}

@@ -15,7 +15,7 @@ use Rattle.file_tree.specs.Trees.{content, node, tree_of, file_in}
 use Rattle.file_tree.specs.Reaching.{is_named}
 use Rattle.file_tree.specs.NewFiles.{has_name}
 use Rattle.file_tree.specs.Indexes.{TellsChild}
-use Rattle.file_tree.specs.Parts.{IsNamed, TellsNamed}
+use Rattle.file_tree.specs.Naming.{BearsNameAt, TellsNamed}
 use Rattle.file_tree.specs.laws.Tables.{length-table, entry_in-table}
 use Rattle.file_tree.specs.laws.Paths.{path-zero, path-below, path-enough, child_of_path, path_of_child}
 use Rattle.file_tree.specs.laws.Nodes.{Node, same_path, one_of_same, same_of_one, used_small, node_tells}
@@ -107,7 +107,7 @@ module _ (m : List ℕ) (rules : IsTable (table m)) where
     abbrev names_it : Node → Bool
     names_it n = is_named name n.1.kind
 
-    named_entry : (f : ℕ) → IsNamed (table m) name f → is_named name (file_in m f).kind ≡ true
+    named_entry : (f : ℕ) → BearsNameAt (table m) name f → is_named name (file_in m f).kind ≡ true
     named_entry f is =
         let x = entry_in (table m) f in
         file_named x (content m x) name
@@ -119,7 +119,7 @@ module _ (m : List ℕ) (rules : IsTable (table m)) where
           | inr other ↦ absurd (other.1 is.kind)
         ]
 
-    entry_named : (f : ℕ) → is_named name (file_in m f).kind ≡ true → IsNamed (table m) name f
+    entry_named : (f : ℕ) → is_named name (file_in m f).kind ≡ true → BearsNameAt (table m) name f
     entry_named f is =
         let x = entry_in (table m) f in
         let told = sym (file_named x (content m x) name) ∙ is in
@@ -139,11 +139,11 @@ module _ (m : List ℕ) (rules : IsTable (table m)) where
               ∙ ap (λ (b : Bool). b && (if x.name_length == 0 then false else same_path (name_of x) name)) other.0))
         ]
 
-    named_used : (f : ℕ) → IsNamed (table m) name f → IsUsed (table m) f
+    named_used : (f : ℕ) → BearsNameAt (table m) name f → IsUsed (table m) f
     named_used f is none = let k = is.kind in let z : ⊥ = omega (arith, k, none) in z
 
     -- two names alike are one file's
-    one_name : (f g : ℕ) → IsNamed (table m) name f → IsNamed (table m) name g → f ≡ g
+    one_name : (f g : ℕ) → BearsNameAt (table m) name f → BearsNameAt (table m) name g → f ≡ g
     one_name f g one two =
         let used = named_used f one in
         let within : f < length (table m) =

@@ -14,7 +14,7 @@ use Rattle.file_tree.specs.Reaching.{path_from_master, path_from_current, IsRese
 use Rattle.file_tree.specs.Table.{table, entry_in, path_of, IsUsed, IsTable}
 use Rattle.file_tree.specs.Trees.{tree_of, TreeStands}
 use Rattle.file_tree.specs.Indexes.{TellsChild}
-use Rattle.file_tree.specs.Parts.{TellsNamed}
+use Rattle.file_tree.specs.Naming.{TellsNamed}
 use Rattle.file_tree.specs.laws.Paths.{path-zero, parent-push, identifier-push, not_empty}
 use Rattle.file_tree.specs.laws.Paths.{identifier_path, path_of_child}
 use Rattle.file_tree.specs.laws.Nodes.{Node, used_small, exists-used, exists-none}

@@ -7,7 +7,7 @@ use Rattle.std.proofs.lemmas.Bool.Decides.{eqb_tells}
 use Rattle.file_tree.specs.declared.entry.Entry.{Entry}
 use Rattle.file_tree.specs.Cards.{Path}
 use Rattle.file_tree.specs.Table.{entry_in, ancestor, path_in, path_of, IsUsed, IsTable}
-use Rattle.file_tree.specs.SubtreeParts.{leads, leads_up}
+use Rattle.file_tree.specs.Subtrees.{leads, leads_up}
 use Rattle.file_tree.specs.laws.Levels.{ancestor-more}
 use Rattle.file_tree.specs.laws.Paths.{path-zero, path-below, path-enough, path_of-child, parent_used}
 use Rattle.file_tree.specs.laws.Paths.{reaches_master, one_path}

@@ -11,7 +11,7 @@ use Rattle.pin_store.specs.declared.putting.Renewal.{Renewal}
 use Rattle.pin_store.specs.declared.putting.Renewal.TheVariants.{Value, ValueAndTries, Mark}
 use Rattle.pin_store.specs.Pins.{Pin, HasFewTries, changed_pin, is_unblocking, owner, reset_pin}
 use Rattle.pin_store.specs.Pins.{tries_left, verified_pin, enabled_pin, marked_pin, with_tries}
-use Rattle.pin_store.specs.Renewals.{renewed_pin}
+use Rattle.pin_store.specs.RenewalParts.{renewed_pin}
 use Rattle.pin_store.specs.Pages.{pin_page, pin_at, pins_of, unmarked_pins_of, IsPinPage, ArePinPages, AreEnabled}
 use Rattle.pin_store.specs.Pages.{AreMarks, IsMark, KeepsPins, KeepsSecrets, SetsPin}
 use Rattle.pin_store.specs.laws.PinPages.{pin_same, secrets_same, marked_enabled, few_tries, page_of_few}

@@ -5,7 +5,7 @@ use Rattle.card_bench.specs.declared.exchange.Ending.{Ending}
 use Rattle.card_bench.specs.declared.exchange.Toward.{Toward}
 use Rattle.t1_link.specs.ReaderTable.{reader_step}
 use Rattle.card_bench.specs.Exchanges.{ReaderTurns}
-use Rattle.card_bench.specs.ExchangeViews.{follows_of}
+use Rattle.card_bench.specs.ExchangeParts.{follows_of}
 use Rattle.card_bench.proofs.ReaderSays.{busy-so, follows-so, idle-so}
 use Rattle.card_bench.proofs.exchange.hear.Goals as goal
 

@@ -3,7 +3,7 @@ use Rattle.std.proofs.Common.{◌∙◌, ap, subst, sym}
 use Rattle.card_bench.specs.declared.playing.Turn.TheVariants as turn
 use Rattle.card_bench.specs.Exchanges.{power_lost, toward_reader}
 use Rattle.card_bench.specs.declared.exchange.Toward.{Toward}
-use Rattle.card_bench.specs.ExchangeViews.{ends_of, next_block}
+use Rattle.card_bench.specs.ExchangeParts.{ends_of, next_block}
 use Rattle.card_bench.specs.Exchanges.{Passes}
 use Rattle.card_bench.specs.Turns.{GoodTurn, TakesBlock}
 use Rattle.card_bench.proofs.ExchangeRuns.{takes_there}

@@ -1,5 +1,5 @@
 use Rattle.std.proofs.Common.{◌≡◌, ◌+◌, ◌-◌, suc, arith}
-use Rattle.card_bench.specs.ExchangeViews.{ends_of, next_block}
+use Rattle.card_bench.specs.ExchangeParts.{ends_of, next_block}
 use Rattle.card_bench.proofs.ExchangeRuns.{begins, ends, gives_up, goes_on}
 use Rattle.card_bench.proofs.exchange.pass_blocks.Goals as goal
 

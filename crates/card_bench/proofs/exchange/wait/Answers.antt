@@ -3,7 +3,7 @@ use Rattle.core.specs.declared.ops.ControlFlow.{ControlFlow}
 use Rattle.t1_link.specs.declared.reader_end.Phase.TheVariants.{Busy}
 use Rattle.card_bench.specs.declared.exchange.Ending.{Ending}
 use Rattle.card_bench.specs.declared.exchange.Toward.{Toward}
-use Rattle.card_bench.specs.ExchangeViews.{follows_of}
+use Rattle.card_bench.specs.ExchangeParts.{follows_of}
 use Rattle.card_bench.proofs.ReaderSays.{busy-so, follows-so, idle-so, kept-times_out}
 use Rattle.card_bench.proofs.exchange.wait.Goals as goal
 

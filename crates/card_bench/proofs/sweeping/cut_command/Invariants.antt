@@ -1,7 +1,7 @@
 use Rattle.std.proofs.Common.{◌+◌, true}
 use Rattle.card_machine.specs.Finding.{HasCard}
 use Rattle.card_bench.specs.Tallies.{findings, Adds, Counts}
-use Rattle.card_bench.specs.Plans.{board_of, IsGiven, AreAtWrite}
+use Rattle.card_bench.specs.PlanParts.{board_of, IsGiven, AreAtWrite}
 use Rattle.card_bench.specs.SweptRuns.{InTurn}
 use Rattle.card_bench.proofs.sweeping.cut_command.Given as goal
 

@@ -3,7 +3,7 @@ use Rattle.nvm_board.specs.Cut.{cut_facts, last_torn}
 use Rattle.card_bench.specs.Masks.{mask_of, mask_count_of, words_tried}
 use Rattle.card_bench.specs.Sweeps.{CutsCommand}
 use Rattle.card_bench.specs.SweptRuns.{SparesCommand}
-use Rattle.card_bench.specs.Plans.{board_of}
+use Rattle.card_bench.specs.PlanParts.{board_of}
 use Rattle.card_bench.proofs.TallyLemmas.{adds-none, adds-on, adds-weaker}
 use Rattle.card_bench.proofs.SweepLemmas.{given-by-run}
 use Rattle.card_bench.proofs.CompleteSweeps.{counts-none, counts-mask, counts-write, counts-last, mask-is, masks-some}

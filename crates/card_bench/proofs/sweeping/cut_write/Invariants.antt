@@ -1,6 +1,6 @@
 use Rattle.card_machine.specs.Finding.{HasCard}
 use Rattle.card_bench.specs.Tallies.{findings, Adds, Counts}
-use Rattle.card_bench.specs.Plans.{board_of, IsGiven}
+use Rattle.card_bench.specs.PlanParts.{board_of, IsGiven}
 use Rattle.card_bench.specs.SweptRuns.{InTurn, AreOfMask}
 use Rattle.card_bench.proofs.sweeping.cut_write.Given as goal
 

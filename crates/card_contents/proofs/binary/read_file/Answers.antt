@@ -7,10 +7,13 @@ use Rattle.card_rules.specs.declared.access_mode.AccessBit.TheVariants.{Read}
 use Rattle.ef_body.specs.Bodies.{transparent_bytes}
 use Rattle.card_machine.specs.declared.current.Current.{Current}
 use Rattle.card_machine.specs.Stops.{stop_of_body}
-use Rattle.card_machine.specs.Working.{card_in, end_status, outcome, session_in, table_in, IsCurrent}
+use Rattle.card_machine.specs.Working.{card_in, session_in, table_in, IsCurrent}
+use Rattle.card_machine.specs.Binaries.{end_status}
+use Rattle.card_machine.specs.Outcomes.{outcome}
 use Rattle.card_contents.proofs.BinarySteps.{read-refused}
 use Rattle.card_machine.specs.laws.Serves.{answered, halted, halted-with}
-use Rattle.card_contents.proofs.Serving.{asked-most, found-body, found-read, found-read-past, named-current, read-short}
+use Rattle.card_contents.proofs.BinaryServes.{asked-most, found-body, found-read, found-read-past, named-current}
+use Rattle.card_contents.proofs.BinaryServes.{read-short}
 use Rattle.card_machine.specs.laws.Stopping.{body-reads, body-said}
 use Rattle.card_contents.proofs.binary.read_file.Goals as goal
 

@@ -8,7 +8,7 @@ use Rattle.card_machine.specs.Served.{Serves}
 use Rattle.card_machine.specs.Working.{card_in, session_in, space_in}
 use Rattle.card_contents.proofs.BinarySteps.{update-refused}
 use Rattle.card_contents.proofs.Halting.{halted-in-place}
-use Rattle.card_contents.proofs.Serving.{found-body, found-made, found-space, found-stopped}
+use Rattle.card_contents.proofs.BinaryServes.{found-body, found-made, found-space, found-stopped}
 use Rattle.card_machine.specs.laws.SpaceKept.{space-same}
 use Rattle.card_machine.specs.laws.Stopping.{body-kept}
 use Rattle.card_contents.proofs.binary.update_file.Goals as goal

@@ -16,7 +16,7 @@ use Rattle.card_contents.proofs.IncreaseServes.{increase-halted, increased-body,
 use Rattle.card_contents.proofs.IncreaseServes.{increased-long, increased-short, increased-space, increased-torn}
 use Rattle.card_contents.proofs.IncreaseServes.{is-raised}
 use Rattle.card_contents.proofs.RecordSums.{increase-barred, increase-long, increase-unraised, short-sent}
-use Rattle.card_contents.proofs.Recording.{agree}
+use Rattle.card_contents.proofs.RecordSteps.{agree}
 use Rattle.card_contents.proofs.increasing.increase.Goals as goal
 
 pub returns-in_err-file : goal.returns-in_err-file

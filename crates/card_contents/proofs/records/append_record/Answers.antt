@@ -11,7 +11,6 @@ use Rattle.card_contents.proofs.Halting.{halted-in-place}
 use Rattle.card_contents.proofs.AppendServes.{appended-body, appended-done, appended-few, appended-long, appended-space}
 use Rattle.card_contents.proofs.AppendServes.{appended-torn, is-appendable}
 use Rattle.card_contents.proofs.RecordWrites.{append-decided, append-refused}
-use Rattle.card_contents.proofs.Recording.{agree}
 use Rattle.card_machine.specs.laws.Stopping.{none-failed, reply-failed}
 use Rattle.card_contents.proofs.records.append_record.Goals as goal
 
@@ -70,11 +69,6 @@ returns g c = record {
       c.fill.ensures.any_exit c.fill.ensures.by_gate _
       c.in_ok-fill.ensures.store c.in_ok-fill.ensures.done;
 }
-
-pub room_for-requires : goal.room_for-requires
-room_for-requires g c =
-    (agree (committed c.args.store.now) c.requires.kept.ready.usable.committed_size c.requires.kept.card
-    c.args.current.now c.args.target _ c.in_ok-file.file c.in_ok-file.ensures.told).straight
 
 pub returns-in_err-file : goal.returns-in_err-file
 returns-in_err-file g c =

@@ -4,7 +4,8 @@ use Rattle.file_tree.specs.declared.entry.Entry.{Entry}
 use Rattle.file_tree.specs.laws.Nodes.{used_small}
 use Rattle.card_contents.specs.declared.record_file.RecordFile.{RecordFile}
 use Rattle.card_contents.specs.RecordParts.{record_file_in, IsRecordFile}
-use Rattle.card_machine.specs.Working.{IsNamed, IsToldEntry}
+use Rattle.card_machine.specs.NamedFiles.{IsNamed}
+use Rattle.card_machine.specs.TemplateParts.{IsToldEntry}
 use Rattle.card_contents.proofs.RecordKinds.{record_kind}
 use Rattle.card_machine.specs.laws.Told.{told-entry}
 use Rattle.card_machine.specs.laws.Stopping.{finds-stopped, reads-stopped}

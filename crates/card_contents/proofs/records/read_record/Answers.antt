@@ -10,12 +10,13 @@ use Rattle.card_machine.specs.declared.current.Current.{Current}
 use Rattle.card_machine.specs.declared.stop.Stop.TheVariants.{Refused}
 use Rattle.card_machine.specs.Lengths.{right_length}
 use Rattle.card_machine.specs.Records.{pointer_after}
-use Rattle.card_machine.specs.Working.{card_in, outcome, pointer_from, pointing_from, session_in, table_in, IsCurrent}
+use Rattle.card_machine.specs.Working.{card_in, session_in, table_in, IsCurrent}
+use Rattle.card_machine.specs.CurrentFiles.{pointer_from, pointing_from}
 use Rattle.card_contents.specs.RecordParts.{chosen_in}
-use Rattle.card_machine.specs.Outcomes.{refused}
+use Rattle.card_machine.specs.Outcomes.{refused, outcome}
 use Rattle.card_contents.proofs.RecordBodies.{slot-few}
-use Rattle.card_contents.proofs.Recording.{choice-barred, choice-gone, chosen-body, chosen-has, current-is}
-use Rattle.card_contents.proofs.Recording.{declined-empty, is-chosen, read-other, read-refused, read-whole}
+use Rattle.card_contents.proofs.RecordSteps.{choice-barred, choice-gone, chosen-body, chosen-has, current-is}
+use Rattle.card_contents.proofs.RecordSteps.{declined-empty, is-chosen, read-other, read-refused, read-whole}
 use Rattle.card_machine.specs.laws.Serves.{answered, halted, handed}
 use Rattle.card_machine.specs.laws.Stopping.{reply-failed}
 use Rattle.card_contents.proofs.records.read_record.Goals as goal

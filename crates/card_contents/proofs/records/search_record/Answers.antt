@@ -9,11 +9,12 @@ use Rattle.ef_body.specs.Searching.{found as found_in}
 use Rattle.card_machine.specs.declared.current.Current.{Current}
 use Rattle.card_machine.specs.declared.stop.Stop.TheVariants.{Refused}
 use Rattle.card_machine.specs.Lengths.{asks_less, given, right_length}
-use Rattle.card_machine.specs.Outcomes.{refused}
+use Rattle.card_machine.specs.Outcomes.{refused, outcome}
 use Rattle.card_machine.specs.Records.{place_number, pointer_found, search_status}
-use Rattle.card_machine.specs.Working.{card_in, outcome, pointer_from, pointing_from, session_in, table_in, IsCurrent}
-use Rattle.card_contents.proofs.Recording.{choice-barred, choice-gone, chosen-body, chosen-has, current-is}
-use Rattle.card_contents.proofs.Recording.{declined-empty, is-chosen, search-less, search-refused, search-whole}
+use Rattle.card_machine.specs.Working.{card_in, session_in, table_in, IsCurrent}
+use Rattle.card_machine.specs.CurrentFiles.{pointer_from, pointing_from}
+use Rattle.card_contents.proofs.RecordSteps.{choice-barred, choice-gone, chosen-body, chosen-has, current-is}
+use Rattle.card_contents.proofs.RecordSteps.{declined-empty, is-chosen, search-less, search-refused, search-whole}
 use Rattle.card_machine.specs.laws.Serves.{answered, halted, handed}
 use Rattle.card_machine.specs.laws.Stopping.{reply-failed}
 use Rattle.card_contents.proofs.records.search_record.Goals as goal

@@ -9,7 +9,8 @@ use Rattle.file_tree.specs.Trees.{tree_of}
 use Rattle.file_tree.specs.laws.Nodes.{used_small}
 use Rattle.card_machine.specs.Guards.{allowed}
 use Rattle.card_machine.specs.Standing.{card_of}
-use Rattle.card_machine.specs.Working.{file_refusal, session_of}
+use Rattle.card_machine.specs.Working.{session_of}
+use Rattle.card_machine.specs.NamedFiles.{file_refusal}
 use Rattle.card_machine.specs.laws.Entries.{card-tree}
 use Rattle.card_files.proofs.files.check_deletion.Goals.{then-own, else-own}
 use Rattle.card_machine.specs.laws.Readings.{entry_still, file_kept, kept_still, used_still}

@@ -12,7 +12,7 @@ use Rattle.card_machine.specs.Outcomes.{refused_by}
 use Rattle.card_machine.specs.Standing.{card_of}
 use Rattle.card_machine.specs.Working.{session_of}
 use Rattle.card_files.proofs.Deletions.{deletable, deletion_verdict, file-verdict, subject-found}
-use Rattle.card_files.proofs.Living.{current-there}
+use Rattle.card_files.proofs.LifeSteps.{current-there}
 use Rattle.apdu_core.specs.declared.life_cycles.LifeCycleChange.TheVariants.{Activate}
 use Rattle.card_files.proofs.FileSteps.{delete-master}
 use Rattle.card_machine.specs.laws.Readings.{entry_still, kept_still, used_still}

@@ -3,10 +3,10 @@ use Rattle.card_rules.specs.declared.status.Sw.{Sw}
 use Rattle.undo_journal.specs.Memory.{committed}
 use Rattle.file_tree.specs.Table.{table, path_of, IsUsed}
 use Rattle.card_files.specs.declared.life_cycles.Changed.{Changed}
-use Rattle.card_files.specs.Changing.{change_at}
+use Rattle.card_files.specs.LifeParts.{change_at}
 use Rattle.card_machine.specs.Standing.{card_of}
 use Rattle.card_machine.specs.Working.{session_of}
-use Rattle.card_files.proofs.Living.{changed-found, current-there, found-is}
+use Rattle.card_files.proofs.LifeSteps.{changed-found, current-there, found-is}
 use Rattle.card_files.proofs.Missing.{change-missed}
 use Rattle.card_machine.specs.laws.Readings.{kept_still, used_still}
 use Rattle.undo_journal.specs.laws.Told.{reads_on}

@@ -6,7 +6,7 @@ use Rattle.card_machine.specs.laws.Readings.{entry_still, file_kept, kept_still,
 use Rattle.file_tree.specs.States.{next_life}
 use Rattle.file_tree.specs.Table.{table, entry_in, path_of}
 use Rattle.file_tree.specs.Trees.{tree_of}
-use Rattle.card_files.specs.Changing.{changed_by}
+use Rattle.card_files.specs.LifeParts.{changed_by}
 use Rattle.card_machine.specs.LifeCycles.{change_bit, command_of}
 use Rattle.card_machine.specs.Guards.{allowed}
 use Rattle.card_machine.specs.Standing.{card_of}

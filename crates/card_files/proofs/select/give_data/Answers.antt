@@ -5,8 +5,8 @@ use Rattle.card_machine.specs.declared.stop.Stop.TheVariants.{Refused, Failed}
 use Rattle.card_machine.specs.laws.Stopping.{finds-stopped, reads-stopped}
 use Rattle.file_tree.specs.declared.entry.Entry.{Entry}
 use Rattle.file_tree.specs.Table.{table, entry_in}
-use Rattle.card_machine.specs.Lengths.{asks_less}
-use Rattle.card_machine.specs.Working.{data_in, template_in, IsGiven, IsToldEntry}
+use Rattle.card_machine.specs.Lengths.{asks_less, IsGiven}
+use Rattle.card_machine.specs.TemplateParts.{data_in, template_in, IsToldEntry}
 use Rattle.card_files.proofs.select.give_data.Goals as goal
 
 -- nothing is given of no data

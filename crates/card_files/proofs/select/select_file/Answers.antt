@@ -15,7 +15,11 @@ use Rattle.card_machine.specs.declared.current.Current.{Current}
 use Rattle.card_machine.specs.Selecting.{selection_status}
 use Rattle.card_machine.specs.Served.{Serves}
 use Rattle.card_machine.specs.Standing.{card_of}
-use Rattle.card_machine.specs.Working.{current_by, data_in, outcome, session_of, IsCurrent, IsGiven, IsToldEntry}
+use Rattle.card_machine.specs.Working.{session_of, IsCurrent}
+use Rattle.card_machine.specs.CurrentFiles.{current_by}
+use Rattle.card_machine.specs.TemplateParts.{data_in, IsToldEntry}
+use Rattle.card_machine.specs.Outcomes.{outcome}
+use Rattle.card_machine.specs.Lengths.{IsGiven}
 use Rattle.card_machine.specs.laws.Entries.{current-entry, select-entry, select-entry-less}
 use Rattle.card_machine.specs.laws.SelectSteps.{select-missed}
 use Rattle.card_machine.specs.laws.Serves.{answered, declined, halted, handed}

@@ -6,7 +6,8 @@ use Rattle.file_tree.specs.States.{is_barred}
 use Rattle.file_tree.specs.Table.{table, path_of}
 use Rattle.card_machine.specs.Guards.{allowed}
 use Rattle.card_machine.specs.Standing.{card_of}
-use Rattle.card_machine.specs.Working.{file_refusal, session_of}
+use Rattle.card_machine.specs.Working.{session_of}
+use Rattle.card_machine.specs.NamedFiles.{file_refusal}
 use Rattle.card_machine.specs.laws.Entries.{card-tree}
 use Rattle.card_machine.specs.declared.stop.Stop.TheVariants.{Refused, Failed}
 use Rattle.card_machine.specs.laws.Stopping.{finds-stopped, reads-stopped}

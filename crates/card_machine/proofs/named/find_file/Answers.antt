@@ -12,7 +12,8 @@ use Rattle.file_tree.specs.Table.{table, entry_in, path_of}
 use Rattle.file_tree.specs.laws.Nodes.{used_small}
 use Rattle.card_machine.specs.Guards.{allowed}
 use Rattle.card_machine.specs.Standing.{card_of}
-use Rattle.card_machine.specs.Working.{file_refusal, fits, fits_kind, session_of, IsElementary}
+use Rattle.card_machine.specs.Working.{session_of, IsElementary}
+use Rattle.card_machine.specs.NamedFiles.{file_refusal, fits, fits_kind}
 use Rattle.card_machine.proofs.NamedEntries.{entry-named, entry-refusal}
 use Rattle.card_machine.specs.laws.Readings.{kept_still}
 use Rattle.file_tree.specs.Table.{IsUsed}

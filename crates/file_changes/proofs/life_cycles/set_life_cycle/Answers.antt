@@ -13,7 +13,7 @@ use Rattle.file_tree.specs.Table.{table, entry_in, path_of, IsUsed}
 use Rattle.file_tree.specs.Trees.{tree_of, TreeStands}
 use Rattle.file_tree.specs.Parts.{TellsLife}
 use Rattle.file_tree.specs.laws.Nodes.{used_small}
-use Rattle.file_changes.specs.laws.Living.{life_written, life_changed, life_stays, byte_of_state}
+use Rattle.file_changes.specs.laws.LifeChanges.{life_written, life_changed, life_stays, byte_of_state}
 use Rattle.undo_journal.specs.laws.Transactions.{by_gate_after}
 use Rattle.undo_journal.specs.laws.Told.{changes_after, reads_change, changes_handed}
 use Rattle.file_changes.proofs.life_cycles.set_life_cycle.Goals as goal

@@ -9,12 +9,11 @@ use Rattle.file_tree.specs.Cards.{exists}
 use Rattle.file_tree.specs.Table.{table, path_of, IsTable}
 use Rattle.file_tree.specs.Trees.{tree_of}
 use Rattle.file_tree.specs.NewFiles.{has_name, has_short_given}
-use Rattle.file_tree.specs.Parts.{TellsNamed}
+use Rattle.file_tree.specs.Naming.{TellsNamed}
 use Rattle.file_tree.specs.laws.Tables.{length-table}
 use Rattle.file_tree.specs.laws.Refusing.{child_told, name_told}
 use Rattle.file_changes.specs.laws.Allowed.{taken_is, creatable_short}
-use Rattle.undo_journal.specs.laws.Told.{reads_handed, reads_on}
-use Rattle.file_tree.specs.laws.StoredFiles.{file_still}
+use Rattle.undo_journal.specs.laws.Told.{reads_handed}
 use Rattle.file_changes.proofs.refusing.taken.Goals as goal
 
 -- whether a name is taken, by what a look-up in the entries that were read found
@@ -29,7 +28,7 @@ name_is_taken m rules entries name text found taken read same is told =
 pub entry_named-named-requires : goal.entry_named-named-requires
 entry_named-named-requires g c =
     let l = length-table (committed c.args.store.now) in
-    let a = ap (λ (t : List Entry). length t) (c.as_slice.ensures.value ∙ c.in_ok-entries.ensures.table) in
+    let a = ap (λ (t : List Entry). length t) c.requires.entries in
     omega (arith, l, a)
 
 pub is_short_taken-requires-clause-short : goal.is_short_taken-requires-clause-short
@@ -48,35 +47,23 @@ returns g c = record {
       child_told m rules c.args.df fcp.identifier c.child-child.result c.requires.df.used
       (c.child-child.ensures m c.requires.index)
       ∙ sym c.is_some.ensures in
-      let entries = c.as_slice.ensures.value ∙ c.in_ok-entries.ensures.table in
       let named : has_name tree (name_bytes fcp.kind) ≡ c.is_some-2.result =
-      name_is_taken m rules _ (name_bytes fcp.kind) _ c.entry_named-named.result c.is_some-2.result entries
+      name_is_taken m rules _ (name_bytes fcp.kind) _ c.entry_named-named.result c.is_some-2.result
+      c.requires.entries
       c.name.ensures
       c.is_some-2.ensures c.entry_named-named.ensures in
-      let read = c.read_table.ensures.store.only.keeps.committed_words in
       let short : has_short_given tree path (short_of_kind fcp.kind) ≡ c.in_ok-short.short =
       sym (c.in_ok-short.ensures.told
-      ∙ (λ i. has_short_given (tree_of (read i)) (path_of (table (read i)) c.args.df) (c.short.ensures i))) in
+      ∙ (λ i. has_short_given tree path (c.short.ensures i))) in
       c.first_taken.ensures ∙ sym (taken_is tree path fcp _ _ _ child named short);
-  store = reads_on _ _ _ _ c.read_table.ensures.store.only c.in_ok-short.ensures.store;
-}
-
-pub read_table-requires : goal.read_table-requires
-read_table-requires g c = record { ready = c.requires.df.ready }
-
-pub returns-in_err-entries : goal.returns-in_err-entries
-returns-in_err-entries g c = record {
-  told = none_ok _ _ _ c.from_residual.ensures.1;
-  store = reads_handed _ _ _ _ c.from_residual.ensures.1 c.in_err-entries.ensures.store;
+  store = c.in_ok-short.ensures.store;
 }
 
 pub returns-in_err-short : goal.returns-in_err-short
 returns-in_err-short g c = record {
-  told = none_ok _ _ _ c.from_residual-in_err-short.ensures.1;
-  store = reads_handed _ _ _ _ c.from_residual-in_err-short.ensures.1
-      (reads_on _ _ _ _ c.read_table.ensures.store.only c.in_err-short.ensures.store);
+  told = none_ok _ _ _ c.from_residual.ensures.1;
+  store = reads_handed _ _ _ _ c.from_residual.ensures.1 c.in_err-short.ensures.store;
 }
 
 pub is_short_taken-requires-clause-df : goal.is_short_taken-requires-clause-df
-is_short_taken-requires-clause-df g c =
-    file_still _ _ _ c.read_table.ensures.store.only c.in_ok-entries.ensures.store.ready c.requires.df
+is_short_taken-requires-clause-df g c = c.requires.df

@@ -5,7 +5,7 @@ use Rattle.std.proofs.lemmas.List.Elements.{filter_more}
 use Rattle.file_tree.specs.declared.index.Place.{Place}
 use Rattle.file_tree.specs.Keys.{key_for}
 use Rattle.file_tree.specs.IndexParts.{is_outside, parent_by}
-use Rattle.file_tree.specs.SubtreeParts.{leads}
+use Rattle.file_tree.specs.Subtrees.{leads}
 use Rattle.file_tree.proofs.index.places_outside.Goals as goal
 use Rattle.file_tree.proofs.index.places_outside.Goals.{then-not-is_within, else-not-is_within}
 

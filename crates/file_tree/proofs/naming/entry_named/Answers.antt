@@ -2,7 +2,7 @@ use Rattle.std.proofs.Common.{rules, ◌≡◌, ◌<◌, ◌≤◌, ℕ, length,
 use Rattle.std.proofs.lemmas.Bool.{cases_lt}
 use Rattle.file_tree.specs.declared.entry.Entry.{Entry}
 use Rattle.file_tree.specs.Table.{entry_in}
-use Rattle.file_tree.specs.Parts.{BearsName, IsNamed}
+use Rattle.file_tree.specs.Naming.{BearsName, BearsNameAt}
 use Rattle.file_tree.specs.laws.Tables.{entry_within}
 use Rattle.file_tree.proofs.naming.entry_named.Goals as goal
 
@@ -22,7 +22,7 @@ loop-e-preserved c =
     let within : c.from.result < length t = omega (arith, c.from.ensures, c.requires, c.loop-e-test.true) in
     let here = entry_within t c.from.result _ within ∙ ap (entry_in t) c.from.ensures in
     let family : Entry → Type 0 = λ x. BearsName x c.args.name.now in
-    let not_here : IsNamed t c.args.name.now e → ⊥ = λ is.
+    let not_here : BearsNameAt t c.args.name.now e → ⊥ = λ is.
     let yes : IsTrue c.bears_name.result = c.bears_name.ensures.1 (subst family (sym here) is) in
     true≢false (sym yes ∙ c.if-bears_name.false) in
     record {
@@ -30,7 +30,7 @@ loop-e-preserved c =
           (λ (before : f < e). c.loop-e.invariant.none f before is)
           (λ (from : e ≤ f).
           let same : f ≡ e = omega (arith, lt, from) in
-          let named : ℕ → Type 0 = λ k. IsNamed t c.args.name.now k in
+          let named : ℕ → Type 0 = λ k. BearsNameAt t c.args.name.now k in
           not_here (subst named same is))
           (cases_lt f e);
     }

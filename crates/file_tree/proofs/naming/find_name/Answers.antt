@@ -3,7 +3,7 @@ use Rattle.std.proofs.Common.{List, length, ◌∙◌, ap, subst}
 use Rattle.undo_journal.specs.Memory.{committed}
 use Rattle.file_tree.specs.declared.entry.Entry.{Entry}
 use Rattle.file_tree.specs.Table.{table}
-use Rattle.file_tree.specs.Parts.{TellsNamed}
+use Rattle.file_tree.specs.Naming.{TellsNamed}
 use Rattle.file_tree.specs.laws.Tables.{length-table}
 use Rattle.file_tree.specs.laws.Selecting.{name_reached, named_is_used}
 use Rattle.undo_journal.specs.laws.Told.{reads_handed}

@@ -1,5 +1,5 @@
 use Rattle.std.proofs.Common.{◌≡◌, ◌+◌, ◌-◌, ℕ, suc, ◌∙◌, ap, arith, sym}
-use Rattle.file_tree.specs.SubtreeParts.{leads}
+use Rattle.file_tree.specs.Subtrees.{leads}
 use Rattle.file_tree.specs.laws.Subtrees.{leads-step, leads-here, leads-zero}
 use Rattle.file_tree.proofs.parents.is_within.Goals as goal
 

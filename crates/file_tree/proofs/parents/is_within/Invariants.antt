@@ -1,5 +1,5 @@
 use Rattle.std.proofs.Common.{◌≡◌, ◌<◌, ◌-◌, ℕ}
-use Rattle.file_tree.specs.SubtreeParts.{leads, TellsParents}
+use Rattle.file_tree.specs.Subtrees.{leads, TellsParents}
 use Rattle.file_tree.proofs.parents.is_within.Given as goal
 
 abbrev pub invariant-loop-step : goal.invariant-loop-step

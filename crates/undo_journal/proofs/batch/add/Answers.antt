@@ -11,7 +11,7 @@ use Rattle.std.specs.Prelude.{if◌then◌else◌}
 use Rattle.undo_journal.specs.declared.batch.TheConstants.{BATCH}
 use Rattle.undo_journal.specs.Memory.{set_writes}
 use Rattle.undo_journal.specs.Spending.{WritesAtMost}
-use Rattle.undo_journal.specs.Working.{working}
+use Rattle.undo_journal.specs.BatchParts.{working}
 use Rattle.undo_journal.specs.laws.Calls.{within_more}
 use Rattle.undo_journal.specs.laws.Transactions.{stays_spends}
 use Rattle.undo_journal.proofs.batch.add.Goals as goal

@@ -6,7 +6,7 @@ use Rattle.undo_journal.specs.Undo.{gate, undo, data_words, IsSound}
 use Rattle.undo_journal.proofs.Saving.{committed-shut, gate-shut}
 use Rattle.undo_journal.proofs.Lasting.{gate-commits, commit-sound, set-back}
 use Rattle.undo_journal.specs.Batches.{batch_writes}
-use Rattle.undo_journal.specs.Working.{working}
+use Rattle.undo_journal.specs.BatchParts.{working}
 use Rattle.undo_journal.proofs.Costing.{commit-none, commit-some}
 use Rattle.nvm_board.specs.laws.Sizes.{least_words}
 use Rattle.undo_journal.proofs.batch.finish.Goals as goal

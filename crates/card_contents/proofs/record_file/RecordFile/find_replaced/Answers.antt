@@ -4,7 +4,7 @@ use Rattle.std.specs.Result.{result_err}
 use Rattle.card_rules.specs.declared.status.TheConstants.Sw.{RECORD_NOT_FOUND}
 use Rattle.card_contents.specs.RecordParts.{has_in}
 use Rattle.card_contents.proofs.RecordBodies.{has-slot}
-use Rattle.card_contents.proofs.Recording.{gone-status}
+use Rattle.card_contents.proofs.RecordSteps.{gone-status}
 use Rattle.card_contents.proofs.RecordWrites.{record_verdict, verdict-first}
 use Rattle.card_machine.specs.laws.Stopping.{err-is}
 use Rattle.card_contents.proofs.record_file.RecordFile.find_replaced.Goals as goal

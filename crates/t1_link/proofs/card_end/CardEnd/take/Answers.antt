@@ -1,7 +1,7 @@
 use Rattle.std.specs.Prelude.{◌≡◌, Ok}
 use Rattle.std.proofs.Common.{◌∙◌, ap, sym}
 use Rattle.t1_link.specs.Blocks.{heard}
-use Rattle.t1_link.specs.Spoken.{block_of, spoken}
+use Rattle.t1_link.specs.SpokenParts.{block_of, spoken}
 use Rattle.t1_link.specs.laws.Blocks.{frame-heard}
 use Rattle.t1_link.proofs.card_end.CardEnd.take.Goals as goal
 

@@ -16,7 +16,8 @@ use Rattle.apdu_core.specs.Requests.{Request, read_record, search_record}
 use Rattle.undo_journal.specs.Calls.{OnlyReads}
 use Rattle.undo_journal.specs.Memory.{Memory, committed, IsReady}
 use Rattle.card_machine.specs.Served.{Serves}
-use Rattle.card_machine.specs.Working.{card_in, session_in, table_in}
+use Rattle.card_machine.specs.Working.{card_in, session_in, table_in, session_of, IsCurrent}
+use Rattle.card_machine.specs.CurrentFiles.{pointer_from, pointing_from}
 use Rattle.ef_body.specs.declared.cyclic.Cyclic.{Cyclic as Ring}
 use Rattle.ef_body.specs.declared.slot.RecordSlot.{RecordSlot}
 use Rattle.ef_body.specs.Bodies.{cyclic_records, IsCyclic}
@@ -32,7 +33,7 @@ use Rattle.card_machine.specs.Cards.{Card, Kind, Path}
 use Rattle.card_machine.specs.Counting.{CountsServed}
 use Rattle.card_machine.specs.Elementary.{file_refusals, target_kind, target_path, with_limits}
 use Rattle.card_machine.specs.Lengths.{asks_less, given, length_refusal, right_length}
-use Rattle.card_machine.specs.Outcomes.{refused, refused_by, Refusal, Refusals}
+use Rattle.card_machine.specs.Outcomes.{refused, refused_by, Refusal, Refusals, outcome}
 use Rattle.card_machine.specs.Records.{has_records, next_record, place_number, pointer_after, pointer_at, pointer_found}
 use Rattle.card_machine.specs.Records.{matches, no_record}
 use Rattle.card_machine.specs.declared.named.Structure.TheVariants.{Records}
@@ -41,15 +42,13 @@ use Rattle.card_machine.specs.Sessions.{Session}
 use Rattle.card_machine.specs.Standing.{card_of, IsCard}
 use Rattle.card_machine.specs.Steps.{effect, refusals_of, served}
 use Rattle.card_contents.specs.RecordParts.{chosen_in, has_in}
-use Rattle.card_machine.specs.Working.{outcome, pointer_from, pointing_from, session_of}
-use Rattle.card_machine.specs.Working.{IsCurrent}
 use Rattle.card_contents.specs.RecordParts.{IsRecordFile}
 use Rattle.card_contents.proofs.RecordBodies.{file-agrees, has-slot, Agree}
 use Rattle.card_machine.specs.laws.Entries.{there}
 use Rattle.card_machine.specs.laws.Guarding.{guarded-first, guarded-free, guarded-refused, named-kind, named-path}
 use Rattle.card_machine.specs.laws.Guarding.{served-done, served-refused}
 use Rattle.card_machine.specs.laws.Serves.{declined}
-use Rattle.card_contents.proofs.Serving.{named-current, naming-entry}
+use Rattle.card_contents.proofs.BinaryServes.{named-current, naming-entry}
 
 -- where a look finds no record, that refuses the command
 pub gone-status : (has : Bool) (status : Sw) → (if has then None else Some RECORD_NOT_FOUND) ≡ Some status

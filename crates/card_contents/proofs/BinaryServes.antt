@@ -46,20 +46,20 @@ use Rattle.file_tree.specs.laws.Indexed.{places_same}
 use Rattle.card_machine.specs.declared.current.Current.{Current as CurrentFiles}
 use Rattle.card_machine.specs.declared.named.Need.{Need}
 use Rattle.card_machine.specs.declared.named.Structure.TheVariants.{Bytes}
-use Rattle.card_machine.specs.Binaries.{read_response}
+use Rattle.card_machine.specs.Binaries.{read_response, end_status}
 use Rattle.card_machine.specs.Comparing.{comparisons, ComparesBy}
 use Rattle.card_machine.specs.Elementary.{naming}
 use Rattle.card_machine.specs.Cards.{with_content}
-use Rattle.card_machine.specs.Outcomes.{Response, refused, only_status}
+use Rattle.card_machine.specs.Outcomes.{Response, refused, only_status, outcome}
 use Rattle.card_machine.specs.Sessions.{marked}
 use Rattle.card_machine.specs.laws.FoundLaws.{same-of}
 use Rattle.card_machine.specs.Served.{IsDoing, Serves}
 use Rattle.card_machine.specs.Spending.{most_writes}
 use Rattle.card_machine.specs.Standing.{card_of, IsCard}
 use Rattle.card_machine.specs.Steps.{served}
-use Rattle.card_machine.specs.Working.{card_in, end_status, named_from, outcome, session_in, session_of, space_in}
-use Rattle.card_machine.specs.Working.{table_in}
-use Rattle.card_machine.specs.Working.{IsCurrent, IsElementary, IsNamed}
+use Rattle.card_machine.specs.Working.{card_in, session_in, session_of, space_in, table_in, IsCurrent, IsElementary}
+use Rattle.card_machine.specs.CurrentFiles.{named_from}
+use Rattle.card_machine.specs.NamedFiles.{IsNamed}
 use Rattle.card_contents.proofs.BinarySteps.{read-past, read-within, update-commits, update-decided, update-past}
 use Rattle.card_contents.proofs.BinarySteps.{update-within}
 use Rattle.card_machine.specs.laws.Doing.{doing-one}

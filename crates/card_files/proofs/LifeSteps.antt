@@ -34,12 +34,12 @@ use Rattle.file_tree.specs.laws.Tables.{length-table}
 use Rattle.card_machine.specs.declared.current.Current.{Current}
 use Rattle.card_files.specs.declared.life_cycles.Changed.{Changed}
 use Rattle.card_machine.specs.Cards.{Card, Path, dedicated, elementary, file_at}
-use Rattle.card_files.specs.Changing.{change_at, changed_by, current_changed, is_for_kind, IsChanged}
+use Rattle.card_files.specs.LifeParts.{change_at, changed_by, current_changed, is_for_kind, IsChanged}
 use Rattle.card_machine.specs.Guards.{allowed}
 use Rattle.card_machine.specs.LifeCycles.{change_bit, change_refusals, changed_file, changed_path, command_of}
 use Rattle.card_machine.specs.LifeCycles.{current_subject, is_for}
 use Rattle.card_machine.specs.LifeCycles.{changed_card, changed_life, life_changed, no_subject, with_life_at}
-use Rattle.card_machine.specs.Outcomes.{only_status, refused_by, unless_refused}
+use Rattle.card_machine.specs.Outcomes.{only_status, refused_by, unless_refused, outcome}
 use Rattle.card_machine.specs.Reaching.{current_elementary, subject_or}
 use Rattle.card_machine.specs.Sessions.{Session}
 use Rattle.card_machine.specs.Selecting.{selecting}
@@ -48,7 +48,8 @@ use Rattle.card_machine.specs.Stages.{commits}
 use Rattle.card_machine.specs.LifeCycles.{life_commits}
 use Rattle.card_machine.specs.Standing.{card_of, IsCard}
 use Rattle.card_machine.specs.Steps.{effect, refusals_of, served}
-use Rattle.card_machine.specs.Working.{current_at, outcome, session_of, IsCurrent, IsElementary}
+use Rattle.card_machine.specs.Working.{session_of, IsCurrent, IsElementary}
+use Rattle.card_machine.specs.CurrentFiles.{current_at}
 use Rattle.card_machine.specs.laws.Doing.{doing-one}
 use Rattle.card_machine.specs.laws.Entries.{card-tree, current-entry, current-path, selecting-entry}
 use Rattle.card_machine.specs.laws.Keeping.{files-after, files-stand}
