@@ -33,7 +33,8 @@ pub fn standing_card_is_found()
     ensures { (m : List ℕ) (c : Card) → IsMemory m → StandsFor m c → Finds m c }
 {}
 
-/// The card that is found is proper: what it holds are bytes, and no record, name or rule is too long.
+/// The card that is found is proper: what it holds are bytes, each record is as long as those of its file are, and no
+/// record, name or rule is too long.
 pub fn found_is_proper()
     ensures { (m : List ℕ) → HasCard m → IsProper (found m) }
 {}

@@ -6,19 +6,20 @@ use Rattle.pin_store.specs.Pins.{HasFewTries}
 use Rattle.card_machine.specs.Cards.{Body, Card, File, Kind, Path, transparent, linear, cyclic, dedicated, elementary}
 use Rattle.card_machine.specs.Cards.{identifier}
 
--- a record is at most 255 bytes
-pub record IsRecord (text : List ℕ) : Type 0 where
+-- a record of so many bytes
+pub record IsRecord (long : ℕ) (text : List ℕ) : Type 0 where
   pub bytes : AreBytes text
-  pub size : length text ≤ 255
+  pub size : length text ≡ long
 
 -- bytes of a file, at most 32,767
 pub record IsContent (content : List ℕ) : Type 0 where
   pub bytes : AreBytes content
   pub size : length content ≤ 32767
 
--- Records: at most as many as there is room for, which is at most 254, and at most 32,767 bytes.
+-- Records of one length, which is at most 255 bytes: at most as many as there is room for, which is at most 254, and at
+-- most 32,767 bytes.
 pub record AreRecords (long most : ℕ) (records : List (List ℕ)) : Type 0 where
-  pub each : All IsRecord records
+  pub each : All (IsRecord long) records
   pub record_length : long ≤ 255
   pub room : most * long ≤ 32767
   pub capacity : most ≤ 254

@@ -3,6 +3,8 @@ use Rattle.std.specs.Prelude.{◌≡◌, ◌≢◌, ◌<◌, ◌≤◌, ◌+◌,
 use Rattle.std.specs.Prelude.{if◌then◌else◌, List, [], ◌∷◌, length, map, take, drop}
 use Rattle.std.specs.Prelude.{get_or, slice_index, All, Option, Some, None}
 use Rattle.std.proofs.Common.{arith, ap, subst, sym, ◌∙◌, refl, length-take, inl, inr, true≢false}
+use Rattle.std.proofs.Math.Nat.{mod-lt}
+use Rattle.std.proofs.lemmas.List.{length-append}
 use Rattle.std.proofs.lemmas.List.Elements.{All-nil, All-append, All-take, All-drop, All-map}
 use Rattle.std.proofs.lemmas.Bool.Decides.{eqb_tells}
 use Rattle.std.proofs.lemmas.List.FromFn.{get_or-range_with_len, length-map-range_with_len, length-range_with_len}
@@ -10,17 +12,23 @@ use Rattle.std.specs.List.{flat_map, range_with_len}
 use Rattle.std.specs.Option.{option_map_or}
 use Rattle.std.specs.FinMap.{get}
 use Rattle.apdu_core.specs.OfBytes.{AreBytes}
+use Rattle.nvm_board.specs.Facts.{address}
+use Rattle.nvm_board.specs.declared.board.TheConstants.{PAGE_WORDS}
 use Rattle.block_chain.specs.declared.chain.Extent.{Extent}
+use Rattle.block_chain.specs.declared.layout.TheConstants.{BLOCK_BYTES}
 use Rattle.block_chain.specs.Chains.{bytes_of}
-use Rattle.block_chain.specs.Layout.{blocks_of}
+use Rattle.block_chain.specs.Layout.{blocks_of, IsExtent}
 use Rattle.block_chain.specs.Words.{word_bytes, page_words, block_bytes}
-use Rattle.block_chain.specs.laws.Words.{word_bytes-bytes}
+use Rattle.block_chain.specs.laws.Bytes.{leads_blocks, AreBlocks}
+use Rattle.block_chain.specs.laws.Words.{length-block_bytes, word_bytes-bytes}
+use Rattle.ef_body.specs.laws.Slots.{length-slot, slot-within}
 use Rattle.file_tree.specs.declared.entry.Entry.{Entry}
 use Rattle.file_tree.specs.Cards.{File, Path, dedicated, elementary, transparent, linear, cyclic, identifier}
 use Rattle.file_tree.specs.Entries.{free_entry, body_of, capacity_of, cyclic_records, entry_of, entry_told, extent_of}
-use Rattle.file_tree.specs.Entries.{file_of, kind_of, linear_records, name_of, slot}
+use Rattle.file_tree.specs.Entries.{extent_told, file_of, kind_of, linear_records, name_of, slot}
 use Rattle.file_tree.specs.Table.{table, entry_in, path_of, IsFileEntry, IsRecordBody, IsTransparentBody, IsUsed}
 use Rattle.file_tree.specs.Trees.{content, tree_of, TreeStands}
+use Rattle.file_tree.specs.laws.Costs.{all_extents, extent_of-some}
 use Rattle.file_tree.specs.laws.Nodes.{entry_found, used_small}
 use Rattle.file_tree.specs.laws.Paths.{identifier_path}
 use Rattle.file_tree.specs.laws.Tables.{entry_in-table, entry_of-free, entry_of-used, length-table}
@@ -88,34 +96,65 @@ bytes-entry words used = elim (eqb_tells (slice_index words 0) 0) [
   | inr some ↦ subst HasBytes (sym (entry_of-used words some.1)) (bytes-told words)
 ]
 
--- a record of a file
-proper-slot : (entry : Entry) (bytes : List ℕ) (i : ℕ) → entry.record_length ≤ 255 → AreBytes bytes
-    → IsRecord (slot entry bytes i)
-proper-slot entry bytes i short all =
-    let from = i * entry.record_length in
-    let some = length-take (from + entry.record_length - from) (drop from bytes) in
+-- Blocks have all their bytes, in a memory of any length: each of them is one of its pages.
+length-blocks : (m ps : List ℕ) → AreBlocks m ps → length (bytes_of m ps) ≡ BLOCK_BYTES * length ps
+unfolding bytes_of
+length-blocks m [] blocks = refl
+length-blocks m (p ∷ ps) blocks =
+    let both = length-append (block_bytes m p) (bytes_of m ps) in
+    let page = blocks.0.1 in
+    let within : address p PAGE_WORDS ≤ length m = omega (arith, page) in
+    let one = length-block_bytes m p within in
+    let more = length-blocks m ps blocks.1 in omega (arith, both, one, more)
+
+-- and so the bytes of its blocks are at least as many as its entry says
+room-content : (m : List ℕ) → TreeStands m → (e : ℕ) → e < 64 → 2 ≤ (entry_in (table m) e).kind
+    → (entry_in (table m) e).size ≤ length (content m (entry_in (table m) e))
+unfolding content
+room-content m stands e below high =
+    let entry = entry_in (table m) e in
+    let told = extent_told entry in
+    let some = extent_of-some entry high in
+    let extent : IsExtent m told = all_extents (λ x. IsExtent m x) (table m) stands.blocks.each e
+    (let l = length-table m in omega (arith, l, below)) told some in
+    let blocks = extent.blocks in
+    let long = length-blocks m (blocks_of m told) (leads_blocks m told.chain.first 0 (blocks_of m told) extent.leads) in
+    let is : length (content m entry) ≡ length (bytes_of m (blocks_of m told)) =
+    ap (λ (o : Option Extent). length (option_map_or (λ x. bytes_of m (blocks_of m x)) o [])) some in
+    omega (arith, long, blocks, is)
+
+-- a slot of a file with room for some
+proper-slot : (entry : Entry) (bytes : List ℕ) (i : ℕ) → i < capacity_of entry
+    → capacity_of entry * entry.record_length ≤ length bytes → AreBytes bytes
+    → IsRecord entry.record_length (slot entry bytes i)
+proper-slot entry bytes i below room all =
+    let long = entry.record_length in
+    let from = i * long in
+    let within = slot-within long i (capacity_of entry) below in
     record {
-      bytes = All-take byte (from + entry.record_length - from) (drop from bytes) (All-drop byte from bytes all);
-      size = omega (arith, some, short);
+      bytes = All-take byte (from + long - from) (drop from bytes) (All-drop byte from bytes all);
+      size = length-slot long bytes i (omega (arith, within, room));
     }
 
-proper-records : (entry : Entry) (bytes : List ℕ) (place : ℕ → ℕ) (ks : List ℕ) → entry.record_length ≤ 255
-    → AreBytes bytes
-    → All IsRecord (map (λ i. slot entry bytes (place i)) ks)
-proper-records entry bytes place ks short all =
-    All-map IsRecord (λ i. slot entry bytes (place i)) ks (λ k d lt. proper-slot entry bytes (place _) short all)
-
--- the records of a file with room for some
-are-records : (entry : Entry) (bytes : List ℕ) (place : ℕ → ℕ) → IsRecordBody entry → AreBytes bytes
+-- the records of a file, each in a slot
+are-records : (entry : Entry) (bytes : List ℕ) (place : ℕ → ℕ) → IsRecordBody entry → entry.size ≤ length bytes
+    → AreBytes bytes → ((k : ℕ) → k < entry.records → place k < capacity_of entry)
     → AreRecords entry.record_length (capacity_of entry)
     (map (λ i. slot entry bytes (place i)) (range_with_len 0 entry.records))
-are-records entry bytes place body all =
+are-records entry bytes place body enough all inside =
     let long = length-map-range_with_len (λ i. slot entry bytes (place i)) 0 entry.records in
+    let numbers = length-range_with_len 0 entry.records in
     let room = body.multiple in
     let size = body.size in
     let few = body.records in
     record {
-      each = proper-records entry bytes place (range_with_len 0 entry.records) body.record_length all;
+      each = All-map (IsRecord entry.record_length) (λ i. slot entry bytes (place i)) (range_with_len 0 entry.records)
+          (λ k d lt.
+          let below : k < entry.records = omega (arith, lt, numbers) in
+          let at = get_or-range_with_len 0 entry.records k d below in
+          let small : get_or (range_with_len 0 entry.records) k d < entry.records = omega (arith, at, below) in
+          proper-slot entry bytes (place (get_or (range_with_len 0 entry.records) k d))
+          (inside (get_or (range_with_len 0 entry.records) k d) small) (omega (arith, room, enough)) all);
       record_length = body.record_length;
       room = omega (arith, room, size);
       capacity = body.capacity;
@@ -123,17 +162,20 @@ are-records entry bytes place body all =
     }
 
 proper-body : (entry : Entry) (bytes : List ℕ) (two three : Bool) → (two ≡ true → IsTransparentBody entry)
-    → (two ≡ false → IsRecordBody entry)
+    → (two ≡ false → IsRecordBody entry) → entry.size ≤ length bytes
     → AreBytes bytes → IsProperBody (if two then transparent (take entry.size bytes) else
     if three then linear entry.record_length (capacity_of entry) (linear_records entry bytes) else
     cyclic entry.record_length (capacity_of entry) (cyclic_records entry bytes))
-proper-body entry bytes true three of_bytes of_records all =
+proper-body entry bytes true three of_bytes of_records enough all =
     let some = length-take entry.size bytes in
     let most = (of_bytes refl).size in
     record { bytes = All-take byte entry.size bytes all; size = omega (arith, some, most) }
-proper-body entry bytes false true of_bytes of_records all = are-records entry bytes (λ i. i) (of_records refl) all
-proper-body entry bytes false false of_bytes of_records all =
-    are-records entry bytes (λ i. (entry.start + i) % capacity_of entry) (of_records refl) all
+proper-body entry bytes false true of_bytes of_records enough all =
+    let few = (of_records refl).records in
+    are-records entry bytes (λ i. i) (of_records refl) enough all (λ k lt. omega (arith, lt, few))
+proper-body entry bytes false false of_bytes of_records enough all =
+    are-records entry bytes (λ i. (entry.start + i) % capacity_of entry) (of_records refl) enough all
+    (λ k lt. mod-lt (entry.start + k) (of_records refl).room)
 
 proper-name : (none : Bool) (name : List ℕ) → AreBytes name → length name ≤ 16
     → IsProperName (if none then None else Some name)
@@ -152,8 +194,8 @@ pub other-of : (a b : ℕ) → (a == b) ≡ false → a ≢ b
 other-of a b is = elim (eqb_tells a b) [ inl same ↦ absurd (true≢false (sym same.0 ∙ is)) | inr other ↦ other.1 ]
 
 proper-kind : (entry : Entry) (bytes : List ℕ) → IsFileEntry entry → entry.kind ≢ 0 → HasBytes entry
-    → AreBytes bytes → IsProperKind (kind_of entry bytes)
-proper-kind entry bytes file used has all = by_kind (entry.kind == 1) refl
+    → (2 ≤ entry.kind → entry.size ≤ length bytes) → AreBytes bytes → IsProperKind (kind_of entry bytes)
+proper-kind entry bytes file used has enough all = by_kind (entry.kind == 1) refl
   where
     by_kind : (one : Bool) → (entry.kind == 1) ≡ one → IsProperKind (if one then dedicated (if entry.name_length == 0
         then None else Some (name_of entry))
@@ -166,7 +208,7 @@ proper-kind entry bytes file used has all = by_kind (entry.kind == 1) refl
       proper-short (entry.short == 0) entry.short file.short.most,
       proper-body entry bytes (entry.kind == 2) (entry.kind == 3)
           (λ two. file.body.transparent (same-of entry.kind 2 two)) (λ two. of_records (other-of entry.kind 1 is)
-          (other-of entry.kind 2 two)) all,
+          (other-of entry.kind 2 two)) (enough (let one = other-of entry.kind 1 is in omega (arith, one, used))) all,
     )
       where
         of_records : entry.kind ≢ 1 → entry.kind ≢ 2 → IsRecordBody entry
@@ -179,14 +221,14 @@ proper-kind entry bytes file used has all = by_kind (entry.kind == 1) refl
         ]
 
 proper-entry : (entry : Entry) (bytes : List ℕ) → IsFileEntry entry → entry.kind ≢ 0 → HasBytes entry
-    → AreBytes bytes → IsProperFile (file_of entry bytes)
+    → (2 ≤ entry.kind → entry.size ≤ length bytes) → AreBytes bytes → IsProperFile (file_of entry bytes)
 unfolding file_of
-proper-entry entry bytes file used has all =
+proper-entry entry bytes file used has enough all =
     let some = length-take entry.rule_length entry.rule in let most = file.rule.most in
     record {
       rule = All-take byte entry.rule_length entry.rule has.rule;
       rule_size = omega (arith, some, most);
-      kind = proper-kind entry bytes file used has all;
+      kind = proper-kind entry bytes file used has enough all;
     }
 
 -- an entry's bytes, by its page
@@ -207,7 +249,7 @@ proper-file m stands path file is =
     let entry = entry_in (table m) e in
     let rules = (stands.entries.each e free_entry (let l = length-table m in omega (arith, l, below))).used used in
     subst IsProperFile (sym at.3) (proper-entry entry (content m entry) rules used (entry-bytes m e used)
-    (bytes-content m entry))
+    (room-content m stands e below) (bytes-content m entry))
 
 small-identifier : (m : List ℕ) → TreeStands m → (path : Path) (file : File) → get (tree_of m) path ≡ Some file
     → identifier path < 65536

@@ -51,11 +51,8 @@ module _ (c : Card) (s : Session) (proper : IsProper c) (sent : List ℕ) (all :
   sum_length =
       let kind = increased_kind c s in length-spelled (record_length kind) (raised_number (records_of kind) sent)
 
-  fine-sum : IsRecord (sum_record c s sent)
-  fine-sum =
-      let long = sum_length in
-      let short = current_records.record_length in
-      record { bytes = sum_bytes; size = omega (arith, long, short) }
+  fine-sum : IsRecord (record_length (increased_kind c s)) (sum_record c s sent)
+  fine-sum = record { bytes = sum_bytes; size = sum_length }
 
   -- the new record and what was sent
   text-increased : record_length (increased_kind c s) + length sent ≤ 256 → IsText (increased_data c s sent)

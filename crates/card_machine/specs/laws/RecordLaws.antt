@@ -6,7 +6,7 @@ use Rattle.std.proofs.Common.{arith, sym, refl, lit<, length-take, length-set, t
 use Rattle.std.proofs.lemmas.Bool.{and_parts, eqb-true, leb-false, leb-true, not-false, or_left}
 use Rattle.std.proofs.lemmas.List.{length-append}
 use Rattle.std.proofs.lemmas.List.Elements.{All-nil, All-cons, All-push, All-take, All-set}
-use Rattle.std.proofs.lemmas.List.Elements.{All-filter, All-from_get_or}
+use Rattle.std.proofs.lemmas.List.Elements.{All-filter, All-from_get_or, All-weaker}
 use Rattle.card_rules.specs.declared.direction.Direction.{Direction}
 use Rattle.card_rules.specs.declared.direction.Direction.TheVariants.{Backward, Forward}
 use Rattle.card_rules.specs.declared.status.TheConstants.Sw.{DONE}
@@ -44,23 +44,23 @@ byte number = number < 256
 
 -- what a file holds of records; another file holds none
 pub record HoldsRecords (kind : Kind) : Type 0 where
-  pub each : All IsRecord (records_of kind)
+  pub each : All (IsRecord (record_length kind)) (records_of kind)
   pub record_length : record_length kind ≤ 255
   pub capacity : capacity_of kind ≤ 254
   pub number : length (records_of kind) ≤ capacity_of kind
 
-no_records : All IsRecord []
-no_records = All-nil IsRecord
+no_records : (long : ℕ) → All (IsRecord long) []
+no_records long = All-nil (IsRecord long)
 
 holds-records : (kind : Kind) → IsProperKind kind → HoldsRecords kind
 holds-records (dedicated name) proper = record {
-  each = no_records;
+  each = no_records 0;
   record_length = omega arith;
   capacity = omega arith;
   number = omega arith;
 }
 holds-records (elementary short (transparent bytes)) proper = record {
-  each = no_records;
+  each = no_records 0;
   record_length = omega arith;
   capacity = omega arith;
   number = omega arith;
@@ -80,7 +80,7 @@ holds-records (elementary short (cyclic long capacity records)) proper = record 
 
 -- records that are as well as those that a file had
 pub record AreFine (kind : Kind) (records : List (List ℕ)) : Type 0 where
-  pub each : All IsRecord records
+  pub each : All (IsRecord (record_length kind)) records
   pub number : length records ≤ capacity_of kind
 
 proper-with_records : (kind : Kind) (records : List (List ℕ)) → IsProperKind kind → AreFine kind records
@@ -117,17 +117,20 @@ proper-with_records_at c path records small proper fine =
     (record { rule = was.rule; rule_size = was.rule_size; kind = proper-with_records file.kind records was.kind fine })
 
 -- a record in front of the others, of which at most so many are left
-pub fine-front : (kind : Kind) (n : ℕ) (new : List ℕ) (records : List (List ℕ)) → n ≤ capacity_of kind → IsRecord new
-    → All IsRecord records → AreFine kind (front n new records)
+pub fine-front : (kind : Kind) (n : ℕ) (new : List ℕ) (records : List (List ℕ)) → n ≤ capacity_of kind
+    → IsRecord (record_length kind) new → All (IsRecord (record_length kind)) records
+    → AreFine kind (front n new records)
 fine-front kind n new records few fine all =
     let some = length-take n (new ∷ records) in
     record {
-      each = All-take IsRecord n (new ∷ records) (All-cons IsRecord new records fine all);
+      each = All-take (IsRecord (record_length kind)) n (new ∷ records)
+          (All-cons (IsRecord (record_length kind)) new records fine all);
       number = omega (arith, some, few);
     }
 
 -- one of them is another
-fine-updated : (kind : Kind) (test : Bool) (i : ℕ) (new : List ℕ) → HoldsRecords kind → IsRecord new
+fine-updated : (kind : Kind) (test : Bool) (i : ℕ) (new : List ℕ) → HoldsRecords kind
+    → IsRecord (record_length kind) new
     → AreFine kind (if test then front (length (records_of kind)) new (records_of kind) else
     slice_set (records_of kind) i new)
 fine-updated kind true i new holds fine =
@@ -135,18 +138,21 @@ fine-updated kind true i new holds fine =
 fine-updated kind false i new holds fine =
     let long = length-set (records_of kind) i new in
     let few = holds.number in
-    record { each = All-set IsRecord (records_of kind) i new fine holds.each; number = omega (arith, long, few) }
+    record {
+      each = All-set (IsRecord (record_length kind)) (records_of kind) i new fine holds.each;
+      number = omega (arith, long, few);
+    }
 
 -- one more, where a linear file has room
 fine-appended : (kind : Kind) (new : List ℕ) → HoldsRecords kind → has_records kind ≡ true
-    → (is_linear kind && nat_le (capacity_of kind) (length (records_of kind))) ≡ false → IsRecord new
-    → AreFine kind (appended_records kind new)
+    → (is_linear kind && nat_le (capacity_of kind) (length (records_of kind))) ≡ false
+    → IsRecord (record_length kind) new → AreFine kind (appended_records kind new)
 fine-appended (dedicated name) new holds some room fine = absurd (true≢false (sym some))
 fine-appended (elementary short (transparent bytes)) new holds some room fine = absurd (true≢false (sym some))
 fine-appended (elementary short (linear long capacity records)) new holds some room fine =
     let few = leb-false capacity (length records) room in
     let more = length-append records (new ∷ []) in
-    record { each = All-push IsRecord records new holds.each fine; number = omega (arith, few, more) }
+    record { each = All-push (IsRecord long) records new holds.each fine; number = omega (arith, few, more) }
 fine-appended (elementary short (cyclic long capacity records)) new holds some room fine =
     let kind = elementary short (cyclic long capacity records) in
     let same : capacity ≤ capacity = omega arith in
@@ -183,12 +189,19 @@ search-word [] = lit< tt
 search-word (number ∷ numbers) = lit< tt
 
 -- bytes of the length of a record
-record-new : (kind : Kind) (bytes : List ℕ) → HoldsRecords kind → AreBytes bytes
-    → not (length bytes == record_length kind) ≡ false → IsRecord bytes
-record-new kind bytes holds all is =
-    let long = eqb-true (length bytes) (record_length kind) (not-false (length bytes == record_length kind) is) in
+record-new : (kind : Kind) (bytes : List ℕ) → AreBytes bytes
+    → not (length bytes == record_length kind) ≡ false → IsRecord (record_length kind) bytes
+record-new kind bytes all is = record {
+  bytes = all;
+  size = eqb-true (length bytes) (record_length kind) (not-false (length bytes == record_length kind) is);
+}
+
+-- a record fits an answer
+text-record : (kind : Kind) (bytes : List ℕ) → HoldsRecords kind → IsRecord (record_length kind) bytes → IsText bytes
+text-record kind bytes holds proper =
+    let long = proper.size in
     let short = holds.record_length in
-    record { bytes = all; size = omega (arith, long, short) }
+    record { bytes = proper.bytes; size = omega (arith, long, short) }
 
 -- what UPDATE RECORD is for has records
 replaced-records : (choice : RecordChoice) (kind : Kind) → replaces choice kind ≡ true → has_records kind ≡ true
@@ -212,13 +225,14 @@ module _ (c : Card) (s : Session) (proper : IsProper c) (target : Target) where
 
   pub fine-record_read : (choice : RecordChoice) → IsFine (record_read c s target choice)
   fine-record_read choice =
-      let none : IsRecord [] = record { bytes = no_bytes; size = omega arith } in
-      let text = at-or IsRecord (records_of (target_kind c s target)) (target_number c s target choice - 1) [] none
-      holds.each in
-      let short = text.size in
+      let kind = target_kind c s target in
+      let none : IsText [] = record { bytes = no_bytes; size = omega arith } in
+      let texts = All-weaker (IsRecord (record_length kind)) IsText
+      (λ (bytes : List ℕ) proper_record. text-record kind bytes holds proper_record) (records_of kind) holds.each in
+      let text = at-or IsText (records_of kind) (target_number c s target choice - 1) [] none texts in
       record {
         card = proper;
-        response = record { size = omega (arith, short); bytes = text.bytes; status = lit< tt };
+        response = record { size = text.size; bytes = text.bytes; status = lit< tt };
       }
 
   pub fine-record_updated : (choice : RecordChoice) (bytes : List ℕ) → AreBytes bytes
@@ -233,7 +247,7 @@ module _ (c : Card) (s : Session) (proper : IsProper c) (target : Target) where
       record {
         card = proper-target (updated_records kind number bytes) some
             (fine-updated kind (is_cyclic kind) (number - 1) bytes holds
-            (record-new kind bytes holds all known.1.1.1.1.1.0));
+            (record-new kind bytes all known.1.1.1.1.1.0));
         response = short-status DONE (lit< tt);
       }
 
@@ -246,7 +260,7 @@ module _ (c : Card) (s : Session) (proper : IsProper c) (target : Target) where
       let some = not-false (has_records kind) known.1.1.0 in
       record {
         card = proper-target (appended_records kind bytes) some
-            (fine-appended kind bytes holds some known.1.1.1.1.0 (record-new kind bytes holds all known.1.1.1.1.1.0));
+            (fine-appended kind bytes holds some known.1.1.1.1.0 (record-new kind bytes all known.1.1.1.1.1.0));
         response = short-status DONE (lit< tt);
       }
 

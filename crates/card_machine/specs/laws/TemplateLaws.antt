@@ -318,14 +318,15 @@ proper-records : (records : Records) → AreSmall records
 proper-records records small =
     let long = length-replicate {A = ℕ} records.record_length blank in
     let some = length-replicate {A = List ℕ} records.existing (replicate records.record_length blank) in
-    let short = small.record_length in
     let few = small.number in
+    let new_record : IsRecord records.record_length (replicate records.record_length blank) = record {
+      bytes = All-replicate byte records.record_length blank (omega arith);
+      size = long;
+    } in
     record {
-      each = All-replicate IsRecord records.existing (replicate records.record_length blank) (record {
-        bytes = All-replicate byte records.record_length blank (omega arith);
-        size = omega (arith, long, short);
-      });
-      record_length = short;
+      each = All-replicate (IsRecord records.record_length) records.existing (replicate records.record_length blank)
+          new_record;
+      record_length = small.record_length;
       room = small.room;
       capacity = small.capacity;
       number = omega (arith, some, few);
