@@ -7,12 +7,12 @@ ghost use Rattle.apdu_core.specs.Requests.{search_record as searching, update_re
 ghost use Rattle.apdu_core.specs.Sizes.{HasBetween};
 ghost use Rattle.card_machine.specs.declared.named.Structure.TheVariants as Structure;
 ghost use Rattle.card_machine.specs.Outcomes.{refused_by};
+ghost use Rattle.card_machine.specs.NamedFiles.{fits};
 ghost use Rattle.card_machine.specs.Elementary.{file_refusals};
 ghost use Rattle.card_machine.specs.Served.{Serves};
 ghost use Rattle.card_machine.specs.InPlace.{ServesInPlace};
 ghost use Rattle.card_machine.specs.Stops.{reply, Looks};
 ghost use Rattle.card_machine.specs.Working.{card_in, session_in, IsKept};
-ghost use Rattle.card_machine.specs.NamedFiles.{fits};
 ghost use Rattle.card_contents.specs.RecordParts.{need_replacing, IsRecordFile};
 ghost use Rattle.card_machine.specs.Records.{pointer_found, search_status};
 
