@@ -33,8 +33,8 @@ pub fn standing_card_is_found()
     ensures { (m : List ℕ) (c : Card) → IsMemory m → StandsFor m c → Finds m c }
 {}
 
-/// The card that is found is proper: what it holds are bytes, each record is as long as those of its file are, and no
-/// record, name or rule is too long.
+/// The card that is found is proper: what it holds are bytes, each record has the record length of its file, and each
+/// length, number and short identifier is in its range.
 pub fn found_is_proper()
     ensures { (m : List ℕ) → HasCard m → IsProper (found m) }
 {}

@@ -1,4 +1,4 @@
--- How the code asks whether the file that a command names refuses it. No clause of a card's calls names this.
+-- How the code asks whether the file that a command names refuses it. No clause of a card's calls names these.
 use Rattle.std.specs.Prelude.{◌≡◌, ◌==◌, ℕ, Bool, not, if◌then◌else◌, ◌||◌, IsTrue, List, Option, Some, None}
 use Rattle.apdu_core.specs.declared.binary.Target.{Target}
 use Rattle.card_rules.specs.declared.status.Sw.{Sw}

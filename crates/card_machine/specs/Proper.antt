@@ -1,4 +1,5 @@
--- When a card is well formed as far as its answers need: each byte that it may give is one, and no answer is too long.
+-- When a card is well formed: what it holds are bytes, each record has its file's record length, and each length, number
+-- and short identifier is in its range.
 use Rattle.std.specs.Prelude.{◌≡◌, ◌<◌, ◌≤◌, ◌*◌, ℕ, List, length, All, Option, Some, None}
 use Rattle.std.specs.FinMap.{get}
 use Rattle.apdu_core.specs.OfBytes.{AreBytes}
@@ -11,17 +12,20 @@ pub record IsRecord (long : ℕ) (text : List ℕ) : Type 0 where
   pub bytes : AreBytes text
   pub size : length text ≡ long
 
--- bytes of a file, at most 32,767
+-- bytes of a file, 1 to 32,767
 pub record IsContent (content : List ℕ) : Type 0 where
   pub bytes : AreBytes content
+  pub some : 1 ≤ length content
   pub size : length content ≤ 32767
 
--- Records of one length, which is at most 255 bytes: at most as many as there is room for, which is at most 254, and at
--- most 32,767 bytes.
+-- Records of one length, which is 1 to 255 bytes: at most as many as there is room for, which is 1 to 254 of them, and
+-- at most 32,767 bytes.
 pub record AreRecords (long most : ℕ) (records : List (List ℕ)) : Type 0 where
   pub each : All (IsRecord long) records
+  pub some : 1 ≤ long
   pub record_length : long ≤ 255
   pub room : most * long ≤ 32767
+  pub least : 1 ≤ most
   pub capacity : most ≤ 254
   pub number : length records ≤ most
 
@@ -31,19 +35,20 @@ IsProperBody (transparent bytes) = IsContent bytes
 IsProperBody (linear record_length capacity records) = AreRecords record_length capacity records
 IsProperBody (cyclic record_length capacity records) = AreRecords record_length capacity records
 
--- a name is at most 16 bytes
+-- a name is 1 to 16 bytes
 pub record IsName (name : List ℕ) : Type 0 where
   pub bytes : AreBytes name
+  pub some : 1 ≤ length name
   pub size : length name ≤ 16
 
 abbrev pub IsProperName : Option (List ℕ) → Type 0
 IsProperName None = Unit {0}
 IsProperName (Some name) = IsName name
 
--- a short identifier is at most 30
+-- a short identifier is 1 to 30
 abbrev pub IsProperShort : Option ℕ → Type 0
 IsProperShort None = Unit {0}
-IsProperShort (Some n) = n ≤ 30
+IsProperShort (Some n) = (1 ≤ n) × (n ≤ 30)
 
 abbrev pub IsProperKind : Kind → Type 0
 IsProperKind (dedicated name) = IsProperName name

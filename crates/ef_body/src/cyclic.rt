@@ -61,7 +61,7 @@ impl Cyclic {
         (1..=self.records).contains(&number)
     }
 
-    /// Looks for a slot behind the last record, the last slot being followed by none: for one record more of a linear
+    /// Looks for a free slot behind the last record, for one record more that takes the place of none: that of a linear
     /// body.
     ///
     /// # Errors

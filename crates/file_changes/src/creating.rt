@@ -210,7 +210,8 @@ fn write_file<B: Board>(
     txn.end(work)
 }
 
-/// The place of a new file in a dedicated file, or the first reason why it is refused: all entries are read, once.
+/// The place of a new file in a dedicated file, or the first reason why it is refused. The table is read once; only a
+/// short identifier that is given is looked for among the entries of the store again.
 fn find_place<B: Board>(
     store: &mut Store<B>,
     index: &Index,

@@ -1,5 +1,5 @@
 -- Steps from files to their parents, which the change of an index and a deletion make. Of public clauses only that of
--- `is_within` names these, which the crate of the changes alone calls.
+-- `is_within` names these, which of other crates that of the changes alone calls.
 use Rattle.std.specs.Prelude.{◌≡◌, ◌==◌, ◌<◌, ◌||◌, ℕ, zero, suc, Bool, List}
 use Rattle.file_tree.specs.declared.entry.Entry.{Entry}
 use Rattle.file_tree.specs.Table.{entry_in}

@@ -1,7 +1,7 @@
 -- READ BINARY and UPDATE BINARY: proper cards stay proper, and answers are short.
 use Rattle.std.specs.Prelude.{◌≡◌, ◌<◌, ◌≤◌, ◌+◌, ◌==◌, ℕ, Bool, true, false, nat_lt, List}
 use Rattle.std.specs.Prelude.{[], ◌++◌, length, take, drop, None, if◌then◌else◌}
-use Rattle.std.proofs.Common.{arith, refl, lit<, length-take, length-drop}
+use Rattle.std.proofs.Common.{arith, refl, sym, lit<, length-take, length-drop, true≢false}
 use Rattle.std.proofs.lemmas.Bool.{ltb-true, ltb-false, not-false}
 use Rattle.std.proofs.lemmas.List.{length-append}
 use Rattle.std.proofs.lemmas.List.Elements.{All-append, All-take, All-drop}
@@ -23,15 +23,18 @@ use Rattle.card_machine.specs.laws.ProperLaws.{IsFine, IsShort, either-if, no_by
 use Rattle.card_machine.specs.laws.ProperLaws.{short-status, there-identifier, unrefused-each}
 use Rattle.card_machine.specs.laws.TouchLaws.{few_blocks, few_words}
 
--- the bytes that a file holds, if it holds bytes
-empty-content : IsContent []
-empty-content = record { bytes = no_bytes; size = omega arith }
+-- the bytes that a file holds; another file holds none
+proper-bytes : (kind : Kind) → IsProperKind kind → AreBytes (bytes_of kind)
+proper-bytes (dedicated name) proper = no_bytes
+proper-bytes (elementary short (transparent bytes)) proper = proper.1.bytes
+proper-bytes (elementary short (linear size capacity records)) proper = no_bytes
+proper-bytes (elementary short (cyclic size capacity records)) proper = no_bytes
 
-proper-bytes : (kind : Kind) → IsProperKind kind → IsContent (bytes_of kind)
-proper-bytes (dedicated name) proper = empty-content
-proper-bytes (elementary short (transparent bytes)) proper = proper.1
-proper-bytes (elementary short (linear size capacity records)) proper = empty-content
-proper-bytes (elementary short (cyclic size capacity records)) proper = empty-content
+proper-content : (kind : Kind) → is_transparent kind ≡ true → IsProperKind kind → IsContent (bytes_of kind)
+proper-content (dedicated name) of_bytes proper = absurd (true≢false (sym of_bytes))
+proper-content (elementary short (transparent bytes)) of_bytes proper = proper.1
+proper-content (elementary short (linear size capacity records)) of_bytes proper = absurd (true≢false (sym of_bytes))
+proper-content (elementary short (cyclic size capacity records)) of_bytes proper = absurd (true≢false (sym of_bytes))
 
 proper-with_bytes : (kind : Kind) (bytes : List ℕ) → IsProperKind kind → IsContent bytes
     → IsProperKind (with_bytes kind bytes)
@@ -48,12 +51,14 @@ proper-overwrite bytes offset new within content all_new =
     let back = length-drop (offset + length new) bytes in
     let behind = length-append new (drop (offset + length new) bytes) in
     let whole = length-append (take offset bytes) (new ++ drop (offset + length new) bytes) in
+    let least = content.some in
     let most = content.size in
     record {
       bytes = All-append byte (take offset bytes) (new ++ drop (offset + length new) bytes)
           (All-take byte offset bytes content.bytes)
           (All-append byte new (drop (offset + length new) bytes) all_new
           (All-drop byte (offset + length new) bytes content.bytes));
+      some = omega (arith, front, back, behind, whole, least, within);
       size = omega (arith, front, back, behind, whole, most, within);
     }
 
@@ -91,14 +96,15 @@ short-read rest expected small all =
     (short-within (nat_lt (length rest) expected) rest expected refl small all)
 
 module _ (c : Card) (s : Session) (proper : IsProper c) (target : Target) (offset : ℕ) where
-  proper-target : IsContent (target_bytes c s target)
-  proper-target = proper-bytes _ (proper-file_at c (target_path c s target) proper).kind
+  proper-target : IsProperKind (target_kind c s target)
+  proper-target = (proper-file_at c (target_path c s target) proper).kind
 
   pub fine-read : (expected : ℕ) → expected < 256 → IsFine (binary_read c s target offset expected)
   fine-read expected small = record {
     card = proper;
     response = short-read (drop offset (target_bytes c s target)) expected small
-        (All-drop (λ number. number < 256) offset (target_bytes c s target) proper-target.bytes);
+        (All-drop (λ number. number < 256) offset (target_bytes c s target)
+        (proper-bytes (target_kind c s target) proper-target));
   }
 
   pub fine-update : (bytes : List ℕ) → AreBytes bytes → refused_by (update_refusals c s target offset bytes) ≡ None
@@ -112,7 +118,8 @@ module _ (c : Card) (s : Session) (proper : IsProper c) (target : Target) (offse
       record {
         card = proper-with_content c path (overwrite (target_bytes c s target) offset bytes)
             (there-identifier c path (λ (file : File). is_transparent file.kind) proper refl of_bytes) proper
-            (proper-overwrite (target_bytes c s target) offset bytes within proper-target all);
+            (proper-overwrite (target_bytes c s target) offset bytes within
+            (proper-content (target_kind c s target) of_bytes proper-target) all);
         response = short-status DONE (lit< tt);
       }
 

@@ -77,16 +77,18 @@ bytes-content m entry = by_extent (extent_of entry)
     by_extent None = no_bytes
     by_extent (Some extent) = bytes-blocks m (blocks_of m extent)
 
--- the bytes that an entry has for its rule and its name, and its identifier
+-- the bytes that an entry has for its rule and its name, 16 for the name, and its identifier
 record HasBytes (entry : Entry) : Type 0 where
   rule : AreBytes entry.rule
   name : AreBytes entry.name
+  name_room : length entry.name ≡ 16
   identifier : entry.identifier < 65536
 
 bytes-told : (words : List ℕ) → HasBytes (entry_told words)
 bytes-told words = record {
   rule = bytes-at words (range_with_len 2 2);
   name = bytes-at words (range_with_len 4 4);
+  name_room = refl;
   identifier = omega arith;
 }
 
@@ -155,8 +157,10 @@ are-records entry bytes place body enough all inside =
           let small : get_or (range_with_len 0 entry.records) k d < entry.records = omega (arith, at, below) in
           proper-slot entry bytes (place (get_or (range_with_len 0 entry.records) k d))
           (inside (get_or (range_with_len 0 entry.records) k d) small) (omega (arith, room, enough)) all);
+      some = body.some;
       record_length = body.record_length;
       room = omega (arith, room, size);
+      least = body.room;
       capacity = body.capacity;
       number = omega (arith, long, few);
     }
@@ -167,9 +171,14 @@ proper-body : (entry : Entry) (bytes : List ℕ) (two three : Bool) → (two ≡
     if three then linear entry.record_length (capacity_of entry) (linear_records entry bytes) else
     cyclic entry.record_length (capacity_of entry) (cyclic_records entry bytes))
 proper-body entry bytes true three of_bytes of_records enough all =
-    let some = length-take entry.size bytes in
+    let long = length-take entry.size bytes in
+    let least = (of_bytes refl).some in
     let most = (of_bytes refl).size in
-    record { bytes = All-take byte entry.size bytes all; size = omega (arith, some, most) }
+    record {
+      bytes = All-take byte entry.size bytes all;
+      some = omega (arith, long, least, enough);
+      size = omega (arith, long, most);
+    }
 proper-body entry bytes false true of_bytes of_records enough all =
     let few = (of_records refl).records in
     are-records entry bytes (λ i. i) (of_records refl) enough all (λ k lt. omega (arith, lt, few))
@@ -177,14 +186,14 @@ proper-body entry bytes false false of_bytes of_records enough all =
     are-records entry bytes (λ i. (entry.start + i) % capacity_of entry) (of_records refl) enough all
     (λ k lt. mod-lt (entry.start + k) (of_records refl).room)
 
-proper-name : (none : Bool) (name : List ℕ) → AreBytes name → length name ≤ 16
+proper-name : (none : Bool) (name : List ℕ) → AreBytes name → (none ≡ false → 1 ≤ length name) → length name ≤ 16
     → IsProperName (if none then None else Some name)
-proper-name true name all short = tt
-proper-name false name all short = record { bytes = all; size = short }
+proper-name true name all least most = tt
+proper-name false name all least most = record { bytes = all; some = least refl; size = most }
 
-proper-short : (none : Bool) (n : ℕ) → n ≤ 30 → IsProperShort (if none then None else Some n)
-proper-short true n most = tt
-proper-short false n most = most
+proper-short : (none : Bool) (n : ℕ) → (none ≡ false → 1 ≤ n) → n ≤ 30 → IsProperShort (if none then None else Some n)
+proper-short true n least most = tt
+proper-short false n least most = (least refl, most)
 
 -- what a test of two numbers tells
 pub same-of : (a b : ℕ) → (a == b) ≡ true → a ≡ b
@@ -201,11 +210,15 @@ proper-kind entry bytes file used has enough all = by_kind (entry.kind == 1) ref
         then None else Some (name_of entry))
         else elementary (if entry.short == 0 then None else Some entry.short) (body_of entry bytes))
     by_kind true is =
-        let some = length-take entry.name_length entry.name in let most = file.name.most in
+        let long = length-take entry.name_length entry.name in
+        let room = has.name_room in
+        let most = file.name.most in
         proper-name (entry.name_length == 0) (name_of entry) (All-take byte entry.name_length entry.name has.name)
-        (omega (arith, some, most))
+        (λ named. let some = other-of entry.name_length 0 named in omega (arith, long, room, some))
+        (omega (arith, long, most))
     by_kind false is = (
-      proper-short (entry.short == 0) entry.short file.short.most,
+      proper-short (entry.short == 0) entry.short
+          (λ given. let some = other-of entry.short 0 given in omega (arith, some)) file.short.most,
       proper-body entry bytes (entry.kind == 2) (entry.kind == 3)
           (λ two. file.body.transparent (same-of entry.kind 2 two)) (λ two. of_records (other-of entry.kind 1 is)
           (other-of entry.kind 2 two)) (enough (let one = other-of entry.kind 1 is in omega (arith, one, used))) all,

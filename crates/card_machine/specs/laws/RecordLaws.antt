@@ -91,8 +91,10 @@ proper-with_records (elementary short (linear long capacity old)) records proper
   proper.0,
   record {
     each = fine.each;
+    some = proper.1.some;
     record_length = proper.1.record_length;
     room = proper.1.room;
+    least = proper.1.least;
     capacity = proper.1.capacity;
     number = fine.number;
   },
@@ -101,8 +103,10 @@ proper-with_records (elementary short (cyclic long capacity old)) records proper
   proper.0,
   record {
     each = fine.each;
+    some = proper.1.some;
     record_length = proper.1.record_length;
     room = proper.1.room;
+    least = proper.1.least;
     capacity = proper.1.capacity;
     number = fine.number;
   },

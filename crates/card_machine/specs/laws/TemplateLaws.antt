@@ -119,13 +119,18 @@ proper-name None all = tt
 proper-name (Some name) all =
     by_test (λ told. IfSome told IsProperName) (nat_le 1 (length name) && nat_le (length name) 16) (Some (Some name))
     None
-    (λ is. record { bytes = all; size = leb-true (length name) 16 (both _ _ is).1 }) tt
+    (λ is. record {
+      bytes = all;
+      some = leb-true 1 (length name) (both _ _ is).0;
+      size = leb-true (length name) 16 (both _ _ is).1;
+    })
+    tt
 
--- a short identifier of at most 30
+-- a short identifier of 1 to 30
 abbrev pub IsSmallShort : ShortIdentifier → Type 0
 IsSmallShort Absent = Unit {0}
 IsSmallShort Empty = Unit {0}
-IsSmallShort (Given n) = n ≤ 30
+IsSmallShort (Given n) = (1 ≤ n) × (n ≤ 30)
 
 small-short : (found : Option (List ℕ)) → IfSome (short_of found) IsSmallShort
 small-short None = tt
@@ -133,20 +138,25 @@ small-short (Some []) = tt
 small-short (Some (b ∷ [])) =
     by_test (λ told. IfSome told IsSmallShort) ((b % 8 == 0) && nat_le 1 (b / 8) && nat_le (b / 8) 30)
     (Some (Given (b / 8))) None
-    (λ is. leb-true (b / 8) 30 (both _ _ is).1) tt
+    (λ is. (leb-true 1 (b / 8) (both _ _ (both _ _ is).0).1, leb-true (b / 8) 30 (both _ _ is).1)) tt
 small-short (Some (a ∷ b ∷ rest)) = tt
 
--- a size of at most 32,767
-small-size : (found : Option ℕ) → IfSome (size_of found) (λ size. size ≤ 32767)
+-- a size of 1 to 32,767
+abbrev pub IsSize : ℕ → Type 0
+IsSize size = (1 ≤ size) × (size ≤ 32767)
+
+small-size : (found : Option ℕ) → IfSome (size_of found) IsSize
 small-size None = tt
 small-size (Some size) =
-    by_test (λ told. IfSome told (λ n. n ≤ 32767)) (nat_le 1 size && nat_le size 32767) (Some size) None
-    (λ is. leb-true size 32767 (both _ _ is).1) tt
+    by_test (λ told. IfSome told IsSize) (nat_le 1 size && nat_le size 32767) (Some size) None
+    (λ is. (leb-true 1 size (both _ _ is).0, leb-true size 32767 (both _ _ is).1)) tt
 
 -- records in their ranges
 pub record AreSmall (records : Records) : Type 0 where
+  pub some : 1 ≤ records.record_length
   pub record_length : records.record_length ≤ 255
   pub room : records.size / records.record_length * records.record_length ≤ 32767
+  pub least : 1 ≤ records.size / records.record_length
   pub capacity : records.size / records.record_length ≤ 254
   pub number : records.existing ≤ records.size / records.record_length
 
@@ -172,8 +182,10 @@ small-records record_length existing size most =
     let both_first = both first second all_three.0 in
     let whole = div-mul-le_self size record_length in
     record {
+      some = leb-true 1 record_length both_first.0;
       record_length = leb-true record_length 255 both_first.1;
       room = omega (arith, whole, most);
+      least = leb-true 1 capacity all_four.1;
       capacity = leb-true capacity 254 all_five.1;
       number = leb-true number capacity all_six.1;
     })
@@ -182,7 +194,7 @@ small-records record_length existing size most =
 -- what is told of a file of each kind
 abbrev pub IsFineKind : FileKind → Type 0
 IsFineKind (Df name) = IsProperName name
-IsFineKind (Transparent short size) = IsSmallShort short × (size ≤ 32767)
+IsFineKind (Transparent short size) = IsSmallShort short × IsSize size
 IsFineKind (Linear short records) = IsSmallShort short × AreSmall records
 IsFineKind (Cyclic short records) = IsSmallShort short × AreSmall records
 
@@ -197,8 +209,9 @@ fine-transparent : (os : List DataObject) → IfSome (transparent_of os) IsFineK
 unfolding transparent_of
 fine-transparent os =
     through IsSmallShort IsFineKind (short_of (value_at os 0x88)) _ (small-short (value_at os 0x88)) (λ short few.
-    through (λ n. n ≤ 32767) IsFineKind (size_of (data_bytes os)) _ (small-size (data_bytes os)) (λ size most.
-    by_test (λ told. IfSome told IsFineKind) (has os 0x84) None (Some (Transparent short size)) (λ is. tt) (few, most)))
+    through IsSize IsFineKind (size_of (data_bytes os)) _ (small-size (data_bytes os)) (λ size sized.
+    by_test (λ told. IfSome told IsFineKind) (has os 0x84) None (Some (Transparent short size)) (λ is. tt)
+    (few, sized)))
 
 -- a file of records, of either order
 fine-records : (build : ShortIdentifier → Records → FileKind)
@@ -210,9 +223,9 @@ fine-records : (build : ShortIdentifier → Records → FileKind)
     IsFineKind
 fine-records build fine record_length existing os =
     through IsSmallShort IsFineKind (short_of (value_at os 0x88)) _ (small-short (value_at os 0x88)) (λ short few.
-    through (λ n. n ≤ 32767) IsFineKind (size_of (data_bytes os)) _ (small-size (data_bytes os)) (λ size most.
+    through IsSize IsFineKind (size_of (data_bytes os)) _ (small-size (data_bytes os)) (λ size sized.
     through AreSmall IsFineKind (records_of record_length existing size) _ (small-records record_length existing size
-    most) (λ records small.
+    sized.1) (λ records small.
     by_test (λ told. IfSome told IsFineKind) (has os 0x84) None (Some (build short records)) (λ is. tt)
     (fine short records few small))))
 
@@ -307,10 +320,16 @@ fine-read (tag ∷ n ∷ body) all =
     tt
 
 -- new files
-proper-content : (size : ℕ) → size ≤ 32767 → IsContent (replicate size blank)
-proper-content size most =
+proper-content : (size : ℕ) → IsSize size → IsContent (replicate size blank)
+proper-content size sized =
     let long = length-replicate {A = ℕ} size blank in
-    record { bytes = All-replicate byte size blank (omega arith); size = omega (arith, long, most) }
+    let least = sized.0 in
+    let most = sized.1 in
+    record {
+      bytes = All-replicate byte size blank (omega arith);
+      some = omega (arith, long, least);
+      size = omega (arith, long, most);
+    }
 
 proper-records : (records : Records) → AreSmall records
     → AreRecords records.record_length (records.size / records.record_length)
@@ -326,8 +345,10 @@ proper-records records small =
     record {
       each = All-replicate (IsRecord records.record_length) records.existing (replicate records.record_length blank)
           new_record;
+      some = small.some;
       record_length = small.record_length;
       room = small.room;
+      least = small.least;
       capacity = small.capacity;
       number = omega (arith, some, few);
     }
@@ -346,7 +367,7 @@ proper-short_for tree df id (Given n) few = few
 proper-short_for tree df id Absent few =
     by_test IsProperShort (nat_le 1 (low_bits id) && nat_le (low_bits id) 30 && is_none (child_by_short tree df
     (low_bits id))) (Some (low_bits id)) None
-    (λ is. leb-true (low_bits id) 30 (both _ _ (both _ _ is).0).1) tt
+    (λ is. let few = both _ _ (both _ _ is).0 in (leb-true 1 (low_bits id) few.0, leb-true (low_bits id) 30 few.1)) tt
 
 proper-short : (tree : Tree) (df : Path) (fcp : Fcp) → IsFineKind fcp.kind → IsProperShort (short_of_new tree df fcp)
 proper-short tree df fcp fine = by_kind fcp.identifier fcp.life_cycle fcp.rule fcp.kind fine

@@ -83,7 +83,7 @@ part-descriptor (elementary short (cyclic record_length capacity records)) prope
 -- 84, 88 and 80, and what follows them
 part-short : (short : Option ℕ) → IsProperShort short → IsPart (short_value (short_told short)) 1
 part-short None few = part-more [] 0 1 (lit≤ tt) part-none
-part-short (Some n) few = part-cons (n * 8) [] 0 (omega (arith, few)) part-none
+part-short (Some n) few = let most = few.1 in part-cons (n * 8) [] 0 (omega (arith, most)) part-none
 
 part-short_and_size : (short : Option ℕ) (size : ℕ) → IsProperShort short → size < 65536
     → (rest : List DataObject) (n : ℕ)
