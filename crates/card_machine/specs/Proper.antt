@@ -1,5 +1,5 @@
--- When a card is well formed: what it holds are bytes, each record has its file's record length, and each length, number
--- and short identifier is in its range.
+-- When a card is well formed: what it holds are bytes, each record has its file's record length, and each length,
+-- number and short identifier is in its range.
 use Rattle.std.specs.Prelude.{◌≡◌, ◌<◌, ◌≤◌, ◌*◌, ℕ, List, length, All, Option, Some, None}
 use Rattle.std.specs.FinMap.{get}
 use Rattle.apdu_core.specs.OfBytes.{AreBytes}

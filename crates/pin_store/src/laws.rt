@@ -17,7 +17,6 @@ pub fn layout()
 {}
 
 /// The PINs depend on seven words of each of their pages, pages 65 to 72.
-#[tactic(auto, using(crate::specs::laws::AllPins::pins_kept, crate::specs::laws::AllPins::pages_kept, crate::specs::laws::AllPins::marks_kept))]
 pub fn words_elsewhere_keep_the_pins()
     ensures pins { (m after : List ℕ) → KeepsPins m after → pins_of after ≡ pins_of m }
     ensures pages { (m after : List ℕ) → KeepsPins m after → ArePinPages m → ArePinPages after }
@@ -40,7 +39,6 @@ pub fn pins_marked_as_enabled_are_so()
 
 /// Where one PIN is set, the list of PINs has it in the place of the old one, and no other PIN changes. The pages stay
 /// as they may be, if the new PIN has no more tries than there may be, and marks stay marks.
-#[tactic(auto, using(crate::specs::laws::AllPins::pins_set, crate::specs::laws::AllPins::pages_set, crate::specs::laws::AllPins::marks_set))]
 pub fn one_pin_is_set()
     ensures pins { (m after : List ℕ) (pin : ℕ) (now : Pin) → pin < PINS → SetsPin m pin now after
         → pins_of after ≡ slice_set (pins_of m) pin now }

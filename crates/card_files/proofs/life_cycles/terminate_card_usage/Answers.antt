@@ -27,11 +27,12 @@ returns-then-not-branch g c =
     let x = c.args.current.now in
     let both = reads_then _ _ _ c.read_entry.ensures.store.only c.allows.ensures.store.only in
     let denied : c.in_ok-allows.field-0 ≡ false = c.if-not-branch.true in
+    let told = c.in_ok-allows.ensures.told
+    ∙ ap (λ (l : List ℕ). allowed (card_of l) (session_of (table l) x) (path_of (table l) 0) Terminate)
+    c.read_entry.ensures.store.only.keeps.committed_words in
     declined terminate_card_usage old x c.allows.new.store (λ _. tt) c.requires.kept.card ACCESS_DENIED both
     c.in_ok-allows.ensures.store.ready c.requires.kept.current
-    (end-refused (committed old) x c.in_ok-allows.field-0
-    (c.in_ok-allows.ensures.told ∙ ap (λ (l : List ℕ). allowed (card_of l) (session_of (table l) x) (path_of (table l) 0)
-    Terminate) c.read_entry.ensures.store.only.keeps.committed_words) denied)
+    (end-refused (committed old) x c.in_ok-allows.field-0 told denied)
 
 pub returns-in_err-terminate_card : goal.returns-in_err-terminate_card
 returns-in_err-terminate_card g c =
