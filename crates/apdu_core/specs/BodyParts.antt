@@ -1,5 +1,5 @@
 -- A body as the definitions speak of it.
-use Rattle.apdu_core.specs.Bodies.{Body}
+use Rattle.card_model.specs.CommandTable.{Body}
 use Rattle.apdu_core.specs.declared.form.CommandBody.{CommandBody}
 
 -- a body without its place in memory

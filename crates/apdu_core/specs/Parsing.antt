@@ -7,12 +7,10 @@ use Rattle.card_rules.specs.declared.status.TheConstants.Sw.{WRONG_LENGTH}
 use Rattle.apdu_core.specs.declared.commands.Command.{Command}
 use Rattle.apdu_core.specs.declared.form.CommandBody.{CommandBody}
 use Rattle.apdu_core.specs.declared.form.Operands.{Operands}
-use Rattle.apdu_core.specs.Asked.{asked_by_row}
-use Rattle.apdu_core.specs.Bodies.{body_of}
+use Rattle.card_model.specs.CommandTable.{asked_by_row, body_of, Row}
 use Rattle.apdu_core.specs.BodyParts.{body_view}
-use Rattle.apdu_core.specs.Fields.{IsInRange}
-use Rattle.apdu_core.specs.Requests.{Request, Gives}
-use Rattle.apdu_core.specs.Rows.{Row}
+use Rattle.apdu_core.specs.ParsedCommands.{IsInRange, Gives}
+use Rattle.card_model.specs.Requests.{Request}
 
 -- a command, or a refusal, is what is wanted, and what a command names or sends is in the ranges of its row
 pub record IsParsed (result : Result Command Sw) (wanted : Result Request Sw) : Type 0 where

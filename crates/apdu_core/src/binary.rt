@@ -1,22 +1,15 @@
 //! READ BINARY and UPDATE BINARY (ISO/IEC 7816-4, 11.3).
 ghost use Rattle.std.specs.Prelude.{◌≡◌, ◌≤◌, Some, None, if◌then◌else◌, IfSome};
-ghost use Rattle.apdu_core.specs.BinaryRows.{read_binary_row, update_binary_row, is_place, named_target, named_offset};
+ghost use Rattle.card_model.specs.CommandTable.{read_binary_row, update_binary_row, is_place, named_target};
+ghost use Rattle.card_model.specs.CommandTable.{named_offset};
 ghost use Rattle.apdu_core.specs.Parsing.{Parses};
-ghost use Rattle.apdu_core.specs.Ranges.{IsTarget};
+ghost use Rattle.card_model.specs.Requests.{IsTarget};
 
 use crate::commands::{Command, Parsed};
 use crate::form::{CommandBody, Operands};
 use byteorder::{BigEndian, ByteOrder};
+use card_model::Target;
 use card_rules::Sw;
-
-/// The elementary file of a binary command.
-#[derive(Clone, Copy)]
-pub enum Target {
-    /// The current one.
-    Current,
-    /// The child of the current dedicated file with this short identifier, 1 to 30.
-    Short(u8),
-}
 
 /// Where a binary command begins to read or write: an elementary file, and an offset in bytes, 0 to 32,767.
 #[derive(Clone, Copy)]

@@ -1,20 +1,23 @@
 //! Commands as values, and their parsing: class, instruction, P1 and P2, and then lengths (ISO/IEC 7816-4, clause 5).
-ghost use Rattle.apdu_core.specs.Asked.{asked, row_of};
+ghost use Rattle.card_model.specs.CommandTable.{asked, row_of};
 ghost use Rattle.apdu_core.specs.Parsing.{IsParsed, Parses};
 
-use crate::binary::{BinaryPlace, Target, parse_read_binary, parse_update_binary};
-use crate::files::{Subject, parse_create_file, parse_delete_file};
+use crate::binary::{BinaryPlace, parse_read_binary, parse_update_binary};
+use crate::files::{parse_create_file, parse_delete_file};
 use crate::form::Operands;
-use crate::life_cycles::{LifeCycleChange, parse_life_cycle_change, parse_terminate_card_usage};
+use crate::life_cycles::{parse_life_cycle_change, parse_terminate_card_usage};
 use crate::pins::{
-    Replacement, RequirementChange, parse_change_reference_data, parse_requirement_change,
-    parse_reset_retry_counter, parse_verify,
+    Replacement, parse_change_reference_data, parse_requirement_change, parse_reset_retry_counter,
+    parse_verify,
 };
 use crate::records::{
-    RecordChoice, RecordPlace, parse_append_record, parse_increase, parse_read_record,
-    parse_search_record, parse_update_record,
+    parse_append_record, parse_increase, parse_read_record, parse_search_record,
+    parse_update_record,
 };
-use crate::select::{Returned, Selector, parse_select};
+use crate::select::{Selector, parse_select};
+use card_model::{
+    LifeCycleChange, RecordChoice, RecordPlace, RequirementChange, Returned, Subject, Target,
+};
 use card_rules::{Direction, Sw};
 
 /// A command as a value. `expected` is its Le byte: how many bytes of data are wanted, 0 for all that there are.

@@ -1,7 +1,7 @@
 //! What follows the instruction of a short command: P1 and P2, and the bytes after the header (ISO/IEC 7816-4, 5.2).
 ghost use Rattle.std.specs.Prelude.{◌≡◌, ◌≢◌, ◌≤◌, ◌∷◌, ◌&&◌, ◌==◌, [], nat_le, not, length, is_some, Some};
 ghost use Rattle.card_rules.specs.declared.status.TheConstants.Sw.{WRONG_LENGTH, WRONG_PARAMETERS};
-ghost use Rattle.apdu_core.specs.FileRows.{is_no_parameter};
+ghost use Rattle.card_model.specs.CommandTable.{is_no_parameter};
 ghost use Rattle.apdu_core.specs.Parsing.{Reads, ReadsBody};
 
 use card_rules::Sw;

@@ -1,34 +1,29 @@
 //! Laws of the definitions, as contracts of functions that do nothing.
 ghost use Rattle.std.specs.Prelude.{◌≡◌, ◌+◌, ◌*◌, ◌++◌, ◌∷◌, ◌==◌, ◌&&◌, ◌||◌, [], ℕ, List, Bool, true, false, Ok};
 ghost use Rattle.std.specs.Prelude.{Some, None, map, MatchResult, IfOk};
-ghost use Rattle.apdu_core.specs.declared.binary.Target.TheVariants.{Current as current_file, Short as short_file};
-ghost use Rattle.apdu_core.specs.declared.files.Subject.TheVariants.{Identifier as by_identifier};
-ghost use Rattle.apdu_core.specs.declared.life_cycles.LifeCycleChange.{LifeCycleChange};
-ghost use Rattle.apdu_core.specs.declared.life_cycles.LifeCycleChange.TheVariants.{TerminateEf};
-ghost use Rattle.apdu_core.specs.declared.pins.RequirementChange.{RequirementChange};
-ghost use Rattle.apdu_core.specs.declared.pins.RequirementChange.TheVariants.{Disable, Enable};
+ghost use Rattle.card_model.specs.declared.requests.Target.TheVariants.{Current as current_file, Short as short_file};
+ghost use Rattle.card_model.specs.declared.requests.Subject.TheVariants.{Identifier as by_identifier};
+ghost use Rattle.card_model.specs.declared.requests.LifeCycleChange.{LifeCycleChange};
+ghost use Rattle.card_model.specs.declared.requests.LifeCycleChange.TheVariants.{TerminateEf};
+ghost use Rattle.card_model.specs.declared.requests.RequirementChange.{RequirementChange};
+ghost use Rattle.card_model.specs.declared.requests.RequirementChange.TheVariants.{Disable, Enable};
 ghost use Rattle.card_rules.specs.declared.direction.Direction.TheVariants.{Backward};
-ghost use Rattle.apdu_core.specs.declared.records.RecordChoice.TheVariants.{Previous, At};
-ghost use Rattle.apdu_core.specs.declared.records.RecordPlace.TheVariants.{CurrentRecord, Number};
-ghost use Rattle.apdu_core.specs.declared.select.Returned.TheVariants.{Template, Nothing};
-ghost use Rattle.apdu_core.specs.Asked.{asked, command_table, is_class};
-ghost use Rattle.apdu_core.specs.BinaryRows.{read_binary_row, update_binary_row};
-ghost use Rattle.apdu_core.specs.FileRows.{create_file_row, delete_file_row};
-ghost use Rattle.apdu_core.specs.RecordRows.{read_record_row, update_record_row, append_record_row, search_record_row};
-ghost use Rattle.apdu_core.specs.RecordRows.{increase_row, is_record_file, is_choice, is_direction};
-ghost use Rattle.apdu_core.specs.LifeCycleRows.{life_cycle_row, terminate_card_usage_row};
-ghost use Rattle.apdu_core.specs.PinRows.{verify_row, change_reference_data_row, reset_retry_counter_row, is_pin};
-ghost use Rattle.apdu_core.specs.PinRows.{requirement_row};
-ghost use Rattle.apdu_core.specs.SelectRows.{select_row, is_way, is_returned};
-ghost use Rattle.apdu_core.specs.Listing.{header, bytes_with, mode, first_parameters, lengths_allowed};
+ghost use Rattle.card_model.specs.declared.requests.RecordChoice.TheVariants.{Previous, At};
+ghost use Rattle.card_model.specs.declared.requests.RecordPlace.TheVariants.{CurrentRecord, Number};
+ghost use Rattle.card_model.specs.declared.requests.Returned.TheVariants.{Template, Nothing};
+ghost use Rattle.card_model.specs.CommandTable.{asked, command_table, is_class, read_binary_row, update_binary_row};
+ghost use Rattle.card_model.specs.CommandTable.{create_file_row, delete_file_row, read_record_row, update_record_row};
+ghost use Rattle.card_model.specs.CommandTable.{append_record_row, search_record_row, increase_row, is_record_file};
+ghost use Rattle.card_model.specs.CommandTable.{is_choice, is_direction, life_cycle_row, terminate_card_usage_row};
+ghost use Rattle.card_model.specs.CommandTable.{verify_row, change_reference_data_row, reset_retry_counter_row, is_pin};
+ghost use Rattle.card_model.specs.CommandTable.{requirement_row, select_row, is_way, is_returned};
+ghost use Rattle.card_model.specs.Listing.{header, bytes_with, mode, first_parameters, lengths_allowed};
 ghost use Rattle.std.specs.List.{range_with_len};
-ghost use Rattle.apdu_core.specs.OfBytes.{AreBytes, IsStatusWord};
-ghost use Rattle.apdu_core.specs.Fields.{IsOfBytes, IsSized};
-ghost use Rattle.apdu_core.specs.Requests.{select, read_binary, update_binary, create_file, delete_file};
-ghost use Rattle.apdu_core.specs.Requests.{read_record, update_record, append_record, search_record, increase};
-ghost use Rattle.apdu_core.specs.Requests.{change_life_cycle, terminate_card_usage, verify, change_reference_data};
-ghost use Rattle.apdu_core.specs.Requests.{change_requirement};
-ghost use Rattle.apdu_core.specs.Selections.{identifier, parent, name, path_from_master, path_from_current};
+ghost use Rattle.card_model.specs.Requests.{AreBytes, IsStatusWord, IsOfBytes, IsSized, select, read_binary};
+ghost use Rattle.card_model.specs.Requests.{update_binary, create_file, delete_file, read_record, update_record};
+ghost use Rattle.card_model.specs.Requests.{append_record, search_record, increase, change_life_cycle};
+ghost use Rattle.card_model.specs.Requests.{terminate_card_usage, verify, change_reference_data, change_requirement};
+ghost use Rattle.card_model.specs.Requests.{identifier, parent, name, path_from_master, path_from_current};
 
 /// A command of bytes asks for a request of bytes, Le and what is sent being bytes, each 0 to 255, and identifiers two
 /// bytes; or it is refused by a status word of two bytes.

@@ -13,16 +13,16 @@ mod records;
 mod select;
 
 use arrayvec::ArrayVec;
-pub use binary::{BinaryPlace, Target};
+pub use binary::BinaryPlace;
+pub use card_model::{
+    LifeCycleChange, RecordChoice, RecordPlace, RequirementChange, Returned, Subject, Target,
+};
 pub use card_rules::Sw;
 use card_rules::limits::MOST_ANSWER_DATA;
 pub use commands::Command;
-pub use files::Subject;
-pub use life_cycles::LifeCycleChange;
 pub use path::FilePath;
-pub use pins::{Replacement, RequirementChange};
-pub use records::{RecordChoice, RecordPlace};
-pub use select::{Returned, Selector};
+pub use pins::Replacement;
+pub use select::Selector;
 
 /// The most bytes of an answer: its data, and a status word.
 pub const MOST_ANSWER_BYTES: usize = MOST_ANSWER_DATA + 2;

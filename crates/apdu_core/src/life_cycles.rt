@@ -1,25 +1,13 @@
 //! Commands on life cycles (ISO/IEC 7816-9).
 ghost use Rattle.std.specs.Prelude.{Some};
-ghost use Rattle.apdu_core.specs.LifeCycleRows.{life_cycle_row, terminate_card_usage_row};
+ghost use Rattle.card_model.specs.CommandTable.{life_cycle_row, terminate_card_usage_row};
 ghost use Rattle.apdu_core.specs.Parsing.{Parses};
 
 use crate::commands::{Command, Parsed};
-use crate::files::Subject;
+use crate::files::subject_of;
 use crate::form::{CommandBody, Operands};
+use card_model::LifeCycleChange;
 use card_rules::Sw;
-
-/// What a command does to the life cycle of a file.
-#[derive(Clone, Copy)]
-pub enum LifeCycleChange {
-    /// DEACTIVATE FILE.
-    Deactivate,
-    /// ACTIVATE FILE.
-    Activate,
-    /// TERMINATE DF.
-    TerminateDf,
-    /// TERMINATE EF.
-    TerminateEf,
-}
 
 /// Reads P1, P2 and what follows the header of a command that changes a life cycle. Other P1 and P2 than 00 00 are
 /// 6A86, other lengths than 0 and 2 are 6700, and so is Le.
@@ -27,7 +15,7 @@ pub(crate) fn parse_life_cycle_change(change: LifeCycleChange, operands: Operand
     ensures { Parses (Some (life_cycle_row change)) operands.entry result }
 {
     operands.no_parameters()?;
-    let subject = Subject::of(CommandBody::parse(operands.rest)?)?;
+    let subject = subject_of(CommandBody::parse(operands.rest)?)?;
     Ok(Command::ChangeLifeCycle { change, subject })
 }
 

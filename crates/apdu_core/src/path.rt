@@ -1,7 +1,7 @@
 //! Paths as SELECT sends them: identifiers one behind the other (ISO/IEC 7816-4, 7.2.2).
 ghost use Rattle.std.specs.Prelude.{◌≡◌, ◌<◌, Some, None, length, slice_index, if◌then◌else◌, option_map, IfSome};
-ghost use Rattle.apdu_core.specs.Ranges.{IsFilePath};
-ghost use Rattle.apdu_core.specs.Selections.{identifiers, identifiers_in, is_path};
+ghost use Rattle.apdu_core.specs.ParsedCommands.{IsFilePath, identifiers_in};
+ghost use Rattle.card_model.specs.Requests.{identifiers, is_path};
 
 use byteorder::{BigEndian, ByteOrder};
 
@@ -17,7 +17,7 @@ pub struct FilePath<'a> {
 
 impl<'a> FilePath<'a> {
     /// The path that these bytes are, if they are 1 to 7 identifiers.
-    #[tactic(auto, using(crate::specs::laws::Identifiers::identifiers_counted))]
+    #[tactic(auto, using(card_model::specs::laws::Identifiers::identifiers_counted))]
     pub fn new(bytes: &'a [u8]) -> Option<FilePath<'a>>
         ensures identifiers { option_map identifiers_in result
             ≡ (if is_path (length bytes.now) then Some (identifiers bytes.now) else None) }
@@ -31,7 +31,7 @@ impl<'a> FilePath<'a> {
     }
 
     /// How many identifiers it has.
-    #[tactic(auto, using(crate::specs::laws::Identifiers::identifiers_counted))]
+    #[tactic(auto, using(card_model::specs::laws::Identifiers::identifiers_counted))]
     pub fn count(self) -> usize
         ensures { result ≡ length (identifiers_in self.entry) }
     {
@@ -39,7 +39,7 @@ impl<'a> FilePath<'a> {
     }
 
     /// The identifier at an index, from 0 on.
-    #[tactic(auto, using(crate::specs::laws::Identifiers::identifier_at))]
+    #[tactic(auto, using(card_model::specs::laws::Identifiers::identifier_at))]
     pub fn identifier(self, index: usize) -> u16
         requires { index < length (identifiers_in self) }
         ensures { result ≡ slice_index (identifiers_in self.entry) index }

@@ -1,12 +1,13 @@
 //! Commands on PINs (ISO/IEC 7816-4, 11.5).
 ghost use Rattle.std.specs.Prelude.{◌≡◌, ◌==◌, Some, length, take, drop};
 ghost use Rattle.card_rules.specs.declared.status.TheConstants.Sw.{WRONG_PARAMETERS};
-ghost use Rattle.apdu_core.specs.PinRows.{verify_row, change_reference_data_row, reset_retry_counter_row, is_pin};
-ghost use Rattle.apdu_core.specs.PinRows.{requirement_row};
+ghost use Rattle.card_model.specs.CommandTable.{verify_row, change_reference_data_row, reset_retry_counter_row, is_pin};
+ghost use Rattle.card_model.specs.CommandTable.{requirement_row};
 ghost use Rattle.apdu_core.specs.Parsing.{Parses, Names, Reads};
 
 use crate::commands::{Command, Parsed};
 use crate::form::{CommandBody, Operands};
+use card_model::RequirementChange;
 use card_rules::{PINS, Sw};
 
 /// A value that is shown, and the new value of the PIN.
@@ -26,15 +27,6 @@ impl<'a> Replacement<'a> {
         let new = rest.as_array::<8>()?;
         Some(Replacement { shown, new })
     }
-}
-
-/// What a command does to the verification requirement of a PIN.
-#[derive(Clone, Copy)]
-pub enum RequirementChange {
-    /// DISABLE VERIFICATION REQUIREMENT: conditions of access rules that ask for the PIN are met without it.
-    Disable,
-    /// ENABLE VERIFICATION REQUIREMENT: they ask for it again.
-    Enable,
 }
 
 /// The PIN that P1 and P2 name: 00, and 01 to 08.

@@ -1,35 +1,15 @@
 //! Commands on records (ISO/IEC 7816-4, 11.4), and INCREASE (ETSI TS 102 221, 11.1.8).
 ghost use Rattle.std.specs.Prelude.{◌≡◌, ◌&&◌, Some, IfSome};
 ghost use Rattle.apdu_core.specs.Parsing.{Parses, Names};
-ghost use Rattle.apdu_core.specs.Ranges.{IsTarget, IsRecordPlace, IsRecordChoice};
-ghost use Rattle.apdu_core.specs.RecordRows.{read_record_row, update_record_row, append_record_row, search_record_row};
-ghost use Rattle.apdu_core.specs.RecordRows.{increase_row, is_record_file, record_file, record_place, is_choice};
-ghost use Rattle.apdu_core.specs.RecordRows.{record_choice, is_direction, direction};
+ghost use Rattle.card_model.specs.Requests.{IsTarget, IsRecordPlace, IsRecordChoice};
+ghost use Rattle.card_model.specs.CommandTable.{read_record_row, update_record_row, append_record_row};
+ghost use Rattle.card_model.specs.CommandTable.{search_record_row, increase_row, is_record_file, record_file};
+ghost use Rattle.card_model.specs.CommandTable.{record_place, is_choice, record_choice, is_direction, direction};
 
-use crate::binary::Target;
 use crate::commands::{Command, Parsed};
 use crate::form::{CommandBody, Operands};
+use card_model::{RecordChoice, RecordPlace, Target};
 use card_rules::{Direction, Sw};
-
-/// A record by its number, or the current one.
-#[derive(Clone, Copy)]
-pub enum RecordPlace {
-    /// The record that the record pointer stands at.
-    CurrentRecord,
-    /// The record with this number, 1 to 255.
-    Number(u8),
-}
-
-/// How a command names a record.
-#[derive(Clone, Copy)]
-pub enum RecordChoice {
-    /// The one after the current record.
-    Next,
-    /// The one before the current record.
-    Previous,
-    /// The one at this place.
-    At(RecordPlace),
-}
 
 /// A record of an elementary file.
 #[derive(Clone, Copy)]
@@ -38,45 +18,39 @@ struct RecordName {
     choice: RecordChoice,
 }
 
-impl Target {
-    /// The file of a command on records, by the upper five bits of its P2: 31 is none.
-    fn of_records(p2: u8) -> Option<Target>
-        ensures file { Names result (is_record_file p2) (λ target. target ≡ record_file p2) }
-        ensures ranges { IfSome result IsTarget }
-    {
-        match p2 / 8 {
-            0 => Some(Target::Current),
-            31 => None,
-            short => Some(Target::Short(short)),
-        }
+/// The file of a command on records, by the upper five bits of its P2: 31 is none.
+fn file_of(p2: u8) -> Option<Target>
+    ensures file { Names result (is_record_file p2) (λ target. target ≡ record_file p2) }
+    ensures ranges { IfSome result IsTarget }
+{
+    match p2 / 8 {
+        0 => Some(Target::Current),
+        31 => None,
+        short => Some(Target::Short(short)),
     }
 }
 
-impl RecordPlace {
-    /// The place that P1 is.
-    fn of(p1: u8) -> RecordPlace
-        ensures named { result ≡ record_place p1 }
-        ensures ranges { IsRecordPlace result }
-    {
-        match p1 {
-            0 => RecordPlace::CurrentRecord,
-            number => RecordPlace::Number(number),
-        }
+/// The place that P1 is.
+fn place_of(p1: u8) -> RecordPlace
+    ensures named { result ≡ record_place p1 }
+    ensures ranges { IsRecordPlace result }
+{
+    match p1 {
+        0 => RecordPlace::CurrentRecord,
+        number => RecordPlace::Number(number),
     }
 }
 
-impl RecordChoice {
-    /// The record that P1 and the mode in P2 name, if they name one.
-    fn of(p1: u8, p2: u8) -> Option<RecordChoice>
-        ensures choice { Names result (is_choice p1 p2) (λ choice. choice ≡ record_choice p1 p2) }
-        ensures ranges { IfSome result IsRecordChoice }
-    {
-        match p2 % 8 {
-            2 if p1 == 0 => Some(RecordChoice::Next),
-            3 if p1 == 0 => Some(RecordChoice::Previous),
-            4 => Some(RecordChoice::At(RecordPlace::of(p1))),
-            _ => None,
-        }
+/// The record that P1 and the mode in P2 name, if they name one.
+fn choice_of(p1: u8, p2: u8) -> Option<RecordChoice>
+    ensures choice { Names result (is_choice p1 p2) (λ choice. choice ≡ record_choice p1 p2) }
+    ensures ranges { IfSome result IsRecordChoice }
+{
+    match p2 % 8 {
+        2 if p1 == 0 => Some(RecordChoice::Next),
+        3 if p1 == 0 => Some(RecordChoice::Previous),
+        4 => Some(RecordChoice::At(place_of(p1))),
+        _ => None,
     }
 }
 
@@ -98,8 +72,8 @@ impl RecordName {
             (name.target ≡ record_file p2) × (name.choice ≡ record_choice p1 p2)) }
         ensures ranges { IfSome result (λ name. IsTarget name.target × IsRecordChoice name.choice) }
     {
-        let target = Target::of_records(p2)?;
-        let choice = RecordChoice::of(p1, p2)?;
+        let target = file_of(p2)?;
+        let choice = choice_of(p1, p2)?;
         Some(RecordName { target, choice })
     }
 }
@@ -140,7 +114,7 @@ pub(crate) fn parse_append_record(operands: Operands<'_>) -> Parsed<'_>
     if operands.p1 != 0 || operands.p2 % 8 != 0 {
         return Err(Sw::WRONG_PARAMETERS);
     }
-    let target = Target::of_records(operands.p2).ok_or(Sw::WRONG_PARAMETERS)?;
+    let target = file_of(operands.p2).ok_or(Sw::WRONG_PARAMETERS)?;
     let bytes = CommandBody::parse(operands.rest)?.text_alone()?;
     Ok(Command::AppendRecord { target, bytes })
 }
@@ -150,13 +124,13 @@ pub(crate) fn parse_append_record(operands: Operands<'_>) -> Parsed<'_>
 pub(crate) fn parse_search_record(operands: Operands<'_>) -> Parsed<'_>
     ensures { Parses (Some search_record_row) operands.entry result }
 {
-    let target = Target::of_records(operands.p2).ok_or(Sw::WRONG_PARAMETERS)?;
+    let target = file_of(operands.p2).ok_or(Sw::WRONG_PARAMETERS)?;
     let direction = direction_of(operands.p2).ok_or(Sw::WRONG_PARAMETERS)?;
     let body = CommandBody::parse(operands.rest)?;
     let text = body.text()?;
     Ok(Command::SearchRecord {
         target,
-        first: RecordPlace::of(operands.p1),
+        first: place_of(operands.p1),
         direction,
         text,
         expected: body.expected,

@@ -1,15 +1,15 @@
 //! SELECT (ISO/IEC 7816-4, 11.2.2).
 ghost use Rattle.std.specs.Prelude.{◌≡◌, Some, IfSome, length};
-ghost use Rattle.apdu_core.specs.Selections.{selection_of};
-ghost use Rattle.apdu_core.specs.SelectRows.{select_row, is_way, is_returned, returned_by, names_file, named_file};
+ghost use Rattle.apdu_core.specs.ParsedCommands.{selection_of, IsSelector};
+ghost use Rattle.card_model.specs.CommandTable.{select_row, is_way, is_returned, returned_by, names_file, named_file};
 ghost use Rattle.apdu_core.specs.Parsing.{Parses, Names};
-ghost use Rattle.apdu_core.specs.Ranges.{IsSelector};
 ghost use Rattle.apdu_core.specs.WayParts.{byte_of};
 
 use crate::commands::{Command, Parsed};
 use crate::form::{CommandBody, Operands};
 use crate::path::FilePath;
 use byteorder::{BigEndian, ByteOrder};
+use card_model::Returned;
 use card_rules::Sw;
 use card_rules::limits::MOST_NAME_BYTES;
 
@@ -28,15 +28,6 @@ pub enum Selector<'a> {
     PathFromMaster(FilePath<'a>),
     /// The file at the end of this path from the current dedicated file.
     PathFromCurrent(FilePath<'a>),
-}
-
-/// What SELECT answers.
-#[derive(Clone, Copy)]
-pub enum Returned {
-    /// The template of the file's control parameters.
-    Template,
-    /// No data.
-    Nothing,
 }
 
 /// The ways to name a file, each a P1 of SELECT.
@@ -65,16 +56,14 @@ impl Way {
     }
 }
 
-impl Returned {
-    /// What P2 of SELECT wants to be answered, if it is one of the two that are known.
-    fn of(p2: u8) -> Option<Returned>
-        ensures { Names result (is_returned p2) (λ returned. returned ≡ returned_by p2) }
-    {
-        match p2 {
-            0x04 => Some(Returned::Template),
-            0x0C => Some(Returned::Nothing),
-            _ => None,
-        }
+/// What P2 of SELECT wants to be answered, if it is one of the two that are known.
+fn returned_of(p2: u8) -> Option<Returned>
+    ensures { Names result (is_returned p2) (λ returned. returned ≡ returned_by p2) }
+{
+    match p2 {
+        0x04 => Some(Returned::Template),
+        0x0C => Some(Returned::Nothing),
+        _ => None,
     }
 }
 
@@ -115,7 +104,7 @@ impl<'a> Selector<'a> {
 pub(crate) fn parse_select(operands: Operands<'_>) -> Parsed<'_>
     ensures { Parses (Some select_row) operands.entry result }
 {
-    let (Some(way), Some(returned)) = (Way::of(operands.p1), Returned::of(operands.p2)) else {
+    let (Some(way), Some(returned)) = (Way::of(operands.p1), returned_of(operands.p2)) else {
         return Err(Sw::WRONG_PARAMETERS);
     };
     let body = CommandBody::parse(operands.rest)?;

@@ -13,8 +13,8 @@ use Rattle.std.proofs.lemmas.Fmt.{decimal_nonempty, digits_decimal, digits_value
 use Rattle.std.proofs.lemmas.List.{length-append}
 use Rattle.std.proofs.lemmas.List.Elements.{All-cons, All-nil}
 use Rattle.std.proofs.lemmas.Str.Parse.{IsNumeralModel, numerals_by_value}
-use Rattle.apdu_core.specs.OfBytes.{AreBytes}
-use Rattle.apdu_core.specs.laws.ByteLaws.{byte-at}
+use Rattle.card_model.specs.Requests.{AreBytes}
+use Rattle.card_model.specs.laws.ByteLaws.{byte-at}
 use Rattle.hex.specs.Hex.{decode_of, encode_with, lower_digits, upper_digits}
 use Rattle.hex.proofs.HexLemmas.{IsDigits, IsDigits-lower_digits, IsDigits-upper_digits, decode_of-even}
 use Rattle.hex.proofs.HexLemmas.{decode_pairs-encode_with, length-encode_with}

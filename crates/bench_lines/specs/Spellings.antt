@@ -1,7 +1,7 @@
 -- How each order of a script is spelled.
 use Rattle.std.specs.Prelude.{◌<◌, ◌/◌, ◌%◌, ◌≡◌, ℕ, List, [], ◌∷◌, ◌++◌, codes, Some}
 use Rattle.std.specs.Fmt.{decimal}
-use Rattle.apdu_core.specs.OfBytes.{AreBytes}
+use Rattle.card_model.specs.Requests.{AreBytes}
 use Rattle.hex.specs.Hex.{encode_with}
 use Rattle.bench_lines.specs.Orders.{Order}
 use Rattle.bench_lines.specs.Orders.{Nothing, On, Off, Free, Apdu, Block, Cut, Lose, Garble}

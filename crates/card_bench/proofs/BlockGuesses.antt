@@ -4,21 +4,20 @@ use Rattle.std.proofs.Common.{arith, ap, inl, inr, subst, sym, ◌∙◌}
 use Rattle.std.proofs.lemmas.List.{length-set}
 use Rattle.std.proofs.lemmas.List.FromFn.{length-map-range_with_len}
 use Rattle.nvm_board.specs.Facts.{raised}
-use Rattle.pin_store.specs.declared.layout.TheConstants.{PINS}
+use Rattle.card_rules.specs.declared.pins.TheConstants.{PINS}
 use Rattle.file_tree.specs.Formats.{is_format_2}
 use Rattle.pin_store.specs.Pages.{pin_at, pins_of, unmarked_pins_of}
-use Rattle.pin_store.specs.Pins.{enabled_pin, HasFewTries, Pin}
+use Rattle.card_state.specs.Secrets.{enabled_pin, HasFewTries, Pin}
 use Rattle.t1_link.specs.CardTable.{Reaction, replies, runs}
-use Rattle.card_machine.specs.Cards.{Card}
-use Rattle.card_machine.specs.Comparing.{Comparisons, comparisons}
-use Rattle.card_machine.specs.Finding.{HasCard, found, words_found}
-use Rattle.card_machine.specs.Pins.{no_pin, pin_of}
-use Rattle.card_machine.specs.Proper.{IsProper}
+use Rattle.card_model.specs.Cards.{Card, IsProper}
+use Rattle.command_base.specs.Comparing.{Comparisons, comparisons}
+use Rattle.command_base.specs.Finding.{HasCard, found, words_found}
+use Rattle.card_model.specs.PinCommands.{no_pin, pin_of}
 use Rattle.card_core.specs.Running.{card_found}
-use Rattle.card_machine.specs.Standing.{card_of, card_pins}
-use Rattle.card_machine.specs.laws.FoundLaws.{found_is_proper}
-use Rattle.card_machine.specs.laws.ProperLaws.{at-or, either-if}
-use Rattle.card_machine.specs.laws.ShownLaws.{ComparesOrStays, compares-or-stays}
+use Rattle.command_base.specs.Standing.{card_of, card_pins}
+use Rattle.command_base.specs.laws.FoundLaws.{found_is_proper}
+use Rattle.card_model.specs.laws.ProperLaws.{at-or, either-if}
+use Rattle.command_base.specs.laws.ShownLaws.{ComparesOrStays, compares-or-stays}
 use Rattle.card_bench.specs.BenchViews.{CountsEach}
 use Rattle.card_bench.specs.CardBlocks.{BlockCompares, IsBlockStage, Powered}
 use Rattle.card_bench.proofs.GuessesPaid.{ArePaid, attempt-paid, nothing-paid}

@@ -3,7 +3,7 @@ use Rattle.std.specs.Prelude.{◌≡◌, ◌⊎◌, ℕ, List, [], Option, Some,
 use Rattle.std.proofs.Common.{ap, inl, inr, refl, subst, sym, ◌∙◌}
 use Rattle.t1_link.specs.CardTable.{Reaction, answers, reply_bytes, command_of, link_step, replies, runs}
 use Rattle.card_core.specs.Running.{FailsIn, IsCutIn, Steps, card_found, memory_failure}
-use Rattle.card_machine.specs.Steps.{answer_bytes}
+use Rattle.card_model.specs.Steps.{answer_bytes}
 use Rattle.card_bench.specs.CardBlocks.{BlockCounts, FailsAt, IsCutAt, IsRun, Powered, Replies, answering}
 use Rattle.card_bench.specs.CardBlocks.{card_by, machine, session_by}
 

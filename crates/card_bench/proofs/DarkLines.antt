@@ -3,7 +3,7 @@ use Rattle.std.specs.Prelude.{◌≡◌, ◌≤◌, ◌+◌, ◌*◌, ℕ, zero,
 use Rattle.std.proofs.Common.{arith, ap, inl, inr, ◌∙◌}
 use Rattle.t1_link.specs.ReaderTable.{Reader, reader_sends}
 use Rattle.t1_link.specs.ReaderTable.{Outcome, fails, gives, sends, unknown}
-use Rattle.card_machine.specs.declared.spending.TheConstants.{COMMAND_WRITES}
+use Rattle.command_base.specs.declared.spending.TheConstants.{COMMAND_WRITES}
 use Rattle.nvm_board.specs.declared.board.Arm.{Arm}
 use Rattle.nvm_board.specs.Aims.{due_of}
 use Rattle.card_bench.specs.Plays.{IsGood}

@@ -3,7 +3,7 @@ use Rattle.std.specs.Prelude.{◌≡◌, ◌+◌, ℕ, zero, suc, true, false, n
 use Rattle.std.proofs.Common.{inl, inr, arith, ap, sym, subst, ◌∙◌}
 use Rattle.std.proofs.lemmas.Bool.{and_from}
 use Rattle.t1_link.specs.ReaderTable.{Reader, Turned, is_busy, reader_sends}
-use Rattle.card_machine.specs.laws.AnswerLaws.{answers_are_short, step_keeps_proper}
+use Rattle.card_model.specs.laws.AnswerLaws.{answers_are_short, step_keeps_proper}
 use Rattle.card_bench.specs.Exchanges.{Ended}
 use Rattle.card_bench.specs.Exchanges.{answered, set_back, link_lost, power_lost}
 use Rattle.card_bench.specs.declared.exchange.TheConstants.{LINE_BLOCKS}

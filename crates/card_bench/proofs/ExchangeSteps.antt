@@ -9,12 +9,11 @@ use Rattle.t1_link.specs.BlockLaws.{heard-frame}
 use Rattle.t1_link.specs.CardTable.{Link, Reaction, Taken, answers, reply_bytes, card_takes, link_step, replies, runs}
 use Rattle.t1_link.specs.ReaderTable.{Outcome, Reader, Turned, fails, gives, reader_step, reader_times_out}
 use Rattle.t1_link.specs.ReaderTable.{sends, unknown}
-use Rattle.card_machine.specs.Cards.{Card}
+use Rattle.card_model.specs.Cards.{Card}
 use Rattle.card_core.specs.Running.{card_found}
-use Rattle.apdu_core.specs.Asked.{asked}
-use Rattle.card_machine.specs.Stages.{IsStage}
-use Rattle.card_machine.specs.Words.{StandsAsked}
-use Rattle.card_machine.specs.Steps.{answer_bytes}
+use Rattle.card_model.specs.CommandTable.{asked}
+use Rattle.card_model.specs.Steps.{IsStage, answer_bytes}
+use Rattle.command_base.specs.Words.{StandsAsked}
 use Rattle.card_bench.specs.Exchanges.{Ended}
 use Rattle.card_bench.specs.Exchanges.{answered, set_back, link_lost, power_lost}
 use Rattle.card_bench.specs.declared.line.Line.{Line}

@@ -3,12 +3,12 @@ use Rattle.std.specs.Prelude.{◌≡◌, ◌≤◌, ◌+◌, ◌*◌, ℕ, List}
 use Rattle.std.proofs.Common.{arith, ap, ap₂}
 use Rattle.nvm_board.specs.Facts.{Facts}
 use Rattle.undo_journal.specs.Spending.{WritesAtMost}
-use Rattle.pin_store.specs.declared.layout.TheConstants.{PINS}
-use Rattle.pin_store.specs.Pins.{HasFewTries}
-use Rattle.card_machine.specs.Cards.{Card}
-use Rattle.card_machine.specs.Comparing.{comparisons}
-use Rattle.card_machine.specs.Pins.{pin_of}
-use Rattle.card_machine.specs.laws.FoundLaws.{found_is_proper}
+use Rattle.card_rules.specs.declared.pins.TheConstants.{PINS}
+use Rattle.card_state.specs.Secrets.{HasFewTries}
+use Rattle.card_model.specs.Cards.{Card}
+use Rattle.command_base.specs.Comparing.{comparisons}
+use Rattle.card_model.specs.PinCommands.{pin_of}
+use Rattle.command_base.specs.laws.FoundLaws.{found_is_proper}
 use Rattle.card_bench.specs.BenchStates.{BenchState, BenchHasCard, bench_card, bench_facts}
 use Rattle.card_bench.specs.Guessing.{GuessesFew, unblocking_guessed, value_guessed}
 use Rattle.card_bench.proofs.BlockGuesses.{few-tries}

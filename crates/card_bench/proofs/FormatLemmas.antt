@@ -10,10 +10,10 @@ use Rattle.nvm_board.specs.Aims.{due_of}
 use Rattle.nvm_board.specs.Facts.{Answered, Facts, GoesDark, Steady, new_board, pages_of}
 use Rattle.std.proofs.lemmas.List.{length-replicate}
 use Rattle.nvm_board.specs.laws.Sizes.{pages_same}
-use Rattle.card_machine.specs.Standing.{board_blocks}
+use Rattle.command_base.specs.Standing.{board_blocks}
 use Rattle.undo_journal.specs.Spending.{WritesAtMost}
 use Rattle.card_core.specs.Factory.{factory_card}
-use Rattle.card_machine.specs.Finding.{Finds}
+use Rattle.command_base.specs.Finding.{Finds}
 use Rattle.card_bench.specs.BenchStates.{BenchState, off, bench_card, bench_facts, IsOff}
 use Rattle.card_bench.specs.Exchanges.{Desk}
 use Rattle.card_bench.specs.Plays.{IsGood}

@@ -1,6 +1,6 @@
 -- What is told of the free space is printed.
 use Rattle.std.proofs.Common.{◌≡◌, None, Option, Some, ap}
-use Rattle.file_tree.specs.declared.space.FreeSpace.{FreeSpace}
+use Rattle.card_state.specs.declared.space.FreeSpace.{FreeSpace}
 use Rattle.card_bench.specs.BenchStates.{BenchState, off, on, TellsFree}
 use Rattle.card_bench.specs.Performing.{free_shown}
 use Rattle.card_bench.specs.Plays.{IsGood}

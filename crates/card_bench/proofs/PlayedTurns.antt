@@ -6,12 +6,12 @@ use Rattle.card_bench.specs.declared.playing.Turn.{Turn}
 use Rattle.card_bench.specs.declared.playing.Item.{Item}
 use Rattle.t1_link.specs.CardTable.{link_step}
 use Rattle.undo_journal.specs.Spending.{Advances}
-use Rattle.card_core.specs.declared.card_state.CardState.TheVariants.{Working}
-use Rattle.card_machine.specs.Comparing.{comparisons}
-use Rattle.card_machine.specs.declared.spending.TheConstants.{COMMAND_WRITES}
-use Rattle.card_machine.specs.Finding.{HasCard}
+use Rattle.card_core.specs.declared.state.CardState.TheVariants.{Working}
+use Rattle.command_base.specs.Comparing.{comparisons}
+use Rattle.command_base.specs.declared.spending.TheConstants.{COMMAND_WRITES}
+use Rattle.command_base.specs.Finding.{HasCard}
 use Rattle.card_core.specs.Running.{card_found}
-use Rattle.card_machine.specs.laws.ShownLaws.{ComparesOrStays}
+use Rattle.command_base.specs.laws.ShownLaws.{ComparesOrStays}
 use Rattle.card_bench.specs.declared.playing.Item.TheVariants.{Dark, Mute}
 use Rattle.card_bench.specs.BenchStates.{BenchState, off, on, bench_facts}
 use Rattle.card_bench.specs.CardBlocks.{Powered, BlockStands, IsCutAt, IsBlockStage}

@@ -7,8 +7,8 @@ use Rattle.undo_journal.specs.declared.layout.TheConstants.{PAIRS}
 use Rattle.undo_journal.specs.Spending.{WritesAtMost, start_writes}
 use Rattle.card_core.specs.declared.faults.StartFault.{StartFault}
 use Rattle.card_core.specs.declared.faults.StartFault.TheVariants.{PowerLost, Fault, BadJournal, Damaged}
-use Rattle.card_machine.specs.Comparing.{Comparisons, comparisons}
-use Rattle.card_machine.specs.Finding.{FindsAgain, HasCard, found}
+use Rattle.command_base.specs.Comparing.{Comparisons, comparisons}
+use Rattle.command_base.specs.Finding.{FindsAgain, HasCard, found}
 use Rattle.card_core.specs.Running.{Starts, StartStopsBy}
 use Rattle.card_core.specs.Starting.{power_on_writes, renewal_writes}
 use Rattle.t1_link.specs.CardTable.{fresh}

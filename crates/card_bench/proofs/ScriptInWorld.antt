@@ -3,8 +3,8 @@ use Rattle.std.specs.Prelude.{◌≡◌, ◌≤◌, ◌&&◌, ℕ, true, nat_le,
 use Rattle.std.proofs.Common.{sym, subst, ◌∙◌}
 use Rattle.std.proofs.lemmas.Bool.{and_from, le-leb}
 use Rattle.t1_link.specs.ReaderTable.{Reader, fresh_reader}
-use Rattle.apdu_core.specs.OfBytes.{AreBytes}
-use Rattle.card_machine.specs.laws.FoundLaws.{found_is_proper}
+use Rattle.card_model.specs.Requests.{AreBytes}
+use Rattle.command_base.specs.laws.FoundLaws.{found_is_proper}
 use Rattle.card_bench.specs.Exchanges.{Ended}
 use Rattle.card_bench.specs.Exchanges.{answered, set_back, link_lost, power_lost}
 use Rattle.card_bench.specs.declared.line.Line.{Line}

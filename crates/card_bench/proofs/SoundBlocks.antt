@@ -26,7 +26,7 @@ use Rattle.t1_link.specs.ReaderTable.{is_dead, last_block, reader_sends}
 use Rattle.t1_link.specs.ReaderTable.{reader_takes, reader_times_out, requesting, requesting_again, sends, trying}
 use Rattle.t1_link.specs.ReaderTable.{turns_answer, turns_block}
 use Rattle.t1_link.specs.ReaderTable.{turns_information, turns_receive_ready, turns_resynch, unknown}
-use Rattle.apdu_core.specs.OfBytes.{AreBytes}
+use Rattle.card_model.specs.Requests.{AreBytes}
 
 -- a block that has bytes, and an information field of bytes
 pub record IsSound (b : Block) : Type 0 where

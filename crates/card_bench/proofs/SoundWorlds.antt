@@ -9,7 +9,7 @@ use Rattle.t1_link.specs.BlockLaws.{heard-frame}
 use Rattle.t1_link.specs.CardTable.{Reaction, link_step, replies, runs, sending}
 use Rattle.t1_link.specs.ReaderTable.{Outcome, Turned, fails, gives, is_busy, reader_sends, reader_step}
 use Rattle.t1_link.specs.ReaderTable.{reader_times_out, sends, unknown}
-use Rattle.apdu_core.specs.OfBytes.{AreBytes}
+use Rattle.card_model.specs.Requests.{AreBytes}
 use Rattle.card_bench.specs.Worlds.{Arrival, Event, Line, Machine, World, are_bytes, arrival, after_arrival}
 use Rattle.card_bench.specs.Worlds.{at_card, at_reader, garble, giving, in_vain, is_command}
 use Rattle.card_bench.specs.Worlds.{is_garbled, lose, may_arrive, may_send, noted, nothing, pass, powered, quiet}

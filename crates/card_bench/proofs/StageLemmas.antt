@@ -6,7 +6,7 @@ use Rattle.card_bench.specs.declared.playing.Turn.{Turn}
 use Rattle.card_bench.specs.declared.playing.Item.{Item}
 use Rattle.card_bench.specs.declared.playing.Item.TheVariants.{Atr, Quiet, Mute, Dark, Reply}
 use Rattle.card_bench.specs.BenchStates.{BenchState, off, on, switched_off, bench_card}
-use Rattle.card_machine.specs.Finding.{found}
+use Rattle.command_base.specs.Finding.{found}
 use Rattle.card_bench.specs.Turns.{GoodBlock, TurnsOn}
 use Rattle.card_bench.specs.Performing.{IsArmed}
 use Rattle.card_bench.specs.Tallies.{Finding}

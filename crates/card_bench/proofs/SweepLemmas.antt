@@ -11,9 +11,9 @@ use Rattle.card_bench.specs.declared.playing.Turn.{Turn}
 use Rattle.card_bench.specs.declared.playing.Turn.TheVariants as turn
 use Rattle.card_bench.specs.declared.playing.Item.{Item}
 use Rattle.card_bench.specs.declared.playing.Item.TheVariants as item
-use Rattle.file_tree.specs.declared.space.FreeSpace.{FreeSpace}
+use Rattle.card_state.specs.declared.space.FreeSpace.{FreeSpace}
 use Rattle.card_bench.specs.BenchStates.{BenchState, IsWell, bench_facts}
-use Rattle.card_machine.specs.Finding.{HasCard}
+use Rattle.command_base.specs.Finding.{HasCard}
 use Rattle.card_bench.specs.declared.came.Came.{Came}
 use Rattle.card_bench.specs.declared.came.Came.TheVariants as came
 use Rattle.card_bench.specs.Plays.{IsGood, TellsItem}

@@ -1,9 +1,9 @@
 -- The tree machine keeps proper cards proper, and their answers have 2 to 258 bytes.
 use Rattle.std.specs.Prelude.{◌≡◌, ℕ, true, List}
 use Rattle.std.proofs.lemmas.Bool.{and_parts}
-use Rattle.apdu_core.specs.OfBytes.{AreBytes}
-use Rattle.apdu_core.specs.laws.ByteLaws.{are_bytes-tell}
-use Rattle.card_machine.specs.laws.AnswerLaws.{answers_are_short, step_keeps_proper}
+use Rattle.card_model.specs.Requests.{AreBytes}
+use Rattle.card_model.specs.laws.ByteLaws.{are_bytes-tell}
+use Rattle.card_model.specs.laws.AnswerLaws.{answers_are_short, step_keeps_proper}
 use Rattle.card_bench.specs.TreeMachine.{tree_machine, IsProperState}
 use Rattle.card_bench.specs.Worlds.{Answers, are_bytes, is_command}
 

@@ -15,12 +15,12 @@ use Rattle.undo_journal.specs.declared.layout.TheConstants.{PAIRS}
 use Rattle.undo_journal.specs.Spending.{start_writes}
 use Rattle.undo_journal.specs.Undo.{gate}
 use Rattle.t1_link.specs.ReaderTable.{Reader}
-use Rattle.card_machine.specs.declared.spending.TheConstants.{COMMAND_WRITES}
-use Rattle.card_machine.specs.Cards.{Card}
-use Rattle.card_machine.specs.Comparing.{Comparisons, comparisons}
-use Rattle.card_machine.specs.Finding.{HasCard, words_found}
-use Rattle.card_machine.specs.laws.ProperLaws.{at-or, either-if}
-use Rattle.card_machine.specs.laws.ShownLaws.{ComparesOrStays}
+use Rattle.command_base.specs.declared.spending.TheConstants.{COMMAND_WRITES}
+use Rattle.card_model.specs.Cards.{Card}
+use Rattle.command_base.specs.Comparing.{Comparisons, comparisons}
+use Rattle.command_base.specs.Finding.{HasCard, words_found}
+use Rattle.card_model.specs.laws.ProperLaws.{at-or, either-if}
+use Rattle.command_base.specs.laws.ShownLaws.{ComparesOrStays}
 use Rattle.card_bench.specs.Exchanges.{Ended}
 use Rattle.card_bench.specs.Exchanges.{answered, set_back, link_lost, power_lost}
 use Rattle.card_bench.specs.declared.exchange.TheConstants.{LINE_BLOCKS}

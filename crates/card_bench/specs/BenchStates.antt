@@ -1,13 +1,12 @@
 -- A bench: a board with power off, or a card with its end of the link.
 use Rattle.std.specs.Prelude.{◌≡◌, true, false, Option, None, Some, IsSome}
 use Rattle.nvm_board.specs.Facts.{Facts}
-use Rattle.card_core.specs.declared.card_state.CardState.TheVariants.{Working}
-use Rattle.card_machine.specs.Cards.{Card}
-use Rattle.card_machine.specs.Finding.{HasCard, found}
+use Rattle.card_core.specs.declared.state.CardState.TheVariants.{Working}
+use Rattle.card_model.specs.Cards.{Card, card_space}
+use Rattle.command_base.specs.Finding.{HasCard, found}
 use Rattle.card_core.specs.Running.{card_found}
-use Rattle.card_machine.specs.Sessions.{fresh_session}
-use Rattle.file_tree.specs.declared.space.FreeSpace.{FreeSpace}
-use Rattle.card_machine.specs.Cards.{card_space}
+use Rattle.card_model.specs.Sessions.{fresh_session}
+use Rattle.card_state.specs.declared.space.FreeSpace.{FreeSpace}
 use Rattle.t1_link.specs.CardTable.{fresh}
 use Rattle.card_bench.specs.CardBlocks.{Powered}
 

@@ -2,8 +2,8 @@
 use Rattle.std.specs.Prelude.{◌≡◌, ◌≢◌, length, true}
 use Rattle.nvm_board.specs.declared.board.TheConstants.{SECRETS}
 use Rattle.nvm_board.specs.Facts.{Facts}
-use Rattle.card_core.specs.declared.card_state.CardState.TheVariants.{Dark}
-use Rattle.card_machine.specs.Comparing.{Comparisons, comparisons}
+use Rattle.card_core.specs.declared.state.CardState.TheVariants.{Dark}
+use Rattle.command_base.specs.Comparing.{Comparisons, comparisons}
 use Rattle.card_bench.specs.declared.playing.Power.{Power}
 use Rattle.card_bench.specs.declared.playing.Power.TheVariants.{Off, On}
 use Rattle.card_bench.specs.BenchStates.{BenchState, off, on}

@@ -2,15 +2,14 @@
 use Rattle.std.specs.Prelude.{◌≡◌, ℕ, List, []}
 use Rattle.nvm_board.specs.Facts.{Steady, GoesDark, Fails}
 use Rattle.t1_link.specs.CardTable.{Link, link_step, Taken, Reaction, replies, runs, answers, reply_bytes}
-use Rattle.apdu_core.specs.Asked.{asked}
-use Rattle.card_machine.specs.Comparing.{comparisons, ComparesAsked, ComparesNothing}
-use Rattle.card_machine.specs.Counting.{CountsAnswered}
-use Rattle.card_core.specs.declared.card_state.CardState.TheVariants.{Working, Failed, Dark}
-use Rattle.card_machine.specs.Cards.{Card}
-use Rattle.card_machine.specs.Sessions.{Session, fresh_session}
-use Rattle.card_machine.specs.Stages.{ChangesNothing, IsStage}
-use Rattle.card_machine.specs.Words.{StandsAsked}
-use Rattle.card_machine.specs.Steps.{Outcome, answer_bytes, carried_out}
+use Rattle.card_model.specs.CommandTable.{asked}
+use Rattle.command_base.specs.Comparing.{comparisons, ComparesAsked, ComparesNothing}
+use Rattle.command_base.specs.Counting.{CountsAnswered}
+use Rattle.card_core.specs.declared.state.CardState.TheVariants.{Working, Failed, Dark}
+use Rattle.card_model.specs.Cards.{Card}
+use Rattle.card_model.specs.Sessions.{Session, fresh_session}
+use Rattle.card_model.specs.Steps.{ChangesNothing, IsStage, Outcome, answer_bytes, carried_out}
+use Rattle.command_base.specs.Words.{StandsAsked}
 use Rattle.card_core.specs.Running.{Running, card_found, memory_failure}
 
 -- the card, and its end of the link

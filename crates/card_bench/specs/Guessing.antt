@@ -1,8 +1,9 @@
 -- The guess law: in a run, whatever is cut or fails in it, each comparison of a secret is paid for by a try, and tries
 -- come back by matches alone (ISO/IEC 7816-4, clause 11, basic security handling).
 use Rattle.std.specs.Prelude.{◌≤◌, ◌+◌, ◌*◌, ℕ, slice_index}
-use Rattle.pin_store.specs.declared.layout.TheConstants.{PINS, TRIES, UNBLOCKING_TRIES}
-use Rattle.card_machine.specs.Pins.{pin_of, unblocking_of, value_of}
+use Rattle.card_rules.specs.declared.pins.TheConstants.{PINS}
+use Rattle.card_state.specs.declared.limits.TheConstants.{TRIES, UNBLOCKING_TRIES}
+use Rattle.card_model.specs.PinCommands.{pin_of, unblocking_of, value_of}
 use Rattle.card_bench.specs.BenchStates.{BenchState, bench_card, bench_facts}
 
 -- of a secret: how often it was compared, the tries that are left, and how many matches gave it all its tries back

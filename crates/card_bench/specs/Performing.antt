@@ -13,7 +13,7 @@ use Rattle.card_bench.specs.Exchanges.{Commands, Desk}
 use Rattle.card_bench.specs.Printouts.{Print, prints_nothing, prints_atr, prints_mute, prints_dark, prints_bytes}
 use Rattle.card_bench.specs.Printouts.{prints_free}
 use Rattle.card_core.specs.Running.{card_found}
-use Rattle.card_machine.specs.Cards.{card_space}
+use Rattle.card_model.specs.Cards.{card_space}
 use Rattle.card_bench.specs.Turns.{GoodBlock, GoodTurn}
 
 -- what is printed of a turn

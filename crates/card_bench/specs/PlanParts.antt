@@ -2,7 +2,7 @@
 use Rattle.std.specs.Prelude.{◌≡◌, ◌-◌, ◌^◌, ℕ, Bool, true, false, List, Result, IfOk, IfErr}
 use Rattle.nvm_board.specs.Cut.{cut_facts}
 use Rattle.nvm_board.specs.Facts.{Facts}
-use Rattle.card_machine.specs.Finding.{HasCard}
+use Rattle.command_base.specs.Finding.{HasCard}
 use Rattle.card_bench.specs.declared.sweeping.Plan.{Plan}
 use Rattle.card_bench.specs.declared.sweeping.Stop.{Stop}
 use Rattle.card_bench.specs.declared.sweeping.Stop.TheVariants.{Full}

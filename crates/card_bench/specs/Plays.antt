@@ -1,7 +1,7 @@
 -- What the bench promises of a turn, and of turns: the counts always; that it is the machine's where no fault came.
 use Rattle.std.specs.Prelude.{◌≡◌, ℕ, List}
 use Rattle.nvm_board.specs.Aims.{due_of}
-use Rattle.card_machine.specs.declared.spending.TheConstants.{COMMAND_WRITES}
+use Rattle.command_base.specs.declared.spending.TheConstants.{COMMAND_WRITES}
 use Rattle.card_bench.specs.declared.playing.Turn.{Turn}
 use Rattle.card_bench.specs.declared.came.Came.{Came}
 use Rattle.card_bench.specs.declared.came.Came.TheVariants as came

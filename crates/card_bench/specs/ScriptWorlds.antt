@@ -1,7 +1,7 @@
 -- From a power-on to the next the commands of a script are exchanges in one world.
 use Rattle.std.specs.Prelude.{◌≡◌, ℕ, List, [], ◌++◌, Some}
 use Rattle.t1_link.specs.ReaderTable.{Reader}
-use Rattle.card_machine.specs.Sessions.{fresh_session}
+use Rattle.card_model.specs.Sessions.{fresh_session}
 use Rattle.card_bench.specs.Exchanges.{Ended}
 use Rattle.bench_lines.specs.Orders.{Order}
 use Rattle.bench_lines.specs.Orders.{Nothing, On, Off, Free, Apdu, Block, Cut, Lose, Garble}

@@ -1,8 +1,7 @@
 -- The tree machine as the machine of a world: a card, and the session that it is in.
-use Rattle.card_machine.specs.Cards.{Card}
-use Rattle.card_machine.specs.Proper.{IsProper}
-use Rattle.card_machine.specs.Sessions.{Session}
-use Rattle.card_machine.specs.Steps.{answer_bytes, carried_out}
+use Rattle.card_model.specs.Cards.{Card, IsProper}
+use Rattle.card_model.specs.Sessions.{Session}
+use Rattle.card_model.specs.Steps.{answer_bytes, carried_out}
 use Rattle.card_bench.specs.Worlds.{Machine}
 
 pub record Served : Type 0 where

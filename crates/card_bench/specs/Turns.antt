@@ -3,11 +3,11 @@ use Rattle.std.specs.Prelude.{◌≡◌, ◌⊎◌, ◌≤◌, ◌+◌, ℕ, if�
 use Rattle.nvm_board.specs.Aims.{KeepsAim}
 use Rattle.nvm_board.specs.Facts.{Facts, IsWorn, IsWornOut, RisesAt}
 use Rattle.undo_journal.specs.declared.layout.TheConstants.{PAIRS}
-use Rattle.card_machine.specs.declared.spending.TheConstants.{COMMAND_WRITES}
+use Rattle.command_base.specs.declared.spending.TheConstants.{COMMAND_WRITES}
 use Rattle.nvm_board.specs.declared.board.TheConstants.{MOST_PAGES}
 use Rattle.file_tree.specs.Formats.{is_format_2}
 use Rattle.migration.specs.Migrating.{migration_writes}
-use Rattle.card_machine.specs.Finding.{words_found}
+use Rattle.command_base.specs.Finding.{words_found}
 use Rattle.t1_link.specs.CardTable.{link_step}
 use Rattle.card_bench.specs.declared.playing.Turn.{Turn}
 use Rattle.card_bench.specs.declared.playing.Turn.TheVariants as turn

@@ -38,7 +38,7 @@ impl<B: Socket> Model for Desk<B> {
     ghost use Rattle.std.specs.Coded.{codes};
     ghost use Rattle.std.specs.Prelude.{◌≢◌, IsTrue};
     ghost use Rattle.t1_link.specs.declared.reader_end.Phase.TheVariants.{Busy};
-    ghost use Rattle.card_machine.specs.Sessions.{session_code};
+    ghost use Rattle.card_model.specs.Sessions.{session_code};
     ghost use Rattle.card_bench.specs.DeskParts.{DeskState, print_of, reader_there};
 
     ghost Value = { DeskState };

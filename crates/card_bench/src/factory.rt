@@ -2,7 +2,7 @@
 ghost use Rattle.std.specs.Prelude.{◌≡◌, None, IfOk};
 ghost use Rattle.nvm_board.specs.Cut.{cut_facts};
 ghost use Rattle.card_core.specs.Factory.{factory_card};
-ghost use Rattle.card_machine.specs.Finding.{Finds};
+ghost use Rattle.command_base.specs.Finding.{Finds};
 ghost use Rattle.card_bench.specs.Prints.{IsJustWritten};
 
 use card_core::format;

@@ -1,7 +1,7 @@
 //! Laws of the definitions: each is a function whose contract is the law.
 
 ghost use Rattle.std.specs.Prelude.{◌≡◌, ◌≢◌, ◌⊎◌, ◌≤◌, ◌+◌, ◌*◌, ℕ, Bool, List, length, true, IsTrue, Ok, Err, None};
-ghost use Rattle.pin_store.specs.declared.layout.TheConstants.{PINS};
+ghost use Rattle.card_rules.specs.declared.pins.TheConstants.{PINS};
 ghost use Rattle.t1_link.specs.Blocks.{Block as BlockValue, heard};
 ghost use Rattle.t1_link.specs.Garbled.{last_bit_turned};
 ghost use Rattle.t1_link.specs.declared.block.Fault.TheVariants.{WrongCheck};
@@ -29,7 +29,7 @@ ghost use Rattle.card_bench.specs.ScriptWorlds.{PowerOnLaw, LineLaw};
 ghost use Rattle.card_bench.specs.TreeMachine.{tree_machine, IsProperState};
 ghost use Rattle.card_bench.specs.Turns.{GoodBlock, GoodTurn, Runs, dark_of, run_steps, turn_steps};
 ghost use Rattle.file_tree.specs.Formats.{is_format_2};
-ghost use Rattle.card_machine.specs.Finding.{words_found};
+ghost use Rattle.command_base.specs.Finding.{words_found};
 ghost use Rattle.card_bench.specs.WorldLaw.{ResynchLaw, WorldLaw};
 ghost use Rattle.card_bench.specs.WorldRepairs.{RepairLaw};
 ghost use Rattle.card_bench.specs.Worlds.{Answers, Machine, are_bytes, may_arrive};

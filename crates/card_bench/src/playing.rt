@@ -73,7 +73,7 @@ pub struct Bench<B: Socket> {
 
 impl<B: Socket> Model for Bench<B> {
     ghost use Rattle.std.specs.Coded.{codes};
-    ghost use Rattle.card_machine.specs.Sessions.{session_code};
+    ghost use Rattle.card_model.specs.Sessions.{session_code};
     ghost use Rattle.card_bench.specs.BenchStates.{BenchState};
 
     ghost Value = { BenchState };

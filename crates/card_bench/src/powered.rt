@@ -4,10 +4,10 @@ ghost use Rattle.std.specs.Prelude.{IfOk, IfErr};
 ghost use Rattle.nvm_board.specs.Aims.{due_of};
 ghost use Rattle.nvm_board.specs.Calls.{Arms};
 ghost use Rattle.undo_journal.specs.Spending.{Advances, KeepsBoard, WritesAtMost};
-ghost use Rattle.card_machine.specs.declared.spending.TheConstants.{COMMAND_WRITES};
-ghost use Rattle.card_machine.specs.Finding.{HasCard, FindsAgain};
+ghost use Rattle.command_base.specs.declared.spending.TheConstants.{COMMAND_WRITES};
+ghost use Rattle.command_base.specs.Finding.{HasCard, FindsAgain};
 ghost use Rattle.card_core.specs.Running.{Starts, StartStopsBy, card_found};
-ghost use Rattle.card_machine.specs.Cards.{card_space};
+ghost use Rattle.card_model.specs.Cards.{card_space};
 ghost use Rattle.card_core.specs.Starting.{IsNewFound, KeepsFormat, KeepsUnlessOld, TakesAllPages, power_on_writes};
 ghost use Rattle.t1_link.specs.CardTable.{link_step, fresh};
 ghost use Rattle.card_bench.specs.CardBlocks.{Replies, RepliesFailure, FailsAt, IsCutAt, IsBlockStage};
@@ -29,7 +29,7 @@ pub struct Powered<B: Board> {
 
 impl<B: Board> Model for Powered<B> {
     ghost use Rattle.std.specs.Coded.{codes};
-    ghost use Rattle.card_machine.specs.Sessions.{session_code};
+    ghost use Rattle.card_model.specs.Sessions.{session_code};
     ghost use Rattle.card_bench.specs.CardBlocks.{Powered as PoweredValue};
 
     ghost Value = { PoweredValue };
@@ -37,11 +37,11 @@ impl<B: Board> Model for Powered<B> {
     ghost coded = { Prim.hlevel (codes, session_code) };
 
     ghost use Rattle.std.specs.Prelude.{◌≡◌, ◌≢◌, None};
-    ghost use Rattle.card_core.specs.declared.card_state.CardState.TheVariants.{Dark};
+    ghost use Rattle.card_core.specs.declared.state.CardState.TheVariants.{Dark};
 
     ghost view = { λ p. record { card = p.card; link = p.link.link } };
 
-    ghost use Rattle.card_machine.specs.Finding.{HasCard};
+    ghost use Rattle.command_base.specs.Finding.{HasCard};
 
     ghost invariant = { λ p. HasCard p.card.facts.words × (p.card.state ≢ Dark → p.link.waiting ≡ None) };
 }

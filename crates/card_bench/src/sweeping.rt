@@ -3,7 +3,7 @@ ghost use Rattle.std.specs.Prelude.{◌≡◌, ◌⊎◌, ◌≤◌, ◌<◌, �
 ghost use Rattle.std.specs.Prelude.{IfErr, OnOk, IfSome, IfNone, is_some, true, false, IsSome};
 ghost use Rattle.nvm_board.specs.Cut.{cut_facts};
 ghost use Rattle.card_bench.specs.declared.playing.Item.TheVariants.{Dark};
-ghost use Rattle.card_machine.specs.Finding.{HasCard};
+ghost use Rattle.command_base.specs.Finding.{HasCard};
 ghost use Rattle.card_bench.specs.Plays.{IsGood};
 ghost use Rattle.card_bench.specs.BenchStates.{IsWell, bench_facts};
 ghost use Rattle.card_bench.specs.Turns.{Runs};

@@ -19,27 +19,28 @@ use Rattle.block_chain.specs.Words.{word}
 use Rattle.std.proofs.lemmas.Result.{on_ok_weaker}
 use Rattle.file_tree.specs.Indexes.{KeepsPlaces}
 use Rattle.file_tree.specs.Table.{table}
-use Rattle.apdu_core.specs.Asked.{asked}
-use Rattle.apdu_core.specs.Requests.{Request}
-use Rattle.card_machine.specs.declared.current.Current.{Current}
+use Rattle.card_model.specs.CommandTable.{asked}
+use Rattle.card_model.specs.Requests.{Request}
+use Rattle.command_base.specs.declared.current.Current.{Current}
 use Rattle.block_chain.specs.declared.layout.TheConstants.{HEADER_PAGE}
 use Rattle.file_tree.specs.declared.layout.TheConstants.{STATE_WORD}
-use Rattle.card_machine.specs.Cards.{Card}
-use Rattle.card_machine.specs.Comparing.{attempt_of, comparisons, Comparisons, ComparesAsked, ComparesBy}
-use Rattle.card_machine.specs.Counting.{CountsAnswered, CountsServed, CountsShown}
-use Rattle.card_machine.specs.Attempts.{Attempt}
-use Rattle.card_machine.specs.Outcomes.{refused, outcome}
-use Rattle.card_machine.specs.Served.{CarriesOut, IsDoing, Serves}
-use Rattle.card_machine.specs.Sessions.{Session}
-use Rattle.card_machine.specs.Spending.{writes_asked}
-use Rattle.card_machine.specs.Standing.{IsCard, card_of}
-use Rattle.card_machine.specs.Steps.{carried_out, outcome_of, served, step}
-use Rattle.card_machine.specs.Words.{StandsAsked, StandsByWord, StandsServed, alone_served, gated_served}
-use Rattle.card_machine.specs.Working.{card_in, session_in, session_of, IsKept}
-use Rattle.card_machine.specs.laws.StageLaws.{doing_lasts, stage_doing, stage_first}
-use Rattle.card_machine.specs.laws.Readings.{kept_still}
-use Rattle.card_machine.specs.laws.Serves.{reads-compared, reads-nothing}
-use Rattle.card_machine.specs.laws.Words.{stands-first}
+use Rattle.card_model.specs.Cards.{Card}
+use Rattle.card_model.specs.Steps.{attempt_of, IsDoing, carried_out, outcome_of, served, step, alone_served}
+use Rattle.card_model.specs.Steps.{gated_served}
+use Rattle.command_base.specs.Comparing.{comparisons, Comparisons, ComparesAsked, ComparesBy}
+use Rattle.command_base.specs.Counting.{CountsAnswered, CountsServed, CountsShown}
+use Rattle.card_model.specs.Attempts.{Attempt}
+use Rattle.card_model.specs.Outcomes.{refused, outcome}
+use Rattle.command_base.specs.Served.{CarriesOut, Serves}
+use Rattle.card_model.specs.Sessions.{Session}
+use Rattle.command_base.specs.Spending.{writes_asked}
+use Rattle.command_base.specs.Standing.{IsCard, card_of}
+use Rattle.command_base.specs.Words.{StandsAsked, StandsByWord, StandsServed}
+use Rattle.command_base.specs.Working.{card_in, session_in, session_of, IsKept}
+use Rattle.card_model.specs.laws.StageLaws.{doing_lasts, stage_doing, stage_first}
+use Rattle.command_base.specs.laws.Readings.{kept_still}
+use Rattle.command_base.specs.laws.Serves.{reads-compared, reads-nothing}
+use Rattle.command_base.specs.laws.Words.{stands-first}
 
 -- whether a card is in use, by its header
 pub in-use-is : (m : List ℕ) → (card_of m).in_use ≡ (word m HEADER_PAGE STATE_WORD == 0)

@@ -3,28 +3,27 @@ use Rattle.std.proofs.Common.{◌≡◌, ◌⊎◌, true, true≢false, List, �
 use Rattle.std.proofs.Common.{OnErr, refl, sym, ◌∙◌, ap, subst, inl, inr}
 use Rattle.std.specs.Result.{IsErrOf}
 use Rattle.std.proofs.Common.{arith}
-use Rattle.apdu_core.specs.Asked.{asked}
+use Rattle.card_model.specs.CommandTable.{asked}
 use Rattle.file_tree.specs.Indexes.{IsIndex}
 use Rattle.file_tree.specs.declared.index.Index.{Index}
-use Rattle.card_machine.specs.Comparing.{comparisons, ComparesAsked}
-use Rattle.card_machine.specs.Counting.{CountsAnswered}
-use Rattle.card_machine.specs.Stages.{IsStage}
-use Rattle.card_machine.specs.laws.CompareLaws.{asked-none}
+use Rattle.command_base.specs.Comparing.{comparisons, ComparesAsked}
+use Rattle.command_base.specs.Counting.{CountsAnswered}
+use Rattle.card_model.specs.Steps.{IsStage, carried_out}
+use Rattle.command_base.specs.laws.CompareLaws.{asked-none}
 use Rattle.card_rules.specs.declared.status.Sw.{Sw}
 use Rattle.undo_journal.specs.declared.error.StoreErr.{StoreErr}
 use Rattle.undo_journal.specs.declared.error.StoreErr.TheVariants.{PowerLost, Fault}
 use Rattle.undo_journal.specs.Memory.{Memory, IsReady}
-use Rattle.file_tree.specs.declared.space.FreeSpace.{FreeSpace}
-use Rattle.card_core.specs.declared.card_state.CardState.{CardState}
-use Rattle.card_core.specs.declared.card_state.CardState.TheVariants.{Working, Failed, Dark}
-use Rattle.card_machine.specs.declared.current.Current.{Current}
+use Rattle.card_state.specs.declared.space.FreeSpace.{FreeSpace}
+use Rattle.card_core.specs.declared.state.CardState.{CardState}
+use Rattle.card_core.specs.declared.state.CardState.TheVariants.{Working, Failed, Dark}
+use Rattle.command_base.specs.declared.current.Current.{Current}
 use Rattle.card_core.specs.declared.faults.PowerLost.{PowerLost as Lost}
-use Rattle.card_machine.specs.Outcomes.{answer_bytes, Outcome, outcome}
+use Rattle.card_model.specs.Outcomes.{answer_bytes, Outcome, outcome}
 use Rattle.card_core.specs.Running.{card_found, memory_failure, FailsIn, IsCutIn, Running, Steps}
-use Rattle.card_machine.specs.Served.{CarriesOut}
-use Rattle.card_machine.specs.Sessions.{Session}
-use Rattle.card_machine.specs.Steps.{carried_out}
-use Rattle.card_machine.specs.Working.{card_in, session_in, space_in, table_in, IsKept}
+use Rattle.command_base.specs.Served.{CarriesOut}
+use Rattle.card_model.specs.Sessions.{Session}
+use Rattle.command_base.specs.Working.{card_in, session_in, space_in, table_in, IsKept}
 use Rattle.card_core.specs.ShownSessions.{session_while}
 
 -- a fact of a result, where it is one or isn't

@@ -14,11 +14,11 @@ use Rattle.file_tree.specs.Trees.{tree_of, TreeStands}
 use Rattle.file_tree.specs.declared.layout.TheConstants.{MARK_WORD, PAGES_WORD, STATE_WORD}
 use Rattle.file_tree.specs.Changes.{KeepsTree}
 use Rattle.file_tree.specs.laws.Footprints.{tree_kept}
-use Rattle.card_machine.specs.Cards.{Card}
+use Rattle.card_model.specs.Cards.{Card}
 use Rattle.pin_store.specs.Pages.{pin_page, KeepsPins}
-use Rattle.card_machine.specs.Standing.{StandsFor, card_of}
-use Rattle.card_machine.specs.Finding.{words_found, Finds}
-use Rattle.card_machine.specs.laws.CardLaws.{any_stands, any_tree, card_after}
+use Rattle.command_base.specs.Standing.{StandsFor, card_of}
+use Rattle.command_base.specs.Finding.{words_found, Finds}
+use Rattle.command_base.specs.laws.CardLaws.{any_stands, any_tree, card_after}
 
 no_pairs : (m : List ℕ) → gate m ≡ 0 → pairs m ≡ []
 unfolding pairs_from

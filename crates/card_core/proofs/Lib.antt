@@ -1,8 +1,5 @@
 pub mod Entries
 pub mod Looking
-pub mod Comparisons
-pub mod PinCards
-pub mod Attempts
 pub mod Carrying
 pub mod Powers
 pub mod Migrated

@@ -7,17 +7,17 @@ use Rattle.card_rules.specs.declared.status.Sw.{Sw}
 use Rattle.undo_journal.specs.declared.error.StoreErr.{StoreErr}
 use Rattle.undo_journal.specs.Calls.{OnlyReads}
 use Rattle.undo_journal.specs.Memory.{Memory}
-use Rattle.file_tree.specs.declared.space.FreeSpace.{FreeSpace}
-use Rattle.apdu_core.specs.Requests.{Request}
-use Rattle.card_machine.specs.declared.current.Current.{Current}
-use Rattle.card_machine.specs.Cards.{Card, card_space}
-use Rattle.card_machine.specs.Attempts.{attempt_commits, charged_card, is_right, settled_card, Attempt}
-use Rattle.card_machine.specs.Pins.{pin_commits}
-use Rattle.card_machine.specs.Served.{IsDoing, Serves}
-use Rattle.card_machine.specs.Stages.{commits}
-use Rattle.card_machine.specs.Working.{card_in, session_in, space_in}
-use Rattle.card_machine.specs.laws.Answering.{ok_anyway}
-use Rattle.card_machine.specs.laws.SpaceKept.{space-same}
+use Rattle.card_state.specs.declared.space.FreeSpace.{FreeSpace}
+use Rattle.card_model.specs.Requests.{Request}
+use Rattle.command_base.specs.declared.current.Current.{Current}
+use Rattle.card_model.specs.Cards.{Card, card_space}
+use Rattle.card_model.specs.Attempts.{attempt_commits, charged_card, is_right, settled_card, Attempt}
+use Rattle.card_model.specs.PinCommands.{pin_commits}
+use Rattle.card_model.specs.Steps.{IsDoing, commits}
+use Rattle.command_base.specs.Served.{Serves}
+use Rattle.command_base.specs.Working.{card_in, session_in, space_in}
+use Rattle.command_base.specs.laws.Answering.{ok_anyway}
+use Rattle.command_base.specs.laws.SpaceKept.{space-same}
 
 -- each of these cards has the files of a card
 abbrev pub HaveFilesOf : Card → List Card → Type 0

@@ -13,28 +13,28 @@ use Rattle.block_chain.specs.Words.{word}
 use Rattle.block_chain.specs.declared.layout.TheConstants.{HEADER_PAGE}
 use Rattle.file_tree.specs.Formats.{block_count, is_format_2}
 use Rattle.file_tree.specs.declared.layout.TheConstants.{MARK_WORD, OLD_END_PAGE}
-use Rattle.file_tree.specs.Spaces.{free_space}
+use Rattle.card_state.specs.Spaces.{free_space}
 use Rattle.file_tree.specs.Trees.{tree_of}
 use Rattle.file_tree.specs.Table.{table}
 use Rattle.file_tree.specs.Indexes.{IsIndex}
 use Rattle.file_tree.specs.declared.entry.Entry.{Entry}
-use Rattle.file_tree.specs.declared.space.FreeSpace.{FreeSpace}
+use Rattle.card_state.specs.declared.space.FreeSpace.{FreeSpace}
 use Rattle.file_tree.specs.laws.Costs.{costs_fit}
 use Rattle.file_tree.specs.laws.Formats.{count_is, end_new}
 use Rattle.file_tree.specs.laws.Migrating.{old_count}
 use Rattle.pin_store.specs.laws.AllPins.{enabled_marks, enabled_unmarked, secrets_kept, secrets_pages}
 use Rattle.migration.specs.Migrating.{IsNew, Migrates, migration_writes}
-use Rattle.card_machine.specs.Cards.{card_space}
-use Rattle.card_machine.specs.Finding.{words_found, FindsAgain}
-use Rattle.card_machine.specs.Standing.{card_blocks, card_of, card_pins, IsAnyCard, IsCard, IsOldCard}
+use Rattle.card_model.specs.Cards.{card_space}
+use Rattle.command_base.specs.Finding.{words_found, FindsAgain}
+use Rattle.command_base.specs.Standing.{card_blocks, card_of, card_pins, IsAnyCard, IsCard, IsOldCard}
 use Rattle.card_core.specs.StartParts.{IsCardIn, TellsCard}
 use Rattle.card_core.specs.declared.check.Checked.{Checked}
 use Rattle.card_core.specs.declared.memory_format.MemoryFormat.{MemoryFormat}
 use Rattle.card_core.specs.declared.memory_format.MemoryFormat.TheVariants.{One, Two}
 use Rattle.card_core.specs.Starting.{KeepsFormat, TakesAllPages, power_on_writes}
-use Rattle.card_machine.specs.laws.CardLaws.{blocks_new, blocks_old, card_format, card_space_is, marked_new, old_format}
-use Rattle.card_machine.specs.laws.CardLaws.{old_mark}
-use Rattle.card_machine.specs.laws.CardLaws.{pins_new, pins_old}
+use Rattle.command_base.specs.laws.CardLaws.{blocks_new, blocks_old, card_format, card_space_is, marked_new, old_format}
+use Rattle.command_base.specs.laws.CardLaws.{old_mark}
+use Rattle.command_base.specs.laws.CardLaws.{pins_new, pins_old}
 
 -- the memory is as it was, or that of a card of format 1 which is still one, or is one of format 2
 abbrev pub IsRenewed : List ℕ → List ℕ → Type 0

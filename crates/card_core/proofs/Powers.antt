@@ -16,10 +16,10 @@ use Rattle.undo_journal.specs.Undo.{IsSound}
 use Rattle.file_tree.specs.Indexes.{IsIndex}
 use Rattle.file_tree.specs.declared.tree.Survey.{Survey}
 use Rattle.card_core.specs.declared.faults.StartFault.TheVariants.{Damaged}
-use Rattle.card_machine.specs.Finding.{words_found, HasCard}
-use Rattle.card_machine.specs.Standing.{IsAnyCard}
-use Rattle.card_machine.specs.Working.{space_in, table_in, IsKept}
-use Rattle.card_machine.specs.CurrentFiles.{fresh_current}
+use Rattle.command_base.specs.Finding.{words_found, HasCard}
+use Rattle.command_base.specs.Standing.{IsAnyCard}
+use Rattle.command_base.specs.Working.{space_in, table_in, IsKept}
+use Rattle.command_base.specs.CurrentFiles.{fresh_current}
 use Rattle.card_core.specs.StartParts.{TellsSurvey}
 use Rattle.card_core.specs.declared.faults.StartFault.{StartFault}
 use Rattle.card_core.specs.FaultParts.{fault_of_open, fault_of_store}

@@ -11,15 +11,16 @@ use Rattle.card_rules.specs.declared.life_cycle.LifeCycle.TheVariants.{Activated
 use Rattle.block_chain.specs.declared.layout.TheConstants.{FIRST_BLOCK_PAGE}
 use Rattle.block_chain.specs.Words.{page_words}
 use Rattle.file_tree.specs.declared.layout.TheConstants.{FIRST_ENTRY_PAGE}
-use Rattle.file_tree.specs.declared.space.FreeSpace.{FreeSpace}
-use Rattle.pin_store.specs.declared.layout.TheConstants.{FIRST_PIN_PAGE, PINS}
+use Rattle.card_state.specs.declared.space.FreeSpace.{FreeSpace}
+use Rattle.pin_store.specs.declared.layout.TheConstants.{FIRST_PIN_PAGE}
+use Rattle.card_rules.specs.declared.pins.TheConstants.{PINS}
 use Rattle.block_chain.specs.declared.layout.TheConstants.{HEADER_PAGE}
 use Rattle.file_tree.specs.declared.layout.TheConstants.{MARK, OLD_END_PAGE, OLD_MARK}
 use Rattle.card_core.specs.declared.memory_format.MemoryFormat.{MemoryFormat}
 use Rattle.card_core.specs.declared.memory_format.MemoryFormat.TheVariants.{One, Two}
-use Rattle.card_machine.specs.Cards.{card_space, transparent, dedicated, elementary, File, Tree, Pin, Card}
-use Rattle.card_machine.specs.Finding.{Finds, found as found_card}
-use Rattle.card_machine.specs.Standing.{StandsFor, board_blocks}
+use Rattle.card_model.specs.Cards.{card_space, transparent, dedicated, elementary, File, Tree, Pin, Card}
+use Rattle.command_base.specs.Finding.{Finds, found as found_card}
+use Rattle.command_base.specs.Standing.{StandsFor, board_blocks}
 
 -- the words of a page that begins with these, and has one filler behind them
 abbrev pub filled : List ℕ → ℕ → List ℕ

@@ -2,7 +2,7 @@
 use Rattle.std.specs.Prelude.{◌≡◌}
 use Rattle.file_tree.specs.Indexes.{IsIndex}
 use Rattle.card_core.specs.declared.lent.Lent.{Lent}
-use Rattle.card_machine.specs.Working.{space_in, table_in, IsKept}
+use Rattle.command_base.specs.Working.{space_in, table_in, IsKept}
 
 -- Its memory and its current files are kept, its counts are those of its free space, and its index is that of its
 -- files.

@@ -3,18 +3,18 @@ use Rattle.std.specs.Prelude.{◌≡◌, ◌⊎◌, ℕ, true, List, []}
 use Rattle.card_rules.specs.declared.status.TheConstants.Sw.{MEMORY_FAILURE}
 use Rattle.nvm_board.specs.Facts.{Facts, Steady, GoesDark, Fails}
 use Rattle.undo_journal.specs.Undo.{IsSound, IsBadJournal}
-use Rattle.card_core.specs.declared.card_state.CardState.{CardState}
-use Rattle.card_core.specs.declared.card_state.CardState.TheVariants.{Working, Failed, Dark}
+use Rattle.card_core.specs.declared.state.CardState.{CardState}
+use Rattle.card_core.specs.declared.state.CardState.TheVariants.{Working, Failed, Dark}
 use Rattle.card_core.specs.declared.faults.StartFault.{StartFault}
 use Rattle.card_core.specs.declared.faults.StartFault.TheVariants.{PowerLost, Fault, BadJournal, Damaged}
-use Rattle.apdu_core.specs.Asked.{asked}
-use Rattle.card_machine.specs.Cards.{Card}
-use Rattle.card_machine.specs.Counting.{CountsAnswered}
-use Rattle.card_machine.specs.Sessions.{Session, fresh_session}
-use Rattle.card_machine.specs.Outcomes.{answer_bytes, only_status}
-use Rattle.card_machine.specs.Steps.{carried_out}
-use Rattle.card_machine.specs.Standing.{IsAnyCard}
-use Rattle.card_machine.specs.Finding.{words_found, found, HasCard}
+use Rattle.card_model.specs.CommandTable.{asked}
+use Rattle.card_model.specs.Cards.{Card}
+use Rattle.command_base.specs.Counting.{CountsAnswered}
+use Rattle.card_model.specs.Sessions.{Session, fresh_session}
+use Rattle.card_model.specs.Outcomes.{answer_bytes, only_status}
+use Rattle.card_model.specs.Steps.{carried_out}
+use Rattle.command_base.specs.Standing.{IsAnyCard}
+use Rattle.command_base.specs.Finding.{words_found, found, HasCard}
 
 -- the board, the session, and what the card can still do; a card that doesn't work has a fresh session
 pub record Running : Type 0 where

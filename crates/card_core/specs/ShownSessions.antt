@@ -1,11 +1,11 @@
 -- The session that the model of a card shows.
 use Rattle.std.specs.Prelude.{List}
 use Rattle.file_tree.specs.declared.entry.Entry.{Entry}
-use Rattle.card_core.specs.declared.card_state.CardState.{CardState}
-use Rattle.card_core.specs.declared.card_state.CardState.TheVariants.{Working, Failed, Dark}
-use Rattle.card_machine.specs.declared.current.Current.{Current}
-use Rattle.card_machine.specs.Sessions.{Session, fresh_session}
-use Rattle.card_machine.specs.Working.{session_of}
+use Rattle.card_core.specs.declared.state.CardState.{CardState}
+use Rattle.card_core.specs.declared.state.CardState.TheVariants.{Working, Failed, Dark}
+use Rattle.command_base.specs.declared.current.Current.{Current}
+use Rattle.card_model.specs.Sessions.{Session, fresh_session}
+use Rattle.command_base.specs.Working.{session_of}
 
 -- a card that doesn't work has no session: it is told as that of power-on
 abbrev pub session_while : CardState → List Entry → Current → Session

@@ -3,15 +3,15 @@ use Rattle.std.specs.Prelude.{◌≡◌, ◌≤◌, ℕ}
 use Rattle.std.specs.Prelude.{List, Option, Some}
 use Rattle.std.specs.Prelude.{None}
 use Rattle.file_tree.specs.Formats.{block_count}
-use Rattle.file_tree.specs.Spaces.{free_space}
+use Rattle.card_state.specs.Spaces.{free_space}
 use Rattle.file_tree.specs.Trees.{tree_of}
 use Rattle.file_tree.specs.Table.{table}
 use Rattle.file_tree.specs.Indexes.{IsIndex}
 use Rattle.file_tree.specs.declared.tree.Survey.{Survey}
-use Rattle.card_machine.specs.Cards.{card_space}
+use Rattle.card_model.specs.Cards.{card_space}
 use Rattle.file_tree.specs.declared.layout.TheConstants.{MARK, OLD_END_PAGE, OLD_MARK}
 use Rattle.pin_store.specs.Pages.{ArePinPages, AreMarks}
-use Rattle.card_machine.specs.Standing.{card_of, IsAnyCard, IsCard, IsHeader, IsOldCard, IsOldHeader}
+use Rattle.command_base.specs.Standing.{card_of, IsAnyCard, IsCard, IsHeader, IsOldCard, IsOldHeader}
 use Rattle.card_core.specs.declared.check.Checked.{Checked}
 use Rattle.card_core.specs.declared.memory_format.MemoryFormat.{MemoryFormat}
 use Rattle.card_core.specs.declared.memory_format.MemoryFormat.TheVariants.{One, Two}

@@ -8,8 +8,8 @@ use Rattle.block_chain.specs.declared.layout.TheConstants.{HEADER_PAGE}
 use Rattle.file_tree.specs.Formats.{end_page, is_format_2}
 use Rattle.file_tree.specs.declared.layout.TheConstants.{MARK_WORD}
 use Rattle.migration.specs.Migrating.{migration_writes}
-use Rattle.card_machine.specs.Finding.{words_found}
-use Rattle.card_machine.specs.Standing.{IsOldCard}
+use Rattle.command_base.specs.Finding.{words_found}
+use Rattle.command_base.specs.Standing.{IsOldCard}
 
 -- what is found is of format 2
 abbrev pub IsNewFound : List ℕ → Type 0

@@ -1,24 +1,25 @@
 //! A command on a card: one step of the tree machine.
 ghost use Rattle.std.specs.Prelude.{◌≡◌, [], OnOk};
-ghost use Rattle.apdu_core.specs.Fields.{IsInRange};
-ghost use Rattle.apdu_core.specs.Requests.{request_of};
-ghost use Rattle.card_machine.specs.Served.{CarriesOut, Serves};
-ghost use Rattle.card_machine.specs.Stops.{reply};
+ghost use Rattle.apdu_core.specs.ParsedCommands.{IsInRange, request_of};
+ghost use Rattle.command_base.specs.Served.{CarriesOut, Serves};
+ghost use Rattle.command_base.specs.Stops.{reply};
 ghost use Rattle.card_core.specs.Lending.{IsWhole};
-ghost use Rattle.card_machine.specs.Working.{space_in, table_in};
+ghost use Rattle.command_base.specs.Working.{space_in, table_in};
 ghost use Rattle.file_tree.specs.Indexes.{IsIndex};
 
 use crate::check::header_word;
 use crate::layout::CARD_IN_USE;
 use crate::lent::Lent;
-use crate::pins::{change_reference_data, change_requirement, reset_retry_counter, verify};
 use apdu_core::{Answer, Command, Sw};
-use card_contents::{
+use command_base::{Stop, reply};
+use content_commands::{
     append_record, increase, read_file, read_record, search_record, update_file, update_record,
 };
-use card_files::{change_life_cycle, create_file, delete_file, select_file, terminate_card_usage};
-use card_machine::{Stop, reply};
+use file_commands::{
+    change_life_cycle, create_file, delete_file, select_file, terminate_card_usage,
+};
 use file_tree::STATE_WORD;
+use pin_commands::{change_reference_data, change_requirement, reset_retry_counter, verify};
 use undo_journal::{Board, StoreErr};
 
 /// Carries out the bytes of a command: the data goes into `answer`, free space and index are kept, and the status word

@@ -3,25 +3,22 @@ ghost use Rattle.std.specs.Prelude.{◌≡◌, ◌≤◌, ◌+◌, ◌/◌, ◌+
 ghost use Rattle.undo_journal.specs.Spending.{transaction_writes};
 ghost use Rattle.block_chain.specs.Changes.{touched_blocks, touched_words};
 ghost use Rattle.ef_body.specs.Changes.{update_writes};
-ghost use Rattle.card_machine.specs.declared.spending.TheConstants.{COMMAND_WRITES};
-ghost use Rattle.card_machine.specs.Spending.{writes_of};
+ghost use Rattle.command_base.specs.declared.spending.TheConstants.{COMMAND_WRITES};
+ghost use Rattle.command_base.specs.Spending.{writes_of};
 ghost use Rattle.block_chain.specs.declared.layout.TheConstants.{HEADER_PAGE};
 ghost use Rattle.file_tree.specs.declared.layout.TheConstants.{MARK, MARK_WORD, OLD_END_PAGE, OLD_MARK};
 ghost use Rattle.file_tree.specs.declared.layout.TheConstants.{PAGES_WORD, STATE_WORD};
-ghost use Rattle.pin_store.specs.declared.layout.TheConstants.{FIRST_PIN_PAGE, PINS};
+ghost use Rattle.pin_store.specs.declared.layout.TheConstants.{FIRST_PIN_PAGE};
+ghost use Rattle.card_rules.specs.declared.pins.TheConstants.{PINS};
 ghost use Rattle.nvm_board.specs.Facts.{IsMemory};
 ghost use Rattle.pin_store.specs.declared.layout.TheConstants.{PIN_MARK_WORD};
-ghost use Rattle.apdu_core.specs.OfBytes.{AreBytes};
-ghost use Rattle.card_machine.specs.Cards.{Card};
-ghost use Rattle.card_machine.specs.Finding.{Finds, HasCard, found};
-ghost use Rattle.card_machine.specs.Outcomes.{answer_bytes};
-ghost use Rattle.card_machine.specs.Standing.{StandsFor};
-ghost use Rattle.card_machine.specs.Proper.{IsAnswer, IsProper};
-ghost use Rattle.card_machine.specs.Sessions.{Session};
-ghost use Rattle.apdu_core.specs.Requests.{Request};
-ghost use Rattle.card_machine.specs.Stages.{IsStage, commits_served};
-ghost use Rattle.card_machine.specs.Steps.{carried_out};
-ghost use Rattle.card_machine.specs.Words.{alone_served, gated_served};
+ghost use Rattle.card_model.specs.Requests.{AreBytes, Request};
+ghost use Rattle.card_model.specs.Cards.{Card, IsAnswer, IsProper};
+ghost use Rattle.command_base.specs.Finding.{Finds, HasCard, found};
+ghost use Rattle.card_model.specs.Outcomes.{answer_bytes};
+ghost use Rattle.command_base.specs.Standing.{StandsFor};
+ghost use Rattle.card_model.specs.Sessions.{Session};
+ghost use Rattle.card_model.specs.Steps.{IsStage, commits_served, carried_out, alone_served, gated_served};
 
 /// One card at most is found in a memory, whatever its journal holds: what is found is a function of the words.
 pub fn one_card()

@@ -1,6 +1,6 @@
 //! The card as it is lent to what carries out a command.
 
-use card_machine::Current;
+use command_base::Current;
 use file_tree::{FreeSpace, Index};
 use undo_journal::{Board, Store};
 

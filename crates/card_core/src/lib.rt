@@ -1,7 +1,6 @@
 //! The card: what its memory stands for, its start, and its commands.
 #![tactic(auto)]
 
-mod card_state;
 mod check;
 mod commands;
 mod factory;
@@ -11,15 +10,15 @@ mod layout;
 mod lent;
 mod machine;
 mod memory_format;
-mod pins;
 mod renewing;
+mod state;
 
 pub use apdu_core::Answer;
-pub use card_machine::COMMAND_WRITES;
-pub use card_state::CardState;
+pub use command_base::COMMAND_WRITES;
 pub use factory::{format, format_old};
 pub use faults::{PowerLost, StartFault};
 pub use file_tree::FreeSpace;
 pub use machine::Card;
 pub use memory_format::MemoryFormat;
+pub use state::CardState;
 pub use undo_journal::{Armed, Board, DeviceErr};

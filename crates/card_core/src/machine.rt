@@ -8,27 +8,27 @@ ghost use Rattle.card_core.specs.declared.faults.StartFault.TheVariants as Start
 ghost use Rattle.card_core.specs.FaultParts.{fault_of_store};
 ghost use Rattle.undo_journal.specs.Spending.{Advances, WritesAtMost, KeepsBoard};
 ghost use Rattle.ef_body.specs.Changes.{update_writes};
-ghost use Rattle.apdu_core.specs.Asked.{asked};
-ghost use Rattle.apdu_core.specs.Requests.{update_binary};
-ghost use Rattle.apdu_core.specs.declared.binary.Target.{Target};
-ghost use Rattle.card_machine.specs.Comparing.{comparisons, ComparesAsked};
-ghost use Rattle.card_machine.specs.Cards.{card_space};
-ghost use Rattle.card_machine.specs.Finding.{HasCard, FindsAgain};
+ghost use Rattle.card_model.specs.CommandTable.{asked};
+ghost use Rattle.card_model.specs.Requests.{update_binary};
+ghost use Rattle.card_model.specs.declared.requests.Target.{Target};
+ghost use Rattle.command_base.specs.Comparing.{comparisons, ComparesAsked};
+ghost use Rattle.card_model.specs.Cards.{card_space};
+ghost use Rattle.command_base.specs.Finding.{HasCard, FindsAgain};
 ghost use Rattle.card_core.specs.Starting.{IsNewFound, KeepsFormat, KeepsUnlessOld, TakesAllPages, power_on_writes};
 ghost use Rattle.card_core.specs.Running.{Starts, StartStopsBy, Steps, FailsIn, IsCutIn, card_found, memory_failure};
-ghost use Rattle.card_machine.specs.Spending.{writes_of};
-ghost use Rattle.card_machine.specs.Stages.{IsStage, ChangesNothing};
-ghost use Rattle.card_machine.specs.Words.{StandsAsked};
-ghost use Rattle.card_machine.specs.Outcomes.{answer_bytes};
-ghost use Rattle.card_machine.specs.declared.spending.TheConstants.{COMMAND_WRITES};
+ghost use Rattle.command_base.specs.Spending.{writes_of};
+ghost use Rattle.card_model.specs.Steps.{IsStage, ChangesNothing};
+ghost use Rattle.command_base.specs.Words.{StandsAsked};
+ghost use Rattle.card_model.specs.Outcomes.{answer_bytes};
+ghost use Rattle.command_base.specs.declared.spending.TheConstants.{COMMAND_WRITES};
 
-use crate::card_state::CardState;
 use crate::commands::carry_out;
 use crate::faults::{PowerLost, StartFault};
 use crate::lent::Lent;
 use crate::renewing::survey_card;
+use crate::state::CardState;
 use apdu_core::{Answer, Sw};
-use card_machine::Current;
+use command_base::Current;
 use file_tree::{FreeSpace, Survey};
 use std::marker::Model;
 use undo_journal::{Armed, Board, Faultless, Store, StoreErr};
@@ -43,18 +43,18 @@ pub struct Card<B: Board> {
 impl<B: Board> Model for Card<B> {
     ghost use Rattle.card_core.specs.Running.{Running};
     ghost use Rattle.std.specs.Coded.{codes};
-    ghost use Rattle.card_machine.specs.Sessions.{session_code};
+    ghost use Rattle.card_model.specs.Sessions.{session_code};
 
     ghost Value = { Running };
 
     ghost coded = { Prim.hlevel (codes, session_code) };
 
     ghost use Rattle.std.specs.Prelude.{◌≡◌, true};
-    ghost use Rattle.card_machine.specs.Finding.{HasCard};
-    ghost use Rattle.card_core.specs.declared.card_state.CardState.TheVariants.{Working, Dark};
+    ghost use Rattle.command_base.specs.Finding.{HasCard};
+    ghost use Rattle.card_core.specs.declared.state.CardState.TheVariants.{Working, Dark};
     ghost use Rattle.card_core.specs.Lending.{IsWhole};
     ghost use Rattle.card_core.specs.ShownSessions.{session_while};
-    ghost use Rattle.card_machine.specs.Working.{table_in};
+    ghost use Rattle.command_base.specs.Working.{table_in};
 
     ghost view = { λ c. record {
       facts = c.lent.store.facts;

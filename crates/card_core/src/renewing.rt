@@ -6,7 +6,7 @@ ghost use Rattle.undo_journal.specs.Calls.{Changes, OnlyReads};
 ghost use Rattle.undo_journal.specs.Memory.{committed, IsReady};
 ghost use Rattle.file_tree.specs.Formats.{is_format_2};
 ghost use Rattle.migration.specs.Migrating.{Migrates, migration_writes};
-ghost use Rattle.card_machine.specs.Standing.{IsOldCard};
+ghost use Rattle.command_base.specs.Standing.{IsOldCard};
 ghost use Rattle.card_core.specs.StartParts.{TellsSurvey};
 
 use crate::check::find_card;

@@ -5,12 +5,14 @@ use Rattle.std.specs.Prelude.{◌≡◌, ◌<◌, ◌≤◌, ◌+◌, ◌-◌, �
 use Rattle.std.specs.Prelude.{slice_set, take, drop}
 use Rattle.nvm_board.specs.Facts.{IsMemory}
 use Rattle.block_chain.specs.Chains.{chain_of, chain_bytes, bytes_of}
-use Rattle.block_chain.specs.Changes.{Overwrites, overwrite}
+use Rattle.block_chain.specs.Changes.{Overwrites}
+use Rattle.card_state.specs.FileTrees.{overwrite}
 use Rattle.block_chain.specs.laws.Bytes.{leads_blocks, length-bytes_of}
 use Rattle.ef_body.specs.declared.linear.Linear.{Linear}
 use Rattle.ef_body.specs.declared.cyclic.Cyclic.{Cyclic}
 use Rattle.ef_body.specs.declared.slot.RecordSlot.{RecordSlot}
-use Rattle.ef_body.specs.Records.{slot, newest_first, front, record_of}
+use Rattle.ef_body.specs.Records.{slot, newest_first}
+use Rattle.card_state.specs.RecordLists.{front, record_of}
 use Rattle.ef_body.specs.Bodies.{counts_word, number_told, start_told, linear_records, cyclic_records, IsLinear}
 use Rattle.ef_body.specs.Bodies.{IsCyclic, LieIn}
 use Rattle.ef_body.specs.Changes.{LinearBecomes, CyclicBecomes, RecordsBecome, PutsRecord}

@@ -11,7 +11,8 @@ use Rattle.std.specs.Prelude.{Option, Some, None, IsTrue, if◌then◌else◌, n
 use Rattle.card_rules.specs.declared.status.Sw.{Sw}
 use Rattle.card_rules.specs.declared.status.TheConstants.Sw.{WRONG_OFFSET, NO_ROOM}
 use Rattle.block_chain.specs.Chains.{chain_of, chain_bytes, bytes_of}
-use Rattle.block_chain.specs.Changes.{AppendsSome, Overwrites, overwrite}
+use Rattle.block_chain.specs.Changes.{AppendsSome, Overwrites}
+use Rattle.card_state.specs.FileTrees.{overwrite}
 use Rattle.block_chain.specs.Parts.{byte_over}
 use Rattle.block_chain.specs.laws.Bytes.{leads_blocks, length-bytes_of}
 use Rattle.block_chain.specs.laws.Overwriting.{index-overwrite, length-overwrite}

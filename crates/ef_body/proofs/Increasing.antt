@@ -2,7 +2,7 @@
 use Rattle.std.proofs.Common.{refl, sym, ◌∙◌, ap, ap₂, arith, inl, subst, ⊎_elim}
 use Rattle.std.proofs.lemmas.Bool.{cases_lt, le-leb, lt-leb}
 use Rattle.std.proofs.lemmas.List.{take_all}
-use Rattle.std.specs.Prelude.{◌≡◌, ◌<◌, ◌≤◌, ◌+◌, ◌%◌, ◌^◌, ℕ, zero, suc, Bool, true, false, List, ◌∷◌}
+use Rattle.std.specs.Prelude.{◌≡◌, ◌<◌, ◌≤◌, ◌+◌, ◌^◌, ℕ, Bool, true, false, List, ◌∷◌}
 use Rattle.std.specs.Prelude.{[], length, All, Option, Some, None, option_map, if◌then◌else◌, nat_le, min}
 use Rattle.std.specs.Prelude.{Result, Ok, Err, IsErrAnd}
 use Rattle.card_rules.specs.declared.status.Sw.{Sw}
@@ -12,10 +12,9 @@ use Rattle.block_chain.specs.Changes.{AppendsSome}
 use Rattle.ef_body.specs.declared.error.BodyErr.{BodyErr}
 use Rattle.ef_body.specs.declared.error.BodyErr.TheVariants.{Store}
 use Rattle.ef_body.specs.Calls.{ReceivesSum}
-use Rattle.ef_body.specs.Records.{has_record, record_of, front}
-use Rattle.ef_body.specs.Numbers.{number_of, spelled}
-use Rattle.ef_body.specs.Refusals.{missing_record, raised_number, unraised}
-use Rattle.ef_body.specs.laws.Numbers.{number-small, spelled-number}
+use Rattle.card_state.specs.RecordLists.{has_record, record_of, front, number_of, spelled, raised_number}
+use Rattle.ef_body.specs.Refusals.{missing_record, unraised}
+use Rattle.card_state.specs.laws.Numbers.{number-small, spelled-number}
 use Rattle.ef_body.proofs.Refusing.{there}
 
 -- at most as many records as there is room for
@@ -29,12 +28,6 @@ front-most k capacity new records is = ⊎_elim
     (λ (none : capacity ≤ length records).
     let same : k ≡ capacity = omega (arith, is, none) in ap (λ (n : ℕ). front n new records) same)
     (cases_lt (length records) capacity)
-
--- as many bytes as are asked for
-pub length-spelled : (size n : ℕ) → length (spelled size n) ≡ size
-unfolding spelled
-length-spelled zero n = refl
-length-spelled (suc size) n = ap (λ (k : ℕ). suc k) (length-spelled size (n % 256 ^ size))
 
 -- there is no record to raise, as a look tells it
 pub unraised_unfound : (size : ℕ) (records : List (List ℕ)) (sent : List ℕ) (status : Sw)

@@ -9,7 +9,7 @@ use Rattle.undo_journal.specs.declared.error.StoreErr.{StoreErr}
 use Rattle.undo_journal.specs.laws.Told.{told_is}
 use Rattle.ef_body.specs.declared.error.BodyErr.{BodyErr}
 use Rattle.ef_body.specs.declared.error.BodyErr.TheVariants.{Refused, Store}
-use Rattle.ef_body.specs.Records.{has_record}
+use Rattle.card_state.specs.RecordLists.{has_record}
 use Rattle.ef_body.specs.Refusals.{failure, Decides, DecidesUnlessFailed, IfRefused}
 
 -- what a test that gave false tells

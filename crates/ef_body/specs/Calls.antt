@@ -10,10 +10,8 @@ use Rattle.block_chain.specs.Changes.{AppendsSome}
 use Rattle.ef_body.specs.declared.cyclic.Cyclic.{Cyclic}
 use Rattle.ef_body.specs.declared.error.BodyErr.{BodyErr}
 use Rattle.ef_body.specs.declared.slot.RecordSlot.{RecordSlot}
-use Rattle.ef_body.specs.Numbers.{spelled}
-use Rattle.ef_body.specs.Records.{record_of}
-use Rattle.ef_body.specs.Refusals.{missing_record, unraised, raised_number, Decides, DecidesUnlessFailed, IfRefused}
-use Rattle.ef_body.specs.Refusals.{failure}
+use Rattle.card_state.specs.RecordLists.{spelled, record_of, raised_number}
+use Rattle.ef_body.specs.Refusals.{missing_record, unraised, Decides, DecidesUnlessFailed, IfRefused, failure}
 
 -- A look for the record of a number in a ring finds it, unless there is none.
 pub record FindsRecord (ring : Cyclic) (number : ℕ) (result : Result RecordSlot Sw) : Type 0 where

@@ -6,13 +6,12 @@ use Rattle.block_chain.specs.declared.chain.Chain.{Chain}
 use Rattle.block_chain.specs.Words.{word}
 use Rattle.block_chain.specs.Counts.{IsNotIn}
 use Rattle.block_chain.specs.Chains.{chain_of, chain_bytes}
-use Rattle.block_chain.specs.Changes.{OnlyContent, overwrite}
+use Rattle.block_chain.specs.Changes.{OnlyContent}
+use Rattle.card_state.specs.FileTrees.{overwrite}
 use Rattle.ef_body.specs.declared.transparent.Transparent.{Transparent}
 use Rattle.ef_body.specs.declared.linear.Linear.{Linear}
 use Rattle.ef_body.specs.declared.cyclic.Cyclic.{Cyclic}
-use Rattle.ef_body.specs.Records.{front}
-use Rattle.ef_body.specs.Numbers.{spelled}
-use Rattle.ef_body.specs.Refusals.{raised_number}
+use Rattle.card_state.specs.RecordLists.{front, spelled, raised_number}
 use Rattle.ef_body.specs.Bodies.{transparent_bytes, linear_records, cyclic_records, start_told}
 
 -- Every word stays but the words of these blocks that hold bytes, and the one at this address.

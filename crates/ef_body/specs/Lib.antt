@@ -1,8 +1,6 @@
 -- What is meant: lists of records and where they lie, numbers, searching, bodies in a memory, and what calls on them
 -- promise. The laws stand apart.
 pub mod Records
-pub mod Numbers
-pub mod Searching
 pub mod Refusals
 pub mod Bodies
 pub mod Changes

@@ -1,7 +1,7 @@
 -- Lists of records, and the slots in which they lie (ETSI TS 102 221, 8.2.2). A slot is as long as a record; slots
 -- lie one behind the other.
-use Rattle.std.specs.Prelude.{◌+◌, ◌-◌, ◌*◌, ◌%◌, ◌&&◌, ℕ, Bool, List, [], ◌∷◌, length, map, take, nat_le}
-use Rattle.std.specs.Prelude.{slice_index_or, slice_range}
+use Rattle.std.specs.Prelude.{◌+◌, ◌-◌, ◌*◌, ◌%◌, ℕ, List, map}
+use Rattle.std.specs.Prelude.{slice_range}
 use Rattle.std.specs.List.{range_with_len}
 
 -- the record in a slot of these bytes
@@ -17,15 +17,3 @@ in_order size bytes number = map (slot size bytes) (range_with_len 0 number)
 unfoldable pub newest_first : ℕ → ℕ → List ℕ → ℕ → ℕ → List (List ℕ)
 newest_first size capacity bytes start number =
     map (λ i. slot size bytes ((start + i) % capacity)) (range_with_len 0 number)
-
--- a record before the others, of which the last ones are dropped: at most n are left
-abbrev pub front : ℕ → List ℕ → List (List ℕ) → List (List ℕ)
-front n newest records = take n (newest ∷ records)
-
--- whether there is a record of this number, 1 the first
-abbrev pub has_record : List (List ℕ) → ℕ → Bool
-has_record records number = nat_le 1 number && nat_le number (length records)
-
--- that record
-abbrev pub record_of : List (List ℕ) → ℕ → List ℕ
-record_of records number = slice_index_or records (number - 1) []

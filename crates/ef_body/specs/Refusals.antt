@@ -1,41 +1,11 @@
 -- What refuses a call on a body, and what an answer says of it.
-use Rattle.std.specs.Prelude.{◌≡◌, ◌+◌, ◌^◌, ℕ, Option, None, Some, List, length, nat_le, nat_lt, if◌then◌else◌}
+use Rattle.std.specs.Prelude.{◌≡◌, Option, None, Some, ◌+◌, ◌^◌, ℕ, List, length, nat_le, nat_lt, if◌then◌else◌}
 use Rattle.card_rules.specs.declared.status.Sw.{Sw}
-use Rattle.card_rules.specs.declared.status.TheConstants.Sw.{RECORD_NOT_FOUND, NO_ROOM, WRONG_OFFSET, MAXIMUM_REACHED}
 use Rattle.undo_journal.specs.declared.error.StoreErr.{StoreErr}
 use Rattle.ef_body.specs.declared.error.BodyErr.{BodyErr}
 use Rattle.ef_body.specs.declared.error.BodyErr.TheVariants.{Refused, Store}
-use Rattle.ef_body.specs.Records.{has_record, record_of}
-use Rattle.ef_body.specs.Numbers.{number_of}
-
--- there is no record of this number
-abbrev pub missing_record : List (List ℕ) → ℕ → Option Sw
-missing_record records number = if has_record records number then None else Some RECORD_NOT_FOUND
-
--- a linear file holds as many records as it has room for
-abbrev pub full : ℕ → List (List ℕ) → Option Sw
-full capacity records = if nat_le capacity (length records) then Some NO_ROOM else None
-
--- record 1 as a number, with the number that is sent added to it
-abbrev pub raised_number : List (List ℕ) → List ℕ → ℕ
-raised_number records sent = number_of (record_of records 1) + number_of sent
-
--- there is no record, or the sum needs more bytes than a record has
-abbrev pub unraised : ℕ → List (List ℕ) → List ℕ → Option Sw
-unraised size records sent =
-    if has_record records 1
-    then (if nat_le (256 ^ size) (raised_number records sent) then Some MAXIMUM_REACHED else None)
-    else Some RECORD_NOT_FOUND
-
--- the offset is at the end of the bytes or past it
-abbrev pub past_end : List ℕ → ℕ → Option Sw
-past_end bytes offset = if nat_le (length bytes) offset then Some WRONG_OFFSET else None
-
--- besides, bytes put there reach past the end
-abbrev pub overlong : List ℕ → ℕ → List ℕ → Option Sw
-overlong bytes offset new =
-    if nat_le (length bytes) offset then Some WRONG_OFFSET else
-    if nat_lt (length bytes) (offset + length new) then Some NO_ROOM else None
+use Rattle.card_rules.specs.declared.status.TheConstants.Sw.{RECORD_NOT_FOUND, NO_ROOM, WRONG_OFFSET, MAXIMUM_REACHED}
+use Rattle.card_state.specs.RecordLists.{has_record, raised_number}
 
 -- An answer decides what refuses a call: it is a refusal, with that status word, just where one applies.
 abbrev pub Decides : Option Sw → Option BodyErr → Type 0
@@ -60,3 +30,28 @@ abbrev pub failure : Option BodyErr → Option StoreErr
 failure None = None
 failure (Some (Refused status)) = None
 failure (Some (Store e)) = Some e
+
+-- there is no record of this number
+abbrev pub missing_record : List (List ℕ) → ℕ → Option Sw
+missing_record records number = if has_record records number then None else Some RECORD_NOT_FOUND
+
+-- a linear file holds as many records as it has room for
+abbrev pub full : ℕ → List (List ℕ) → Option Sw
+full capacity records = if nat_le capacity (length records) then Some NO_ROOM else None
+
+-- there is no record, or the sum needs more bytes than a record has
+abbrev pub unraised : ℕ → List (List ℕ) → List ℕ → Option Sw
+unraised size records sent =
+    if has_record records 1
+    then (if nat_le (256 ^ size) (raised_number records sent) then Some MAXIMUM_REACHED else None)
+    else Some RECORD_NOT_FOUND
+
+-- the offset is at the end of the bytes or past it
+abbrev pub past_end : List ℕ → ℕ → Option Sw
+past_end bytes offset = if nat_le (length bytes) offset then Some WRONG_OFFSET else None
+
+-- besides, bytes put there reach past the end
+abbrev pub overlong : List ℕ → ℕ → List ℕ → Option Sw
+overlong bytes offset new =
+    if nat_le (length bytes) offset then Some WRONG_OFFSET else
+    if nat_lt (length bytes) (offset + length new) then Some NO_ROOM else None

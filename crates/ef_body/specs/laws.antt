@@ -2,4 +2,3 @@
 pub mod Slots
 pub mod Lists
 pub mod Rings
-pub mod Numbers

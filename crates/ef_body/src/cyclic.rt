@@ -8,7 +8,7 @@ ghost use Rattle.undo_journal.specs.Calls.{OnlyReads, Reads, Changes};
 ghost use Rattle.ef_body.specs.declared.layout.TheConstants.{RECORD_WRITES};
 ghost use Rattle.card_rules.specs.declared.status.Sw.{Sw};
 ghost use Rattle.card_rules.specs.declared.status.TheConstants.Sw.{NO_ROOM};
-ghost use Rattle.ef_body.specs.Records.{front};
+ghost use Rattle.card_state.specs.RecordLists.{front};
 ghost use Rattle.ef_body.specs.Refusals.{missing_record, unraised, failure};
 ghost use Rattle.ef_body.specs.Bodies.{cyclic_records, IsCyclic};
 ghost use Rattle.ef_body.specs.Changes.{CyclicBecomes, Increases};

@@ -1,7 +1,7 @@
 //! Records that are read.
 ghost use Rattle.std.specs.Prelude.{◌≤◌};
 ghost use Rattle.undo_journal.specs.Memory.{committed, IsReady};
-ghost use Rattle.ef_body.specs.Records.{record_of};
+ghost use Rattle.card_state.specs.RecordLists.{record_of};
 ghost use Rattle.ef_body.specs.Bodies.{cyclic_records, IsCyclic};
 ghost use Rattle.ef_body.specs.Calls.{ReadsInto};
 

@@ -2,8 +2,7 @@
 ghost use Rattle.std.specs.Prelude.{◌≡◌, ◌≤◌, ℕ, List};
 ghost use Rattle.undo_journal.specs.Memory.{committed, IsReady};
 ghost use Rattle.ef_body.specs.declared.cyclic.Cyclic.{Cyclic};
-ghost use Rattle.ef_body.specs.Records.{record_of};
-ghost use Rattle.ef_body.specs.Searching.{found};
+ghost use Rattle.card_state.specs.RecordLists.{record_of, found};
 ghost use Rattle.ef_body.specs.Refusals.{missing_record};
 ghost use Rattle.ef_body.specs.Bodies.{cyclic_records, IsCyclic};
 ghost use Rattle.ef_body.specs.Calls.{FindsRecord, ReadsUnlessRefused};

@@ -4,8 +4,7 @@ ghost use Rattle.std.specs.Prelude.{slice_index};
 ghost use Rattle.std.specs.List.{starts_with};
 ghost use Rattle.undo_journal.specs.Memory.{committed, IsReady};
 ghost use Rattle.undo_journal.specs.Calls.{Learns};
-ghost use Rattle.ef_body.specs.Records.{record_of};
-ghost use Rattle.ef_body.specs.Searching.{stands_in, numbers_on, found};
+ghost use Rattle.card_state.specs.RecordLists.{record_of, stands_in, numbers_on, found};
 ghost use Rattle.ef_body.specs.Bodies.{cyclic_records, IsCyclic};
 ghost use Rattle.ef_body.specs.Calls.{ReadsInto};
 

@@ -9,7 +9,7 @@ ghost use Rattle.block_chain.specs.Chains.{chain_of as blocks_of_chain};
 ghost use Rattle.block_chain.specs.Changes.{Overwrites, touched_blocks, touched_words};
 ghost use Rattle.block_chain.specs.Writes.{put_writes};
 ghost use Rattle.ef_body.specs.declared.layout.TheConstants.{RECORD_WRITES, UPDATE_WRITES};
-ghost use Rattle.ef_body.specs.Records.{front};
+ghost use Rattle.card_state.specs.RecordLists.{front};
 ghost use Rattle.ef_body.specs.Bodies.{counts_word, cyclic_records, IsCyclic, LieIn};
 ghost use Rattle.undo_journal.specs.Spending.{transaction_writes};
 ghost use Rattle.ef_body.specs.Changes.{CyclicBecomes, PutsRecord, RecordsBecome};

@@ -8,18 +8,17 @@ use Rattle.std.specs.List.Sorted.{IsPermutation}
 use Rattle.std.proofs.lemmas.Bool.{cases_lt, cases_eq, ne_eqb, lt-ltb, false≢true}
 use Rattle.std.proofs.lemmas.List.Sums.{sum_by-cons}
 use Rattle.std.proofs.lemmas.List.Sorted.{Contains-permutation, sum_by-IsPermutation}
-use Rattle.fcp_template.specs.declared.fcp.Fcp.{Fcp}
-use Rattle.fcp_template.specs.declared.fcp.FileKind.TheVariants as kinds
-use Rattle.fcp_template.specs.declared.fault.FcpFault.{FcpFault}
-use Rattle.fcp_template.specs.declared.descriptor.Structure.{Structure}
-use Rattle.fcp_template.specs.declared.descriptor.Descriptor.{Descriptor}
-use Rattle.fcp_template.specs.declared.descriptor.Descriptor.TheVariants as descriptors
-use Rattle.fcp_template.specs.DataObjects.{DataObject, IsTemplate}
-use Rattle.fcp_template.specs.Table.{is_tag, descriptor_of, identifier_of, name_of, short_of, number_of, size_of}
-use Rattle.fcp_template.specs.Table.{records_of, life_cycle_of, rule_of}
-use Rattle.fcp_template.specs.Reads.{◌>>=◌, has, value_at, is_df_descriptor, count_of, is_again, is_missing, is_twice}
-use Rattle.fcp_template.specs.Reads.{has_unknown, df_of, transparent_of, structured, record_file_of, kind_of, fcp_of}
-use Rattle.fcp_template.specs.Reads.{meaning, FcpReads}
+use Rattle.card_state.specs.declared.fcp.Fcp.{Fcp}
+use Rattle.card_state.specs.declared.fcp.FileKind.TheVariants as kinds
+use Rattle.card_model.specs.declared.fault.FcpFault.{FcpFault}
+use Rattle.card_model.specs.declared.descriptor.Structure.{Structure}
+use Rattle.card_model.specs.declared.descriptor.Descriptor.{Descriptor}
+use Rattle.card_model.specs.declared.descriptor.Descriptor.TheVariants as descriptors
+use Rattle.card_model.specs.TemplateGrammar.{DataObject, IsTemplate, is_tag, descriptor_of, identifier_of, name_of}
+use Rattle.card_model.specs.TemplateGrammar.{short_of, number_of, size_of, records_of, life_cycle_of, rule_of, ◌>>=◌}
+use Rattle.card_model.specs.TemplateGrammar.{has, value_at, is_df_descriptor, count_of, is_again, is_missing, is_twice}
+use Rattle.card_model.specs.TemplateGrammar.{has_unknown, df_of, transparent_of, structured, record_file_of, kind_of}
+use Rattle.card_model.specs.TemplateGrammar.{fcp_of, meaning, FcpReads}
 use Rattle.fcp_template.proofs.OneReading.{reading_of_template}
 
 -- ---- a search, where one element at most passes

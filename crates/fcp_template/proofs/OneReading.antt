@@ -6,12 +6,11 @@ use Rattle.std.specs.Prelude.{MatchOption, ◌↔◌, if◌then◌else◌}
 use Rattle.std.proofs.lemmas.Bool.{cases_lt, lt-leb, le-leb, eqb-true, leb-true, and_parts}
 use Rattle.std.proofs.lemmas.Bool.Decides.{nat_tests}
 use Rattle.std.proofs.lemmas.List.{take-append-drop, length-append, length-take, length-drop}
-use Rattle.fcp_template.specs.declared.fcp.Fcp.{Fcp}
-use Rattle.fcp_template.specs.declared.fault.FcpFault.{FcpFault}
-use Rattle.fcp_template.specs.declared.fault.FcpFault.TheVariants.{Shape}
-use Rattle.fcp_template.specs.DataObjects.{DataObject, object_text, objects_text, IsTemplate}
-use Rattle.fcp_template.specs.Reads.{meaning, FcpReads}
-use Rattle.fcp_template.specs.Function.{objects_in, meaning_of, fcp_read}
+use Rattle.card_state.specs.declared.fcp.Fcp.{Fcp}
+use Rattle.card_model.specs.declared.fault.FcpFault.{FcpFault}
+use Rattle.card_model.specs.declared.fault.FcpFault.TheVariants.{Shape}
+use Rattle.card_model.specs.TemplateGrammar.{DataObject, object_text, objects_text, IsTemplate, meaning, FcpReads}
+use Rattle.card_model.specs.TemplateGrammar.{objects_in, meaning_of, fcp_read}
 use Rattle.fcp_template.proofs.Splitting.{one_template, same_object}
 
 -- a template reads as what its objects mean

@@ -11,23 +11,23 @@ use Rattle.card_rules.specs.declared.life_cycle.LifeCycle.TheVariants.{Terminate
 use Rattle.card_rules.specs.LifeCycle.{life_cycle_byte}
 use Rattle.card_rules.specs.Rule.{is_rule}
 use Rattle.card_rules.specs.laws.Rules.{length-rule}
-use Rattle.fcp_template.specs.declared.fcp.Fcp.{Fcp}
-use Rattle.fcp_template.specs.declared.fcp.FileKind.{FileKind}
-use Rattle.fcp_template.specs.declared.fcp.FileKind.TheVariants as kinds
-use Rattle.fcp_template.specs.declared.fcp.Records.{Records}
-use Rattle.fcp_template.specs.declared.fcp.ShortIdentifier.{ShortIdentifier}
-use Rattle.fcp_template.specs.declared.fcp.ShortIdentifier.TheVariants.{Absent, Empty, Given}
-use Rattle.fcp_template.specs.declared.descriptor.Structure.{Structure}
-use Rattle.fcp_template.specs.declared.descriptor.Structure.TheVariants.{Linear, Cyclic}
-use Rattle.fcp_template.specs.declared.descriptor.Descriptor.{Descriptor}
-use Rattle.fcp_template.specs.declared.descriptor.Descriptor.TheVariants as descriptors
-use Rattle.fcp_template.specs.DataObjects.{DataObject, objects_text}
-use Rattle.fcp_template.specs.Table.{descriptor_of, identifier_of, name_of, short_of, number_of, size_of, records_of}
-use Rattle.fcp_template.specs.Table.{life_cycle_of, rule_of}
-use Rattle.fcp_template.specs.Reads.{◌>>=◌, has, value_at, data_bytes, is_missing, is_twice, has_unknown, df_of}
-use Rattle.fcp_template.specs.Reads.{transparent_of, structured, record_file_of, kind_of, fcp_of, meaning, FcpReads}
-use Rattle.fcp_template.specs.Ranges.{IsShort, IsSize, IsRecords, IsKind}
-use Rattle.fcp_template.specs.Spelling.{IsShortSaid, IsInFull, two_bytes, short_value, fcp_objects, fcp_text}
+use Rattle.card_state.specs.declared.fcp.Fcp.{Fcp}
+use Rattle.card_state.specs.declared.fcp.FileKind.{FileKind}
+use Rattle.card_state.specs.declared.fcp.FileKind.TheVariants as kinds
+use Rattle.card_state.specs.declared.fcp.Records.{Records}
+use Rattle.card_state.specs.declared.fcp.ShortIdentifier.{ShortIdentifier}
+use Rattle.card_state.specs.declared.fcp.ShortIdentifier.TheVariants.{Absent, Empty, Given}
+use Rattle.card_model.specs.declared.descriptor.Structure.{Structure}
+use Rattle.card_model.specs.declared.descriptor.Structure.TheVariants.{Linear, Cyclic}
+use Rattle.card_model.specs.declared.descriptor.Descriptor.{Descriptor}
+use Rattle.card_model.specs.declared.descriptor.Descriptor.TheVariants as descriptors
+use Rattle.card_model.specs.TemplateGrammar.{DataObject, objects_text, descriptor_of, identifier_of, name_of, short_of}
+use Rattle.card_model.specs.TemplateGrammar.{number_of, size_of, records_of, life_cycle_of, rule_of, ◌>>=◌, has}
+use Rattle.card_model.specs.TemplateGrammar.{value_at, data_bytes, is_missing, is_twice, has_unknown, df_of}
+use Rattle.card_model.specs.TemplateGrammar.{transparent_of, structured, record_file_of, kind_of, fcp_of, meaning}
+use Rattle.card_model.specs.TemplateGrammar.{FcpReads}
+use Rattle.card_state.specs.FileControl.{IsShort, IsSize, IsRecords, IsKind}
+use Rattle.card_model.specs.Templates.{IsShortSaid, IsInFull, two_bytes, short_value, fcp_objects, fcp_text}
 
 -- ---- each field
 

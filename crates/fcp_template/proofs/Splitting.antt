@@ -1,6 +1,6 @@
 -- A text is cut into objects in one way.
 use Rattle.std.proofs.Common.{ℕ, ◌≡◌, ◌<◌, List, [], ◌∷◌, ◌++◌, length, refl, sym, ap, ◌∙◌, append_assoc, arith}
-use Rattle.fcp_template.specs.DataObjects.{DataObject, object_text, objects_text, IsTemplate}
+use Rattle.card_model.specs.TemplateGrammar.{DataObject, object_text, objects_text, IsTemplate}
 
 -- a list is cut in one way at a length
 pub same_front : (a b x y : List ℕ) → length a ≡ length b → a ++ x ≡ b ++ y → (a ≡ b) × (x ≡ y)

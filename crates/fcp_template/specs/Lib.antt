@@ -1,7 +1,1 @@
-pub mod DataObjects
-pub mod Table
-pub mod Reads
-pub mod Function
-pub mod Ranges
-pub mod Views
-pub mod Spelling
+pub mod Tags

@@ -1,7 +1,9 @@
 //! The file descriptor: of what kind a file is.
 
 ghost use Rattle.std.specs.Prelude.{◌≡◌};
-ghost use Rattle.fcp_template.specs.Table.{plain_descriptor, structure_of, record_descriptor, descriptor_of};
+ghost use Rattle.card_model.specs.TemplateGrammar.{plain_descriptor, structure_of, record_descriptor, descriptor_of};
+
+use card_model::{Descriptor, Structure};
 
 /// The bit of a descriptor byte that says that a file is shareable. CREATE FILE may set it or not; an answer sets it.
 const SHAREABLE: u8 = 0x40;
@@ -33,78 +35,50 @@ pub(crate) const SHAREABLE_CYCLIC: u8 = CYCLIC | SHAREABLE;
 /// The data coding byte that follows the descriptor byte in an answer. Of one that is read nothing is taken.
 pub(crate) const DATA_CODING: u8 = 0x21;
 
-/// In which order the records of an elementary file are.
-#[derive(Clone, Copy)]
-pub(crate) enum Structure {
-    Linear,
-    Cyclic,
-}
-
-/// What a file descriptor tells of a file.
-#[derive(Clone, Copy)]
-pub(crate) enum Descriptor {
-    Df,
-    Transparent,
-    Records {
-        structure: Structure,
-        record_length: u16,
-        /// How many records exist; None: as many as there is room for.
-        existing: Option<u8>,
-    },
-}
-
-impl Descriptor {
-    /// The descriptor that is the value of an object 82.
-    pub(crate) fn from_value(value: &[u8]) -> Option<Descriptor>
-        ensures { result ≡ descriptor_of value.now }
-    {
-        match *value {
-            [byte] | [byte, _] => Descriptor::plain(byte),
-            [byte, _, high, low] => Descriptor::records(
-                byte,
-                u16::from_be_bytes([high, low]),
-                None,
-            ),
-            [byte, _, high, low, existing] => {
-                Descriptor::records(byte, u16::from_be_bytes([high, low]), Some(existing))
-            }
-            _ => None,
+/// The descriptor that is the value of an object 82.
+pub(crate) fn descriptor_of(value: &[u8]) -> Option<Descriptor>
+    ensures { result ≡ descriptor_of value.now }
+{
+    match *value {
+        [byte] | [byte, _] => plain_descriptor(byte),
+        [byte, _, high, low] => record_descriptor(byte, u16::from_be_bytes([high, low]), None),
+        [byte, _, high, low, existing] => {
+            record_descriptor(byte, u16::from_be_bytes([high, low]), Some(existing))
         }
-    }
-
-    /// The descriptor of a file without records, by its byte.
-    fn plain(byte: u8) -> Option<Descriptor>
-        ensures { result ≡ plain_descriptor byte }
-    {
-        match byte {
-            DF | SHAREABLE_DF => Some(Descriptor::Df),
-            TRANSPARENT | SHAREABLE_TRANSPARENT => Some(Descriptor::Transparent),
-            _ => None,
-        }
-    }
-
-    /// The descriptor of a file of records, by its byte.
-    fn records(byte: u8, record_length: u16, existing: Option<u8>) -> Option<Descriptor>
-        ensures { result ≡ record_descriptor (structure_of byte) record_length existing }
-    {
-        let structure = Structure::from_byte(byte)?;
-        Some(Descriptor::Records {
-            structure,
-            record_length,
-            existing,
-        })
+        _ => None,
     }
 }
 
-impl Structure {
-    /// The structure of a file of records, by the byte of its descriptor.
-    fn from_byte(byte: u8) -> Option<Structure>
-        ensures { result ≡ structure_of byte }
-    {
-        match byte {
-            LINEAR | SHAREABLE_LINEAR => Some(Structure::Linear),
-            CYCLIC | SHAREABLE_CYCLIC => Some(Structure::Cyclic),
-            _ => None,
-        }
+/// The descriptor of a file without records, by its byte.
+fn plain_descriptor(byte: u8) -> Option<Descriptor>
+    ensures { result ≡ plain_descriptor byte }
+{
+    match byte {
+        DF | SHAREABLE_DF => Some(Descriptor::Df),
+        TRANSPARENT | SHAREABLE_TRANSPARENT => Some(Descriptor::Transparent),
+        _ => None,
+    }
+}
+
+/// The descriptor of a file of records, by its byte.
+fn record_descriptor(byte: u8, record_length: u16, existing: Option<u8>) -> Option<Descriptor>
+    ensures { result ≡ record_descriptor (structure_of byte) record_length existing }
+{
+    let structure = structure_of(byte)?;
+    Some(Descriptor::Records {
+        structure,
+        record_length,
+        existing,
+    })
+}
+
+/// The structure of a file of records, by the byte of its descriptor.
+fn structure_of(byte: u8) -> Option<Structure>
+    ensures { result ≡ structure_of byte }
+{
+    match byte {
+        LINEAR | SHAREABLE_LINEAR => Some(Structure::Linear),
+        CYCLIC | SHAREABLE_CYCLIC => Some(Structure::Cyclic),
+        _ => None,
     }
 }

@@ -2,12 +2,10 @@
 
 ghost use Rattle.std.specs.Prelude.{◌≡◌, ◌≢◌, ◌↔◌, ℕ, List, Result, Ok, IsPermutation};
 ghost use Rattle.card_rules.specs.declared.life_cycle.LifeCycle.TheVariants.{Terminated};
-ghost use Rattle.fcp_template.specs.declared.fcp.Fcp.{Fcp};
-ghost use Rattle.fcp_template.specs.declared.fault.FcpFault.{FcpFault};
-ghost use Rattle.fcp_template.specs.Reads.{FcpReads};
-ghost use Rattle.fcp_template.specs.DataObjects.{DataObject, IsTemplate};
-ghost use Rattle.fcp_template.specs.Spelling.{IsInFull, fcp_text};
-ghost use Rattle.fcp_template.specs.Function.{fcp_read};
+ghost use Rattle.card_state.specs.declared.fcp.Fcp.{Fcp};
+ghost use Rattle.card_model.specs.declared.fault.FcpFault.{FcpFault};
+ghost use Rattle.card_model.specs.TemplateGrammar.{FcpReads, DataObject, IsTemplate, fcp_read};
+ghost use Rattle.card_model.specs.Templates.{IsInFull, fcp_text};
 
 /// What is written of file control parameters in full is read again as the same parameters, but for those of the MF and
 /// of a terminated file, which no CREATE FILE can make.

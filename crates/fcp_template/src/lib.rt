@@ -2,15 +2,13 @@
 #![tactic(auto)]
 
 mod descriptor;
-mod fault;
-mod fcp;
 pub mod laws;
 mod object;
 mod reading;
 mod tag;
 mod writing;
 
-pub use fault::FcpFault;
-pub use fcp::{DfName, Fcp, FileKind, Records, ShortIdentifier};
+pub use card_model::FcpFault;
+pub use card_state::{DfName, Fcp, FileKind, Records, ShortIdentifier};
 pub use reading::parse;
 pub use writing::write;

@@ -1,7 +1,7 @@
 //! Data objects, and the templates that they make.
 
 ghost use Rattle.std.specs.Prelude.{◌≡◌, ℕ, List, [], ◌++◌, ◌≤◌, length, IfSome, IfNone};
-ghost use Rattle.fcp_template.specs.DataObjects.{DataObject, object_text, objects_text, IsTemplate};
+ghost use Rattle.card_model.specs.TemplateGrammar.{DataObject, object_text, objects_text, IsTemplate};
 
 use crate::tag::TEMPLATE;
 use arrayvec::ArrayVec;
@@ -15,7 +15,7 @@ pub(crate) struct Object<'a> {
 }
 
 impl<'a> Model for Object<'a> {
-    ghost use Rattle.fcp_template.specs.DataObjects.{DataObject};
+    ghost use Rattle.card_model.specs.TemplateGrammar.{DataObject};
 
     ghost Value = { DataObject };
 

@@ -2,25 +2,26 @@
 
 ghost use Rattle.std.specs.Prelude.{◌≡◌, ◌≢◌, ◌%◌, ◌==◌, ◌&&◌, ◌||◌, Result, IfOk, IfSome, is_some, nat_le, not};
 ghost use Rattle.std.specs.Option.{option_copied};
-ghost use Rattle.fcp_template.specs.declared.fault.FcpFault.{FcpFault};
-ghost use Rattle.fcp_template.specs.declared.fcp.Fcp.{Fcp};
-ghost use Rattle.fcp_template.specs.Table.{tag_byte, is_tag, identifier_of, name_of, short_of, number_of, size_of};
-ghost use Rattle.fcp_template.specs.Table.{records_of, life_cycle_of, rule_of, descriptor_of};
-ghost use Rattle.fcp_template.specs.Reads.{has, value_at, data_bytes, is_df_descriptor, tells_of_df, count_of};
-ghost use Rattle.fcp_template.specs.Reads.{is_again, is_missing, is_twice, has_unknown, df_of, transparent_of};
-ghost use Rattle.fcp_template.specs.Reads.{◌>>=◌ as and_then, record_file_of, kind_of, fcp_of, meaning, FcpReads};
-ghost use Rattle.fcp_template.specs.Function.{fcp_read};
-ghost use Rattle.fcp_template.specs.Ranges.{IsShort, IsSize, IsName, IsRecords, IsKind, IsCreatable};
+ghost use Rattle.card_model.specs.declared.fault.FcpFault.{FcpFault};
+ghost use Rattle.card_state.specs.declared.fcp.Fcp.{Fcp};
+ghost use Rattle.fcp_template.specs.Tags.{tag_byte};
+ghost use Rattle.card_model.specs.TemplateGrammar.{is_tag, identifier_of, name_of, short_of, number_of, size_of};
+ghost use Rattle.card_model.specs.TemplateGrammar.{records_of, life_cycle_of, rule_of, descriptor_of, has, value_at};
+ghost use Rattle.card_model.specs.TemplateGrammar.{data_bytes, is_df_descriptor, tells_of_df, count_of, is_again};
+ghost use Rattle.card_model.specs.TemplateGrammar.{is_missing, is_twice, has_unknown, df_of, transparent_of};
+ghost use Rattle.card_model.specs.TemplateGrammar.{◌>>=◌ as and_then, record_file_of, kind_of, fcp_of, meaning};
+ghost use Rattle.card_model.specs.TemplateGrammar.{FcpReads, fcp_read};
+ghost use Rattle.card_state.specs.FileControl.{IsShort, IsSize, IsName, IsRecords, IsKind, IsCreatable};
 ghost use Rattle.card_rules.specs.declared.life_cycle.LifeCycle.TheVariants.{Terminated};
 
-use crate::descriptor::{DF, Descriptor, SHAREABLE_DF, Structure};
-use crate::fault::FcpFault;
-use crate::fcp::{DfName, Fcp, FileKind, Records, ShortIdentifier};
+use crate::descriptor::{DF, SHAREABLE_DF, descriptor_of};
 use crate::object::{Object, objects_of};
 use crate::tag::{Tag, is_tag};
+use card_model::{Descriptor, FcpFault, Structure};
 use card_rules::identifiers::{CURRENT_FILE, MASTER_FILE, RESERVED};
 use card_rules::limits::{MOST_BYTES, MOST_RECORD_BYTES, MOST_RECORDS, MOST_SHORT};
 use card_rules::{Compact, LifeCycle};
+use card_state::{DfName, Fcp, FileKind, Records, ShortIdentifier};
 
 /// The file control parameters that a text spells, its objects in any order.
 ///
@@ -165,7 +166,7 @@ fn fcp_of<'a>(objects: &[Object<'a>]) -> Option<Fcp<'a>>
 fn descriptor_at(objects: &[Object<'_>]) -> Option<Descriptor>
     ensures { result ≡ and_then (value_at objects.now 0x82) descriptor_of }
 {
-    Descriptor::from_value(value_at(objects, Tag::FileDescriptor)?)
+    descriptor_of(value_at(objects, Tag::FileDescriptor)?)
 }
 
 /// The identifier in object 83.

@@ -1,20 +1,20 @@
 //! Writing templates.
 
 ghost use Rattle.std.specs.Prelude.{◌≡◌, ◌+◌, ◌≤◌, [], ◌∷◌, ◌++◌, length};
-ghost use Rattle.fcp_template.specs.Table.{tag_byte};
-ghost use Rattle.fcp_template.specs.DataObjects.{object_text, objects_text};
-ghost use Rattle.fcp_template.specs.Ranges.{IsKind, IsShort};
-ghost use Rattle.fcp_template.specs.Spelling.{IsInFull, data_object, two_bytes, short_value, descriptor_value};
-ghost use Rattle.fcp_template.specs.Spelling.{kind_objects, fcp_objects, fcp_text};
+ghost use Rattle.fcp_template.specs.Tags.{tag_byte};
+ghost use Rattle.card_model.specs.TemplateGrammar.{object_text, objects_text};
+ghost use Rattle.card_state.specs.FileControl.{IsKind, IsShort};
+ghost use Rattle.card_model.specs.Templates.{IsInFull, data_object, two_bytes, short_value, descriptor_value};
+ghost use Rattle.card_model.specs.Templates.{kind_objects, fcp_objects, fcp_text};
 
 use crate::descriptor::{
     DATA_CODING, SHAREABLE_CYCLIC, SHAREABLE_DF, SHAREABLE_LINEAR, SHAREABLE_TRANSPARENT,
 };
-use crate::fcp::{Fcp, FileKind, Records, ShortIdentifier};
 use crate::object::BODY_LIMIT;
 use crate::tag::{TEMPLATE, Tag};
 use arrayvec::ArrayVec;
 use card_rules::limits::MOST_ANSWER_DATA;
+use card_state::{Fcp, FileKind, Records, ShortIdentifier};
 
 /// The bytes of a template's objects.
 type Body = ArrayVec<u8, BODY_LIMIT>;

@@ -1,15 +1,16 @@
 -- What creating a file answers, and makes of the tree.
 use Rattle.std.specs.Prelude.{◌≡◌, ℕ, List, [], ◌∷◌, ◌++◌, None, Some}
-use Rattle.fcp_template.specs.declared.fcp.Fcp.{Fcp}
+use Rattle.card_state.specs.declared.fcp.Fcp.{Fcp}
 use Rattle.file_changes.specs.declared.creating.Creation.{Creation}
 use Rattle.file_changes.specs.declared.creating.Creation.TheVariants.{Created, Refused}
 use Rattle.file_tree.specs.Formats.{block_count}
-use Rattle.file_tree.specs.Spaces.{free_space}
+use Rattle.card_state.specs.Spaces.{free_space}
 use Rattle.file_tree.specs.Table.{table, path_of, IsUsed}
 use Rattle.file_tree.specs.Trees.{tree_of}
 use Rattle.file_tree.specs.Changes.{Creates, with_freed}
 use Rattle.file_tree.specs.Indexes.{AddsEntry}
-use Rattle.file_tree.specs.NewFiles.{new_file, short_of_new, creation_refusal}
+use Rattle.card_state.specs.NewFiles.{new_file, short_of_new}
+use Rattle.file_changes.specs.CreationRefusals.{creation_refusal}
 
 -- A file more stands in a dedicated file, new as its file control parameters tell.
 abbrev pub CreatesNew : List ℕ → ℕ → Fcp → List ℕ → Type 0

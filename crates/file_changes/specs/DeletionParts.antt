@@ -7,7 +7,8 @@ use Rattle.block_chain.specs.Words.{word}
 use Rattle.block_chain.specs.Chains.{HasFree, AreApart}
 use Rattle.block_chain.specs.Changes.{GivesBack}
 use Rattle.block_chain.specs.Layout.{chains_of}
-use Rattle.file_tree.specs.declared.layout.TheConstants.{FIRST_ENTRY_PAGE, ENTRIES}
+use Rattle.file_tree.specs.declared.layout.TheConstants.{FIRST_ENTRY_PAGE}
+use Rattle.card_state.specs.declared.limits.TheConstants.{ENTRIES}
 use Rattle.file_tree.specs.declared.entry.Entry.{Entry}
 use Rattle.file_changes.specs.declared.deleting.Removal.{Removal}
 use Rattle.file_tree.specs.Entries.{free_entry}

@@ -2,4 +2,5 @@
 pub mod Creations
 pub mod CreationParts
 pub mod DeletionParts
+pub mod CreationRefusals
 pub mod laws

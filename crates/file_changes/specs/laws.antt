@@ -10,5 +10,4 @@ pub mod Allowed
 pub mod Places
 pub mod Entering
 pub mod Made
-pub mod Barring
 pub mod LifeChanges

@@ -11,7 +11,7 @@ ghost use Rattle.block_chain.specs.declared.layout.TheConstants.{MOST_BLOCKS};
 ghost use Rattle.block_chain.specs.Layout.{chains_of};
 ghost use Rattle.file_tree.specs.declared.layout.TheConstants.{DELETE_WRITES};
 ghost use Rattle.file_tree.specs.Formats.{block_count};
-ghost use Rattle.file_tree.specs.Spaces.{free_space};
+ghost use Rattle.card_state.specs.Spaces.{free_space};
 ghost use Rattle.file_tree.specs.Table.{extents, table};
 ghost use Rattle.file_tree.specs.Trees.{tree_of};
 ghost use Rattle.file_tree.specs.Changes.{Deletes, with_freed};

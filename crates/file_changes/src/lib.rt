@@ -10,6 +10,4 @@ mod writing;
 
 pub use creating::{Creation, create};
 pub use deleting::delete;
-pub use life_cycles::{
-    is_allowed_at, is_barred_at, next_life_cycle, set_life_cycle, terminate_card,
-};
+pub use life_cycles::{next_life_cycle, set_life_cycle, terminate_card};

@@ -7,69 +7,18 @@ ghost use Rattle.undo_journal.specs.Commits.{CommitsByGate};
 ghost use Rattle.undo_journal.specs.Memory.{committed, IsReady};
 ghost use Rattle.undo_journal.specs.Calls.{Learns, OnlyReads, Changes};
 ghost use Rattle.card_rules.specs.LifeCycle.{life_cycle_byte};
-ghost use Rattle.file_tree.specs.States.{bars, is_barred, life_at, next_life};
+ghost use Rattle.card_state.specs.FileLives.{life_at, next_life};
 ghost use Rattle.file_tree.specs.States.{with_card_terminated, ChangesLife};
 ghost use Rattle.file_tree.specs.Table.{table, entry_in, path_of};
 ghost use Rattle.file_tree.specs.Trees.{tree_of};
-ghost use Rattle.file_tree.specs.Entries.{is_allowed_by};
-ghost use Rattle.file_tree.specs.Parts.{barred_up, TellsLife};
+ghost use Rattle.file_tree.specs.Parts.{TellsLife};
 ghost use Rattle.file_tree.specs.StoredFiles.{HasFile};
 
 use crate::writing::two_bytes;
 use block_chain::HEADER_PAGE;
-use card_rules::{AccessBit, LifeCycle, LifeCycleCommand, PinSet, allows};
-use file_tree::{
-    CARD_TERMINATED, DEEPEST, Entry, STATE_WORD, entry_address, read_entry, read_entry_head,
-};
+use card_rules::{LifeCycle, LifeCycleCommand};
+use file_tree::{CARD_TERMINATED, Entry, STATE_WORD, entry_address, is_below_barred, read_entry};
 use undo_journal::{Board, PAGE_WORDS, Store, StoreErr};
-
-/// A file in this state bars itself and all files below it.
-fn bars(life: LifeCycle) -> bool
-    ensures { result ≡ bars life }
-{
-    matches!(life, LifeCycle::Deactivated | LifeCycle::Terminated)
-}
-
-/// A file above that of an entry is deactivated or terminated. By at most seven steps from child to parent all files
-/// above are met; each step reads the head of one entry, and a file that bars ends the way. `parent` is the number that
-/// the entry tells of its parent.
-fn is_below_barred<B: Board>(store: &mut Store<B>, e: u8, parent: u8) -> Result<bool, StoreErr>
-    requires file { HasFile store.old e }
-    requires parent { parent ≡ (entry_in (table (committed store.old)) e).parent }
-    ensures { Learns store.old store.new result (λ barred. barred ≡ barred_up (table (committed store.old)) 7 e) }
-{
-    let mut at = e;
-    let mut above = parent;
-    for _step in 0..DEEPEST {
-        if at == 0 {
-            return Ok(false);
-        }
-        let head = read_entry_head(store, above)?;
-        if bars(head.life_cycle()) {
-            return Ok(true);
-        }
-        at = above;
-        above = head.parent;
-    }
-    Ok(false)
-}
-
-/// The file of an entry is barred: it, or a file above it, is deactivated or terminated. The entry is at hand: it isn't
-/// read again.
-///
-/// # Errors
-/// What the store answers: power was lost, or the device failed.
-pub fn is_barred_at<B: Board>(store: &mut Store<B>, e: u8, entry: &Entry) -> Result<bool, StoreErr>
-    requires file { HasFile store.old e }
-    requires entry { entry.now ≡ entry_in (table (committed store.old)) e }
-    ensures { Learns store.old store.new result (λ barred. barred
-        ≡ is_barred (tree_of (committed store.old)) (path_of (table (committed store.old)) e)) }
-{
-    if bars(entry.life_cycle()) {
-        return Ok(true);
-    }
-    is_below_barred(store, e, entry.parent)
-}
 
 /// The state of an entry's file after a life cycle command. None where it is refused, as its conditions of use aren't
 /// satisfied: a file above is deactivated or terminated, or the state found does not allow it. The entry is at hand: it
@@ -142,14 +91,6 @@ pub fn set_life_cycle<B: Board>(
         return Ok(());
     }
     write_word(store, entry_address(e), life_word(&entry, state))
-}
-
-/// Whether the access rule of an entry's file allows what the bit stands for, where these PINs are verified, and these
-/// are disabled (ISO/IEC 7816-4, 9.3.3). The entry is at hand: its rule is asked where it lies.
-pub fn is_allowed_at(entry: &Entry, bit: AccessBit, verified: &PinSet, disabled: &PinSet) -> bool
-    ensures { result ≡ is_allowed_by entry.now bit verified.now disabled.now }
-{
-    allows(entry.rule(), bit, entry.life_cycle(), verified, disabled)
 }
 
 /// Ends the use of the card: the state of the card in the header is "terminated". No other word changes. A card whose

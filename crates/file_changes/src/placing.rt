@@ -10,7 +10,7 @@ ghost use Rattle.file_changes.specs.CreationParts.{TellsPlace};
 use crate::refusing::{first_free, is_deepest};
 use block_chain::free_count;
 use card_rules::Sw;
-use fcp_template::Fcp;
+use card_state::Fcp;
 use file_tree::{Entry, blocks_for};
 use undo_journal::{Board, Store, StoreErr};
 

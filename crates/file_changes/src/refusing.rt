@@ -4,16 +4,17 @@ ghost use Rattle.std.specs.Prelude.{◌≡◌, ◌≢◌, ◌↔◌, length, IsT
 ghost use Rattle.undo_journal.specs.Memory.{committed};
 ghost use Rattle.undo_journal.specs.Calls.{Learns};
 ghost use Rattle.card_rules.specs.declared.status.TheConstants.Sw.{FILE_EXISTS, NAME_EXISTS, WRONG_DATA};
-ghost use Rattle.fcp_template.specs.Ranges.{IsShort, IsCreatable};
+ghost use Rattle.card_state.specs.FileControl.{IsShort, IsCreatable};
 ghost use Rattle.file_tree.specs.Table.{ancestor, table, path_of};
 ghost use Rattle.file_tree.specs.Trees.{tree_of};
 ghost use Rattle.file_tree.specs.Indexes.{IsIndex};
-ghost use Rattle.file_tree.specs.NewFiles.{has_short_given, taken_refusal};
+ghost use Rattle.card_state.specs.NewFiles.{has_short_given};
+ghost use Rattle.file_changes.specs.CreationRefusals.{taken_refusal};
 ghost use Rattle.file_tree.specs.StoredFiles.{HasFile};
 ghost use Rattle.file_changes.specs.CreationParts.{TellsFreeEntry};
 
 use card_rules::Sw;
-use fcp_template::{Fcp, ShortIdentifier};
+use card_state::{Fcp, ShortIdentifier};
 use file_tree::{DEEPEST, ENTRIES_END, Entry, Index, ancestor, entry_named, find_short};
 use undo_journal::{Board, Store, StoreErr};
 

@@ -7,9 +7,10 @@ use Rattle.block_chain.specs.declared.layout.TheConstants.{HEADER_PAGE, FREE_HEA
 use Rattle.block_chain.specs.Words.{word}
 use Rattle.block_chain.specs.Chains.{free_chain}
 use Rattle.block_chain.specs.Changes.{KeepsBlocks}
-use Rattle.file_tree.specs.declared.layout.TheConstants.{FIRST_ENTRY_PAGE, ENTRIES}
-use Rattle.file_tree.specs.declared.space.FreeSpace.{FreeSpace}
-use Rattle.file_tree.specs.Cards.{File, file_at, bytes_of, with_bytes, overwrite}
+use Rattle.file_tree.specs.declared.layout.TheConstants.{FIRST_ENTRY_PAGE}
+use Rattle.card_state.specs.declared.limits.TheConstants.{ENTRIES}
+use Rattle.card_state.specs.declared.space.FreeSpace.{FreeSpace}
+use Rattle.card_state.specs.FileTrees.{File, file_at, bytes_of, with_bytes, overwrite}
 use Rattle.file_tree.specs.Formats.{block_count, SameFormat}
 use Rattle.file_tree.specs.Table.{table, entry_in, path_of, IsUsed}
 use Rattle.file_tree.specs.Trees.{tree_of, TreeStands}

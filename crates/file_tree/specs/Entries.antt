@@ -11,8 +11,8 @@ use Rattle.block_chain.specs.declared.chain.Extent.{Extent}
 use Rattle.block_chain.specs.Words.{word_bytes}
 use Rattle.file_tree.specs.declared.entry.Entry.{Entry}
 use Rattle.file_tree.specs.declared.entry.EntryHead.{EntryHead}
-use Rattle.file_tree.specs.Cards.{transparent, linear, cyclic, dedicated, elementary, Body, Kind, File}
-use Rattle.file_tree.specs.Spaces.{blocks_for}
+use Rattle.card_state.specs.FileTrees.{transparent, linear, cyclic, dedicated, elementary, Body, Kind, File}
+use Rattle.card_state.specs.Spaces.{blocks_for}
 
 -- the first and the last two bytes of a word
 abbrev pub high : ℕ → ℕ

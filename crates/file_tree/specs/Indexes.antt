@@ -1,11 +1,11 @@
 -- The index of a tree: in which entry each file is, by the entry of its parent and its identifier.
 use Rattle.std.specs.Prelude.{◌≡◌, ◌≢◌, ◌<◌, ℕ, if◌then◌else◌, List, [], ◌∷◌, ◌++◌, All, Contains, length, Option}
 use Rattle.std.specs.Prelude.{None, Some}
-use Rattle.file_tree.specs.declared.layout.TheConstants.{ENTRIES}
+use Rattle.card_state.specs.declared.limits.TheConstants.{ENTRIES}
 use Rattle.file_tree.specs.declared.entry.Entry.{Entry}
 use Rattle.file_tree.specs.declared.index.Place.{Place}
 use Rattle.file_tree.specs.declared.index.Index.{Index}
-use Rattle.file_tree.specs.Cards.{Path, Tree, exists}
+use Rattle.card_state.specs.FileTrees.{Path, Tree, exists}
 use Rattle.file_tree.specs.Keys.{key_for, IsBefore}
 use Rattle.file_tree.specs.Table.{entry_in, IsUsed, IsChild}
 

@@ -1,8 +1,5 @@
 -- What is meant: files and the tree, what names reach, free space, entries, their table, and the tree of a memory.
 -- The laws stand apart.
-pub mod Cards
-pub mod Reaching
-pub mod Spaces
 pub mod States
 pub mod Kinds
 pub mod Entries
@@ -13,7 +10,6 @@ pub mod Trees
 pub mod StoredFiles
 pub mod Changes
 pub mod Adding
-pub mod NewFiles
 pub mod Naming
 pub mod Parts
 pub mod Subtrees

@@ -2,8 +2,8 @@
 use Rattle.std.specs.Prelude.{◌≡◌, ◌≢◌, ◌==◌, ◌⊎◌, ◌<◌, ◌&&◌, ◌||◌, ℕ, zero, suc, Bool, false, not, if◌then◌else◌}
 use Rattle.std.specs.Prelude.{List, length, Option, None, Some}
 use Rattle.file_tree.specs.declared.entry.Entry.{Entry}
-use Rattle.file_tree.specs.Cards.{master_file}
-use Rattle.file_tree.specs.States.{bars}
+use Rattle.card_state.specs.FileTrees.{master_file}
+use Rattle.card_state.specs.FileLives.{bars}
 use Rattle.file_tree.specs.Entries.{byte_of, life_told, low, name_of}
 use Rattle.file_tree.specs.Table.{entry_in, IsUsed, IsBelowMaster, IsChild}
 

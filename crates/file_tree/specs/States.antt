@@ -1,65 +1,22 @@
 -- The life cycle of the files of a card: which files are barred, and what a command makes of a file's state
 -- (ISO/IEC 7816-9; ISO/IEC 7816-4, 7.4.10).
-use Rattle.std.specs.Prelude.{◌≡◌, ◌≢◌, ℕ, Bool, true, false, ◌||◌, if◌then◌else◌, List, length, map, take, slice_set}
-use Rattle.std.specs.Prelude.{Option, None}
-use Rattle.std.specs.List.{list_any, range_with_len}
+use Rattle.std.specs.Prelude.{◌≡◌, ◌≢◌, ℕ, List, slice_set}
 use Rattle.std.specs.FinMap.{insert}
-use Rattle.card_rules.specs.LifeCycle.{life_cycle_byte, state_after}
+use Rattle.card_rules.specs.LifeCycle.{life_cycle_byte}
 use Rattle.card_rules.specs.declared.life_cycle.LifeCycle.{LifeCycle}
-use Rattle.card_rules.specs.declared.life_cycle.LifeCycle.TheVariants.{Creation, Initialisation, Deactivated, Activated}
-use Rattle.card_rules.specs.declared.life_cycle.LifeCycle.TheVariants.{Terminated}
-use Rattle.card_rules.specs.declared.life_cycle.LifeCycleCommand.{LifeCycleCommand}
-use Rattle.card_rules.specs.declared.access_mode.AccessBit.{AccessBit}
-use Rattle.card_rules.specs.Rule.{allows}
 use Rattle.nvm_board.specs.Facts.{address}
 use Rattle.block_chain.specs.declared.layout.TheConstants.{HEADER_PAGE}
 use Rattle.block_chain.specs.Chains.{free_chain}
 use Rattle.file_tree.specs.declared.layout.TheConstants.{STATE_WORD, CARD_TERMINATED}
-use Rattle.file_tree.specs.Cards.{File, Path, Tree, file_at}
+use Rattle.card_state.specs.FileTrees.{file_at}
 use Rattle.file_tree.specs.Changes.{KeepsRest}
 use Rattle.file_tree.specs.Table.{table, entry_in, path_of}
 use Rattle.file_tree.specs.Trees.{tree_of, TreeStands}
-
--- a file in this state bars itself and all files below it: it is deactivated or terminated
-abbrev pub bars : LifeCycle → Bool
-bars Creation = false
-bars Initialisation = false
-bars Deactivated = true
-bars Activated = false
-bars Terminated = true
-
--- the paths of the files above one, from the master file's down; the master file has none above it
-abbrev pub above : Path → List Path
-above path = map (λ n. take n path) (range_with_len 0 (length path))
-
--- the state of the file at a path
-abbrev pub life_at : Tree → Path → LifeCycle
-life_at tree path = (file_at tree path).life
-
--- whether a file above is deactivated or terminated, and whether it is or the file itself
-abbrev pub has_barred_above : Tree → Path → Bool
-has_barred_above tree path = list_any (λ p. bars (life_at tree p)) (above path)
-
-abbrev pub is_barred : Tree → Path → Bool
-is_barred tree path = bars (life_at tree path) || has_barred_above tree path
-
--- the state of a file after a life cycle command, or None where it is refused:
--- a file above is barred, or the state found does not allow it
-abbrev pub next_life : Tree → Path → LifeCycleCommand → Option LifeCycle
-next_life tree path command = if has_barred_above tree path then None else state_after command (life_at tree path)
-
--- whether the access rule of the file at a path allows an operation, where these PINs are verified,
--- and these are disabled
-abbrev pub is_allowed : Tree → Path → AccessBit → List Bool → List Bool → Bool
-is_allowed tree path bit verified disabled = allows (file_at tree path).rule bit (life_at tree path) verified disabled
+use Rattle.card_state.specs.FileLives.{with_life}
 
 -- the words of a card whose use has ended
 abbrev pub with_card_terminated : List ℕ → List ℕ
 with_card_terminated m = slice_set m (address HEADER_PAGE STATE_WORD) CARD_TERMINATED
-
--- a file in another state
-abbrev pub with_life : File → LifeCycle → File
-with_life file state = record file { life = state }
 
 -- The file of an entry is in a state, and nothing else of it or of another file is other.
 pub record ChangesLife (m : List ℕ) (e : ℕ) (state : LifeCycle) (after : List ℕ) : Type 0 where

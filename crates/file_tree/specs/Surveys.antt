@@ -2,7 +2,7 @@
 use Rattle.std.specs.Prelude.{◌≡◌, List, ℕ, Option, None, Some}
 use Rattle.file_tree.specs.declared.tree.Survey.{Survey}
 use Rattle.file_tree.specs.Formats.{block_count}
-use Rattle.file_tree.specs.Spaces.{free_space}
+use Rattle.card_state.specs.Spaces.{free_space}
 use Rattle.file_tree.specs.Table.{table}
 use Rattle.file_tree.specs.Trees.{tree_of, TreeStands}
 use Rattle.file_tree.specs.Indexes.{IsIndex}

@@ -7,7 +7,7 @@ use Rattle.card_rules.specs.Rule.{is_rule}
 use Rattle.block_chain.specs.Words.{page_words}
 use Rattle.block_chain.specs.declared.chain.Extent.{Extent}
 use Rattle.file_tree.specs.declared.entry.Entry.{Entry}
-use Rattle.file_tree.specs.Cards.{Path, master_file}
+use Rattle.card_state.specs.FileTrees.{Path, master_file}
 use Rattle.file_tree.specs.Entries.{free_entry, entry_of, name_of, rule_of, capacity_of, extent_of}
 
 -- the 64 entries in the order of their numbers: entry 0 is on page 1

@@ -24,3 +24,4 @@ pub mod Above
 pub mod Pruning
 pub mod Indexed
 pub mod Migrating
+pub mod Barring

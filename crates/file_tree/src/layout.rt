@@ -6,13 +6,11 @@ ghost use Rattle.file_tree.specs.declared.layout.TheConstants.{FIRST_ENTRY_PAGE}
 
 use block_chain::BLOCK_BYTES;
 use card_rules::limits::MOST_BYTES;
+pub use card_state::limits::ENTRIES;
 use undo_journal::PAGE_WORDS;
 
 /// The page of entry 0, which is the master file's. Each entry has a page of its own.
 pub const FIRST_ENTRY_PAGE: u16 = 1;
-
-/// File entries, the master file's among them.
-pub const ENTRIES: u16 = 64;
 
 /// The number that follows the last entry's: entries count from 0.
 pub const ENTRIES_END: u8 = ENTRIES as u8;

@@ -1,6 +1,7 @@
 //! The tree of files that a memory holds, as a table of file entries over chains of blocks.
 #![tactic(auto)]
 
+mod barring;
 mod entry;
 mod format;
 mod index;
@@ -18,6 +19,8 @@ mod steps;
 mod table;
 mod tree;
 
+pub use barring::{is_allowed_at, is_barred_at, is_below_barred};
+pub use card_state::FreeSpace;
 pub use entry::{Entry, EntryHead, ExtentList, TABLE_ROOM, Table};
 pub use index::Index;
 pub use kinds::EntryKind;
@@ -30,7 +33,7 @@ pub use look_up::{Reached, find_short, select};
 pub use naming::{entry_named, find_name, find_parent, find_path, find_path_from_master};
 pub use parents::is_within;
 pub use reading::{read_entry, read_entry_head, read_table};
-pub use space::{FreeSpace, blocks_for};
+pub use space::blocks_for;
 pub use steps::Steps;
 pub use table::{ancestor, count_free, extents_of, parent_of};
 pub use tree::{Survey, survey_tree};

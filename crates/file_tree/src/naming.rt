@@ -4,8 +4,8 @@ ghost use Rattle.std.specs.Prelude.{◌≡◌, ◌↔◌, length, option_map, If
 ghost use Rattle.std.specs.Result.{result_err};
 ghost use Rattle.undo_journal.specs.Memory.{committed, IsReady};
 ghost use Rattle.undo_journal.specs.Calls.{Reads};
-ghost use Rattle.file_tree.specs.Cards.{Path};
-ghost use Rattle.file_tree.specs.Reaching.{selected, the_parent, by_name, path_from_master, path_from_current};
+ghost use Rattle.card_state.specs.FileTrees.{Path};
+ghost use Rattle.card_state.specs.Selectors.{selected, the_parent, by_name, path_from_master, path_from_current};
 ghost use Rattle.file_tree.specs.Table.{table, path_of, IsUsed};
 ghost use Rattle.file_tree.specs.Trees.{tree_of, TreeStands};
 ghost use Rattle.file_tree.specs.Indexes.{IsIndex};

@@ -1,17 +1,8 @@
 //! Free space.
 ghost use Rattle.std.specs.Prelude.{◌≡◌};
-ghost use Rattle.file_tree.specs.Spaces.{blocks_for};
+ghost use Rattle.card_state.specs.Spaces.{blocks_for};
 
 use block_chain::BLOCK_BYTES;
-
-/// What is free for new files.
-#[derive(Clone, Copy, Debug, PartialEq, Eq)]
-pub struct FreeSpace {
-    /// Blocks that no file holds.
-    pub blocks: u16,
-    /// File entries that no file has.
-    pub entries: u16,
-}
 
 /// How many blocks so many bytes take.
 pub fn blocks_for(size: u16) -> u16

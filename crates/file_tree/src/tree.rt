@@ -12,9 +12,9 @@ use crate::entry::{Entry, Table};
 use crate::format::read_block_count;
 use crate::index::Index;
 use crate::reading::fill_table;
-use crate::space::FreeSpace;
 use crate::table::{count_free, extents_of, is_table};
 use block_chain::lay;
+use card_state::FreeSpace;
 use undo_journal::{Board, Store, StoreErr};
 
 /// What a start finds of a tree of files.

@@ -1,7 +1,8 @@
 //! Texts of file control parameters (ISO/IEC 7816-4, tag 62), as CREATE FILE sends them.
 //! What SELECT answers stands in rows.
 
-use fcp_template::{FcpFault, parse};
+use card_model::FcpFault;
+use fcp_template::parse;
 use std::test::Fail;
 
 // Texts of each kind of file, and texts that CREATE FILE refuses, each with the least of its faults.

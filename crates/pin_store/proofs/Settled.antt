@@ -10,7 +10,7 @@ use Rattle.undo_journal.specs.Calls.{Changes, Leaves, OnlyReads, UnlessFailed}
 use Rattle.undo_journal.specs.Memory.{Memory, IsIdle, IsReady, KeepsWords, Reports, committed}
 use Rattle.undo_journal.specs.laws.Memory.{reports_then}
 use Rattle.undo_journal.specs.Spending.{WritesAtMost}
-use Rattle.pin_store.specs.Pins.{Pin, kept, owner, tries_left, with_tries}
+use Rattle.card_state.specs.Secrets.{Pin, kept, owner, tries_left, with_tries}
 use Rattle.pin_store.specs.Pages.{pin_at, ArePinPages, SetsPin}
 use Rattle.pin_store.specs.Trials.{pin_in, store_failure, Charges, Compared, ComparesOnce, EndsByOutcome}
 use Rattle.pin_store.specs.Trials.{IsMatch, IsWrong, SetsByMatch}

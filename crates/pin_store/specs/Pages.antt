@@ -3,9 +3,10 @@ use Rattle.std.specs.Prelude.{◌≡◌, ◌⊎◌, ◌<◌, ◌≤◌, ◌+◌,
 use Rattle.std.specs.List.{range_with_len}
 use Rattle.std.specs.Int.{w32, to_be_bytes}
 use Rattle.nvm_board.specs.Facts.{address}
-use Rattle.pin_store.specs.declared.layout.TheConstants.{FIRST_PIN_PAGE, PINS, PIN_MARK_WORD, PIN_WORDS}
-use Rattle.pin_store.specs.declared.layout.TheConstants.{TRIES, UNBLOCKING_TRIES}
-use Rattle.pin_store.specs.Pins.{Pin, enabled_pin}
+use Rattle.pin_store.specs.declared.layout.TheConstants.{FIRST_PIN_PAGE, PIN_MARK_WORD, PIN_WORDS}
+use Rattle.card_rules.specs.declared.pins.TheConstants.{PINS}
+use Rattle.card_state.specs.declared.limits.TheConstants.{TRIES, UNBLOCKING_TRIES}
+use Rattle.card_state.specs.Secrets.{Pin, enabled_pin}
 
 -- the page of a PIN; PIN 1 is at 0
 abbrev pub pin_page : ℕ → ℕ

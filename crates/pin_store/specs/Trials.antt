@@ -13,9 +13,9 @@ use Rattle.pin_store.specs.declared.errors.PinErr.{PinErr}
 use Rattle.pin_store.specs.declared.errors.PinErr.TheVariants as pin_err
 use Rattle.pin_store.specs.declared.errors.Outcome.{Outcome}
 use Rattle.pin_store.specs.declared.errors.Outcome.TheVariants.{Matched, Wrong}
-use Rattle.pin_store.specs.Pins.{Pin, owner, kept, tries_left, full_tries, charged_pin}
+use Rattle.card_state.specs.Secrets.{Pin, owner, kept, tries_left, full_tries, charged_pin}
 use Rattle.pin_store.specs.Pages.{pin_at, ArePinPages, IsApart, IsMark, SetsPin}
-use Rattle.pin_store.specs.declared.layout.TheConstants.{PINS}
+use Rattle.card_rules.specs.declared.pins.TheConstants.{PINS}
 
 -- the PIN of a secret, as what is committed has it
 abbrev pub pin_in : Memory → ℕ → Pin

@@ -2,7 +2,7 @@
 ghost use Rattle.std.specs.Prelude.{◌≡◌, ◌<◌, if◌then◌else◌, slice_index};
 ghost use Rattle.nvm_board.specs.Facts.{address};
 ghost use Rattle.nvm_board.specs.declared.board.TheConstants.{PAGE_WORDS};
-ghost use Rattle.pin_store.specs.Pins.{is_unblocking, owner};
+ghost use Rattle.card_state.specs.Secrets.{is_unblocking, owner};
 ghost use Rattle.pin_store.specs.Pages.{bytes_of_words, pin_page};
 
 use crate::layout::{FIRST_PIN_PAGE, PINS};

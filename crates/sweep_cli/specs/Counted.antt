@@ -3,7 +3,7 @@ use Rattle.std.specs.Prelude.{◌≡◌, ◌<◌, ◌-◌, ◌^◌, ℕ, List, [
 use Rattle.std.specs.Fmt.{decimal}
 use Rattle.nvm_board.specs.Facts.{Facts}
 use Rattle.card_core.specs.Factory.{factory_card}
-use Rattle.card_machine.specs.Finding.{Finds}
+use Rattle.command_base.specs.Finding.{Finds}
 use Rattle.card_bench.specs.declared.tally.Seen.{Seen}
 use Rattle.card_bench.specs.SweptRuns.{AreAllRuns}
 use Rattle.card_bench.specs.Tallies.{Counts, IsTally}

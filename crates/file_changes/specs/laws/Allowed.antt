@@ -6,20 +6,20 @@ use Rattle.std.proofs.Common.{refl, sym, ◌∙◌, ap, arith, inl, inr, true≢
 use Rattle.std.proofs.lemmas.Bool.Decides.{eqb_tells, leb_tells}
 use Rattle.card_rules.specs.declared.status.Sw.{Sw}
 use Rattle.card_rules.specs.declared.status.TheConstants.Sw.{FILE_EXISTS, NAME_EXISTS, WRONG_DATA}
-use Rattle.fcp_template.specs.declared.fcp.Fcp.{Fcp}
-use Rattle.fcp_template.specs.declared.fcp.FileKind.{FileKind}
-use Rattle.fcp_template.specs.declared.fcp.FileKind.TheVariants as kinds
-use Rattle.fcp_template.specs.declared.fcp.ShortIdentifier.{ShortIdentifier}
-use Rattle.fcp_template.specs.declared.fcp.ShortIdentifier.TheVariants.{Absent, Empty, Given}
-use Rattle.fcp_template.specs.Ranges.{IsShort, IsKind, IsCreatable}
-use Rattle.fcp_template.specs.Views.{name_bytes, short_of_kind}
+use Rattle.card_state.specs.declared.fcp.Fcp.{Fcp}
+use Rattle.card_state.specs.declared.fcp.FileKind.{FileKind}
+use Rattle.card_state.specs.declared.fcp.FileKind.TheVariants as kinds
+use Rattle.card_state.specs.declared.fcp.ShortIdentifier.{ShortIdentifier}
+use Rattle.card_state.specs.declared.fcp.ShortIdentifier.TheVariants.{Absent, Empty, Given}
+use Rattle.card_state.specs.FileControl.{IsShort, IsKind, IsCreatable, name_bytes, short_of_kind}
 use Rattle.block_chain.specs.declared.chain.Chain.{Chain}
-use Rattle.file_tree.specs.Cards.{Path, Tree, exists}
+use Rattle.card_state.specs.FileTrees.{Path, Tree, exists}
 use Rattle.file_tree.specs.Entries.{free_entry, name_of}
-use Rattle.file_tree.specs.Reaching.{child_by_short}
+use Rattle.card_state.specs.Selectors.{child_by_short}
 use Rattle.file_tree.specs.Table.{table, entry_in, ancestor, path_of, IsUsed, IsTable}
 use Rattle.file_tree.specs.Trees.{tree_of}
-use Rattle.file_tree.specs.NewFiles.{short_for, short_of_new, low_bits, has_name, has_short_given, taken_refusal}
+use Rattle.card_state.specs.NewFiles.{short_for, short_of_new, low_bits, has_name, has_short_given}
+use Rattle.file_changes.specs.CreationRefusals.{taken_refusal}
 use Rattle.file_tree.specs.Naming.{BearsName}
 use Rattle.file_changes.specs.CreationParts.{entry_for, kind_number, short_option}
 use Rattle.file_tree.specs.laws.Tables.{length-table}

@@ -29,10 +29,11 @@ use Rattle.block_chain.specs.laws.Footprints.{page_words_same, laid_elsewhere}
 use Rattle.block_chain.specs.laws.Words.{index-page_words}
 use Rattle.file_tree.specs.declared.entry.Entry.{Entry}
 use Rattle.file_tree.specs.declared.layout.TheConstants.{FIRST_ENTRY_PAGE}
-use Rattle.file_tree.specs.Cards.{Path, File}
+use Rattle.card_state.specs.FileTrees.{Path, File}
 use Rattle.file_tree.specs.Entries.{free_entry, entry_told, entry_of, file_of, byte_of, high, low, extent_of}
 use Rattle.file_tree.specs.Entries.{extent_told, name_of}
-use Rattle.file_tree.specs.States.{life_at, with_life, ChangesLife}
+use Rattle.card_state.specs.FileLives.{life_at, with_life}
+use Rattle.file_tree.specs.States.{ChangesLife}
 use Rattle.file_tree.specs.Table.{table, entry_in, ancestor, path_in, path_of, extents, IsUsed, IsChild}
 use Rattle.file_tree.specs.Table.{IsEntry, IsTable}
 use Rattle.file_tree.specs.Trees.{content, tree_of, TreeStands, file_in}
@@ -46,7 +47,7 @@ use Rattle.file_tree.specs.laws.Contents.{content-none, content-some}
 use Rattle.file_tree.specs.laws.Changing.{tree_inserted}
 use Rattle.file_changes.specs.laws.Creating.{before, behind, extents_around}
 use Rattle.file_changes.specs.laws.Deleting.{on_page}
-use Rattle.file_changes.specs.laws.Barring.{life_told_there}
+use Rattle.file_tree.specs.laws.Barring.{life_told_there}
 use Rattle.file_changes.specs.laws.NewEntries.{life_again}
 
 -- an entry in another state

@@ -7,21 +7,21 @@ use Rattle.std.specs.FinMap.{insert}
 use Rattle.std.proofs.Common.{refl, sym, ◌∙◌, ap, subst, arith, ⊎_elim}
 use Rattle.std.proofs.lemmas.List.{length-drop}
 use Rattle.card_rules.specs.declared.status.Sw.{Sw}
-use Rattle.fcp_template.specs.declared.fcp.Fcp.{Fcp}
-use Rattle.fcp_template.specs.Ranges.{IsCreatable}
-use Rattle.fcp_template.specs.Views.{size_of_kind}
+use Rattle.card_state.specs.declared.fcp.Fcp.{Fcp}
+use Rattle.card_state.specs.FileControl.{IsCreatable, size_of_kind}
 use Rattle.block_chain.specs.declared.layout.TheConstants.{BLOCK_BYTES}
 use Rattle.block_chain.specs.declared.chain.Chain.{Chain}
 use Rattle.block_chain.specs.Chains.{free_chain, bytes_of}
 use Rattle.file_tree.specs.declared.entry.Entry.{Entry}
-use Rattle.file_tree.specs.declared.space.FreeSpace.{FreeSpace}
-use Rattle.file_tree.specs.Cards.{File}
-use Rattle.file_tree.specs.Spaces.{blocks_for}
+use Rattle.card_state.specs.declared.space.FreeSpace.{FreeSpace}
+use Rattle.card_state.specs.FileTrees.{File}
+use Rattle.card_state.specs.Spaces.{blocks_for}
 use Rattle.file_tree.specs.Entries.{file_of}
 use Rattle.file_tree.specs.Table.{table, entry_in, path_of, free_entries, IsUsed}
 use Rattle.file_tree.specs.Trees.{tree_of, TreeStands}
 use Rattle.file_tree.specs.Changes.{SameTree, Creates, with_freed}
-use Rattle.file_tree.specs.NewFiles.{blank, new_file, short_of_new, first_reason, taken_refusal, place_refusal}
+use Rattle.card_state.specs.NewFiles.{blank, new_file, short_of_new}
+use Rattle.file_changes.specs.CreationRefusals.{first_reason, taken_refusal, place_refusal}
 use Rattle.file_changes.specs.Creations.{CreatesNew, IsCreated}
 use Rattle.file_changes.specs.CreationParts.{entry_for, no_chain, short_option, kind_number, WritesEntry, IsPlace}
 use Rattle.file_changes.specs.CreationParts.{TakesAndWrites, FillsAndAdds}

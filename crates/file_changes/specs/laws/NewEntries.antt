@@ -15,20 +15,19 @@ use Rattle.card_rules.specs.RuleFacts.{length-rule}
 use Rattle.card_rules.specs.declared.life_cycle.LifeCycle.{LifeCycle}
 use Rattle.card_rules.specs.declared.life_cycle.LifeCycle.TheVariants.{Creation, Initialisation, Deactivated}
 use Rattle.card_rules.specs.declared.life_cycle.LifeCycle.TheVariants.{Activated, Terminated}
-use Rattle.fcp_template.specs.declared.fcp.Fcp.{Fcp}
-use Rattle.fcp_template.specs.declared.fcp.FileKind.{FileKind}
-use Rattle.fcp_template.specs.declared.fcp.FileKind.TheVariants as kinds
-use Rattle.fcp_template.specs.declared.fcp.Records.{Records}
-use Rattle.fcp_template.specs.declared.fcp.ShortIdentifier.{ShortIdentifier}
-use Rattle.fcp_template.specs.Ranges.{IsRecords, IsKind, IsCreatable}
-use Rattle.fcp_template.specs.Views.{size_of_kind}
+use Rattle.card_state.specs.declared.fcp.Fcp.{Fcp}
+use Rattle.card_state.specs.declared.fcp.FileKind.{FileKind}
+use Rattle.card_state.specs.declared.fcp.FileKind.TheVariants as kinds
+use Rattle.card_state.specs.declared.fcp.Records.{Records}
+use Rattle.card_state.specs.declared.fcp.ShortIdentifier.{ShortIdentifier}
+use Rattle.card_state.specs.FileControl.{IsRecords, IsKind, IsCreatable, size_of_kind}
 use Rattle.block_chain.specs.declared.chain.Chain.{Chain}
 use Rattle.file_tree.specs.declared.entry.Entry.{Entry}
-use Rattle.file_tree.specs.Cards.{transparent, linear, cyclic, dedicated, elementary}
+use Rattle.card_state.specs.FileTrees.{transparent, linear, cyclic, dedicated, elementary}
 use Rattle.file_tree.specs.Entries.{file_of, slot, linear_records, cyclic_records, capacity_of}
-use Rattle.file_tree.specs.Spaces.{blocks_for}
+use Rattle.card_state.specs.Spaces.{blocks_for}
 use Rattle.file_tree.specs.Table.{IsFileEntry, IsRecordBody, HasBody, HasName}
-use Rattle.file_tree.specs.NewFiles.{blank, new_file, capacity}
+use Rattle.card_state.specs.NewFiles.{blank, new_file, capacity}
 use Rattle.file_changes.specs.CreationParts.{padded, kind_number, entry_for, short_option}
 
 -- a new file's entry is a used one

@@ -7,16 +7,16 @@ use Rattle.std.proofs.Common.{refl, sym, ◌∙◌, ap, arith, inl, inr, true≢
 use Rattle.std.proofs.lemmas.Bool.Decides.{eqb_tells}
 use Rattle.std.proofs.lemmas.Bool.{lt-ltb, le-ltb}
 use Rattle.card_rules.specs.declared.status.TheConstants.Sw.{NO_ROOM, CONDITIONS_NOT_SATISFIED}
-use Rattle.fcp_template.specs.declared.fcp.FileKind.{FileKind}
-use Rattle.fcp_template.specs.Views.{size_of_kind}
+use Rattle.card_state.specs.declared.fcp.FileKind.{FileKind}
+use Rattle.card_state.specs.FileControl.{size_of_kind}
 use Rattle.block_chain.specs.Chains.{free_chain}
-use Rattle.file_tree.specs.declared.space.FreeSpace.{FreeSpace}
+use Rattle.card_state.specs.declared.space.FreeSpace.{FreeSpace}
 use Rattle.file_changes.specs.declared.placing.Place.TheVariants.{At}
-use Rattle.file_tree.specs.Cards.{Path, Tree}
-use Rattle.file_tree.specs.Spaces.{blocks_for, free_space}
+use Rattle.card_state.specs.FileTrees.{Path, Tree}
+use Rattle.card_state.specs.Spaces.{blocks_for, free_space}
 use Rattle.file_tree.specs.Table.{table, ancestor, path_of, free_entries, IsUsed}
 use Rattle.file_tree.specs.Trees.{tree_of, TreeStands}
-use Rattle.file_tree.specs.NewFiles.{place_refusal}
+use Rattle.file_changes.specs.CreationRefusals.{place_refusal}
 use Rattle.file_changes.specs.CreationParts.{TellsFreeEntry, TellsPlace}
 use Rattle.file_tree.specs.laws.Tables.{length-table}
 use Rattle.file_tree.specs.laws.Costs.{space_counted}

@@ -5,11 +5,12 @@ use Rattle.std.specs.FinMap.{get, insert, get-insert, same_map, slice_cmp-IsAnti
 use Rattle.std.proofs.Common.{refl, sym, ◌∙◌, ap, subst, inl, inr, true≢false}
 use Rattle.std.proofs.lemmas.Bool.Decides.{eqb_tells}
 use Rattle.file_tree.specs.declared.entry.Entry.{Entry}
-use Rattle.file_tree.specs.Cards.{Path, File, Tree}
+use Rattle.card_state.specs.FileTrees.{Path, File, Tree}
 use Rattle.file_tree.specs.Table.{table, path_of, IsUsed, IsTable}
 use Rattle.file_tree.specs.Trees.{tree_of, file_in}
 use Rattle.file_tree.specs.laws.Paths.{one_path}
-use Rattle.file_tree.specs.laws.Nodes.{same_path, one_of_same, same_of_one, get-used, entry_found}
+use Rattle.card_state.specs.laws.Orders.{same_path, one_of_same, same_of_one}
+use Rattle.file_tree.specs.laws.Nodes.{get-used, entry_found}
 
 some_none : {A : Type 0} (x : A) → Some x ≡ None → ⊥
 some_none {A} x e = true≢false (ap (λ (o : Option A). is_some o) e)

@@ -9,7 +9,7 @@ use Rattle.file_tree.specs.declared.entry.Entry.{Entry}
 use Rattle.file_tree.specs.declared.index.Place.{Place}
 use Rattle.file_tree.specs.declared.index.Index.{Index}
 use Rattle.file_tree.specs.Keys.{key_for, IsBefore}
-use Rattle.file_tree.specs.Cards.{Path}
+use Rattle.card_state.specs.FileTrees.{Path}
 use Rattle.file_tree.specs.Table.{table, entry_in, path_of, IsUsed, IsTable}
 use Rattle.file_tree.specs.Trees.{tree_of}
 use Rattle.file_tree.specs.States.{ChangesLife}

@@ -6,8 +6,9 @@ use Rattle.std.specs.FinMap.{get}
 use Rattle.std.proofs.Common.{refl, sym, ◌∙◌, ap, ap₂, subst, arith, inl, inr}
 use Rattle.std.proofs.lemmas.Bool.Decides.{eqb_tells}
 use Rattle.file_tree.specs.declared.entry.Entry.{Entry}
-use Rattle.file_tree.specs.Cards.{Path, File, master_file, parent, identifier, no_file, exists, file_at, is_dedicated}
-use Rattle.file_tree.specs.Reaching.{Candidate, first_reached, reached}
+use Rattle.card_state.specs.FileTrees.{Path, File, master_file, parent, identifier, no_file, exists, file_at}
+use Rattle.card_state.specs.FileTrees.{is_dedicated}
+use Rattle.card_state.specs.Selectors.{Candidate, first_reached, reached}
 use Rattle.file_tree.specs.Table.{table, entry_in, path_of, IsUsed, IsChild, HaveIdentifiers, IsTable}
 use Rattle.file_tree.specs.Trees.{content, tree_of}
 use Rattle.file_tree.specs.Indexes.{TellsChild}

@@ -2,36 +2,20 @@
 use Rattle.std.specs.Prelude.{◌≡◌, ◌≢◌, ◌==◌, ◌<◌, ◌≤◌, ◌+◌, ℕ, zero, suc, Bool, true, false, cond, if◌then◌else◌}
 use Rattle.std.specs.Prelude.{List, Option, None, Some, is_some, unwrap_or}
 use Rattle.std.specs.List.{range_with_len, filter_map, cons_option}
-use Rattle.std.specs.Ordering.{nat_cmp, eq_by_cmp, is_eq}
+use Rattle.std.specs.Ordering.{nat_cmp}
 use Rattle.std.specs.Cmp.Lexicographic.{slice_cmp, nat_list_cmp_total}
-use Rattle.std.specs.FinMap.{get, find, get-from_entries, slice_cmp-IsAntisymmetric, nat_cmp-IsAntisymmetric}
-use Rattle.std.proofs.Common.{refl, sym, ◌∙◌, ap, ap₂, arith, inl, inr, ⊎_elim, true≢false, Ordering, Less, Equal}
-use Rattle.std.proofs.Common.{Greater}
-use Rattle.std.specs.Cmp.{eq_by_cmp_equiv}
+use Rattle.std.specs.FinMap.{get, find, get-from_entries}
+use Rattle.std.proofs.Common.{refl, sym, ◌∙◌, ap, ap₂, arith, inl, inr, ⊎_elim, true≢false}
 use Rattle.std.proofs.lemmas.Bool.{cases_lt}
 use Rattle.std.proofs.lemmas.Bool.Decides.{eqb_tells}
 use Rattle.file_tree.specs.declared.entry.Entry.{Entry}
-use Rattle.file_tree.specs.Cards.{dedicated, elementary, Body, Path, File, no_file, exists, file_at, is_dedicated}
+use Rattle.card_state.specs.FileTrees.{dedicated, elementary, Body, Path, File, no_file, exists, file_at, is_dedicated}
 use Rattle.file_tree.specs.Entries.{file_of}
 use Rattle.file_tree.specs.Table.{table, entry_in, path_of, IsUsed, IsTable}
 use Rattle.file_tree.specs.Trees.{node, tree_of, file_in}
 use Rattle.file_tree.specs.laws.Tables.{length-table, entry_past}
 use Rattle.file_tree.specs.laws.Paths.{one_path}
-
--- whether two paths are one
-abbrev pub same_path : Path → Path → Bool
-same_path p q = eq_by_cmp (slice_cmp nat_cmp) p q
-
-equal_order : (o : Ordering) → is_eq o ≡ true → o ≡ Equal
-equal_order Less e = absurd (true≢false (sym e))
-equal_order Equal e = refl
-equal_order Greater e = absurd (true≢false (sym e))
-
-pub one_of_same : (p q : Path) → same_path p q ≡ true → p ≡ q
-one_of_same p q e = slice_cmp-IsAntisymmetric nat_cmp-IsAntisymmetric p q (equal_order (slice_cmp nat_cmp p q) e)
-
-pub same_of_one : (p q : Path) → p ≡ q → same_path p q ≡ true
-same_of_one p q e = ap (same_path p) (sym e) ∙ (eq_by_cmp_equiv nat_list_cmp_total).refl p
+use Rattle.card_state.specs.laws.Orders.{same_path, one_of_same, same_of_one}
 
 -- a file by its path
 abbrev pub Node : Type 0

@@ -6,7 +6,7 @@ use Rattle.std.proofs.lemmas.List.{length-append}
 use Rattle.std.proofs.lemmas.Bool.Decides.{eqb_tells}
 use Rattle.std.proofs.Math.Seq.{take-append_seam, get_or-append_seam}
 use Rattle.file_tree.specs.declared.entry.Entry.{Entry}
-use Rattle.file_tree.specs.Cards.{Path, master_file, parent, identifier}
+use Rattle.card_state.specs.FileTrees.{Path, master_file, parent, identifier}
 use Rattle.file_tree.specs.Table.{entry_in, ancestor, path_in, path_of, IsUsed, IsChild, IsTable}
 use Rattle.file_tree.specs.laws.Levels.{ancestor-step}
 

@@ -16,14 +16,14 @@ use Rattle.block_chain.specs.declared.chain.Extent.{Extent}
 use Rattle.block_chain.specs.Counts.{count, IsNotIn}
 use Rattle.block_chain.specs.Words.{word}
 use Rattle.block_chain.specs.Chains.{free_chain, bytes_of}
-use Rattle.block_chain.specs.Changes.{OnlyContent, overwrite}
+use Rattle.block_chain.specs.Changes.{OnlyContent}
+use Rattle.card_state.specs.FileTrees.{overwrite, transparent, linear, cyclic, dedicated, elementary, File}
 use Rattle.block_chain.specs.Layout.{blocks_of, laid_out, IsExtent, AreLaid}
 use Rattle.block_chain.specs.laws.Counts.{count-append, count-split}
 use Rattle.block_chain.specs.laws.Bytes.{AreBlocks, leads_blocks, blocks_take}
 use Rattle.block_chain.specs.laws.Footprints.{page_words_same, not_among, no_header, laid_kept}
 use Rattle.block_chain.specs.laws.Footprints.{extent_kept, extent_bytes}
 use Rattle.file_tree.specs.declared.entry.Entry.{Entry}
-use Rattle.file_tree.specs.Cards.{transparent, linear, cyclic, dedicated, elementary, File}
 use Rattle.file_tree.specs.Entries.{file_of, linear_records, cyclic_records, capacity_of, rule_of, name_of}
 use Rattle.file_tree.specs.Entries.{extent_told}
 use Rattle.file_tree.specs.Table.{table, entry_in, path_of, extents, IsUsed, IsTable}

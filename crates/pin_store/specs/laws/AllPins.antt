@@ -1,20 +1,23 @@
 -- Laws of all PINs of a memory: where they stay, and where one of them is set.
 -- Crates above cite these, and open no page.
-use Rattle.std.specs.Prelude.{if◌then◌else◌, map}
+use Rattle.std.specs.Prelude.{map}
 use Rattle.std.specs.List.{range_with_len}
-use Rattle.std.proofs.Common.{◌≡◌, ◌≢◌, ◌⊎◌, ◌<◌, ◌≤◌, ◌+◌, ℕ, zero, suc, Bool, true, false, List, ◌∷◌, slice_set}
+use Rattle.std.proofs.Common.{◌≡◌, ◌≢◌, ◌⊎◌, ◌<◌, ◌≤◌, ◌+◌, ℕ, zero, suc, List, ◌∷◌, slice_set}
 use Rattle.std.proofs.Common.{refl, sym, ◌∙◌, ap, ap₂, subst, inl, inr, arith}
 use Rattle.std.proofs.lemmas.Bool.{cases_order}
 use Rattle.nvm_board.specs.Facts.{address}
-use Rattle.pin_store.specs.declared.layout.TheConstants.{PINS, PIN_MARK_WORD, PIN_WORDS, TRIES, UNBLOCKING_TRIES}
+use Rattle.card_rules.specs.declared.pins.TheConstants.{PINS}
+use Rattle.pin_store.specs.declared.layout.TheConstants.{PIN_MARK_WORD, PIN_WORDS}
+use Rattle.card_state.specs.declared.limits.TheConstants.{TRIES, UNBLOCKING_TRIES}
 use Rattle.pin_store.specs.declared.putting.Renewal.{Renewal}
 use Rattle.pin_store.specs.declared.putting.Renewal.TheVariants.{Value, ValueAndTries, Mark}
-use Rattle.pin_store.specs.Pins.{Pin, HasFewTries, changed_pin, is_unblocking, owner, reset_pin}
-use Rattle.pin_store.specs.Pins.{tries_left, verified_pin, enabled_pin, marked_pin, with_tries}
+use Rattle.card_state.specs.Secrets.{Pin, HasFewTries, owner}
+use Rattle.card_state.specs.Secrets.{tries_left, verified_pin, enabled_pin, with_tries}
 use Rattle.pin_store.specs.RenewalParts.{renewed_pin}
 use Rattle.pin_store.specs.Pages.{pin_page, pin_at, pins_of, unmarked_pins_of, IsPinPage, ArePinPages, AreEnabled}
 use Rattle.pin_store.specs.Pages.{AreMarks, IsMark, KeepsPins, KeepsSecrets, SetsPin}
 use Rattle.pin_store.specs.laws.PinPages.{pin_same, secrets_same, marked_enabled, few_tries, page_of_few}
+use Rattle.card_state.specs.laws.FewTries.{with_few, verified_few, changed_few, reset_few, marked_few}
 
 -- the same PINs at successive places
 pins-same : (old new : ℕ → Pin) (a n : ℕ) → ((j : ℕ) → a ≤ j → j < a + n → new j ≡ old j)
@@ -159,39 +162,6 @@ marks_set m after pin now sets marks = record {
         subst (λ (w : ℕ). w ≤ 1) (sym (sets.elsewhere _ (inr le))) (marks.each other small)
   ];
 }
-
--- no change of a PIN gives it more tries than there may be
-pub with_few : (secret n : ℕ) (pin : Pin) → n ≤ tries_left secret pin → HasFewTries pin
-    → HasFewTries (with_tries secret n pin)
-with_few secret n pin fewer few = by (is_unblocking secret) fewer
-  where
-    by : (unblocking : Bool) → n ≤ (if unblocking then pin.unblocking_tries else pin.tries) → HasFewTries (record {
-      value = pin.value;
-      tries = if unblocking then pin.tries else n;
-      unblocking = pin.unblocking;
-      unblocking_tries = if unblocking then n else pin.unblocking_tries;
-      enabled = pin.enabled;
-    })
-    by true least = record {
-      tries = few.tries;
-      unblocking_tries = let most = few.unblocking_tries in omega (arith, most, least);
-    }
-    by false least = record {
-      tries = let most = few.tries in omega (arith, most, least);
-      unblocking_tries = few.unblocking_tries;
-    }
-
-pub verified_few : (pin : Pin) → HasFewTries pin → HasFewTries (verified_pin pin)
-verified_few pin few = record { tries = omega arith; unblocking_tries = few.unblocking_tries }
-
-pub changed_few : (new : List ℕ) (pin : Pin) → HasFewTries pin → HasFewTries (changed_pin new pin)
-changed_few new pin few = record { tries = omega arith; unblocking_tries = few.unblocking_tries }
-
-pub reset_few : (new : List ℕ) (pin : Pin) → HasFewTries (reset_pin new pin)
-reset_few new pin = record { tries = omega arith; unblocking_tries = omega arith }
-
-pub marked_few : (enabled : Bool) (pin : Pin) → HasFewTries pin → HasFewTries (marked_pin enabled pin)
-marked_few enabled pin few = record { tries = omega arith; unblocking_tries = few.unblocking_tries }
 
 -- the page of a secret's PIN
 pub owner_page : (m : List ℕ) (secret : ℕ) → ArePinPages m → IsPinPage m (owner secret)

@@ -2,7 +2,7 @@ use Rattle.std.proofs.Common.{ℕ, refl, subst}
 use Rattle.nvm_board.specs.Cut.{cut_facts}
 use Rattle.undo_journal.specs.Spending.{WritesAtMost}
 use Rattle.card_core.specs.Factory.{factory_card}
-use Rattle.card_machine.specs.Finding.{Finds}
+use Rattle.command_base.specs.Finding.{Finds}
 use Rattle.card_bench.proofs.FormatLemmas.{format_succeeds, just_written, new_blocks, new_pages, none_due}
 use Rattle.card_bench.proofs.factory.factory_board.Goals as goal
 

@@ -1,6 +1,6 @@
 use Rattle.std.proofs.Common.{◌-◌}
 use Rattle.nvm_board.specs.Cut.{cut_facts}
-use Rattle.card_machine.specs.Finding.{HasCard}
+use Rattle.command_base.specs.Finding.{HasCard}
 use Rattle.card_bench.specs.Tallies.{findings, Adds, Counts}
 use Rattle.card_bench.specs.Sweeps.{EndsBehindStarts}
 use Rattle.card_bench.specs.SweptRuns.{InTurn, AreBehindCut, AreAllBehind}

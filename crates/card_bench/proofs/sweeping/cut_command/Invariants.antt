@@ -1,5 +1,5 @@
 use Rattle.std.proofs.Common.{◌+◌, true}
-use Rattle.card_machine.specs.Finding.{HasCard}
+use Rattle.command_base.specs.Finding.{HasCard}
 use Rattle.card_bench.specs.Tallies.{findings, Adds, Counts}
 use Rattle.card_bench.specs.PlanParts.{board_of, IsGiven, AreAtWrite}
 use Rattle.card_bench.specs.SweptRuns.{InTurn}

@@ -1,4 +1,4 @@
-use Rattle.card_machine.specs.Finding.{HasCard}
+use Rattle.command_base.specs.Finding.{HasCard}
 use Rattle.card_bench.specs.Tallies.{findings, Adds, Counts}
 use Rattle.card_bench.specs.PlanParts.{board_of, IsGiven}
 use Rattle.card_bench.specs.SweptRuns.{InTurn, AreOfMask}

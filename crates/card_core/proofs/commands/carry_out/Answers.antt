@@ -1,9 +1,9 @@
 use Rattle.std.proofs.Common.{◌≡◌, OnOk, Result, sym, subst}
 use Rattle.card_rules.specs.declared.status.Sw.{Sw}
 use Rattle.undo_journal.specs.declared.error.StoreErr.{StoreErr}
-use Rattle.card_machine.specs.Served.{CarriesOut}
+use Rattle.command_base.specs.Served.{CarriesOut}
 use Rattle.file_tree.specs.Indexes.{IsIndex}
-use Rattle.card_machine.specs.Working.{space_in, table_in}
+use Rattle.command_base.specs.Working.{space_in, table_in}
 use Rattle.card_core.proofs.commands.carry_out.Goals as goal
 
 pub returns-clause-carries : goal.returns-clause-carries

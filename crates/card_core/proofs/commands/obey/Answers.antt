@@ -4,17 +4,17 @@ use Rattle.undo_journal.specs.Memory.{committed}
 use Rattle.card_rules.specs.declared.status.Sw.{Sw}
 use Rattle.undo_journal.specs.declared.error.StoreErr.{StoreErr}
 use Rattle.card_rules.specs.declared.status.TheConstants.Sw.{CONDITIONS_NOT_SATISFIED}
-use Rattle.apdu_core.specs.Requests.{request_of}
-use Rattle.card_machine.specs.Served.{CarriesOut}
+use Rattle.apdu_core.specs.ParsedCommands.{request_of}
+use Rattle.command_base.specs.Served.{CarriesOut}
 use Rattle.card_core.proofs.Carrying.{carried, failed-reading, in-use-is, serves-after, use-ended, refused-by-form}
-use Rattle.card_machine.specs.laws.Readings.{index_still, kept_still}
-use Rattle.card_machine.specs.laws.SpaceKept.{space-same}
-use Rattle.card_machine.specs.laws.Stopping.{err-is, none-failed, reply-failed}
+use Rattle.command_base.specs.laws.Readings.{index_still, kept_still}
+use Rattle.command_base.specs.laws.SpaceKept.{space-same}
+use Rattle.command_base.specs.laws.Stopping.{err-is, none-failed, reply-failed}
 use Rattle.undo_journal.specs.laws.Calls.{reads_same}
-use Rattle.card_machine.specs.declared.stop.Stop.{Stop}
-use Rattle.card_machine.specs.declared.stop.Stop.TheVariants.{Refused}
-use Rattle.card_machine.specs.Stops.{reply}
-use Rattle.card_machine.specs.laws.Answering.{ok_anyway}
+use Rattle.command_base.specs.declared.stop.Stop.{Stop}
+use Rattle.command_base.specs.declared.stop.Stop.TheVariants.{Refused}
+use Rattle.command_base.specs.Stops.{reply}
+use Rattle.command_base.specs.laws.Answering.{ok_anyway}
 use Rattle.card_core.proofs.commands.obey.Goals as goal
 
 pub returns-in_err-state-clause-carries : goal.returns-in_err-state-clause-carries

@@ -4,15 +4,14 @@ use Rattle.card_rules.specs.declared.status.Sw.{Sw}
 use Rattle.undo_journal.specs.declared.error.StoreErr.{StoreErr}
 use Rattle.undo_journal.specs.Memory.{Memory}
 use Rattle.apdu_core.specs.declared.commands.Command.{Command}
-use Rattle.apdu_core.specs.Fields.{IsInRange}
-use Rattle.apdu_core.specs.Requests.{request_of}
-use Rattle.card_machine.specs.declared.current.Current.{Current}
-use Rattle.card_machine.specs.Served.{Serves}
-use Rattle.card_machine.specs.Working.{card_in}
-use Rattle.card_machine.specs.Pins.{changing, marking}
-use Rattle.card_machine.specs.Stages.{commits}
+use Rattle.apdu_core.specs.ParsedCommands.{IsInRange, request_of}
+use Rattle.command_base.specs.declared.current.Current.{Current}
+use Rattle.command_base.specs.Served.{Serves}
+use Rattle.command_base.specs.Working.{card_in}
+use Rattle.card_model.specs.PinCommands.{changing, marking}
+use Rattle.card_model.specs.Steps.{commits}
 use Rattle.card_core.proofs.Looking.{attempt-files, pin-files, space_left}
-use Rattle.card_machine.specs.laws.Serves.{index_left, space_kept}
+use Rattle.command_base.specs.laws.Serves.{index_left, space_kept}
 use Rattle.card_core.proofs.commands.serve.Goals as goal
 
 module _ (old : Memory) (x : Current) (new : Memory) (y : Current) (result : Result Sw StoreErr) (command this :

@@ -1,6 +1,6 @@
 use Rattle.std.proofs.Common.{◌≡◌, ◌∙◌, ap, sym, rules}
 use Rattle.card_core.specs.declared.memory_format.MemoryFormat.{MemoryFormat}
-use Rattle.card_machine.specs.Cards.{Card, card_space}
+use Rattle.card_model.specs.Cards.{Card, card_space}
 use Rattle.card_core.specs.Factory.{factory_card, factory_end}
 use Rattle.card_core.proofs.FactoryLemmas.{factory-written, space-of-factory, stands-factory}
 use Rattle.card_core.proofs.FactoryFound.{stands-found}

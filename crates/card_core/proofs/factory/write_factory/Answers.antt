@@ -9,7 +9,7 @@ use Rattle.card_core.specs.Factory.{IsWritten}
 use Rattle.block_chain.specs.Words.{page_words}
 use Rattle.card_core.proofs.FactoryPages.{length-header, page_words-written, page_words-written_other}
 use Rattle.card_core.proofs.Powers.{answered_after, answered_handed}
-use Rattle.card_machine.specs.laws.Stopping.{none-done}
+use Rattle.command_base.specs.laws.Stopping.{none-done}
 use Rattle.card_core.proofs.factory.write_factory.Goals as goal
 
 pub write-requires : goal.write-requires

@@ -1,4 +1,4 @@
-use Rattle.card_machine.specs.laws.AnswerLaws.{answers_are_short}
+use Rattle.card_model.specs.laws.AnswerLaws.{answers_are_short}
 use Rattle.card_core.proofs.laws.answers_are_short.Goals as goal
 
 pub returns : goal.returns

@@ -1,5 +1,5 @@
-use Rattle.card_machine.specs.laws.SpendLaws.{few_writes}
-use Rattle.card_machine.specs.laws.TouchLaws as touching
+use Rattle.command_base.specs.laws.SpendLaws.{few_writes}
+use Rattle.command_base.specs.laws.TouchLaws as touching
 use Rattle.card_core.proofs.laws.commands_write_little.Goals as goal
 
 pub returns-clause-most : goal.returns-clause-most

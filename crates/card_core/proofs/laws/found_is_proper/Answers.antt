@@ -1,4 +1,4 @@
-use Rattle.card_machine.specs.laws.FoundLaws.{found_is_proper}
+use Rattle.command_base.specs.laws.FoundLaws.{found_is_proper}
 use Rattle.card_core.proofs.laws.found_is_proper.Goals as goal
 
 pub returns : goal.returns

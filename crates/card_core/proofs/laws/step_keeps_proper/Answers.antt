@@ -1,4 +1,4 @@
-use Rattle.card_machine.specs.laws.AnswerLaws.{step_keeps_proper}
+use Rattle.card_model.specs.laws.AnswerLaws.{step_keeps_proper}
 use Rattle.card_core.proofs.laws.step_keeps_proper.Goals as goal
 
 pub returns : goal.returns

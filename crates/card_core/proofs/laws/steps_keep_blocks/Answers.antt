@@ -1,4 +1,4 @@
-use Rattle.card_machine.specs.laws.BlockLaws.{stages_keep_blocks, step_keeps_blocks}
+use Rattle.card_model.specs.laws.BlockLaws.{stages_keep_blocks, step_keeps_blocks}
 use Rattle.card_core.proofs.laws.steps_keep_blocks.Goals as goal
 
 pub returns-clause-step : goal.returns-clause-step

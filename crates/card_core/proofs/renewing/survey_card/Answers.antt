@@ -4,8 +4,8 @@ use Rattle.undo_journal.specs.Memory.{committed}
 use Rattle.undo_journal.specs.laws.Told.{changes_after, changes_handed}
 use Rattle.file_tree.specs.Table.{table}
 use Rattle.file_tree.specs.Indexes.{IsIndex}
-use Rattle.card_machine.specs.Cards.{card_space}
-use Rattle.card_machine.specs.Standing.{card_of, IsCard, IsOldCard}
+use Rattle.card_model.specs.Cards.{card_space}
+use Rattle.command_base.specs.Standing.{card_of, IsCard, IsOldCard}
 use Rattle.card_core.proofs.Migrated.{found-free, found-one, found-two, found-where, grown-space, renewal-writes}
 use Rattle.card_core.proofs.Migrated.{renewed-card}
 use Rattle.card_core.proofs.renewing.survey_card.Goals as goal

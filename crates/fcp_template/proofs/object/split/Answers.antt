@@ -1,6 +1,6 @@
 use Rattle.std.proofs.Common.{◌≡◌, ◌<◌, sym, ◌∙◌, length, arith, List}
 use Rattle.std.proofs.lemmas.Bool.Decides.{nat_tests}
-use Rattle.fcp_template.specs.DataObjects.{DataObject, objects_text}
+use Rattle.card_model.specs.TemplateGrammar.{DataObject, objects_text}
 use Rattle.fcp_template.proofs.Splitting.{no_objects}
 use Rattle.fcp_template.proofs.object.split.Goals as goal
 

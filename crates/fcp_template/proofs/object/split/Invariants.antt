@@ -1,5 +1,5 @@
 use Rattle.std.proofs.Common.{◌≡◌, ◌+◌, ◌*◌, ◌≤◌, ◌++◌, length}
-use Rattle.fcp_template.specs.DataObjects.{objects_text}
+use Rattle.card_model.specs.TemplateGrammar.{objects_text}
 use Rattle.fcp_template.proofs.object.split.Given as goal
 
 abbrev pub invariant-loop-rest : goal.invariant-loop-rest

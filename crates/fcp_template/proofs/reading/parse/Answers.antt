@@ -1,6 +1,6 @@
 use Rattle.std.proofs.Common.{ap, sym, ◌∙◌, Err, inl, inr, refl}
-use Rattle.fcp_template.specs.declared.fault.FcpFault.TheVariants.{Shape}
-use Rattle.fcp_template.specs.Reads.{meaning, FcpReads}
+use Rattle.card_model.specs.declared.fault.FcpFault.TheVariants.{Shape}
+use Rattle.card_model.specs.TemplateGrammar.{meaning, FcpReads}
 use Rattle.fcp_template.proofs.OneReading.{reading_of_template, fcp_read-is}
 use Rattle.fcp_template.proofs.reading.parse.Goals as goal
 

@@ -9,7 +9,7 @@ use Rattle.block_chain.specs.Changes.{OnlyContent}
 use Rattle.block_chain.specs.laws.Extents.{laid_has_free}
 use Rattle.file_tree.specs.declared.entry.Entry.{Entry}
 use Rattle.file_tree.specs.declared.layout.TheConstants.{CREATE_WRITES}
-use Rattle.file_tree.specs.NewFiles.{blank}
+use Rattle.card_state.specs.NewFiles.{blank}
 use Rattle.file_tree.specs.Table.{table, extents}
 use Rattle.file_changes.specs.CreationParts.{AddsFile, FillsAndAdds}
 use Rattle.file_tree.specs.laws.Rewriting.{filled}

@@ -5,7 +5,7 @@ use Rattle.card_rules.specs.LifeCycle.{state_after}
 use Rattle.card_rules.specs.declared.life_cycle.LifeCycle.{LifeCycle}
 use Rattle.file_tree.specs.declared.entry.Entry.{Entry}
 use Rattle.file_tree.specs.Entries.{life_told}
-use Rattle.file_changes.specs.laws.Barring.{barred_told, life_told_there}
+use Rattle.file_tree.specs.laws.Barring.{barred_told, life_told_there}
 use Rattle.undo_journal.specs.laws.Told.{reads_handed}
 use Rattle.file_changes.proofs.life_cycles.next_life_cycle.Goals as goal
 

@@ -8,7 +8,8 @@ use Rattle.card_rules.specs.LifeCycle.{life_cycle_byte}
 use Rattle.card_rules.specs.declared.life_cycle.LifeCycle.{LifeCycle}
 use Rattle.file_tree.specs.declared.entry.Entry.{Entry}
 use Rattle.file_tree.specs.declared.layout.TheConstants.{FIRST_ENTRY_PAGE}
-use Rattle.file_tree.specs.States.{ChangesLife, life_at}
+use Rattle.file_tree.specs.States.{ChangesLife}
+use Rattle.card_state.specs.FileLives.{life_at}
 use Rattle.file_tree.specs.Table.{table, entry_in, path_of, IsUsed}
 use Rattle.file_tree.specs.Trees.{tree_of, TreeStands}
 use Rattle.file_tree.specs.Parts.{TellsLife}

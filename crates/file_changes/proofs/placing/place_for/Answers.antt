@@ -6,7 +6,7 @@ use Rattle.std.proofs.lemmas.Bool.Decides.{eqb_tells}
 use Rattle.undo_journal.specs.Memory.{committed}
 use Rattle.block_chain.specs.laws.Extents.{laid_has_free}
 use Rattle.file_tree.specs.declared.entry.Entry.{Entry}
-use Rattle.file_tree.specs.Spaces.{blocks_for}
+use Rattle.card_state.specs.Spaces.{blocks_for}
 use Rattle.file_tree.specs.Table.{table, ancestor, extents}
 use Rattle.file_changes.specs.CreationParts.{TellsFreeEntry}
 use Rattle.file_tree.specs.laws.Tables.{length-table}

@@ -1,7 +1,7 @@
 use Rattle.std.proofs.Common.{◌≡◌, List, ℕ, sym, ◌∙◌, ap, inr, subst}
 use Rattle.undo_journal.specs.laws.Calls.{reads_then}
 use Rattle.pin_store.specs.declared.errors.Outcome.{Outcome}
-use Rattle.pin_store.specs.Pins.{kept, owner}
+use Rattle.card_state.specs.Secrets.{kept, owner}
 use Rattle.pin_store.specs.Pages.{pin_at}
 use Rattle.pin_store.specs.Trials.{pin_in, Compared}
 use Rattle.pin_store.proofs.Settled.{compare_ends, compared_by, compares_after, compares_none, rises_if}

@@ -1,5 +1,5 @@
 use Rattle.std.proofs.Common.{rules}
-use Rattle.apdu_core.specs.laws.Identifiers.{identifiers_counted}
+use Rattle.card_model.specs.laws.Identifiers.{identifiers_counted}
 use Rattle.apdu_core.proofs.path.FilePath.count.Goals as goal
 
 pub returns : goal.returns

@@ -1,5 +1,5 @@
 use Rattle.std.proofs.Common.{arith, rules}
-use Rattle.apdu_core.specs.laws.Identifiers.{identifier_at, identifier_stands}
+use Rattle.card_model.specs.laws.Identifiers.{identifier_at, identifier_stands}
 use Rattle.apdu_core.proofs.path.FilePath.identifier.Goals as goal
 
 pub overflow_mul-first : goal.overflow_mul-first

@@ -1,5 +1,5 @@
 use Rattle.std.proofs.Common.{rules}
-use Rattle.apdu_core.specs.laws.Identifiers.{identifiers_counted}
+use Rattle.card_model.specs.laws.Identifiers.{identifiers_counted}
 use Rattle.apdu_core.proofs.path.FilePath.new.Goals as goal
 
 pub returns-then-contains-clause-identifiers : goal.returns-then-contains-clause-identifiers

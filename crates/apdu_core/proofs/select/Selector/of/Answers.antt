@@ -1,6 +1,6 @@
 use Rattle.std.proofs.Common.{ℕ, ◌≡◌, Bool, true, false, List, length, Some, None, refl, ap}
 use Rattle.std.specs.Prelude.{if◌then◌else◌}
-use Rattle.apdu_core.specs.Selections.{identifiers, is_path, path_from_master, path_from_current}
+use Rattle.card_model.specs.Requests.{identifiers, is_path, path_from_master, path_from_current}
 use Rattle.apdu_core.proofs.select.Selector.of.Goals as goal
 
 -- numbers that are there under a test: it holds, and they are these

@@ -1,5 +1,5 @@
 use Rattle.std.proofs.Common.{Some, ap, refl, subst}
-use Rattle.file_tree.specs.declared.space.FreeSpace.{FreeSpace}
+use Rattle.card_state.specs.declared.space.FreeSpace.{FreeSpace}
 use Rattle.card_bench.specs.BenchStates.{BenchState, TellsFree}
 use Rattle.card_bench.proofs.playing.Bench.free.Goals as goal
 

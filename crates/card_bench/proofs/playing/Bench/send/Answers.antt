@@ -1,6 +1,6 @@
 use Rattle.std.proofs.Common.{rules, sym}
 use Rattle.t1_link.specs.CardTable.{link_step}
-use Rattle.card_machine.specs.declared.spending.TheConstants.{COMMAND_WRITES}
+use Rattle.command_base.specs.declared.spending.TheConstants.{COMMAND_WRITES}
 use Rattle.card_core.specs.Running.{card_found}
 use Rattle.card_bench.specs.BenchStates.{on}
 use Rattle.card_bench.specs.Plays.{HasNoFault}

@@ -1,13 +1,13 @@
 use Rattle.undo_journal.specs.Spending.{KeepsBoard}
 use Rattle.std.specs.Prelude.{◌≡◌, ◌⊎◌, ◌≢◌, ℕ, List, [], Option, Some, unwrap_or}
 use Rattle.std.proofs.Common.{rules, ap, sym, refl, subst, ◌∙◌}
-use Rattle.card_core.specs.declared.card_state.CardState.TheVariants.{Working, Dark}
-use Rattle.apdu_core.specs.Asked.{asked}
+use Rattle.card_core.specs.declared.state.CardState.TheVariants.{Working, Dark}
+use Rattle.card_model.specs.CommandTable.{asked}
 use Rattle.t1_link.specs.CardTable.{answers, reply_bytes, command_of, link_step, CardLink, Link, Reaction}
 use Rattle.t1_link.specs.CardTable.{replies, runs}
-use Rattle.card_machine.specs.Comparing.{comparisons, ComparesAsked}
+use Rattle.command_base.specs.Comparing.{comparisons, ComparesAsked}
 use Rattle.card_core.specs.Running.{card_found}
-use Rattle.card_machine.specs.laws.CompareLaws.{asked-none}
+use Rattle.command_base.specs.laws.CompareLaws.{asked-none}
 use Rattle.card_bench.specs.CardBlocks.{BlockChangesNothing, BlockCompares, BlockStands, FailsAt, IsBlockStage, IsCutAt}
 use Rattle.card_bench.specs.CardBlocks.{Powered, Replies}
 use Rattle.card_bench.proofs.BlockRuns.{cut-at, of-run, run-replies}

@@ -1,21 +1,21 @@
 use Rattle.std.proofs.Common.{refl, ◌≡◌, ◌⊎◌, ◌+◌, ◌≤◌, inl, OnOk, OnErr, sym, ◌∙◌, ap, subst, arith, length}
 use Rattle.nvm_board.specs.laws.Aims.{aim_same, aims_same}
 use Rattle.undo_journal.specs.Spending.{Advances, KeepsBoard}
-use Rattle.apdu_core.specs.Asked.{asked}
-use Rattle.card_core.specs.declared.card_state.CardState.{CardState}
-use Rattle.card_core.specs.declared.card_state.CardState.TheVariants.{Working, Failed, Dark}
-use Rattle.card_machine.specs.declared.spending.TheConstants.{COMMAND_WRITES}
-use Rattle.card_machine.specs.Comparing.{comparisons, ComparesAsked}
-use Rattle.card_machine.specs.Finding.{HasCard}
+use Rattle.card_model.specs.CommandTable.{asked}
+use Rattle.card_core.specs.declared.state.CardState.{CardState}
+use Rattle.card_core.specs.declared.state.CardState.TheVariants.{Working, Failed, Dark}
+use Rattle.command_base.specs.declared.spending.TheConstants.{COMMAND_WRITES}
+use Rattle.command_base.specs.Comparing.{comparisons, ComparesAsked}
+use Rattle.command_base.specs.Finding.{HasCard}
 use Rattle.card_core.specs.Running.{card_found, FailsIn, IsCutIn, Running, Steps}
-use Rattle.card_machine.specs.Sessions.{Session}
-use Rattle.card_machine.specs.Spending.{writes_asked, writes_of}
-use Rattle.card_machine.specs.Stages.{ChangesNothing, IsStage}
-use Rattle.card_machine.specs.Words.{StandsAsked}
-use Rattle.card_machine.specs.Working.{card_in, table_in}
+use Rattle.card_model.specs.Sessions.{Session}
+use Rattle.command_base.specs.Spending.{writes_asked, writes_of}
+use Rattle.card_model.specs.Steps.{ChangesNothing, IsStage}
+use Rattle.command_base.specs.Words.{StandsAsked}
+use Rattle.command_base.specs.Working.{card_in, table_in}
 use Rattle.card_core.specs.ShownSessions.{session_while}
-use Rattle.card_machine.specs.laws.SpendLaws.{few_writes}
-use Rattle.card_machine.specs.laws.TouchLaws.{few_updates}
+use Rattle.command_base.specs.laws.SpendLaws.{few_writes}
+use Rattle.command_base.specs.laws.TouchLaws.{few_updates}
 use Rattle.card_core.proofs.Commanding.{after, still-compares, still-stage, ended-done, ended-kept, ended-lost}
 use Rattle.card_core.proofs.Commanding.{ended-unlit, Ends}
 use Rattle.card_core.proofs.machine.Card.command.Given.{Over}

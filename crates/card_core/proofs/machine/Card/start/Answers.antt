@@ -1,27 +1,27 @@
 use Rattle.std.proofs.Common.{◌≡◌, ℕ, List, Option, None, Result, IfOk, inl, refl, sym, subst, ◌∙◌, ap, arith}
 use Rattle.std.specs.Result.{result_err}
-use Rattle.card_machine.specs.laws.Verified.{marked-none}
+use Rattle.command_base.specs.laws.Verified.{marked-none}
 use Rattle.undo_journal.specs.declared.error.StoreErr.{StoreErr}
 use Rattle.undo_journal.specs.Memory.{committed}
 use Rattle.undo_journal.specs.Spending.{KeepsBoard, WritesAtMost}
 use Rattle.undo_journal.specs.Undo.{data_words}
-use Rattle.card_machine.specs.Finding.{FindsAgain}
+use Rattle.command_base.specs.Finding.{FindsAgain}
 use Rattle.file_tree.specs.declared.tree.Survey.{Survey}
-use Rattle.card_machine.specs.Standing.{IsAnyCard}
-use Rattle.card_core.specs.declared.card_state.CardState.TheVariants.{Working, Dark}
-use Rattle.card_machine.specs.declared.current.Current.{Current}
-use Rattle.card_machine.specs.Working.{IsKept, session_of, table_in}
+use Rattle.command_base.specs.Standing.{IsAnyCard}
+use Rattle.card_core.specs.declared.state.CardState.TheVariants.{Working, Dark}
+use Rattle.command_base.specs.declared.current.Current.{Current}
+use Rattle.command_base.specs.Working.{IsKept, session_of, table_in}
 use Rattle.card_core.specs.StartParts.{TellsSurvey}
-use Rattle.card_machine.specs.laws.Entries.{master-path}
+use Rattle.command_base.specs.laws.Entries.{master-path}
 use Rattle.nvm_board.specs.Facts.{Facts}
 use Rattle.card_core.specs.Running.{StartStopsBy}
 use Rattle.undo_journal.specs.laws.Calls.{boards_then, within_more}
 use Rattle.block_chain.specs.Words.{word}
 use Rattle.block_chain.specs.declared.layout.TheConstants.{HEADER_PAGE}
 use Rattle.file_tree.specs.declared.layout.TheConstants.{MARK_WORD}
-use Rattle.card_machine.specs.Standing.{IsOldCard}
+use Rattle.command_base.specs.Standing.{IsOldCard}
 use Rattle.card_core.specs.Starting.{KeepsFormat, power_on_writes}
-use Rattle.card_machine.specs.laws.CardLaws.{card_format}
+use Rattle.command_base.specs.laws.CardLaws.{card_format}
 use Rattle.card_core.proofs.Migrated.{found-again, found-format, found-pages, found-still, spends-on}
 use Rattle.card_core.proofs.Powers.{found-there, starts-kept, stops-found, stops-opening}
 use Rattle.card_core.proofs.machine.Card.start.Goals as goal

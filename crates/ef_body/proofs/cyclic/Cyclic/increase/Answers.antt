@@ -5,9 +5,9 @@ use Rattle.undo_journal.specs.laws.Told.{changes_after}
 use Rattle.ef_body.specs.declared.layout.TheConstants.{RECORD_WRITES}
 use Rattle.ef_body.specs.declared.cyclic.Cyclic.{Cyclic}
 use Rattle.ef_body.specs.Bodies.{cyclic_records}
-use Rattle.ef_body.specs.Refusals.{raised_number}
+use Rattle.card_state.specs.RecordLists.{raised_number}
 use Rattle.ef_body.proofs.Refusing.{store_told}
-use Rattle.ef_body.proofs.Increasing.{length-spelled}
+use Rattle.card_state.specs.laws.Spelling.{length-spelled}
 use Rattle.ef_body.proofs.cyclic.Cyclic.increase.Goals as goal
 
 pub replace_oldest-requires-clause-size : goal.replace_oldest-requires-clause-size

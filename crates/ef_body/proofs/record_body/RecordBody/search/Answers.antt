@@ -3,7 +3,7 @@ use Rattle.undo_journal.specs.Memory.{committed}
 use Rattle.ef_body.specs.declared.cyclic.Cyclic.{Cyclic}
 use Rattle.ef_body.specs.Bodies.{cyclic_records}
 use Rattle.ef_body.specs.Calls.{ReadsInto}
-use Rattle.ef_body.specs.Searching.{found}
+use Rattle.card_state.specs.RecordLists.{found}
 use Rattle.ef_body.specs.laws.Rings.{length-records}
 use Rattle.ef_body.proofs.Calling.{refused_reads, store_reads}
 use Rattle.ef_body.proofs.record_body.RecordBody.search.Goals as goal

@@ -5,11 +5,11 @@ use Rattle.std.specs.List.{filter}
 use Rattle.undo_journal.specs.Memory.{committed}
 use Rattle.undo_journal.specs.laws.Calls.{reads_same, reads_then}
 use Rattle.undo_journal.specs.laws.Told.{reads_on, reads_handed, reads_so_far}
-use Rattle.ef_body.specs.Records.{record_of}
-use Rattle.ef_body.specs.Searching.{stands_in, numbers_on}
+use Rattle.card_state.specs.RecordLists.{record_of, stands_in, numbers_on}
 use Rattle.ef_body.specs.Bodies.{cyclic_records, IsCyclic}
 use Rattle.ef_body.specs.laws.Rings.{length-cyclic}
-use Rattle.ef_body.proofs.Finding.{found_some, steps_few, filter-next, filter-few}
+use Rattle.ef_body.proofs.Finding.{found_some, filter-next}
+use Rattle.card_state.specs.laws.Finding.{steps_few, filter-few}
 use Rattle.ef_body.proofs.slot.RecordSlot.search.Goals as goal
 
 pub loop-step-init : goal.loop-step-init

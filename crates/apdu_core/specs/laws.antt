@@ -1,5 +1,0 @@
-pub mod Identifiers
-pub mod TableLaws
-pub mod ByteLaws
-pub mod SizeLaws
-pub mod RowLaws

@@ -1,0 +1,21 @@
+-- What commands make of a card.
+pub mod Attempts
+pub mod Behaviours
+pub mod BinaryCommands
+pub mod Cards
+pub mod CommandTable
+pub mod FileCommands
+pub mod Guards
+pub mod LifeCycleCommands
+pub mod Listing
+pub mod Outcomes
+pub mod PinCommands
+pub mod Reaching
+pub mod RecordCommands
+pub mod Requests
+pub mod SelectCommand
+pub mod Sessions
+pub mod Steps
+pub mod TemplateGrammar
+pub mod Templates
+pub mod laws

@@ -1,0 +1,130 @@
+-- Commands on life cycles: ACTIVATE FILE, DEACTIVATE FILE, TERMINATE DF, TERMINATE EF and TERMINATE CARD USAGE
+-- (ISO/IEC 7816-9).
+use Rattle.std.specs.Prelude.{◌==◌, ℕ, Bool, true, false, not, if◌then◌else◌, List, [], ◌∷◌, Option, Some, is_none}
+use Rattle.std.specs.Prelude.{unwrap_or}
+use Rattle.std.specs.FinMap.{insert}
+use Rattle.card_rules.specs.declared.access_mode.AccessBit.{AccessBit}
+use Rattle.card_rules.specs.declared.life_cycle.LifeCycle.{LifeCycle}
+use Rattle.card_rules.specs.declared.life_cycle.LifeCycleCommand.{LifeCycleCommand}
+use Rattle.card_rules.specs.declared.status.Sw.{Sw}
+use Rattle.card_rules.specs.declared.status.TheConstants.Sw.{DONE, FILE_NOT_FOUND, NO_CURRENT_EF, WRONG_STRUCTURE}
+use Rattle.card_rules.specs.LifeCycle.{life_cycle_byte}
+use Rattle.card_model.specs.declared.requests.Subject.{Subject}
+use Rattle.card_model.specs.declared.requests.Subject.TheVariants.{Current, Identifier}
+use Rattle.card_model.specs.declared.requests.LifeCycleChange.{LifeCycleChange}
+use Rattle.card_model.specs.declared.requests.LifeCycleChange.TheVariants.{Activate, Deactivate, TerminateDf}
+use Rattle.card_model.specs.declared.requests.LifeCycleChange.TheVariants.{TerminateEf}
+use Rattle.card_state.specs.FileLives.{life_at, next_life, with_life}
+use Rattle.card_model.specs.Behaviours.{Behaviour, changes}
+use Rattle.card_model.specs.Cards.{Card, Kind, Path, Tree, dedicated, elementary, file_at}
+use Rattle.card_model.specs.Guards.{denied, no_next_life}
+use Rattle.card_model.specs.Outcomes.{Outcome, Refusals, no_refusals, only_status}
+use Rattle.card_model.specs.Reaching.{current_elementary, subject_or}
+use Rattle.card_model.specs.SelectCommand.{selecting}
+use Rattle.card_model.specs.Sessions.{Session}
+use Rattle.card_rules.specs.declared.access_mode.AccessBit.TheVariants as bit
+use Rattle.card_rules.specs.declared.life_cycle.LifeCycleCommand.TheVariants as command
+
+-- the row of the table of states that a command has
+abbrev pub command_of : LifeCycleChange → LifeCycleCommand
+command_of Activate = command.Activate
+command_of Deactivate = command.Deactivate
+command_of TerminateDf = command.Terminate
+command_of TerminateEf = command.Terminate
+
+-- what the file's rule must allow
+abbrev pub change_bit : LifeCycleChange → AccessBit
+change_bit Activate = bit.Activate
+change_bit Deactivate = bit.Deactivate
+change_bit TerminateDf = bit.Terminate
+change_bit TerminateEf = bit.Terminate
+
+-- the files that the command is for
+abbrev pub is_for : LifeCycleChange → Kind → Bool
+is_for Activate kind = true
+is_for Deactivate kind = true
+is_for TerminateDf (dedicated name) = true
+is_for TerminateDf (elementary short body) = false
+is_for TerminateEf (dedicated name) = false
+is_for TerminateEf (elementary short body) = true
+
+-- The file that a command is about where it names none: for TERMINATE DF the current dedicated file, for TERMINATE EF
+-- the current elementary file, and for the others this one, or else that one.
+abbrev pub current_subject : Session → LifeCycleChange → Option Path
+current_subject s TerminateDf = Some s.current_df
+current_subject s TerminateEf = current_elementary s
+current_subject s Activate = Some (unwrap_or (current_elementary s) s.current_df)
+current_subject s Deactivate = Some (unwrap_or (current_elementary s) s.current_df)
+
+abbrev pub changed_file : Tree → Session → LifeCycleChange → Subject → Option Path
+changed_file tree s change = subject_or (current_subject s change) tree s
+
+-- its path; where there is none, the command is refused
+abbrev pub changed_path : Card → Session → LifeCycleChange → Subject → Path
+changed_path c s change subject = unwrap_or (changed_file c.tree s change subject) []
+
+abbrev pub no_subject : Subject → Sw
+no_subject Current = NO_CURRENT_EF
+no_subject (Identifier id) = FILE_NOT_FOUND
+
+-- What refuses a change of a file's life cycle: no such file; a file above it is deactivated or terminated, or its own
+-- state doesn't allow the change; it isn't of the kind that the command is for; its rule doesn't allow the change.
+abbrev pub change_refusals : Card → Session → LifeCycleChange → Subject → Refusals
+change_refusals c s change subject =
+    let path = changed_path c s change subject in
+    record no_refusals {
+      target = record { applies = is_none (changed_file c.tree s change subject); status = no_subject subject } ∷ [];
+      life_cycle = no_next_life c path (command_of change) ∷ [];
+      structure = record { applies = not (is_for change (file_at c.tree path).kind); status = WRONG_STRUCTURE } ∷ [];
+      access = denied c s path (change_bit change) ∷ [];
+    }
+
+-- the state after the change; where there is none, the command is refused
+abbrev pub changed_life : Card → Session → LifeCycleChange → Subject → LifeCycle
+changed_life c s change subject =
+    let path = changed_path c s change subject in
+    unwrap_or (next_life c.tree path (command_of change)) (life_at c.tree path)
+
+-- a card whose file at a path is in a state
+abbrev pub with_life_at : Card → Path → LifeCycle → Card
+with_life_at c path life = record c { tree = insert c.tree path (with_life (file_at c.tree path) life) }
+
+abbrev pub changed_card : Card → Session → LifeCycleChange → Subject → Card
+changed_card c s change subject = with_life_at c (changed_path c s change subject) (changed_life c s change subject)
+
+-- the file becomes current anew, also where its state stays
+abbrev pub life_changed : Card → Session → LifeCycleChange → Subject → Outcome
+life_changed c s change subject =
+    let path = changed_path c s change subject in
+    record {
+      card = changed_card c s change subject;
+      session = selecting s path (file_at c.tree path).kind;
+      response = only_status DONE;
+    }
+
+-- a change to the state that a file has already commits nothing
+abbrev pub life_commits : Card → Session → LifeCycleChange → Subject → List Card
+life_commits c s change subject =
+    if life_cycle_byte (changed_life c s change subject)
+    == life_cycle_byte (life_at c.tree (changed_path c s change subject)) then [] else
+    changed_card c s change subject ∷ []
+
+abbrev pub on_change_life_cycle : LifeCycleChange → Subject → Behaviour
+on_change_life_cycle change subject =
+    record (changes (λ c s. change_refusals c s change subject) (λ c s. life_changed c s change subject)) {
+      commits = λ c s. life_commits c s change subject;
+    }
+
+-- TERMINATE CARD USAGE asks the rule of the master file alone
+abbrev pub terminate_card_refusals : Card → Session → Refusals
+terminate_card_refusals c s = record no_refusals { access = denied c s [] bit.Terminate ∷ [] }
+
+-- a card whose use has ended
+abbrev pub terminated_card : Card → Card
+terminated_card c = record c { in_use = false }
+
+abbrev pub card_terminated : Card → Session → Outcome
+card_terminated c s = record { card = terminated_card c; session = s; response = only_status DONE }
+
+abbrev pub on_terminate_card_usage : Behaviour
+on_terminate_card_usage = changes terminate_card_refusals card_terminated

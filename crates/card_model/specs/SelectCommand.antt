@@ -1,0 +1,68 @@
+-- SELECT (ISO/IEC 7816-4, 11.2.2).
+use Rattle.std.specs.Prelude.{ℕ, List, [], ◌∷◌, Option, is_none, unwrap_or}
+use Rattle.card_rules.specs.declared.status.Sw.{Sw}
+use Rattle.card_rules.specs.declared.status.TheConstants.Sw.{DONE, SELECTED_DEACTIVATED, SELECTED_TERMINATED}
+use Rattle.card_rules.specs.declared.status.TheConstants.Sw.{FILE_NOT_FOUND}
+use Rattle.card_rules.specs.declared.life_cycle.LifeCycle.{LifeCycle}
+use Rattle.card_rules.specs.declared.life_cycle.LifeCycle.TheVariants.{Creation, Initialisation, Deactivated, Activated}
+use Rattle.card_rules.specs.declared.life_cycle.LifeCycle.TheVariants.{Terminated}
+use Rattle.card_model.specs.declared.requests.Returned.{Returned}
+use Rattle.card_model.specs.declared.requests.Returned.TheVariants.{Template, Nothing}
+use Rattle.card_model.specs.Requests.{Selection}
+use Rattle.card_model.specs.Behaviours.{Behaviour, looks}
+use Rattle.card_model.specs.Cards.{Card, Path, Kind, Tree, dedicated, elementary, file_at, identifier, parent}
+use Rattle.card_model.specs.Guards.{given, length_refusal}
+use Rattle.card_model.specs.Outcomes.{Outcome, Refusals, no_refusals}
+use Rattle.card_model.specs.Reaching.{selected_from}
+use Rattle.card_model.specs.Sessions.{Session, at_dedicated_file, at_elementary_file}
+use Rattle.card_model.specs.Templates.{template_at}
+
+-- the status word of SELECT tells the selected file's own life cycle
+abbrev pub selection_status : LifeCycle → Sw
+selection_status Creation = DONE
+selection_status Initialisation = DONE
+selection_status Deactivated = SELECTED_DEACTIVATED
+selection_status Activated = DONE
+selection_status Terminated = SELECTED_TERMINATED
+
+-- the session in which a file has become current
+abbrev pub selecting : Session → Path → Kind → Session
+selecting s path (dedicated name) = at_dedicated_file s path
+selecting s path (elementary short body) = at_elementary_file s (parent path) (identifier path)
+
+-- the data that SELECT finds: the template of the file at a path, where it is asked for
+abbrev pub selection_data : Returned → Tree → Path → List ℕ
+selection_data Template tree path = template_at tree path
+selection_data Nothing tree path = []
+
+-- the path of the file that is reached; where none is, SELECT is refused
+abbrev pub selected_path : Card → Session → Selection → Path
+selected_path c s selection = unwrap_or (selected_from c.tree s.current_df selection) []
+
+abbrev pub selected_data : Card → Session → Selection → Returned → List ℕ
+selected_data c s selection returned = selection_data returned c.tree (selected_path c s selection)
+
+-- What refuses SELECT: no file is reached; Le asks for less than its data. Neither life cycles nor access rules bar it.
+abbrev pub select_refusals : Card → Session → Selection → Returned → Option ℕ → Refusals
+select_refusals c s selection returned expected = record no_refusals {
+  target = record { applies = is_none (selected_from c.tree s.current_df selection); status = FILE_NOT_FOUND } ∷ [];
+  limits = length_refusal expected (selected_data c s selection returned) ∷ [];
+}
+
+-- SELECT that isn't refused: the file becomes current
+abbrev pub selected : Card → Session → Selection → Returned → Option ℕ → Outcome
+selected c s selection returned expected =
+    let path = selected_path c s selection in
+    let file = file_at c.tree path in
+    record {
+      card = c;
+      session = selecting s path file.kind;
+      response = record {
+        text = given expected (selection_data returned c.tree path);
+        status = selection_status file.life;
+      };
+    }
+
+abbrev pub on_select : Selection → Returned → Option ℕ → Behaviour
+on_select selection returned expected =
+    looks (λ c s. select_refusals c s selection returned expected) (λ c s. selected c s selection returned expected)

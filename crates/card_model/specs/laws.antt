@@ -1,0 +1,24 @@
+-- Laws of the definitions, with their proofs.
+pub mod AnswerLaws
+pub mod BinaryLaws
+pub mod BlockLaws
+pub mod ByteLaws
+pub mod CommandLaws
+pub mod Doing
+pub mod FileLaws
+pub mod Guarding
+pub mod Identifiers
+pub mod IncreaseLaws
+pub mod Lawful
+pub mod LifeLaws
+pub mod PinLaws
+pub mod ProperLaws
+pub mod RecordLaws
+pub mod RowLaws
+pub mod SelectSteps
+pub mod SizeLaws
+pub mod StageLaws
+pub mod TableLaws
+pub mod TemplateLaws
+pub mod TextLaws
+pub mod WordLaws

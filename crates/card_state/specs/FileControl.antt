@@ -1,0 +1,81 @@
+-- File control parameters: what a file of each kind has, and the ranges (ISO/IEC 7816-4, 7.4.3).
+use Rattle.std.specs.Prelude.{ℕ, List, [], Some, None, ◌≡◌, ◌≢◌, ◌/◌, ◌%◌, ◌^◌, ◌<◌, ◌≤◌, ⊤, IsTrue, length, Option}
+use Rattle.card_state.specs.declared.fcp.FileKind.{FileKind}
+use Rattle.card_state.specs.declared.fcp.FileKind.TheVariants.{Df, Transparent, Linear, Cyclic}
+use Rattle.card_state.specs.declared.fcp.ShortIdentifier.{ShortIdentifier}
+use Rattle.card_state.specs.declared.fcp.ShortIdentifier.TheVariants.{Absent, Empty, Given}
+use Rattle.card_rules.specs.declared.life_cycle.LifeCycle.TheVariants.{Terminated}
+use Rattle.card_rules.specs.Rule.{is_rule}
+use Rattle.card_state.specs.declared.fcp.Fcp.{Fcp}
+use Rattle.card_state.specs.declared.fcp.Records.{Records}
+
+-- What a file of each kind has, field by field: empty, absent or 0 where a kind lacks the field.
+
+-- the bytes of the name
+abbrev pub name_bytes : FileKind → List ℕ
+name_bytes (Df None) = []
+name_bytes (Df (Some name)) = name
+name_bytes (Transparent short size) = []
+name_bytes (Linear short records) = []
+name_bytes (Cyclic short records) = []
+
+-- the short identifier
+abbrev pub short_of_kind : FileKind → ShortIdentifier
+short_of_kind (Df name) = Absent
+short_of_kind (Transparent short size) = short
+short_of_kind (Linear short records) = short
+short_of_kind (Cyclic short records) = short
+
+-- how many bytes the file has
+abbrev pub size_of_kind : FileKind → ℕ
+size_of_kind (Df name) = 0
+size_of_kind (Transparent short size) = size
+size_of_kind (Linear short records) = records.size
+size_of_kind (Cyclic short records) = records.size
+
+-- The ranges of file control parameters.
+
+-- a short identifier is 1 to 30
+abbrev pub IsShort : ShortIdentifier → Type 0
+IsShort Absent = ⊤
+IsShort Empty = ⊤
+IsShort (Given number) = (1 ≤ number) × (number ≤ 30)
+
+-- a file has 1 to 32,767 bytes
+pub record IsSize (size : ℕ) : Type 0 where
+  pub least : 1 ≤ size
+  pub most : size ≤ 32767
+
+-- a name has 1 to 16 bytes
+abbrev pub IsName : Option (List ℕ) → Type 0
+IsName None = ⊤
+IsName (Some name) = (1 ≤ length name) × (length name ≤ 16)
+
+-- up to 254 records of 1 to 255 bytes fill the size, and no more exist
+pub record IsRecords (records : Records) : Type 0 where
+  pub shortest : 1 ≤ records.record_length
+  pub longest : records.record_length ≤ 255
+  pub size : IsSize records.size
+  pub multiple : records.size % records.record_length ≡ 0
+  pub capacity : records.size / records.record_length ≤ 254
+  pub existing : records.existing ≤ records.size / records.record_length
+
+abbrev pub IsKind : FileKind → Type 0
+IsKind (Df name) = IsName name
+IsKind (Transparent short size) = IsShort short × IsSize size
+IsKind (Linear short records) = IsShort short × IsRecords records
+IsKind (Cyclic short records) = IsShort short × IsRecords records
+
+-- file control parameters in their ranges, those of the MF and of a terminated file among them
+pub record IsInRange (fcp : Fcp) : Type 0 where
+  pub identifier : fcp.identifier < 2 ^ 16
+  pub current_df : fcp.identifier ≢ 0x3FFF
+  pub reserved : fcp.identifier ≢ 0xFFFF
+  pub rule : IsTrue (is_rule fcp.rule)
+  pub kind : IsKind fcp.kind
+
+-- what a template of CREATE FILE can tell: no MF, and no terminated file
+pub record IsCreatable (fcp : Fcp) : Type 0 where
+  pub ranges : IsInRange fcp
+  pub below_mf : fcp.identifier ≢ 0x3F00
+  pub live : fcp.life_cycle ≢ Terminated

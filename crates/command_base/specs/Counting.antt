@@ -1,0 +1,30 @@
+-- A guess that is answered was counted, behind a charge (ISO/IEC 7816-4, clause 11, basic security handling).
+use Rattle.std.specs.Prelude.{◌≡◌, ◌<◌, true, Option, Some, None, Result, Ok, Err}
+use Rattle.card_rules.specs.declared.status.Sw.{Sw}
+use Rattle.nvm_board.specs.Facts.{Facts, raised}
+use Rattle.card_model.specs.Requests.{Request}
+use Rattle.card_model.specs.Cards.{Card}
+use Rattle.card_model.specs.Steps.{attempt_of, refusals_of}
+use Rattle.card_model.specs.Outcomes.{refused_by}
+use Rattle.card_model.specs.Attempts.{Attempt}
+use Rattle.card_model.specs.Sessions.{Session}
+
+-- An attempt that was answered was counted: its secret was compared once, and a device write was made, the charge.
+pub record CountsAttempt (a : Attempt) (old new : Facts) : Type 0 where
+  pub compared : new.compares ≡ raised old.compares a.secret
+  pub charged : old.writes < new.writes
+
+-- a request that shows no secret has nothing to count
+abbrev pub CountsShown : Option Attempt → Facts → Facts → Type 0
+CountsShown None old new = Unit {0}
+CountsShown (Some a) old new = CountsAttempt a old new
+
+-- nor has one that is refused
+abbrev pub CountsServed : Card → Session → Request → Facts → Facts → Type 0
+CountsServed c s request old new =
+    refused_by (refusals_of c s request) ≡ None → CountsShown (attempt_of request) old new
+
+-- nor has a command that its form refuses, or that a card refuses whose use has ended
+abbrev pub CountsAnswered : Result Request Sw → Card → Session → Facts → Facts → Type 0
+CountsAnswered (Ok request) c s old new = c.in_use ≡ true → CountsServed c s request old new
+CountsAnswered (Err status) c s old new = Unit {0}

@@ -1,0 +1,49 @@
+-- How the code asks whether the file that a command names refuses it. No clause of a card's calls names these.
+use Rattle.std.specs.Prelude.{◌≡◌, ◌==◌, ℕ, Bool, not, if◌then◌else◌, ◌||◌, IsTrue, List, Option, Some, None}
+use Rattle.card_model.specs.declared.requests.Target.{Target}
+use Rattle.card_rules.specs.declared.status.Sw.{Sw}
+use Rattle.card_rules.specs.declared.status.TheConstants.Sw.{ACCESS_DENIED, CONDITIONS_NOT_SATISFIED, WRONG_STRUCTURE}
+use Rattle.file_tree.specs.declared.entry.Entry.{Entry}
+use Rattle.card_model.specs.RecordCommands.{has_records, is_cyclic, is_linear}
+use Rattle.file_tree.specs.Table.{table, entry_in, path_of}
+use Rattle.command_base.specs.declared.current.Current.{Current}
+use Rattle.command_base.specs.declared.named.Need.{Need}
+use Rattle.command_base.specs.declared.named.Structure.{Structure}
+use Rattle.command_base.specs.declared.named.Structure.TheVariants.{Bytes, Records, Linear, Cyclic}
+use Rattle.card_model.specs.Cards.{Kind, is_transparent}
+use Rattle.card_model.specs.Guards.{file_refusals}
+use Rattle.card_model.specs.Outcomes.{refused_by}
+use Rattle.card_model.specs.Reaching.{target_of}
+use Rattle.command_base.specs.Standing.{card_of}
+use Rattle.command_base.specs.Working.{IsElementary, session_of}
+
+-- the structures that a command is for
+abbrev pub fits : Structure → Kind → Bool
+fits Bytes kind = is_transparent kind
+fits Records kind = has_records kind
+fits Linear kind = is_linear kind
+fits Cyclic kind = is_cyclic kind
+
+-- and by the kind of an entry
+abbrev pub fits_kind : Structure → ℕ → Bool
+fits_kind Bytes kind = kind == 2
+fits_kind Records kind = kind == 3 || kind == 4
+fits_kind Linear kind = kind == 3
+fits_kind Cyclic kind = kind == 4
+
+-- the refusal of a command by its file: whether it is barred, of a structure that the command is for,
+-- and allowed by its rule
+abbrev pub file_refusal : Bool → Bool → Bool → Option Sw
+file_refusal barred fit permitted =
+    if barred then Some CONDITIONS_NOT_SATISFIED else
+    if not fit then Some WRONG_STRUCTURE else
+    if not permitted then Some ACCESS_DENIED else None
+
+-- A file that a command on contents names, and that doesn't refuse it, has this entry.
+pub record IsNamed (m : List ℕ) (x : Current) (target : Target) (need : Need) (e : ℕ) (entry : Entry) : Type 0 where
+  pub entry_is : entry ≡ entry_in (table m) e
+  pub place : target_of (card_of m).tree (session_of (table m) x) target ≡ Some (path_of (table m) e)
+  pub file : IsElementary (table m) x.df e
+  pub unrefused : refused_by (file_refusals (card_of m) (session_of (table m) x) target (fits need.structure) need.bit)
+      ≡ None
+  pub structure : IsTrue (fits_kind need.structure entry.kind)

@@ -1,0 +1,57 @@
+-- What the code finds of a template in an entry. No public clause names these.
+use Rattle.std.specs.Prelude.{◌≢◌, ◌==◌, ◌&&◌, ℕ, nat_le, if◌then◌else◌, List, [], length, Option, Some, None}
+use Rattle.file_tree.specs.declared.entry.Entry.{Entry}
+use Rattle.file_tree.specs.Entries.{life_told, name_of, rule_of}
+use Rattle.file_tree.specs.Table.{IsFileEntry}
+use Rattle.card_model.specs.declared.requests.Returned.{Returned}
+use Rattle.card_model.specs.declared.requests.Returned.TheVariants.{Template, Nothing}
+use Rattle.card_state.specs.declared.fcp.Fcp.{Fcp}
+use Rattle.card_state.specs.declared.fcp.FileKind.{FileKind}
+use Rattle.card_state.specs.declared.fcp.FileKind.TheVariants as kinds
+use Rattle.card_state.specs.declared.fcp.Records.{Records as RecordsTold}
+use Rattle.card_state.specs.declared.fcp.ShortIdentifier.{ShortIdentifier}
+use Rattle.card_state.specs.declared.fcp.ShortIdentifier.TheVariants as shorts
+use Rattle.card_model.specs.Templates.{fcp_text}
+
+-- a used entry, whose file a template can tell
+pub record IsToldEntry (entry : Entry) : Type 0 where
+  pub used : entry.kind ≢ 0
+  pub file : IsFileEntry entry
+
+-- what a template tells of the file of an entry
+abbrev pub name_in_entry : Entry → Option (List ℕ)
+name_in_entry entry =
+    if nat_le 1 (length (name_of entry)) && nat_le (length (name_of entry)) 16 then Some (name_of entry) else None
+
+abbrev pub short_in_entry : Entry → ShortIdentifier
+short_in_entry entry = if entry.short == 0 then shorts.Empty else shorts.Given entry.short
+
+abbrev pub records_in_entry : Entry → RecordsTold
+records_in_entry entry = record {
+  size = entry.size;
+  record_length = entry.record_length;
+  existing = entry.records;
+}
+
+abbrev pub kind_in_entry : Entry → FileKind
+kind_in_entry entry =
+    if entry.kind == 1 then kinds.Df (name_in_entry entry) else
+    if entry.kind == 2 then kinds.Transparent (short_in_entry entry) entry.size else
+    if entry.kind == 3 then kinds.Linear (short_in_entry entry) (records_in_entry entry) else
+    kinds.Cyclic (short_in_entry entry) (records_in_entry entry)
+
+abbrev pub parameters_in : Entry → Fcp
+parameters_in entry = record {
+  identifier = entry.identifier;
+  life_cycle = life_told entry;
+  rule = rule_of entry;
+  kind = kind_in_entry entry;
+}
+
+-- the template of the file of an entry, and what SELECT finds of it
+unfoldable pub template_in : Entry → List ℕ
+template_in entry = fcp_text (parameters_in entry)
+
+abbrev pub data_in : Returned → Entry → List ℕ
+data_in Template entry = template_in entry
+data_in Nothing entry = []

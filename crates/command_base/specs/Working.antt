@@ -1,0 +1,57 @@
+-- What a card that works keeps of its memory and its session: which card and session these are, and the files that can
+-- be current.
+use Rattle.std.specs.Prelude.{◌≡◌, ◌≤◌, ℕ, Bool, not, List, length, map, option_map, IfSome}
+use Rattle.undo_journal.specs.Memory.{Memory, committed, IsReady}
+use Rattle.file_tree.specs.declared.entry.Entry.{Entry}
+use Rattle.card_state.specs.declared.space.FreeSpace.{FreeSpace}
+use Rattle.file_tree.specs.Table.{table, entry_in, path_of, IsChild}
+use Rattle.command_base.specs.declared.current.Current.{Current}
+use Rattle.card_model.specs.Cards.{Card, card_space}
+use Rattle.card_model.specs.Sessions.{Session, marked}
+use Rattle.pin_store.specs.Pages.{pins_of}
+use Rattle.command_base.specs.Standing.{card_of, IsCard}
+
+-- an elementary file that is a child of a dedicated file
+pub record IsElementary (t : List Entry) (df e : ℕ) : Type 0 where
+  pub child : IsChild t df e
+  pub kind : 2 ≤ (entry_in t e).kind
+
+-- the numbers of the current files are those of a dedicated file, and of an elementary file in it, if there is one; and
+-- there is a mark for each PIN
+pub record IsCurrent (t : List Entry) (x : Current) : Type 0 where
+  pub df : (entry_in t x.df).kind ≡ 1
+  pub ef : IfSome x.ef (IsElementary t x.df)
+  pub marks : length x.verified ≡ 8
+
+-- the PINs of a memory of format 2 that are disabled, each of PIN 1 to 8 marked
+abbrev pub disabled_in : List ℕ → List Bool
+disabled_in m = map (λ pin. not pin.enabled) (pins_of m)
+
+-- the session that these numbers stand for
+abbrev pub session_of : List Entry → Current → Session
+session_of t x = record {
+  current_df = path_of t x.df;
+  current_ef = option_map (λ e. (entry_in t e).identifier) x.ef;
+  pointer = x.pointer;
+  verified = marked x.verified;
+}
+
+-- the card of a store, its session, and its free space
+abbrev pub card_in : Memory → Card
+card_in m = card_of (committed m)
+
+abbrev pub table_in : Memory → List Entry
+table_in m = table (committed m)
+
+abbrev pub session_in : Memory → Current → Session
+session_in m x = session_of (table_in m) x
+
+abbrev pub space_in : Memory → FreeSpace
+space_in m = card_space (card_in m)
+
+-- What a card that works keeps of its memory and its current files: a store that is ready, the words of a card, and the
+-- numbers of files that can be current.
+pub record IsKept (m : Memory) (x : Current) : Type 0 where
+  pub ready : IsReady m
+  pub card : IsCard (committed m)
+  pub current : IsCurrent (table_in m) x

@@ -1,0 +1,62 @@
+//! What the rule of a file allows in a session: by the PINs that are verified in it, and those that are disabled.
+ghost use Rattle.std.specs.Prelude.{◌≡◌, ◌<◌, ◌+◌};
+ghost use Rattle.card_rules.specs.Pins.{with_pin};
+ghost use Rattle.card_rules.specs.declared.pins.TheConstants.{PINS};
+ghost use Rattle.undo_journal.specs.Calls.{Learns};
+ghost use Rattle.undo_journal.specs.Memory.{committed, IsReady};
+ghost use Rattle.file_tree.specs.Table.{entry_in, path_of, IsUsed};
+ghost use Rattle.card_model.specs.Guards.{allowed};
+ghost use Rattle.command_base.specs.Working.{card_in, disabled_in, session_in, table_in, IsKept};
+
+use crate::current::Current;
+use crate::named::Named;
+use card_rules::{AccessBit, PinNumber, PinSet};
+use file_tree::is_allowed_at;
+use pin_store::{PINS, is_enabled};
+use undo_journal::{Board, Store, StoreErr};
+
+/// The PINs that are disabled.
+fn disabled_pins<B: Board>(store: &mut Store<B>) -> Result<PinSet, StoreErr>
+    requires ready { IsReady store.old }
+    ensures { Learns store.old store.new result (λ disabled. disabled ≡ disabled_in (committed store.old)) }
+{
+    let mut disabled = PinSet::new();
+    for secret in 0..PINS {
+        if !is_enabled(store, secret)? {
+            insert(&mut disabled, secret);
+        }
+    }
+    Ok(disabled)
+}
+
+/// Puts the PIN of a secret into a set.
+fn insert(pins: &mut PinSet, secret: u8)
+    requires { secret < PINS }
+    ensures { pins.new ≡ with_pin pins.old (secret + 1) }
+{
+    if let Some(pin) = PinNumber::new(secret + 1) {
+        pins.insert(pin);
+    }
+}
+
+/// Whether the rule of a file allows what the bit stands for, in this session. The entry is at hand: no word of it is
+/// read. A PIN that is disabled refuses nothing: so the marks of the PINs are read only where the rule isn't met
+/// without them.
+pub fn allows<B: Board>(
+    store: &mut Store<B>,
+    current: &Current,
+    file: &Named,
+    bit: AccessBit,
+) -> Result<bool, StoreErr>
+    requires kept { IsKept store.old current.now }
+    requires used { IsUsed (table_in store.old) file.now.number }
+    requires entry { file.now.entry ≡ entry_in (table_in store.old) file.now.number }
+    ensures { Learns store.old store.new result (λ permits. permits ≡ allowed (card_in store.old)
+        (session_in store.old current.now) (path_of (table_in store.old) file.now.number) bit) }
+{
+    if is_allowed_at(&file.entry, bit, &current.verified, &PinSet::new()) {
+        return Ok(true);
+    }
+    let disabled = disabled_pins(store)?;
+    Ok(is_allowed_at(&file.entry, bit, &current.verified, &disabled))
+}

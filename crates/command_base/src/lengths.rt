@@ -1,0 +1,38 @@
+//! The response data field of a command, and how much of it is given, by its Le (ISO/IEC 7816-4, 5.1).
+ghost use Rattle.std.specs.Prelude.{◌≡◌, ◌≤◌, [], length};
+ghost use Rattle.card_model.specs.Guards.{asks_less, given, right_length};
+
+use apdu_core::{Answer, Sw};
+use arrayvec::ArrayVec;
+use card_rules::limits::MOST_ANSWER_DATA;
+
+/// The response data field: a template, the bytes of a record, the numbers of records, or what INCREASE answers.
+pub type ResponseData = ArrayVec<u8, MOST_ANSWER_DATA>;
+
+/// Whether Le asks for less than the data. Le 00 asks for all.
+pub fn asks_less(expected: Option<u8>, response: &ResponseData) -> bool
+    ensures { result ≡ asks_less expected response.now.items }
+{
+    match expected {
+        Some(le) => le != 0 && usize::from(le) < response.len(),
+        None => false,
+    }
+}
+
+/// The status word that tells the length of the data, 6CXX; 256 is told as 00.
+pub fn right_length(response: &ResponseData) -> Sw
+    ensures { result ≡ right_length response.now.items }
+{
+    Sw(0x6C00 + (response.len() % MOST_ANSWER_DATA) as u16)
+}
+
+/// Puts the data into an empty answer, if there is an Le.
+pub fn give(expected: Option<u8>, response: &ResponseData, answer: &mut Answer)
+    requires { answer.old.items ≡ [] }
+    ensures given { answer.new.items ≡ given expected response.now.items }
+    ensures room { length answer.new.items ≤ 256 }
+{
+    if expected.is_some() {
+        answer.try_extend_from_slice(response).unwrap();
+    }
+}

@@ -1,0 +1,145 @@
+use Rattle.std.proofs.Common.{◌≡◌, ◌≤◌, lit<, ℕ, List, length, refl, sym, not, ◌==◌, ◌&&◌, ◌∙◌, ap, subst, arith}
+use Rattle.card_rules.specs.declared.status.TheConstants.Sw.{DONE}
+use Rattle.undo_journal.specs.Memory.{committed}
+use Rattle.undo_journal.specs.laws.Calls.{reads_then}
+use Rattle.undo_journal.specs.laws.Told.{reads_on}
+use Rattle.card_model.specs.Requests.{read_record}
+use Rattle.ef_body.specs.Bodies.{cyclic_records}
+use Rattle.card_state.specs.RecordLists.{record_of}
+use Rattle.command_base.specs.declared.current.Current.{Current}
+use Rattle.command_base.specs.declared.stop.Stop.TheVariants.{Refused}
+use Rattle.card_model.specs.Guards.{right_length}
+use Rattle.card_model.specs.RecordCommands.{pointer_after}
+use Rattle.command_base.specs.Working.{card_in, session_in, table_in, IsCurrent}
+use Rattle.command_base.specs.CurrentFiles.{pointer_from, pointing_from}
+use Rattle.content_commands.specs.RecordParts.{chosen_in}
+use Rattle.card_model.specs.Outcomes.{refused, outcome}
+use Rattle.content_commands.proofs.RecordBodies.{slot-few}
+use Rattle.content_commands.proofs.RecordSteps.{choice-barred, choice-gone, chosen-body, chosen-has, current-is}
+use Rattle.content_commands.proofs.RecordSteps.{declined-empty, is-chosen, read-other, read-refused, read-whole}
+use Rattle.command_base.specs.laws.Serves.{answered, halted, handed}
+use Rattle.command_base.specs.laws.Stopping.{reply-failed}
+use Rattle.content_commands.proofs.records.read_record.Goals as goal
+
+pub read-requires : goal.read-requires
+read-requires g c =
+    let found = is-chosen c.args.choice c.in_ok-slot.slot c.in_ok-file.ensures.told
+    c.pointer_at-pointer.ensures c.in_ok-slot.ensures.found in
+    let stands = chosen-body (committed c.args.store.now) c.requires.kept.ready.usable.committed_size
+    c.requires.kept.card
+    c.args.current.now c.args.target _ _ _ found _ c.find_records.ensures.store.only.keeps.committed_words in
+    let short = stands.slots.short in
+    let room : c.in_ok-slot.slot.ring.record_length ≤ 256 = omega (arith, short) in
+    (lit< tt, (c.in_ok-file.ensures.store.ready, (stands, room)))
+
+pub returns-then-is_other_length : goal.returns-then-is_other_length
+returns-then-is_other_length g c =
+    let old = c.args.store.now in
+    let x = c.args.current.now in
+    let file = c.in_ok-file.file in
+    let same = c.find_records.ensures.store.only.keeps.committed_words in
+    let found = is-chosen c.args.choice c.in_ok-slot.slot c.in_ok-file.ensures.told
+    c.pointer_at-pointer.ensures c.in_ok-slot.ensures.found in
+    let number = found.number_is in
+    let has = chosen-has _ _ _ _ _ _ found in
+    let text : c.read.new.bytes.items ≡ record_of (cyclic_records (committed old) file.ring) (chosen_in file
+    (pointer_from x
+    c.args.target) c.args.choice) =
+    c.in_ok-read.ensures.bytes ∙ (λ i. record_of (cyclic_records (same i) (found.ring_is i)) (number i)) in
+    let other = ap (λ (l : List ℕ). not (c.args.expected == 0) && not (c.args.expected == length l)) (sym text)
+    ∙ sym c.is_other_length.ensures ∙ c.if-is_other_length.true in
+    let status = ap right_length (sym text) ∙ sym c.right_length.ensures in
+    declined-empty (read_record c.args.target c.args.choice c.args.expected) old x c.read.new.store
+    c.args.answer.now.items c.requires.empty (λ _. tt) c.requires.kept.card c.right_length.result
+    (reads_then old c.find_records.new.store c.read.new.store c.find_records.ensures.store.only
+    c.read.ensures.store.only) c.in_ok-read.ensures.store.ready c.requires.kept.current
+    (read-other (committed old) c.requires.kept.ready.usable.committed_size c.requires.kept.card x c.args.target _
+    file found.named found.named.named.unrefused c.args.choice c.args.expected has other
+    ∙ ap (refused (card_in old) (session_in old x)) status)
+
+pub pointer_after-after-requires : goal.pointer_after-after-requires
+pointer_after-after-requires g c =
+    let found = is-chosen c.args.choice c.in_ok-slot.slot c.in_ok-file.ensures.told
+    c.pointer_at-pointer.ensures c.in_ok-slot.ensures.found in
+    let stands = chosen-body (committed c.args.store.now) c.requires.kept.ready.usable.committed_size
+    c.requires.kept.card
+    c.args.current.now c.args.target _ _ _ found _ refl in
+    let few = slot-few (committed c.args.store.now) c.in_ok-slot.slot stands in
+    omega (arith, few)
+
+pub returns : goal.returns
+returns g c =
+    let old = c.args.store.now in
+    let x = c.args.current.now in
+    let file = c.in_ok-file.file in
+    let e = file.number in
+    let sized = c.requires.kept.ready.usable.committed_size in
+    let same = c.find_records.ensures.store.only.keeps.committed_words in
+    let found = is-chosen c.args.choice c.in_ok-slot.slot c.in_ok-file.ensures.told
+    c.pointer_at-pointer.ensures c.in_ok-slot.ensures.found in
+    let number = found.number_is in
+    let has = chosen-has _ _ _ _ _ _ found in
+    let text : c.read.new.bytes.items ≡ record_of (cyclic_records (committed old) file.ring) (chosen_in file
+    (pointer_from x
+    c.args.target) c.args.choice) =
+    c.in_ok-read.ensures.bytes ∙ (λ i. record_of (cyclic_records (same i) (found.ring_is i)) (number i)) in
+    let whole = ap (λ (l : List ℕ). not (c.args.expected == 0) && not (c.args.expected == length l)) (sym text)
+    ∙ sym c.is_other_length.ensures ∙ c.if-is_other_length.false in
+    let pointer : c.pointer_after-after.result ≡ pointer_after (pointer_from x c.args.target) c.args.choice
+    (chosen_in file
+    (pointer_from x c.args.target) c.args.choice) =
+    c.pointer_after-after.ensures
+    ∙ (λ i. pointer_after (c.pointer_at-pointer.ensures i) c.args.choice (number i)) in
+    let y_is : c.pointing.result ≡ pointing_from x c.args.target e (pointer_after (pointer_from x c.args.target)
+    c.args.choice (chosen_in file (pointer_from x c.args.target) c.args.choice)) =
+    c.pointing.ensures ∙ ap (pointing_from x c.args.target e) pointer in
+    let given_is = c.give.ensures.given ∙ text in
+    let current = current-is (committed old) sized c.requires.kept.card x c.args.target _ file found.named
+    c.requires.kept.current
+    (pointer_after (pointer_from x c.args.target) c.args.choice (chosen_in file (pointer_from x c.args.target)
+    c.args.choice)) in
+    answered (read_record c.args.target c.args.choice c.args.expected) old x
+    c.read.new.store (λ _. tt) c.requires.kept.card c.pointing.result c.give.new.answer.items DONE
+    (reads_then old c.find_records.new.store c.read.new.store c.find_records.ensures.store.only
+    c.read.ensures.store.only) c.in_ok-read.ensures.store.ready
+    (subst (λ (y : Current). IsCurrent (table_in old) y) (sym y_is) current)
+    c.give.ensures.room
+    (read-whole (committed old) sized c.requires.kept.card x c.args.target _ file found.named
+    found.named.named.unrefused
+    c.args.choice c.args.expected has whole
+    ∙ (λ i. outcome (card_in old) (session_in old (sym y_is i)) (sym given_is i) DONE))
+
+pub returns-in_err-file : goal.returns-in_err-file
+returns-in_err-file g c =
+    let old = c.args.store.now in
+    let x = c.args.current.now in
+    halted (read_record c.args.target c.args.choice c.args.expected) old x c.find_records.new.store (λ _. tt)
+    c.requires.kept.card c.requires.kept.current c.args.answer.now.items c.requires.empty _ _ c.from_residual.ensures.1
+    c.in_err-file.ensures.store _
+    (λ status refused. read-refused (card_in old) (session_in old x) c.args.target status c.args.choice
+    (choice-barred (card_in old) (session_in old x) c.args.target status c.args.choice refused) c.args.expected)
+    c.in_err-file.ensures.told
+
+pub returns-in_err-slot : goal.returns-in_err-slot
+returns-in_err-slot g c =
+    let old = c.args.store.now in
+    let x = c.args.current.now in
+    let found = c.in_ok-file.ensures.told in
+    let status = c.in_err-slot.field-0.0 in
+    halted (read_record c.args.target c.args.choice c.args.expected) old x c.find_records.new.store (λ _. tt)
+    c.requires.kept.card c.requires.kept.current c.args.answer.now.items c.requires.empty _ (Refused status)
+    c.from_residual-in_err-slot.ensures.1 c.in_ok-file.ensures.store _
+    (λ status refused. read-refused (card_in old) (session_in old x) c.args.target status c.args.choice refused
+    c.args.expected)
+    (choice-gone (committed old) c.requires.kept.ready.usable.committed_size c.requires.kept.card x c.args.target _
+    c.in_ok-file.file found found.named.unrefused c.args.choice status _ c.pointer_at-pointer.ensures
+    c.in_err-slot.ensures.refusal)
+
+pub returns-in_err-read : goal.returns-in_err-read
+returns-in_err-read g c =
+    let none : length c.args.answer.now.items ≡ 0 = ap (λ (l : List ℕ). length l) c.requires.empty in
+    handed (read_record c.args.target c.args.choice c.args.expected) c.args.store.now c.args.current.now
+    c.read.new.store c.requires.kept.card c.args.current.now c.args.answer.now.items _ c.in_err-read.field-0.0
+    (reply-failed _ _ c.from_residual-in_err-read.ensures.1)
+    (reads_on c.args.store.now c.find_records.new.store c.read.new.store _ c.find_records.ensures.store.only
+    c.in_err-read.ensures.store) (omega (arith, none))

@@ -1,0 +1,74 @@
+//! INCREASE (ETSI TS 102 221, 11.1.8).
+ghost use Rattle.std.specs.Prelude.{◌≡◌, ◌≤◌, ◌+◌, ◌++◌, ◌||◌, nat_lt, [], length, Some};
+ghost use Rattle.card_model.specs.Requests.{increase as increasing};
+ghost use Rattle.command_base.specs.InPlace.{ServesInPlace};
+ghost use Rattle.command_base.specs.Stops.{reply};
+ghost use Rattle.command_base.specs.Working.{IsKept};
+
+use crate::records::find_records;
+use apdu_core::{Answer, Sw, Target};
+use card_rules::AccessBit;
+use card_rules::limits::MOST_ANSWER_DATA;
+use command_base::{Current, Need, ResponseData, Stop, Structure, asks_less, give, right_length};
+use ef_body::Cyclic;
+use undo_journal::{Board, Store};
+
+/// What INCREASE needs of its file.
+const INCREASING: Need = Need {
+    structure: Structure::Cyclic,
+    bit: AccessBit::Update,
+};
+
+/// INCREASE: the sum of the newest record of the current cyclic file and the sent number is the new record 1, which is
+/// the current one then. The new record, and then what was sent, go into `answer`, and the status word is the result.
+/// It is refused by its file; the sent number is too long; there is no record; the sum is too long; Le asks for less
+/// than the answer.
+pub fn increase<B: Board>(
+    store: &mut Store<B>,
+    current: &mut Current,
+    amount: &[u8],
+    expected: Option<u8>,
+    answer: &mut Answer,
+) -> Result<Sw, Stop>
+    requires kept { IsKept store.old current.old }
+    requires few { length amount.now ≤ 255 }
+    requires empty { answer.old.items ≡ [] }
+    ensures { ServesInPlace (increasing amount.now expected) store.old current.old store.new current.new
+        answer.new.items (reply result) }
+{
+    let file = find_records(store, current, Target::Current, INCREASING)?;
+    if is_too_long(file.ring, amount) {
+        return Err(Stop::Refused(Sw::WRONG_LENGTH));
+    }
+    let mut sum = ResponseData::new();
+    let slot = file.ring.raise(store, amount, &mut sum)?;
+    let response = answer_of(&sum, amount);
+    if asks_less(expected, &response) {
+        return Err(Stop::Refused(right_length(&response)));
+    }
+    slot.replace_oldest(store, &sum)?;
+    give(expected, &response, answer);
+    *current = current.pointing(Target::Current, file.number, Some(1));
+    Ok(Sw::DONE)
+}
+
+/// What INCREASE answers: the new record, and then what was sent.
+fn answer_of(sum: &ResponseData, amount: &[u8]) -> ResponseData
+    requires { length sum.now.items + length amount.now ≤ 256 }
+    ensures { result.items ≡ sum.now.items ++ amount.now }
+{
+    let mut response = ResponseData::new();
+    response.try_extend_from_slice(sum).unwrap();
+    response.try_extend_from_slice(amount).unwrap();
+    response
+}
+
+/// More bytes than a record has, or an answer of more than 256 bytes.
+fn is_too_long(ring: Cyclic, amount: &[u8]) -> bool
+    requires { length amount.now ≤ 255 }
+    ensures { result ≡ (nat_lt ring.record_length (length amount.now)
+        || nat_lt 256 (ring.record_length + length amount.now)) }
+{
+    let long = usize::from(ring.record_length);
+    long < amount.len() || MOST_ANSWER_DATA < long + amount.len()
+}

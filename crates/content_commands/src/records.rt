@@ -1,0 +1,199 @@
+//! READ, UPDATE, APPEND and SEARCH RECORD (ISO/IEC 7816-4, 11.4).
+ghost use Rattle.std.specs.Prelude.{◌≡◌, ◌≢◌, ◌≤◌, ◌==◌, ◌&&◌, not, [], length, Some};
+ghost use Rattle.undo_journal.specs.Memory.{committed};
+ghost use Rattle.card_model.specs.Requests.{IsTarget, append_record as appending, read_record as reading};
+ghost use Rattle.card_model.specs.Requests.{search_record as searching, update_record as updating, HasBetween};
+ghost use Rattle.command_base.specs.declared.named.Structure.TheVariants as Structure;
+ghost use Rattle.card_model.specs.Outcomes.{refused_by};
+ghost use Rattle.command_base.specs.NamedFiles.{fits};
+ghost use Rattle.card_model.specs.Guards.{file_refusals};
+ghost use Rattle.command_base.specs.Served.{Serves};
+ghost use Rattle.command_base.specs.InPlace.{ServesInPlace};
+ghost use Rattle.command_base.specs.Stops.{reply, Looks};
+ghost use Rattle.command_base.specs.Working.{card_in, session_in, IsKept};
+ghost use Rattle.content_commands.specs.RecordParts.{need_replacing, IsRecordFile};
+ghost use Rattle.card_model.specs.RecordCommands.{pointer_found, search_status};
+
+use crate::record_file::{RecordFile, pointer_after};
+use apdu_core::{Answer, RecordChoice, RecordPlace, Sw, Target};
+use card_rules::{AccessBit, Direction};
+use command_base::{
+    Current, Need, ResponseData, Stop, Structure, asks_less, find_file, give, right_length,
+};
+use undo_journal::{Board, Store};
+
+/// What READ RECORD and SEARCH RECORD need of their file.
+const READING: Need = Need {
+    structure: Structure::Records,
+    bit: AccessBit::Read,
+};
+
+/// What APPEND RECORD needs of its file.
+const APPENDING: Need = Need {
+    structure: Structure::Records,
+    bit: AccessBit::Append,
+};
+
+/// What UPDATE RECORD needs of its file: of a cyclic one it replaces the record before record 1 alone.
+fn replacing(choice: RecordChoice) -> Need
+    ensures { result ≡ need_replacing choice }
+{
+    let structure = match choice {
+        RecordChoice::Previous => Structure::Records,
+        RecordChoice::Next | RecordChoice::At(_) => Structure::Linear,
+    };
+    Need {
+        structure,
+        bit: AccessBit::Update,
+    }
+}
+
+/// The file that a command on records names, or else what refuses the command by its file.
+pub(crate) fn find_records<B: Board>(
+    store: &mut Store<B>,
+    current: &Current,
+    target: Target,
+    need: Need,
+) -> Result<RecordFile, Stop>
+    requires kept { IsKept store.old current.now }
+    requires target { IsTarget target }
+    requires records { need.structure ≢ Structure.Bytes }
+    ensures { Looks store.old store.new result
+        (IsRecordFile (committed store.old) current.now target need)
+        (λ refusal. refused_by (file_refusals (card_in store.old) (session_in store.old current.now) target
+        (fits need.structure) need.bit) ≡ Some refusal) }
+{
+    let file = find_file(store, current, target, need)?;
+    Ok(RecordFile::of(file.number, &file.entry))
+}
+
+/// READ RECORD: the record goes into `answer`, and the status word is the result. Le is 00 or the length of a record.
+pub fn read_record<B: Board>(
+    store: &mut Store<B>,
+    current: &mut Current,
+    target: Target,
+    choice: RecordChoice,
+    expected: u8,
+    answer: &mut Answer,
+) -> Result<Sw, Stop>
+    requires kept { IsKept store.old current.old }
+    requires target { IsTarget target }
+    requires empty { answer.old.items ≡ [] }
+    ensures { Serves (reading target choice expected) store.old current.old store.new current.new
+        answer.new.items (reply result) }
+{
+    let file = find_records(store, current, target, READING)?;
+    let pointer = current.pointer_at(target);
+    let slot = file.find_chosen(pointer, choice)?;
+    let mut bytes = ResponseData::new();
+    slot.read(store, &mut bytes)?;
+    if is_other_length(expected, &bytes) {
+        return Err(Stop::Refused(right_length(&bytes)));
+    }
+    give(Some(expected), &bytes, answer);
+    let after = pointer_after(pointer, choice, slot.number);
+    *current = current.pointing(target, file.number, after);
+    Ok(Sw::DONE)
+}
+
+/// UPDATE RECORD: the bytes take the place of a record, in one transaction. Of a cyclic file the oldest record alone
+/// can be replaced (mode previous), and the new one becomes record 1 and the current one.
+pub fn update_record<B: Board>(
+    store: &mut Store<B>,
+    current: &mut Current,
+    target: Target,
+    choice: RecordChoice,
+    bytes: &[u8],
+) -> Result<Sw, Stop>
+    requires kept { IsKept store.old current.old }
+    requires target { IsTarget target }
+    requires bytes { HasBetween 1 255 bytes.now }
+    ensures { ServesInPlace (updating target choice bytes.now) store.old current.old store.new current.new []
+        (reply result) }
+{
+    let file = find_records(store, current, target, replacing(choice))?;
+    let pointer = current.pointer_at(target);
+    let slot = file.find_replaced(pointer, choice, bytes)?;
+    file.replace(slot, store, bytes)?;
+    let after = file.pointer_replaced(pointer, choice, slot.number);
+    *current = current.pointing(target, file.number, after);
+    Ok(Sw::DONE)
+}
+
+/// APPEND RECORD: the bytes are a new record, the last of a linear file, the first of a cyclic one, in one transaction.
+/// It becomes the current record.
+pub fn append_record<B: Board>(
+    store: &mut Store<B>,
+    current: &mut Current,
+    target: Target,
+    bytes: &[u8],
+) -> Result<Sw, Stop>
+    requires kept { IsKept store.old current.old }
+    requires target { IsTarget target }
+    requires bytes { HasBetween 1 255 bytes.now }
+    ensures { ServesInPlace (appending target bytes.now) store.old current.old store.new current.new []
+        (reply result) }
+{
+    let file = find_records(store, current, target, APPENDING)?;
+    let room = file.room_for(bytes)?;
+    room.fill(store, bytes)?;
+    *current = current.pointing(target, file.number, Some(file.added()));
+    Ok(Sw::DONE)
+}
+
+/// SEARCH RECORD: the numbers of the records that hold the text go into `answer`, and the first of them becomes the
+/// current record. The status word is the result.
+pub fn search_record<B: Board>(
+    store: &mut Store<B>,
+    current: &mut Current,
+    target: Target,
+    first: RecordPlace,
+    direction: Direction,
+    text: &[u8],
+    expected: Option<u8>,
+    answer: &mut Answer,
+) -> Result<Sw, Stop>
+    requires kept { IsKept store.old current.old }
+    requires target { IsTarget target }
+    requires few { length text.now ≤ 255 }
+    requires empty { answer.old.items ≡ [] }
+    ensures { Serves (searching target first direction text.now expected) store.old current.old store.new current.new
+        answer.new.items (reply result) }
+{
+    let file = find_records(store, current, target, READING)?;
+    let pointer = current.pointer_at(target);
+    let slot = file.find_chosen(pointer, RecordChoice::At(first))?;
+    let mut numbers = ResponseData::new();
+    slot.search(store, direction, text, &mut numbers)?;
+    if asks_less(expected, &numbers) {
+        return Err(Stop::Refused(right_length(&numbers)));
+    }
+    give(expected, &numbers, answer);
+    let after = first_of(&numbers, pointer);
+    *current = current.pointing(target, file.number, after);
+    Ok(status_of(&numbers))
+}
+
+/// Whether Le is neither 00 nor the length of a record.
+fn is_other_length(expected: u8, bytes: &ResponseData) -> bool
+    ensures { result ≡ (not (expected == 0) && not (expected == length bytes.now.items)) }
+{
+    expected != 0 && usize::from(expected) != bytes.len()
+}
+
+/// The record pointer after a search that found these: at the first of them, or where it was.
+fn first_of(numbers: &ResponseData, pointer: Option<u8>) -> Option<u8>
+    ensures { result ≡ pointer_found pointer numbers.now.items }
+{
+    numbers.first().copied().or(pointer)
+}
+
+/// The status word of a search that found these.
+fn status_of(numbers: &ResponseData) -> Sw
+    ensures { result ≡ search_status numbers.now.items }
+{
+    match numbers.first() {
+        Some(_) => Sw::DONE,
+        None => Sw::END_REACHED,
+    }
+}

@@ -1,0 +1,189 @@
+-- What CREATE FILE leaves, where nothing refuses the template:
+-- first it only reads, then it creates the file, and then it reads the new entry.
+use Rattle.std.proofs.Common.{◌≡◌, ◌⊎◌, ◌≤◌, ◌-◌, ℕ, List, [], Option, Some, None, Result, Ok, refl, sym, ◌∙◌, ap}
+use Rattle.std.proofs.Common.{subst, arith, inr, true≢false}
+use Rattle.std.specs.Result.{IsErrAnd}
+use Rattle.nvm_board.specs.Facts.{IsMemory}
+use Rattle.card_rules.specs.declared.status.Sw.{Sw}
+use Rattle.card_rules.specs.declared.status.TheConstants.Sw.{DONE}
+use Rattle.card_state.specs.declared.fcp.Fcp.{Fcp}
+use Rattle.undo_journal.specs.declared.error.StoreErr.{StoreErr}
+use Rattle.undo_journal.specs.Calls.{Changes, OnlyReads, Reads}
+use Rattle.undo_journal.specs.Spending.{Advances}
+use Rattle.undo_journal.specs.laws.Calls.{advances_by, advances_kept, advances_then}
+use Rattle.file_tree.specs.Adding.{AddsByGate}
+use Rattle.undo_journal.specs.Memory.{Memory, committed, IsReady}
+use Rattle.undo_journal.specs.laws.Calls.{reads_then}
+use Rattle.undo_journal.specs.laws.Told.{changes_after, reads_after}
+use Rattle.card_model.specs.Requests.{Request, create_file}
+use Rattle.file_changes.specs.declared.creating.Creation.{Creation}
+use Rattle.file_changes.specs.declared.creating.Creation.TheVariants.{Created, Refused}
+use Rattle.file_tree.specs.declared.entry.Entry.{Entry}
+use Rattle.card_state.specs.declared.space.FreeSpace.{FreeSpace}
+use Rattle.file_tree.specs.Changes.{SameTree}
+use Rattle.file_changes.specs.Creations.{CreatesNew, IsCreated, TellsCreation}
+use Rattle.file_changes.specs.CreationRefusals.{creation_refusal}
+use Rattle.file_tree.specs.Formats.{block_count}
+use Rattle.card_model.specs.Cards.{card_space}
+use Rattle.file_tree.specs.Table.{table, entry_in, path_of, IsUsed}
+use Rattle.file_tree.specs.Trees.{tree_of}
+use Rattle.command_base.specs.declared.current.Current.{Current}
+use Rattle.file_commands.specs.FileParts.{IsNewFile}
+use Rattle.card_model.specs.Steps.{IsDoing}
+use Rattle.command_base.specs.Served.{Serves}
+use Rattle.command_base.specs.Spending.{creation_writes}
+use Rattle.command_base.specs.Standing.{card_of, IsCard}
+use Rattle.command_base.specs.Working.{card_in, session_in, session_of, space_in, table_in, IsCurrent}
+use Rattle.command_base.specs.CurrentFiles.{current_at}
+use Rattle.card_model.specs.Outcomes.{outcome}
+use Rattle.file_commands.proofs.Creations.{any-creating, any-stage, any-stands, created-current, created-is-card}
+use Rattle.file_commands.proofs.Creations.{created-space, filled-card, filled-stands}
+use Rattle.file_commands.proofs.Creations.{created-step, refused-step, taken-blocks, taken-entries}
+use Rattle.command_base.specs.laws.Serves.{compared-none, declined, torn, written}
+use Rattle.command_base.specs.laws.Stopping.{err-is}
+use Rattle.command_base.specs.Words.{StandsServed}
+use Rattle.command_base.specs.laws.Words.{Went, went-gated}
+
+module _ (old mid made : Memory) (ready : IsReady old) (words : IsCard (committed old)) (x : Current)
+    (current : IsCurrent (table_in old) x) (template : List ℕ) (fcp : Fcp)
+    (found : IsNewFile (committed old) x template fcp) (reads : OnlyReads old mid) where
+  abbrev m : List ℕ
+  m = committed old
+
+  abbrev after : List ℕ
+  after = committed made
+
+  abbrev request : Request
+  request = create_file template
+
+  sized : IsMemory m
+  sized = ready.usable.committed_size
+
+  same : committed mid ≡ m
+  same = reads.keeps.committed_words
+
+  -- a creation that is refused changed nothing
+  pub creation-refused : (status : Sw) → TellsCreation (committed mid) x.df fcp (Refused status) after
+      → ((refusal : Sw) → creation_refusal (block_count (committed mid)) (tree_of (committed mid))
+      (path_of (table_in mid) x.df) fcp ≡ Some refusal
+      → OnlyReads mid made) → IsReady made → Serves request old x made x [] (Ok status)
+  creation-refused status tells idle ready_now =
+      let is : creation_refusal (block_count m) (tree_of m) (path_of (table m) x.df) fcp ≡ Some status =
+      subst (λ (l : List ℕ). creation_refusal (block_count l) (tree_of l) (path_of (table l) x.df) fcp
+      ≡ Some status) same tells.0 in
+      declined request old x made (λ _. tt) words status (reads_then old mid made reads (idle status tells.0))
+      ready_now current
+      (refused-step m sized words x template fcp found.told found.unbarred found.permitted status is)
+
+  -- which card stands by the word: the blocks that are filled before leave the tree
+  went-adding : AddsByGate mid made
+      → OnlyReads old made ⊎ IsDoing (card_in old) (session_in old x) request (card_in made)
+      → Advances old.facts made.facts → Went request old x made
+  went-adding adds stage advances =
+      let tree = subst (λ (l : List ℕ). SameTree l adds.filled) same adds.tree in
+      went-gated request old x made refl stage adds.filled (filled-stands m sized words x template fcp found.told
+      found.unbarred found.permitted adds.filled tree) (filled-card m sized words x template fcp found.told
+      found.unbarred found.permitted adds.filled tree) adds.gate advances
+
+  -- one that stopped, before or after its commit
+  pub creation-torn : (r : Result Sw StoreErr) (e : StoreErr) → IsErrAnd r (λ f. f ≡ e)
+      → SameTree (committed mid) after ⊎ CreatesNew (committed mid) x.df fcp after
+      → ((refusal : Sw) → creation_refusal (block_count (committed mid)) (tree_of (committed mid))
+      (path_of (table_in mid) x.df) fcp ≡ Some refusal
+      → OnlyReads mid made) → AddsByGate mid made → (n : ℕ) → Changes n mid made (Some e) → n ≤ creation_writes
+      → Serves request old x made x [] r
+  creation-torn r e is any_exit idle adds n changes few =
+      let exit = subst (λ (l : List ℕ). SameTree l after ⊎ CreatesNew l x.df fcp after) same any_exit in
+      let all = changes_after n old mid made (Some e) reads changes in
+      let idle_here = subst (λ (l : List ℕ). (status : Sw)
+      → creation_refusal (block_count l) (tree_of l) (path_of (table l) x.df) fcp ≡ Some status
+      → OnlyReads mid made) same idle in
+      let stage = any-stage m sized words x template fcp found.told found.unbarred found.permitted
+      (creation_refusal (block_count m) (tree_of m) (path_of (table m) x.df) fcp) refl
+      (λ status refuses. reads_then old mid made reads (idle_here status refuses)) after exit in
+      subst (λ (s : Result Sw StoreErr). Serves request old x made x [] s) (sym (err-is r e is))
+      (torn request old x made x [] e stage
+      (any-stands m sized words x template fcp found.told found.unbarred found.permitted after exit)
+      all.reports all.tells (omega arith) (omega (arith, few, all.writes.writes))
+      (went-adding adds stage (advances_by n old.facts made.facts all.writes))
+      (compared-none n old.facts made.facts all.writes))
+
+  -- one that was made
+  module _ (e blocks : ℕ) (creation : Creation) (tells : TellsCreation (committed mid) x.df fcp creation after)
+      (is : creation ≡ Created e blocks) where
+    created : IsCreated m x.df fcp e blocks after
+    created = subst (λ (l : List ℕ). IsCreated l x.df fcp e blocks after) same
+        (subst (λ (c : Creation). TellsCreation (committed mid) x.df fcp c after) is tells)
+
+    created-stands : IsCard after
+    created-stands = created-is-card m sized words x template fcp found.told found.unbarred
+        found.permitted e blocks after created
+
+    pub creation-used : IsUsed (table after) e
+    creation-used = created.used
+
+    pub creation-taken : (free : FreeSpace) → free ≡ space_in old → blocks ≤ free.blocks
+    creation-taken free counted =
+        taken-blocks m m after free (record { blocks = blocks; entries = 1 }) counted refl created.space
+        words created-stands
+
+    pub creation-taken-one : (free : FreeSpace) → free ≡ space_in old → 1 ≤ free.entries
+    creation-taken-one free counted =
+        taken-entries m m after free (record { blocks = blocks; entries = 1 }) counted refl created.space
+        words created-stands
+
+    -- and then the new entry was read
+    module _ (new : Memory) (told : Option StoreErr) (adds : AddsByGate mid made) (n : ℕ)
+        (changes : Changes n mid made None) (few : n ≤ creation_writes) (more : Reads made new told) where
+      still : committed new ≡ after
+      still = more.only.keeps.committed_words
+
+      all : Changes n old new told
+      all = reads_after n old made new told (changes_after n old mid made None reads changes) more
+
+      made-it : IsDoing (card_in old) (session_in old x) request (card_in made)
+      made-it = any-creating m sized words x template fcp found.told found.unbarred found.permitted created.none after
+          (inr created.creates)
+
+      stage : OnlyReads old new ⊎ IsDoing (card_in old) (session_in old x) request (card_in new)
+      stage =
+          inr (subst (λ (l : List ℕ). IsDoing (card_in old) (session_in old x) request (card_of l)) (sym still) made-it)
+
+      went : Went request old x new
+      went =
+          let spends = (changes_after n old mid made None reads changes).writes in
+          let there = went-adding adds (inr made-it) (advances_by n old.facts made.facts spends) in (
+            advances_then old.facts made.facts new.facts there.0 (advances_kept made.facts new.facts more.only.board),
+            λ shut. subst (λ (l : List ℕ). StandsServed (card_in old) (session_in old x) request l)
+                (sym more.only.board.words) (there.1 shut),
+          )
+
+      stands : IsCard (committed new)
+      stands = subst IsCard (sym still) created-stands
+
+      pub created-torn : (r : Result Sw StoreErr) (error : StoreErr) → IsErrAnd r (λ f. f ≡ error) → told ≡ Some error
+          → Serves request old x new x [] r
+      created-torn r error handed stopped =
+          subst (λ (s : Result Sw StoreErr). Serves request old x new x [] s) (sym (err-is r error handed))
+          (torn request old x new x [] error stage stands all.reports (all.tells ∙ stopped) (omega arith)
+          (omega (arith, few, all.writes.writes)) went (compared-none n old.facts new.facts all.writes))
+
+      pub created-done : IsReady new → (entry : Entry) → entry ≡ entry_in (table after) e
+          → Serves request old x new (current_at x e entry) [] (Ok DONE)
+      created-done ready_now entry entry_is =
+          let y = current_at x e (entry_in (table after) e) in
+          let at_file = subst (λ (l : List ℕ). IsCurrent (table l) y) (sym still) (created-current m sized words x
+          template fcp found.told found.unbarred found.permitted e blocks after created current.marks) in
+          let done = created-step m sized words x template fcp found.told found.unbarred found.permitted e blocks after
+          created ∙ (λ i. outcome (card_of (sym still i)) (session_of (table (sym still i)) y) [] DONE) in
+          subst (λ (entry : Entry). Serves request old x new (current_at x e entry) [] (Ok DONE)) (sym entry_is)
+          (written request old x new (λ _. tt) y [] DONE stage stands all.reports ready_now at_file
+          (λ never. absurd (true≢false never)) (omega arith)
+          (omega (arith, few, all.writes.writes)) went (compared-none n old.facts new.facts all.writes) done)
+
+      pub created-counts : (free : FreeSpace) → free ≡ space_in old
+          → record { blocks = free.blocks - blocks; entries = free.entries - 1 } ≡ space_in new
+      created-counts free counted =
+          created-space m m after free (record { blocks = blocks; entries = 1 }) counted refl created.space
+          words created-stands
+          ∙ ap (λ (l : List ℕ). card_space (card_of l)) (sym still)

@@ -1,0 +1,168 @@
+use Rattle.std.proofs.Common.{◌≡◌, ◌||◌, ℕ, Bool, List, true, sym, ◌∙◌, ap, rules}
+use Rattle.undo_journal.specs.Memory.{committed}
+use Rattle.undo_journal.specs.laws.Calls.{reads_then}
+use Rattle.card_rules.specs.declared.access_mode.AccessBit.TheVariants.{DeleteChild, DeleteSelf}
+use Rattle.card_state.specs.FileTrees.{Tree}
+use Rattle.card_state.specs.FileLives.{is_barred}
+use Rattle.file_tree.specs.Table.{table, path_of}
+use Rattle.file_tree.specs.Trees.{tree_of}
+use Rattle.file_tree.specs.laws.Nodes.{used_small}
+use Rattle.card_model.specs.Guards.{allowed}
+use Rattle.command_base.specs.Standing.{card_of}
+use Rattle.command_base.specs.Working.{session_of}
+use Rattle.command_base.specs.NamedFiles.{file_refusal}
+use Rattle.command_base.specs.laws.Entries.{card-tree}
+use Rattle.file_commands.proofs.files.check_deletion.Goals.{then-own, else-own}
+use Rattle.command_base.specs.laws.Readings.{entry_still, file_kept, kept_still, used_still}
+use Rattle.undo_journal.specs.laws.Told.{reads_on}
+use Rattle.command_base.specs.declared.stop.Stop.TheVariants.{Refused, Failed}
+use Rattle.command_base.specs.laws.Stopping.{finds-stopped, reads-stopped}
+use Rattle.file_commands.proofs.files.check_deletion.Goals as goal
+
+pub returns-in_err-by_parent : goal.returns-in_err-by_parent
+returns-in_err-by_parent g c = record {
+  told = search rules;
+  store = reads-stopped _ (Failed c.in_err-by_parent.field-0.0) c.from_residual-in_err-by_parent.ensures.1 _ _
+      (reads_on _ _ _ _ (reads_then _ _ _
+      (reads_then _ _ _ c.read_entry.ensures.store.only c.is_barred_at.ensures.store.only) c.allows.ensures.store.only)
+      c.in_err-by_parent.ensures.store);
+}
+
+pub returns : goal.returns
+returns g c = record {
+  told = let m = committed c.args.store.now in
+      let t = table m in
+      let x = c.args.current.now in
+      let read = c.read_entry.ensures.store.only.keeps.committed_words in
+      let same = c.is_barred_at.ensures.store.only.keeps.committed_words ∙ read in
+      let still = c.allows.ensures.store.only.keeps.committed_words ∙ same in
+      let barred : c.in_ok-barred.barred ≡ is_barred (card_of m).tree (path_of t c.args.file.now.entry.parent) =
+      c.in_ok-barred.ensures.told
+      ∙ ap (λ (l : List ℕ). is_barred (tree_of l) (path_of (table l) c.args.file.now.entry.parent)) read
+      ∙ sym (ap (λ (tree : Tree). is_barred tree (path_of t c.args.file.now.entry.parent)) (card-tree m)) in
+      let own : c.in_ok-own.own ≡ allowed (card_of m) (session_of t x) (path_of t c.args.file.now.number) DeleteSelf =
+      c.in_ok-own.ensures.told
+      ∙ ap (λ (l : List ℕ). allowed (card_of l) (session_of (table l) x)
+      (path_of (table l) c.args.file.now.number) DeleteSelf) same in
+      let by_parent : c.in_ok-by_parent.by_parent
+      ≡ allowed (card_of m) (session_of t x) (path_of t c.args.file.now.entry.parent) DeleteChild =
+      c.in_ok-by_parent.ensures.told
+      ∙ ap (λ (l : List ℕ). allowed (card_of l) (session_of (table l) x)
+      (path_of (table l) c.args.file.now.entry.parent) DeleteChild) still in
+      let both : c.if-own.findings ≡ (c.in_ok-own.own || c.in_ok-by_parent.by_parent) = elim c.if-own.branch [
+        | then-own w ↦ w.findings-is ∙ w.if-own.true
+            ∙ sym (ap (λ (b : Bool). b || c.in_ok-by_parent.by_parent) w.if-own.true)
+        | else-own w ↦ w.findings-is ∙ sym (ap (λ (b : Bool). b || c.in_ok-by_parent.by_parent) w.if-own.false)
+      ] in
+      sym (c.in_ok-check.ensures ∙ (λ i. file_refusal (barred i) true (both i))
+      ∙ (λ i. file_refusal (is_barred (card_of m).tree (path_of t c.args.file.now.entry.parent)) true
+      (own i || by_parent i)));
+  store = reads_on _ _ _ _ (reads_then _ _ _
+      (reads_then _ _ _ c.read_entry.ensures.store.only c.is_barred_at.ensures.store.only) c.allows.ensures.store.only)
+      c.in_ok-by_parent.ensures.store;
+}
+
+pub returns-in_err-check : goal.returns-in_err-check
+returns-in_err-check g c = record {
+  told = let m = committed c.args.store.now in
+      let t = table m in
+      let x = c.args.current.now in
+      let read = c.read_entry.ensures.store.only.keeps.committed_words in
+      let same = c.is_barred_at.ensures.store.only.keeps.committed_words ∙ read in
+      let still = c.allows.ensures.store.only.keeps.committed_words ∙ same in
+      let barred : c.in_ok-barred.barred ≡ is_barred (card_of m).tree (path_of t c.args.file.now.entry.parent) =
+      c.in_ok-barred.ensures.told
+      ∙ ap (λ (l : List ℕ). is_barred (tree_of l) (path_of (table l) c.args.file.now.entry.parent)) read
+      ∙ sym (ap (λ (tree : Tree). is_barred tree (path_of t c.args.file.now.entry.parent)) (card-tree m)) in
+      let own : c.in_ok-own.own ≡ allowed (card_of m) (session_of t x) (path_of t c.args.file.now.number) DeleteSelf =
+      c.in_ok-own.ensures.told
+      ∙ ap (λ (l : List ℕ). allowed (card_of l) (session_of (table l) x)
+      (path_of (table l) c.args.file.now.number) DeleteSelf) same in
+      let by_parent : c.in_ok-by_parent.by_parent
+      ≡ allowed (card_of m) (session_of t x) (path_of t c.args.file.now.entry.parent) DeleteChild =
+      c.in_ok-by_parent.ensures.told
+      ∙ ap (λ (l : List ℕ). allowed (card_of l) (session_of (table l) x)
+      (path_of (table l) c.args.file.now.entry.parent) DeleteChild) still in
+      let both : c.if-own.findings ≡ (c.in_ok-own.own || c.in_ok-by_parent.by_parent) = elim c.if-own.branch [
+        | then-own w ↦ w.findings-is ∙ w.if-own.true
+            ∙ sym (ap (λ (b : Bool). b || c.in_ok-by_parent.by_parent) w.if-own.true)
+        | else-own w ↦ w.findings-is ∙ sym (ap (λ (b : Bool). b || c.in_ok-by_parent.by_parent) w.if-own.false)
+      ] in
+      finds-stopped _ (Refused c.in_err-check.field-0.0) c.from_residual-in_err-check.ensures.1 _ _
+      (sym (c.in_err-check.ensures ∙ (λ i. file_refusal (barred i) true (both i))
+      ∙ (λ i. file_refusal (is_barred (card_of m).tree (path_of t c.args.file.now.entry.parent)) true
+      (own i || by_parent i))));
+  store = reads-stopped _ (Refused c.in_err-check.field-0.0) c.from_residual-in_err-check.ensures.1 _ _
+      (reads_on _ _ _ _ (reads_then _ _ _
+      (reads_then _ _ _ c.read_entry.ensures.store.only c.is_barred_at.ensures.store.only) c.allows.ensures.store.only)
+      c.in_ok-by_parent.ensures.store);
+}
+
+pub read_entry-requires-clause-within : goal.read_entry-requires-clause-within
+read_entry-requires-clause-within g c =
+    used_small (committed c.args.store.now) c.args.file.now.entry.parent c.requires.above
+
+pub returns-in_err-entry : goal.returns-in_err-entry
+returns-in_err-entry g c = record {
+  told = search rules;
+  store = reads-stopped _ (Failed c.in_err-entry.field-0.0) c.from_residual.ensures.1 _ _ c.in_err-entry.ensures.store;
+}
+
+pub returns-in_err-barred : goal.returns-in_err-barred
+returns-in_err-barred g c = record {
+  told = search rules;
+  store = reads-stopped _ (Failed c.in_err-barred.field-0.0) c.from_residual-in_err-barred.ensures.1 _ _
+      (reads_on _ _ _ _ c.read_entry.ensures.store.only c.in_err-barred.ensures.store);
+}
+
+pub returns-in_err-own : goal.returns-in_err-own
+returns-in_err-own g c = record {
+  told = search rules;
+  store = reads-stopped _ (Failed c.in_err-own.field-0.0) c.from_residual-in_err-own.ensures.1 _ _
+      (reads_on _ _ _ _ (reads_then _ _ _ c.read_entry.ensures.store.only c.is_barred_at.ensures.store.only)
+      c.in_err-own.ensures.store);
+}
+
+pub is_barred_at-requires-clause-file : goal.is_barred_at-requires-clause-file
+is_barred_at-requires-clause-file g c =
+    file_kept _ _ _ (kept_still _ _ _ c.read_entry.ensures.store.only c.in_ok-entry.ensures.store.ready c.requires.kept)
+    (used_still c.args.store.now c.read_entry.new.store c.args.file.now.entry.parent c.read_entry.ensures.store.only
+    c.requires.above)
+
+pub is_barred_at-requires-clause-entry : goal.is_barred_at-requires-clause-entry
+is_barred_at-requires-clause-entry g c =
+    entry_still c.args.store.now c.read_entry.new.store c.args.file.now.entry.parent c.in_ok-entry.entry
+    c.read_entry.ensures.store.only c.in_ok-entry.ensures.entry
+
+pub allows-requires-clause-kept : goal.allows-requires-clause-kept
+allows-requires-clause-kept g c =
+    kept_still _ _ _ (reads_then _ _ _ c.read_entry.ensures.store.only c.is_barred_at.ensures.store.only)
+    c.in_ok-barred.ensures.store.ready c.requires.kept
+
+pub allows-requires-clause-used : goal.allows-requires-clause-used
+allows-requires-clause-used g c =
+    used_still c.args.store.now c.is_barred_at.new.store c.args.file.now.number
+    (reads_then _ _ _ c.read_entry.ensures.store.only c.is_barred_at.ensures.store.only) c.requires.used
+
+pub allows-requires-clause-entry : goal.allows-requires-clause-entry
+allows-requires-clause-entry g c =
+    entry_still c.args.store.now c.is_barred_at.new.store c.args.file.now.number c.args.file.now.entry
+    (reads_then _ _ _ c.read_entry.ensures.store.only c.is_barred_at.ensures.store.only) c.requires.entry
+
+pub allows-requires-2-clause-kept : goal.allows-requires-2-clause-kept
+allows-requires-2-clause-kept g c =
+    kept_still _ _ _
+    (reads_then _ _ _ (reads_then _ _ _ c.read_entry.ensures.store.only c.is_barred_at.ensures.store.only)
+    c.allows.ensures.store.only) c.in_ok-own.ensures.store.ready c.requires.kept
+
+pub allows-requires-2-clause-used : goal.allows-requires-2-clause-used
+allows-requires-2-clause-used g c =
+    used_still c.args.store.now c.allows.new.store c.args.file.now.entry.parent
+    (reads_then _ _ _ (reads_then _ _ _ c.read_entry.ensures.store.only c.is_barred_at.ensures.store.only)
+    c.allows.ensures.store.only) c.requires.above
+
+pub allows-requires-2-clause-entry : goal.allows-requires-2-clause-entry
+allows-requires-2-clause-entry g c =
+    entry_still c.args.store.now c.allows.new.store c.args.file.now.entry.parent c.in_ok-entry.entry
+    (reads_then _ _ _ (reads_then _ _ _ c.read_entry.ensures.store.only c.is_barred_at.ensures.store.only)
+    c.allows.ensures.store.only) c.in_ok-entry.ensures.entry

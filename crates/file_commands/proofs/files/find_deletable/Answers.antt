@@ -1,0 +1,148 @@
+use Rattle.std.proofs.Common.{◌≡◌, ◌<◌, ℕ, List, Option, Some, IfSome, option_map, sym, ◌∙◌, ap, subst, arith, rules}
+use Rattle.undo_journal.specs.Memory.{committed}
+use Rattle.undo_journal.specs.laws.Calls.{reads_then}
+use Rattle.card_state.specs.FileTrees.{Path}
+use Rattle.file_tree.specs.declared.entry.Entry.{Entry}
+use Rattle.file_tree.specs.Table.{table, entry_in, path_of, IsUsed}
+use Rattle.file_tree.specs.laws.Nodes.{used_small}
+use Rattle.file_tree.specs.laws.Paths.{parent_used, path-zero}
+use Rattle.card_rules.specs.declared.status.Sw.{Sw}
+use Rattle.card_model.specs.FileCommands.{delete_refusals}
+use Rattle.card_model.specs.Outcomes.{refused_by}
+use Rattle.command_base.specs.Standing.{card_of}
+use Rattle.command_base.specs.Working.{session_of}
+use Rattle.file_commands.proofs.Deletions.{deletable, deletion_verdict, file-verdict, subject-found}
+use Rattle.file_commands.proofs.LifeSteps.{current-there}
+use Rattle.card_model.specs.declared.requests.LifeCycleChange.TheVariants.{Activate}
+use Rattle.file_commands.proofs.FileSteps.{delete-master}
+use Rattle.command_base.specs.laws.Readings.{entry_still, kept_still, used_still}
+use Rattle.undo_journal.specs.laws.Told.{reads_on}
+use Rattle.command_base.specs.declared.stop.Stop.TheVariants.{Failed}
+use Rattle.command_base.specs.laws.Stopping.{finds-stopped, reads-stopped, refused-weaker}
+use Rattle.file_commands.proofs.files.find_deletable.Goals as goal
+
+pub returns-then-number-eq0 : goal.returns-then-number-eq0
+returns-then-number-eq0 g c = record {
+  told = let m = committed c.args.store.now in
+      let t = table m in
+      let x = c.args.current.now in
+      let master : c.in-Some.number ≡ 0 = omega arith in
+      delete-master (card_of m) (session_of t x) c.args.subject
+      (subject-found m c.requires.kept.card x c.requires.kept.current c.unwrap_or-own.result c.unwrap_or-own.ensures
+      c.args.subject c.in_ok-number.field-0 c.in_ok-number.ensures.found.told
+      ∙ ap (λ (o : Option ℕ). option_map (path_of t) o) c.in-Some.is
+      ∙ ap (λ (p : Path). Some p) (path-zero t 7 c.in-Some.number master));
+  store = search rules;
+}
+
+pub read_entry-requires-clause-within : goal.read_entry-requires-clause-within
+read_entry-requires-clause-within g c =
+    let m = committed c.args.store.now in
+    used_small m c.in-Some.number
+    (subst (λ (o : Option ℕ). IfSome o (IsUsed (table m))) c.in-Some.is c.in_ok-number.ensures.used)
+
+pub returns-in_err-check_deletion : goal.returns-in_err-check_deletion
+returns-in_err-check_deletion g c = record {
+  told = let m = committed c.args.store.now in
+      let t = table m in
+      let x = c.args.current.now in
+      let e = c.in-Some.number in
+      let used = subst (λ (o : Option ℕ). IfSome o (IsUsed t)) c.in-Some.is c.in_ok-number.ensures.used in
+      let place = subject-found m c.requires.kept.card x c.requires.kept.current c.unwrap_or-own.result
+      c.unwrap_or-own.ensures
+      c.args.subject c.in_ok-number.field-0 c.in_ok-number.ensures.found.told
+      ∙ ap (λ (o : Option ℕ). option_map (path_of t) o) c.in-Some.is in
+      let same = c.read_entry.ensures.store.only.keeps.committed_words
+      ∙ c.find_subject.ensures.found.store.only.keeps.committed_words in
+      let entry : c.in_ok-entry.entry ≡ entry_in t e =
+      c.in_ok-entry.ensures.entry ∙ ap (λ (l : List ℕ). entry_in (table l) e)
+      c.find_subject.ensures.found.store.only.keeps.committed_words in
+      let below : 0 < e = omega arith in
+      let verdict : Option Sw = deletion_verdict (committed c.read_entry.new.store) x e c.in_ok-entry.entry.parent in
+      let refused : Option Sw = refused_by (delete_refusals (card_of m) (session_of t x) c.args.subject) in
+      finds-stopped _ c.in_err-check_deletion.field-0.0 c.from_residual-in_err-check_deletion.ensures.1 _
+      (λ (status : Sw). refused ≡ Some status)
+      (refused-weaker c.in_err-check_deletion.field-0.0 (λ (status : Sw). verdict ≡ Some status)
+      (λ (status : Sw). refused ≡ Some status) (λ (status : Sw) (due : verdict ≡ Some status).
+      file-verdict m c.requires.kept.ready.usable.committed_size c.requires.kept.card x c.args.subject e below used
+      place
+      ∙ ap (λ (y : Entry). deletion_verdict m x e y.parent) (sym entry)
+      ∙ ap (λ (l : List ℕ). deletion_verdict l x e c.in_ok-entry.entry.parent) (sym same)
+      ∙ due) c.in_err-check_deletion.ensures.told);
+  store = reads-stopped _ _ c.from_residual-in_err-check_deletion.ensures.1 _ _
+      (reads_on _ _ _ _ (reads_then _ _ _ c.find_subject.ensures.found.store.only c.read_entry.ensures.store.only)
+      c.in_err-check_deletion.ensures.store);
+}
+
+pub returns : goal.returns
+returns g c = record {
+  told = let m = committed c.args.store.now in
+      let t = table m in
+      let x = c.args.current.now in
+      let e = c.in-Some.number in
+      let used = subst (λ (o : Option ℕ). IfSome o (IsUsed t)) c.in-Some.is c.in_ok-number.ensures.used in
+      let place = subject-found m c.requires.kept.card x c.requires.kept.current c.unwrap_or-own.result
+      c.unwrap_or-own.ensures
+      c.args.subject c.in_ok-number.field-0 c.in_ok-number.ensures.found.told
+      ∙ ap (λ (o : Option ℕ). option_map (path_of t) o) c.in-Some.is in
+      let same = c.read_entry.ensures.store.only.keeps.committed_words
+      ∙ c.find_subject.ensures.found.store.only.keeps.committed_words in
+      let entry : c.in_ok-entry.entry ≡ entry_in t e =
+      c.in_ok-entry.ensures.entry ∙ ap (λ (l : List ℕ). entry_in (table l) e)
+      c.find_subject.ensures.found.store.only.keeps.committed_words in
+      let below : 0 < e = omega arith in
+      deletable m c.requires.kept.ready.usable.committed_size c.requires.kept.card x c.args.subject e below used place
+      (file-verdict m c.requires.kept.ready.usable.committed_size c.requires.kept.card x c.args.subject e below used
+      place
+      ∙ ap (λ (y : Entry). deletion_verdict m x e y.parent) (sym entry)
+      ∙ ap (λ (l : List ℕ). deletion_verdict l x e c.in_ok-entry.entry.parent) (sym same)
+      ∙ c.in_ok-check_deletion.ensures.told)
+      c.in_ok-entry.entry entry;
+  store = reads_on _ _ _ _ (reads_then _ _ _ c.find_subject.ensures.found.store.only c.read_entry.ensures.store.only)
+      c.in_ok-check_deletion.ensures.store;
+}
+
+pub check_deletion-requires-clause-above : goal.check_deletion-requires-clause-above
+check_deletion-requires-clause-above g c =
+    let m = committed c.args.store.now in
+    let e = c.in-Some.number in
+    let used = subst (λ (o : Option ℕ). IfSome o (IsUsed (table m))) c.in-Some.is c.in_ok-number.ensures.used in
+    let same = c.read_entry.ensures.store.only.keeps.committed_words
+    ∙ c.find_subject.ensures.found.store.only.keeps.committed_words in
+    let entry : c.in_ok-entry.entry ≡ entry_in (table m) e =
+    c.in_ok-entry.ensures.entry ∙ ap (λ (l : List ℕ). entry_in (table l) e)
+    c.find_subject.ensures.found.store.only.keeps.committed_words in
+    let below : 0 < e = omega arith in
+    subst (λ (l : List ℕ). IsUsed (table l) c.in_ok-entry.entry.parent) (sym same)
+    (subst (λ (y : Entry). IsUsed (table m) y.parent) (sym entry)
+    (parent_used (table m) c.requires.kept.card.tree.entries e below used))
+
+pub returns-in_err-entry : goal.returns-in_err-entry
+returns-in_err-entry g c = record {
+  told = search rules;
+  store = reads-stopped _ (Failed c.in_err-entry.field-0.0) c.from_residual-in_err-entry.ensures.1 _ _
+      (reads_on _ _ _ _ c.find_subject.ensures.found.store.only c.in_err-entry.ensures.store);
+}
+
+pub check_deletion-requires-clause-kept : goal.check_deletion-requires-clause-kept
+check_deletion-requires-clause-kept g c =
+    kept_still _ _ _ (reads_then _ _ _ c.find_subject.ensures.found.store.only c.read_entry.ensures.store.only)
+    c.in_ok-entry.ensures.store.ready c.requires.kept
+
+pub check_deletion-requires-clause-used : goal.check_deletion-requires-clause-used
+check_deletion-requires-clause-used g c =
+    used_still c.args.store.now c.read_entry.new.store c.in-Some.number
+    (reads_then c.args.store.now c.find_subject.new.store c.read_entry.new.store c.find_subject.ensures.found.store.only
+    c.read_entry.ensures.store.only) (subst (λ (o : Option ℕ). IfSome o (IsUsed (table (committed c.args.store.now))))
+    c.in-Some.is c.in_ok-number.ensures.used)
+
+pub find_subject-requires-clause-own : goal.find_subject-requires-clause-own
+find_subject-requires-clause-own g c =
+    let t = table (committed c.args.store.now) in
+    subst (λ (e : ℕ). IsUsed t e) (sym c.unwrap_or-own.ensures)
+    (current-there t c.args.current.now c.requires.kept.current Activate)
+
+pub check_deletion-requires-clause-entry : goal.check_deletion-requires-clause-entry
+check_deletion-requires-clause-entry g c =
+    entry_still c.find_subject.new.store c.read_entry.new.store c.in-Some.number c.in_ok-entry.entry
+    c.read_entry.ensures.store.only c.in_ok-entry.ensures.entry

@@ -1,0 +1,113 @@
+use Rattle.undo_journal.specs.Memory.{committed}
+use Rattle.undo_journal.specs.laws.Calls.{reads_then}
+use Rattle.file_tree.specs.laws.Nodes.{used_small}
+use Rattle.std.proofs.Common.{◌≡◌, sym, ◌∙◌, rules}
+use Rattle.command_base.specs.laws.Readings.{entry_still, file_kept, kept_still, used_still}
+use Rattle.card_state.specs.FileLives.{next_life}
+use Rattle.file_tree.specs.Table.{table, entry_in, path_of}
+use Rattle.file_tree.specs.Trees.{tree_of}
+use Rattle.file_commands.specs.LifeParts.{changed_by}
+use Rattle.card_model.specs.LifeCycleCommands.{change_bit, command_of}
+use Rattle.card_model.specs.Guards.{allowed}
+use Rattle.command_base.specs.Standing.{card_of}
+use Rattle.command_base.specs.Working.{session_of}
+use Rattle.undo_journal.specs.laws.Told.{reads_on}
+use Rattle.command_base.specs.declared.stop.Stop.TheVariants.{Refused, Failed}
+use Rattle.command_base.specs.laws.Stopping.{finds-stopped, reads-stopped}
+use Rattle.file_commands.proofs.life_cycles.read_change.Goals as goal
+
+pub read_entry-requires-clause-within : goal.read_entry-requires-clause-within
+read_entry-requires-clause-within g c = used_small (committed c.args.store.now) c.args.number c.requires.used
+
+pub returns-in_err-entry : goal.returns-in_err-entry
+returns-in_err-entry g c = record {
+  told = search rules;
+  store = reads-stopped _ (Failed c.in_err-entry.field-0.0) c.from_residual.ensures.1 _ _ c.in_err-entry.ensures.store;
+}
+
+pub returns-in_err-next : goal.returns-in_err-next
+returns-in_err-next g c = record {
+  told = search rules;
+  store = reads-stopped _ (Failed c.in_err-next.field-0.0) c.from_residual-in_err-next.ensures.1 _ _
+      (reads_on _ _ _ _ c.read_entry.ensures.store.only c.in_err-next.ensures.store);
+}
+
+pub returns-in_err-allowed : goal.returns-in_err-allowed
+returns-in_err-allowed g c = record {
+  told = search rules;
+  store = reads-stopped _ (Failed c.in_err-allowed.field-0.0) c.from_residual-in_err-allowed.ensures.1 _ _
+      (reads_on _ _ _ _ (reads_then _ _ _ c.read_entry.ensures.store.only c.next_life_cycle.ensures.store.only)
+      c.in_err-allowed.ensures.store);
+}
+
+pub returns : goal.returns
+returns g c = record {
+  told = let m = committed c.args.store.now in
+      let e = c.args.number in
+      let x = c.args.current.now in
+      let read = c.read_entry.ensures.store.only.keeps.committed_words in
+      let same = c.next_life_cycle.ensures.store.only.keeps.committed_words ∙ read in
+      let next : c.in_ok-next.next ≡ next_life (tree_of m) (path_of (table m) e) (command_of c.args.change) =
+      c.in_ok-next.ensures.told
+      ∙ (λ i. next_life (tree_of (read i)) (path_of (table (read i)) e) ((c.row_of-command.ensures i).0)) in
+      let permitted : c.in_ok-allowed.allowed
+      ≡ allowed (card_of m) (session_of (table m) x) (path_of (table m) e) (change_bit c.args.change) =
+      c.in_ok-allowed.ensures.told
+      ∙ (λ i. allowed (card_of (same i)) (session_of (table (same i)) x) (path_of (table (same i)) e)
+      ((c.row_of-command.ensures i).1)) in
+      let entry : c.in_ok-entry.entry ≡ entry_in (table m) e = c.in_ok-entry.ensures.entry in
+      sym (c.changed_by.ensures ∙ (λ i. changed_by c.args.change e (entry i) (next i) (permitted i)))
+      ∙ c.in_ok-changed_by.was;
+  store = reads_on _ _ _ _ (reads_then _ _ _ c.read_entry.ensures.store.only c.next_life_cycle.ensures.store.only)
+      c.in_ok-allowed.ensures.store;
+}
+
+pub returns-in_err-changed_by : goal.returns-in_err-changed_by
+returns-in_err-changed_by g c = record {
+  told = let m = committed c.args.store.now in
+      let e = c.args.number in
+      let x = c.args.current.now in
+      let read = c.read_entry.ensures.store.only.keeps.committed_words in
+      let same = c.next_life_cycle.ensures.store.only.keeps.committed_words ∙ read in
+      let next : c.in_ok-next.next ≡ next_life (tree_of m) (path_of (table m) e) (command_of c.args.change) =
+      c.in_ok-next.ensures.told
+      ∙ (λ i. next_life (tree_of (read i)) (path_of (table (read i)) e) ((c.row_of-command.ensures i).0)) in
+      let permitted : c.in_ok-allowed.allowed
+      ≡ allowed (card_of m) (session_of (table m) x) (path_of (table m) e) (change_bit c.args.change) =
+      c.in_ok-allowed.ensures.told
+      ∙ (λ i. allowed (card_of (same i)) (session_of (table (same i)) x) (path_of (table (same i)) e)
+      ((c.row_of-command.ensures i).1)) in
+      let entry : c.in_ok-entry.entry ≡ entry_in (table m) e = c.in_ok-entry.ensures.entry in
+      let status = c.in_err-changed_by.field-0.0 in
+      finds-stopped _ (Refused status) c.from_residual-in_err-changed_by.ensures.1 _ _
+      (sym (c.changed_by.ensures ∙ (λ i. changed_by c.args.change e (entry i) (next i) (permitted i)))
+      ∙ c.in_err-changed_by.was);
+  store = reads-stopped _ (Refused c.in_err-changed_by.field-0.0) c.from_residual-in_err-changed_by.ensures.1 _ _
+      (reads_on _ _ _ _ (reads_then _ _ _ c.read_entry.ensures.store.only c.next_life_cycle.ensures.store.only)
+      c.in_ok-allowed.ensures.store);
+}
+
+pub next_life_cycle-requires-clause-file : goal.next_life_cycle-requires-clause-file
+next_life_cycle-requires-clause-file g c =
+    file_kept _ _ _ (kept_still _ _ _ c.read_entry.ensures.store.only c.in_ok-entry.ensures.store.ready c.requires.kept)
+    (used_still c.args.store.now c.read_entry.new.store c.args.number c.read_entry.ensures.store.only c.requires.used)
+
+pub next_life_cycle-requires-clause-entry : goal.next_life_cycle-requires-clause-entry
+next_life_cycle-requires-clause-entry g c =
+    entry_still c.args.store.now c.read_entry.new.store c.args.number c.in_ok-entry.entry
+    c.read_entry.ensures.store.only c.in_ok-entry.ensures.entry
+
+pub allows-requires-clause-kept : goal.allows-requires-clause-kept
+allows-requires-clause-kept g c =
+    kept_still _ _ _ (reads_then _ _ _ c.read_entry.ensures.store.only c.next_life_cycle.ensures.store.only)
+    c.in_ok-next.ensures.store.ready c.requires.kept
+
+pub allows-requires-clause-used : goal.allows-requires-clause-used
+allows-requires-clause-used g c =
+    used_still c.args.store.now c.next_life_cycle.new.store c.args.number
+    (reads_then _ _ _ c.read_entry.ensures.store.only c.next_life_cycle.ensures.store.only) c.requires.used
+
+pub allows-requires-clause-entry : goal.allows-requires-clause-entry
+allows-requires-clause-entry g c =
+    entry_still c.args.store.now c.next_life_cycle.new.store c.args.number c.in_ok-entry.entry
+    (reads_then _ _ _ c.read_entry.ensures.store.only c.next_life_cycle.ensures.store.only) c.in_ok-entry.ensures.entry

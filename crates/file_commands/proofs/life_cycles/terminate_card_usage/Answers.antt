@@ -1,0 +1,85 @@
+use Rattle.std.proofs.Common.{◌≡◌, ℕ, true, false, List, [], sym, ◌∙◌, ap, arith}
+use Rattle.card_rules.specs.declared.status.TheConstants.Sw.{ACCESS_DENIED}
+use Rattle.card_rules.specs.declared.access_mode.AccessBit.TheVariants.{Terminate}
+use Rattle.undo_journal.specs.Memory.{committed}
+use Rattle.undo_journal.specs.laws.Calls.{reads_then}
+use Rattle.undo_journal.specs.laws.Told.{reads_on}
+use Rattle.file_tree.specs.Table.{table, entry_in, path_of}
+use Rattle.card_model.specs.Guards.{allowed}
+use Rattle.command_base.specs.Standing.{card_of}
+use Rattle.command_base.specs.Working.{session_of}
+use Rattle.command_base.specs.laws.Readings.{entry_still, kept_still, used_still}
+use Rattle.card_model.specs.Requests.{terminate_card_usage}
+use Rattle.file_commands.proofs.Ending.{end-made, end-refused, end-torn}
+use Rattle.command_base.specs.laws.Serves.{declined, handed}
+use Rattle.command_base.specs.laws.Stopping.{reply-failed}
+use Rattle.file_commands.proofs.life_cycles.terminate_card_usage.Goals as goal
+
+pub returns-in_err-allows : goal.returns-in_err-allows
+returns-in_err-allows g c =
+    handed terminate_card_usage c.args.store.now c.args.current.now c.allows.new.store c.requires.kept.card
+    c.args.current.now [] _ _ (reply-failed _ _ c.from_residual-in_err-allows.ensures.1)
+    (reads_on _ _ _ _ c.read_entry.ensures.store.only c.in_err-allows.ensures.store) (omega arith)
+
+pub returns-then-not-branch : goal.returns-then-not-branch
+returns-then-not-branch g c =
+    let old = c.args.store.now in
+    let x = c.args.current.now in
+    let both = reads_then _ _ _ c.read_entry.ensures.store.only c.allows.ensures.store.only in
+    let denied : c.in_ok-allows.field-0 ≡ false = c.if-not-branch.true in
+    let told = c.in_ok-allows.ensures.told
+    ∙ ap (λ (l : List ℕ). allowed (card_of l) (session_of (table l) x) (path_of (table l) 0) Terminate)
+    c.read_entry.ensures.store.only.keeps.committed_words in
+    declined terminate_card_usage old x c.allows.new.store (λ _. tt) c.requires.kept.card ACCESS_DENIED both
+    c.in_ok-allows.ensures.store.ready c.requires.kept.current
+    (end-refused (committed old) x c.in_ok-allows.field-0 told denied)
+
+pub returns-in_err-terminate_card : goal.returns-in_err-terminate_card
+returns-in_err-terminate_card g c =
+    let old = c.args.store.now in
+    let mid = c.allows.new.store in
+    let new = c.terminate_card.new.store in
+    let both = reads_then _ _ _ c.read_entry.ensures.store.only c.allows.ensures.store.only in
+    let granted : c.in_ok-allows.field-0 ≡ true = c.if-not-branch.false in
+    end-torn old mid new c.requires.kept.ready c.requires.kept.card c.args.current.now c.requires.kept.current
+    (sym granted ∙ c.in_ok-allows.ensures.told
+    ∙ ap (λ (l : List ℕ). allowed (card_of l) (session_of (table l) c.args.current.now) (path_of (table l) 0) Terminate)
+    c.read_entry.ensures.store.only.keeps.committed_words) both
+    c.terminate_card.ensures.any_exit c.terminate_card.ensures.by_gate c.terminate_card.ensures.store.reports
+    c.terminate_card.ensures.store.writes _ _ (reply-failed _ _ c.from_residual-in_err-terminate_card.ensures.1)
+    c.in_err-terminate_card.ensures.store.tells
+
+pub returns : goal.returns
+returns g c =
+    let old = c.args.store.now in
+    let mid = c.allows.new.store in
+    let new = c.terminate_card.new.store in
+    let both = reads_then _ _ _ c.read_entry.ensures.store.only c.allows.ensures.store.only in
+    let granted : c.in_ok-allows.field-0 ≡ true = c.if-not-branch.false in
+    end-made old mid new c.requires.kept.ready c.requires.kept.card c.args.current.now c.requires.kept.current
+    (sym granted ∙ c.in_ok-allows.ensures.told
+    ∙ ap (λ (l : List ℕ). allowed (card_of l) (session_of (table l) c.args.current.now) (path_of (table l) 0) Terminate)
+    c.read_entry.ensures.store.only.keeps.committed_words) both
+    c.terminate_card.ensures.any_exit c.terminate_card.ensures.by_gate c.terminate_card.ensures.store.reports
+    c.terminate_card.ensures.store.writes c.in_ok-terminate_card.ensures.done c.in_ok-terminate_card.ensures.store.ready
+
+pub returns-in_err-entry : goal.returns-in_err-entry
+returns-in_err-entry g c =
+    handed terminate_card_usage c.args.store.now c.args.current.now c.read_entry.new.store c.requires.kept.card
+    c.args.current.now [] _ _ (reply-failed _ _ c.from_residual.ensures.1) c.in_err-entry.ensures.store (omega arith)
+
+pub allows-requires-clause-kept : goal.allows-requires-clause-kept
+allows-requires-clause-kept g c =
+    kept_still _ _ _ c.read_entry.ensures.store.only c.in_ok-entry.ensures.store.ready c.requires.kept
+
+pub allows-requires-clause-used : goal.allows-requires-clause-used
+allows-requires-clause-used g c =
+    let master = c.requires.kept.card.tree.entries.master in
+    used_still c.args.store.now c.read_entry.new.store 0 c.read_entry.ensures.store.only
+    (λ (unused : (entry_in (table (committed c.args.store.now)) 0).kind ≡ 0).
+    let z : ⊥ = omega (arith, unused, master.kind) in z)
+
+pub allows-requires-clause-entry : goal.allows-requires-clause-entry
+allows-requires-clause-entry g c =
+    entry_still c.args.store.now c.read_entry.new.store 0 c.in_ok-entry.entry c.read_entry.ensures.store.only
+    c.in_ok-entry.ensures.entry

@@ -1,0 +1,32 @@
+-- What the code finds of a file that may be deleted, and of one that may be created.
+-- No clause of a card's calls names this.
+use Rattle.std.specs.Prelude.{◌≡◌, ◌<◌, ℕ, true, false, List, Ok, None, Some}
+use Rattle.card_state.specs.declared.fcp.Fcp.{Fcp}
+use Rattle.card_model.specs.TemplateGrammar.{fcp_read}
+use Rattle.card_state.specs.FileControl.{IsCreatable}
+use Rattle.card_state.specs.FileLives.{is_barred}
+use Rattle.card_model.specs.declared.requests.Subject.{Subject}
+use Rattle.file_tree.specs.declared.entry.Entry.{Entry}
+use Rattle.file_tree.specs.Table.{table, entry_in, path_of, IsUsed}
+use Rattle.command_base.specs.declared.current.Current.{Current}
+use Rattle.card_model.specs.Guards.{allowed}
+use Rattle.card_model.specs.FileCommands.{creation_bit, delete_refusals}
+use Rattle.card_model.specs.Outcomes.{refused_by}
+use Rattle.card_model.specs.Reaching.{subject_of}
+use Rattle.command_base.specs.Standing.{card_of}
+use Rattle.command_base.specs.Working.{session_of}
+
+-- a file below the master file that DELETE FILE names, and that doesn't refuse it, has this entry
+pub record IsDeletable (m : List ℕ) (x : Current) (subject : Subject) (e : ℕ) (entry : Entry) : Type 0 where
+  pub entry_is : entry ≡ entry_in (table m) e
+  pub place : subject_of (card_of m).tree (session_of (table m) x) subject ≡ Some (path_of (table m) e)
+  pub used : IsUsed (table m) e
+  pub below : 0 < e
+  pub unrefused : refused_by (delete_refusals (card_of m) (session_of (table m) x) subject) ≡ None
+
+-- a file that a template tells of, and that the current dedicated file, which isn't barred, allows in it
+pub record IsNewFile (m : List ℕ) (x : Current) (template : List ℕ) (fcp : Fcp) : Type 0 where
+  pub told : fcp_read template ≡ Ok fcp
+  pub creatable : IsCreatable fcp
+  pub unbarred : is_barred (card_of m).tree (path_of (table m) x.df) ≡ false
+  pub permitted : allowed (card_of m) (session_of (table m) x) (path_of (table m) x.df) (creation_bit fcp.kind) ≡ true

@@ -1,0 +1,218 @@
+//! Commands on files as such: CREATE FILE and DELETE FILE (ISO/IEC 7816-9).
+ghost use Rattle.std.specs.Prelude.{◌≡◌, ◌||◌, [], true, option_map, Some, IfOk, IfSome, OnOk};
+ghost use Rattle.undo_journal.specs.Calls.{Learns};
+ghost use Rattle.undo_journal.specs.Memory.{committed};
+ghost use Rattle.card_model.specs.Requests.{create_file as creation, delete_file as deletion};
+ghost use Rattle.card_rules.specs.declared.access_mode.AccessBit.TheVariants.{DeleteChild, DeleteSelf};
+ghost use Rattle.file_tree.specs.Indexes.{IsIndex};
+ghost use Rattle.card_state.specs.FileLives.{is_barred as is_barred_in};
+ghost use Rattle.file_tree.specs.Table.{entry_in, path_of, IsUsed};
+ghost use Rattle.file_commands.specs.FileParts.{IsDeletable, IsNewFile};
+ghost use Rattle.card_model.specs.FileCommands.{create_refusals, creation_bit, delete_refusals};
+ghost use Rattle.card_model.specs.Guards.{allowed};
+ghost use Rattle.card_model.specs.Outcomes.{refused_by};
+ghost use Rattle.card_model.specs.Reaching.{subject_or};
+ghost use Rattle.command_base.specs.Served.{Serves};
+ghost use Rattle.command_base.specs.Stops.{Looks, reply, Checks};
+ghost use Rattle.command_base.specs.Working.{card_in, session_in, space_in, table_in, IsKept};
+ghost use Rattle.command_base.specs.NamedFiles.{file_refusal};
+
+use apdu_core::{Subject, Sw};
+use card_rules::AccessBit;
+use card_state::{Fcp, FileKind};
+use command_base::{Current, Findings, Named, Stop, allows};
+use fcp_template::parse;
+use file_changes::{Creation, create, delete};
+use file_tree::{FreeSpace, Index, is_barred_at, read_entry, select};
+use undo_journal::{Board, Store, StoreErr};
+
+/// CREATE FILE: the file that the template tells stands in the current dedicated file then, and is current. Its blocks
+/// are filled first, where no file is; then one transaction adds it, all or nothing. What is free shrinks by what it
+/// takes. The status word is the result.
+pub fn create_file<B: Board>(
+    store: &mut Store<B>,
+    current: &mut Current,
+    free: &mut FreeSpace,
+    index: &mut Index,
+    template: &[u8],
+) -> Result<Sw, Stop>
+    requires kept { IsKept store.old current.old }
+    requires space { free.old ≡ space_in store.old }
+    requires index { IsIndex (table_in store.old) index.old }
+    ensures serves { Serves (creation template.now) store.old current.old store.new current.new [] (reply result) }
+    ensures space { OnOk (reply result) (free.new ≡ space_in store.new) }
+    ensures index { OnOk (reply result) (IsIndex (table_in store.new) index.new) }
+{
+    let fcp = find_new_file(store, current, template)?;
+    let (number, blocks) = match create(store, index, current.df, &fcp)? {
+        Creation::Created { entry, blocks } => (entry, blocks),
+        Creation::Refused(refusal) => return Err(Stop::Refused(refusal)),
+    };
+    let entry = read_entry(store, number)?;
+    *free = FreeSpace {
+        blocks: free.blocks - blocks,
+        entries: free.entries - 1,
+    };
+    *current = current.at(number, &entry);
+    Ok(Sw::DONE)
+}
+
+/// The file that CREATE FILE is to create, as its template tells it, or else the refusal: the current dedicated file is
+/// barred; the template tells of no file; the rule of the current dedicated file doesn't allow a file of this kind.
+fn find_new_file<'a, B: Board>(
+    store: &mut Store<B>,
+    current: &Current,
+    template: &'a [u8],
+) -> Result<Fcp<'a>, Stop>
+    requires kept { IsKept store.old current.now }
+    ensures { Looks store.old store.new result
+        (λ fcp. IsNewFile (committed store.old) current.now template.now fcp)
+        (λ refusal. refused_by (create_refusals (card_in store.old) (session_in store.old current.now) template.now)
+        ≡ Some refusal) }
+{
+    let entry = read_entry(store, current.df)?;
+    let df = Named {
+        number: current.df,
+        entry,
+    };
+    if is_barred_at(store, df.number, &df.entry)? {
+        return Err(Stop::Refused(Sw::CONDITIONS_NOT_SATISFIED));
+    }
+    let Ok(fcp) = parse(template) else {
+        return Err(Stop::Refused(Sw::WRONG_DATA));
+    };
+    let bit = creation_bit(&fcp.kind);
+    if !allows(store, current, &df, bit)? {
+        return Err(Stop::Refused(Sw::ACCESS_DENIED));
+    }
+    Ok(fcp)
+}
+
+/// What the rule of a dedicated file must allow for a file of a kind to be created in it.
+fn creation_bit(kind: &FileKind<'_>) -> AccessBit
+    ensures { result ≡ creation_bit kind.now }
+{
+    match kind {
+        FileKind::Df { .. } => AccessBit::CreateDf,
+        FileKind::Transparent { .. } | FileKind::Linear { .. } | FileKind::Cyclic { .. } =>
+            AccessBit::CreateEf,
+    }
+}
+
+/// DELETE FILE: the file goes with all files below it, in one transaction, all or none. Its parent becomes the current
+/// dedicated file, and what is free grows by what the files took. The status word is the result.
+pub fn delete_file<B: Board>(
+    store: &mut Store<B>,
+    current: &mut Current,
+    free: &mut FreeSpace,
+    index: &mut Index,
+    subject: Subject,
+) -> Result<Sw, Stop>
+    requires kept { IsKept store.old current.old }
+    requires space { free.old ≡ space_in store.old }
+    requires index { IsIndex (table_in store.old) index.old }
+    ensures serves { Serves (deletion subject) store.old current.old store.new current.new [] (reply result) }
+    ensures space { OnOk (reply result) (free.new ≡ space_in store.new) }
+    ensures index { OnOk (reply result) (IsIndex (table_in store.new) index.new) }
+{
+    let file = find_deletable(store, index, current, subject)?;
+    let freed = delete(store, index, file.number)?;
+    *free = FreeSpace {
+        blocks: free.blocks + freed.blocks,
+        entries: free.entries + freed.entries,
+    };
+    *current = Current {
+        df: file.entry.parent,
+        ef: None,
+        pointer: None,
+        ..*current
+    };
+    Ok(Sw::DONE)
+}
+
+/// The file that DELETE FILE names, or else the refusal: there is none; it is the master file; a file above it is
+/// barred; neither its own rule nor that of its parent allows it.
+#[tactic(auto, using(undo_journal::specs::laws::Calls::reads_then))]
+fn find_deletable<B: Board>(
+    store: &mut Store<B>,
+    index: &Index,
+    current: &Current,
+    subject: Subject,
+) -> Result<Named, Stop>
+    requires kept { IsKept store.old current.now }
+    requires index { IsIndex (table_in store.old) index.now }
+    ensures { Looks store.old store.new result
+        (λ file. IsDeletable (committed store.old) current.now subject file.number file.entry)
+        (λ refusal. refused_by (delete_refusals (card_in store.old) (session_in store.old current.now) subject)
+        ≡ Some refusal) }
+{
+    let own = current.ef.unwrap_or(current.df);
+    let Some(number) = find_subject(store, index, current, Some(own), subject)? else {
+        return Err(Stop::Refused(Sw::FILE_NOT_FOUND));
+    };
+    if number == 0 {
+        return Err(Stop::Refused(Sw::CONDITIONS_NOT_SATISFIED));
+    }
+    let entry = read_entry(store, number)?;
+    let file = Named { number, entry };
+    check_deletion(store, current, &file)?;
+    Ok(file)
+}
+
+/// Refuses DELETE FILE by a file and its parent: the parent, or a file above it, is barred;
+/// the rule of neither allows it.
+#[tactic(auto, using(undo_journal::specs::laws::Calls::reads_then))]
+fn check_deletion<B: Board>(
+    store: &mut Store<B>,
+    current: &Current,
+    file: &Named,
+) -> Result<(), Stop>
+    requires kept { IsKept store.old current.now }
+    requires used { IsUsed (table_in store.old) file.now.number }
+    requires entry { file.now.entry ≡ entry_in (table_in store.old) file.now.number }
+    requires above { IsUsed (table_in store.old) file.now.entry.parent }
+    ensures { Checks store.old store.new (file_refusal
+        (is_barred_in (card_in store.old).tree (path_of (table_in store.old) file.now.entry.parent)) true
+        (allowed (card_in store.old) (session_in store.old current.now) (path_of (table_in store.old) file.now.number)
+        DeleteSelf || allowed (card_in store.old) (session_in store.old current.now)
+        (path_of (table_in store.old) file.now.entry.parent) DeleteChild)) result }
+{
+    let entry = read_entry(store, file.entry.parent)?;
+    let parent = Named {
+        number: file.entry.parent,
+        entry,
+    };
+    let barred = is_barred_at(store, parent.number, &parent.entry)?;
+    let own = allows(store, current, file, AccessBit::DeleteSelf)?;
+    let by_parent = allows(store, current, &parent, AccessBit::DeleteChild)?;
+    let findings = Findings {
+        barred,
+        fits: true,
+        allowed: own || by_parent,
+    };
+    findings.check()?;
+    Ok(())
+}
+
+/// The entry of the file that a command on files is about: its own, where it names none.
+#[tactic(auto, using(undo_journal::specs::laws::Calls::reads_then))]
+pub(crate) fn find_subject<B: Board>(
+    store: &mut Store<B>,
+    index: &Index,
+    current: &Current,
+    own: Option<u8>,
+    subject: Subject,
+) -> Result<Option<u8>, StoreErr>
+    requires kept { IsKept store.old current.now }
+    requires index { IsIndex (table_in store.old) index.now }
+    requires own { IfSome own (IsUsed (table_in store.old)) }
+    ensures found { Learns store.old store.new result (λ found. subject_or
+        (option_map (path_of (table_in store.old)) own) (card_in store.old).tree (session_in store.old current.now)
+        subject ≡ option_map (path_of (table_in store.old)) found) }
+    ensures used { IfOk result (λ found. IfSome found (IsUsed (table_in store.old))) }
+{
+    match subject {
+        Subject::Current => Ok(own),
+        Subject::Identifier(identifier) => select(store, index, current.df, identifier),
+    }
+}

@@ -1,0 +1,186 @@
+//! Commands on life cycles: ACTIVATE FILE, DEACTIVATE FILE, TERMINATE DF, TERMINATE EF and TERMINATE CARD USAGE
+//! (ISO/IEC 7816-9).
+ghost use Rattle.std.specs.Prelude.{◌≡◌, [], Some, Ok, Err};
+ghost use Rattle.undo_journal.specs.Memory.{committed};
+ghost use Rattle.card_model.specs.Requests.{change_life_cycle as changing, terminate_card_usage as terminating};
+ghost use Rattle.file_tree.specs.Indexes.{IsIndex};
+ghost use Rattle.file_tree.specs.Table.{IsUsed};
+ghost use Rattle.file_commands.specs.LifeParts.{change_at, changed_by, current_changed, is_for_kind, IsChanged};
+ghost use Rattle.card_model.specs.LifeCycleCommands.{change_bit, change_refusals, command_of, no_subject};
+ghost use Rattle.card_model.specs.Outcomes.{refused_by};
+ghost use Rattle.command_base.specs.Served.{Serves};
+ghost use Rattle.command_base.specs.InPlace.{ServesInPlace};
+ghost use Rattle.command_base.specs.Stops.{Looks, reply};
+ghost use Rattle.command_base.specs.Working.{card_in, session_in, table_in, IsKept};
+
+use crate::files::find_subject;
+use apdu_core::{LifeCycleChange, Subject, Sw};
+use card_rules::{AccessBit, LifeCycle, LifeCycleCommand};
+use command_base::{Current, Named, Stop, allows};
+use file_changes::{next_life_cycle, set_life_cycle, terminate_card};
+use file_tree::{Entry, EntryKind, Index, read_entry};
+use undo_journal::{Board, Store};
+
+/// A file whose life cycle a command changes: the number of its entry, the entry, and the state after the change.
+#[derive(Clone, Copy)]
+pub(crate) struct Changed {
+    pub number: u8,
+    pub entry: Entry,
+    pub life: LifeCycle,
+}
+
+/// ACTIVATE FILE, DEACTIVATE FILE, TERMINATE DF and TERMINATE EF: the file is in the state that the command brings it
+/// into, by one transaction, and it becomes current anew. Where it is in this state already nothing is written. The
+/// status word is the result.
+pub fn change_life_cycle<B: Board>(
+    store: &mut Store<B>,
+    index: &Index,
+    current: &mut Current,
+    change: LifeCycleChange,
+    subject: Subject,
+) -> Result<Sw, Stop>
+    requires kept { IsKept store.old current.old }
+    requires index { IsIndex (table_in store.old) index.now }
+    ensures { ServesInPlace (changing change subject) store.old current.old store.new current.new [] (reply result) }
+{
+    let changed = find_change(store, index, current, change, subject)?;
+    set_life_cycle(store, changed.number, changed.life)?;
+    *current = current.at(changed.number, &changed.entry);
+    Ok(Sw::DONE)
+}
+
+/// TERMINATE CARD USAGE: the use of the card ends, by one transaction, where the rule of the master file allows it. The
+/// status word is the result.
+pub fn terminate_card_usage<B: Board>(store: &mut Store<B>, current: &Current) -> Result<Sw, Stop>
+    requires kept { IsKept store.old current.now }
+    ensures { Serves (terminating) store.old current.now store.new current.now [] (reply result) }
+{
+    let entry = read_entry(store, 0)?;
+    let master = Named { number: 0, entry };
+    if !allows(store, current, &master, AccessBit::Terminate)? {
+        return Err(Stop::Refused(Sw::ACCESS_DENIED));
+    }
+    terminate_card(store)?;
+    Ok(Sw::DONE)
+}
+
+/// The file whose life cycle a command changes, or else the refusal: there is no such file; a file above it is
+/// deactivated or terminated, or its own state doesn't allow the change; it isn't of the kind that the command is for;
+/// its rule doesn't allow the change.
+#[tactic(auto, using(undo_journal::specs::laws::Calls::reads_then))]
+fn find_change<B: Board>(
+    store: &mut Store<B>,
+    index: &Index,
+    current: &Current,
+    change: LifeCycleChange,
+    subject: Subject,
+) -> Result<Changed, Stop>
+    requires kept { IsKept store.old current.now }
+    requires index { IsIndex (table_in store.old) index.now }
+    ensures { Looks store.old store.new result
+        (λ changed. IsChanged (committed store.old) current.now change subject changed)
+        (λ refusal. refused_by (change_refusals (card_in store.old) (session_in store.old current.now) change subject)
+        ≡ Some refusal) }
+{
+    let own = current_changed(current, change);
+    let Some(number) = find_subject(store, index, current, own, subject)? else {
+        return Err(Stop::Refused(no_subject(subject)));
+    };
+    read_change(store, current, change, number)
+}
+
+/// What a command on life cycles finds of the file of a used entry:
+/// the change, or the refusal by its life cycle, its kind or its rule.
+#[tactic(auto, using(undo_journal::specs::laws::Calls::reads_then))]
+fn read_change<B: Board>(
+    store: &mut Store<B>,
+    current: &Current,
+    change: LifeCycleChange,
+    number: u8,
+) -> Result<Changed, Stop>
+    requires kept { IsKept store.old current.now }
+    requires used { IsUsed (table_in store.old) number }
+    ensures { Looks store.old store.new result
+        (λ changed. change_at (committed store.old) current.now change number ≡ Ok changed)
+        (λ refusal. change_at (committed store.old) current.now change number ≡ Err refusal) }
+{
+    let (command, bit) = row_of(change);
+    let entry = read_entry(store, number)?;
+    let next = next_life_cycle(store, number, &entry, command)?;
+    let allowed = allows(store, current, &Named { number, entry }, bit)?;
+    Ok(changed_by(change, number, entry, next, allowed)?)
+}
+
+/// The change, or what refuses it: no state after it; a file of another kind; a rule that doesn't allow it.
+fn changed_by(
+    change: LifeCycleChange,
+    number: u8,
+    entry: Entry,
+    next: Option<LifeCycle>,
+    allowed: bool,
+) -> Result<Changed, Sw>
+    ensures { result ≡ changed_by change number entry next allowed }
+{
+    let Some(life) = next else {
+        return Err(Sw::CONDITIONS_NOT_SATISFIED);
+    };
+    if !is_for(change, &entry) {
+        return Err(Sw::WRONG_STRUCTURE);
+    }
+    if !allowed {
+        return Err(Sw::ACCESS_DENIED);
+    }
+    Ok(Changed {
+        number,
+        entry,
+        life,
+    })
+}
+
+/// The entry of the file that a command is about where it names none.
+fn current_changed(current: &Current, change: LifeCycleChange) -> Option<u8>
+    ensures { result ≡ current_changed current.now change }
+{
+    match change {
+        LifeCycleChange::Activate | LifeCycleChange::Deactivate => {
+            Some(current.ef.unwrap_or(current.df))
+        }
+        LifeCycleChange::TerminateDf => Some(current.df),
+        LifeCycleChange::TerminateEf => current.ef,
+    }
+}
+
+/// The status word where there is no file that a command is about.
+fn no_subject(subject: Subject) -> Sw
+    ensures { result ≡ no_subject subject }
+{
+    match subject {
+        Subject::Current => Sw::NO_CURRENT_EF,
+        Subject::Identifier(_) => Sw::FILE_NOT_FOUND,
+    }
+}
+
+/// The row of the table of states that a command has, and what the file's rule must allow.
+fn row_of(change: LifeCycleChange) -> (LifeCycleCommand, AccessBit)
+    ensures { result ≡ (command_of change, change_bit change) }
+{
+    match change {
+        LifeCycleChange::Activate => (LifeCycleCommand::Activate, AccessBit::Activate),
+        LifeCycleChange::Deactivate => (LifeCycleCommand::Deactivate, AccessBit::Deactivate),
+        LifeCycleChange::TerminateDf | LifeCycleChange::TerminateEf => {
+            (LifeCycleCommand::Terminate, AccessBit::Terminate)
+        }
+    }
+}
+
+/// A command is for the file of this entry: TERMINATE DF for dedicated files,
+/// TERMINATE EF for elementary files, the others for all.
+fn is_for(change: LifeCycleChange, entry: &Entry) -> bool
+    ensures { result ≡ is_for_kind change entry.now.kind }
+{
+    match change {
+        LifeCycleChange::Activate | LifeCycleChange::Deactivate => true,
+        LifeCycleChange::TerminateDf => entry.has_kind(EntryKind::Dedicated),
+        LifeCycleChange::TerminateEf => !entry.has_kind(EntryKind::Dedicated),
+    }
+}

@@ -1,0 +1,73 @@
+//! Which files are barred, and what their rules allow (ISO/IEC 7816-9; ISO/IEC 7816-4, 7.4.10).
+
+ghost use Rattle.std.specs.Prelude.{◌≡◌};
+ghost use Rattle.undo_journal.specs.Memory.{committed};
+ghost use Rattle.undo_journal.specs.Calls.{Learns};
+ghost use Rattle.card_state.specs.FileLives.{bars, is_barred};
+ghost use Rattle.file_tree.specs.Table.{table, entry_in, path_of};
+ghost use Rattle.file_tree.specs.Trees.{tree_of};
+ghost use Rattle.file_tree.specs.Entries.{is_allowed_by};
+ghost use Rattle.file_tree.specs.Parts.{barred_up};
+ghost use Rattle.file_tree.specs.StoredFiles.{HasFile};
+
+use crate::entry::Entry;
+use crate::layout::DEEPEST;
+use crate::reading::read_entry_head;
+use card_rules::{AccessBit, LifeCycle, PinSet, allows};
+use undo_journal::{Board, Store, StoreErr};
+
+/// A file in this state bars itself and all files below it.
+fn bars(life: LifeCycle) -> bool
+    ensures { result ≡ bars life }
+{
+    matches!(life, LifeCycle::Deactivated | LifeCycle::Terminated)
+}
+
+/// A file above that of an entry is deactivated or terminated. By at most seven steps from child to parent all files
+/// above are met; each step reads the head of one entry, and a file that bars ends the way. `parent` is the number that
+/// the entry tells of its parent.
+pub fn is_below_barred<B: Board>(store: &mut Store<B>, e: u8, parent: u8) -> Result<bool, StoreErr>
+    requires file { HasFile store.old e }
+    requires parent { parent ≡ (entry_in (table (committed store.old)) e).parent }
+    ensures { Learns store.old store.new result (λ barred. barred ≡ barred_up (table (committed store.old)) 7 e) }
+{
+    let mut at = e;
+    let mut above = parent;
+    for _step in 0..DEEPEST {
+        if at == 0 {
+            return Ok(false);
+        }
+        let head = read_entry_head(store, above)?;
+        if bars(head.life_cycle()) {
+            return Ok(true);
+        }
+        at = above;
+        above = head.parent;
+    }
+    Ok(false)
+}
+
+/// The file of an entry is barred: it, or a file above it, is deactivated or terminated. The entry is at hand: it isn't
+/// read again.
+///
+/// # Errors
+/// What the store answers: power was lost, or the device failed.
+pub fn is_barred_at<B: Board>(store: &mut Store<B>, e: u8, entry: &Entry) -> Result<bool, StoreErr>
+    requires file { HasFile store.old e }
+    requires entry { entry.now ≡ entry_in (table (committed store.old)) e }
+    ensures { Learns store.old store.new result (λ barred. barred
+        ≡ is_barred (tree_of (committed store.old)) (path_of (table (committed store.old)) e)) }
+{
+    if bars(entry.life_cycle()) {
+        return Ok(true);
+    }
+    is_below_barred(store, e, entry.parent)
+}
+
+/// Whether the access rule of an entry's file allows what the bit stands for, where these PINs are verified, and these
+/// are disabled (ISO/IEC 7816-4, 9.3.3). The entry is at hand: its rule is asked where it lies.
+pub fn is_allowed_at(entry: &Entry, bit: AccessBit, verified: &PinSet, disabled: &PinSet) -> bool
+    ensures { result ≡ is_allowed_by entry.now bit verified.now disabled.now }
+{
+    allows(entry.rule(), bit, entry.life_cycle(), verified, disabled)
+}

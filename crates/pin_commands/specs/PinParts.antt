@@ -1,0 +1,27 @@
+-- What the code keeps of a command on a PIN. No public clause names these.
+use Rattle.std.specs.Prelude.{◌==◌, ℕ}
+use Rattle.std.specs.Prelude.{◌∷◌, List, Option}
+use Rattle.card_rules.specs.declared.status.Sw.{Sw}
+use Rattle.card_rules.specs.declared.status.TheConstants.Sw.{DONE}
+use Rattle.card_rules.specs.declared.status.TheConstants.Sw.{METHOD_BLOCKED}
+use Rattle.pin_store.specs.declared.errors.Outcome.{Outcome as AttemptEnd}
+use Rattle.pin_store.specs.declared.errors.Outcome.TheVariants.{Matched, Wrong}
+use Rattle.pin_commands.specs.declared.pins.Usable.{Usable}
+use Rattle.pin_commands.specs.declared.pins.Usable.TheVariants.{WhileEnabled, WhileDisabled, InAnyCase}
+use Rattle.card_model.specs.Outcomes.{Refusal, first_applying}
+use Rattle.card_model.specs.PinCommands.{in_any_case, tries_told, while_disabled, while_enabled}
+use Rattle.card_state.specs.Secrets.{Pin, tries_left}
+
+-- what refuses a command that shows a secret of a PIN, by the PINs that it is for
+abbrev pub use_refusals : Usable → Pin → List Refusal
+use_refusals WhileEnabled = while_enabled
+use_refusals WhileDisabled = while_disabled
+use_refusals InAnyCase = in_any_case
+
+abbrev pub refused_use : Usable → ℕ → Pin → Option Sw
+refused_use usable secret pin =
+    first_applying (record { applies = tries_left secret pin == 0; status = METHOD_BLOCKED } ∷ use_refusals usable pin)
+
+abbrev pub end_of_attempt : AttemptEnd → Sw
+end_of_attempt Matched = DONE
+end_of_attempt (Wrong left) = tries_told left

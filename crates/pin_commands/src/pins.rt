@@ -1,0 +1,211 @@
+//! Commands on PINs: VERIFY, CHANGE REFERENCE DATA, RESET RETRY COUNTER, DISABLE and ENABLE VERIFICATION REQUIREMENT
+//! (ISO/IEC 7816-4, 11.5 and 11.6). A try is taken away, lastingly, before anything is compared.
+ghost use Rattle.std.specs.Prelude.{◌≡◌, ◌<◌, ◌+◌, [], Some, option_map, IsSome};
+ghost use Rattle.std.specs.Result.{result_err};
+ghost use Rattle.nvm_board.specs.declared.board.TheConstants.{SECRETS};
+ghost use Rattle.undo_journal.specs.Calls.{Learns};
+ghost use Rattle.undo_journal.specs.Memory.{committed, IsReady};
+ghost use Rattle.card_rules.specs.Pins.{IsPinNumber};
+ghost use Rattle.card_model.specs.Requests.{change_reference_data as changing, reset_retry_counter as resetting};
+ghost use Rattle.card_model.specs.Requests.{verify as verifying, change_requirement as requiring};
+ghost use Rattle.pin_store.specs.Pages.{ArePinPages};
+ghost use Rattle.card_state.specs.Secrets.{Pin, tries_left};
+ghost use Rattle.pin_store.specs.Trials.{pin_in, Charges, TakesTry};
+ghost use Rattle.card_model.specs.Outcomes.{first_applying};
+ghost use Rattle.card_model.specs.PinCommands.{is_enabled_by, tries_told, unusable_by};
+ghost use Rattle.command_base.specs.Served.{Serves};
+ghost use Rattle.command_base.specs.Stops.{failure, reply, Checks, FindsOrRefuses};
+ghost use Rattle.pin_commands.specs.PinParts.{end_of_attempt, refused_use, use_refusals};
+ghost use Rattle.command_base.specs.Working.{IsKept};
+ghost use Rattle.command_base.specs.CurrentFiles.{tried_from, unverifies};
+
+use apdu_core::{Replacement, RequirementChange, Sw};
+use command_base::{Current, Shown, Stop};
+use pin_store::{
+    Charged, Outcome, PINS, change, charge, is_enabled, reset_counter, set_enabled, settle, tries,
+};
+use undo_journal::{Board, Store, StoreErr};
+
+/// Which PINs a command that shows a secret is for: those that are enabled, those that are disabled, or all.
+#[derive(Clone, Copy)]
+enum Usable {
+    WhileEnabled,
+    WhileDisabled,
+    InAnyCase,
+}
+
+impl Usable {
+    /// Refuses the command by whether the PIN is enabled.
+    fn check(self, enabled: bool) -> Result<(), Sw>
+        ensures { (pin : Pin) → pin.enabled ≡ enabled → result_err result ≡ first_applying (use_refusals self pin) }
+    {
+        match self {
+            Usable::WhileEnabled if !enabled => Err(Sw::REFERENCE_DATA_NOT_USABLE),
+            Usable::WhileDisabled if enabled => Err(Sw::CONDITIONS_NOT_SATISFIED),
+            _ => Ok(()),
+        }
+    }
+}
+
+/// VERIFY: the PIN is verified where its value is shown. Without data the tries that are left are told.
+/// The status word is the result.
+pub fn verify<B: Board>(
+    store: &mut Store<B>,
+    current: &mut Current,
+    pin: u8,
+    shown: Option<&[u8; 8]>,
+) -> Result<Sw, Stop>
+    requires kept { IsKept store.old current.old }
+    requires pin { IsPinNumber pin }
+    ensures { Serves (verifying pin (option_map (λ value. value.now) shown.entry)) store.old current.old store.new
+        current.new [] (reply result) }
+{
+    let Some(shown) = shown else {
+        return Ok(tell_tries(store, pin - 1)?);
+    };
+    let charged = take_try(store, pin - 1, Usable::WhileEnabled)?;
+    let outcome = settle(store, charged, shown)?;
+    Ok(conclude(current, pin, Shown::Value, outcome))
+}
+
+/// CHANGE REFERENCE DATA: a new value takes the place of the one that is shown, and the PIN is verified.
+/// The status word is the result.
+pub fn change_reference_data<B: Board>(
+    store: &mut Store<B>,
+    current: &mut Current,
+    pin: u8,
+    values: Replacement<'_>,
+) -> Result<Sw, Stop>
+    requires kept { IsKept store.old current.old }
+    requires pin { IsPinNumber pin }
+    ensures { Serves (changing pin values.entry.shown.now values.entry.new.now) store.old current.old store.new
+        current.new [] (reply result) }
+{
+    let charged = take_try(store, pin - 1, Usable::WhileEnabled)?;
+    let outcome = change(store, charged, values.shown, values.new)?;
+    Ok(conclude(current, pin, Shown::Value, outcome))
+}
+
+/// RESET RETRY COUNTER: where the unblocking value is shown, a new value takes the place of the old one, all tries are
+/// there again, and the PIN is verified. Without data the unblocking tries that are left are told.
+/// The status word is the result.
+pub fn reset_retry_counter<B: Board>(
+    store: &mut Store<B>,
+    current: &mut Current,
+    pin: u8,
+    values: Option<Replacement<'_>>,
+) -> Result<Sw, Stop>
+    requires kept { IsKept store.old current.old }
+    requires pin { IsPinNumber pin }
+    ensures { Serves (resetting pin (option_map (λ values. (values.shown.now, values.new.now)) values.entry)) store.old
+        current.old store.new current.new [] (reply result) }
+{
+    let Some(values) = values else {
+        return Ok(tell_tries(store, PINS + (pin - 1))?);
+    };
+    let charged = take_try(store, PINS + (pin - 1), Usable::InAnyCase)?;
+    let outcome = reset_counter(store, charged, values.shown, values.new)?;
+    Ok(conclude(current, pin, Shown::UnblockingValue, outcome))
+}
+
+/// DISABLE and ENABLE VERIFICATION REQUIREMENT: where the value of the PIN is shown, its verification is no longer
+/// required, or is again, and the PIN is verified. The status word is the result.
+pub fn change_requirement<B: Board>(
+    store: &mut Store<B>,
+    current: &mut Current,
+    change: RequirementChange,
+    pin: u8,
+    shown: &[u8; 8],
+) -> Result<Sw, Stop>
+    requires kept { IsKept store.old current.old }
+    requires pin { IsPinNumber pin }
+    ensures { Serves (requiring change pin shown.now) store.old current.old store.new current.new [] (reply result) }
+{
+    let charged = take_try(store, pin - 1, usable_by(change))?;
+    let outcome = set_enabled(store, charged, shown, is_enabled_by(change))?;
+    Ok(conclude(current, pin, Shown::Value, outcome))
+}
+
+/// The PINs that a change of the requirement is for.
+fn usable_by(change: RequirementChange) -> Usable
+    ensures { use_refusals result ≡ unusable_by change }
+{
+    match change {
+        RequirementChange::Disable => Usable::WhileEnabled,
+        RequirementChange::Enable => Usable::WhileDisabled,
+    }
+}
+
+/// Whether the PIN is enabled by a change of the requirement.
+fn is_enabled_by(change: RequirementChange) -> bool
+    ensures { result ≡ is_enabled_by change }
+{
+    match change {
+        RequirementChange::Disable => false,
+        RequirementChange::Enable => true,
+    }
+}
+
+/// Tells the tries that are left of a secret.
+fn tell_tries<B: Board>(store: &mut Store<B>, secret: u8) -> Result<Sw, StoreErr>
+    requires ready { IsReady store.old }
+    requires secret { secret < SECRETS }
+    requires pages { ArePinPages (committed store.old) }
+    ensures { Learns store.old store.new result
+        (λ status. status ≡ tries_told (tries_left secret (pin_in store.old secret))) }
+{
+    let left = tries(store, secret)?;
+    Ok(tries_status(left))
+}
+
+/// Takes a try of a secret away, or tells what refuses that: none is left; the PIN is disabled, or enabled.
+fn take_try<B: Board>(store: &mut Store<B>, secret: u8, usable: Usable) -> Result<Charged, Stop>
+    requires ready { IsReady store.old }
+    requires secret { secret < SECRETS }
+    requires pages { ArePinPages (committed store.old) }
+    ensures done { FindsOrRefuses result
+        (λ charged. (charged ≡ secret) × Charges secret store.old store.new
+        × (refused_use usable secret (pin_in store.old secret) ≡ None))
+        (λ refusal. (refused_use usable secret (pin_in store.old secret) ≡ Some refusal) × IsReady store.new) }
+    ensures takes { TakesTry secret (IsSome (refused_use usable secret (pin_in store.old secret))) store.old store.new
+        result (failure result) }
+{
+    check_use(store, secret, usable)?;
+    Ok(charge(store, secret)?)
+}
+
+/// What refuses that a secret is shown, before a try is taken away: none is left; the PIN is disabled, or enabled.
+fn check_use<B: Board>(store: &mut Store<B>, secret: u8, usable: Usable) -> Result<(), Stop>
+    requires ready { IsReady store.old }
+    requires secret { secret < SECRETS }
+    requires pages { ArePinPages (committed store.old) }
+    ensures { Checks store.old store.new (refused_use usable secret (pin_in store.old secret)) result }
+{
+    if tries(store, secret)? == 0 {
+        return Err(Stop::Refused(Sw::METHOD_BLOCKED));
+    }
+    let enabled = is_enabled(store, secret)?;
+    usable.check(enabled)?;
+    Ok(())
+}
+
+/// The status word that tells so many tries.
+fn tries_status(left: u8) -> Sw
+    ensures { result ≡ tries_told left }
+{
+    Sw(0x63C0 + u16::from(left))
+}
+
+/// Ends an attempt on a PIN: the session knows of it (`Current::after_attempt`), and the status word is the result,
+/// which tells the tries that are left where the value was wrong.
+fn conclude(current: &mut Current, pin: u8, shown: Shown, outcome: Outcome) -> Sw
+    requires { IsPinNumber pin }
+    ensures session { current.new ≡ tried_from current.old pin (unverifies shown) outcome }
+    ensures status { result ≡ end_of_attempt outcome }
+{
+    *current = current.after_attempt(pin, shown, outcome);
+    match outcome {
+        Outcome::Matched => Sw::DONE,
+        Outcome::Wrong(left) => tries_status(left),
+    }
+}
