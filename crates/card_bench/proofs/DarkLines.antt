@@ -6,23 +6,24 @@ use Rattle.t1_link.specs.ReaderTable.{Outcome, fails, gives, sends, unknown}
 use Rattle.command_base.specs.declared.spending.TheConstants.{COMMAND_WRITES}
 use Rattle.nvm_board.specs.declared.board.Arm.{Arm}
 use Rattle.nvm_board.specs.Aims.{due_of}
-use Rattle.card_bench.specs.Plays.{IsGood}
+use Rattle.card_turns.specs.Plays.{IsGood}
 use Rattle.card_bench.specs.Exchanges.{Ended}
 use Rattle.card_bench.specs.Exchanges.{answered, set_back, link_lost, power_lost}
 use Rattle.card_bench.specs.declared.exchange.TheConstants.{LINE_BLOCKS}
 use Rattle.bench_lines.specs.Orders.{Order}
 use Rattle.bench_lines.specs.Orders.{Nothing, On, Off, Free, Apdu, Block, Cut, Lose, Garble}
-use Rattle.card_bench.specs.declared.playing.Item.{Item}
-use Rattle.card_bench.specs.declared.playing.Item.TheVariants as item
-use Rattle.card_bench.specs.declared.playing.Turn.TheVariants as turn
-use Rattle.card_bench.specs.BenchStates.{BenchState, off, on, bench_facts}
+use Rattle.card_turns.specs.declared.playing.Item.{Item}
+use Rattle.card_turns.specs.declared.playing.Item.TheVariants as item
+use Rattle.card_turns.specs.declared.playing.Turn.TheVariants as turn
+use Rattle.card_turns.specs.BenchStates.{BenchState, off, on, bench_facts}
 use Rattle.card_bench.specs.Exchanges.{Arrives, CardTakes, Commands, Desk, Ends, Exchanges, GoesThrough, NextBlock}
 use Rattle.card_bench.specs.Exchanges.{following, printed_by, toward_card, toward_reader}
-use Rattle.card_bench.specs.Lasting.{HasLeft}
+use Rattle.card_turns.specs.Lasting.{HasLeft}
 use Rattle.card_bench.specs.Performing.{Performs, PerformsCommand, shown, free_shown}
 use Rattle.card_bench.specs.Printouts.{prints_dark}
-use Rattle.card_bench.specs.Turns.{dark_of, turn_steps}
-use Rattle.card_bench.proofs.Wearing.{LINE_STEPS, arrives-last, block-due, due-spent, fewer, turn-left}
+use Rattle.card_turns.specs.Turns.{dark_of, turn_steps}
+use Rattle.card_turns.proofs.Wearing.{block-due, due-spent, fewer}
+use Rattle.card_bench.proofs.LineWear.{LINE_STEPS, arrives-last, turn-left}
 
 -- 1 where power was lost, else 0
 abbrev lost_in : Result NextBlock Ended → ℕ

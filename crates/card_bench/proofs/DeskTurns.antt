@@ -1,13 +1,13 @@
 -- What turns at the desk are to a script: power off, and a block straight to the card's end.
 use Rattle.std.proofs.Common.{◌≡◌, ◌∙◌, List, ℕ, None, Bor}
-use Rattle.card_bench.specs.declared.playing.Turn.TheVariants as turn
-use Rattle.card_bench.specs.declared.playing.Item.{Item}
-use Rattle.card_bench.specs.declared.playing.Item.TheVariants.{Atr, Quiet, Mute, Dark, Reply}
-use Rattle.card_bench.specs.BenchStates.{BenchState, off, on}
+use Rattle.card_turns.specs.declared.playing.Turn.TheVariants as turn
+use Rattle.card_turns.specs.declared.playing.Item.{Item}
+use Rattle.card_turns.specs.declared.playing.Item.TheVariants.{Atr, Quiet, Mute, Dark, Reply}
+use Rattle.card_turns.specs.BenchStates.{BenchState, off, on}
 use Rattle.card_bench.specs.Exchanges.{Desk}
 use Rattle.card_bench.specs.Performing.{PerformsBlock, PerformsOff, TakesTurn, reader_after, shown}
 use Rattle.card_bench.specs.Printouts.{Print}
-use Rattle.card_bench.specs.Turns.{GoodTurn, TakesBlock}
+use Rattle.card_turns.specs.Turns.{GoodTurn, TakesBlock}
 
 -- nothing comes of power off
 off-by : (old new : Desk) (prints : Print) (came : Item) → GoodTurn old.bench turn.Off came new.bench

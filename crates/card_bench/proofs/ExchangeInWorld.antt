@@ -8,23 +8,23 @@ use Rattle.card_bench.specs.Exchanges.{Ended}
 use Rattle.card_bench.specs.Exchanges.{answered, set_back, link_lost, power_lost}
 use Rattle.card_bench.specs.declared.exchange.TheConstants.{LINE_BLOCKS}
 use Rattle.card_bench.specs.declared.line.Line.{Line}
-use Rattle.card_bench.specs.BenchStates.{BenchState, off, on}
+use Rattle.card_turns.specs.BenchStates.{BenchState, off, on}
 use Rattle.card_bench.specs.Exchanges.{Ends, Exchanges, GoesThrough, NextBlock, following}
 use Rattle.card_bench.specs.ExchangeWorlds.{Course, EndsSo, ExchangeLaw, GoesAs, ExchangeIsCut, StandIn, bytes_of_line}
 use Rattle.card_bench.specs.ExchangeWorlds.{exchange_events, fate, fates}
 use Rattle.card_bench.specs.Lines.{line_after}
-use Rattle.card_bench.specs.TreeMachine.{IsProperState, Served, tree_machine}
-use Rattle.card_bench.specs.Worlds.{Event, Report, World, arrival, giving, is_command, may_send, powered, send, turning}
-use Rattle.card_bench.specs.Worlds.{world, world_step}
-use Rattle.card_bench.specs.WorldLaw.{comes_of, is_under_way}
-use Rattle.card_bench.specs.WorldRepairs.{counts_after, newest, watched}
+use Rattle.link_worlds.specs.TreeMachine.{IsProperState, Served, tree_machine}
+use Rattle.link_worlds.specs.Worlds.{Event, Report, World, arrival, giving, is_command, may_send, powered, send, turning}
+use Rattle.link_worlds.specs.Worlds.{world, world_step}
+use Rattle.link_worlds.specs.WorldLaw.{comes_of, is_under_way}
+use Rattle.link_worlds.specs.WorldRepairs.{counts_after, newest, watched}
 use Rattle.card_bench.proofs.ExchangeSteps.{IsReached, IsWay, LeadsTo, ShowsIn, is-way-under_way, passed, same-reader}
 use Rattle.card_bench.proofs.ExchangeSteps.{shows-noted, stands-turned, stepped, stepped-is}
 use Rattle.card_bench.proofs.BlocksOnLine.{line_after-later, line_after-none}
-use Rattle.card_bench.proofs.SoundWorlds.{AnswersByBytes, sound-powered, sound-step, sound-world}
-use Rattle.card_bench.proofs.TreeAnswers.{tree-answers}
-use Rattle.card_bench.proofs.WorldLawful.{good-world, world-lawful}
-use Rattle.card_bench.proofs.WorldSteps.{good-step}
+use Rattle.link_worlds.proofs.SoundWorlds.{AnswersByBytes, sound-powered, sound-step, sound-world}
+use Rattle.link_worlds.proofs.TreeAnswers.{tree-answers}
+use Rattle.link_worlds.proofs.WorldLawful.{good-world, world-lawful}
+use Rattle.link_worlds.proofs.WorldSteps.{good-step}
 
 tree-bytes : AnswersByBytes tree_machine IsProperState
 tree-bytes = record {

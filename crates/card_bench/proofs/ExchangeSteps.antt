@@ -17,9 +17,9 @@ use Rattle.command_base.specs.Words.{StandsAsked}
 use Rattle.card_bench.specs.Exchanges.{Ended}
 use Rattle.card_bench.specs.Exchanges.{answered, set_back, link_lost, power_lost}
 use Rattle.card_bench.specs.declared.line.Line.{Line}
-use Rattle.card_bench.specs.BenchStates.{BenchState, off, on, bench_card, bench_facts}
-use Rattle.card_bench.specs.CardBlocks.{BlockStands, IsBlockStage, IsRun, Powered, Replies, answering, card_by}
-use Rattle.card_bench.specs.CardBlocks.{machine, session_by}
+use Rattle.card_turns.specs.BenchStates.{BenchState, off, on, bench_card, bench_facts}
+use Rattle.card_turns.specs.CardBlocks.{BlockStands, IsBlockStage, IsRun, Powered, Replies, answering, card_by}
+use Rattle.card_turns.specs.CardBlocks.{machine, session_by}
 use Rattle.card_bench.specs.Exchanges.{Arrives, CardTakes, Ends, Passes, NextBlock, bytes_under_way, following}
 use Rattle.card_bench.specs.Exchanges.{ReaderTurns}
 use Rattle.card_bench.specs.Exchanges as ways
@@ -28,18 +28,18 @@ use Rattle.card_bench.specs.ExchangeWorlds.{fate, state_served}
 use Rattle.card_bench.specs.Lines as lines
 use Rattle.t1_link.specs.Garbled.{last_bit_turned}
 use Rattle.card_bench.specs.Lines.{is_due, line_after}
-use Rattle.card_bench.specs.TreeMachine.{IsProperState, Served, tree_machine}
-use Rattle.card_bench.specs.Worlds.{Arrival, Done, Failed, Line as WorldLine, Report, Unknown, World, arrival}
-use Rattle.card_bench.specs.Worlds.{after_arrival, at_card, at_reader, garble}
-use Rattle.card_bench.specs.Worlds.{in_vain, lose, may_arrive, noted, pass, reacting, taking, toward_card}
-use Rattle.card_bench.specs.Worlds.{toward_reader, turning, world_step}
-use Rattle.card_bench.specs.WorldLaw.{is_under_way}
-use Rattle.card_bench.specs.WorldRepairs.{Counts, newest}
-use Rattle.card_bench.proofs.CommandsGiven.{none-fault, runs-given}
+use Rattle.link_worlds.specs.TreeMachine.{IsProperState, Served, tree_machine}
+use Rattle.link_worlds.specs.Worlds.{Arrival, Done, Failed, Line as WorldLine, Report, Unknown, World, arrival}
+use Rattle.link_worlds.specs.Worlds.{after_arrival, at_card, at_reader, garble}
+use Rattle.link_worlds.specs.Worlds.{in_vain, lose, may_arrive, noted, pass, reacting, taking, toward_card}
+use Rattle.link_worlds.specs.Worlds.{toward_reader, turning, world_step}
+use Rattle.link_worlds.specs.WorldLaw.{is_under_way}
+use Rattle.link_worlds.specs.WorldRepairs.{Counts, newest}
+use Rattle.link_worlds.proofs.CommandsGiven.{none-fault, runs-given}
 use Rattle.card_bench.proofs.BlocksOnLine.{garbled-may_arrive, heard-garbled}
-use Rattle.card_bench.proofs.SoundBlocks.{IsSound, frame-bytes, told-bytes}
-use Rattle.card_bench.proofs.SoundWorlds.{IsSoundLine, IsSoundWorld}
-use Rattle.card_bench.proofs.WorldPhases.{Good}
+use Rattle.link_worlds.proofs.SoundBlocks.{IsSound, frame-bytes, told-bytes}
+use Rattle.link_worlds.proofs.SoundWorlds.{IsSoundLine, IsSoundWorld}
+use Rattle.link_worlds.proofs.WorldPhases.{Good}
 
 -- the block that goes on the line next is the one under way
 abbrev pub IsWay : NextBlock → WorldLine → Type 0

@@ -14,9 +14,9 @@ use Rattle.command_base.specs.Standing.{board_blocks}
 use Rattle.undo_journal.specs.Spending.{WritesAtMost}
 use Rattle.card_core.specs.Factory.{factory_card}
 use Rattle.command_base.specs.Finding.{Finds}
-use Rattle.card_bench.specs.BenchStates.{BenchState, off, bench_card, bench_facts, IsOff}
+use Rattle.card_turns.specs.BenchStates.{BenchState, off, bench_card, bench_facts, IsOff}
 use Rattle.card_bench.specs.Exchanges.{Desk}
-use Rattle.card_bench.specs.Plays.{IsGood}
+use Rattle.card_turns.specs.Plays.{IsGood}
 use Rattle.card_bench.specs.Prints.{IsFirstDesk, IsJustWritten}
 
 -- a new board of 1,024 pages has room for 896 blocks

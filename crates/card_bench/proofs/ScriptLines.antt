@@ -19,7 +19,7 @@ use Rattle.bench_lines.specs.laws.TextLines.{order_of-none, orders-more, strip-w
 use Rattle.card_bench.specs.Endings.{HasWritten, IsReadInto, IsRunInto, IsRunToEnd, IsRunToLine}
 use Rattle.card_bench.specs.Exchanges.{Desk}
 use Rattle.card_bench.specs.Performing.{Performs}
-use Rattle.card_bench.specs.Plays.{IsGood}
+use Rattle.card_turns.specs.Plays.{IsGood}
 use Rattle.card_bench.specs.Printouts.{Print, text_of}
 use Rattle.card_bench.specs.Printouts as print
 use Rattle.card_bench.specs.Prints.{IsFirstDesk, LinesPrint, PrintsLines}

@@ -1,8 +1,8 @@
 -- What the fields of a `Desk` stand for.
 use Rattle.std.specs.Prelude.{ℕ, Bool, true, false, List, Option, None, Some}
 use Rattle.t1_link.specs.ReaderTable.{Reader}
-use Rattle.card_bench.specs.declared.came.Came.{Came}
-use Rattle.card_bench.specs.declared.came.Came.TheVariants.{Nothing, Atr, Mute, Dark, Lost, Answer, Block, Free}
+use Rattle.card_turns.specs.declared.came.Came.{Came}
+use Rattle.card_turns.specs.declared.came.Came.TheVariants.{Nothing, Atr, Mute, Dark, Lost, Answer, Block, Free}
 use Rattle.card_bench.specs.Exchanges.{Desk}
 use Rattle.card_bench.specs.Printouts.{Print, prints_atr, prints_bytes, prints_dark, prints_free, prints_lost}
 use Rattle.card_bench.specs.Printouts.{prints_mute, prints_nothing}
@@ -16,17 +16,6 @@ pub record DeskState : Type 0 where
 abbrev pub reader_there : Bool → Reader → Option Reader
 reader_there false reader = None
 reader_there true reader = Some reader
-
--- whether a card started
-abbrev pub is_started : Came → Bool
-is_started Nothing = false
-is_started Atr = true
-is_started Mute = false
-is_started Dark = false
-is_started Lost = false
-is_started Answer = false
-is_started Block = false
-is_started (Free free) = false
 
 -- what is printed of what came, with the answer to the last command, and the block that came back last
 abbrev pub print_of : Came → List ℕ → List ℕ → Print

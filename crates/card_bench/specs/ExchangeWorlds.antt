@@ -14,15 +14,15 @@ use Rattle.card_bench.specs.Exchanges.{Ended}
 use Rattle.card_bench.specs.Exchanges.{answered, set_back, link_lost, power_lost}
 use Rattle.card_bench.specs.declared.exchange.TheConstants.{LINE_BLOCKS}
 use Rattle.card_bench.specs.declared.line.Line.{Line}
-use Rattle.card_bench.specs.BenchStates.{BenchState, off, on, bench_card, bench_facts, IsOff}
-use Rattle.card_bench.specs.CardBlocks.{Powered}
+use Rattle.card_turns.specs.BenchStates.{BenchState, off, on, bench_card, bench_facts, IsOff}
+use Rattle.card_turns.specs.CardBlocks.{Powered}
 use Rattle.card_bench.specs.Exchanges.{Ends, Exchanged}
 use Rattle.card_bench.specs.Lines.{is_due, line_after}
-use Rattle.card_bench.specs.TreeMachine.{IsProperState, Served, tree_machine}
-use Rattle.card_bench.specs.Worlds.{Arrival, Done, Event, Failed, Line as WorldLine, Report, Unknown, World, arrival}
-use Rattle.card_bench.specs.Worlds.{at_card, garble, is_command, lose, pass, quiet}
-use Rattle.card_bench.specs.Worlds.{send, toward_card, toward_reader, world_step}
-use Rattle.card_bench.specs.WorldLaw.{comes_of, is_under_way}
+use Rattle.link_worlds.specs.TreeMachine.{IsProperState, Served, tree_machine}
+use Rattle.link_worlds.specs.Worlds.{Arrival, Done, Event, Failed, Line as WorldLine, Report, Unknown, World, arrival}
+use Rattle.link_worlds.specs.Worlds.{at_card, garble, is_command, lose, pass, quiet}
+use Rattle.link_worlds.specs.Worlds.{send, toward_card, toward_reader, world_step}
+use Rattle.link_worlds.specs.WorldLaw.{comes_of, is_under_way}
 
 -- the state of a card at the bench: the card that is found in its memory, and its session
 abbrev pub state_served : Powered → Served

@@ -1,20 +1,18 @@
 -- What each line of a script does to the desk, and what it prints.
-use Rattle.std.specs.Prelude.{◌≡◌, ◌≤◌, ◌-◌, ℕ, List, Option, None, Some}
-use Rattle.nvm_board.specs.Facts.{Facts}
+use Rattle.std.specs.Prelude.{◌≡◌, ◌-◌, ℕ, List, Option, None, Some}
 use Rattle.t1_link.specs.ReaderTable.{Reader, fresh_reader}
-use Rattle.bench_lines.specs.Orders.{Order}
-use Rattle.bench_lines.specs.Orders.{Nothing, On, Off, Free, Apdu, Block, Cut, Lose, Garble}
-use Rattle.card_bench.specs.declared.playing.Turn.{Turn}
-use Rattle.card_bench.specs.declared.playing.Turn.TheVariants as turn
-use Rattle.card_bench.specs.declared.playing.Item.{Item}
-use Rattle.card_bench.specs.declared.playing.Item.TheVariants as item
-use Rattle.card_bench.specs.BenchStates.{BenchState, off, on, bench_facts}
+use Rattle.bench_lines.specs.Orders.{Order, Nothing, On, Off, Free, Apdu, Block, Cut, Lose, Garble}
+use Rattle.card_turns.specs.declared.playing.Turn.{Turn}
+use Rattle.card_turns.specs.declared.playing.Item.{Item}
+use Rattle.card_turns.specs.BenchStates.{BenchState, off, on, IsArmed}
 use Rattle.card_bench.specs.Exchanges.{Commands, Desk}
 use Rattle.card_bench.specs.Printouts.{Print, prints_nothing, prints_atr, prints_mute, prints_dark, prints_bytes}
 use Rattle.card_bench.specs.Printouts.{prints_free}
 use Rattle.card_core.specs.Running.{card_found}
 use Rattle.card_model.specs.Cards.{card_space}
-use Rattle.card_bench.specs.Turns.{GoodBlock, GoodTurn}
+use Rattle.card_turns.specs.Turns.{GoodBlock, GoodTurn}
+use Rattle.card_turns.specs.declared.playing.Turn.TheVariants as turn
+use Rattle.card_turns.specs.declared.playing.Item.TheVariants as item
 
 -- what is printed of a turn
 abbrev pub shown : Item → Print
@@ -31,20 +29,6 @@ reader_after item.Quiet = None
 reader_after item.Mute = None
 reader_after item.Dark = None
 reader_after (item.Reply block) = None
-
--- a bench with these facts of its board
-abbrev pub with_facts : BenchState → Facts → BenchState
-with_facts (off was) facts = off facts
-with_facts (on powered) facts = on (record powered { card = record powered.card { facts = facts } })
-
--- The write with this number from now on, counted from 1, is set to be torn: bit i of the mask tells whether its ith
--- word is new. Nothing else changes, but that at most one cut is due.
-pub record IsArmed (number mask : ℕ) (old new : BenchState) : Type 0 where
-  pub due : (bench_facts new).due ≤ 1
-  pub same : new ≡ with_facts old (record (bench_facts old) {
-    due = (bench_facts new).due;
-    pending = Some record { whole_writes = number - 1; mask = mask };
-  })
 
 -- A turn at the desk, and what is printed of it. Only a card that started has a reader's end before it, a fresh one:
 -- after any other turn no command is sent any more. What is pending on the line stays.

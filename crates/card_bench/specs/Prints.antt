@@ -4,11 +4,11 @@ use Rattle.nvm_board.specs.declared.board.TheConstants.{LEAST_PAGES, SECRETS}
 use Rattle.nvm_board.specs.Facts.{Facts}
 use Rattle.card_core.specs.Factory.{factory_card}
 use Rattle.bench_lines.specs.Orders.{Order}
-use Rattle.card_bench.specs.BenchStates.{bench_card, bench_facts, IsOff}
+use Rattle.card_turns.specs.BenchStates.{bench_card, bench_facts, IsOff}
 use Rattle.card_bench.specs.Exchanges.{Desk}
 use Rattle.bench_lines.specs.Orders.{order_of}
 use Rattle.card_bench.specs.Performing.{Performs}
-use Rattle.card_bench.specs.Plays.{IsGood}
+use Rattle.card_turns.specs.Plays.{IsGood}
 use Rattle.card_bench.specs.Printouts.{Print, text_of}
 
 -- Lines, one after another: what each asks for is carried out, and its text follows the text of those before it. Behind

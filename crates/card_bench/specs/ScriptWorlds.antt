@@ -5,16 +5,16 @@ use Rattle.card_model.specs.Sessions.{fresh_session}
 use Rattle.card_bench.specs.Exchanges.{Ended}
 use Rattle.bench_lines.specs.Orders.{Order}
 use Rattle.bench_lines.specs.Orders.{Nothing, On, Off, Free, Apdu, Block, Cut, Lose, Garble}
-use Rattle.card_bench.specs.BenchStates.{BenchHasCard}
+use Rattle.card_turns.specs.BenchStates.{BenchHasCard}
 use Rattle.card_bench.specs.Exchanges.{Desk, GoesOn, left_by, printed_by}
 use Rattle.card_bench.specs.ExchangeWorlds.{GoesAs, StandIn, course_of, exchange_events}
 use Rattle.bench_lines.specs.Orders.{IsSized}
 use Rattle.card_bench.specs.Performing.{Performs}
 use Rattle.card_bench.specs.Printouts.{Print, prints_atr}
 use Rattle.bench_lines.specs.Spellings.{IsOfBytes}
-use Rattle.card_bench.specs.TreeMachine.{IsProperState, Served, tree_machine}
-use Rattle.card_bench.specs.Worlds.{Event, quiet}
-use Rattle.card_bench.specs.WorldLaw.{comes_of}
+use Rattle.link_worlds.specs.TreeMachine.{IsProperState, Served, tree_machine}
+use Rattle.link_worlds.specs.Worlds.{Event, quiet}
+use Rattle.link_worlds.specs.WorldLaw.{comes_of}
 
 -- The desk is in the world that came of these events since power-on: a command may be sent, both ends and the card are
 -- those of that world, and nothing is under way.

@@ -2,15 +2,14 @@
 use Rattle.std.specs.Prelude.{◌≡◌, ◌⊎◌, ◌≤◌, ◌≢◌, ℕ, zero, suc, true, List, None, is_some}
 use Rattle.nvm_board.specs.Facts.{Facts}
 use Rattle.card_state.specs.declared.space.FreeSpace.{FreeSpace}
-use Rattle.card_bench.specs.declared.playing.Turn.{Turn}
-use Rattle.card_bench.specs.declared.playing.Turn.TheVariants as turn
-use Rattle.card_bench.specs.declared.playing.Item.{Item}
-use Rattle.card_bench.specs.declared.playing.Item.TheVariants.{Dark}
-use Rattle.card_bench.specs.BenchStates.{BenchState, off, on, bench_facts}
+use Rattle.card_turns.specs.declared.playing.Turn.{Turn}
+use Rattle.card_turns.specs.declared.playing.Turn.TheVariants as turn
+use Rattle.card_turns.specs.declared.playing.Item.{Item}
+use Rattle.card_turns.specs.declared.playing.Item.TheVariants.{Dark}
+use Rattle.card_turns.specs.BenchStates.{BenchState, off, on, bench_facts, IsArmed}
 use Rattle.command_base.specs.Finding.{HasCard}
-use Rattle.card_bench.specs.Turns.{GoodBlock, GoodTurn, Runs}
-use Rattle.card_bench.specs.Performing.{IsArmed}
-use Rattle.card_bench.specs.CardBlocks.{IsBlockStage}
+use Rattle.card_turns.specs.Turns.{GoodBlock, GoodTurn, Runs}
+use Rattle.card_turns.specs.CardBlocks.{IsBlockStage}
 use Rattle.card_model.specs.Cards.{card_space, Card}
 use Rattle.card_core.specs.Running.{card_found}
 use Rattle.t1_link.specs.CardTable.{link_step}

@@ -4,12 +4,11 @@ use Rattle.std.specs.Prelude.{◌++◌, is_some}
 use Rattle.nvm_board.specs.declared.cut_board.CutBoard.{CutBoard}
 use Rattle.nvm_board.specs.Cut.{cut_facts, last_torn}
 use Rattle.nvm_board.specs.Facts.{Facts}
-use Rattle.card_bench.specs.declared.playing.Turn.{Turn}
-use Rattle.card_bench.specs.declared.playing.Item.{Item}
-use Rattle.card_bench.specs.declared.playing.Item.TheVariants.{Dark}
-use Rattle.card_bench.specs.BenchStates.{BenchState, bench_facts}
-use Rattle.card_bench.specs.Turns.{GoodBlock, Runs}
-use Rattle.card_bench.specs.Performing.{IsArmed}
+use Rattle.card_turns.specs.declared.playing.Turn.{Turn}
+use Rattle.card_turns.specs.declared.playing.Item.{Item}
+use Rattle.card_turns.specs.declared.playing.Item.TheVariants.{Dark}
+use Rattle.card_turns.specs.BenchStates.{BenchState, bench_facts, IsArmed}
+use Rattle.card_turns.specs.Turns.{GoodBlock, Runs}
 use Rattle.card_bench.specs.Masks.{mask_of, mask_count_of, words_tried}
 use Rattle.card_bench.specs.Sweeps.{CutsCommand, CutsStart, SparesStart, EndsIn, off_with}
 use Rattle.card_bench.specs.Tallies.{Finding}

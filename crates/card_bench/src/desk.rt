@@ -2,23 +2,22 @@
 ghost use Rattle.std.specs.Prelude.{◌≡◌, ◌≢◌, ◌≤◌, ℕ, List, None, length, take, true, IfErr, OnErr, OnOk};
 ghost use Rattle.std.specs.Io.KnownBytes.{Appends};
 ghost use Rattle.bench_lines.specs.declared.order.TheConstants.{COMMAND_LIMIT};
-ghost use Rattle.card_bench.specs.BenchStates.{off};
+ghost use Rattle.card_turns.specs.BenchStates.{off};
 ghost use Rattle.card_bench.specs.DeskParts.{print_of};
 ghost use Rattle.card_bench.specs.Exchanges.{printed_by};
 ghost use Rattle.card_bench.specs.ExchangeParts.{ended_of};
 ghost use Rattle.bench_lines.specs.OrderViews.{order_with};
 ghost use Rattle.bench_lines.specs.Orders.{IsSized};
 ghost use Rattle.card_bench.specs.Performing.{Performs, PerformsCommand, TakesTurn, free_shown};
-ghost use Rattle.card_bench.specs.Plays.{IsGood};
+ghost use Rattle.card_turns.specs.Plays.{IsGood};
 ghost use Rattle.card_bench.specs.Printouts.{prints_nothing, text_of};
 
-use crate::came::Came;
 use crate::exchange::{Blocks, Ending, Ends, exchange};
 use crate::fault::RunFault;
 use crate::line::Line;
-use crate::playing::{Bench, Turn};
 use crate::printing::{ATR, PrintedText, print_bytes, print_free, write_line};
 use bench_lines::Order;
+use card_turns::{Bench, Came, Turn};
 use nvm_board::{Armed, Faultless, Socket};
 use std::io::Write;
 use std::marker::Model;

@@ -1,65 +1,33 @@
 //! Laws of the definitions: each is a function whose contract is the law.
 
-ghost use Rattle.std.specs.Prelude.{◌≡◌, ◌≢◌, ◌⊎◌, ◌≤◌, ◌+◌, ◌*◌, ℕ, Bool, List, length, true, IsTrue, Ok, Err, None};
-ghost use Rattle.card_rules.specs.declared.pins.TheConstants.{PINS};
+ghost use Rattle.std.specs.Prelude.{◌≡◌, ◌≢◌, ◌⊎◌, ◌≤◌, ◌+◌, ◌*◌, ℕ, List, length, true, Ok, Err, None};
 ghost use Rattle.t1_link.specs.Blocks.{Block as BlockValue, heard};
 ghost use Rattle.t1_link.specs.Garbled.{last_bit_turned};
 ghost use Rattle.t1_link.specs.declared.block.Fault.TheVariants.{WrongCheck};
 ghost use Rattle.card_bench.specs.declared.exchange.TheConstants.{LINE_BLOCKS};
 ghost use Rattle.card_bench.specs.declared.line.Line.{Line};
 ghost use Rattle.bench_lines.specs.Orders.{Order};
-ghost use Rattle.card_bench.specs.declared.playing.Item.{Item};
-ghost use Rattle.card_bench.specs.declared.playing.Item.TheVariants.{Mute};
-ghost use Rattle.card_bench.specs.declared.playing.Turn.{Turn};
-ghost use Rattle.card_bench.specs.declared.playing.Turn.TheVariants.{On};
+ghost use Rattle.card_turns.specs.declared.playing.Item.{Item};
+ghost use Rattle.card_turns.specs.declared.playing.Item.TheVariants.{Mute};
+ghost use Rattle.card_turns.specs.declared.playing.Turn.{Turn};
+ghost use Rattle.card_turns.specs.declared.playing.Turn.TheVariants.{On};
 ghost use Rattle.nvm_board.specs.Facts.{Facts};
-ghost use Rattle.card_bench.specs.BenchStates.{BenchState, BenchHasCard, bench_card, bench_facts};
+ghost use Rattle.card_turns.specs.BenchStates.{BenchState, bench_card, bench_facts};
 ghost use Rattle.card_bench.specs.Sweeps.{GivenByRun, IsStageOf};
 ghost use Rattle.card_bench.specs.Tallies.{Finding};
 ghost use Rattle.card_bench.specs.Exchanges.{Desk};
 ghost use Rattle.card_bench.specs.ExchangeWorlds.{ExchangeLaw};
-ghost use Rattle.card_bench.specs.Guessing.{GuessesFew, unblocking_guessed, value_guessed};
-ghost use Rattle.card_bench.specs.Lasting.{HasLeft};
+ghost use Rattle.card_turns.specs.Lasting.{HasLeft};
 ghost use Rattle.card_bench.specs.Lines.{arriving, line_after};
 ghost use Rattle.card_bench.specs.Performing.{Performs};
-ghost use Rattle.card_bench.specs.Plays.{IsGood};
+ghost use Rattle.card_turns.specs.Plays.{IsGood};
 ghost use Rattle.card_bench.specs.Printouts.{prints_dark};
 ghost use Rattle.card_bench.specs.Prints.{IsFirstDesk, PrintsLines};
 ghost use Rattle.card_bench.specs.ScriptWorlds.{PowerOnLaw, LineLaw};
-ghost use Rattle.card_bench.specs.TreeMachine.{tree_machine, IsProperState};
-ghost use Rattle.card_bench.specs.Turns.{GoodBlock, GoodTurn, Runs, dark_of, run_steps, turn_steps};
+ghost use Rattle.card_turns.specs.Turns.{GoodBlock, GoodTurn, Runs, dark_of, run_steps, turn_steps};
 ghost use Rattle.file_tree.specs.Formats.{is_format_2};
 ghost use Rattle.command_base.specs.Finding.{words_found};
-ghost use Rattle.card_bench.specs.WorldLaw.{ResynchLaw, WorldLaw};
-ghost use Rattle.card_bench.specs.WorldRepairs.{RepairLaw};
-ghost use Rattle.card_bench.specs.Worlds.{Answers, Machine, are_bytes, may_arrive};
-
-/// The law of the world of both ends (ISO/IEC 7816-3, clause 11.6), for every proper card, every session that it begins
-/// in, and every list of events:
-///
-/// - `law`: the commands carried out are the commands sent, in order, each at most once, with only such left out as
-///   were not reported Done; Done has the tree machine's answer at that point; no answer is reported as bad; once
-///   RESYNCH was requested, nothing but such requests is sent until the report.
-/// - `resynch`: the response to such a request ends the command as Unknown; where it doesn't come, the request is sent
-///   again, and after the third one the command has Failed.
-/// - `repair`: where at most one block was lost or garbled since a command was sent, and no report was Failed before,
-///   its report is Done; where none was, it comes after at most 20 blocks, and exactly as many as are said there.
-pub fn world()
-    ensures law { WorldLaw tree_machine IsProperState }
-    ensures resynch { ResynchLaw tree_machine IsProperState }
-    ensures repair { RepairLaw tree_machine IsProperState }
-{}
-
-/// The same law for every machine that keeps an invariant, any test of its states, and answers each command by 2 to 258
-/// bytes where that holds, whatever type `M` the states have.
-pub fn world_of_any_machine<M>()
-    ensures law { (machine : Machine M) (holds : M → Bool) → Answers machine (λ m. IsTrue (holds m))
-        → WorldLaw machine (λ m. IsTrue (holds m)) }
-    ensures resynch { (machine : Machine M) (holds : M → Bool) → Answers machine (λ m. IsTrue (holds m))
-        → ResynchLaw machine (λ m. IsTrue (holds m)) }
-    ensures repair { (machine : Machine M) (holds : M → Bool) → Answers machine (λ m. IsTrue (holds m))
-        → RepairLaw machine (λ m. IsTrue (holds m)) }
-{}
+ghost use Rattle.link_worlds.specs.Worlds.{are_bytes, may_arrive};
 
 /// What the faults that are pending on a line do to a block depends on how many blocks went before it, and on nothing
 /// else: after some blocks the line is such that the next ones fare as they would have fared,
@@ -95,25 +63,6 @@ pub fn exchange_is_a_run_of_the_world()
 pub fn script_goes_on_in_a_world()
     ensures begins { PowerOnLaw }
     ensures goes_on { LineLaw }
-{}
-
-/// What the guess law says in numbers, of a run that begins where a card is found: without a match, a PIN's value is
-/// compared at most 3 times in all, and its unblocking value at most 10 times, however long the run is and wherever it
-/// is cut; each match that gives the tries back allows 3 more, or 10.
-pub fn guesses_are_few()
-    ensures values { (old new : BenchState) (n more : ℕ) → GuessesFew old new → BenchHasCard old
-        → 1 ≤ n → n ≤ PINS → (value_guessed new n).renewals ≤ (value_guessed old n).renewals + more
-        → (value_guessed new n).compares ≤ (value_guessed old n).compares + 3 * (1 + more) }
-    ensures unblocking_values { (old new : BenchState) (n more : ℕ) → GuessesFew old new → BenchHasCard old
-        → 1 ≤ n → n ≤ PINS → (unblocking_guessed new n).renewals ≤ (unblocking_guessed old n).renewals + more
-        → (unblocking_guessed new n).compares ≤ (unblocking_guessed old n).compares + 10 * (1 + more) }
-{}
-
-/// The guess law of two runs, one after the other, is that of both together; and it holds of a run of no turn.
-pub fn guesses_add_up()
-    ensures none { (old : BenchState) → GuessesFew old old }
-    ensures on { (old between new : BenchState) → GuessesFew old between → GuessesFew between new
-        → GuessesFew old new }
 {}
 
 /// A board's counts last. A turn takes at most 700 steps of each, and only a start of a memory that isn't of format 2

@@ -2,11 +2,11 @@
 ghost use Rattle.std.specs.Prelude.{◌≡◌, ◌⊎◌, ◌≤◌, ◌<◌, ◌^◌, ◌-◌, ◌+◌, [], sum_by, All, AllPairs, ◌≢◌, None, IfOk};
 ghost use Rattle.std.specs.Prelude.{IfErr, OnOk, IfSome, IfNone, is_some, true, false, IsSome};
 ghost use Rattle.nvm_board.specs.Cut.{cut_facts};
-ghost use Rattle.card_bench.specs.declared.playing.Item.TheVariants.{Dark};
+ghost use Rattle.card_turns.specs.declared.playing.Item.TheVariants.{Dark};
 ghost use Rattle.command_base.specs.Finding.{HasCard};
-ghost use Rattle.card_bench.specs.Plays.{IsGood};
-ghost use Rattle.card_bench.specs.BenchStates.{IsWell, bench_facts};
-ghost use Rattle.card_bench.specs.Turns.{Runs};
+ghost use Rattle.card_turns.specs.Plays.{IsGood};
+ghost use Rattle.card_turns.specs.BenchStates.{IsWell, bench_facts};
+ghost use Rattle.card_turns.specs.Turns.{Runs};
 ghost use Rattle.card_bench.specs.Tallies.{findings, count_of, Counts};
 ghost use Rattle.card_bench.specs.declared.sweeping.Stop.TheVariants.{Memory};
 ghost use Rattle.card_bench.specs.PlanParts.{board_of, AreAll, AreAtWrite, IsGiven, Sweeps};
@@ -14,11 +14,10 @@ ghost use Rattle.card_bench.specs.SweptRuns.{SparesCommand, IsOneLook, AreAllBeh
 ghost use Rattle.card_bench.specs.Sweeps.{CutsCommand, CutsStart, SparesStart, EndsIn, EndsBehindStarts};
 ghost use Rattle.card_bench.specs.Sweeps.{GivenByRun, free_of};
 
-use crate::came::Came;
 use crate::masks::{mask_at, mask_count, words_to_try};
-use crate::playing::{Bench, Turn};
 use crate::tally::{Sweep, Trace, blank_trace};
 use card_core::FreeSpace;
+use card_turns::{Bench, Came, Turn};
 use nvm_board::CutBoard;
 use std::alloc::{AllocError, Global};
 use t1_link::BlockBytes;

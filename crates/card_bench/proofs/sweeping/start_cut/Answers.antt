@@ -1,5 +1,5 @@
 use Rattle.std.proofs.Common.{◌≡◌, ◌∙◌, ap, false, refl, sym, true≢false}
-use Rattle.card_bench.specs.declared.came.Came.TheVariants as came
+use Rattle.card_turns.specs.declared.came.Came.TheVariants as came
 use Rattle.card_bench.specs.Sweeps.{off_with}
 use Rattle.card_bench.proofs.SweepLemmas.{if-none, spares-start}
 use Rattle.card_bench.proofs.sweeping.start_cut.Goals as goal

@@ -1,8 +1,0 @@
-use Rattle.std.proofs.Common.{take}
-use Rattle.card_bench.specs.Plays.{PlaysAll}
-use Rattle.card_bench.proofs.playing.Bench.play.Given as goal
-
-abbrev pub invariant-loop-i : goal.invariant-loop-i
-invariant-loop-i g l = record {
-  so_far : PlaysAll l.initial.self (take l.i l.turns) (take l.i l.trace) l.self;
-}

@@ -1,6 +1,0 @@
-use Rattle.card_bench.proofs.TurnsTold.{good-turn}
-use Rattle.card_bench.proofs.playing.Bench.turn_well.Goals as goal
-
-pub returns : goal.returns
-returns g c = λ good.
-    good-turn _ _ _ _ _ c.has_no_fault.ensures.faults c.has_no_fault.ensures.due good c.turn-came.ensures

@@ -1,0 +1,76 @@
+-- A block in which a whole command came: what the card makes of the command is what it makes of the block.
+use Rattle.std.specs.Prelude.{◌≡◌, ◌⊎◌, ℕ, List, [], Option, Some, unwrap_or}
+use Rattle.std.proofs.Common.{ap, inl, inr, refl, subst, sym, ◌∙◌}
+use Rattle.t1_link.specs.CardTable.{Reaction, answers, reply_bytes, command_of, link_step, replies, runs}
+use Rattle.card_core.specs.Running.{FailsIn, IsCutIn, Steps, card_found, memory_failure}
+use Rattle.card_model.specs.Steps.{answer_bytes}
+use Rattle.card_turns.specs.CardBlocks.{BlockCounts, FailsAt, IsCutAt, IsRun, Powered, Replies, answering}
+use Rattle.card_turns.specs.CardBlocks.{card_by, machine, session_by}
+
+-- a fact of the reaction that runs a command, where that command waits
+pub of-run : (P : Reaction → Type 0) (reaction : Reaction) (bytes : List ℕ) → command_of reaction ≡ Some bytes
+    → P (runs bytes) → P reaction
+of-run P (replies block) bytes waits holds = absurd cc
+of-run P (runs command) bytes waits holds =
+    subst (λ (l : List ℕ). P (runs l)) (sym (ap (λ (o : Option (List ℕ)). unwrap_or o []) waits)) holds
+
+-- power was lost in the command
+pub cut-at : (p new : Powered) (got bytes answer out : List ℕ) → command_of (link_step p.link got).reaction ≡ Some bytes
+    → out ≡ reply_bytes (link_step p.link got).reaction → IsCutIn p.card new.card answer → IsCutAt p got new out
+cut-at p new got bytes answer out waits block cut = record {
+  power = cut.power;
+  run = of-run IsRun (link_step p.link got).reaction bytes waits tt;
+  state = cut.state;
+  session = cut.session;
+  block = block ∙ of-run (λ (r : Reaction). reply_bytes r ≡ []) (link_step p.link got).reaction bytes waits refl;
+}
+
+module _ (p new : Powered) (got bytes answer out : List ℕ) where
+  module _ (waits : command_of (link_step p.link got).reaction ≡ Some bytes)
+      (link : new.link ≡ (answers (link_step p.link got).link answer).link)
+      (block : out ≡ reply_bytes (answers (link_step p.link got).link answer).reaction) where
+    -- the link goes on with the answer to the command, which is that of the card
+    linked : (answer_to : List ℕ → List ℕ) → answer ≡ answer_to bytes
+        → new.link ≡ (answering (link_step p.link got).link (link_step p.link got).reaction answer_to).link
+    linked answer_to is =
+        of-run (λ (r : Reaction). new.link ≡ (answering (link_step p.link got).link r answer_to).link)
+        (link_step p.link got).reaction bytes waits
+        (link ∙ ap (λ (l : List ℕ). (answers (link_step p.link got).link l).link) is)
+
+    blocked : (answer_to : List ℕ → List ℕ) → answer ≡ answer_to bytes
+        → out ≡ reply_bytes (answering (link_step p.link got).link (link_step p.link got).reaction answer_to).reaction
+    blocked answer_to is =
+        of-run (λ (r : Reaction). out ≡ reply_bytes (answering (link_step p.link got).link r answer_to).reaction)
+        (link_step p.link got).reaction
+        bytes waits (block ∙ ap (λ (l : List ℕ). reply_bytes (answers (link_step p.link got).link l).reaction) is)
+
+    steps-replies : Steps p.card bytes new.card answer → Replies p got new out
+    steps-replies steps = record {
+      power = steps.power;
+      state = steps.state;
+      card = of-run (λ (r : Reaction). card_found new.card ≡ card_by (card_found p.card) r
+          (λ command. (machine p command).card)) (link_step p.link got).reaction bytes waits steps.card;
+      session = of-run (λ (r : Reaction). new.card.session ≡ session_by p.card.session r
+          (λ command. (machine p command).session)) (link_step p.link got).reaction bytes waits steps.session;
+      link = linked (λ command. answer_bytes (machine p command).response) steps.answered;
+      block = blocked (λ command. answer_bytes (machine p command).response) steps.answered;
+      counted = of-run (λ (r : Reaction). BlockCounts p r new) (link_step p.link got).reaction
+          bytes waits steps.counted;
+    }
+
+    fails-at : FailsIn p.card new.card answer → FailsAt p got new out
+    fails-at fails = record {
+      power = fails.power;
+      run = of-run IsRun (link_step p.link got).reaction bytes waits tt;
+      session = fails.session;
+      reply = record {
+        state = fails.state;
+        link = linked (λ command. memory_failure) fails.answered;
+        block = blocked (λ command. memory_failure) fails.answered;
+      };
+    }
+
+    pub run-replies : Steps p.card bytes new.card answer ⊎ FailsIn p.card new.card answer
+        → Replies p got new out ⊎ FailsAt p got new out
+    run-replies (inl steps) = inl (steps-replies steps)
+    run-replies (inr fails) = inr (fails-at fails)

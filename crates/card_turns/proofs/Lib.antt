@@ -1,0 +1,9 @@
+pub mod BlockGuesses
+pub mod BlockRuns
+pub mod CardStates
+pub mod FewGuesses
+pub mod PlayedTurns
+pub mod PowerTurns
+pub mod TurnsTold
+pub mod Wearing
+pub mod GuessesPaid

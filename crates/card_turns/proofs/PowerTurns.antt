@@ -1,0 +1,259 @@
+-- A power-on, by how the start of the card ended.
+use Rattle.std.specs.Prelude.{◌≡◌, ◌≤◌, ◌+◌, ◌⊎◌, ℕ, true, false, List, Option, IfSome}
+use Rattle.std.proofs.Common.{arith, ap, inl, inr, refl, subst, sym, ◌∙◌, true≢false}
+use Rattle.nvm_board.specs.Aims.{Aim, aim, KeepsAim}
+use Rattle.nvm_board.specs.Facts.{Facts, GoesDark, IsMemory, IsWorn, IsWornOut, Steady}
+use Rattle.undo_journal.specs.declared.layout.TheConstants.{PAIRS}
+use Rattle.undo_journal.specs.Spending.{WritesAtMost, start_writes}
+use Rattle.card_core.specs.declared.faults.StartFault.{StartFault}
+use Rattle.card_core.specs.declared.faults.StartFault.TheVariants.{PowerLost, Fault, BadJournal, Damaged}
+use Rattle.command_base.specs.Comparing.{Comparisons, comparisons}
+use Rattle.command_base.specs.Finding.{FindsAgain, HasCard, found}
+use Rattle.card_core.specs.Running.{Starts, StartStopsBy}
+use Rattle.card_core.specs.Starting.{power_on_writes, renewal_writes}
+use Rattle.t1_link.specs.CardTable.{fresh}
+use Rattle.card_turns.specs.declared.playing.Turn.TheVariants as turn
+use Rattle.card_turns.specs.declared.playing.Item.TheVariants as item
+use Rattle.card_turns.specs.BenchStates.{BenchState, off, on, bench_facts}
+use Rattle.card_turns.specs.CardBlocks.{Powered}
+use Rattle.card_turns.specs.Guessing.{GuessesFew}
+use Rattle.card_turns.specs.Plays.{Plays}
+use Rattle.card_turns.specs.Turns.{LeavesCard, Wears, most_renewal, turn_writes}
+use Rattle.card_turns.proofs.FewGuesses.{pays-nothing, writing-compares}
+use Rattle.card_turns.proofs.Wearing.{aims-off, few-renewal, few-start, wears-writing}
+
+-- power goes off
+pub turns_off : (old new : BenchState) → new ≡ off (record (bench_facts old) { dark = true })
+    → Plays old turn.Off item.Quiet new
+turns_off old new is = subst (λ (b : BenchState). Plays old turn.Off item.Quiet b) (sym is) (record {
+  has_card = λ before. before;
+  counts = record {
+    cuts = omega arith;
+    due = inl (omega arith);
+    faults = omega arith;
+    more = omega arith;
+    cut = inl refl;
+  };
+  well = λ good. tt;
+  guesses = pays-nothing old (off (record (bench_facts old) { dark = true })) refl refl;
+  one = λ before good. refl;
+  wears = λ before good.
+      wears-writing 0 (bench_facts old) (record (bench_facts old) { dark = true }) refl (omega arith) refl;
+})
+
+-- the bench before, and its board with power off
+module _ (old : BenchState) (dark : Facts) (darkened : dark ≡ record (bench_facts old) { dark = true }) where
+  same-words : dark.words ≡ (bench_facts old).words
+  same-words = ap (λ (f : Facts). f.words) darkened
+
+  same-counts : comparisons dark ≡ comparisons (bench_facts old)
+  same-counts = ap comparisons darkened
+
+  -- a count of the board stands at its end, so that the card stays mute
+  pub stays_mute : (new : Facts) → IsWornOut dark → new ≡ dark → Plays old turn.On item.Mute (off new)
+  stays_mute new worn same =
+      let is : new ≡ record (bench_facts old) { dark = true } = same ∙ darkened in
+      let words : new.words ≡ (bench_facts old).words = ap (λ (f : Facts). f.words) is in
+      let cuts : new.cuts ≡ (bench_facts old).cuts = ap (λ (f : Facts). f.cuts) is in
+      let due : new.due ≡ (bench_facts old).due = ap (λ (f : Facts). f.due) is in
+      let faults : new.faults ≡ (bench_facts old).faults = ap (λ (f : Facts). f.faults) is in
+      let writes : new.writes ≡ (bench_facts old).writes = ap (λ (f : Facts). f.writes) is in
+      record {
+        has_card = λ before. subst HasCard (sym words) before;
+        counts = record {
+          cuts = omega (arith, cuts);
+          due = inl (omega (arith, due));
+          faults = omega (arith, faults);
+          more = omega (arith, writes);
+          cut = inl (ap aim is);
+        };
+        well = λ good. tt;
+        guesses = pays-nothing old (off new) (ap found words) (ap comparisons is);
+        one = λ before good. (ap (λ (f : Facts). off f) is, subst IsWornOut (sym same) worn);
+        wears = λ before good.
+            wears-writing (turn_writes old turn.On) (bench_facts old) new faults
+            (omega (arith, writes)) (ap comparisons is);
+      }
+
+  -- the board with power on
+  module _ (lit : Facts) (lights : lit ≡ record dark { dark = false }) (sized : IsMemory lit.words) where
+    lit-words : lit.words ≡ (bench_facts old).words
+    lit-words = ap (λ (f : Facts). f.words) lights ∙ same-words
+
+    lit-cuts : lit.cuts ≡ (bench_facts old).cuts
+    lit-cuts = ap (λ (f : Facts). f.cuts) lights ∙ ap (λ (f : Facts). f.cuts) darkened
+
+    lit-due : lit.due ≡ (bench_facts old).due
+    lit-due = ap (λ (f : Facts). f.due) lights ∙ ap (λ (f : Facts). f.due) darkened
+
+    lit-faults : lit.faults ≡ (bench_facts old).faults
+    lit-faults = ap (λ (f : Facts). f.faults) lights ∙ ap (λ (f : Facts). f.faults) darkened
+
+    lit-writes : lit.writes ≡ (bench_facts old).writes
+    lit-writes = ap (λ (f : Facts). f.writes) lights ∙ ap (λ (f : Facts). f.writes) darkened
+
+    lit-counts : comparisons lit ≡ comparisons (bench_facts old)
+    lit-counts = ap comparisons lights ∙ same-counts
+
+    found-again : (new : List ℕ) → FindsAgain lit.words new → found new ≡ found (bench_facts old).words
+    found-again new again = again.card ∙ ap found lit-words
+
+    has-card-again : (new : List ℕ) → FindsAgain lit.words new → HasCard (bench_facts old).words → HasCard new
+    has-card-again new again before = again.there.1 (subst HasCard (sym lit-words) before)
+
+    -- a cut that is set is the same with power on
+    lit-aims : (new : Facts) → KeepsAim lit new → KeepsAim (bench_facts old) new
+    lit-aims new (inl same) = inl (same ∙ ap aim lights ∙ ap aim darkened)
+    lit-aims new (inr fell) = inr (record {
+      dark = fell.dark;
+      none = fell.none;
+      there = subst (λ (o : Option Aim). IfSome o (λ a. (new.writes + 1 ≡ a.write) ⊎ (new.writes ≡ a.write)))
+          (ap aim lights ∙ ap aim darkened) fell.there;
+    })
+
+    -- what a start takes of the board's counts
+    start-wears : (new : Facts) → WritesAtMost (power_on_writes lit) lit new → HasCard (bench_facts old).words
+        → new.faults ≡ (bench_facts old).faults → Wears (turn_writes old turn.On) (bench_facts old) new
+    start-wears new spent before faults =
+        let few : start_writes lit ≤ PAIRS + 1 = few-start lit (subst HasCard (sym lit-words) before) in
+        let renewal : renewal_writes lit.words ≤ most_renewal (bench_facts old).words =
+        subst (λ (l : List ℕ). renewal_writes lit.words ≤ most_renewal l) lit-words (few-renewal lit.words sized) in
+        let most = spent.writes in
+        wears-writing (turn_writes old turn.On)
+        (bench_facts old) new faults (omega (arith, few, renewal, most, lit-writes))
+        (writing-compares (power_on_writes lit) lit new spent ∙ lit-counts)
+
+    -- what a start leaves
+    leaves : (new : BenchState) → FindsAgain lit.words (bench_facts new).words
+        → comparisons (bench_facts new) ≡ comparisons (bench_facts old) → LeavesCard old new
+    leaves new again same = record {
+      card = found-again (bench_facts new).words again;
+      compares = ap (λ (c : Comparisons). c.compares) same;
+      matches = ap (λ (c : Comparisons). c.matches) same;
+    }
+
+    -- the card starts
+    pub starts : (p : Powered) → Starts lit p.card → p.link ≡ fresh → FindsAgain lit.words p.card.facts.words
+        → WritesAtMost (power_on_writes lit) lit p.card.facts → Plays old turn.On item.Atr (on p)
+    starts p started link again spent =
+        let power = started.power in
+        let counts = writing-compares (power_on_writes lit) lit p.card.facts spent in
+        record {
+          has_card = has-card-again p.card.facts.words again;
+          counts = record {
+            cuts = omega (arith, power.cuts, lit-cuts);
+            due = inl (omega (arith, power.due, lit-due));
+            faults = omega (arith, power.faults, lit-faults);
+            more = let more = spent.more in omega (arith, more, lit-writes);
+            cut = lit-aims p.card.facts spent.cut.cut;
+          };
+          well = λ good. started.state;
+          guesses = pays-nothing old (on p) (found-again p.card.facts.words again) (counts ∙ lit-counts);
+          one = λ before good.
+              ((started.session, link, started.state, power.lit), leaves (on p) again (counts ∙ lit-counts));
+          wears = λ before good. start-wears p.card.facts spent before good.faults;
+        }
+
+    dark-lit : lit.dark ≡ true → ⊥
+    dark-lit is = true≢false (sym is ∙ ap (λ (f : Facts). f.dark) lights)
+
+    -- the board, power off, after a start that stopped
+    module _ (stopped new : Facts) (again : FindsAgain lit.words stopped.words)
+        (turned : new ≡ record stopped { dark = true }) (spent : WritesAtMost (power_on_writes lit) lit stopped) where
+      new-words : new.words ≡ stopped.words
+      new-words = ap (λ (f : Facts). f.words) turned
+
+      unlit : new.dark ≡ true
+      unlit = ap (λ (f : Facts). f.dark) turned
+
+      same-comparisons : comparisons new ≡ comparisons (bench_facts old)
+      same-comparisons = ap comparisons turned ∙ writing-compares (power_on_writes lit) lit stopped spent ∙ lit-counts
+
+      rests : LeavesCard old (off new)
+      rests = leaves (off new) (subst (FindsAgain lit.words) (sym new-words) again) same-comparisons
+
+      has-card : HasCard (bench_facts old).words → HasCard new.words
+      has-card before = subst HasCard (sym new-words) (has-card-again stopped.words again before)
+
+      guesses : GuessesFew old (off new)
+      guesses = pays-nothing old (off new) rests.card same-comparisons
+
+      spent-so : WritesAtMost (power_on_writes lit) lit new
+      spent-so = subst (λ (f : Facts). WritesAtMost (power_on_writes lit) lit f) (sym turned) (record {
+        writes = spent.writes;
+        more = spent.more;
+        cut = record { off = λ is. absurd (dark-lit is); cut = aims-off lit stopped spent.cut.cut };
+        compares = spent.compares;
+        matches = spent.matches;
+      })
+
+      lost-so : GoesDark lit stopped → Plays old turn.On item.Dark (off new)
+      lost-so lost =
+          let cuts : new.cuts ≡ stopped.cuts = ap (λ (f : Facts). f.cuts) turned in
+          let faults : new.faults ≡ stopped.faults = ap (λ (f : Facts). f.faults) turned in
+          let due : new.due ≡ stopped.due = ap (λ (f : Facts). f.due) turned in
+          record {
+            has_card = has-card;
+            counts = record {
+              cuts = omega (arith, lost.cuts, cuts, lit-cuts);
+              due = elim lost.due [
+                | inl spent ↦ inl (omega (arith, spent, due, lit-due))
+                | inr worn ↦ inr (subst IsWorn (sym turned) worn.0, omega (arith, worn.1, due, lit-due))
+              ];
+              faults = omega (arith, lost.faults, faults, lit-faults);
+              more = let more = spent-so.more in omega (arith, more, lit-writes);
+              cut = lit-aims new spent-so.cut.cut;
+            };
+            well = λ good. tt;
+            guesses = guesses;
+            one = λ before good. (unlit, rests);
+            wears = λ before good. start-wears new spent-so before good.faults;
+          }
+
+      -- power was lost in the start
+      pub ends_dark : (why : StartFault) → why ≡ PowerLost → StartStopsBy why lit stopped
+          → Plays old turn.On item.Dark (off new)
+      ends_dark why is stops = elim (subst (λ (e : StartFault). StartStopsBy e lit stopped) is stops) [
+        | inl lost ↦ lost-so lost
+        | inr was ↦ absurd (dark-lit was.0)
+      ]
+
+      -- the device failed, or no card starts: then there was none, or a fault is counted
+      mute-so : stopped.cuts ≡ lit.cuts → stopped.due ≡ lit.due → lit.faults ≤ stopped.faults
+          → (HasCard (bench_facts old).words → stopped.faults ≡ lit.faults → ⊥) → Plays old turn.On item.Mute (off new)
+      mute-so same_cuts same_due more none =
+          let cuts : new.cuts ≡ stopped.cuts = ap (λ (f : Facts). f.cuts) turned in
+          let faults : new.faults ≡ stopped.faults = ap (λ (f : Facts). f.faults) turned in
+          let due : new.due ≡ stopped.due = ap (λ (f : Facts). f.due) turned in
+          record {
+            has_card = has-card;
+            counts = record {
+              cuts = omega (arith, same_cuts, cuts, lit-cuts);
+              due = inl (omega (arith, same_due, due, lit-due));
+              faults = omega (arith, more, faults, lit-faults);
+              more = let written = spent-so.more in omega (arith, written, lit-writes);
+              cut = lit-aims new spent-so.cut.cut;
+            };
+            well = λ good. tt;
+            guesses = guesses;
+            one = λ before good. absurd (none before (omega (arith, good.faults, faults, lit-faults)));
+            wears = λ before good. start-wears new spent-so before good.faults;
+          }
+
+      steady-so : Steady lit stopped → (HasCard lit.words → ⊥) → Plays old turn.On item.Mute (off new)
+      steady-so steady none =
+          mute-so steady.cuts steady.due (omega (arith, steady.faults))
+          (λ before same. none (subst HasCard (sym lit-words) before))
+
+      pub ends_mute : (why : StartFault) → (why ≡ Fault) ⊎ (why ≡ BadJournal) ⊎ (why ≡ Damaged)
+          → StartStopsBy why lit stopped → Plays old turn.On item.Mute (off new)
+      ends_mute PowerLost is stops = elim is [
+        | inl other ↦ absurd cc
+        | inr (inl other) ↦ absurd cc
+        | inr (inr other) ↦ absurd cc
+      ]
+      ends_mute Fault is stops =
+          mute-so stops.cuts stops.due (omega (arith, stops.faults))
+          (λ before same. let rises = stops.faults in omega (arith, rises, same))
+      ends_mute BadJournal is stops = steady-so stops.1 (λ before. stops.0 before.journal)
+      ends_mute Damaged is stops = steady-so stops.2 (λ before. stops.1 before.words)

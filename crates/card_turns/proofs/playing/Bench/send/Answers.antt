@@ -1,0 +1,57 @@
+use Rattle.std.proofs.Common.{rules, sym}
+use Rattle.t1_link.specs.CardTable.{link_step}
+use Rattle.command_base.specs.declared.spending.TheConstants.{COMMAND_WRITES}
+use Rattle.card_core.specs.Running.{card_found}
+use Rattle.card_turns.specs.BenchStates.{on}
+use Rattle.card_turns.specs.Plays.{HasNoFault}
+use Rattle.card_turns.specs.Turns.{Wears}
+use Rattle.card_turns.proofs.BlockGuesses.{block-compares, block-counts, block-pays}
+use Rattle.card_turns.proofs.GuessesPaid.{paid-few}
+use Rattle.card_turns.proofs.PlayedTurns.{hears_nothing, plays_cut}
+use Rattle.card_turns.proofs.Wearing.{wears-shown}
+use Rattle.card_turns.proofs.playing.Bench.send.Goals as goal
+
+pub returns-in-Err : goal.returns-in-Err
+returns-in-Err g c =
+    let kept = rw c.in-On.is at c.self.invariant in
+    let old = rw c.in-On.is at c.self.view_is in
+    rw (← old, c.replace_with.ensures.0)
+    (plays_cut c.in-On.powered
+    c.block.new.self c.args.block.now _ (c.in-Err.ensures.lost kept.0) c.in-Err.ensures.has_card c.in-Err.ensures.stage
+    (block-pays c.in-On.powered c.block.new.self (link_step c.in-On.powered.link c.args.block.now).reaction
+    c.in-Err.ensures.stage c.in-Err.ensures.compares kept.1 c.in-Err.ensures.has_card)
+    (block-compares c.in-On.powered c.block.new.self (link_step c.in-On.powered.link c.args.block.now).reaction
+    c.in-Err.ensures.stage c.in-Err.ensures.compares) c.in-Err.ensures.writes
+    c.in-Err.ensures.advances c.in-Err.ensures.stands)
+
+pub returns-in-Ok : goal.returns-in-Ok
+returns-in-Ok g c =
+    let kept = rw c.in-On.is at c.self.invariant in
+    let lit = kept.0 in
+    let old = rw c.in-On.is at c.self.view_is in
+    let guesses = paid-few (on c.in-On.powered) (on c.block.new.self)
+    (block-pays c.in-On.powered c.block.new.self (link_step c.in-On.powered.link c.args.block.now).reaction
+    c.in-Ok.ensures.stage c.in-Ok.ensures.compares kept.1 c.in-Ok.ensures.has_card) in
+    let wears : HasNoFault (on c.in-On.powered) (on c.block.new.self)
+    → Wears COMMAND_WRITES c.in-On.powered.card.facts c.block.new.self.card.facts =
+    λ good. wears-shown COMMAND_WRITES (card_found c.in-On.powered.card) (card_found c.block.new.self.card)
+    c.in-On.powered.card.facts c.block.new.self.card.facts
+    (block-compares c.in-On.powered c.block.new.self (link_step c.in-On.powered.link c.args.block.now).reaction
+    c.in-Ok.ensures.stage c.in-Ok.ensures.compares) good.faults c.in-Ok.ensures.writes in
+    let more = c.in-Ok.ensures.advances.more in
+    let cut = c.in-Ok.ensures.advances.cut.cut in
+    rw (← old) (search (rules, lit, guesses, wears, more, cut))
+
+pub invariant_of-self-in-Ok : goal.invariant_of-self-in-Ok
+invariant_of-self-in-Ok g c =
+    let kept = rw c.in-On.is at c.self.invariant in
+    let lit = kept.0 in (
+      search (rules, lit),
+      block-counts c.in-On.powered c.block.new.self (link_step c.in-On.powered.link c.args.block.now).reaction
+          c.in-Ok.ensures.stage c.in-Ok.ensures.compares kept.1,
+    )
+
+pub returns-in-Off : goal.returns-in-Off
+returns-in-Off g c =
+    hears_nothing _ _ (g.B.Board.facts c.in-Off.field-0) c.args.block.now
+    (sym (rw c.in-Off.is at c.self.view_is)) c.self.view_is

@@ -1,0 +1,15 @@
+use Rattle.card_turns.proofs.TurnsTold.{plays-block, tells-so}
+use Rattle.std.proofs.Common.{subst, sym}
+use Rattle.card_turns.specs.declared.playing.Turn.{Turn}
+use Rattle.card_turns.specs.declared.playing.Turn.TheVariants as turn
+use Rattle.card_turns.specs.Plays.{Plays, PlaysBlock, TellsItem}
+use Rattle.card_turns.proofs.playing.Bench.turn.Goals as goal
+
+pub returns-in-Block : goal.returns-in-Block
+returns-in-Block g c =
+    let old = c.args.self.now in
+    let new = c.send.new.self in
+    let reply = c.send.new.reply in
+    subst (λ (t : Turn). TellsItem c.send.result reply (λ i. Plays old t i new)) (sym c.in-Block.is)
+    (tells-so c.send.result reply (λ i. PlaysBlock old c.in-Block.block.now i new)
+    (λ i. Plays old (turn.Block c.in-Block.block) i new) (plays-block old new c.in-Block.block) c.send.ensures)

@@ -1,0 +1,151 @@
+use Rattle.undo_journal.specs.Spending.{KeepsBoard}
+use Rattle.std.specs.Prelude.{◌≡◌, ◌⊎◌, ◌≢◌, ℕ, List, [], Option, Some, unwrap_or}
+use Rattle.std.proofs.Common.{rules, ap, sym, refl, subst, ◌∙◌}
+use Rattle.card_core.specs.declared.state.CardState.TheVariants.{Working, Dark}
+use Rattle.card_model.specs.CommandTable.{asked}
+use Rattle.t1_link.specs.CardTable.{answers, reply_bytes, command_of, link_step, CardLink, Link, Reaction}
+use Rattle.t1_link.specs.CardTable.{replies, runs}
+use Rattle.command_base.specs.Comparing.{comparisons, ComparesAsked}
+use Rattle.card_core.specs.Running.{card_found}
+use Rattle.command_base.specs.laws.CompareLaws.{asked-none}
+use Rattle.card_turns.specs.CardBlocks.{BlockChangesNothing, BlockCompares, BlockStands, FailsAt, IsBlockStage, IsCutAt}
+use Rattle.card_turns.specs.CardBlocks.{Powered, Replies}
+use Rattle.card_turns.proofs.BlockRuns.{cut-at, of-run, run-replies}
+use Rattle.card_turns.proofs.CardStates.{on_err, works_if_cut}
+use Rattle.card_turns.proofs.powered.Powered.block.Goals as goal
+
+-- a card that stays compared nothing
+kept-compares : (p : Powered) (reaction : Reaction) → BlockCompares p reaction p
+kept-compares p (replies block) = refl
+kept-compares p (runs command) =
+    asked-none (asked command) (card_found p.card) (comparisons p.card.facts) (card_found p.card)
+    (comparisons p.card.facts) refl refl
+
+pub returns-in-Dark-clause-compares : goal.returns-in-Dark-clause-compares
+returns-in-Dark-clause-compares g c =
+    kept-compares c.args.self.now (link_step c.args.self.now.link c.args.got.now).reaction
+
+-- and where a command waits, the block compares what the command does
+run-compares : (p new : Powered) (reaction : Reaction) (bytes : List ℕ) → command_of reaction ≡ Some bytes
+    → ComparesAsked (asked bytes) (card_found p.card) (comparisons p.card.facts) (card_found new.card)
+    (comparisons new.card.facts)
+    → BlockCompares p reaction new
+run-compares p new (replies block) bytes waits compares = cc
+run-compares p new (runs command) bytes waits compares =
+    subst (λ (o : Option (List ℕ)). ComparesAsked (asked (unwrap_or o [])) (card_found p.card)
+    (comparisons p.card.facts) (card_found new.card) (comparisons new.card.facts)) (sym waits) compares
+
+pub returns-in_err-command-in-Run-clause-compares : goal.returns-in_err-command-in-Run-clause-compares
+returns-in_err-command-in-Run-clause-compares g c =
+    let new : Powered = record { card = c.command-in-Run.new.self; link = c.take.new.self.link } in
+    let waits = ap (λ (e : CardLink). e.waiting) (sym c.take.ensures.state) ∙ c.command.ensures in
+    subst (λ (p : Powered). BlockCompares p (link_step p.link c.args.got.now).reaction new) c.self.view_is
+    (run-compares (record { card = c.self.inside.card; link = c.self.inside.link.link }) new
+    (link_step c.self.inside.link.link c.args.got.now).reaction c.command.result.now waits
+    c.command-in-Run.ensures.compares)
+
+pub returns-in_err-command-in-Run-clause-lost : goal.returns-in_err-command-in-Run-clause-lost
+returns-in_err-command-in-Run-clause-lost g c =
+    let old : Powered = record { card = c.self.inside.card; link = c.self.inside.link.link } in
+    let new : Powered = record { card = c.command-in-Run.new.self; link = c.take.new.self.link } in
+    let got = c.args.got.now in
+    let out = c.take.new.out in
+    let waits = ap (λ (e : CardLink). e.waiting) (sym c.take.ensures.state) ∙ c.command.ensures in
+    let cut : c.args.self.now.card.state ≢ Dark → IsCutAt c.args.self.now got new out =
+    subst (λ (p : Powered). p.card.state ≢ Dark → IsCutAt p got new out) c.self.view_is
+    (λ lit.
+    let works : old.card.state ≡ Working = works_if_cut _ _ lit c.in_err-command-in-Run.ensures.failed (λ f. cc) in
+    cut-at old new got c.command.result.now c.command-in-Run.new.answer.items out waits c.take.ensures.block
+    (c.in_err-command-in-Run.ensures.lost works)) in
+    on_err _ _ cut
+
+pub returns-in_ok-command-in-Run-clause-stage : goal.returns-in_ok-command-in-Run-clause-stage
+returns-in_ok-command-in-Run-clause-stage g c =
+    let old : Powered = record { card = c.self.inside.card; link = c.self.inside.link.link } in
+    let waits = ap (λ (e : CardLink). e.waiting) (sym c.take.ensures.state) ∙ c.command.ensures in
+    let card = card_found c.command-in-Run.new.self in
+    subst (λ (p : Powered). IsBlockStage p (link_step p.link c.args.got.now).reaction card) c.self.view_is
+    (of-run (λ (r : Reaction). IsBlockStage old r card) (link_step old.link c.args.got.now).reaction
+    c.command.result.now waits c.command-in-Run.ensures.stage)
+
+pub returns-in_ok-command-in-Run-clause-idle : goal.returns-in_ok-command-in-Run-clause-idle
+returns-in_ok-command-in-Run-clause-idle g c =
+    let old : Powered = record { card = c.self.inside.card; link = c.self.inside.link.link } in
+    let waits = ap (λ (e : CardLink). e.waiting) (sym c.take.ensures.state) ∙ c.command.ensures in
+    let facts = c.command-in-Run.new.self.facts in
+    subst (λ (p : Powered). BlockChangesNothing p (link_step p.link c.args.got.now).reaction
+    → KeepsBoard p.card.facts facts) c.self.view_is
+    (of-run (λ (r : Reaction). BlockChangesNothing old r → KeepsBoard old.card.facts facts)
+    (link_step old.link c.args.got.now).reaction c.command.result.now waits c.command-in-Run.ensures.idle)
+
+pub returns-in_err-command-in-Run-clause-stage : goal.returns-in_err-command-in-Run-clause-stage
+returns-in_err-command-in-Run-clause-stage g c =
+    let old : Powered = record { card = c.self.inside.card; link = c.self.inside.link.link } in
+    let waits = ap (λ (e : CardLink). e.waiting) (sym c.take.ensures.state) ∙ c.command.ensures in
+    let card = card_found c.command-in-Run.new.self in
+    subst (λ (p : Powered). IsBlockStage p (link_step p.link c.args.got.now).reaction card) c.self.view_is
+    (of-run (λ (r : Reaction). IsBlockStage old r card) (link_step old.link c.args.got.now).reaction
+    c.command.result.now waits c.command-in-Run.ensures.stage)
+
+pub returns-in_err-command-in-Run-clause-idle : goal.returns-in_err-command-in-Run-clause-idle
+returns-in_err-command-in-Run-clause-idle g c =
+    let old : Powered = record { card = c.self.inside.card; link = c.self.inside.link.link } in
+    let waits = ap (λ (e : CardLink). e.waiting) (sym c.take.ensures.state) ∙ c.command.ensures in
+    let facts = c.command-in-Run.new.self.facts in
+    subst (λ (p : Powered). BlockChangesNothing p (link_step p.link c.args.got.now).reaction
+    → KeepsBoard p.card.facts facts) c.self.view_is
+    (of-run (λ (r : Reaction). BlockChangesNothing old r → KeepsBoard old.card.facts facts)
+    (link_step old.link c.args.got.now).reaction c.command.result.now waits c.command-in-Run.ensures.idle)
+
+pub returns-in_ok-command-in-Run-clause-compares : goal.returns-in_ok-command-in-Run-clause-compares
+returns-in_ok-command-in-Run-clause-compares g c =
+    let new : Powered = record { card = c.command-in-Run.new.self; link = c.answer.new.self.link } in
+    let waits = ap (λ (e : CardLink). e.waiting) (sym c.take.ensures.state) ∙ c.command.ensures in
+    subst (λ (p : Powered). BlockCompares p (link_step p.link c.args.got.now).reaction new) c.self.view_is
+    (run-compares (record { card = c.self.inside.card; link = c.self.inside.link.link }) new
+    (link_step c.self.inside.link.link c.args.got.now).reaction c.command.result.now waits
+    c.command-in-Run.ensures.compares)
+
+pub returns-in_ok-command-in-Run-clause-replies : goal.returns-in_ok-command-in-Run-clause-replies
+returns-in_ok-command-in-Run-clause-replies g c =
+    let old : Powered = record { card = c.self.inside.card; link = c.self.inside.link.link } in
+    let new : Powered = record { card = c.command-in-Run.new.self; link = c.answer.new.self.link } in
+    let got = c.args.got.now in
+    let out = c.answer.new.out in
+    let bytes = c.command-in-Run.new.answer.items in
+    let waits = ap (λ (e : CardLink). e.waiting) (sym c.take.ensures.state) ∙ c.command.ensures in
+    let taken = ap (λ (e : CardLink). e.link) c.take.ensures.state in
+    let link = ap (λ (e : CardLink). e.link) c.answer.ensures.state ∙ ap (λ (l : Link). (answers l bytes).link) taken in
+    let block = c.answer.ensures.block ∙ ap (λ (l : Link). reply_bytes (answers l bytes).reaction) taken in
+    subst (λ (p : Powered). p.card.state ≡ Working → Replies p got new out ⊎ FailsAt p got new out) c.self.view_is
+    (λ works. run-replies old new got c.command.result.now bytes out waits link block
+    (c.in_ok-command-in-Run.ensures.done works))
+
+pub returns-in-Reply-clause-lost : goal.returns-in-Reply-clause-lost
+returns-in-Reply-clause-lost g c = tt
+
+pub returns-in-Reply-clause-unlit : goal.returns-in-Reply-clause-unlit
+returns-in-Reply-clause-unlit g c = tt
+
+pub returns-in-Reply-clause-failed : goal.returns-in-Reply-clause-failed
+returns-in-Reply-clause-failed g c = search rules
+
+pub returns-in_ok-command-in-Run-clause-stands : goal.returns-in_ok-command-in-Run-clause-stands
+returns-in_ok-command-in-Run-clause-stands g c =
+    let old : Powered = record { card = c.self.inside.card; link = c.self.inside.link.link } in
+    let waits = ap (λ (e : CardLink). e.waiting) (sym c.take.ensures.state) ∙ c.command.ensures in
+    let words = c.command-in-Run.new.self.facts.words in
+    subst (λ (p : Powered). p.card.state ≡ Working → BlockStands p (link_step p.link c.args.got.now).reaction words)
+    c.self.view_is
+    (λ works. of-run (λ (r : Reaction). BlockStands old r words) (link_step old.link c.args.got.now).reaction
+    c.command.result.now waits (c.command-in-Run.ensures.stands works))
+
+pub returns-in_err-command-in-Run-clause-stands : goal.returns-in_err-command-in-Run-clause-stands
+returns-in_err-command-in-Run-clause-stands g c =
+    let old : Powered = record { card = c.self.inside.card; link = c.self.inside.link.link } in
+    let waits = ap (λ (e : CardLink). e.waiting) (sym c.take.ensures.state) ∙ c.command.ensures in
+    let words = c.command-in-Run.new.self.facts.words in
+    subst (λ (p : Powered). p.card.state ≡ Working → BlockStands p (link_step p.link c.args.got.now).reaction words)
+    c.self.view_is
+    (λ works. of-run (λ (r : Reaction). BlockStands old r words) (link_step old.link c.args.got.now).reaction
+    c.command.result.now waits (c.command-in-Run.ensures.stands works))

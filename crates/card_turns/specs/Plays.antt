@@ -1,0 +1,61 @@
+-- What the bench promises of a turn, and of turns: the counts always; that it is the machine's where no fault came.
+use Rattle.std.specs.Prelude.{◌≡◌, ℕ, List}
+use Rattle.nvm_board.specs.Aims.{due_of}
+use Rattle.command_base.specs.declared.spending.TheConstants.{COMMAND_WRITES}
+use Rattle.card_turns.specs.declared.playing.Turn.{Turn}
+use Rattle.card_turns.specs.declared.came.Came.{Came}
+use Rattle.card_turns.specs.declared.came.Came.TheVariants as came
+use Rattle.card_turns.specs.declared.playing.Item.{Item}
+use Rattle.card_turns.specs.declared.playing.Item.TheVariants.{Atr, Quiet, Mute, Dark, Reply}
+use Rattle.card_turns.specs.BenchStates.{BenchState, bench_facts, BenchHasCard, IsWell}
+use Rattle.card_turns.specs.Guessing.{GuessesFew}
+use Rattle.card_turns.specs.Turns.{CountsLosses, OneTurn, Runs, Spends, TakesBlock, Wears, dark_of, darks, turn_writes}
+
+-- no fault came from here to there, nor since power came on
+pub record HasNoFault (old new : BenchState) : Type 0 where
+  pub faults : (bench_facts new).faults ≡ (bench_facts old).faults
+  pub well : IsWell old
+
+-- A bench whose card is found, and never had a fault; a cut is due where one is set.
+pub record IsGood (b : BenchState) : Type 0 where
+  pub has_card : BenchHasCard b
+  pub faults : (bench_facts b).faults ≡ 0
+  pub due : (bench_facts b).due ≡ due_of (bench_facts b).pending
+  pub well : IsWell b
+
+-- What came of a turn is told so, and of it this holds. A block that came back stands in a buffer.
+abbrev pub TellsItem : Came → List ℕ → (Item → Type 0) → Type 0
+TellsItem came.Nothing block Holds = Holds Quiet
+TellsItem came.Atr block Holds = Holds Atr
+TellsItem came.Mute block Holds = Holds Mute
+TellsItem came.Dark block Holds = Holds Dark
+TellsItem came.Lost block Holds = ⊥
+TellsItem came.Answer block Holds = ⊥
+TellsItem came.Block block Holds = Holds (Reply block)
+TellsItem (came.Free free) block Holds = ⊥
+
+-- A turn is played.
+pub record Plays (old : BenchState) (turn : Turn) (item : Item) (new : BenchState) : Type 0 where
+  pub has_card : BenchHasCard old → BenchHasCard new
+  pub counts : Spends (dark_of item) (bench_facts old) (bench_facts new)
+  pub well : HasNoFault old new → IsWell new
+  pub guesses : GuessesFew old new
+  pub one : BenchHasCard old → HasNoFault old new → OneTurn old turn item new
+  pub wears : BenchHasCard old → HasNoFault old new → Wears (turn_writes old turn) (bench_facts old) (bench_facts new)
+
+-- A block is played.
+pub record PlaysBlock (old : BenchState) (got : List ℕ) (item : Item) (new : BenchState) : Type 0 where
+  pub has_card : BenchHasCard old → BenchHasCard new
+  pub counts : Spends (dark_of item) (bench_facts old) (bench_facts new)
+  pub well : HasNoFault old new → IsWell new
+  pub guesses : GuessesFew old new
+  pub one : BenchHasCard old → HasNoFault old new → TakesBlock old got item new
+  pub wears : HasNoFault old new → Wears COMMAND_WRITES (bench_facts old) (bench_facts new)
+
+-- Turns are played.
+pub record PlaysAll (old : BenchState) (turns : List Turn) (trace : List Item) (new : BenchState) : Type 0 where
+  pub has_card : BenchHasCard old → BenchHasCard new
+  pub counts : CountsLosses (darks trace) (bench_facts old) (bench_facts new)
+  pub well : HasNoFault old new → IsWell new
+  pub guesses : GuessesFew old new
+  pub runs : BenchHasCard old → HasNoFault old new → Runs old turns trace new

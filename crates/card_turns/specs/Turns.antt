@@ -1,0 +1,166 @@
+-- What each turn at a bench does, and what comes of it; and turns, one after another.
+use Rattle.std.specs.Prelude.{◌≡◌, ◌⊎◌, ◌≤◌, ◌+◌, ℕ, if◌then◌else◌, List, [], ◌∷◌}
+use Rattle.nvm_board.specs.Aims.{KeepsAim}
+use Rattle.nvm_board.specs.Facts.{Facts, IsWorn, IsWornOut, RisesAt}
+use Rattle.undo_journal.specs.declared.layout.TheConstants.{PAIRS}
+use Rattle.command_base.specs.declared.spending.TheConstants.{COMMAND_WRITES}
+use Rattle.nvm_board.specs.declared.board.TheConstants.{MOST_PAGES}
+use Rattle.file_tree.specs.Formats.{is_format_2}
+use Rattle.migration.specs.Migrating.{migration_writes}
+use Rattle.command_base.specs.Finding.{words_found}
+use Rattle.t1_link.specs.CardTable.{link_step}
+use Rattle.card_turns.specs.declared.playing.Turn.{Turn}
+use Rattle.card_turns.specs.declared.playing.Turn.TheVariants as turn
+use Rattle.card_turns.specs.declared.playing.Item.{Item}
+use Rattle.card_turns.specs.declared.playing.Item.TheVariants.{Atr, Quiet, Mute, Dark, Reply}
+use Rattle.card_turns.specs.BenchStates.{BenchState, off, on, bench_card, bench_facts, IsFresh, IsOff, switched_off}
+use Rattle.card_turns.specs.CardBlocks.{Powered, Replies, IsRun, BlockStands, IsBlockStage}
+
+-- What a start leaves, cut or not: the card that is found is what it was, and no secret was compared.
+pub record LeavesCard (old new : BenchState) : Type 0 where
+  pub card : bench_card new ≡ bench_card old
+  pub compares : (bench_facts new).compares ≡ (bench_facts old).compares
+  pub matches : (bench_facts new).matches ≡ (bench_facts old).matches
+
+-- Power on: the card starts, in a fresh session, with a fresh link; or power is lost; or, where a count of the board
+-- stands at its end, the card stays mute, and nothing is done but that power went off.
+abbrev pub TurnsOn : BenchState → Item → BenchState → Type 0
+TurnsOn old Atr new = IsFresh new × LeavesCard old new
+TurnsOn old Quiet new = ⊥
+TurnsOn old Mute new = (new ≡ switched_off old) × IsWornOut (bench_facts new)
+TurnsOn old Dark new = IsOff new × LeavesCard old new
+TurnsOn old (Reply block) new = ⊥
+
+-- Power off: nothing is said, and nothing else is done.
+abbrev pub TurnsOff : BenchState → Item → BenchState → Type 0
+TurnsOff old Atr new = ⊥
+TurnsOff old Quiet new = new ≡ switched_off old
+TurnsOff old Mute new = ⊥
+TurnsOff old Dark new = ⊥
+TurnsOff old (Reply block) new = ⊥
+
+-- A block with power off: the card doesn't answer, and nothing changes.
+abbrev pub HearsNothing : BenchState → Item → BenchState → Type 0
+HearsNothing old Atr new = ⊥
+HearsNothing old Quiet new = ⊥
+HearsNothing old Mute new = new ≡ old
+HearsNothing old Dark new = ⊥
+HearsNothing old (Reply block) new = ⊥
+
+-- the card replies with this block, and goes on
+abbrev pub GoesOnWith : Powered → List ℕ → BenchState → List ℕ → Type 0
+GoesOnWith old got (off facts) out = ⊥
+GoesOnWith old got (on new) out = Replies old got new out
+
+-- Power was lost while a command ran: the card that is found is one of its stages;
+-- which one, the word tells that was written.
+pub record IsCutOff (old : Powered) (got : List ℕ) (new : BenchState) : Type 0 where
+  pub power : IsOff new
+  pub run : IsRun (link_step old.link got).reaction
+  pub stage : IsBlockStage old (link_step old.link got).reaction (bench_card new)
+  pub word : BlockStands old (link_step old.link got).reaction (bench_facts new).words
+
+-- A block with power on: the card replies, or power is lost.
+abbrev pub Hears : Powered → List ℕ → Item → BenchState → Type 0
+Hears old got Atr new = ⊥
+Hears old got Quiet new = ⊥
+Hears old got Mute new = ⊥
+Hears old got Dark new = IsCutOff old got new
+Hears old got (Reply block) new = GoesOnWith old got new block
+
+-- a block
+abbrev pub TakesBlock : BenchState → List ℕ → Item → BenchState → Type 0
+TakesBlock (off facts) got item new = HearsNothing (off facts) item new
+TakesBlock (on powered) got item new = Hears powered got item new
+
+-- One turn.
+abbrev pub OneTurn : BenchState → Turn → Item → BenchState → Type 0
+OneTurn old turn.On item new = TurnsOn old item new
+OneTurn old turn.Off item new = TurnsOff old item new
+OneTurn old (turn.Block got) item new = TakesBlock old got.now item new
+
+-- 1 where power was lost in a turn, else 0
+abbrev pub dark_of : Item → ℕ
+dark_of Atr = 0
+dark_of Quiet = 0
+dark_of Mute = 0
+dark_of Dark = 1
+dark_of (Reply block) = 0
+
+-- how often power was lost
+unfoldable pub darks : List Item → ℕ
+darks [] = 0
+darks (item ∷ items) = dark_of item + darks items
+
+-- What a turn leaves of the board's counts, in which power was lost once (1) or not (0). Each loss is counted, and
+-- takes one of the cuts that were due; or a count of the board stands at its end. No fault is forgotten, no write is
+-- taken back, and a cut that is set falls into the write that it was set for.
+pub record Spends (lost : ℕ) (old new : Facts) : Type 0 where
+  pub cuts : new.cuts ≡ old.cuts + lost
+  pub due : (old.due ≡ new.due + lost) ⊎ (IsWorn new × (new.due ≡ old.due))
+  pub faults : old.faults ≤ new.faults
+  pub more : old.writes ≤ new.writes
+  pub cut : KeepsAim old new
+
+-- What turns leave of them, in which power was lost so often: so many cuts more were counted, and no cut became due,
+-- nor are more gone than power was lost.
+pub record CountsLosses (lost : ℕ) (old new : Facts) : Type 0 where
+  pub cuts : new.cuts ≡ old.cuts + lost
+  pub due : old.due ≤ new.due + lost
+  pub undue : new.due ≤ old.due
+  pub faults : old.faults ≤ new.faults
+  pub more : old.writes ≤ new.writes
+
+-- how many device writes a turn makes at most: a start one for each pair of the journal, and one for the gate, and
+-- where the memory isn't of format 2 those of the way to it, on whatever board
+abbrev pub most_renewal : List ℕ → ℕ
+most_renewal m = if is_format_2 (words_found m) then 0 else migration_writes MOST_PAGES
+
+abbrev pub turn_writes : BenchState → Turn → ℕ
+turn_writes old turn.On = PAIRS + 1 + most_renewal (bench_facts old).words
+turn_writes old turn.Off = 0
+turn_writes old (turn.Block got) = COMMAND_WRITES
+
+-- how many steps a turn takes of a count at most: 700,
+-- and a start of a memory that isn't of format 2 those of the way to it
+abbrev pub turn_steps : BenchState → Turn → ℕ
+turn_steps old turn.On = COMMAND_WRITES + most_renewal (bench_facts old).words
+turn_steps old turn.Off = COMMAND_WRITES
+turn_steps old (turn.Block got) = COMMAND_WRITES
+
+-- What a turn without a fault takes of the board's other counts: so many device writes at most, and at most the
+-- comparison of one secret, which may match.
+pub record Wears (most : ℕ) (old new : Facts) : Type 0 where
+  pub faults : new.faults ≡ old.faults
+  pub writes : new.writes ≤ old.writes + most
+  pub secret : ℕ
+  pub compares : RisesAt old.compares secret new.compares
+  pub matches : RisesAt old.matches secret new.matches
+
+-- A turn without a fault, with what it takes of the board's counts.
+pub record GoodTurn (old : BenchState) (turn : Turn) (item : Item) (new : BenchState) : Type 0 where
+  pub one : OneTurn old turn item new
+  pub counts : Spends (dark_of item) (bench_facts old) (bench_facts new)
+  pub wears : Wears (turn_writes old turn) (bench_facts old) (bench_facts new)
+
+-- A block without a fault, with what it takes of the board's counts.
+pub record GoodBlock (old : BenchState) (got : List ℕ) (item : Item) (new : BenchState) : Type 0 where
+  pub one : TakesBlock old got item new
+  pub counts : Spends (dark_of item) (bench_facts old) (bench_facts new)
+  pub wears : Wears COMMAND_WRITES (bench_facts old) (bench_facts new)
+
+-- Turns, one after another, with what comes of each.
+unfoldable pub Runs : BenchState → List Turn → List Item → BenchState → Type 0
+Runs old [] [] new = new ≡ old
+Runs old [] (item ∷ items) new = ⊥
+Runs old (turn ∷ turns) [] new = ⊥
+Runs old (turn ∷ turns) (item ∷ items) new =
+    (between : BenchState) × GoodTurn old turn item between × Runs between turns items new
+
+-- how many steps turns take of a count at most, each by the memory before it
+unfoldable pub run_steps : (old : BenchState) (turns : List Turn) (trace : List Item) (new : BenchState)
+    → Runs old turns trace new → ℕ
+unfolding Runs
+run_steps old [] trace new run = 0
+run_steps old (turn ∷ turns) [] new run = 0
+run_steps old (turn ∷ turns) (item ∷ items) new run = turn_steps old turn + run_steps run.0 turns items new run.2

@@ -1,0 +1,318 @@
+//! A bench that plays turns: power on, power off, and blocks straight to the card's end of the link.
+ghost use Rattle.std.specs.Prelude.{◌≡◌, ◌≤◌, ◌↔◌, ℕ, List, length, true, IsTrue};
+ghost use Rattle.nvm_board.specs.Aims.{due_of};
+ghost use Rattle.card_turns.specs.BenchStates.{off, bench_facts, BenchHasCard, IsOn, IsWell, TellsFree, IsArmed};
+ghost use Rattle.card_turns.specs.BenchViews.{power_state, IsKept};
+ghost use Rattle.card_turns.specs.Guessing.{GuessesFew};
+ghost use Rattle.card_turns.specs.Plays.{Plays, PlaysBlock, HasNoFault, IsGood, TellsItem};
+ghost use Rattle.card_turns.specs.Turns.{CountsLosses, GoodTurn, Runs, darks};
+
+use crate::came::Came;
+use crate::powered::Powered;
+use card_core::{FreeSpace, StartFault};
+use core::mem::replace_with;
+use nvm_board::{Armed, Faultless, Socket, has_no_fault};
+use std::marker::Model;
+use t1_link::BlockBytes;
+
+/// What is done at the bench.
+#[derive(Clone, Copy)]
+pub enum Turn<'a> {
+    /// Power goes off if it is on, and comes on.
+    On,
+    /// Power goes off.
+    Off,
+    /// These bytes, of whatever kind, go to the card's end of the link.
+    Block(&'a [u8]),
+}
+
+/// What comes of a turn.
+#[derive(Drop)]
+pub enum Item {
+    /// The card started, and gave its answer to reset.
+    Atr,
+    /// Power is off, as was asked.
+    Quiet,
+    /// The card doesn't answer: power is off, or it doesn't start.
+    Mute,
+    /// Power was lost, and is off.
+    Dark,
+    /// The block that the card's end sent.
+    Reply(BlockBytes),
+}
+
+impl Item {
+    /// Whether the same came of a turn.
+    pub fn is_same(&self, other: &Item) -> bool
+        ensures { IsTrue result ↔ (self.now ≡ other.now) }
+    {
+        match (self, other) {
+            (Item::Atr, Item::Atr)
+            | (Item::Quiet, Item::Quiet)
+            | (Item::Mute, Item::Mute)
+            | (Item::Dark, Item::Dark) => true,
+            (Item::Reply(left), Item::Reply(right)) => left.as_slice() == right.as_slice(),
+            _ => false,
+        }
+    }
+}
+
+/// The card's board with power off, or the card.
+#[derive(Drop)]
+enum Power<B: Socket> {
+    Off(B),
+    On(Powered<B>),
+}
+
+/// A bench with a card: its board, and with power on its session and its end of the link.
+#[derive(Drop)]
+pub struct Bench<B: Socket> {
+    power: Power<B>,
+}
+
+impl<B: Socket> Model for Bench<B> {
+    ghost use Rattle.std.specs.Coded.{codes};
+    ghost use Rattle.card_model.specs.Sessions.{session_code};
+    ghost use Rattle.card_turns.specs.BenchStates.{BenchState};
+
+    ghost Value = { BenchState };
+
+    ghost coded = { Prim.hlevel (codes, session_code) };
+
+    ghost use Rattle.card_turns.specs.BenchViews.{power_state, IsKept};
+
+    ghost view = { λ b. power_state B.facts b.power };
+
+    ghost invariant = { λ b. IsKept B.facts b.power };
+}
+
+impl<B: Socket> Bench<B> {
+    /// The bench with this board, power off.
+    pub fn new(board: B) -> Bench<B>
+        ensures { result ≡ off (record (B.facts board) { dark = true }) }
+    {
+        let mut board = board;
+        board.power_off();
+        Bench {
+            power: Power::Off(board),
+        }
+    }
+
+    /// Plays turns, one after another. Item i of the trace becomes that of turn i, whatever stood there.
+    pub fn play(&mut self, turns: &[Turn<'_>], trace: &mut [Item])
+        requires { length turns.now ≡ length trace.old }
+        // Whatever is cut, and whatever fails: where a card was found, one is found.
+        ensures has_card { BenchHasCard self.old → BenchHasCard self.new }
+
+        // The board counts as many cuts more as there are Dark in the trace, and so many of those due are gone at most.
+        ensures counts { CountsLosses (darks trace.new) (bench_facts self.old) (bench_facts self.new) }
+
+        // The guess law, whatever is cut and whatever fails: comparisons of a PIN are at most its tries before, minus
+        // those after, plus 3 times the matches of its value and its unblocking value; comparisons of the unblocking
+        // value are at most its tries before, minus those after, plus 10 times its own matches.
+        ensures guesses { GuessesFew self.old self.new }
+
+        // The headline: over a card, and with no fault of the device in the run, nor before it since power came on, the
+        // trace is the tree machine's, from the card that was found to the one that is found.
+        ensures well { HasNoFault self.old self.new → IsWell self.new }
+        ensures runs { BenchHasCard self.old → HasNoFault self.old self.new
+            → Runs self.old turns.now trace.new self.new }
+    {
+        for i in 0..turns.len() {
+            trace[i] = self.item(turns[i]);
+        }
+    }
+
+    /// Plays a turn, and keeps what comes of it.
+    fn item(&mut self, turn: Turn<'_>) -> Item
+        ensures { Plays self.old turn.entry result self.new }
+    {
+        let mut reply = BlockBytes::new();
+        match self.turn(turn, &mut reply) {
+            Came::Nothing => Item::Quiet,
+            Came::Atr => Item::Atr,
+            Came::Mute => Item::Mute,
+            Came::Dark => Item::Dark,
+            Came::Block => Item::Reply(reply),
+            Came::Lost | Came::Answer | Came::Free(_) => unreachable!(),
+        }
+    }
+
+    /// Plays a turn: every one, of a list or of a line of a script. A block that comes back is put into the buffer,
+    /// whatever that held.
+    // (Put into its callers, as the two below are, so that a turn that is known there isn't chosen at run time.)
+    #[inline(always)]
+    fn turn(&mut self, turn: Turn<'_>, reply: &mut BlockBytes) -> Came
+        ensures { TellsItem result reply.new (λ item. Plays self.old turn.entry item self.new) }
+    {
+        match turn {
+            Turn::On => self.turn_on(),
+            Turn::Off => {
+                self.turn_off();
+                Came::Nothing
+            }
+            Turn::Block(block) => self.send(block, reply),
+        }
+    }
+
+    /// Power off if it is on, and then a start. No block comes back.
+    fn turn_on(&mut self) -> Came
+        ensures { (reply : List ℕ) → TellsItem result reply (λ item. Plays self.old Turn.On item self.new) }
+    {
+        replace_with(&mut self.power, (), Power::start)
+    }
+
+    /// Power off.
+    fn turn_off(&mut self)
+        ensures { Plays self.old Turn.Off Item.Quiet self.new }
+    {
+        replace_with(&mut self.power, (), Power::darken);
+    }
+
+    /// A block straight to the card's end.
+    #[inline(always)]
+    fn send(&mut self, block: &[u8], reply: &mut BlockBytes) -> Came
+        ensures { TellsItem result reply.new (λ item. PlaysBlock self.old block.now item self.new) }
+    {
+        match &mut self.power {
+            Power::Off(_) => Came::Mute,
+            Power::On(powered) => match powered.block(block, reply) {
+                Ok(()) => Came::Block,
+                Err(_) => {
+                    replace_with(&mut self.power, (), Power::darken);
+                    Came::Dark
+                }
+            },
+        }
+    }
+
+    /// The free space of the card, blocks and file entries, with power on.
+    /// It is told as long as the memory didn't fail.
+    pub fn free(&self) -> Option<FreeSpace>
+        ensures { TellsFree self.now result }
+    {
+        match &self.power {
+            Power::Off(_) => None,
+            Power::On(powered) => Some(powered.free()),
+        }
+    }
+
+    /// Whether power is on.
+    pub fn is_on(&self) -> bool
+        ensures { IsTrue result ↔ IsOn self.now }
+    {
+        matches!(&self.power, Power::On(_))
+    }
+
+    /// The board, power off.
+    pub fn into_board(self) -> B
+        ensures { B.facts result ≡ record (bench_facts self) { dark = true } }
+    {
+        let Bench { power } = self;
+        power.into_dark_board()
+    }
+}
+
+impl<B: Armed> Bench<B> {
+    /// Sets a cut to come at a later write (`Armed::arm`), with power on or off.
+    pub fn arm(&mut self, k: u32, mask: u16)
+        requires { 1 ≤ k }
+        ensures { IsArmed k mask self.old self.new }
+    {
+        match &mut self.power {
+            Power::Off(board) => board.arm(k, mask),
+            Power::On(powered) => powered.arm(k, mask),
+        }
+    }
+}
+
+impl<B: Armed + Faultless> Bench<B> {
+    /// Sets a cut to come at a later write, on a board without faults.
+    pub fn arm_well(&mut self, k: u32, mask: u16)
+        requires { 1 ≤ k }
+        ensures good { IsGood self.old → IsGood self.new }
+        ensures armed { IsArmed k mask self.old self.new }
+    {
+        self.arm(k, mask);
+        self.has_no_fault();
+    }
+}
+
+impl<B: Socket + Faultless> Bench<B> {
+    /// Plays turns on a board without faults (`play`).
+    pub fn play_well(&mut self, turns: &[Turn<'_>], trace: &mut [Item])
+        requires { length turns.now ≡ length trace.old }
+        ensures { IsGood self.old → IsGood self.new × Runs self.old turns.now trace.new self.new }
+    {
+        self.play(turns, trace);
+        self.has_no_fault();
+    }
+
+    /// Plays a turn on a board without faults (`turn`).
+    #[inline(always)]
+    pub fn turn_well(&mut self, turn: Turn<'_>, reply: &mut BlockBytes) -> Came
+        ensures { IsGood self.old
+            → IsGood self.new × TellsItem result reply.new (λ item. GoodTurn self.old turn.entry item self.new) }
+    {
+        let came = self.turn(turn, reply);
+        self.has_no_fault();
+        came
+    }
+
+    /// Tells that the board counts no fault, and that a cut is due where one is set.
+    fn has_no_fault(&self)
+        ensures faults { (bench_facts self.now).faults ≡ 0 }
+        ensures due { (bench_facts self.now).due ≡ due_of (bench_facts self.now).pending }
+    {
+        match &self.power {
+            Power::Off(board) => has_no_fault(board),
+            Power::On(powered) => powered.has_no_fault(),
+        }
+    }
+}
+
+impl<B: Socket> Power<B> {
+    /// The board, with power off.
+    fn into_dark_board(self) -> B
+        ensures { B.facts result ≡ record (bench_facts (power_state B.facts self)) { dark = true } }
+    {
+        let mut board = match self {
+            Power::Off(board) => board,
+            Power::On(powered) => powered.into_board(),
+        };
+        board.power_off();
+        board
+    }
+
+    /// Power off.
+    fn darken(self, _: ()) -> (Power<B>, ())
+        ensures off { power_state B.facts result.0
+            ≡ off (record (bench_facts (power_state B.facts self)) { dark = true }) }
+        ensures kept { IsKept B.facts result.0 }
+    {
+        (Power::Off(self.into_dark_board()), ())
+    }
+
+    /// Power off if it is on, and then a start.
+    fn start(self, _: ()) -> (Power<B>, Came)
+        ensures plays { (reply : List ℕ) → TellsItem result.1 reply
+            (λ item. Plays (power_state B.facts self) Turn.On item (power_state B.facts result.0)) }
+        ensures kept { IsKept B.facts result.0 }
+    {
+        let mut board = self.into_dark_board();
+        let Ok(()) = board.light() else {
+            return (Power::Off(board), Came::Mute);
+        };
+        match Powered::start(board) {
+            Ok(powered) => (Power::On(powered), Came::Atr),
+            Err((mut board, fault)) => {
+                board.power_off();
+                let came = match fault {
+                    StartFault::PowerLost => Came::Dark,
+                    StartFault::Fault | StartFault::BadJournal | StartFault::Damaged => Came::Mute,
+                };
+                (Power::Off(board), came)
+            }
+        }
+    }
+}

@@ -1,0 +1,166 @@
+//! A card behind its end of the link.
+ghost use Rattle.std.specs.Prelude.{◌≡◌, ◌≢◌, ◌⊎◌, ◌+◌, ◌≤◌, true, [], IsOk, IsErr, OnOk, OnErr};
+ghost use Rattle.std.specs.Prelude.{IfOk, IfErr};
+ghost use Rattle.nvm_board.specs.Aims.{due_of};
+ghost use Rattle.nvm_board.specs.Calls.{Arms};
+ghost use Rattle.undo_journal.specs.Spending.{Advances, KeepsBoard, WritesAtMost};
+ghost use Rattle.command_base.specs.declared.spending.TheConstants.{COMMAND_WRITES};
+ghost use Rattle.command_base.specs.Finding.{HasCard, FindsAgain};
+ghost use Rattle.card_core.specs.Running.{Starts, StartStopsBy, card_found};
+ghost use Rattle.card_model.specs.Cards.{card_space};
+ghost use Rattle.card_core.specs.Starting.{IsNewFound, KeepsFormat, KeepsUnlessOld, TakesAllPages, power_on_writes};
+ghost use Rattle.t1_link.specs.CardTable.{link_step, fresh};
+ghost use Rattle.card_turns.specs.CardBlocks.{Replies, RepliesFailure, FailsAt, IsCutAt, IsBlockStage};
+ghost use Rattle.card_turns.specs.CardBlocks.{IsRun, BlockChangesNothing, BlockCompares, BlockStands};
+
+use card_core::{Answer, Card, CardState, FreeSpace, PowerLost, StartFault};
+use nvm_board::{Armed, Board, Faultless};
+use std::marker::Model;
+use t1_link::{Action, BlockBytes, CardEnd};
+
+/// A started card behind its end of the link.
+#[derive(Drop)]
+pub struct Powered<B: Board> {
+    card: Card<B>,
+    link: CardEnd,
+    /// Room for the answer of a command. What it holds between blocks tells nothing.
+    answer: Answer,
+}
+
+impl<B: Board> Model for Powered<B> {
+    ghost use Rattle.std.specs.Coded.{codes};
+    ghost use Rattle.card_model.specs.Sessions.{session_code};
+    ghost use Rattle.card_turns.specs.CardBlocks.{Powered as PoweredValue};
+
+    ghost Value = { PoweredValue };
+
+    ghost coded = { Prim.hlevel (codes, session_code) };
+
+    ghost use Rattle.std.specs.Prelude.{◌≡◌, ◌≢◌, None};
+    ghost use Rattle.card_core.specs.declared.state.CardState.TheVariants.{Dark};
+
+    ghost view = { λ p. record { card = p.card; link = p.link.link } };
+
+    ghost use Rattle.command_base.specs.Finding.{HasCard};
+
+    ghost invariant = { λ p. HasCard p.card.facts.words × (p.card.state ≢ Dark → p.link.waiting ≡ None) };
+}
+
+impl<B: Board> Powered<B> {
+    /// Starts the card that the memory stands for, with its link as after power-on. The board comes back where the card
+    /// doesn't start.
+    ///
+    /// # Errors
+    ///
+    /// The board, and why no card starts: `PowerLost` where power was lost in the start, or was off; `Fault` of the
+    /// device; `BadJournal` where the journal can't be undone; `Damaged` where the memory stands for no card.
+    pub fn start(board: B) -> Result<Powered<B>, (B, StartFault)>
+        ensures started { IfOk result (λ p. Starts (B.facts board) p.card × (p.link ≡ fresh)) }
+        ensures stopped { IfErr result (λ e. StartStopsBy e.1 (B.facts board) (B.facts e.0)) }
+        ensures found { IfOk result (λ p. FindsAgain (B.facts board).words p.card.facts.words) }
+        ensures found_err { IfErr result (λ e. FindsAgain (B.facts board).words (B.facts e.0).words) }
+        // The card is of format 2 then, with all pages of the board where it wasn't before.
+        ensures format { IfOk result (λ p. IsNewFound p.card.facts.words) }
+        ensures all_pages { IfOk result (λ p. TakesAllPages (B.facts board).words p.card.facts.words) }
+        ensures format_err { IfErr result (λ e. KeepsFormat (B.facts board).words (B.facts e.0).words) }
+        // Where no pair of the journal counts, and there is no card of format 1, no word changes,
+        // and nothing is written.
+        ensures shut { IfOk result (λ p. KeepsUnlessOld (B.facts board) p.card.facts) }
+        ensures shut_err { IfErr result (λ e. KeepsUnlessOld (B.facts board) (B.facts e.0)) }
+        ensures writes { IfOk result
+            (λ p. WritesAtMost (power_on_writes (B.facts board)) (B.facts board) p.card.facts) }
+        ensures writes_err { IfErr result
+            (λ e. WritesAtMost (power_on_writes (B.facts board)) (B.facts board) (B.facts e.0)) }
+    {
+        let card = Card::start(board)?;
+        Ok(Powered {
+            card,
+            link: CardEnd::new(),
+            answer: Answer::new(),
+        })
+    }
+
+    /// Takes a block, of whatever bytes, and puts the reply into the buffer, whatever that held.
+    ///
+    /// # Errors
+    ///
+    /// `PowerLost` where power was lost while the block's command ran, or before: then nothing goes back.
+    pub fn block(&mut self, got: &[u8], out: &mut BlockBytes) -> Result<(), PowerLost>
+        // At every exit, cut or fault or neither, the card that is found is one of the stages of the command that ran,
+        // or what it was where none ran.
+        ensures has_card { HasCard self.new.card.facts.words }
+        ensures stage { IsBlockStage self.old (link_step self.old.link got.now).reaction (card_found self.new.card) }
+        ensures stands { self.old.card.state ≡ CardState.Working
+            → BlockStands self.old (link_step self.old.link got.now).reaction self.new.card.facts.words }
+        ensures replies { OnOk result (self.old.card.state ≡ CardState.Working
+            → Replies self.old got.now self.new out.new ⊎ FailsAt self.old got.now self.new out.new) }
+        ensures lost { OnErr result (self.old.card.state ≢ CardState.Dark → IsCutAt self.old got.now self.new out.new) }
+        ensures failed { self.old.card.state ≡ CardState.Failed
+            → IsOk result × (self.new.card ≡ self.old.card) × RepliesFailure self.old got.now self.new out.new }
+        ensures dark { self.old.card.state ≡ CardState.Dark → IsErr result × (self.new ≡ self.old) × (out.new ≡ []) }
+        ensures unlit { OnErr result (self.new.card.facts.dark ≡ true) }
+        // Where no command runs, the card is what it was; and one that changes nothing lasting leaves each word of the
+        // board, and each of its counts.
+        ensures unrun { IsRun (link_step self.old.link got.now).reaction ⊎ (self.new.card ≡ self.old.card) }
+        ensures idle { BlockChangesNothing self.old (link_step self.old.link got.now).reaction
+            → KeepsBoard self.old.card.facts self.new.card.facts }
+        ensures writes { self.new.card.facts.writes ≤ self.old.card.facts.writes + COMMAND_WRITES }
+        // No write is taken back, and a cut that is set falls into the write that it was set for.
+        ensures advances { Advances self.old.card.facts self.new.card.facts }
+        // A comparison costs a lasting try, and none is made but by a command on PINs that carries data.
+        ensures compares { BlockCompares self.old (link_step self.old.link got.now).reaction self.new }
+    {
+        out.clear();
+        if let CardState::Dark = self.card.state() {
+            return Err(PowerLost);
+        }
+        match self.link.take(got, out) {
+            Action::Reply => Ok(()),
+            Action::Run => {
+                self.card.command(self.link.command(), &mut self.answer)?;
+                self.link.answer(&self.answer, out);
+                Ok(())
+            }
+        }
+    }
+
+    /// The free space of the card: blocks and file entries. It is told as long as the card works.
+    pub fn free(&self) -> FreeSpace
+        ensures { self.now.card.state ≡ CardState.Working → result ≡ card_space (card_found self.now.card) }
+    {
+        self.card.free()
+    }
+
+    /// The board, as it is.
+    pub fn into_board(self) -> B
+        ensures { B.facts result ≡ self.card.facts }
+    {
+        let Powered {
+            card,
+            link: _,
+            answer: _,
+        } = self;
+        card.into_board()
+    }
+}
+
+impl<B: Armed> Powered<B> {
+    /// Sets a cut to come at a later write (`Armed::arm`).
+    pub fn arm(&mut self, k: u32, mask: u16)
+        requires { 1 ≤ k }
+        ensures arms { Arms k mask self.old.card.facts self.new.card.facts }
+        ensures same { self.new ≡ record self.old { card = record self.old.card { facts = self.new.card.facts } } }
+    {
+        self.card.arm(k, mask);
+    }
+}
+
+impl<B: Faultless> Powered<B> {
+    /// Tells that the board counts no fault, and that a cut is due where one is set.
+    pub fn has_no_fault(&self)
+        ensures faults { self.now.card.facts.faults ≡ 0 }
+        ensures due { self.now.card.facts.due ≡ due_of self.now.card.facts.pending }
+    {
+        self.card.has_no_fault();
+    }
+}

@@ -1,0 +1,4 @@
+pub mod TreeMachine
+pub mod WorldLaw
+pub mod WorldRepairs
+pub mod Worlds
