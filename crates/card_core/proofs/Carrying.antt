@@ -29,8 +29,7 @@ use Rattle.card_model.specs.Steps.{attempt_of, IsDoing, carried_out, outcome_of,
 use Rattle.card_model.specs.Steps.{gated_served}
 use Rattle.command_base.specs.Comparing.{comparisons, Comparisons, ComparesAsked, ComparesBy}
 use Rattle.command_base.specs.Counting.{CountsAnswered, CountsServed, CountsShown}
-use Rattle.card_model.specs.Attempts.{Attempt}
-use Rattle.card_model.specs.Outcomes.{refused, outcome}
+use Rattle.card_model.specs.Behaviours.{Attempt, refused, outcome}
 use Rattle.command_base.specs.Served.{CarriesOut, Serves}
 use Rattle.card_model.specs.Sessions.{Session}
 use Rattle.command_base.specs.Spending.{writes_asked}

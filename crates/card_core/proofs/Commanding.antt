@@ -19,7 +19,7 @@ use Rattle.card_core.specs.declared.state.CardState.{CardState}
 use Rattle.card_core.specs.declared.state.CardState.TheVariants.{Working, Failed, Dark}
 use Rattle.command_base.specs.declared.current.Current.{Current}
 use Rattle.card_core.specs.declared.faults.PowerLost.{PowerLost as Lost}
-use Rattle.card_model.specs.Outcomes.{answer_bytes, Outcome, outcome}
+use Rattle.card_model.specs.Behaviours.{answer_bytes, Outcome, outcome}
 use Rattle.card_core.specs.Running.{card_found, memory_failure, FailsIn, IsCutIn, Running, Steps}
 use Rattle.command_base.specs.Served.{CarriesOut}
 use Rattle.card_model.specs.Sessions.{Session}

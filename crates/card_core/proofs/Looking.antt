@@ -11,7 +11,7 @@ use Rattle.card_state.specs.declared.space.FreeSpace.{FreeSpace}
 use Rattle.card_model.specs.Requests.{Request}
 use Rattle.command_base.specs.declared.current.Current.{Current}
 use Rattle.card_model.specs.Cards.{Card, card_space}
-use Rattle.card_model.specs.Attempts.{attempt_commits, charged_card, is_right, settled_card, Attempt}
+use Rattle.card_model.specs.Behaviours.{attempt_commits, charged_card, is_right, settled_card, Attempt}
 use Rattle.card_model.specs.PinCommands.{pin_commits}
 use Rattle.card_model.specs.Steps.{IsDoing, commits}
 use Rattle.command_base.specs.Served.{Serves}

@@ -11,7 +11,7 @@ use Rattle.card_model.specs.CommandTable.{asked}
 use Rattle.card_model.specs.Cards.{Card}
 use Rattle.command_base.specs.Counting.{CountsAnswered}
 use Rattle.card_model.specs.Sessions.{Session, fresh_session}
-use Rattle.card_model.specs.Outcomes.{answer_bytes, only_status}
+use Rattle.card_model.specs.Behaviours.{answer_bytes, only_status}
 use Rattle.card_model.specs.Steps.{carried_out}
 use Rattle.command_base.specs.Standing.{IsAnyCard}
 use Rattle.command_base.specs.Finding.{words_found, found, HasCard}

@@ -15,7 +15,7 @@ ghost use Rattle.pin_store.specs.declared.layout.TheConstants.{PIN_MARK_WORD};
 ghost use Rattle.card_model.specs.Requests.{AreBytes, Request};
 ghost use Rattle.card_model.specs.Cards.{Card, IsAnswer, IsProper};
 ghost use Rattle.command_base.specs.Finding.{Finds, HasCard, found};
-ghost use Rattle.card_model.specs.Outcomes.{answer_bytes};
+ghost use Rattle.card_model.specs.Behaviours.{answer_bytes};
 ghost use Rattle.command_base.specs.Standing.{StandsFor};
 ghost use Rattle.card_model.specs.Sessions.{Session};
 ghost use Rattle.card_model.specs.Steps.{IsStage, commits_served, carried_out, alone_served, gated_served};

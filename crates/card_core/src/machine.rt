@@ -19,7 +19,7 @@ ghost use Rattle.card_core.specs.Running.{Starts, StartStopsBy, Steps, FailsIn, 
 ghost use Rattle.command_base.specs.Spending.{writes_of};
 ghost use Rattle.card_model.specs.Steps.{IsStage, ChangesNothing};
 ghost use Rattle.command_base.specs.Words.{StandsAsked};
-ghost use Rattle.card_model.specs.Outcomes.{answer_bytes};
+ghost use Rattle.card_model.specs.Behaviours.{answer_bytes};
 ghost use Rattle.command_base.specs.declared.spending.TheConstants.{COMMAND_WRITES};
 
 use crate::commands::carry_out;

@@ -4,10 +4,9 @@ use Rattle.card_rules.specs.declared.access_mode.AccessBit.TheVariants.{Read, Up
 use Rattle.card_rules.specs.declared.status.Sw.{Sw}
 use Rattle.card_rules.specs.declared.status.TheConstants.Sw.{DONE, END_REACHED, NO_ROOM, WRONG_OFFSET}
 use Rattle.card_model.specs.declared.requests.Target.{Target}
-use Rattle.card_model.specs.Behaviours.{Behaviour, changes, looks}
+use Rattle.card_model.specs.Behaviours.{Behaviour, changes, looks, Outcome, Refusal, Refusals, Response, only_status}
 use Rattle.card_model.specs.Cards.{Card, is_transparent, bytes_of, overwrite, with_content}
 use Rattle.card_model.specs.Guards.{file_refusals, naming, target_kind, target_path, with_limits}
-use Rattle.card_model.specs.Outcomes.{Outcome, Refusal, Refusals, Response, only_status}
 use Rattle.card_model.specs.Sessions.{Session}
 
 -- the bytes that the file that is named holds

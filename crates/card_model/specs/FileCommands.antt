@@ -16,10 +16,9 @@ use Rattle.card_model.specs.TemplateGrammar.{fcp_read}
 use Rattle.card_state.specs.FileControl.{name_bytes, short_of_kind}
 use Rattle.card_state.specs.NewFiles.{has_name, has_no_room, has_short_given, new_file, short_of_new}
 use Rattle.card_model.specs.declared.requests.Subject.{Subject}
-use Rattle.card_model.specs.Behaviours.{Behaviour, changes}
+use Rattle.card_model.specs.Behaviours.{Behaviour, changes, Outcome, Refusal, Refusals, no_refusals, only_status}
 use Rattle.card_model.specs.Cards.{Card, Path, exists, parent}
 use Rattle.card_model.specs.Guards.{allowed, barred_above, barred_file, denied, unless_allowed}
-use Rattle.card_model.specs.Outcomes.{Outcome, Refusal, Refusals, no_refusals, only_status}
 use Rattle.card_model.specs.Reaching.{subject_of}
 use Rattle.card_model.specs.SelectCommand.{selecting}
 use Rattle.card_model.specs.Sessions.{Session, at_dedicated_file}

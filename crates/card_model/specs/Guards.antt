@@ -8,7 +8,7 @@ use Rattle.card_rules.specs.declared.status.TheConstants.Sw.{ACCESS_DENIED, COND
 use Rattle.card_rules.specs.declared.status.TheConstants.Sw.{NO_CURRENT_EF, WRONG_STRUCTURE}
 use Rattle.card_state.specs.FileLives.{has_barred_above, is_allowed, is_barred, next_life}
 use Rattle.card_model.specs.Cards.{Card, Path, Kind, file_at, identifier, parent}
-use Rattle.card_model.specs.Outcomes.{Refusal, Refusals, no_refusals}
+use Rattle.card_model.specs.Behaviours.{Refusal, Refusals, no_refusals}
 use Rattle.card_model.specs.Sessions.{Session, marks_of, at_elementary_file}
 use Rattle.card_rules.specs.declared.status.Sw.{Sw}
 use Rattle.card_model.specs.declared.requests.Target.{Target}

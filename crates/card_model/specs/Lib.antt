@@ -1,5 +1,4 @@
 -- What commands make of a card.
-pub mod Attempts
 pub mod Behaviours
 pub mod BinaryCommands
 pub mod Cards
@@ -8,7 +7,6 @@ pub mod FileCommands
 pub mod Guards
 pub mod LifeCycleCommands
 pub mod Listing
-pub mod Outcomes
 pub mod PinCommands
 pub mod Reaching
 pub mod RecordCommands

@@ -15,10 +15,9 @@ use Rattle.card_model.specs.declared.requests.LifeCycleChange.{LifeCycleChange}
 use Rattle.card_model.specs.declared.requests.LifeCycleChange.TheVariants.{Activate, Deactivate, TerminateDf}
 use Rattle.card_model.specs.declared.requests.LifeCycleChange.TheVariants.{TerminateEf}
 use Rattle.card_state.specs.FileLives.{life_at, next_life, with_life}
-use Rattle.card_model.specs.Behaviours.{Behaviour, changes}
+use Rattle.card_model.specs.Behaviours.{Behaviour, changes, Outcome, Refusals, no_refusals, only_status}
 use Rattle.card_model.specs.Cards.{Card, Kind, Path, Tree, dedicated, elementary, file_at}
 use Rattle.card_model.specs.Guards.{denied, no_next_life}
-use Rattle.card_model.specs.Outcomes.{Outcome, Refusals, no_refusals, only_status}
 use Rattle.card_model.specs.Reaching.{current_elementary, subject_or}
 use Rattle.card_model.specs.SelectCommand.{selecting}
 use Rattle.card_model.specs.Sessions.{Session}

@@ -9,12 +9,11 @@ use Rattle.card_rules.specs.declared.status.TheConstants.Sw.{REFERENCE_DATA_NOT_
 use Rattle.card_model.specs.declared.requests.RequirementChange.{RequirementChange}
 use Rattle.card_model.specs.declared.requests.RequirementChange.TheVariants.{Disable, Enable}
 use Rattle.card_state.specs.Secrets.{changed_pin, marked_pin, reset_pin, verified_pin}
-use Rattle.card_model.specs.Attempts.{attempt_commits, charged_card, is_right, settled_card, tries_of}
-use Rattle.card_model.specs.Behaviours.{Behaviour}
+use Rattle.card_model.specs.Behaviours.{attempt_commits, charged_card, is_right, settled_card, tries_of, Behaviour}
+use Rattle.card_model.specs.Behaviours.{Outcome, Refusal, Refusals, no_refusals, only_status}
 use Rattle.card_model.specs.Cards.{Card, Pin}
-use Rattle.card_model.specs.Outcomes.{Outcome, Refusal, Refusals, no_refusals, only_status}
 use Rattle.card_model.specs.Sessions.{Session}
-pub use Rattle.card_model.specs.Attempts.{Attempt, no_pin, pin_of, unblocking_of, value_of}
+pub use Rattle.card_model.specs.Behaviours.{Attempt, no_pin, pin_of, unblocking_of, value_of}
 
 -- the value of a disabled PIN is of no use, but to enable it; one that is enabled already isn't enabled again
 abbrev pub while_enabled : Pin → List Refusal

@@ -14,11 +14,10 @@ use Rattle.card_model.specs.declared.requests.RecordPlace.TheVariants.{CurrentRe
 use Rattle.card_model.specs.declared.requests.RecordChoice.{RecordChoice}
 use Rattle.card_model.specs.declared.requests.RecordChoice.TheVariants.{Next, Previous, At}
 use Rattle.card_state.specs.RecordLists.{front, has_record, record_of, found, spelled, raised_number}
-use Rattle.card_model.specs.Behaviours.{Behaviour, changes, looks}
+use Rattle.card_model.specs.Behaviours.{Behaviour, changes, looks, Outcome, Refusal, Refusals, only_status}
 use Rattle.card_model.specs.Cards.{Card, Kind, Path, linear, cyclic, elementary, file_at}
 use Rattle.card_model.specs.Guards.{file_refusals, naming, target_kind, target_path, with_limits, given, length_refusal}
 use Rattle.card_model.specs.Guards.{right_length}
-use Rattle.card_model.specs.Outcomes.{Outcome, Refusal, Refusals, only_status}
 use Rattle.card_model.specs.Sessions.{Session}
 
 -- READ, UPDATE, APPEND and SEARCH RECORD (ISO/IEC 7816-4, 11.4; ETSI TS 102 221, 11.1).

@@ -9,10 +9,9 @@ use Rattle.card_rules.specs.declared.life_cycle.LifeCycle.TheVariants.{Terminate
 use Rattle.card_model.specs.declared.requests.Returned.{Returned}
 use Rattle.card_model.specs.declared.requests.Returned.TheVariants.{Template, Nothing}
 use Rattle.card_model.specs.Requests.{Selection}
-use Rattle.card_model.specs.Behaviours.{Behaviour, looks}
+use Rattle.card_model.specs.Behaviours.{Behaviour, looks, Outcome, Refusals, no_refusals}
 use Rattle.card_model.specs.Cards.{Card, Path, Kind, Tree, dedicated, elementary, file_at, identifier, parent}
 use Rattle.card_model.specs.Guards.{given, length_refusal}
-use Rattle.card_model.specs.Outcomes.{Outcome, Refusals, no_refusals}
 use Rattle.card_model.specs.Reaching.{selected_from}
 use Rattle.card_model.specs.Sessions.{Session, at_dedicated_file, at_elementary_file}
 use Rattle.card_model.specs.Templates.{template_at}

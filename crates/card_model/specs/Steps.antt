@@ -3,7 +3,8 @@ use Rattle.card_model.specs.Requests.{Request, select, read_binary, update_binar
 use Rattle.card_model.specs.Requests.{read_record, update_record, append_record, search_record, increase}
 use Rattle.card_model.specs.Requests.{change_life_cycle, terminate_card_usage, verify, change_reference_data}
 use Rattle.card_model.specs.Requests.{reset_retry_counter, change_requirement}
-use Rattle.card_model.specs.Behaviours.{Behaviour}
+use Rattle.card_model.specs.Behaviours.{Behaviour, Refusals, refused_by, unless_refused, Attempt, tries_commits}
+use Rattle.card_model.specs.Behaviours.{value_commits}
 use Rattle.card_model.specs.BinaryCommands.{on_read_binary, on_update_binary}
 use Rattle.card_model.specs.FileCommands.{on_create_file, on_delete_file}
 use Rattle.card_model.specs.RecordCommands.{on_increase, on_append_record, on_read_record, on_search_record}
@@ -19,9 +20,7 @@ use Rattle.card_rules.specs.declared.status.TheConstants.Sw.{CONDITIONS_NOT_SATI
 use Rattle.card_model.specs.CommandTable.{asked}
 use Rattle.card_model.specs.Cards.{Card}
 use Rattle.card_model.specs.Sessions.{Session}
-use Rattle.card_model.specs.Outcomes.{Refusals, refused_by, unless_refused}
-use Rattle.card_model.specs.Attempts.{Attempt, tries_commits, value_commits}
-pub use Rattle.card_model.specs.Outcomes.{Response, answer_bytes, Outcome, refused}
+pub use Rattle.card_model.specs.Behaviours.{Response, answer_bytes, Outcome, refused}
 
 -- What each command is: the one list of all commands. Each stands beside its own definitions.
 

@@ -16,7 +16,7 @@ use Rattle.command_base.specs.declared.named.Structure.{Structure}
 use Rattle.command_base.specs.declared.named.Structure.TheVariants.{Bytes, Records, Linear, Cyclic}
 use Rattle.card_model.specs.Cards.{Card}
 use Rattle.card_model.specs.Guards.{file_refusals, allowed}
-use Rattle.card_model.specs.Outcomes.{refused_by}
+use Rattle.card_model.specs.Behaviours.{refused_by}
 use Rattle.card_model.specs.Reaching.{target_of}
 use Rattle.card_model.specs.Sessions.{Session}
 use Rattle.command_base.specs.Standing.{card_of, IsCard}

@@ -6,7 +6,7 @@ use Rattle.nvm_board.specs.Facts.{Facts, RisesAt, raised}
 use Rattle.card_model.specs.Requests.{Request}
 use Rattle.card_rules.specs.declared.pins.TheConstants.{PINS}
 use Rattle.card_state.specs.Secrets.{charged_pin, full_tries, kept, tries_left}
-use Rattle.card_model.specs.Attempts.{Attempt, pin_of}
+use Rattle.card_model.specs.Behaviours.{Attempt, pin_of}
 use Rattle.card_model.specs.Cards.{Card, Pin}
 use Rattle.card_model.specs.Steps.{attempt_of}
 

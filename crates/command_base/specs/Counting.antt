@@ -5,8 +5,7 @@ use Rattle.nvm_board.specs.Facts.{Facts, raised}
 use Rattle.card_model.specs.Requests.{Request}
 use Rattle.card_model.specs.Cards.{Card}
 use Rattle.card_model.specs.Steps.{attempt_of, refusals_of}
-use Rattle.card_model.specs.Outcomes.{refused_by}
-use Rattle.card_model.specs.Attempts.{Attempt}
+use Rattle.card_model.specs.Behaviours.{refused_by, Attempt}
 use Rattle.card_model.specs.Sessions.{Session}
 
 -- An attempt that was answered was counted: its secret was compared once, and a device write was made, the charge.

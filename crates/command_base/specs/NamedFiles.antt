@@ -12,7 +12,7 @@ use Rattle.command_base.specs.declared.named.Structure.{Structure}
 use Rattle.command_base.specs.declared.named.Structure.TheVariants.{Bytes, Records, Linear, Cyclic}
 use Rattle.card_model.specs.Cards.{Kind, is_transparent}
 use Rattle.card_model.specs.Guards.{file_refusals}
-use Rattle.card_model.specs.Outcomes.{refused_by}
+use Rattle.card_model.specs.Behaviours.{refused_by}
 use Rattle.card_model.specs.Reaching.{target_of}
 use Rattle.command_base.specs.Standing.{card_of}
 use Rattle.command_base.specs.Working.{IsElementary, session_of}

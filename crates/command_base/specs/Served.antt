@@ -14,7 +14,7 @@ use Rattle.file_tree.specs.Indexes.{KeepsPlaces}
 use Rattle.command_base.specs.declared.current.Current.{Current}
 use Rattle.command_base.specs.Comparing.{comparisons, ComparesAsked, ComparesBy}
 use Rattle.command_base.specs.Counting.{CountsAnswered, CountsServed}
-use Rattle.card_model.specs.Outcomes.{outcome}
+use Rattle.card_model.specs.Behaviours.{outcome}
 use Rattle.command_base.specs.Spending.{most_writes, writes_of}
 use Rattle.card_model.specs.Steps.{commits, ChangesNothing, IsStage, carried_out, served, IsDoing, moves_files}
 use Rattle.command_base.specs.Standing.{IsCard}

@@ -8,7 +8,7 @@ ghost use Rattle.card_model.specs.Requests.{IsTarget};
 ghost use Rattle.card_state.specs.FileLives.{is_barred};
 ghost use Rattle.file_tree.specs.Table.{entry_in, path_of, IsUsed};
 ghost use Rattle.card_model.specs.Guards.{file_refusals, missing as missing_status, allowed};
-ghost use Rattle.card_model.specs.Outcomes.{refused_by};
+ghost use Rattle.card_model.specs.Behaviours.{refused_by};
 ghost use Rattle.card_model.specs.Reaching.{target_of};
 ghost use Rattle.command_base.specs.Stops.{Checks, Looks};
 ghost use Rattle.command_base.specs.Working.{card_in, session_in, table_in, IsElementary, IsKept};

@@ -49,7 +49,7 @@ use Rattle.card_model.specs.BinaryCommands.{read_response, end_status}
 use Rattle.command_base.specs.Comparing.{comparisons, ComparesBy}
 use Rattle.card_model.specs.Guards.{naming}
 use Rattle.card_model.specs.Cards.{with_content}
-use Rattle.card_model.specs.Outcomes.{Response, refused, only_status, outcome}
+use Rattle.card_model.specs.Behaviours.{Response, refused, only_status, outcome}
 use Rattle.card_model.specs.Sessions.{marked}
 use Rattle.command_base.specs.laws.FoundLaws.{same-of}
 use Rattle.card_model.specs.Steps.{IsDoing, served}

@@ -10,7 +10,7 @@ use Rattle.std.specs.FinMap.{get}
 use Rattle.card_model.specs.BinaryCommands.{is_past, is_too_long, read_response, updated_card}
 use Rattle.card_model.specs.Cards.{Card, File, Path, bytes_of, is_transparent, overwrite, with_content}
 use Rattle.card_model.specs.Guards.{file_refusals, naming, target_kind, target_path}
-use Rattle.card_model.specs.Outcomes.{refused, refused_by, only_status}
+use Rattle.card_model.specs.Behaviours.{refused, refused_by, only_status}
 use Rattle.card_model.specs.Reaching.{target_of}
 use Rattle.card_model.specs.Sessions.{Session}
 use Rattle.card_model.specs.Steps.{commits, refusals_of, effect, served}

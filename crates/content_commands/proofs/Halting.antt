@@ -8,7 +8,7 @@ use Rattle.card_model.specs.Requests.{Request}
 use Rattle.command_base.specs.declared.current.Current.{Current}
 use Rattle.command_base.specs.declared.stop.Stop.{Stop}
 use Rattle.command_base.specs.Counting.{CountsServed}
-use Rattle.card_model.specs.Outcomes.{refused}
+use Rattle.card_model.specs.Behaviours.{refused}
 use Rattle.command_base.specs.InPlace.{ServesInPlace}
 use Rattle.command_base.specs.Standing.{IsCard}
 use Rattle.card_model.specs.Steps.{served}

@@ -26,7 +26,7 @@ use Rattle.command_base.specs.declared.named.Need.{Need}
 use Rattle.command_base.specs.declared.named.Structure.TheVariants.{Cyclic as Cyclic_file}
 use Rattle.content_commands.specs.declared.record_file.RecordFile.{RecordFile}
 use Rattle.card_model.specs.Guards.{target_path, asks_less, given, right_length}
-use Rattle.card_model.specs.Outcomes.{refused_by, outcome}
+use Rattle.card_model.specs.Behaviours.{refused_by, outcome}
 use Rattle.card_model.specs.RecordCommands.{pointing, with_records_at}
 use Rattle.command_base.specs.Served.{Serves}
 use Rattle.command_base.specs.InPlace.{ServesInPlace}

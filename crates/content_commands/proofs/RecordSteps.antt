@@ -32,7 +32,7 @@ use Rattle.card_model.specs.Cards.{Card, Kind, Path}
 use Rattle.command_base.specs.Counting.{CountsServed}
 use Rattle.card_model.specs.Guards.{file_refusals, target_kind, target_path, with_limits, asks_less, given}
 use Rattle.card_model.specs.Guards.{length_refusal, right_length}
-use Rattle.card_model.specs.Outcomes.{refused, refused_by, Refusal, Refusals, outcome}
+use Rattle.card_model.specs.Behaviours.{refused, refused_by, Refusal, Refusals, outcome}
 use Rattle.card_model.specs.RecordCommands.{has_records, next_record, place_number, pointer_after, pointer_at}
 use Rattle.card_model.specs.RecordCommands.{pointer_found, matches, no_record, pointing, previous_record, records_of}
 use Rattle.card_model.specs.RecordCommands.{search_status, target_number}

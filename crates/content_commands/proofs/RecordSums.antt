@@ -20,7 +20,7 @@ use Rattle.card_model.specs.Guards.{file_refusals, target_kind, target_path, ask
 use Rattle.card_model.specs.Guards.{right_length}
 use Rattle.card_model.specs.RecordCommands.{increased_data, is_cyclic, no_record, pointing, record_length, records_of}
 use Rattle.card_model.specs.RecordCommands.{with_records_at}
-use Rattle.card_model.specs.Outcomes.{refused_by, Refusal, outcome}
+use Rattle.card_model.specs.Behaviours.{refused_by, Refusal, outcome}
 use Rattle.card_model.specs.Sessions.{Session}
 use Rattle.card_model.specs.Steps.{commits, effect, refusals_of}
 use Rattle.command_base.specs.Standing.{card_of, IsCard}

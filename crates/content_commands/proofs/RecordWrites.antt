@@ -29,9 +29,8 @@ use Rattle.content_commands.specs.declared.record_file.RecordFile.{RecordFile}
 use Rattle.card_model.specs.Cards.{Card, Kind, Path}
 use Rattle.card_model.specs.Steps.{attempt_of, IsDoing, commits, effect, refusals_of}
 use Rattle.command_base.specs.Comparing.{comparisons, ComparesBy, ComparesShown}
-use Rattle.card_model.specs.Attempts.{Attempt}
+use Rattle.card_model.specs.Behaviours.{Attempt, refused_by, Refusal, outcome}
 use Rattle.card_model.specs.Guards.{file_refusals, target_kind, target_path}
-use Rattle.card_model.specs.Outcomes.{refused_by, Refusal, outcome}
 use Rattle.card_model.specs.RecordCommands.{appended_records, capacity_of, has_records, is_linear, no_record}
 use Rattle.card_model.specs.RecordCommands.{no_record_length, pointer_after, pointing, records_of, replaced_number}
 use Rattle.card_model.specs.RecordCommands.{replaces, target_number, updated_records, with_records_at}

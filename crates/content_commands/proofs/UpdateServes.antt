@@ -23,7 +23,7 @@ use Rattle.command_base.specs.declared.current.Current.{Current}
 use Rattle.command_base.specs.declared.named.Need.{Need}
 use Rattle.content_commands.specs.declared.record_file.RecordFile.{RecordFile}
 use Rattle.card_model.specs.Guards.{file_refusals}
-use Rattle.card_model.specs.Outcomes.{refused_by}
+use Rattle.card_model.specs.Behaviours.{refused_by}
 use Rattle.card_model.specs.RecordCommands.{pointer_after, replaces}
 use Rattle.command_base.specs.Served.{Serves}
 use Rattle.command_base.specs.Standing.{card_of, IsCard}

@@ -4,7 +4,7 @@ ghost use Rattle.undo_journal.specs.Memory.{committed};
 ghost use Rattle.card_model.specs.Requests.{IsTarget, append_record as appending, read_record as reading};
 ghost use Rattle.card_model.specs.Requests.{search_record as searching, update_record as updating, HasBetween};
 ghost use Rattle.command_base.specs.declared.named.Structure.TheVariants as Structure;
-ghost use Rattle.card_model.specs.Outcomes.{refused_by};
+ghost use Rattle.card_model.specs.Behaviours.{refused_by};
 ghost use Rattle.command_base.specs.NamedFiles.{fits};
 ghost use Rattle.card_model.specs.Guards.{file_refusals};
 ghost use Rattle.command_base.specs.Served.{Serves};

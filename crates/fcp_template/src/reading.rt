@@ -4,7 +4,7 @@ ghost use Rattle.std.specs.Prelude.{◌≡◌, ◌≢◌, ◌%◌, ◌==◌, ◌
 ghost use Rattle.std.specs.Option.{option_copied};
 ghost use Rattle.card_model.specs.declared.fault.FcpFault.{FcpFault};
 ghost use Rattle.card_state.specs.declared.fcp.Fcp.{Fcp};
-ghost use Rattle.fcp_template.specs.Tags.{tag_byte};
+ghost use Rattle.fcp_template.specs.TagParts.{tag_byte};
 ghost use Rattle.card_model.specs.TemplateGrammar.{is_tag, identifier_of, name_of, short_of, number_of, size_of};
 ghost use Rattle.card_model.specs.TemplateGrammar.{records_of, life_cycle_of, rule_of, descriptor_of, has, value_at};
 ghost use Rattle.card_model.specs.TemplateGrammar.{data_bytes, is_df_descriptor, tells_of_df, count_of, is_again};
@@ -139,7 +139,7 @@ fn has_unknown(objects: &[Object<'_>]) -> bool
 }
 
 /// The parameters that the objects tell, where all have tags, lengths and values of the table.
-#[tactic(auto, unfolding(crate::specs::Reads::fcp_of))]
+#[tactic(auto, unfolding(card_model::specs::TemplateGrammar::fcp_of))]
 fn fcp_of<'a>(objects: &[Object<'a>]) -> Option<Fcp<'a>>
     ensures value { result ≡ fcp_of objects.now }
     ensures ranges { IfSome result IsCreatable }
@@ -203,7 +203,7 @@ fn kind_of<'a>(descriptor: Descriptor, objects: &[Object<'a>]) -> Option<FileKin
 }
 
 /// What makes a DF: a name, or none, and no object of an elementary file but a number of data bytes.
-#[tactic(auto, unfolding(crate::specs::Reads::df_of))]
+#[tactic(auto, unfolding(card_model::specs::TemplateGrammar::df_of))]
 fn df_of<'a>(objects: &[Object<'a>]) -> Option<FileKind<'a>>
     ensures value { result ≡ df_of objects.now }
     ensures ranges { IfSome result IsKind }
@@ -224,7 +224,7 @@ fn has_no_place_in_a_df(objects: &[Object<'_>]) -> bool
 }
 
 /// What makes a transparent file: a size, and no name.
-#[tactic(auto, unfolding(crate::specs::Reads::transparent_of))]
+#[tactic(auto, unfolding(card_model::specs::TemplateGrammar::transparent_of))]
 fn transparent_of<'a>(objects: &[Object<'a>]) -> Option<FileKind<'a>>
     ensures value { result ≡ transparent_of objects.now }
     ensures ranges { IfSome result IsKind }
@@ -239,7 +239,7 @@ fn transparent_of<'a>(objects: &[Object<'a>]) -> Option<FileKind<'a>>
 }
 
 /// What makes a file of records: a size that its records fill, and no name.
-#[tactic(auto, unfolding(crate::specs::Reads::record_file_of))]
+#[tactic(auto, unfolding(card_model::specs::TemplateGrammar::record_file_of))]
 fn record_file_of<'a>(
     structure: Structure,
     record_length: u16,

@@ -1,7 +1,7 @@
 //! The tags of a template.
 
 ghost use Rattle.std.specs.Prelude.{◌≡◌};
-ghost use Rattle.fcp_template.specs.Tags.{tag_byte};
+ghost use Rattle.fcp_template.specs.TagParts.{tag_byte};
 ghost use Rattle.card_model.specs.TemplateGrammar.{is_tag};
 
 /// The tag of a template of file control parameters (ISO/IEC 7816-4, 7.4.3).

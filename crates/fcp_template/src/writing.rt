@@ -1,7 +1,7 @@
 //! Writing templates.
 
 ghost use Rattle.std.specs.Prelude.{◌≡◌, ◌+◌, ◌≤◌, [], ◌∷◌, ◌++◌, length};
-ghost use Rattle.fcp_template.specs.Tags.{tag_byte};
+ghost use Rattle.fcp_template.specs.TagParts.{tag_byte};
 ghost use Rattle.card_model.specs.TemplateGrammar.{object_text, objects_text};
 ghost use Rattle.card_state.specs.FileControl.{IsKind, IsShort};
 ghost use Rattle.card_model.specs.Templates.{IsInFull, data_object, two_bytes, short_value, descriptor_value};

@@ -35,7 +35,7 @@ use Rattle.command_base.specs.Spending.{creation_writes}
 use Rattle.command_base.specs.Standing.{card_of, IsCard}
 use Rattle.command_base.specs.Working.{card_in, session_in, session_of, space_in, table_in, IsCurrent}
 use Rattle.command_base.specs.CurrentFiles.{current_at}
-use Rattle.card_model.specs.Outcomes.{outcome}
+use Rattle.card_model.specs.Behaviours.{outcome}
 use Rattle.file_commands.proofs.Creations.{any-creating, any-stage, any-stands, created-current, created-is-card}
 use Rattle.file_commands.proofs.Creations.{created-space, filled-card, filled-stands}
 use Rattle.file_commands.proofs.Creations.{created-step, refused-step, taken-blocks, taken-entries}

@@ -30,7 +30,7 @@ use Rattle.card_state.specs.laws.Orders.{same_of_one}
 use Rattle.command_base.specs.declared.current.Current.{Current as CurrentFiles}
 use Rattle.card_model.specs.FileCommands.{create_refusals, creation_bit, with_new}
 use Rattle.card_model.specs.Guards.{allowed}
-use Rattle.card_model.specs.Outcomes.{refused, refused_by, only_status, outcome}
+use Rattle.card_model.specs.Behaviours.{refused, refused_by, only_status, outcome}
 use Rattle.card_model.specs.SelectCommand.{selecting}
 use Rattle.card_model.specs.Sessions.{Session}
 use Rattle.command_base.specs.Standing.{card_of, IsCard}

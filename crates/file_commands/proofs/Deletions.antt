@@ -28,7 +28,7 @@ use Rattle.command_base.specs.declared.current.Current.{Current as CurrentFiles}
 use Rattle.file_commands.specs.FileParts.{IsDeletable}
 use Rattle.card_model.specs.FileCommands.{delete_refusals, without}
 use Rattle.card_model.specs.Guards.{allowed}
-use Rattle.card_model.specs.Outcomes.{only_status, refused_by, outcome}
+use Rattle.card_model.specs.Behaviours.{only_status, refused_by, outcome}
 use Rattle.card_model.specs.Reaching.{subject_of, subject_or}
 use Rattle.card_model.specs.Sessions.{Session, at_dedicated_file, marked}
 use Rattle.command_base.specs.Standing.{card_of, IsCard}

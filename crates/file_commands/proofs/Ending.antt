@@ -37,7 +37,7 @@ use Rattle.card_model.specs.Cards.{Card}
 use Rattle.command_base.specs.Comparing.{comparisons, ComparesNothing}
 use Rattle.card_model.specs.Guards.{allowed}
 use Rattle.card_model.specs.LifeCycleCommands.{card_terminated, terminate_card_refusals, terminated_card}
-use Rattle.card_model.specs.Outcomes.{refused, refused_by, outcome}
+use Rattle.card_model.specs.Behaviours.{refused, refused_by, outcome}
 use Rattle.card_model.specs.Steps.{IsDoing, commits, effect, refusals_of, served}
 use Rattle.command_base.specs.Served.{Serves}
 use Rattle.card_model.specs.Sessions.{Session}

@@ -16,7 +16,7 @@ use Rattle.card_state.specs.NewFiles.{has_name, has_no_room, has_short_given}
 use Rattle.card_model.specs.Cards.{Card, Path, exists, parent}
 use Rattle.card_model.specs.FileCommands.{create_refusals, created_card, creation_bit, delete_refusals, deleted_card}
 use Rattle.card_model.specs.FileCommands.{new_outcome, place_refusals, tells_none, told_by, with_new, without}
-use Rattle.card_model.specs.Outcomes.{first_applying, refused, refused_by, only_status}
+use Rattle.card_model.specs.Behaviours.{first_applying, refused, refused_by, only_status}
 use Rattle.card_model.specs.Reaching.{subject_of}
 use Rattle.card_model.specs.Sessions.{Session, at_dedicated_file}
 use Rattle.card_model.specs.Steps.{commits, served, refusals_of, effect}

@@ -31,7 +31,7 @@ use Rattle.command_base.specs.Comparing.{comparisons, ComparesNothing}
 use Rattle.card_model.specs.Steps.{IsDoing, refusals_of, served}
 use Rattle.command_base.specs.Served.{Serves}
 use Rattle.card_model.specs.LifeCycleCommands.{change_refusals}
-use Rattle.card_model.specs.Outcomes.{refused, refused_by}
+use Rattle.card_model.specs.Behaviours.{refused, refused_by}
 use Rattle.card_model.specs.Sessions.{Session}
 use Rattle.command_base.specs.Standing.{card_of, IsCard}
 use Rattle.command_base.specs.Working.{card_in, session_in, space_in, table_in, IsCurrent}

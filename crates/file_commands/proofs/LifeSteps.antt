@@ -39,7 +39,7 @@ use Rattle.card_model.specs.Guards.{allowed}
 use Rattle.card_model.specs.LifeCycleCommands.{change_bit, change_refusals, changed_file, changed_path, command_of}
 use Rattle.card_model.specs.LifeCycleCommands.{current_subject, is_for, changed_card, changed_life, life_changed}
 use Rattle.card_model.specs.LifeCycleCommands.{no_subject, with_life_at, life_commits}
-use Rattle.card_model.specs.Outcomes.{only_status, refused_by, unless_refused, outcome}
+use Rattle.card_model.specs.Behaviours.{only_status, refused_by, unless_refused, outcome}
 use Rattle.card_model.specs.Reaching.{current_elementary, subject_or}
 use Rattle.card_model.specs.Sessions.{Session}
 use Rattle.card_model.specs.SelectCommand.{selecting}

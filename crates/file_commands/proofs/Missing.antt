@@ -6,7 +6,7 @@ use Rattle.card_model.specs.declared.requests.Subject.{Subject}
 use Rattle.card_model.specs.declared.requests.LifeCycleChange.{LifeCycleChange}
 use Rattle.card_model.specs.Cards.{Card}
 use Rattle.card_model.specs.LifeCycleCommands.{change_refusals, changed_file, no_subject}
-use Rattle.card_model.specs.Outcomes.{refused_by}
+use Rattle.card_model.specs.Behaviours.{refused_by}
 use Rattle.card_model.specs.Sessions.{Session}
 
 -- the first of several refusals

@@ -11,7 +11,7 @@ use Rattle.file_tree.specs.Table.{table, entry_in, path_of, IsUsed}
 use Rattle.command_base.specs.declared.current.Current.{Current}
 use Rattle.card_model.specs.Guards.{allowed}
 use Rattle.card_model.specs.FileCommands.{creation_bit, delete_refusals}
-use Rattle.card_model.specs.Outcomes.{refused_by}
+use Rattle.card_model.specs.Behaviours.{refused_by}
 use Rattle.card_model.specs.Reaching.{subject_of}
 use Rattle.command_base.specs.Standing.{card_of}
 use Rattle.command_base.specs.Working.{session_of}

@@ -16,7 +16,7 @@ use Rattle.command_base.specs.declared.current.Current.{Current}
 use Rattle.file_commands.specs.declared.life_cycles.Changed.{Changed}
 use Rattle.card_model.specs.Guards.{allowed}
 use Rattle.card_model.specs.LifeCycleCommands.{change_bit, change_refusals, changed_file, command_of}
-use Rattle.card_model.specs.Outcomes.{refused_by}
+use Rattle.card_model.specs.Behaviours.{refused_by}
 use Rattle.command_base.specs.Standing.{card_of}
 use Rattle.command_base.specs.Working.{session_of}
 

@@ -10,7 +10,7 @@ ghost use Rattle.file_tree.specs.Table.{entry_in, path_of, IsUsed};
 ghost use Rattle.file_commands.specs.FileParts.{IsDeletable, IsNewFile};
 ghost use Rattle.card_model.specs.FileCommands.{create_refusals, creation_bit, delete_refusals};
 ghost use Rattle.card_model.specs.Guards.{allowed};
-ghost use Rattle.card_model.specs.Outcomes.{refused_by};
+ghost use Rattle.card_model.specs.Behaviours.{refused_by};
 ghost use Rattle.card_model.specs.Reaching.{subject_or};
 ghost use Rattle.command_base.specs.Served.{Serves};
 ghost use Rattle.command_base.specs.Stops.{Looks, reply, Checks};

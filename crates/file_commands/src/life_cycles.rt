@@ -7,7 +7,7 @@ ghost use Rattle.file_tree.specs.Indexes.{IsIndex};
 ghost use Rattle.file_tree.specs.Table.{IsUsed};
 ghost use Rattle.file_commands.specs.LifeParts.{change_at, changed_by, current_changed, is_for_kind, IsChanged};
 ghost use Rattle.card_model.specs.LifeCycleCommands.{change_bit, change_refusals, command_of, no_subject};
-ghost use Rattle.card_model.specs.Outcomes.{refused_by};
+ghost use Rattle.card_model.specs.Behaviours.{refused_by};
 ghost use Rattle.command_base.specs.Served.{Serves};
 ghost use Rattle.command_base.specs.InPlace.{ServesInPlace};
 ghost use Rattle.command_base.specs.Stops.{Looks, reply};

@@ -41,13 +41,12 @@ use Rattle.card_model.specs.Steps.{attempt_of, commits_alone, commits_gated, IsD
 use Rattle.card_model.specs.Steps.{refusals_of, served}
 use Rattle.command_base.specs.Comparing.{comparisons, ComparesBy, ComparesShown, CostsATry}
 use Rattle.command_base.specs.Counting.{CountsAttempt, CountsServed, CountsShown}
-use Rattle.card_model.specs.Outcomes.{Refusal, first_applying, no_refusals, refused, refused_by, outcome}
-use Rattle.card_model.specs.Attempts.{Attempt, attempt_commits, charged_card, is_right}
+use Rattle.card_model.specs.Behaviours.{Refusal, first_applying, no_refusals, refused, refused_by, outcome, Attempt}
+use Rattle.card_model.specs.Behaviours.{attempt_commits, charged_card, is_right, pin_of, settled_card, tries_of}
+use Rattle.card_model.specs.Behaviours.{tries_commits, value_commits, unblocking_of, value_of, with_pin_of}
 use Rattle.card_model.specs.PinCommands.{attempt_refusals, attempted, attempted_as, changing, marking, resetting}
 use Rattle.card_model.specs.PinCommands.{told_tries, tries_told, unverified, verifying}
-use Rattle.card_model.specs.Attempts.{pin_of, settled_card, tries_of}
 use Rattle.command_base.specs.Words.{StandsByWord, StandsServed}
-use Rattle.card_model.specs.Attempts.{tries_commits, value_commits, unblocking_of, value_of, with_pin_of}
 use Rattle.command_base.specs.Served.{Serves}
 use Rattle.card_model.specs.Sessions.{Session, marked}
 use Rattle.command_base.specs.Spending.{most_writes}

@@ -16,7 +16,7 @@ use Rattle.card_rules.specs.declared.pins.TheConstants.{PINS}
 use Rattle.pin_store.specs.declared.layout.TheConstants.{PIN_WORDS}
 use Rattle.pin_store.specs.laws.AllPins.{marks_set, pins_set}
 use Rattle.card_model.specs.Cards.{Pin}
-use Rattle.card_model.specs.Attempts.{no_pin, pin_of, with_pin_of}
+use Rattle.card_model.specs.Behaviours.{no_pin, pin_of, with_pin_of}
 use Rattle.command_base.specs.Standing.{card_of, IsCard}
 use Rattle.command_base.specs.laws.CardLaws.{blocks_same, card_format, card_pins_are, marked_new, pins_new}
 

@@ -8,7 +8,7 @@ use Rattle.pin_store.specs.declared.errors.Outcome.{Outcome as AttemptEnd}
 use Rattle.pin_store.specs.declared.errors.Outcome.TheVariants.{Matched, Wrong}
 use Rattle.pin_commands.specs.declared.pins.Usable.{Usable}
 use Rattle.pin_commands.specs.declared.pins.Usable.TheVariants.{WhileEnabled, WhileDisabled, InAnyCase}
-use Rattle.card_model.specs.Outcomes.{Refusal, first_applying}
+use Rattle.card_model.specs.Behaviours.{Refusal, first_applying}
 use Rattle.card_model.specs.PinCommands.{in_any_case, tries_told, while_disabled, while_enabled}
 use Rattle.card_state.specs.Secrets.{Pin, tries_left}
 

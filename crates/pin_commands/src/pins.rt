@@ -11,7 +11,7 @@ ghost use Rattle.card_model.specs.Requests.{verify as verifying, change_requirem
 ghost use Rattle.pin_store.specs.Pages.{ArePinPages};
 ghost use Rattle.card_state.specs.Secrets.{Pin, tries_left};
 ghost use Rattle.pin_store.specs.Trials.{pin_in, Charges, TakesTry};
-ghost use Rattle.card_model.specs.Outcomes.{first_applying};
+ghost use Rattle.card_model.specs.Behaviours.{first_applying};
 ghost use Rattle.card_model.specs.PinCommands.{is_enabled_by, tries_told, unusable_by};
 ghost use Rattle.command_base.specs.Served.{Serves};
 ghost use Rattle.command_base.specs.Stops.{failure, reply, Checks, FindsOrRefuses};

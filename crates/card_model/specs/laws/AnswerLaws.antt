@@ -10,8 +10,8 @@ use Rattle.card_model.specs.CommandTable.{asked}
 use Rattle.card_model.specs.Requests.{IsOfBytes, AreBytes, IsStatusWord, Request}
 use Rattle.card_model.specs.laws.RowLaws.{asked-of_bytes}
 use Rattle.card_model.specs.Cards.{Card, IsAnswer, IsProper}
-use Rattle.card_model.specs.Outcomes.{Outcome, Refusal, Response, answer_bytes, first_applying, in_order, refused}
-use Rattle.card_model.specs.Outcomes.{refused_by, unless_refused}
+use Rattle.card_model.specs.Behaviours.{Outcome, Refusal, Response, answer_bytes, first_applying, in_order, refused}
+use Rattle.card_model.specs.Behaviours.{refused_by, unless_refused}
 use Rattle.card_model.specs.Sessions.{Session}
 use Rattle.card_model.specs.Steps.{carried_out, effect, outcome_of, refusals_of, served, step}
 use Rattle.card_model.specs.laws.CommandLaws.{lawful}

@@ -14,7 +14,7 @@ use Rattle.card_model.specs.Cards.{Card, File, Kind, Path, transparent, linear, 
 use Rattle.card_model.specs.Cards.{file_at, identifier, is_transparent, overwrite, with_bytes, with_content, IsContent}
 use Rattle.card_model.specs.Cards.{IsProper, IsProperKind}
 use Rattle.card_model.specs.Guards.{target_kind, target_path}
-use Rattle.card_model.specs.Outcomes.{refused_by}
+use Rattle.card_model.specs.Behaviours.{refused_by}
 use Rattle.card_model.specs.Sessions.{Session}
 use Rattle.card_model.specs.laws.Lawful.{Lawful, lawful-unshown, missing-word, same-none, same-one}
 use Rattle.card_model.specs.laws.ProperLaws.{IsFine, IsShort, either-if, no_bytes, proper-file_at, proper-insert}

@@ -6,7 +6,7 @@ use Rattle.card_rules.specs.declared.status.Sw.{Sw}
 use Rattle.card_model.specs.CommandTable.{asked}
 use Rattle.card_model.specs.Requests.{Request}
 use Rattle.card_model.specs.Cards.{Card}
-use Rattle.card_model.specs.Outcomes.{Outcome, refused_by, unless_refused}
+use Rattle.card_model.specs.Behaviours.{Outcome, refused_by, unless_refused}
 use Rattle.card_model.specs.Sessions.{Session}
 use Rattle.card_model.specs.Steps.{IsStage, commits, commits_asked, commits_served, commits_unless, carried_out, effect}
 use Rattle.card_model.specs.Steps.{outcome_of, refusals_of, served, step}

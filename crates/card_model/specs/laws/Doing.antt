@@ -2,7 +2,7 @@
 use Rattle.std.proofs.Common.{◌≡◌, ◌⊎◌, List, [], ◌∷◌, length, Contains, None, sym, ◌∙◌, ap, subst, arith, ⊎_elim}
 use Rattle.card_model.specs.Requests.{Request}
 use Rattle.card_model.specs.Cards.{Card}
-use Rattle.card_model.specs.Outcomes.{refused_by}
+use Rattle.card_model.specs.Behaviours.{refused_by}
 use Rattle.card_model.specs.Steps.{IsDoing, commits, refusals_of}
 use Rattle.card_model.specs.Sessions.{Session}
 

@@ -11,7 +11,7 @@ use Rattle.card_model.specs.Requests.{Request}
 use Rattle.card_state.specs.FileLives.{is_barred}
 use Rattle.card_model.specs.Cards.{Card, File, Kind, Path, file_at, no_file}
 use Rattle.card_model.specs.Guards.{file_refusals, missing, target_kind, target_path, with_limits, allowed}
-use Rattle.card_model.specs.Outcomes.{Refusal, first_applying, refused, refused_by, unless_refused}
+use Rattle.card_model.specs.Behaviours.{Refusal, first_applying, refused, refused_by, unless_refused}
 use Rattle.card_model.specs.Reaching.{target_of}
 use Rattle.card_model.specs.Sessions.{Session}
 use Rattle.card_model.specs.Steps.{effect, refusals_of, served}

@@ -13,7 +13,7 @@ use Rattle.card_state.specs.laws.Spelling.{length-spelled}
 use Rattle.card_model.specs.Cards.{Card, IsProper, IsRecord}
 use Rattle.card_model.specs.RecordCommands.{increase_refusals, increased, increased_data, increased_kind, on_increase}
 use Rattle.card_model.specs.RecordCommands.{sum_record, is_cyclic, is_linear, record_length, records_of}
-use Rattle.card_model.specs.Outcomes.{refused_by}
+use Rattle.card_model.specs.Behaviours.{refused_by}
 use Rattle.card_model.specs.Sessions.{Session}
 use Rattle.card_model.specs.laws.FileLaws.{short-given}
 use Rattle.card_model.specs.laws.Lawful.{Lawful, lawful-unshown, missing-word, same-one}

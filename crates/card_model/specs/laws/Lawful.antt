@@ -5,12 +5,10 @@ use Rattle.std.proofs.lemmas.List.Elements.{All-nil, All-cons}
 use Rattle.card_model.specs.declared.requests.Target.{Target}
 use Rattle.card_model.specs.declared.requests.Target.TheVariants.{Current, Short}
 use Rattle.card_model.specs.Requests.{IsOfBytes, IsStatusWord, Request}
-use Rattle.card_model.specs.Attempts.{Attempt, unblocking_of, value_of}
-use Rattle.card_model.specs.Behaviours.{Behaviour}
+use Rattle.card_model.specs.Behaviours.{Attempt, unblocking_of, value_of, Behaviour, Refusal, in_order, refused_by}
 use Rattle.card_model.specs.Cards.{Card, IsProper}
 use Rattle.card_model.specs.Steps.{behaviour_of, commits_alone, commits_gated}
 use Rattle.card_model.specs.Guards.{missing}
-use Rattle.card_model.specs.Outcomes.{Refusal, in_order, refused_by}
 use Rattle.card_model.specs.Sessions.{Session}
 use Rattle.card_model.specs.laws.ProperLaws.{IsFine}
 

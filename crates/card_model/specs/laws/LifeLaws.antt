@@ -17,7 +17,7 @@ use Rattle.card_model.specs.Guards.{allowed, disabled_of}
 use Rattle.card_model.specs.LifeCycleCommands.{card_terminated, change_bit, change_refusals, changed_life, changed_path}
 use Rattle.card_model.specs.LifeCycleCommands.{life_changed, changed_card, no_subject, on_change_life_cycle}
 use Rattle.card_model.specs.LifeCycleCommands.{on_terminate_card_usage, with_life_at}
-use Rattle.card_model.specs.Outcomes.{refused_by}
+use Rattle.card_model.specs.Behaviours.{refused_by}
 use Rattle.card_model.specs.Sessions.{Session, marks_of}
 use Rattle.card_model.specs.laws.Lawful.{Lawful, Untouched, lawful-unshown, same-none, same-one}
 use Rattle.card_model.specs.laws.ProperLaws.{IsFine, either-if, proper-file_at, proper-insert, short-status}

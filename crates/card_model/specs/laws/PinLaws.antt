@@ -11,12 +11,11 @@ use Rattle.card_model.specs.declared.requests.RequirementChange.TheVariants.{Dis
 use Rattle.card_state.specs.Secrets.{HasFewTries, charged_pin, is_unblocking, tries_left}
 use Rattle.card_state.specs.laws.FewTries.{changed_few, marked_few, reset_few, verified_few, with_few}
 use Rattle.card_model.specs.Cards.{Card, Pin, IsProper}
-use Rattle.card_model.specs.Attempts.{Attempt, charged_card, is_right, no_pin, pin_of, settled_card}
+use Rattle.card_model.specs.Behaviours.{Attempt, charged_card, is_right, no_pin, pin_of, settled_card, tries_of}
+use Rattle.card_model.specs.Behaviours.{with_pin_of, unblocking_of, value_of}
 use Rattle.card_model.specs.PinCommands.{attempted, attempted_as, pin_commits, pin_effect, told_tries, tries_told}
 use Rattle.card_model.specs.PinCommands.{changing, marking, resetting, shows, verifying, is_enabled_by, unusable_by}
 use Rattle.card_model.specs.PinCommands.{while_disabled, while_enabled}
-use Rattle.card_model.specs.Attempts.{tries_of, with_pin_of}
-use Rattle.card_model.specs.Attempts.{unblocking_of, value_of}
 use Rattle.card_model.specs.Sessions.{Session}
 use Rattle.card_model.specs.laws.Lawful.{AreWords, AsMany, IsLawful, IsOfItsPin, Lawful}
 use Rattle.card_model.specs.laws.Lawful.{many-none, many-one, same-none}

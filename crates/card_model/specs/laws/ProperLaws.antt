@@ -11,8 +11,8 @@ use Rattle.card_rules.specs.declared.status.Sw.{Sw}
 use Rattle.card_state.specs.laws.Orders.{one_of_same}
 use Rattle.card_model.specs.Requests.{AreBytes, IsStatusWord}
 use Rattle.card_model.specs.Cards.{Card, File, Path, file_at, identifier, no_file, IsProper, IsProperFile}
-use Rattle.card_model.specs.Outcomes.{Outcome, Refusal, Refusals, Response, first_applying, in_order, only_status}
-use Rattle.card_model.specs.Outcomes.{refused_by}
+use Rattle.card_model.specs.Behaviours.{Outcome, Refusal, Refusals, Response, first_applying, in_order, only_status}
+use Rattle.card_model.specs.Behaviours.{refused_by}
 
 -- a refusal is none no more
 some-none : {status : Sw} → Some status ≡ None → ⊥

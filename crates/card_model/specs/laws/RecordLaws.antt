@@ -19,7 +19,7 @@ use Rattle.card_state.specs.laws.Finding.{filter-few, number_backward, number_fo
 use Rattle.card_model.specs.Cards.{Card, File, Kind, Path, transparent, linear, cyclic, dedicated, elementary, file_at}
 use Rattle.card_model.specs.Cards.{identifier, IsProper, IsProperKind, IsRecord}
 use Rattle.card_model.specs.Guards.{target_kind, target_path}
-use Rattle.card_model.specs.Outcomes.{refused_by}
+use Rattle.card_model.specs.Behaviours.{refused_by}
 use Rattle.card_model.specs.RecordCommands.{append_refusals, appended_records, capacity_of, has_records, is_cyclic}
 use Rattle.card_model.specs.RecordCommands.{is_linear, is_oldest, matches, on_append_record, on_read_record}
 use Rattle.card_model.specs.RecordCommands.{on_search_record, on_update_record, place_number, pointer_at}

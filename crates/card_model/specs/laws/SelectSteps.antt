@@ -8,7 +8,7 @@ use Rattle.card_model.specs.Requests.{Selection, select}
 use Rattle.std.specs.FinMap.{get}
 use Rattle.card_model.specs.Cards.{Card, File, Path, file_at, no_file}
 use Rattle.card_model.specs.Guards.{asks_less, given, right_length}
-use Rattle.card_model.specs.Outcomes.{refused, refused_by, unless_refused}
+use Rattle.card_model.specs.Behaviours.{refused, refused_by, unless_refused}
 use Rattle.card_model.specs.Reaching.{selected_from}
 use Rattle.card_model.specs.SelectCommand.{select_refusals, selected, selected_data, selected_path, selecting}
 use Rattle.card_model.specs.SelectCommand.{selection_data, selection_status}

@@ -6,7 +6,7 @@ use Rattle.card_rules.specs.declared.status.Sw.{Sw}
 use Rattle.card_model.specs.CommandTable.{asked}
 use Rattle.card_model.specs.Requests.{Request}
 use Rattle.card_model.specs.Cards.{Card}
-use Rattle.card_model.specs.Outcomes.{refused_by}
+use Rattle.card_model.specs.Behaviours.{refused_by}
 use Rattle.card_model.specs.Steps.{IsDoing, IsStage, ChangesNothing, commits, commits_asked, commits_served}
 use Rattle.card_model.specs.Steps.{commits_unless, stages, refusals_of}
 use Rattle.card_model.specs.Sessions.{Session}

@@ -5,7 +5,7 @@ use Rattle.card_model.specs.Requests.{Request}
 use Rattle.card_model.specs.Cards.{Card}
 use Rattle.card_model.specs.Steps.{attempt_of, commits, commits_served, commits_unless, refusals_of, alone_served}
 use Rattle.card_model.specs.Steps.{commits_alone, commits_gated, gated_served}
-use Rattle.card_model.specs.Outcomes.{refused_by}
+use Rattle.card_model.specs.Behaviours.{refused_by}
 use Rattle.card_model.specs.Sessions.{Session}
 use Rattle.card_model.specs.laws.CommandLaws.{lawful}
 

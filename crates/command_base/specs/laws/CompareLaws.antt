@@ -9,7 +9,7 @@ use Rattle.card_model.specs.Steps.{attempt_of}
 use Rattle.command_base.specs.Comparing.{Comparisons, ComparesAsked, ComparesBy, ComparesNothing}
 use Rattle.command_base.specs.Comparing.{ComparesShown}
 use Rattle.command_base.specs.Comparing.{CostsATry}
-use Rattle.card_model.specs.Attempts.{no_pin, pin_of, Attempt}
+use Rattle.card_model.specs.Behaviours.{no_pin, pin_of, Attempt}
 
 -- where no word changed, and nothing was compared, no try was paid for
 pub costs-nothing : (secret : ℕ) (shown : List ℕ) (pin now : Pin) (old new : Comparisons) → now ≡ pin → new ≡ old

@@ -20,7 +20,7 @@ use Rattle.file_tree.specs.Trees.{content, file_in}
 use Rattle.file_tree.specs.laws.Costs.{all_extents, entry_extent, extent_of-some, room_for_size}
 use Rattle.file_tree.specs.laws.Tables.{length-table}
 use Rattle.card_model.specs.BinaryCommands.{read_response, end_status}
-use Rattle.card_model.specs.Outcomes.{Response}
+use Rattle.card_model.specs.Behaviours.{Response}
 use Rattle.command_base.specs.Standing.{IsCard}
 
 -- What READ BINARY answers, by the bytes from the offset on: as many as Le asks for at most, and a status word that

@@ -28,7 +28,7 @@ use Rattle.card_model.specs.Steps.{served}
 use Rattle.command_base.specs.Working.{session_of, IsCurrent, IsElementary}
 use Rattle.command_base.specs.CurrentFiles.{current_at}
 use Rattle.command_base.specs.TemplateParts.{data_in, template_in}
-use Rattle.card_model.specs.Outcomes.{outcome}
+use Rattle.card_model.specs.Behaviours.{outcome}
 use Rattle.card_model.specs.laws.SelectSteps.{select-less, select-reached}
 use Rattle.command_base.specs.laws.Told.{parameters-are}
 

@@ -20,8 +20,7 @@ use Rattle.card_model.specs.Steps.{attempt_of, moves_files, IsDoing, served}
 use Rattle.command_base.specs.Comparing.{comparisons, ComparesBy, ComparesNothing}
 use Rattle.command_base.specs.Counting.{CountsServed, CountsShown}
 use Rattle.card_model.specs.Cards.{Card}
-use Rattle.card_model.specs.Outcomes.{refused, outcome}
-use Rattle.card_model.specs.Attempts.{Attempt}
+use Rattle.card_model.specs.Behaviours.{refused, outcome, Attempt}
 use Rattle.card_model.specs.Sessions.{Session}
 use Rattle.command_base.specs.Served.{Serves}
 use Rattle.command_base.specs.Spending.{most_writes}

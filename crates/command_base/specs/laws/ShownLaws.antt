@@ -10,8 +10,7 @@ use Rattle.card_model.specs.Cards.{Card}
 use Rattle.card_model.specs.Steps.{attempt_of, IsStage, commits, commits_asked, commits_served, commits_unless}
 use Rattle.card_model.specs.Steps.{refusals_of}
 use Rattle.command_base.specs.Comparing.{Comparisons, ComparesAsked, ComparesAttempt, ComparesShown}
-use Rattle.card_model.specs.Outcomes.{refused_by}
-use Rattle.card_model.specs.Attempts.{Attempt}
+use Rattle.card_model.specs.Behaviours.{refused_by, Attempt}
 use Rattle.card_model.specs.Sessions.{Session}
 use Rattle.card_model.specs.laws.CommandLaws.{lawful}
 pub use Rattle.card_model.specs.laws.Lawful.{IsOfItsPin}

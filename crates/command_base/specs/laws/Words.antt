@@ -13,8 +13,7 @@ use Rattle.card_model.specs.Cards.{Card}
 use Rattle.card_model.specs.Steps.{attempt_of, IsDoing, commits, commits_unless, refusals_of, commits_alone}
 use Rattle.card_model.specs.Steps.{commits_gated, last_of}
 use Rattle.command_base.specs.Finding.{found}
-use Rattle.card_model.specs.Outcomes.{refused_by}
-use Rattle.card_model.specs.Attempts.{Attempt}
+use Rattle.card_model.specs.Behaviours.{refused_by, Attempt}
 use Rattle.card_model.specs.Sessions.{Session}
 use Rattle.command_base.specs.Standing.{card_of, IsCard}
 use Rattle.command_base.specs.Words.{StandsByWord, StandsServed}

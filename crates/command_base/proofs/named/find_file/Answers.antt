@@ -3,7 +3,7 @@ use Rattle.std.proofs.Common.{if◌then◌else◌, rules}
 use Rattle.std.specs.Option.{is_none}
 use Rattle.card_rules.specs.declared.status.Sw.{Sw}
 use Rattle.card_model.specs.Guards.{file_refusals, missing, allowed}
-use Rattle.card_model.specs.Outcomes.{refused_by}
+use Rattle.card_model.specs.Behaviours.{refused_by}
 use Rattle.undo_journal.specs.Memory.{committed}
 use Rattle.undo_journal.specs.laws.Calls.{reads_then}
 use Rattle.file_tree.specs.declared.entry.Entry.{Entry}

@@ -13,7 +13,7 @@ use Rattle.card_model.specs.RecordCommands.{pointer_after}
 use Rattle.command_base.specs.Working.{card_in, session_in, table_in, IsCurrent}
 use Rattle.command_base.specs.CurrentFiles.{pointer_from, pointing_from}
 use Rattle.content_commands.specs.RecordParts.{chosen_in}
-use Rattle.card_model.specs.Outcomes.{refused, outcome}
+use Rattle.card_model.specs.Behaviours.{refused, outcome}
 use Rattle.content_commands.proofs.RecordBodies.{slot-few}
 use Rattle.content_commands.proofs.RecordSteps.{choice-barred, choice-gone, chosen-body, chosen-has, current-is}
 use Rattle.content_commands.proofs.RecordSteps.{declined-empty, is-chosen, read-other, read-refused, read-whole}

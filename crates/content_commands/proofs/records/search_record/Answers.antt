@@ -9,7 +9,7 @@ use Rattle.card_state.specs.RecordLists.{found as found_in}
 use Rattle.command_base.specs.declared.current.Current.{Current}
 use Rattle.command_base.specs.declared.stop.Stop.TheVariants.{Refused}
 use Rattle.card_model.specs.Guards.{asks_less, given, right_length}
-use Rattle.card_model.specs.Outcomes.{refused, outcome}
+use Rattle.card_model.specs.Behaviours.{refused, outcome}
 use Rattle.card_model.specs.RecordCommands.{place_number, pointer_found, search_status}
 use Rattle.command_base.specs.Working.{card_in, session_in, table_in, IsCurrent}
 use Rattle.command_base.specs.CurrentFiles.{pointer_from, pointing_from}

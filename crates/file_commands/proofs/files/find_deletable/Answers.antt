@@ -8,7 +8,7 @@ use Rattle.file_tree.specs.laws.Nodes.{used_small}
 use Rattle.file_tree.specs.laws.Paths.{parent_used, path-zero}
 use Rattle.card_rules.specs.declared.status.Sw.{Sw}
 use Rattle.card_model.specs.FileCommands.{delete_refusals}
-use Rattle.card_model.specs.Outcomes.{refused_by}
+use Rattle.card_model.specs.Behaviours.{refused_by}
 use Rattle.command_base.specs.Standing.{card_of}
 use Rattle.command_base.specs.Working.{session_of}
 use Rattle.file_commands.proofs.Deletions.{deletable, deletion_verdict, file-verdict, subject-found}

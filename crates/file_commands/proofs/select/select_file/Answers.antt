@@ -18,7 +18,7 @@ use Rattle.command_base.specs.Standing.{card_of}
 use Rattle.command_base.specs.Working.{session_of, IsCurrent}
 use Rattle.command_base.specs.CurrentFiles.{current_by}
 use Rattle.command_base.specs.TemplateParts.{data_in, IsToldEntry}
-use Rattle.card_model.specs.Outcomes.{outcome}
+use Rattle.card_model.specs.Behaviours.{outcome}
 use Rattle.card_model.specs.Guards.{IsGiven}
 use Rattle.command_base.specs.laws.Entries.{current-entry, select-entry, select-entry-less}
 use Rattle.card_model.specs.laws.SelectSteps.{select-missed}
