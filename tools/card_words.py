@@ -1,22 +1,26 @@
-"""A few words for what a script's line asks of the card and what it prints, by the table in words/card.table.
+"""A few words for what a script's line asks of the card and what it prints, by the tables in words/.
 
-They help a person to read a log; what the card does is in docs/CARD.md. Which file is current is followed by the
-answers alone, as a reader of the log would."""
+They help a person to read a log; what the card does is in docs/CARD.md. Which files there are and which is current is
+followed by the answers, as a reader of the log would; what the log doesn't show is asked of a second card."""
+from __future__ import annotations
+
+from collections.abc import Callable
 from pathlib import Path
 
+from explaining.commands import BINARY, LIFE_CYCLE, OF_AN_EF, OF_PINS, RECORD, Command
+from explaining.files import CARRIED_OUT, MASTER_FILE, Files, named
+from explaining.reasons import Case
+from explaining.templates import Template, count
+from explaining.twin import Twin
+
 TABLE = Path(__file__).resolve().parent / "words" / "card.table"
-CARRIED_OUT = ("9000", "6282", "6283", "6285")
-MASTER_FILE = "3F00"
 # the low bits of P2 of READ and UPDATE RECORD
 RECORD_MODES = {2: "next record", 3: "previous record"}
-# of a template's object 82, by its first byte
-KINDS = {0x38: "DF", 0x78: "DF", 0x01: "transparent", 0x41: "transparent"}
-KINDS.update({0x02: "linear", 0x42: "linear", 0x06: "cyclic", 0x46: "cyclic"})
 
 
-def read_table():
+def read_table() -> dict[str, dict[str, str]]:
     """The table: of each kind of thing its words by its key, in the order of the file."""
-    table = {}
+    table: dict[str, dict[str, str]] = {}
     for line in TABLE.read_text(encoding="utf-8").splitlines():
         if line and not line.startswith("#"):
             kind, key, words = line.split(" ", 2)
@@ -24,49 +28,18 @@ def read_table():
     return table
 
 
-def count(number, what):
-    """A number and what is counted."""
-    return f"{number} {what}" if number == 1 else f"{number} {what}s"
-
-
-def tagged(template):
-    """The objects of a template by their tags, the first one of each; what isn't one ends the list."""
-    found, rest = {}, template[2:]
-    while len(rest) >= 2 and len(rest) >= 2 + rest[1]:
-        found.setdefault(rest[0], rest[2 : 2 + rest[1]])
-        rest = rest[2 + rest[1] :]
-    return found
-
-
-class Command:
-    """A command's bytes, taken apart as far as they go."""
-
-    def __init__(self, given):
-        self.p1, self.p2 = (given[2], given[3]) if len(given) >= 4 else (0, 0)
-        self.key = given[:2].hex().upper()
-        self.data, self.expected = b"", None
-        body = given[4:]
-        if len(body) == 1:
-            self.expected = body[0]
-        elif body and len(body) - body[0] in (1, 2):
-            self.data = body[1 : 1 + body[0]]
-            self.expected = body[-1] if len(body) - body[0] == 2 else None
-
-    def short_identifier(self):
-        """The short identifier by which it names its file, or 0."""
-        if self.key in ("00B0", "00D6"):
-            return self.p1 & 0x1F if self.p1 & 0x80 else 0
-        return self.p2 >> 3 if self.key in ("00B2", "00DC", "00E2", "00A2") else 0
-
-
 class Log:
     """What is known of the card from the lines so far."""
 
-    def __init__(self):
+    def __init__(self, program: str | None = None):
         self.table = read_table()
-        self.current = None
+        self.files, self.twin = Files(), Twin(program)
 
-    def printed(self, line, answer):
+    def took(self, line: str) -> None:
+        """A line that the card was given, before it is explained."""
+        self.twin.took(line)
+
+    def printed(self, line: str, answer: str) -> str:
         """The words for what a line of the script printed."""
         order, _, digits = line.partition(" ")
         kind, _, value = answer.partition(" ")
@@ -74,25 +47,48 @@ class Log:
             blocks, entries = value.split(" ")
             return f"{count(int(blocks), 'block')} and {entries} entries are free"
         if order == "on":
-            self.current = MASTER_FILE
+            self.files.power()
+            if self.files.is_doubtful and kind == "atr":
+                self.twin.refresh(self.files)
         given = bytes.fromhex(digits) if order in ("apdu", "block") else b""
         if kind == "<" and order == "block":
-            return f"{self.block(given, self.command)}; the reply: {self.block(bytes.fromhex(value), self.response)}"
+            return self.blocks(given, bytes.fromhex(value))
         if kind == "<":
             return self.exchange(given, value)
         words = self.table["answer"].get(kind, "")
-        return f"{self.command(given)}: {words}" if order == "apdu" else words
-
-    def exchange(self, given, answer):
-        """A command and its answer; what it makes the current file is kept."""
+        if order != "apdu":
+            return words
         asked = self.command(given)
-        name = self.table["command"].get(Command(given).key, "")
-        status = answer[-4:]
-        if status in CARRIED_OUT:
-            self.current = self.current_after(Command(given))
-        return f"{asked}: {self.status(status).replace(f'{name}: ', '')}"
+        if kind != "mute":
+            self.files.cut(Command(given))
+        return f"{asked}: {words}"
 
-    def status(self, word):
+    def blocks(self, given: bytes, reply: bytes) -> str:
+        """A block and its reply; a whole command in them is followed."""
+        words = f"{self.block(given, self.command)}; the reply: {self.block(reply, self.response)}"
+        if is_whole(given) and is_whole(reply):
+            self.follow(Command(given[3:-1]), reply[-3:-1].hex().upper())
+        return words
+
+    def exchange(self, given: bytes, answer: str) -> str:
+        """A command and its answer; what it makes the current file is kept."""
+        it, status, data = Command(given), answer[-4:], bytes.fromhex(answer[:-4])
+        asked, name = self.command(given), self.table["command"].get(it.key, "")
+        because = None if status == "9000" else Case(it, status, self.files, self.twin, self.table["command"]).why()
+        self.follow(it, status)
+        words = self.status(status).replace(f"{name}: ", "")
+        if because:
+            words = because[1:] if because.startswith("=") else f"{words}: {because}"
+        if it.key == "00A4" and data[:1] == b"\x62":
+            words = f"{words}; {Template(data).in_words()}"
+        return f"{asked}: {words}"
+
+    def follow(self, it: Command, status: str) -> None:
+        """What a command that was carried out changes for those behind it."""
+        if status in CARRIED_OUT and not it.fault:
+            self.files.carried_out(it)
+
+    def status(self, word: str) -> str:
         """A status word in words."""
         if word[:3] == "63C":
             tries = int(word[3], 16)
@@ -101,64 +97,59 @@ class Log:
             return self.table["status"]["6CXX"].replace("XX", word[2:])
         return self.table["status"].get(word, f"status {word}")
 
-    def response(self, data):
+    def response(self, data: bytes) -> str:
         """The bytes of an answer: its status, and how many bytes stand before it."""
         before = f"{count(len(data) - 2, 'byte')}, " if len(data) > 2 else ""
         return before + self.status(data[-2:].hex().upper()) if len(data) >= 2 else count(len(data), "byte")
 
-    def command(self, given):
+    def command(self, given: bytes) -> str:
         """A command by its name, file, record or offset."""
         it = Command(given)
         name = self.table["command"].get(it.key)
-        if len(given) < 4 or name is None:
+        if it.fault == "header":
+            return f"a command of {count(len(given), 'byte')}"
+        if name is None:
             return f"no known command {given[:4].hex().upper()}"
+        if it.fault:
+            return name
         return ", ".join(filter(None, [f"{name} {self.file(it)}".rstrip(), *self.details(it)]))
 
-    def file(self, it):
+    def file(self, it: Command) -> str:
         """The file that a command is for, as far as the log tells."""
         if it.key == "00A4":
             return selected(it)
         if it.key == "00E0":
-            return tagged(it.data).get(0x83, b"").hex().upper()
-        if it.key in ("0020", "0024", "0026", "0028", "002C"):
+            return Template(it.data).identifier
+        if it.key in OF_PINS:
             return f"PIN {it.p2}"
         if it.key == "00FE":
             return ""
-        if it.key in ("00E4", "0044", "0004", "00E6", "00E8") and it.data:
+        if it.key in ("00E4", *LIFE_CYCLE) and it.data:
             return it.data.hex().upper()
         short = it.short_identifier()
-        return f"short identifier {short}" if short else self.current or ""
+        if short:
+            return f"short identifier {short}"
+        return named(self.files.element if it.key in (*OF_AN_EF, "00E8") else self.files.target(it)) or ""
 
-    def details(self, it):
+    def details(self, it: Command) -> list[str]:
         """Offset, record, number of bytes, or kind of file."""
-        if it.key in ("00B0", "00D6"):
-            offset = it.p2 if it.p1 & 0x80 else it.p1 << 8 | it.p2
-            return [f"offset {offset}", amount(it)]
-        if it.key in ("00B2", "00DC"):
+        if it.key in BINARY:
+            return [f"offset {it.offset()}", amount(it)]
+        if it.key in RECORD:
             return [record(it)]
         if it.key == "00E2":
             return [count(len(it.data), "byte")]
         if it.key == "00A2":
             way = "backward" if it.p2 & 7 == 5 else "forward"
             begin = f"record {it.p1}" if it.p1 else "the current record"
-            return [f"{way} from {begin}", f"text {it.data.hex().upper()}"]
+            return [f"{way} from {begin}", f"text {it.data.hex().upper()}" if it.data else ""]
         if it.key == "8032":
-            return [f"by {it.data.hex().upper()}"]
+            return [f"by {it.data.hex().upper()}" if it.data else ""]
         if it.key == "00E0":
-            return [KINDS.get(tagged(it.data).get(0x82, b"\0")[:1][0], "")]
+            return [Template(it.data).kind]
         return ["its tries are asked"] if it.key in ("0020", "002C") and not it.data else []
 
-    def current_after(self, it):
-        """The current file after a command that was carried out; None where the log doesn't tell."""
-        if it.key == "00A4" and it.p1 != 3:
-            return selected(it).rpartition("/")[2]
-        if it.key in ("00A4", "00E4"):
-            return None
-        if it.key in ("00E0", "0044", "0004", "00E6", "00E8"):
-            return self.file(it)
-        return self.file(it) if it.short_identifier() else self.current
-
-    def block(self, given, inner):
+    def block(self, given: bytes, inner: Callable[[bytes], str]) -> str:
         """A block of T=1 by its kind; what a whole I-block carries is told by `inner`."""
         if len(given) < 4 or given[2] != len(given) - 4:
             return "a block of a wrong length"
@@ -178,7 +169,12 @@ class Log:
         return f"S-block, {words}" + (f" {given[3]}" if len(given) == 5 else "")
 
 
-def selected(it):
+def is_whole(block: bytes) -> bool:
+    """Whether it is an I-block that carries a whole command or answer."""
+    return len(block) > 4 and block[1] & 0xA0 == 0 and block[2] == len(block) - 4
+
+
+def selected(it: Command) -> str:
     """What SELECT is given: an identifier, a path, a name, or none."""
     digits = it.data.hex().upper()
     if it.p1 == 3:
@@ -190,14 +186,14 @@ def selected(it):
     return digits or MASTER_FILE
 
 
-def amount(it):
+def amount(it: Command) -> str:
     """How many bytes are sent, or asked for."""
     if it.data:
         return count(len(it.data), "byte")
     return {None: "no Le", 0: "all bytes"}.get(it.expected) or count(it.expected, "byte")
 
 
-def record(it):
+def record(it: Command) -> str:
     """Which record READ or UPDATE RECORD is for."""
     if it.p2 & 7 == 4 and it.p1:
         return f"record {it.p1}"

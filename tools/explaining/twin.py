@@ -1,0 +1,69 @@
+"""A second card that is given the same lines, and is then asked what a log can't tell: a file's rule, its records.
+
+Each question is a run of its own, from the factory card on, so that no answer changes what the first card prints."""
+from __future__ import annotations
+
+import subprocess
+
+from .files import Files, Path
+from .templates import Template
+
+# what all questions of a run may cost, counted in lines, and what the start of a program costs beside its lines
+MOST_LINES, START = 2_000_000, 4_000
+# a cut that is still to come must not come in a question
+NO_CUT = "cut 999999 0000"
+PATIENCE = 60
+
+
+def select(path: Path) -> str:
+    """The line that shows a file's template."""
+    digits = "".join(path)
+    return f"apdu 00A40804{len(path) * 2:02X}{digits}00" if path else "apdu 00A4000400"
+
+
+class Twin:
+    """The lines so far, and the program that plays them again."""
+
+    def __init__(self, program: str | None):
+        self.program, self.lines, self.spent = program, [], 0
+
+    def took(self, line: str) -> None:
+        """A line that the first card has answered."""
+        self.lines.append(line)
+
+    def ask(self, questions: list[str]) -> list[str]:
+        """What the lines of a question print after all lines so far; nothing where there is no second card, or it has
+        been asked too much."""
+        self.spent += START + len(self.lines)
+        if self.program is None or self.spent > MOST_LINES:
+            return []
+        lines = [*self.lines, NO_CUT, "on", *questions]
+        text = "".join(f"{line}\n" for line in lines).encode("latin-1")
+        try:
+            ran = subprocess.run([self.program], input=text, capture_output=True, timeout=PATIENCE, check=False)
+        except (OSError, subprocess.TimeoutExpired):
+            return []
+        return ran.stdout.decode("latin-1").splitlines()[-len(questions) :] if ran.returncode == 0 else []
+
+    def templates(self, paths: list[Path]) -> dict[Path, Template]:
+        """The templates of those of the files that exist."""
+        answers = self.ask([select(path) for path in paths])
+        return {
+            path: Template(bytes.fromhex(answer[2:-4]))
+            for path, answer in zip(paths, answers)
+            if answer.startswith("< 62") and answer[-4:] in ("9000", "6283", "6285")
+        }
+
+    def refresh(self, files: Files, *paths: Path) -> None:
+        """What the second card says of these files now, or of all files where some may be gone."""
+        wanted = list(files.seen) if files.is_doubtful else [path for path in paths if path in files.seen]
+        found = self.templates(wanted) if wanted else {}
+        if files.is_doubtful and found:
+            files.seen, files.is_doubtful = found, False
+        files.seen.update(found)
+
+    def free(self) -> tuple[int, int] | None:
+        """The free blocks and entries."""
+        answers = self.ask(["free"])
+        words = answers[0].split(" ") if answers else []
+        return (int(words[1]), int(words[2])) if words[:1] == ["free"] else None
