@@ -1,7 +1,7 @@
 """Plays vpcd, the driver of a virtual reader, towards tools/pcsc: a loopback socket that the bridge connects to.
 
-As vpcd does, it sends a message's length and its bytes apart, and leaves the system's way to put small packets
-together as it is."""
+As vpcd does, it sends a message's length and its bytes apart, leaves the system's way to put small packets together as
+it is, and takes a connection that ends in place of a length for an answer of no bytes."""
 import socket
 import subprocess
 import sys
@@ -39,31 +39,27 @@ class Reader:
             self.card.sendall(message)
 
     def receive(self):
-        """The next message; None where the card is gone."""
-        head = self.exactly(2)
-        return None if head is None else self.exactly(int.from_bytes(head, "big"))
+        """The next message, or no bytes where the connection has ended before it. An error is one within a message."""
+        try:
+            head = self.exactly(2)
+        except ConnectionError:
+            head = b""
+        return self.exactly(int.from_bytes(head, "big"))
 
     def exactly(self, count):
-        """So many bytes, or None where the connection has ended."""
+        """So many bytes, or fewer where the connection has ended orderly."""
         data = b""
-        while len(data) < count:
-            try:
-                part = self.card.recv(count - len(data))
-            except ConnectionError:
-                part = b""
-            if not part:
-                return None
+        while len(data) < count and (part := self.card.recv(count - len(data))):
             data += part
         return data
 
     def ask(self, message):
-        """Sends a message and gives its answer as digits; "gone" where the card is."""
+        """Sends a message and gives its answer as digits; "error" where the client gets one."""
         try:
             self.send(message)
+            return self.receive().hex().upper()
         except ConnectionError:
-            return "gone"
-        answer = self.receive()
-        return "gone" if answer is None else answer.hex().upper()
+            return "error"
 
     def command(self, digits):
         """The answer to a command."""

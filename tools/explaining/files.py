@@ -118,7 +118,7 @@ class Files:
                 self.become(path)
 
     def created(self, data: bytes) -> None:
-        """A new file, which becomes current. Without object 88 an EF may take its short identifier from its identifier."""
+        """A new file becomes current. Without object 88 an EF may take its short identifier from its identifier."""
         template = Template(data)
         if template.kind != "DF" and template.short is None:
             low = int(template.identifier, 16) & 0x1F
