@@ -1,4 +1,4 @@
-"""Debian's PC/SC service with the virtual reader vpcd, for tests and pages: it is started where none runs, and ended then."""
+"""Debian's PC/SC service with the virtual reader vpcd, for tests: it is started where none runs, and ended then."""
 from __future__ import annotations
 
 import os
@@ -6,6 +6,7 @@ import shutil
 import subprocess
 import sys
 import time
+from collections.abc import Callable
 from pathlib import Path
 
 TOOLS = Path(__file__).resolve().parent
@@ -19,12 +20,13 @@ PATIENCE = 20
 
 def missing() -> str | None:
     """The first of Debian's packages that isn't there, or why the service can't be started."""
+    pyscard = subprocess.run([PYTHON, "-c", "import smartcard.scard"], stderr=subprocess.DEVNULL, check=False)
     for package, is_there in (
         ("pcscd", shutil.which("pcscd", path="/usr/sbin:/usr/bin")),
         ("vsmartcard-vpcd", DRIVER.exists()),
         ("opensc", shutil.which("opensc-tool")),
         ("pcsc-tools", shutil.which("scriptor")),
-        ("python3-pyscard", not subprocess.run([PYTHON, "-c", "import smartcard.scard"], stderr=subprocess.DEVNULL).returncode),
+        ("python3-pyscard", pyscard.returncode == 0),
     ):
         if not is_there:
             return f"{package} isn't installed"
@@ -37,7 +39,7 @@ def is_listening() -> bool:
         return any(line.split()[1].endswith(f":{PORT:04X}") and line.split()[3] == "0A" for line in table)
 
 
-def wait_for(holds, what: str) -> None:
+def wait_for(holds: Callable[[], bool], what: str) -> None:
     """Waits until it holds."""
     end = time.monotonic() + PATIENCE
     while not holds():
@@ -90,5 +92,5 @@ class Card:
 
 def has_card() -> bool:
     """Whether a client sees a card in the first reader."""
-    ran = subprocess.run(["opensc-tool", "-r", READER, "-a"], stdout=subprocess.PIPE, stderr=subprocess.DEVNULL)
+    ran = subprocess.run(["opensc-tool", "-r", READER, "-a"], stdout=subprocess.PIPE, stderr=subprocess.DEVNULL, check=False)
     return ran.returncode == 0 and bool(ran.stdout.strip())
