@@ -1,0 +1,49 @@
+"""What stands behind a clause, as text."""
+from __future__ import annotations
+
+from collections.abc import Iterator
+
+from .evidence import Word, evidence, relative
+from .page import Entry
+
+
+def named(word: Word) -> str:
+    """A definition by its file and name."""
+    path, name = word
+    return f"{relative(path).removeprefix('crates/').removesuffix('.antt')}: {name}"
+
+
+def calls(found: dict[str, list[str]]) -> list[str]:
+    """Calls with their clauses; a clause without a name stands for its call alone."""
+    return [
+        call + ("" if clauses == ["ensures"] else f" ({', '.join(dict.fromkeys(clauses))})")
+        for call, clauses in sorted(found.items())
+    ]
+
+
+def by_file(words: set[Word]) -> list[str]:
+    """Definitions, those of one file together."""
+    found: dict[str, list[str]] = {}
+    for word in sorted(words):
+        name, _, definition = named(word).partition(": ")
+        found.setdefault(name, []).append(definition)
+    return [f"{name}: {', '.join(words)}" for name, words in found.items()]
+
+
+def whole(entry: Entry) -> Iterator[str]:
+    """All that stands behind a clause."""
+    yield f"{entry.clause} {entry.title}: {entry.status}".replace(" :", ":")
+    if not entry.is_there:
+        yield f"  {entry.said}"
+        return
+    it = evidence(entry.clause, entry.key)
+    for name, things in (
+        ("definitions", by_file(it.definitions)),
+        ("sources", sorted(it.sources)),
+        ("promised by", calls(it.promises)),
+        ("rows", sorted(it.rows)),
+        ("tests", sorted(it.tests)),
+        ("wrong bodies", sorted(it.wrong_bodies)),
+    ):
+        yield f"  {name}: {len(things) or 'none'}"
+        yield from (f"    {thing}" for thing in things)
