@@ -92,5 +92,5 @@ class Card:
 
 def has_card() -> bool:
     """Whether a client sees a card in the first reader."""
-    ran = subprocess.run(["opensc-tool", "-r", READER, "-a"], stdout=subprocess.PIPE, stderr=subprocess.DEVNULL, check=False)
+    ran = subprocess.run(["opensc-tool", "-r", READER, "-a"], capture_output=True, check=False)
     return ran.returncode == 0 and bool(ran.stdout.strip())

@@ -1,4 +1,4 @@
-"""Templates in words (docs/CARD.md, Templates and Access rules): what one says, and what CREATE FILE refuses in one."""
+"""Templates in words (docs/CARD.md, Templates and Access rules): what one says, and what CREATE FILE refuses."""
 from __future__ import annotations
 
 from collections.abc import Iterator

@@ -216,8 +216,8 @@ def types_of(source: str) -> set[Type]:
 
 
 def promised(words: set[Word], cited: set[str]) -> dict[str, list[str]]:
-    """The clauses of contracts that rest on definitions. Where there are none, those of the sources that cite the clause,
-    and those that rest on their types."""
+    """The clauses of contracts that rest on definitions. Where there are none, those of the sources that cite the
+    clause, and those that rest on their types."""
     types = set() if words else {it for source in cited for it in types_of(source)}
     holds = [
         it
