@@ -5,6 +5,7 @@ import os
 import shutil
 import subprocess
 import sys
+import tempfile
 import time
 from collections.abc import Callable
 from pathlib import Path
@@ -73,7 +74,9 @@ class Card:
         self.words = words
 
     def __enter__(self) -> Card:
-        self.bridge = subprocess.Popen([sys.executable, TOOLS / "pcsc", *map(str, self.words)], stderr=subprocess.PIPE)
+        # (a file, for a pipe that nobody reads would fill)
+        self.told = tempfile.TemporaryFile()
+        self.bridge = subprocess.Popen([sys.executable, TOOLS / "pcsc", *map(str, self.words)], stderr=self.told)
         try:
             wait_for(has_card, "no card comes into the reader")
         except TimeoutError:
@@ -83,11 +86,17 @@ class Card:
 
     def __exit__(self, *_) -> None:
         self.bridge.terminate()
-        self.told = self.bridge.communicate()[1].decode()
+        self.bridge.wait()
         try:
             wait_for(lambda: not has_card(), "the card stays in the reader")
         except TimeoutError:
             pass
+
+
+    def log(self) -> list[str]:
+        """The lines that the bridge has told so far."""
+        self.told.seek(0)
+        return self.told.read().decode("latin-1").splitlines()
 
 
 def has_card() -> bool:

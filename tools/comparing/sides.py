@@ -5,6 +5,8 @@ import subprocess
 import time
 from typing import Protocol
 
+from script_lines import ORDERS_THAT_PRINT
+
 # seconds that a reader may take to have its card again, after an error
 BACK_AFTER = 10.0
 GET_RESPONSE = "00C00000"
@@ -57,7 +59,7 @@ class Program:
             self.process.stdin.flush()
         except BrokenPipeError:
             raise Trouble(f"the program {self.program} has ended before the line {line!r}") from None
-        if line == "off":
+        if line.partition(" ")[0] not in ORDERS_THAT_PRINT:
             return None
         answer = self.process.stdout.readline().decode("latin-1").rstrip("\n")
         if not answer:
