@@ -10,7 +10,7 @@ from explaining.templates import Template
 from .sides import Side
 
 PIN, WRONG, UNBLOCKING = "31323334FFFFFFFF", "30303030FFFFFFFF", "3132333435363738"
-RULES = ("8C03030000", "8C0407000000", "8C0407001100", "8C03031100", "8C087F00000000000000", "8C0403FF00")
+RULES = ("8C03030000", "8C0407000000", "8C0407001100", "8C03031100", "8C087F00000000000000", "8C0303FF00")
 IDENTIFIERS = [*(f"6F{low:02X}" for low in range(1, 9)), *(f"7F{low:02X}" for low in range(0x10, 0x14))]
 # how often each command comes, out of the sum
 OFTEN = {

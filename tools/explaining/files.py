@@ -8,6 +8,8 @@ from .templates import Template
 
 Path = tuple[str, ...]
 MASTER_FILE = "3F00"
+# the state of a file after each command that changes it
+STATES_AFTER = {"0044": 0x05, "0004": 0x04, "00E6": 0x0C, "00E8": 0x0C}
 CARRIED_OUT = ("9000", "6282", "6283", "6285")
 # the factory card's EF, as SELECT shows it
 FACTORY = {
@@ -112,10 +114,19 @@ class Files:
             self.deleted(self.target(it))
         elif it.key == "00FE":
             self.is_terminated = True
-        elif it.key in ("00A4", *LIFE_CYCLE) or it.short_identifier():
+        elif it.key in ("00A4", *LIFE_CYCLE) or it.key in OF_AN_EF:
             path = self.target(it)
-            if path is not None:
+            if path in self.seen:
+                self.changed(it, self.seen[path])
+            if path is not None and (it.key not in OF_AN_EF or it.short_identifier()):
                 self.become(path)
+
+    def changed(self, it: Command, file: Template) -> None:
+        """What a command makes of a file's template: another state, or a record more."""
+        if it.key in STATES_AFTER:
+            file.objects[0x8A] = bytes([STATES_AFTER[it.key]])
+        if it.key == "00E2" and file.record_length and file.records < file.capacity:
+            file.objects[0x82] = file.objects[0x82][:4] + bytes([file.records + 1])
 
     def created(self, data: bytes) -> None:
         """A new file becomes current. Without object 88 an EF may take its short identifier from its identifier."""
