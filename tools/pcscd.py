@@ -75,8 +75,8 @@ class Card:
 
     def __enter__(self) -> Card:
         # (a file, for a pipe that nobody reads would fill)
-        self.told = tempfile.TemporaryFile()
-        self.bridge = subprocess.Popen([sys.executable, TOOLS / "pcsc", *map(str, self.words)], stderr=self.told)
+        self.errors = tempfile.TemporaryFile()
+        self.bridge = subprocess.Popen([sys.executable, TOOLS / "pcsc", *map(str, self.words)], stderr=self.errors)
         try:
             wait_for(has_card, "no card comes into the reader")
         except TimeoutError:
@@ -94,9 +94,9 @@ class Card:
 
 
     def log(self) -> list[str]:
-        """The lines that the bridge has told so far."""
-        self.told.seek(0)
-        return self.told.read().decode("latin-1").splitlines()
+        """The lines that the bridge has written to standard error so far."""
+        self.errors.seek(0)
+        return self.errors.read().decode("latin-1").splitlines()
 
 
 def has_card() -> bool:

@@ -106,11 +106,11 @@ class Reader:
     def __init__(self, name: str):
         self.pcsc, self.name = scard(), name
         result, self.context = self.pcsc.SCardEstablishContext(self.pcsc.SCARD_SCOPE_USER)
-        self.told(result, "there is no PC/SC service")
+        self.check(result, "there is no PC/SC service")
         self.card, self.protocol = None, 0
         self.insert()
 
-    def told(self, result: int, what: str) -> None:
+    def check(self, result: int, what: str) -> None:
         """Ends where a call failed."""
         if result:
             raise Trouble(f"{what}: {self.pcsc.SCardGetErrorMessage(result).strip()}")
@@ -126,7 +126,7 @@ class Reader:
             if not result:
                 return
             if time.monotonic() > end:
-                self.told(result, f"no card in the reader {self.name}")
+                self.check(result, f"no card in the reader {self.name}")
             time.sleep(0.2)
 
     def renew(self) -> None:
@@ -149,7 +149,7 @@ class Reader:
         if result:
             self.insert()
         result, _, _, _, atr = pcsc.SCardStatus(self.card)
-        self.told(result, "the card has no answer to reset")
+        self.check(result, "the card has no answer to reset")
         return f"atr {bytes(atr).hex().upper()}"
 
     def command(self, command: bytes) -> str:

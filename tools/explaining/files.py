@@ -93,7 +93,7 @@ class Files:
         return whole if whole in self.seen else None
 
     def target(self, it: Command) -> Path | None:
-        """The file that a command is for; None where there is none, or where it can't be told."""
+        """The file that a command is for; None where there is none, or where the log doesn't show it."""
         if it.key == "00A4":
             return self.selected(it)
         if it.key in OF_AN_EF:

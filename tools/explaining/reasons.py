@@ -16,7 +16,7 @@ CLAUSE = re.compile(r"(!?)(\w+)(?:([=<>])(\w+))?")
 # which bit of the rule a command asks, and what that bit allows is called
 BITS = {"00B0": 1, "00B2": 1, "00A2": 1, "00D6": 2, "00DC": 2, "8032": 2, "00E2": 3, "00E4": 7}
 BITS.update({"00E6": 6, "00E8": 6, "00FE": 6, "0044": 5, "0004": 4})
-# the statuses for which the second card is asked, and those that ask for the free space too
+# the statuses for which the second card shows the files' templates
 OF_FILES = ("6982", "6985", "6981", "6A83", "6A84", "6B00", "6282", "6700", "6C")
 BLOCK = 60
 
@@ -114,7 +114,7 @@ class Case:
         return {"tries": int(self.status[3], 16), "wanted_bytes": count(int(self.status[2:], 16) or 256, "byte")}
 
     def of_place(self) -> dict[str, Fact]:
-        """What the log tells of the current DF, and of files that aren't reached."""
+        """What the log shows of the current DF, and of files that aren't reached."""
         files, digits = self.files, self.it.data.hex().upper()
         elsewhere = next((at for at in files.seen if named(at) == digits), None)
         names = (file.objects.get(0x84, b"").hex().upper() for file in files.seen.values())

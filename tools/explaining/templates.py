@@ -62,7 +62,7 @@ class Template:
 
     @property
     def kind(self) -> str:
-        """DF, transparent, linear, cyclic; empty where object 82 doesn't tell."""
+        """DF, transparent, linear, cyclic; empty where object 82 doesn't say."""
         return KINDS.get((self.objects.get(0x82) or b"\0")[0], "")
 
     @property
@@ -236,7 +236,7 @@ def rule_fault(rule: bytes) -> str | None:
 
 
 def values(template: Template) -> Iterator[str | None]:
-    """What is wrong with each object, in the order in which they stand."""
+    """What is wrong with each object, in their order."""
     for tag, value in template.all:
         if tag == 0x82:
             yield descriptor(value)

@@ -1,4 +1,4 @@
-"""A second card that is given the same lines, and is then asked what a log can't tell: a file's rule, its records.
+"""A second card that is given the same lines, and then answers what a log doesn't show: a file's rule, its records.
 
 Each question is a run of its own, from the factory card on, so that no answer changes what the first card prints."""
 from __future__ import annotations
@@ -33,7 +33,7 @@ class Twin:
 
     def ask(self, questions: list[str]) -> list[str]:
         """What the lines of a question print after all lines so far; nothing where there is no second card, or it has
-        been asked too much."""
+        answered too many questions."""
         self.spent += START + len(self.lines)
         if self.program is None or self.spent > MOST_LINES:
             return []

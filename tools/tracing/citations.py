@@ -1,4 +1,4 @@
-"""Citations of standards in comments: which clause stands where, and which definitions or items it is about."""
+"""Citations of standards in comments: which clauses, and for which definitions or items."""
 from __future__ import annotations
 
 import re
@@ -10,7 +10,7 @@ from .contracts import reading
 
 STANDARD = re.compile(r"(?:ISO/IEC |ETSI TS |TS |and )(7816-[349]|102 22[12])")
 NUMBER = r"(?:clause )?(?!7816)(\d+(?:\.\d+)*)(?![\d.]*\d)"
-# what may stand behind a standard: clauses with commas, "and" and "to" between, or a command's name
+# what may follow a standard: clauses with commas, "and" and "to" between, or a command's name
 CLAUSES = re.compile(rf"(?:, third edition)?((?:(?:, | and | to ){NUMBER})+)")
 COMMAND = re.compile(r", ([A-Z][A-Z ]+[A-Z])")
 # a clause alone in brackets is of the standard that was named last
@@ -30,7 +30,7 @@ class Clause:
 
     @property
     def order(self) -> tuple[str, list[int], str]:
-        """Where it stands in a list."""
+        """Its place in a list."""
         is_number = self.number[:1].isdigit()
         return self.standard, [int(part) for part in self.number.split(".")] if is_number else [], self.number
 

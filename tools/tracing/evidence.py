@@ -1,4 +1,4 @@
-"""What stands behind a clause: definitions, sources, promises that rest on them, rows, tests and wrong bodies."""
+"""The evidence for a clause: definitions, sources, contracts that rest on them, scripts, tests and mutants."""
 from __future__ import annotations
 
 import re
@@ -24,14 +24,14 @@ Type = tuple[str, str]
 
 @dataclass
 class Evidence:
-    """What stands behind one clause."""
+    """The evidence for one clause."""
 
     definitions: set[Word] = field(default_factory=set)
     sources: set[str] = field(default_factory=set)
     promises: dict[str, list[str]] = field(default_factory=dict)
-    rows: set[str] = field(default_factory=set)
+    scripts: set[str] = field(default_factory=set)
     tests: set[str] = field(default_factory=set)
-    wrong_bodies: set[str] = field(default_factory=set)
+    mutants: set[str] = field(default_factory=set)
 
     @property
     def has_theorem(self) -> bool:
@@ -40,8 +40,8 @@ class Evidence:
 
     @property
     def is_shown(self) -> bool:
-        """Whether a row or a test shows it."""
-        return bool(self.rows or self.tests)
+        """Whether a script or a test shows it."""
+        return bool(self.scripts or self.tests)
 
 
 def relative(path: Path) -> str:
@@ -93,7 +93,7 @@ def cited_by(*patterns: str) -> dict[Clause, set[str]]:
 
 @lru_cache(maxsize=None)
 def senders() -> dict[str, set[str]]:
-    """Of each class and instruction the rows and examples that send it, in an apdu line or in a block of its own."""
+    """Of each class and instruction the scripts that send it, in an apdu line or in a block of its own."""
     found: dict[str, set[str]] = defaultdict(set)
     for path in files("rows/*.rows", "examples/*.script"):
         for line in path.read_bytes().decode("latin-1").splitlines():
@@ -134,7 +134,7 @@ def of_command(key: str) -> set[Word]:
 
 @dataclass(frozen=True)
 class Promise:
-    """A clause of a public call's contract: where it stands, and the definitions and types that it rests on."""
+    """A clause of a public call's contract, its place, and the definitions and types that it rests on."""
 
     crate: str
     path: Path
@@ -232,7 +232,7 @@ def promised(words: set[Word], cited: set[str]) -> dict[str, list[str]]:
 
 @lru_cache(maxsize=None)
 def edits() -> list[tuple[str, str, frozenset[Clause]]]:
-    """The wrong bodies: each by its file, with the item that it changes and the clauses that are cited for it."""
+    """The mutants: each by its file, with the item that it changes and the clauses that are cited for it."""
     found = []
     for path in files("crates/*/must-fail/*.edit", "crates/*/more-edits/*.edit"):
         text = path.read_text(encoding="utf-8")
@@ -245,7 +245,7 @@ def edits() -> list[tuple[str, str, frozenset[Clause]]]:
 
 @lru_cache(maxsize=None)
 def edits_by_clause() -> dict[Clause, set[str]]:
-    """Of each clause the wrong bodies of items that cite it."""
+    """Of each clause the mutants of items that cite it."""
     found: dict[Clause, set[str]] = defaultdict(set)
     for edit, _, clauses in edits():
         for clause in clauses:
@@ -254,7 +254,7 @@ def edits_by_clause() -> dict[Clause, set[str]]:
 
 
 def place_of(source: Path, old: str) -> tuple[str, frozenset[Clause]]:
-    """The item of a source in which a line stands, and the clauses that are cited for it."""
+    """The item of a source that has a line, and the clauses that are cited for it."""
     lines = lines_of(source)
     at = next((number for number, line in enumerate(lines) if old.strip() and old.strip() in line), 0)
     begun = next((number for number in range(at, -1, -1) if FUNCTION.match(lines[number])), 0)
@@ -267,7 +267,7 @@ def place_of(source: Path, old: str) -> tuple[str, frozenset[Clause]]:
 
 
 def is_doc_of(lines: list[str], end: int, begun: int) -> bool:
-    """Whether a comment that ends there is the one above an item: attributes alone stand between."""
+    """Whether a comment that ends there is the one above an item: only attributes are between them."""
     return all(line.strip().startswith("#[") for line in lines[end:begun])
 
 
@@ -287,22 +287,22 @@ def above(found: dict[Clause, set], clause: Clause) -> set[str]:
 
 
 def evidence(clause: Clause, key: str | None) -> Evidence:
-    """What stands behind a clause; `key` is the class and instruction of the command that it is about."""
+    """The evidence for a clause; `key` is the class and instruction of the command that it is about."""
     it = Evidence(within(definitions(), clause), within(sources(), clause))
     it.definitions |= of_command(key) if key else set()
     it.promises = promised(it.definitions, it.sources)
     shown, tests = cited_by("rows/*.rows", "examples/*.script"), cited_by("crates/*_vectors/src/**/*.rt")
-    it.rows = (senders()[key] if key else set()) | within(shown, clause)
+    it.scripts = (senders()[key] if key else set()) | within(shown, clause)
     it.tests = within(tests, clause)
-    if not it.rows and not it.tests:
-        it.rows, it.tests = above(shown, clause), above(tests, clause)
+    if not it.scripts and not it.tests:
+        it.scripts, it.tests = above(shown, clause), above(tests, clause)
     kind = requests()[key][1] if key in requests() else None
-    it.wrong_bodies = refused(clause, kind) or above(edits_by_clause(), clause)
+    it.mutants = refused(clause, kind) or above(edits_by_clause(), clause)
     return it
 
 
 def refused(clause: Clause, kind: str | None) -> set[str]:
-    """The wrong bodies of a clause: those of items that cite it, or whose name has the command's."""
+    """The mutants of a clause: those of items that cite it, or whose name has the command's."""
     return {
         edit
         for edit, item, clauses in edits()

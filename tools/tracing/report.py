@@ -1,4 +1,4 @@
-"""What stands behind a clause, as text."""
+"""The evidence for a clause, as text."""
 from __future__ import annotations
 
 from collections.abc import Iterator
@@ -14,7 +14,7 @@ def named(word: Word) -> str:
 
 
 def calls(found: dict[str, list[str]]) -> list[str]:
-    """Calls with their clauses; a clause without a name stands for its call alone."""
+    """Calls with their clauses; of a clause without a name the call alone."""
     return [
         call + ("" if clauses == ["ensures"] else f" ({', '.join(dict.fromkeys(clauses))})")
         for call, clauses in sorted(found.items())
@@ -31,7 +31,7 @@ def by_file(words: set[Word]) -> list[str]:
 
 
 def whole(entry: Entry) -> Iterator[str]:
-    """All that stands behind a clause."""
+    """All evidence for a clause."""
     yield f"{entry.clause} {entry.title}: {entry.status}".replace(" :", ":")
     if not entry.is_there:
         yield f"  {entry.said}"
@@ -40,10 +40,10 @@ def whole(entry: Entry) -> Iterator[str]:
     for name, things in (
         ("definitions", by_file(it.definitions)),
         ("sources", sorted(it.sources)),
-        ("promised by", calls(it.promises)),
-        ("rows", sorted(it.rows)),
+        ("contracts", calls(it.promises)),
+        ("scripts", sorted(it.scripts)),
         ("tests", sorted(it.tests)),
-        ("wrong bodies", sorted(it.wrong_bodies)),
+        ("mutants", sorted(it.mutants)),
     ):
         yield f"  {name}: {len(things) or 'none'}"
         yield from (f"    {thing}" for thing in things)
