@@ -1,0 +1,1 @@
+"""Runs scripts of the bench that are tests: ./bench --test FILE.. (docs/SCRIPT.md)."""
