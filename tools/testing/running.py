@@ -65,7 +65,8 @@ class Run:
     def compare_end(self) -> None:
         """Compares how the run ended; a case that was not run has one difference for it."""
         script = self.script
-        if self.end and self.status != script.status:
+        is_before = self.end is not None and self.end[0] < len(self.scripts) - 1
+        if is_before or self.end and self.status != script.status:
             self.refuse_line(*self.end)
         elif self.status != script.status:
             wanted, came = f"status {script.status}", f"status {self.status}"
@@ -122,6 +123,9 @@ def end_of(told: str, lengths: list[int]) -> tuple[int, int] | None:
 def run_file(program: str, path: str, before: list[str], is_strict: bool) -> list[Case]:
     """The cases of a test file with their results; before them the failed ones of scripts that prepare the card."""
     scripts = [read_script(it) for it in [*before, path]]
+    for it in scripts[:-1]:
+        if it.status_at:
+            it.refuse(it.status_at, "", "a script that prepares the card ends with status 0, and doesn't say so")
     unread = next((it for it in scripts if not it.is_readable), None)
     if unread is None:
         Run(program, scripts).compare(is_strict)
