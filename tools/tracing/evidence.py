@@ -56,13 +56,13 @@ def files(*patterns: str) -> list[Path]:
 
 
 @lru_cache(maxsize=None)
-def definitions() -> dict[Clause, set[Word]]:
-    """Of each cited clause the definitions below the citation."""
+def definitions(has_heads: bool = True) -> dict[Clause, set[Word]]:
+    """Of each cited clause the definitions below the citation: with those that the head of a file is about, or without."""
     found: dict[Clause, set[Word]] = defaultdict(set)
     for path in files("crates/*/specs/**/*.antt"):
         if "laws" not in path.relative_to(TOP).parts and path.stem not in ("Lib", "laws"):
             for block, clauses in cited_in(path):
-                for clause in clauses:
+                for clause in clauses if has_heads or not block.is_head else ():
                     found[clause] |= {(path, word) for word in words_below(path, block)}
     return found
 
@@ -271,9 +271,9 @@ def is_doc_of(lines: list[str], end: int, begun: int) -> bool:
     return all(line.strip().startswith("#[") for line in lines[end:begun])
 
 
-def within(found: dict[Clause, set], clause: Clause) -> set:
-    """What cites the clause or a part of it."""
-    return set().union(*(things for cited, things in found.items() if cited.is_in(clause)))
+def within(found: dict[Clause, set], clauses: tuple[Clause, ...]) -> set:
+    """What cites one of the clauses or a part of it."""
+    return set().union(*(things for cited, things in found.items() if any(cited.is_in(clause) for clause in clauses)))
 
 
 def above(found: dict[Clause, set], clause: Clause) -> set[str]:
@@ -286,25 +286,28 @@ def above(found: dict[Clause, set], clause: Clause) -> set[str]:
     return set()
 
 
-def evidence(clause: Clause, key: str | None) -> Evidence:
-    """The evidence for a clause; `key` is the class and instruction of the command that it is about."""
-    it = Evidence(within(definitions(), clause), within(sources(), clause))
+def evidence(clause: Clause, key: str | None = None, alike: tuple[Clause, ...] = ()) -> Evidence:
+    """The evidence for a clause. `key` is the class and instruction of the command that it is about; `alike` are the
+    clauses of other standards about the same command."""
+    clauses = (clause, *alike)
+    # (the head of a file is about all of its commands)
+    it = Evidence(within(definitions(has_heads=not key), clauses), within(sources(), clauses))
     it.definitions |= of_command(key) if key else set()
     it.promises = promised(it.definitions, it.sources)
     shown, tests = cited_by("rows/*.rows", "examples/*.script"), cited_by("crates/*_vectors/src/**/*.rt")
-    it.scripts = (senders()[key] if key else set()) | within(shown, clause)
-    it.tests = within(tests, clause)
+    it.scripts = (senders()[key] if key else set()) | within(shown, clauses)
+    it.tests = within(tests, clauses)
     if not it.scripts and not it.tests:
         it.scripts, it.tests = above(shown, clause), above(tests, clause)
     kind = requests()[key][1] if key in requests() else None
-    it.mutants = refused(clause, kind) or above(edits_by_clause(), clause)
+    it.mutants = refused(clauses, kind) or above(edits_by_clause(), clause)
     return it
 
 
-def refused(clause: Clause, kind: str | None) -> set[str]:
-    """The mutants of a clause: those of items that cite it, or whose name has the command's."""
+def refused(clauses: tuple[Clause, ...], kind: str | None) -> set[str]:
+    """The mutants of clauses: those of items that cite one, or whose name has the command's."""
     return {
         edit
-        for edit, item, clauses in edits()
-        if any(cited.number and cited.is_in(clause) for cited in clauses) or (kind and kind in item)
+        for edit, item, cited in edits()
+        if any(it.number and it.is_in(clause) for it in cited for clause in clauses) or (kind and kind in item)
     }

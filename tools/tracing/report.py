@@ -3,8 +3,14 @@ from __future__ import annotations
 
 from collections.abc import Iterator
 
-from .evidence import Word, evidence, relative
-from .page import Entry
+from .evidence import Evidence, Word, evidence, relative
+from .page import Entry, entries
+
+
+def evidence_of(entry: Entry) -> Evidence:
+    """The evidence for a row of the page; of a command it comes from the clauses of all standards about it."""
+    alike = tuple(it.clause for it in entries() if entry.key and it.key == entry.key and it.clause != entry.clause)
+    return evidence(entry.clause, entry.key, alike)
 
 
 def named(word: Word) -> str:
@@ -36,7 +42,7 @@ def whole(entry: Entry) -> Iterator[str]:
     if not entry.is_there:
         yield f"  {entry.said}"
         return
-    it = evidence(entry.clause, entry.key)
+    it = evidence_of(entry)
     for name, things in (
         ("definitions", by_file(it.definitions)),
         ("sources", sorted(it.sources)),
