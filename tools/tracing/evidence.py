@@ -57,7 +57,7 @@ def files(*patterns: str) -> list[Path]:
 
 @lru_cache(maxsize=None)
 def definitions(has_heads: bool = True) -> dict[Clause, set[Word]]:
-    """Of each cited clause the definitions below the citation: with those that the head of a file is about, or without."""
+    """Of each cited clause the definitions below the citation, those below the head of a file too or not."""
     found: dict[Clause, set[Word]] = defaultdict(set)
     for path in files("crates/*/specs/**/*.antt"):
         if "laws" not in path.relative_to(TOP).parts and path.stem not in ("Lib", "laws"):

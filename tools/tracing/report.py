@@ -51,5 +51,5 @@ def whole(entry: Entry) -> Iterator[str]:
         ("tests", sorted(it.tests)),
         ("mutants", sorted(it.mutants)),
     ):
-        yield f"  {name}: {len(things) or 'none'}"
+        yield f"  {name}: {len(it.definitions if name == 'definitions' else things) or 'none'}"
         yield from (f"    {thing}" for thing in things)
