@@ -9,32 +9,70 @@ pub const BLOCKS: usize = 896;
 /// Bytes of a block.
 pub const BYTES: usize = 60;
 
-/// A place in a body: the page of its block, and how many bytes go before it.
-struct Place {
+/// A place in a body: the page of its block, how many bytes go before it, and its word in the block.
+#[derive(Clone, Copy)]
+pub struct Place {
     page: usize,
     at: usize,
+    word: usize,
 }
 
 impl Place {
     /// The place at an offset of the body that begins with a page.
-    fn of(board: &Board, first: u16, offset: usize) -> Result<Place, PowerLost> {
-        let mut page = usize::from(first);
-        for _ in 0..offset / BYTES {
+    pub fn of(board: &Board, first: u16, offset: usize) -> Result<Place, PowerLost> {
+        Place { page: usize::from(first), at: 0, word: 0 }.walk(board, offset)
+    }
+
+    /// The place at another offset. From a block behind that offset the walk begins at the first block again.
+    pub fn go_to(self, board: &Board, first: u16, offset: usize) -> Result<Place, PowerLost> {
+        if offset / BYTES < self.at / BYTES {
+            Place::of(board, first, offset)
+        } else {
+            self.walk(board, offset)
+        }
+    }
+
+    /// The place at an offset in this block or behind it.
+    fn walk(self, board: &Board, offset: usize) -> Result<Place, PowerLost> {
+        let mut page = self.page;
+        for _ in self.at / BYTES..offset / BYTES {
             page = board.read(PAGE * page)? as usize;
         }
-        Ok(Place { page, at: offset })
+        Ok(Place { page, at: offset, word: offset % BYTES / 4 })
     }
 
     /// The address of the word here.
     fn address(&self) -> usize {
-        PAGE * self.page + 1 + self.at % BYTES / 4
+        PAGE * self.page + 1 + self.word
     }
 
     /// Goes on by some bytes of this word; at the end of a block its link leads on.
     fn advance(&mut self, board: &Board, bytes: usize) -> Result<(), PowerLost> {
         self.at += bytes;
-        if self.at % BYTES == 0 {
-            self.page = board.read(PAGE * self.page)? as usize;
+        if self.at % 4 == 0 {
+            self.word += 1;
+            if self.word == BYTES / 4 {
+                self.page = board.read(PAGE * self.page)? as usize;
+                self.word = 0;
+            }
+        }
+        Ok(())
+    }
+
+    /// Adds bytes of the body to an answer, and goes on behind them.
+    pub fn read(&mut self, board: &Board, count: usize, answer: &mut Vec<u8>) -> Result<(), PowerLost> {
+        let end = self.at + count;
+        while self.at < end {
+            let word = board.read(self.address())?.to_be_bytes();
+            let (from, left) = (self.at % 4, end - self.at);
+            if from == 0 && left >= 4 {
+                answer.extend_from_slice(&word);
+                self.advance(board, 4)?;
+            } else {
+                let part = &word[from..4.min(from + left)];
+                answer.extend_from_slice(part);
+                self.advance(board, part.len())?;
+            }
         }
         Ok(())
     }
@@ -48,21 +86,7 @@ pub fn read_bytes(
     count: usize,
     answer: &mut Vec<u8>,
 ) -> Result<(), PowerLost> {
-    let mut place = Place::of(board, first, offset)?;
-    let end = offset + count;
-    while place.at < end {
-        let word = board.read(place.address())?.to_be_bytes();
-        let (from, left) = (place.at % 4, end - place.at);
-        if from == 0 && left >= 4 {
-            answer.extend_from_slice(&word);
-            place.advance(board, 4)?;
-        } else {
-            let part = &word[from..4.min(from + left)];
-            answer.extend_from_slice(part);
-            place.advance(board, part.len())?;
-        }
-    }
-    Ok(())
+    Place::of(board, first, offset)?.read(board, count, answer)
 }
 
 /// Sets bytes of a body, each touched word once.

@@ -1,27 +1,30 @@
-//! A plain card core: what the card does on the lines that tools/cost measures, in good Rust without a contract or a
-//! proof.
+//! A plain card core: the card and its bench in good Rust, without a contract or a proof.
 //!
-//! It is what the cost of the bench is compared with, so it has all duties of the card on these lines: a start that
-//! looks through the whole memory, life cycles, access rules, commits that a cut can't tear, a PIN's tries, both ends
-//! of the link, and the script's limits. It makes the device writes that the card makes, in the same order, so that
-//! cuts leave the same. Of the commands it knows SELECT by identifier, READ and UPDATE of bytes and of records, VERIFY
-//! and CREATE FILE; the others it answers by 6A81. It needs nothing but a compiler: `rustc -O main.rs`.
+//! `tools/cost` compares the cost of the bench with it, so it has all duties of the card: a power-on that checks the
+//! whole memory, life cycles, access rules, commits that a power loss can't tear, a PIN's tries, both ends of the
+//! link, and the script's limits. It makes the device writes that the card makes, in the same order, so that a power
+//! loss leaves the same memory. It needs a compiler and nothing else: `rustc -O main.rs`.
 mod board;
 mod card;
 mod chain;
+mod changes;
+mod command;
+mod contents;
 mod create;
 mod entry;
 mod journal;
 mod link;
+mod pins;
 mod script;
+mod select;
 mod start;
 
 use board::{Board, PowerLost};
 use card::Card;
 use link::{CardEnd, Line, Next, ReaderEnd};
-use script::{encode, Order};
+use script::{encode, find_byte, Order};
 use std::fs::File;
-use std::io::{self, BufRead, BufReader, Read, Write};
+use std::io::{self, BufRead, BufReader, Write};
 use std::os::fd::AsFd;
 use std::process::ExitCode;
 
@@ -35,7 +38,8 @@ const BLOCKS: usize = 1_000;
 /// A desk with the board, the card while power is on, and the reader while it may send.
 struct Desk {
     board: Board,
-    card: Option<(Card, CardEnd)>,
+    card: Option<Card>,
+    end: CardEnd,
     reader: ReaderEnd,
     has_reader: bool,
     line: Line,
@@ -48,7 +52,7 @@ impl Desk {
     fn new() -> Desk {
         let (block, reply) = (Vec::with_capacity(300), Vec::with_capacity(300));
         let (reader, line) = (ReaderEnd::new(), Line::default());
-        Desk { board: Board::factory(), card: None, reader, has_reader: false, line, block, reply }
+        Desk { board: Board::factory(), card: None, end: CardEnd::new(), reader, has_reader: false, line, block, reply }
     }
 
     /// Does what a line asks for; `text` gets what it prints.
@@ -58,7 +62,7 @@ impl Desk {
             Order::On => text.extend_from_slice(self.power_on()),
             Order::Off => self.go_dark(),
             Order::Free => match &self.card {
-                Some((card, _)) => {
+                Some(card) => {
                     let free = card.free;
                     text.extend_from_slice(format!("free {} {}\n", free.blocks, free.entries).as_bytes());
                 }
@@ -87,7 +91,8 @@ impl Desk {
         }
         match Card::start(&mut self.board) {
             Ok(Some(card)) => {
-                self.card = Some((card, CardEnd::new()));
+                self.card = Some(card);
+                self.end.reset();
                 self.reader.reset();
                 self.has_reader = true;
                 b"atr 3B808131FE458B\n"
@@ -123,7 +128,8 @@ impl Desk {
 
     /// Blocks go to and fro, until the reader's end has ended.
     fn exchange(&mut self, command: &[u8]) -> Result<Next, PowerLost> {
-        let Some((card, end)) = &mut self.card else { return Ok(Next::Failed) };
+        let Some(card) = &mut self.card else { return Ok(Next::Failed) };
+        let end = &mut self.end;
         let mut next = self.reader.send(command, &mut self.block);
         let mut is_for_card = true;
         for _ in 0..BLOCKS {
@@ -146,9 +152,9 @@ impl Desk {
 
     /// A block goes straight to the card's end; no command comes after it.
     fn take_block(&mut self, block: &[u8], text: &mut Vec<u8>) {
-        let Some((card, end)) = &mut self.card else { return text.extend_from_slice(b"mute\n") };
+        let Some(card) = &mut self.card else { return text.extend_from_slice(b"mute\n") };
         self.has_reader = false;
-        match end.take(card, &mut self.board, block, &mut self.reply) {
+        match self.end.take(card, &mut self.board, block, &mut self.reply) {
             Ok(()) => print(&self.reply, text),
             Err(PowerLost) => {
                 self.go_dark();
@@ -163,6 +169,24 @@ fn print(bytes: &[u8], text: &mut Vec<u8>) {
     text.extend_from_slice(b"< ");
     encode(bytes, text);
     text.push(b'\n');
+}
+
+/// Reads a line, with its end, at most so many bytes; how many.
+fn read_line(script: &mut impl BufRead, line: &mut Vec<u8>) -> io::Result<usize> {
+    while line.len() < LINE as usize {
+        let there = script.fill_buf()?;
+        let there = &there[..there.len().min(LINE as usize - line.len())];
+        let (count, ends) = match find_byte(there, b'\n') {
+            Some(at) => (at + 1, true),
+            None => (there.len(), there.is_empty()),
+        };
+        line.extend_from_slice(&there[..count]);
+        script.consume(count);
+        if ends {
+            break;
+        }
+    }
+    Ok(line.len())
 }
 
 /// Takes the end of a line away, and the CR before it.
@@ -187,7 +211,7 @@ fn run(mut script: impl BufRead, mut output: impl Write) -> Result<(), Fault> {
     let (mut number, mut size) = (0, 0);
     loop {
         line.clear();
-        let read = script.by_ref().take(LINE).read_until(b'\n', &mut line).map_err(|_| Fault::Read)?;
+        let read = read_line(&mut script, &mut line).map_err(|_| Fault::Read)?;
         if read == 0 {
             return Ok(());
         }

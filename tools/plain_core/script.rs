@@ -62,17 +62,35 @@ fn decode(digits: &[u8], most: usize, bytes: &mut Vec<u8>) -> Option<()> {
     if digits.is_empty() || digits.len() > 2 * most || !pairs.remainder().is_empty() {
         return None;
     }
-    bytes.resize(pairs.len(), 0);
-    for (byte, pair) in bytes.iter_mut().zip(pairs) {
-        *byte = digit(pair[0])? << 4 | digit(pair[1])?;
-    }
-    Some(())
+    bytes.clear();
+    let mut all = 0;
+    bytes.extend(pairs.map(|pair| {
+        let (high, low) = (VALUES[usize::from(pair[0])], VALUES[usize::from(pair[1])]);
+        all |= high | low;
+        high << 4 | low & 15
+    }));
+    (all < 16).then_some(())
 }
 
-/// The value of a hexadecimal digit.
-fn digit(character: u8) -> Option<u8> {
-    char::from(character).to_digit(16).map(|value| value as u8)
-}
+/// The value of each byte as a hexadecimal digit, and 255 of those that are none.
+const VALUES: [u8; 256] = [
+    255, 255, 255, 255, 255, 255, 255, 255, 255, 255, 255, 255, 255, 255, 255, 255,
+    255, 255, 255, 255, 255, 255, 255, 255, 255, 255, 255, 255, 255, 255, 255, 255,
+    255, 255, 255, 255, 255, 255, 255, 255, 255, 255, 255, 255, 255, 255, 255, 255,
+    0, 1, 2, 3, 4, 5, 6, 7, 8, 9, 255, 255, 255, 255, 255, 255,
+    255, 10, 11, 12, 13, 14, 15, 255, 255, 255, 255, 255, 255, 255, 255, 255,
+    255, 255, 255, 255, 255, 255, 255, 255, 255, 255, 255, 255, 255, 255, 255, 255,
+    255, 10, 11, 12, 13, 14, 15, 255, 255, 255, 255, 255, 255, 255, 255, 255,
+    255, 255, 255, 255, 255, 255, 255, 255, 255, 255, 255, 255, 255, 255, 255, 255,
+    255, 255, 255, 255, 255, 255, 255, 255, 255, 255, 255, 255, 255, 255, 255, 255,
+    255, 255, 255, 255, 255, 255, 255, 255, 255, 255, 255, 255, 255, 255, 255, 255,
+    255, 255, 255, 255, 255, 255, 255, 255, 255, 255, 255, 255, 255, 255, 255, 255,
+    255, 255, 255, 255, 255, 255, 255, 255, 255, 255, 255, 255, 255, 255, 255, 255,
+    255, 255, 255, 255, 255, 255, 255, 255, 255, 255, 255, 255, 255, 255, 255, 255,
+    255, 255, 255, 255, 255, 255, 255, 255, 255, 255, 255, 255, 255, 255, 255, 255,
+    255, 255, 255, 255, 255, 255, 255, 255, 255, 255, 255, 255, 255, 255, 255, 255,
+    255, 255, 255, 255, 255, 255, 255, 255, 255, 255, 255, 255, 255, 255, 255, 255,
+];
 
 /// The number that 1 to 6 digits spell, at least 1.
 fn parse_number(digits: &[u8]) -> Option<u32> {
@@ -85,10 +103,28 @@ fn parse_number(digits: &[u8]) -> Option<u32> {
 
 /// Spells bytes in pairs of hexadecimal digits.
 pub fn encode(bytes: &[u8], text: &mut Vec<u8>) {
-    let digit = |value: u8| b"0123456789ABCDEF"[usize::from(value)];
+    // The few bytes of most answers one by one; of many, several are spelled at once.
+    if bytes.len() < 16 {
+        return text.extend(bytes.iter().flat_map(|byte| {
+            let digit = |value: u8| b"0123456789ABCDEF"[usize::from(value)];
+            [digit(byte >> 4), digit(byte & 15)]
+        }));
+    }
+    let digit = |value: u8| value + b'0' + if value > 9 { 7 } else { 0 };
     let from = text.len();
     text.resize(from + 2 * bytes.len(), 0);
     for (pair, byte) in text[from..].chunks_exact_mut(2).zip(bytes) {
         pair.copy_from_slice(&[digit(byte >> 4), digit(byte & 15)]);
     }
+}
+
+extern "C" {
+    fn memchr(bytes: *const u8, byte: i32, count: usize) -> *const u8;
+}
+
+/// The first place of a byte, by the search of the C library, as the crate `memchr` finds it.
+pub fn find_byte(bytes: &[u8], byte: u8) -> Option<usize> {
+    // SAFETY: the pointer and the count are those of one slice, and what is found lies in it.
+    let found = unsafe { memchr(bytes.as_ptr(), i32::from(byte), bytes.len()) };
+    (!found.is_null()).then(|| found as usize - bytes.as_ptr() as usize)
 }
