@@ -15,11 +15,14 @@ use arrayvec::ArrayVec;
 use card_rules::Direction;
 use undo_journal::{Board, Store, StoreErr};
 
-/// Whether a text begins at a place of a record.
+/// Whether a text begins at a place of a record. Its first byte rules out most places.
 fn begins_at(text: &[u8], bytes: &[u8], at: usize) -> bool
-    requires { at ≤ length bytes.now }
+    requires { at < length bytes.now }
     ensures { result ≡ starts_with nat_eq (drop at bytes.now) text.now }
 {
+    if !text.is_empty() && text[0] != bytes[at] {
+        return false;
+    }
     bytes[at..].starts_with(text)
 }
 
