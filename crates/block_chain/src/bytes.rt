@@ -175,17 +175,19 @@ pub fn set_bytes<B: Board>(
     Ok(())
 }
 
-/// Fills the content words of a block with a word.
-fn fill_block<B: Board>(store: &mut Store<B>, page: u16, word: u32) -> Result<(), StoreErr>
+/// Fills the content words of a block with these.
+fn fill_block<B: Board>(
+    store: &mut Store<B>,
+    page: u16,
+    words: &[u32; BLOCK_WORDS as usize],
+) -> Result<(), StoreErr>
     requires ready { IsReady store.old }
     requires block { IsBlock (committed store.old) page }
-    ensures any_exit { Torn (committed store.old) (address page 1) (replicate BLOCK_WORDS word) (committed store.new) }
-    ensures done { OnOk result (committed store.new
-        ≡ written (committed store.old) (address page 1) (replicate BLOCK_WORDS word)) }
+    ensures any_exit { Torn (committed store.old) (address page 1) words.now (committed store.new) }
+    ensures done { OnOk result (committed store.new ≡ written (committed store.old) (address page 1) words.now) }
     ensures store { Changes 1 store.old store.new (result_err result) }
 {
-    let words = [word; BLOCK_WORDS as usize];
-    store.write_plain(page, 1, &words)
+    store.write_plain(page, 1, words)
 }
 
 /// Fills the first n free blocks with a byte, in one device write a block. No other word changes, at no exit, so that
@@ -204,9 +206,10 @@ pub fn fill<B: Board>(store: &mut Store<B>, n: u16, byte: u8) -> Result<(), Stor
     ensures store { Changes n store.old store.new (result_err result) }
 {
     let word = u32::from_be_bytes([byte; 4]);
+    let words = [word; BLOCK_WORDS as usize];
     let mut page = read_head(store)?;
     for _i in 0..n {
-        fill_block(store, page, word)?;
+        fill_block(store, page, &words)?;
         page = read_link(store, page)?;
     }
     Ok(())
