@@ -1,5 +1,5 @@
 //! Bytes of a chain, read from a store.
-ghost use Rattle.std.specs.Prelude.{◌≡◌, ◌+◌, ◌*◌, ◌/◌, ◌%◌, ◌<◌, ◌≤◌, ◌++◌, length, take, drop, IfOk, OnOk};
+ghost use Rattle.std.specs.Prelude.{◌≡◌, ◌+◌, ◌-◌, ◌*◌, ◌/◌, ◌%◌, ◌<◌, ◌≤◌, ◌++◌, length, take, drop, IfOk, OnOk};
 ghost use Rattle.std.specs.Prelude.{slice_index, ◌==◌, if◌then◌else◌};
 ghost use Rattle.std.specs.Result.{result_err};
 ghost use Rattle.arrayvec.specs.ArrayVec.{array_vec_len};
@@ -40,14 +40,22 @@ fn block_at<B: Board>(store: &mut Store<B>, first: u16, k: u16) -> Result<u16, S
     Ok(page)
 }
 
-/// The word of a block in which the byte of its chain at an offset lies.
-fn read_word<B: Board>(store: &mut Store<B>, page: u16, offset: u16) -> Result<u32, StoreErr>
+/// The content word at a place of a block.
+fn read_word<B: Board>(store: &mut Store<B>, page: u16, place: u16) -> Result<u32, StoreErr>
     requires ready { IsReady store.old }
     requires block { IsBlock (committed store.old) page }
-    ensures word { IfOk result (λ read. read ≡ word (committed store.old) page (1 + offset / 4 % BLOCK_WORDS)) }
+    requires place { place < BLOCK_WORDS }
+    ensures word { IfOk result (λ read. read ≡ word (committed store.old) page (1 + place)) }
     ensures store { Reads store.old store.new (result_err result) }
 {
-    store.read_committed(PAGE_WORDS * page + 1 + offset / WORD_BYTES % BLOCK_WORDS)
+    store.read_committed(PAGE_WORDS * page + 1 + place)
+}
+
+/// The place in its block of the word in which the byte of a chain at an offset lies.
+fn place_of_byte(offset: u16) -> u16
+    ensures { result ≡ offset / 4 % BLOCK_WORDS }
+{
+    offset / WORD_BYTES % BLOCK_WORDS
 }
 
 /// The byte of a chain at an offset below its size.
@@ -62,7 +70,7 @@ pub fn byte_at<B: Board>(store: &mut Store<B>, chain: Chain, offset: u16) -> Res
     ensures store { Reads store.old store.new (result_err result) }
 {
     let page = block_at(store, chain.first, offset / BLOCK_BYTES)?;
-    let word = read_word(store, page, offset)?;
+    let word = read_word(store, page, place_of_byte(offset))?;
     Ok(byte_of(word, offset % WORD_BYTES))
 }
 
@@ -101,27 +109,53 @@ fn append_bytes<const N: usize>(out: &mut ArrayVec<u8, N>, word: u32, from: u16,
     }
 }
 
-/// How many of the bytes from an offset on lie in its word, below an end.
+/// How many of the bytes from an offset on lie in its word, below an end. Nearly all words of a long read are whole.
 fn bytes_in_word(at: u16, end: u16) -> u16
     requires { at < end }
     ensures some { 1 ≤ result }
     ensures word { at % 4 + result ≤ 4 }
     ensures end { at + result ≤ end }
 {
-    (WORD_BYTES - at % WORD_BYTES).min(end - at)
+    if at % WORD_BYTES == 0 && end - at >= WORD_BYTES {
+        WORD_BYTES
+    } else {
+        (WORD_BYTES - at % WORD_BYTES).min(end - at)
+    }
+}
+
+/// The place of the word in which the byte at an offset lies, by the place of the word of the byte before it. It is
+/// counted, as a division costs more than all else that a word takes.
+fn next_place(place: u16, at: u16) -> u16
+    requires some { 1 ≤ at }
+    requires place { place ≡ (at - 1) / 4 % BLOCK_WORDS }
+    ensures { result ≡ at / 4 % BLOCK_WORDS }
+{
+    if at % WORD_BYTES != 0 {
+        place
+    } else if place + 1 == BLOCK_WORDS {
+        0
+    } else {
+        place + 1
+    }
 }
 
 /// The block that holds the byte at an offset of a chain, by the block of the byte before it: where a block ends
-/// between them, the next one.
-fn block_of_byte<B: Board>(store: &mut Store<B>, page: u16, at: u16) -> Result<u16, StoreErr>
+/// between them, the next one. `place` is the place of the byte's word in its block.
+fn block_of_byte<B: Board>(
+    store: &mut Store<B>,
+    page: u16,
+    place: u16,
+    at: u16,
+) -> Result<u16, StoreErr>
     requires ready { IsReady store.old }
     requires block { IsBlock (committed store.old) page }
     requires small { link (committed store.old) page < MOST_PAGES }
+    requires place { place ≡ at / 4 % BLOCK_WORDS }
     ensures page { IfOk result (λ next. next
         ≡ (if at % BLOCK_BYTES == 0 then link (committed store.old) page else page)) }
     ensures store { Reads store.old store.new (result_err result) }
 {
-    if at % BLOCK_BYTES == 0 {
+    if place == 0 && at % WORD_BYTES == 0 {
         read_link(store, page)
     } else {
         Ok(page)
@@ -158,12 +192,14 @@ pub fn read_bytes<B: Board, const N: usize>(
     let mut page = block_at(store, chain.first, offset / BLOCK_BYTES)?;
     let end = offset + count;
     let mut at = offset;
+    let mut place = place_of_byte(offset);
     while at < end {
-        let word = read_word(store, page, at)?;
+        let word = read_word(store, page, place)?;
         let some = bytes_in_word(at, end);
         append_bytes(out, word, at % WORD_BYTES, some);
         at += some;
-        page = block_of_byte(store, page, at)?;
+        place = next_place(place, at);
+        page = block_of_byte(store, page, place, at)?;
     }
     Ok(())
 }

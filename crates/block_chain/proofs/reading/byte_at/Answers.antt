@@ -32,7 +32,9 @@ returns-clause-byte g c =
     c.in_ok-page.ensures.page ∙ ap (slice_index ps) place in
     let words = c.block_at.ensures.store.only.keeps.committed_words in
     let read : c.in_ok-word.word ≡ content_word m ps (offset / 4) =
-    c.in_ok-word.ensures.word ∙ ap₂ (λ (l : List ℕ) (q : ℕ). word l q (1 + offset / 4 % BLOCK_WORDS)) words page in
+    c.in_ok-word.ensures.word
+    ∙ ap (λ (p : ℕ). word (committed c.block_at.new.store) c.in_ok-page.page (1 + p)) c.place_of_byte.ensures
+    ∙ ap₂ (λ (l : List ℕ) (q : ℕ). word l q (1 + offset / 4 % BLOCK_WORDS)) words page in
     c.byte_of.ensures
     ∙ ap (λ (w : ℕ). slice_index (word_bytes w) (offset % 4)) read
     ∙ sym (index-bytes_of m ps offset c.requires.ready.usable.committed_size

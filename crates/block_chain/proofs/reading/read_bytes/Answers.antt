@@ -1,10 +1,11 @@
-use Rattle.std.proofs.Common.{◌∙◌, drop, arith}
+use Rattle.std.proofs.Common.{◌+◌, ℕ, ◌∙◌, ap, drop, arith}
 use Rattle.undo_journal.specs.Memory.{committed}
 use Rattle.undo_journal.specs.laws.Calls.{reads_then}
 use Rattle.undo_journal.specs.laws.Exits.{none_ok}
 use Rattle.undo_journal.specs.laws.Told.{reads_handed, reads_none, reads_on, reads_so_far}
 use Rattle.block_chain.specs.declared.layout.TheConstants.{MOST_BLOCKS}
 use Rattle.block_chain.specs.Chains.{chain_bytes, chain_of}
+use Rattle.block_chain.specs.Words.{word}
 use Rattle.block_chain.specs.laws.Laying.{pages_most}
 use Rattle.block_chain.proofs.Runs.{block_here, none_appended, none_asked, read_all, read_more, read_none, some_bytes}
 use Rattle.block_chain.proofs.Runs.{some_more}
@@ -43,12 +44,16 @@ overflow_add-end g c =
 pub loop-at-init : goal.loop-at-init
 loop-at-init g c = record {
   ready = c.in_ok-page.ensures.store.ready;
+  placed = c.place_of_byte-place.ensures;
   reads = c.block_at.ensures.store.only;
   bytes = read_none _ (chain_of (committed c.args.store.now) c.args.chain) _ c.args.count _ _
       c.in_ok-page.ensures.page;
 }
 
 -- a word more
+
+pub read_word-requires-clause-place : goal.read_word-requires-clause-place
+read_word-requires-clause-place g c = omega (arith, c.loop-at.invariant.placed)
 
 pub read_word-requires-clause-block : goal.read_word-requires-clause-block
 read_word-requires-clause-block g c =
@@ -79,6 +84,21 @@ overflow_add-at g c =
     let most = pages_most (committed c.args.store.now) MOST_BLOCKS c.args.chain.first in
     omega (arith, most, c.requires.within, c.bytes_in_word-some.ensures.end)
 
+pub next_place-place-requires-clause-some : goal.next_place-place-requires-clause-some
+next_place-place-requires-clause-some g c = omega (arith, c.bytes_in_word-some.ensures.some)
+
+pub next_place-place-requires-clause-place : goal.next_place-place-requires-clause-place
+next_place-place-requires-clause-place g c =
+    omega (
+      arith,
+      c.loop-at.invariant.placed,
+      c.bytes_in_word-some.ensures.some,
+      c.bytes_in_word-some.ensures.word,
+    )
+
+pub block_of_byte-requires-clause-place : goal.block_of_byte-requires-clause-place
+block_of_byte-requires-clause-place g c = c.next_place-place.ensures
+
 pub block_of_byte-requires-clause-block : goal.block_of_byte-requires-clause-block
 block_of_byte-requires-clause-block g c =
     let m = committed c.args.store.now in
@@ -103,11 +123,13 @@ returns-in_err-page-2-clause-done g c = none_ok _ _ _ c.from_residual-in_err-pag
 pub returns-in_err-page-2-clause-any_exit : goal.returns-in_err-page-2-clause-any_exit
 returns-in_err-page-2-clause-any_exit g c =
     let m = committed c.args.store.now in
+    let here = c.in_ok-word.ensures.word
+    ∙ ap (λ (p : ℕ). word (committed c.loop-at.store) c.loop-at.page (1 + p)) c.loop-at.invariant.placed in
     some_more m
     (chain_of m c.args.chain) _ c.args.offset c.args.count c.requires.ready.usable.committed_size c.requires.leads
     c.requires.within
     _ _ _ _ _ _ _ _ c.loop-at.invariant.reads.keeps.committed_words c.loop-at.invariant.bytes
-    c.bytes_in_word-some.ensures.word c.bytes_in_word-some.ensures.end c.in_ok-word.ensures.word
+    c.bytes_in_word-some.ensures.word c.bytes_in_word-some.ensures.end here
     c.append_bytes.ensures.items
 
 pub returns-in_err-page-2-clause-store : goal.returns-in_err-page-2-clause-store
@@ -119,15 +141,18 @@ returns-in_err-page-2-clause-store g c =
 pub loop-at-preserved : goal.loop-at-preserved
 loop-at-preserved g c =
     let m = committed c.args.store.now in
+    let here = c.in_ok-word.ensures.word
+    ∙ ap (λ (p : ℕ). word (committed c.loop-at.store) c.loop-at.page (1 + p)) c.loop-at.invariant.placed in
     record {
       ready = c.in_ok-page-2.ensures.store.ready;
+      placed = c.next_place-place.ensures;
       reads = reads_then _ _ _ c.loop-at.invariant.reads
           (reads_then _ _ _ c.read_word.ensures.store.only c.block_of_byte.ensures.store.only);
       bytes = read_more m
           (chain_of m c.args.chain) _ c.args.offset c.args.count c.requires.ready.usable.committed_size c.requires.leads
           c.requires.within
           _ _ _ _ _ _ _ _ c.loop-at.invariant.reads.keeps.committed_words c.loop-at.invariant.bytes
-          c.bytes_in_word-some.ensures.word c.bytes_in_word-some.ensures.end c.in_ok-word.ensures.word
+          c.bytes_in_word-some.ensures.word c.bytes_in_word-some.ensures.end here
           c.append_bytes.ensures.items _ _ c.read_word.ensures.store.only.keeps.committed_words
           c.bytes_in_word-some.ensures.some c.loop-at-test.true c.in_ok-page-2.ensures.page;
     }

@@ -15,7 +15,7 @@ read_committed-requires-clause-place g c =
 
 pub returns-clause-word : goal.returns-clause-word
 returns-clause-word g c =
-    let at : PAGE_WORDS * c.args.page + 1 + c.args.offset / 4 % BLOCK_WORDS ≡ address c.args.page
-    (1 + c.args.offset / 4 % BLOCK_WORDS) = omega arith in
+    let at : PAGE_WORDS * c.args.page + 1 + c.args.place ≡ address c.args.page
+    (1 + c.args.place) = omega arith in
     IfOk-weaker c.read_committed.result _ _ (λ word is. is ∙ ap (slice_index (committed c.args.store.now)) at)
     c.read_committed.ensures.word
