@@ -27,16 +27,19 @@ pub(crate) struct Walked {
 
 /// Marks a block before the page `end`, if it is one that was not marked before.
 fn mark(page: u32, end: u16, seen: &mut [u8]) -> bool
+    requires some { FIRST_BLOCK_PAGE ≤ end }
     requires most { end ≤ MOST_PAGES }
     requires marks { AreMarks end seen.old }
     ensures new { IsTrue result ↔ (((FIRST_BLOCK_PAGE ≤ page) × (page < end)) × (marked seen.old page ≡ 0)) }
     ensures marks { IsTrue result → seen.new ≡ slice_set seen.old (page - FIRST_BLOCK_PAGE) 1 }
     ensures kept { result ≡ false → seen.new ≡ seen.old }
 {
-    if !(u32::from(FIRST_BLOCK_PAGE)..u32::from(end)).contains(&page) {
+    // A page before the first block wraps around, so that one comparison tells both ends of the range.
+    let place = page.wrapping_sub(u32::from(FIRST_BLOCK_PAGE));
+    if place >= u32::from(end - FIRST_BLOCK_PAGE) {
         return false;
     }
-    let place = (page - u32::from(FIRST_BLOCK_PAGE)) as usize;
+    let place = place as usize;
     if seen[place] != 0 {
         return false;
     }
@@ -54,6 +57,7 @@ fn walk_over<B: Board>(
     seen: &mut [u8],
 ) -> Result<Option<Walked>, StoreErr>
     requires ready { IsReady store.old }
+    requires some { FIRST_BLOCK_PAGE ≤ end }
     requires inside { end ≤ pages_of (committed store.old) }
     requires marks { AreMarks end seen.old }
     ensures walked { IfOk result (λ walked. IfSome walked (λ w. IsWalked
