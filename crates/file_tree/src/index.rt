@@ -110,7 +110,7 @@ impl Index {
             places: PlaceList::new(),
         };
         for e in 1..ENTRIES_END {
-            let entry = entries[usize::from(e)];
+            let entry = &entries[usize::from(e)];
             if entry.is_used() {
                 let place = Place {
                     key: Key::new(entry.parent, entry.identifier),

@@ -49,7 +49,7 @@ fn is_below_master(entries: &[Entry], e: u8) -> bool
     requires { e < length entries.now }
     ensures { IsTrue result ↔ IsBelowMaster entries.now e }
 {
-    let entry = entries[usize::from(e)];
+    let entry = &entries[usize::from(e)];
     match entries.get(usize::from(entry.parent)) {
         Some(parent) => parent.has_kind(EntryKind::Dedicated)
             && entry.identifier != MASTER_FILE
@@ -101,13 +101,13 @@ fn is_alone(entries: &[Entry], e: usize) -> bool
     requires { e < length entries.now }
     ensures { IsTrue result ↔ IsAlone entries.now e }
 {
-    let one = entries[e];
-    if has_identifier_alone(&one) {
+    let one = &entries[e];
+    if has_identifier_alone(one) {
         return true;
     }
     for f in e + 1..entries.len() {
-        let other = entries[f];
-        if other.is_used() && are_alike(e, &one, &other) {
+        let other = &entries[f];
+        if other.is_used() && are_alike(e, one, other) {
             return false;
         }
     }
