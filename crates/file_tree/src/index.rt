@@ -1,6 +1,7 @@
 //! Where each file is by its parent and identifier, held in working memory, so that no store is read to find it.
 
 ghost use Rattle.std.specs.Prelude.{◌≡◌, ◌<◌, ◌≤◌, ◌↔◌, ℕ, List, All, IsTrue, length, filter, option_map};
+ghost use Rattle.std.specs.Prelude.{slice_index};
 ghost use Rattle.std.specs.List.Sorted.{IsSearchInRange};
 ghost use Rattle.file_tree.specs.declared.entry.Entry.{Entry};
 ghost use Rattle.file_tree.specs.Keys.{IsBefore};
@@ -86,14 +87,30 @@ fn parent_of(places: &[Place], entry: u8) -> u8
     0
 }
 
+/// The parent of each entry by its place, so that a step to a parent is no search among the places.
+fn parents_of(places: &[Place]) -> [u8; 256]
+    ensures { (e : ℕ) → e < 256 → slice_index result e ≡ parent_by places.now e }
+{
+    let mut parents = [0; 256];
+    let mut left = places.len();
+    // Of two places of one entry the first counts, so it is written last.
+    while left > 0 {
+        left -= 1;
+        let place = &places[left];
+        parents[usize::from(place.entry)] = place.key.parent();
+    }
+    parents
+}
+
 /// The places of all files but that of an entry and those below it.
 fn places_outside(places: &[Place], top: u8) -> PlaceList
     requires { length places.now ≤ 63 }
     ensures { result.items ≡ filter (is_outside places.now top) places.now }
 {
+    let parents = parents_of(places);
     let mut outside = PlaceList::new();
     for place in places {
-        if !is_within(|e| parent_of(places, e), top, place.entry) {
+        if !is_within(|e| parents[usize::from(e)], top, place.entry) {
             outside.push(*place);
         }
     }

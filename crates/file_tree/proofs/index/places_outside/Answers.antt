@@ -1,5 +1,5 @@
 use Rattle.std.proofs.Common.{◌≡◌, ◌≤◌, ◌+◌, ◌++◌, ℕ, Bool, true, false, not, cond, List, [], ◌∷◌, length, take, filter}
-use Rattle.std.proofs.Common.{slice_index_or, sym, ◌∙◌, ap, arith, rules, lit<, append-nil}
+use Rattle.std.proofs.Common.{slice_index, slice_index_or, sym, ◌∙◌, ap, arith, rules, lit<, append-nil}
 use Rattle.std.proofs.Math.Seq.{take-length}
 use Rattle.std.proofs.lemmas.List.Elements.{filter_more}
 use Rattle.file_tree.specs.declared.index.Place.{Place}
@@ -37,7 +37,9 @@ loop-place-preserved c =
     let more = filter_more keep places k no_place c.loop-place-test.true in
     let told : List Place → Type 0 = λ ps. (length ps ≤ k + 1) × (ps ≡ filter keep (take (k + 1) places)) in
     let within : c.is_within.result ≡ leads (parent_by places) 7 c.args.top place.entry =
-    c.is_within.ensures (parent_by places) (λ e told small answers. search rules) in
+    c.is_within.ensures (parent_by places) (λ e told small answers.
+    let read : told ≡ slice_index c.parents_of-parents.result e = search rules in
+    read ∙ c.parents_of-parents.ensures e small) in
     let next : told c.if-not-is_within.outside.items = elim c.if-not-is_within.branch [
       | then-not-is_within w ↦
           let passes : keep place ≡ true = ap not (sym within ∙ w.if-not-is_within.true) in
