@@ -1,6 +1,6 @@
 -- The sets that wait: one more, and what they make of the words.
 use Rattle.std.proofs.Common.{◌≡◌, ◌≢◌, ◌<◌, ◌≤◌, ◌+◌, ◌^◌, ℕ, zero, suc, Bool, List}
-use Rattle.std.proofs.Common.{[], ◌∷◌, length, get_or, slice_index, slice_set, refl, sym, ◌∙◌, ap, subst}
+use Rattle.std.proofs.Common.{[], ◌∷◌, ◌++◌, length, get_or, slice_index, slice_set, refl, sym, ◌∙◌, ap, subst}
 use Rattle.std.proofs.Common.{inl, inr, arith, Some, None, get_or-set_same, get_or-set_other, insert}
 use Rattle.std.specs.Prelude.{if◌then◌else◌}
 use Rattle.std.proofs.Math.ListN.{length-set}
@@ -9,8 +9,9 @@ use Rattle.std.proofs.lemmas.List.Elements.{All-set}
 use Rattle.nvm_board.specs.Facts.{AreWords}
 use Rattle.undo_journal.specs.declared.batch.Waiting.{Waiting}
 use Rattle.undo_journal.specs.Batches.{overlay, look_up, IsSet, AreSets, joined}
-use Rattle.undo_journal.specs.Parts.{before}
+use Rattle.undo_journal.specs.Parts.{before, IsLastBelow}
 use Rattle.undo_journal.specs.laws.Waits.{below, same, above, order, joined-below, joined-same, joined-above}
+use Rattle.undo_journal.specs.laws.Waits.{AreAscending}
 use Rattle.std.specs.List.{refill}
 use Rattle.std.proofs.lemmas.Grind.{common_steps}
 
@@ -261,3 +262,30 @@ refill-set xs ys i a alike =
   where
     refilled : refill (length xs) xs (slice_set xs i a) ≡ slice_set xs i a
     refilled = grind (arith, common_steps)
+
+-- sets of ascending addresses, of which the last one is below an address, are all below it
+first-below : (s : Waiting) (rest : List Waiting) (a : ℕ) → AreAscending (s.at + 1) rest → IsLastBelow a (s ∷ rest)
+    → s.at < a
+first-below s [] a up last = last 0 (omega arith)
+first-below s (t ∷ rest) a up last =
+    let low : t.at < a = first-below t rest a up.1
+    (λ k is. last (suc k) (let more : suc k + 1 ≡ length (s ∷ t ∷ rest) = omega (arith, is) in more)) in
+    omega (arith, low, up.0)
+
+-- a set of an address above the last one goes behind all
+pub joined-behind : (new : Waiting) (ps : List Waiting) (least : ℕ) → AreAscending least ps → IsLastBelow new.at ps
+    → joined new ps ≡ ps ++ new ∷ []
+joined-behind new [] least up last = refl
+joined-behind new (s ∷ rest) least up last =
+    let low = first-below s rest new.at up.1 last in
+    elim (order s.at new.at) [
+      | below b lt ↦ joined-below new s rest b ∙ ap (λ (l : List Waiting). s ∷ l) (joined-behind new rest (s.at + 1) up.1
+          (λ k is. last (suc k) (let more : suc k + 1 ≡ length (s ∷ rest) = omega (arith, is) in more)))
+      | same b e is ↦ absurd (omega (arith, low, is))
+      | above b e lt ↦ absurd (omega (arith, low, lt))
+    ]
+
+-- sets ascend
+pub sets-ascend : (size least : ℕ) (ps : List Waiting) → AreSets size least ps → AreAscending least ps
+sets-ascend size least [] h = tt
+sets-ascend size least (s ∷ rest) h = (h.0.from, sets-ascend size (s.at + 1) rest h.1)

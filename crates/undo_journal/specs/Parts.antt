@@ -1,6 +1,6 @@
 -- Words of inner contracts: a set that joins those that wait, and what is written of them.
 use Rattle.std.specs.Prelude.{◌≡◌, ◌⊎◌, ◌==◌, ◌+◌, ◌%◌, ◌&&◌, ℕ, suc, not, if◌then◌else◌, nat_lt, List, [], ◌∷◌}
-use Rattle.std.specs.Prelude.{slice_index}
+use Rattle.std.specs.Prelude.{slice_index, slice_index_or, ◌<◌, length}
 use Rattle.nvm_board.specs.declared.board.TheConstants.{PAGE_WORDS}
 use Rattle.undo_journal.specs.declared.batch.Waiting.{Waiting}
 use Rattle.undo_journal.specs.Undo.{Pair}
@@ -9,6 +9,10 @@ use Rattle.undo_journal.specs.Undo.{Pair}
 abbrev pub before : ℕ → List Waiting → ℕ
 before a [] = 0
 before a (s ∷ rest) = if nat_lt s.at a then suc (before a rest) else 0
+
+-- the last set, if there is one, is of a smaller address
+abbrev pub IsLastBelow : ℕ → List Waiting → Type 0
+IsLastBelow a sets = (k : ℕ) → k + 1 ≡ length sets → (slice_index_or sets k (record { at = 0; word = 0 })).at < a
 
 -- the words that go on with a run
 abbrev pub run_words : ℕ → List Waiting → List ℕ

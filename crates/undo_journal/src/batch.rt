@@ -10,7 +10,8 @@ ghost use Rattle.undo_journal.specs.Undo.{gate, pairs, undo, data_words, IsDataA
 ghost use Rattle.undo_journal.specs.Commits.{TurnsGate};
 ghost use Rattle.undo_journal.specs.Spending.{WritesAtMost, KeepsBoard};
 ghost use Rattle.undo_journal.specs.Batches.{overlay, look_up, batch_writes, runs_from, AreSets, joined};
-ghost use Rattle.undo_journal.specs.Parts.{before, first_words, pair_words, AllNamed};
+ghost use Rattle.undo_journal.specs.Parts.{before, first_words, pair_words, AllNamed, IsLastBelow};
+ghost use Rattle.undo_journal.specs.laws.Waits.{AreAscending};
 ghost use Rattle.undo_journal.specs.Memory.{commit_writes, set_writes, EndsAt, GoesOn, InRuns, IsHeld, Joins};
 ghost use Rattle.undo_journal.specs.BatchParts.{working};
 
@@ -78,11 +79,28 @@ fn place_of(sets: &[Waiting], at: u16) -> usize
     place
 }
 
+/// An address is above those of all sets, which ascend: the last one tells.
+fn is_behind(sets: &[Waiting], at: u16) -> bool
+    ensures { IsTrue result → IsLastBelow at sets.now }
+{
+    let count = sets.len();
+    if count == 0 {
+        return true;
+    }
+    sets[count - 1].at < at
+}
+
 /// Puts a set among those that wait, in place of one of its address, or else at its place in the order.
+/// Words are mostly set by ascending addresses, so the end is tried first.
 fn join(sets: &mut Sets, new: Waiting)
-    requires { array_vec_len sets.old < BATCH }
+    requires room { array_vec_len sets.old < BATCH }
+    requires sorted { AreAscending 0 sets.old.items }
     ensures { sets.new.items ≡ joined new sets.old.items }
 {
+    if is_behind(sets, new.at) {
+        sets.push(new);
+        return;
+    }
     let place = place_of(sets, new.at);
     if place < sets.len() && sets[place].at == new.at {
         sets[place] = new;

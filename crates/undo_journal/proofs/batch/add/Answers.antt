@@ -5,7 +5,7 @@ use Rattle.nvm_board.specs.laws.Aims.{aims_same}
 use Rattle.undo_journal.specs.declared.batch.Waiting.{Waiting}
 use Rattle.undo_journal.specs.Undo.{data_words}
 use Rattle.undo_journal.specs.Batches.{overlay, look_up, batch_writes, AreSets, joined}
-use Rattle.undo_journal.proofs.Waits.{sets-joined, joined-length}
+use Rattle.undo_journal.proofs.Waits.{sets-joined, joined-length, sets-ascend}
 use Rattle.undo_journal.proofs.Costing.{join-costs, join-goes_on, join-current, join-waits, below-full, full-length}
 use Rattle.std.specs.Prelude.{if◌then◌else◌}
 use Rattle.undo_journal.specs.declared.batch.TheConstants.{BATCH}
@@ -15,6 +15,9 @@ use Rattle.undo_journal.specs.BatchParts.{working}
 use Rattle.undo_journal.specs.laws.Calls.{within_more}
 use Rattle.undo_journal.specs.laws.Transactions.{stays_spends}
 use Rattle.undo_journal.proofs.batch.add.Goals as goal
+
+pub join-requires-clause-sorted : goal.join-requires-clause-sorted
+join-requires-clause-sorted g c = sets-ascend _ 0 c.args.batch.now.waiting.items c.requires.held.sets
 
 pub flush-requires-clause-sets : goal.flush-requires-clause-sets
 flush-requires-clause-sets g c =

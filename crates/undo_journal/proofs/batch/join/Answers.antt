@@ -1,7 +1,7 @@
-use Rattle.std.proofs.Common.{◌≡◌, ◌<◌, ℕ, List, length, get_or, slice_set, insert, sym, ◌∙◌, ap, ap₂, arith}
+use Rattle.std.proofs.Common.{◌≡◌, ◌<◌, ℕ, List, length, get_or, slice_set, insert, sym, ◌∙◌, ap, ap₂, subst, arith}
 use Rattle.undo_journal.specs.declared.batch.Waiting.{Waiting}
-use Rattle.undo_journal.specs.Parts.{before}
-use Rattle.undo_journal.proofs.Waits.{replaced-joined, inserted-joined, before-length, refill-set}
+use Rattle.undo_journal.specs.Parts.{before, IsLastBelow}
+use Rattle.undo_journal.proofs.Waits.{replaced-joined, inserted-joined, before-length, refill-set, joined-behind}
 use Rattle.undo_journal.proofs.batch.join.Goals as goal
 use Rattle.undo_journal.proofs.batch.join.Goals.{else-place-len-via-then-place-len+else-deref-place}
 use Rattle.undo_journal.proofs.batch.join.Goals.{else-place-len-via-else-place-len}
@@ -14,19 +14,27 @@ insert-requires c =
         omega (
           arith,
           c.place_of-place.ensures,
-          ap (λ (l : List Waiting). before c.args.new.at l) c.deref.ensures.0,
+          ap (λ (l : List Waiting). before c.args.new.at l) c.deref-2.ensures.0,
           low,
         ),
-        omega (arith, c.requires),
+        omega (arith, c.requires.room),
       ),
     )
+
+pub returns-then-is_behind : goal.returns-then-is_behind
+returns-then-is_behind c =
+    let items = c.args.sets.now.items in
+    let last : IsLastBelow c.args.new.at items =
+    subst (λ (l : List Waiting). IsLastBelow c.args.new.at l) c.deref.ensures.0 (c.is_behind.ensures c.if-is_behind.true)
+    in
+    c.push.ensures.items ∙ sym (joined-behind c.args.new items 0 c.requires.sorted last)
 
 pub returns-then-deref-place : goal.returns-then-deref-place
 returns-then-deref-place c =
     let items = c.args.sets.now.items in
     let d : Waiting = record { at = 0; word = 0 } in
     let place : c.place_of-place.result ≡ before c.args.new.at items =
-    c.place_of-place.ensures ∙ ap (λ (l : List Waiting). before c.args.new.at l) c.deref.ensures.0 in
+    c.place_of-place.ensures ∙ ap (λ (l : List Waiting). before c.args.new.at l) c.deref-2.ensures.0 in
     let low : before c.args.new.at items < length items =
     omega (arith, place, c.if-place-len.true, c.len.ensures.value) in
     refill-set items c.deref_mut.result.now c.place_of-place.result c.args.new c.deref_mut.ensures.value
@@ -40,7 +48,7 @@ returns-else-place-len c =
     let items = c.args.sets.now.items in
     let d : Waiting = record { at = 0; word = 0 } in
     let place : c.place_of-place.result ≡ before c.args.new.at items =
-    c.place_of-place.ensures ∙ ap (λ (l : List Waiting). before c.args.new.at l) c.deref.ensures.0 in
+    c.place_of-place.ensures ∙ ap (λ (l : List Waiting). before c.args.new.at l) c.deref-2.ensures.0 in
     let free : before c.args.new.at items < length items
     → (get_or items (before c.args.new.at items) d).at ≡ c.args.new.at → ⊥ =
     elim c.else-place-len.branch [
