@@ -32,6 +32,27 @@ pub fn free_count<B: Board>(store: &mut Store<B>) -> Result<u16, StoreErr>
     Ok(count)
 }
 
+/// How many blocks are free, counted up to so many: one device read a free block that is counted.
+///
+/// # Errors
+/// What the store answers: power was lost, or the device failed.
+pub fn free_up_to<B: Board>(store: &mut Store<B>, most: u16) -> Result<u16, StoreErr>
+    requires ready { IsReady store.old }
+    requires free { HasFree (committed store.old) }
+    ensures least { IfOk result (λ count. count ≤ length (free_chain (committed store.old))) }
+    ensures few { IfOk result (λ count. count < most → count ≡ length (free_chain (committed store.old))) }
+    ensures store { Reads store.old store.new (result_err result) }
+{
+    let mut page = read_head(store)?;
+    for count in 0..most {
+        if page == 0 {
+            return Ok(count);
+        }
+        page = read_link(store, page)?;
+    }
+    Ok(most)
+}
+
 /// The chain of the first n free blocks, and the page of the free block after them, or 0.
 fn first_free<B: Board>(txn: &mut Txn<'_, B>, n: u16) -> Result<(Chain, u16), StoreErr>
     requires ready { IsOpen (memory_of txn.old) }

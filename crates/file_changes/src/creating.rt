@@ -33,7 +33,7 @@ use block_chain::{fill, take};
 use card_rules::Sw;
 use card_rules::limits::MOST_SHORT;
 use card_state::{Fcp, FileKind, ShortIdentifier};
-use file_tree::{Entry, EntryKind, Index, blocks_for, find_short, read_table};
+use file_tree::{Entry, EntryKind, Index, blocks_for, find_short};
 use undo_journal::{Board, Store, StoreErr, Txn};
 
 /// What came of a creation.
@@ -211,8 +211,7 @@ fn write_file<B: Board>(
     txn.end(work)
 }
 
-/// The place of a new file in a dedicated file, or the first reason why it is refused. The table is read once; only a
-/// short identifier that is given is looked for among the entries of the store again.
+/// The place of a new file in a dedicated file, or the first reason why it is refused.
 fn find_place<B: Board>(
     store: &mut Store<B>,
     index: &Index,
@@ -224,10 +223,9 @@ fn find_place<B: Board>(
     requires fcp { IsCreatable fcp.now }
     ensures { Learns store.old store.new result (FindsPlace (committed store.old) df fcp.now) }
 {
-    let entries = read_table(store)?;
-    match taken(store, index, entries.as_slice(), df, fcp)? {
+    match taken(store, index, df, fcp)? {
         Some(status) => Ok(Place::Refused(status)),
-        None => place_for(store, entries.as_slice(), df, fcp),
+        None => place_for(store, df, fcp),
     }
 }
 

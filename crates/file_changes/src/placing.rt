@@ -1,17 +1,15 @@
 //! Where a new file finds a place.
 
-ghost use Rattle.std.specs.Prelude.{◌≡◌};
 ghost use Rattle.undo_journal.specs.Memory.{committed};
 ghost use Rattle.undo_journal.specs.Calls.{Learns};
 ghost use Rattle.file_tree.specs.StoredFiles.{HasFile};
-ghost use Rattle.file_tree.specs.Table.{table};
 ghost use Rattle.file_changes.specs.CreationParts.{TellsPlace};
 
 use crate::refusing::{first_free, is_deepest};
-use block_chain::free_count;
+use block_chain::free_up_to;
 use card_rules::Sw;
 use card_state::Fcp;
-use file_tree::{Entry, blocks_for};
+use file_tree::blocks_for;
 use undo_journal::{Board, Store, StoreErr};
 
 /// The place of a new file: an entry that no file has. Or why there is none.
@@ -21,25 +19,26 @@ pub(crate) enum Place {
     Refused(Sw),
 }
 
-/// The place of a new file in a dedicated file, if there is one. The entries are at hand.
+/// The place of a new file in a dedicated file, if there is one.
 pub(crate) fn place_for<B: Board>(
     store: &mut Store<B>,
-    entries: &[Entry],
     df: u8,
     fcp: &Fcp<'_>,
 ) -> Result<Place, StoreErr>
     requires df { HasFile store.old df }
-    requires entries { entries.now ≡ table (committed store.old) }
     ensures { Learns store.old store.new result (TellsPlace (committed store.old) df fcp.now.kind) }
 {
-    if is_deepest(entries, df) {
+    let deepest = is_deepest(store, df)?;
+    if deepest {
         return Ok(Place::Refused(Sw::CONDITIONS_NOT_SATISFIED));
     }
-    let Some(e) = first_free(entries) else {
+    let found = first_free(store)?;
+    let Some(e) = found else {
         return Ok(Place::Refused(Sw::NO_ROOM));
     };
-    let free = free_count(store)?;
-    if free < blocks_for(fcp.kind.size()) {
+    let blocks = blocks_for(fcp.kind.size());
+    let free = free_up_to(store, blocks)?;
+    if free < blocks {
         return Ok(Place::Refused(Sw::NO_ROOM));
     }
     Ok(Place::At(e))

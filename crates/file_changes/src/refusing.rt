@@ -1,7 +1,7 @@
 //! Whether a new file is refused, and why.
 
-ghost use Rattle.std.specs.Prelude.{◌≡◌, ◌≢◌, ◌↔◌, length, IsTrue, if◌then◌else◌, Some, None};
-ghost use Rattle.undo_journal.specs.Memory.{committed};
+ghost use Rattle.std.specs.Prelude.{◌≡◌, ◌≢◌, ◌↔◌, IsTrue, if◌then◌else◌, Some, None};
+ghost use Rattle.undo_journal.specs.Memory.{committed, IsReady};
 ghost use Rattle.undo_journal.specs.Calls.{Learns};
 ghost use Rattle.card_rules.specs.declared.status.TheConstants.Sw.{FILE_EXISTS, NAME_EXISTS, WRONG_DATA};
 ghost use Rattle.card_state.specs.FileControl.{IsShort, IsCreatable};
@@ -15,27 +15,38 @@ ghost use Rattle.file_changes.specs.CreationParts.{TellsFreeEntry};
 
 use card_rules::Sw;
 use card_state::{Fcp, ShortIdentifier};
-use file_tree::{DEEPEST, ENTRIES_END, Entry, Index, ancestor, entry_named, find_short};
+use file_tree::{DEEPEST, ENTRIES_END, Index, find_name, find_short, read_entry_head};
 use undo_journal::{Board, Store, StoreErr};
 
 /// A dedicated file is on the last level: six steps to parents do not lead to the master file.
-pub(crate) fn is_deepest(entries: &[Entry], df: u8) -> bool
-    ensures { IsTrue result ↔ (ancestor entries.now 6 df ≢ 0) }
+pub(crate) fn is_deepest<B: Board>(store: &mut Store<B>, df: u8) -> Result<bool, StoreErr>
+    requires df { HasFile store.old df }
+    ensures { Learns store.old store.new result (λ deepest. IsTrue deepest
+        ↔ (ancestor (table (committed store.old)) 6 df ≢ 0)) }
 {
-    ancestor(entries, DEEPEST - 1, df) != 0
+    let mut at = df;
+    for _step in 1..DEEPEST {
+        if at == 0 {
+            return Ok(false);
+        }
+        let head = read_entry_head(store, at)?;
+        at = head.parent;
+    }
+    Ok(at != 0)
 }
 
 /// The first entry that no file has.
-pub(crate) fn first_free(entries: &[Entry]) -> Option<u8>
-    requires { length entries.now ≡ 64 }
-    ensures { TellsFreeEntry entries.now result }
+pub(crate) fn first_free<B: Board>(store: &mut Store<B>) -> Result<Option<u8>, StoreErr>
+    requires ready { IsReady store.old }
+    ensures { Learns store.old store.new result (TellsFreeEntry (table (committed store.old))) }
 {
     for e in 0..ENTRIES_END {
-        if !entries[usize::from(e)].is_used() {
-            return Some(e);
+        let head = read_entry_head(store, e)?;
+        if !head.is_used() {
+            return Ok(Some(e));
         }
     }
-    None
+    Ok(None)
 }
 
 /// A child of the dedicated file has the short identifier that is given.
@@ -82,24 +93,21 @@ fn first_taken(taken: TakenNames) -> Option<Sw>
     }
 }
 
-/// Why a name of a new file is taken, if one is: its identifier, its name, or its short identifier. The entries are at
-/// hand.
+/// Why a name of a new file is taken, if one is: its identifier, its name, or its short identifier.
 pub(crate) fn taken<B: Board>(
     store: &mut Store<B>,
     index: &Index,
-    entries: &[Entry],
     df: u8,
     fcp: &Fcp<'_>,
 ) -> Result<Option<Sw>, StoreErr>
     requires df { HasFile store.old df }
     requires index { IsIndex (table (committed store.old)) index.now }
-    requires entries { entries.now ≡ table (committed store.old) }
     requires fcp { IsCreatable fcp.now }
     ensures { Learns store.old store.new result (λ status. status
         ≡ taken_refusal (tree_of (committed store.old)) (path_of (table (committed store.old)) df) fcp.now) }
 {
     let child = index.child(df, fcp.identifier);
-    let named = entry_named(entries, fcp.kind.name());
+    let named = find_name(store, fcp.kind.name())?;
     let short = is_short_taken(store, df, fcp.kind.short())?;
     Ok(first_taken(TakenNames {
         identifier: child.is_some(),

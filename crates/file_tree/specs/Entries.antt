@@ -74,14 +74,26 @@ entry_told words = record {
 unfoldable pub entry_of : List ℕ → Entry
 entry_of words = if slice_index words 0 == 0 then free_entry else entry_told words
 
--- The head of an entry is what its first two words tell of the file that concerns the files below it.
+-- The head of an entry is what its first two words tell of the file.
 abbrev pub head_of : Entry → EntryHead
-head_of entry = record { kind = entry.kind; life = entry.life; parent = entry.parent }
+head_of entry = record {
+  kind = entry.kind;
+  life = entry.life;
+  parent = entry.parent;
+  short = entry.short;
+  name_length = entry.name_length;
+}
 
 abbrev pub head_told : ℕ → ℕ → EntryHead
 head_told first second =
     if first == 0 then head_of free_entry else
-    record { kind = byte_of first 0; life = byte_of first 1; parent = byte_of second 0 }
+    record {
+      kind = byte_of first 0;
+      life = byte_of first 1;
+      parent = byte_of second 0;
+      short = byte_of second 1;
+      name_length = byte_of second 2;
+    }
 
 -- the state that a life cycle status byte tells, and the state of an entry's file (By the rules on
 -- entries the byte stands for a state.)

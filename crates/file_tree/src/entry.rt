@@ -50,8 +50,8 @@ pub struct Entry {
     pub start: u16,
 }
 
-/// What the first two words of an entry tell of the file that concerns the files below it:
-/// a step to a parent asks for no more.
+/// What the first two words of an entry tell of the file: a step to a parent and the search for a short identifier or a
+/// name need no more.
 #[derive(Clone, Copy)]
 pub struct EntryHead {
     /// The byte of the entry's kind.
@@ -60,6 +60,10 @@ pub struct EntryHead {
     pub life: u8,
     /// The number of the parent's entry; the master file's is its own, 0.
     pub parent: u8,
+    /// The short identifier; 0 where there is none.
+    pub short: u8,
+    /// The bytes of the name; 0 where there is none.
+    pub name_length: u8,
 }
 
 /// The most elements of a list that has at most one for each entry.
@@ -115,6 +119,8 @@ impl Entry {
             kind: self.kind,
             life: self.life,
             parent: self.parent,
+            short: self.short,
+            name_length: self.name_length,
         }
     }
 
@@ -194,8 +200,21 @@ impl EntryHead {
             return Entry::free().head();
         }
         let [kind, life, _, _] = first.to_be_bytes();
-        let [parent, _, _, _] = second.to_be_bytes();
-        EntryHead { kind, life, parent }
+        let [parent, short, name_length, _] = second.to_be_bytes();
+        EntryHead {
+            kind,
+            life,
+            parent,
+            short,
+            name_length,
+        }
+    }
+
+    /// Whether a file has the entry.
+    pub fn is_used(self) -> bool
+        ensures { IsTrue result ↔ (self.kind ≢ 0) }
+    {
+        self.kind != EntryKind::Free.to_byte()
     }
 
     /// Whether the entry is a dedicated file's.

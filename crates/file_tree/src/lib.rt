@@ -30,7 +30,7 @@ pub use layout::{
     RECORDS_WORD, STATE_WORD, entry_address,
 };
 pub use look_up::{Reached, find_short, select};
-pub use naming::{entry_named, find_name, find_parent, find_path, find_path_from_master};
+pub use naming::{find_name, find_parent, find_path, find_path_from_master};
 pub use parents::is_within;
 pub use reading::{read_entry, read_entry_head, read_table};
 pub use space::blocks_for;

@@ -1,6 +1,6 @@
 //! Files by two bytes, which the index finds, and by short identifiers, which entries are read for.
 
-ghost use Rattle.std.specs.Prelude.{◌≡◌, ◌==◌, ◌≤◌, ◌↔◌, ℕ, List, IsTrue, IfOk, IfSome, option_map};
+ghost use Rattle.std.specs.Prelude.{◌≡◌, ◌≢◌, ◌==◌, ◌≤◌, ◌↔◌, ℕ, List, IsTrue, IfOk, IfSome, option_map};
 ghost use Rattle.std.specs.Result.{result_err};
 ghost use Rattle.undo_journal.specs.Memory.{committed, IsReady};
 ghost use Rattle.undo_journal.specs.Calls.{Learns, Reads};
@@ -8,25 +8,25 @@ ghost use Rattle.card_state.specs.Selectors.{reached, child_by_short};
 ghost use Rattle.file_tree.specs.Table.{IsChild, table, entry_in, path_of, IsUsed, IsTable};
 ghost use Rattle.file_tree.specs.Trees.{tree_of};
 ghost use Rattle.file_tree.specs.Indexes.{IsIndex};
-ghost use Rattle.file_tree.specs.Parts.{IsShortChild, TellsShort, TellsBeside, TellsAbove};
+ghost use Rattle.file_tree.specs.Parts.{TellsShort, TellsBeside, TellsAbove};
 ghost use Rattle.file_tree.specs.StoredFiles.{HasFile};
 
-use crate::entry::Entry;
+use crate::entry::EntryHead;
 use crate::index::Index;
 use crate::kinds::EntryKind;
 use crate::layout::ENTRIES_END;
-use crate::reading::read_entry;
+use crate::reading::{read_entry, read_entry_head};
 use card_rules::identifiers::MASTER_FILE;
 use undo_journal::{Board, Store, StoreErr};
 
 /// What a look-up reaches: the number of the entry, or None where no file is what is looked for.
 pub type Reached = Option<u8>;
 
-/// An entry is that of the child of a dedicated file with this short identifier.
-fn is_child(entry: &Entry, df: u8, short: u8) -> bool
-    ensures { IsTrue result ↔ IsShortChild entry.now df short }
+/// An entry is that of the child of a dedicated file with this short identifier. Its head tells.
+fn is_child(head: EntryHead, df: u8, short: u8) -> bool
+    ensures { IsTrue result ↔ ((head.kind ≢ 0) × (head.parent ≡ df) × (head.short ≡ short)) }
 {
-    entry.is_used() && entry.parent == df && entry.short == short
+    head.is_used() && head.parent == df && head.short == short
 }
 
 /// The entry of the child of a dedicated file with this short identifier, if it has one.
@@ -35,8 +35,8 @@ fn first_child<B: Board>(store: &mut Store<B>, df: u8, short: u8) -> Result<Reac
     ensures { Learns store.old store.new result (TellsShort (table (committed store.old)) df short) }
 {
     for e in 1..ENTRIES_END {
-        let entry = read_entry(store, e)?;
-        if is_child(&entry, df, short) {
+        let head = read_entry_head(store, e)?;
+        if is_child(head, df, short) {
             return Ok(Some(e));
         }
     }

@@ -1,23 +1,24 @@
 //! Files by their names, and along paths: what SELECT reaches but by two bytes (ISO/IEC 7816-4, 7.3.1 and 11.2.2).
 
-ghost use Rattle.std.specs.Prelude.{◌≡◌, ◌↔◌, length, option_map, IfOk, IfSome, IsTrue, List, ℕ};
+ghost use Rattle.std.specs.Prelude.{◌≡◌, ◌↔◌, ◌<◌, min, length, option_map, IfOk, IfSome, IsTrue, List, ℕ};
 ghost use Rattle.std.specs.Result.{result_err};
 ghost use Rattle.undo_journal.specs.Memory.{committed, IsReady};
-ghost use Rattle.undo_journal.specs.Calls.{Reads};
+ghost use Rattle.undo_journal.specs.Calls.{Learns, Reads};
 ghost use Rattle.card_state.specs.FileTrees.{Path};
 ghost use Rattle.card_state.specs.Selectors.{selected, the_parent, by_name, path_from_master, path_from_current};
 ghost use Rattle.file_tree.specs.Table.{table, path_of, IsUsed};
 ghost use Rattle.file_tree.specs.Trees.{tree_of, TreeStands};
 ghost use Rattle.file_tree.specs.Indexes.{IsIndex};
-ghost use Rattle.file_tree.specs.Naming.{BearsName, TellsNamed};
+ghost use Rattle.file_tree.specs.Naming.{BearsName, BearsNameAt, TellsNamed};
 ghost use Rattle.file_tree.specs.StoredFiles.{HasFile};
 
-use crate::entry::Entry;
+use crate::entry::{Entry, EntryHead};
 use crate::index::Index;
 use crate::kinds::EntryKind;
 use crate::layout::ENTRIES_END;
 use crate::look_up::Reached;
-use crate::reading::{read_entry, read_table};
+use crate::reading::{read_entry, read_entry_head};
+use card_rules::limits::MOST_NAME_BYTES;
 use undo_journal::{Board, Store, StoreErr};
 
 /// An entry is a dedicated file's with this name.
@@ -27,17 +28,43 @@ fn bears_name(entry: &Entry, name: &[u8]) -> bool
     entry.has_kind(EntryKind::Dedicated) && entry.name_length != 0 && entry.name() == name
 }
 
-/// The entry of the dedicated file with this name, if there is one.
-pub fn entry_named(entries: &[Entry], name: &[u8]) -> Reached
-    requires { length entries.now ≡ 64 }
-    ensures { TellsNamed entries.now name.now result }
+/// The name that a head tells is as long as this one.
+fn is_as_long(head: EntryHead, name: &[u8]) -> bool
+    ensures { IsTrue result ↔ (min head.name_length 16 ≡ length name.now) }
 {
+    usize::from(head.name_length).min(MOST_NAME_BYTES) == name.len()
+}
+
+/// An entry is a dedicated file's with this name. The whole entry is read only where its head tells as long a name.
+fn bears_name_at<B: Board>(store: &mut Store<B>, e: u8, name: &[u8]) -> Result<bool, StoreErr>
+    requires ready { IsReady store.old }
+    requires within { e < 64 }
+    ensures { Learns store.old store.new result (λ bears. IsTrue bears
+        ↔ BearsNameAt (table (committed store.old)) name.now e) }
+{
+    let head = read_entry_head(store, e)?;
+    if !is_as_long(head, name) {
+        return Ok(false);
+    }
+    let entry = read_entry(store, e)?;
+    Ok(bears_name(&entry, name))
+}
+
+/// The entry of the dedicated file with this name, if there is one. No file has the empty name.
+fn first_named<B: Board>(store: &mut Store<B>, name: &[u8]) -> Result<Reached, StoreErr>
+    requires ready { IsReady store.old }
+    ensures { Learns store.old store.new result (TellsNamed (table (committed store.old)) name.now) }
+{
+    if name.is_empty() {
+        return Ok(None);
+    }
     for e in 0..ENTRIES_END {
-        if bears_name(&entries[usize::from(e)], name) {
-            return Some(e);
+        let bears = bears_name_at(store, e, name)?;
+        if bears {
+            return Ok(Some(e));
         }
     }
-    None
+    Ok(None)
 }
 
 /// The entry of the dedicated file of the card that has this name, whole; no file has the empty one.
@@ -50,10 +77,10 @@ pub fn find_name<B: Board>(store: &mut Store<B>, name: &[u8]) -> Result<Reached,
     ensures found { IfOk result (λ found. (df : Path) → option_map (path_of (table (committed store.old))) found
         ≡ selected (tree_of (committed store.old)) df (by_name name.now)) }
     ensures used { IfOk result (λ found. IfSome found (IsUsed (table (committed store.old)))) }
+    ensures named { IfOk result (TellsNamed (table (committed store.old)) name.now) }
     ensures store { Reads store.old store.new (result_err result) }
 {
-    let entries = read_table(store)?;
-    Ok(entry_named(entries.as_slice(), name))
+    first_named(store, name)
 }
 
 /// The entry of the parent of a dedicated file. The master file (entry 0) has none.

@@ -1,15 +1,16 @@
 -- What look-ups before a new file tell of the tree: whether it is refused.
 use Rattle.std.specs.Prelude.{◌≡◌, ◌≢◌, ◌==◌, ◌<◌, ◌≤◌, ◌+◌, ◌&&◌, ℕ, zero, suc, Bool, true, false, if◌then◌else◌}
-use Rattle.std.specs.Prelude.{List, [], ◌∷◌, ◌++◌, length, slice_index, Option, None, Some, is_some, option_map}
+use Rattle.std.specs.Prelude.{min, List, [], ◌∷◌, ◌++◌, length, slice_index, Option, None, Some, is_some, option_map}
 use Rattle.std.specs.List.{find, range_with_len, filter_map}
 use Rattle.std.specs.FinMap.{entries, get-entries}
 use Rattle.std.proofs.Common.{refl, sym, ◌∙◌, ap, arith, inl, inr, true≢false}
-use Rattle.std.proofs.lemmas.List.{length-append, length-take-le}
+use Rattle.std.proofs.lemmas.List.{length-append, length-take, length-take-le}
 use Rattle.std.proofs.lemmas.Bool.Decides.{eqb_tells}
 use Rattle.block_chain.specs.Words.{page_words}
 use Rattle.file_tree.specs.declared.entry.Entry.{Entry}
+use Rattle.file_tree.specs.declared.entry.EntryHead.{EntryHead}
 use Rattle.card_state.specs.FileTrees.{Path, File, Body, dedicated, elementary, exists}
-use Rattle.file_tree.specs.Entries.{free_entry, entry_told, entry_of, file_of, name_of}
+use Rattle.file_tree.specs.Entries.{head_of, free_entry, entry_told, entry_of, file_of, name_of}
 use Rattle.file_tree.specs.Table.{table, entry_in, ancestor, path_in, path_of, IsUsed, IsTable}
 use Rattle.file_tree.specs.Trees.{content, node, tree_of, file_in}
 use Rattle.card_state.specs.Selectors.{is_named}
@@ -78,6 +79,24 @@ name_room w = elim (eqb_tells (slice_index w 0) 0) [
 
 pub name_long : (m : List ℕ) (f : ℕ) → f < 64 → length (entry_in (table m) f).name ≡ 16
 name_long m f lt = ap (λ (x : Entry). length x.name) (entry_in-table m f lt) ∙ name_room (page_words m (1 + f))
+
+-- the head of an entry tells how long its name is
+pub head_as_long : (m : List ℕ) (f : ℕ) → f < 64 → (name : List ℕ) (h : EntryHead)
+    → h ≡ head_of (entry_in (table m) f) → BearsNameAt (table m) name f → min h.name_length 16 ≡ length name
+head_as_long m f lt name h is bears =
+    let x = entry_in (table m) f in
+    ap (λ (y : EntryHead). min y.name_length 16) is ∙ ap (min x.name_length) (sym (name_long m f lt))
+    ∙ sym (length-take x.name_length x.name) ∙ ap (λ (l : List ℕ). length l) bears.name
+
+-- no file has an empty name
+pub no_empty_name : (m : List ℕ) (f : ℕ) → f < 64 → (name : List ℕ) → length name ≡ 0 → BearsNameAt (table m) name f → ⊥
+no_empty_name m f lt name none bears =
+    let x = entry_in (table m) f in
+    let same = ap (λ (l : List ℕ). length l) bears.name in
+    let long = length-take x.name_length x.name in
+    let room = name_long m f lt in
+    let some : 0 < x.name_length = let s = bears.some in omega (arith, s) in
+    let z : ⊥ = omega (arith, none, same, long, room, some) in z
 
 module _ (m : List ℕ) (rules : IsTable (table m)) where
   -- a child has the identifier where there is a file at the path

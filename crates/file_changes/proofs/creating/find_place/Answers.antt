@@ -12,9 +12,7 @@ use Rattle.std.proofs.lemmas.Result.{IfOk-weaker}
 use Rattle.std.proofs.Common.{List, ℕ, sym, subst}
 use Rattle.file_tree.specs.Table.{table}
 use Rattle.undo_journal.specs.laws.Exits.{none_ok}
-use Rattle.undo_journal.specs.laws.Calls.{reads_then}
 use Rattle.undo_journal.specs.laws.Told.{reads_on, reads_handed}
-use Rattle.file_tree.specs.Indexes.{IsIndex}
 use Rattle.file_changes.specs.CreationParts.{FindsPlace, TellsPlace}
 use Rattle.file_tree.specs.laws.StoredFiles.{file_still}
 use Rattle.file_changes.proofs.creating.find_place.Goals as goal
@@ -30,73 +28,40 @@ place_told m now df fcp (Refused status) same none told =
 place_told m now df fcp (At e) same none told =
     let there = subst (λ (l : List ℕ). TellsPlace l df fcp.kind (At e)) same told in (none, there.0, there.1)
 
--- why a name is taken, by the words of a memory
-abbrev taken_of : ℕ → Fcp → List ℕ → Option Sw
-taken_of df fcp l = taken_refusal (tree_of l) (path_of (table l) df) fcp
-
-pub read_table-requires : goal.read_table-requires
-read_table-requires g c = record { ready = c.requires.df.ready }
-
-pub returns-in_err-entries : goal.returns-in_err-entries
-returns-in_err-entries g c = record {
-  told = none_ok _ _ _ c.from_residual.ensures.1;
-  store = reads_handed _ _ _ _ c.from_residual.ensures.1 c.in_err-entries.ensures.store;
-}
-
 pub taken-requires-clause-df : goal.taken-requires-clause-df
-taken-requires-clause-df g c =
-    file_still _ _ _ c.read_table.ensures.store.only c.in_ok-entries.ensures.store.ready c.requires.df
+taken-requires-clause-df g c = c.requires.df
 
 pub taken-requires-clause-index : goal.taken-requires-clause-index
-taken-requires-clause-index g c =
-    subst (λ (l : List ℕ). IsIndex (table l) c.args.index.now)
-    (sym c.read_table.ensures.store.only.keeps.committed_words) c.requires.index
-
-pub taken-requires-clause-entries : goal.taken-requires-clause-entries
-taken-requires-clause-entries g c =
-    c.as_slice.ensures.value ∙ c.in_ok-entries.ensures.table
-    ∙ ap table (sym c.read_table.ensures.store.only.keeps.committed_words)
+taken-requires-clause-index g c = c.requires.index
 
 pub taken-requires-clause-fcp : goal.taken-requires-clause-fcp
 taken-requires-clause-fcp g c = c.requires.fcp
 
 pub returns-in_err-status : goal.returns-in_err-status
 returns-in_err-status g c = record {
-  told = none_ok _ _ _ c.from_residual-in_err-status.ensures.1;
-  store = reads_handed _ _ _ _ c.from_residual-in_err-status.ensures.1
-      (reads_on _ _ _ _ c.read_table.ensures.store.only c.in_err-status.ensures.store);
+  told = none_ok _ _ _ c.from_residual.ensures.1;
+  store = reads_handed _ _ _ _ c.from_residual.ensures.1 c.in_err-status.ensures.store;
 }
 
 pub returns-in-Some : goal.returns-in-Some
 returns-in-Some g c = record {
   told = let m = committed c.args.store.now in
       let path = path_of (table m) c.args.df in
-      let read = c.read_table.ensures.store.only.keeps.committed_words in
       ap (λ (o : Option Sw). first_reason o (place_refusal (block_count m) (tree_of m) path c.args.fcp.now.kind))
-      (sym (c.in_ok-status.ensures.told ∙ ap (taken_of c.args.df c.args.fcp.now) read) ∙ c.in-Some.is);
-  store = reads_on _ _ _ _ c.read_table.ensures.store.only c.in_ok-status.ensures.store;
+      (sym c.in_ok-status.ensures.told ∙ c.in-Some.is);
+  store = c.in_ok-status.ensures.store;
 }
 
 pub returns-in-None : goal.returns-in-None
 returns-in-None g c = record {
-  told = let m = committed c.args.store.now in
-      let read = c.read_table.ensures.store.only.keeps.committed_words in
-      IfOk-weaker c.place_for.result _ _
-      (λ place told. place_told m (committed c.taken.new.store) c.args.df c.args.fcp.now place
-      (c.taken.ensures.store.only.keeps.committed_words ∙ read)
-      (sym (c.in_ok-status.ensures.told ∙ ap (taken_of c.args.df c.args.fcp.now) read) ∙ c.in-None.is) told)
+  told = IfOk-weaker c.place_for.result _ _
+      (λ place told. place_told (committed c.args.store.now) (committed c.taken.new.store) c.args.df c.args.fcp.now place
+      c.taken.ensures.store.only.keeps.committed_words (sym c.in_ok-status.ensures.told ∙ c.in-None.is) told)
       c.place_for.ensures.told;
-  store = reads_on _ _ _ _ (reads_then _ _ _ c.read_table.ensures.store.only c.taken.ensures.store.only)
-      c.place_for.ensures.store;
+  store = reads_on _ _ _ _ c.taken.ensures.store.only c.place_for.ensures.store;
 }
 
-pub place_for-requires-clause-df : goal.place_for-requires-clause-df
-place_for-requires-clause-df g c =
-    file_still _ _ _ c.taken.ensures.store.only c.in_ok-status.ensures.store.ready
-    (file_still _ _ _ c.read_table.ensures.store.only c.in_ok-entries.ensures.store.ready c.requires.df)
-
-pub place_for-requires-clause-entries : goal.place_for-requires-clause-entries
-place_for-requires-clause-entries g c =
-    c.as_slice-in-None.ensures.value ∙ c.in_ok-entries.ensures.table
-    ∙ ap table (sym (c.taken.ensures.store.only.keeps.committed_words
-    ∙ c.read_table.ensures.store.only.keeps.committed_words))
+pub place_for-requires : goal.place_for-requires
+place_for-requires g c = record {
+  df = file_still _ _ _ c.taken.ensures.store.only c.in_ok-status.ensures.store.ready c.requires.df;
+}

@@ -1,7 +1,7 @@
 use Rattle.file_tree.specs.Formats.{block_count}
 use Rattle.undo_journal.specs.laws.Exits.{none_ok}
 use Rattle.std.proofs.Common.{rules, ◌≡◌, ◌≢◌, ℕ, Bool, false, List, length, Option, None, IsTrue, sym, ◌∙◌, ap, subst}
-use Rattle.std.proofs.Common.{arith, true≢false, inl, inr}
+use Rattle.std.proofs.Common.{arith, true≢false, inl, inr, refl}
 use Rattle.std.proofs.lemmas.Bool.Decides.{eqb_tells}
 use Rattle.undo_journal.specs.Memory.{committed}
 use Rattle.block_chain.specs.laws.Extents.{laid_has_free}
@@ -9,9 +9,10 @@ use Rattle.file_tree.specs.declared.entry.Entry.{Entry}
 use Rattle.card_state.specs.Spaces.{blocks_for}
 use Rattle.file_tree.specs.Table.{table, ancestor, extents}
 use Rattle.file_changes.specs.CreationParts.{TellsFreeEntry}
-use Rattle.file_tree.specs.laws.Tables.{length-table}
 use Rattle.file_changes.specs.laws.Places.{place_deepest, place_none, place_small, place_there}
-use Rattle.undo_journal.specs.laws.Told.{reads_handed, reads_none}
+use Rattle.block_chain.specs.Chains.{free_chain, HasFree}
+use Rattle.undo_journal.specs.laws.Calls.{reads_then}
+use Rattle.undo_journal.specs.laws.Told.{reads_handed, reads_on}
 use Rattle.file_changes.proofs.placing.place_for.Goals as goal
 
 -- what the table that was read tells is so of the memory: the level of a dedicated file, and a free entry
@@ -28,70 +29,95 @@ free_there m t found o is same told =
     let tells : Option ℕ → List Entry → Type 0 = λ p s. TellsFreeEntry s p in
     subst (λ (s : List Entry). tells o s) is (subst (λ (p : Option ℕ). tells p t) same told)
 
-pub returns-then-is_deepest : goal.returns-then-is_deepest
-returns-then-is_deepest g c = record {
+pub is_deepest-requires : goal.is_deepest-requires
+is_deepest-requires g c = record { df = c.requires.df }
+
+pub returns-in_err-deepest : goal.returns-in_err-deepest
+returns-in_err-deepest g c = record {
+  told = none_ok _ _ _ c.from_residual.ensures.1;
+  store = reads_handed _ _ _ _ c.from_residual.ensures.1 c.in_err-deepest.ensures.store;
+}
+
+pub returns-then-deepest : goal.returns-then-deepest
+returns-then-deepest g c = record {
   told = let m = committed c.args.store.now in
       let sized = c.requires.df.ready.usable.committed_size in
-      let yes : IsTrue c.is_deepest.result = search rules in
-      let of_table : List Entry → Type 0 = λ t. ancestor t 6 c.args.df ≢ 0 in
-      let deep = subst of_table c.requires.entries (c.is_deepest.ensures.0 yes) in
-      sym (place_deepest m sized c.requires.df.tree c.args.df c.requires.df.used c.args.fcp.now.kind deep);
-  store = reads_none _ c.requires.df.ready;
+      sym (place_deepest m sized c.requires.df.tree c.args.df c.requires.df.used c.args.fcp.now.kind
+      (c.in_ok-deepest.ensures.told.0 c.if-deepest.true));
+  store = c.in_ok-deepest.ensures.store;
 }
 
 pub first_free-requires : goal.first_free-requires
-first_free-requires g c =
-    let l = length-table (committed c.args.store.now) in
-    let a = ap (λ (t : List Entry). length t) c.requires.entries in
-    omega (arith, l, a)
+first_free-requires g c = record { ready = c.in_ok-deepest.ensures.store.ready }
+
+pub returns-in_err-found : goal.returns-in_err-found
+returns-in_err-found g c = record {
+  told = none_ok _ _ _ c.from_residual-in_err-found.ensures.1;
+  store = reads_handed _ _ _ _ c.from_residual-in_err-found.ensures.1
+      (reads_on _ _ _ _ c.is_deepest.ensures.store.only c.in_err-found.ensures.store);
+}
 
 pub returns-in_default : goal.returns-in_default
 returns-in_default g c = record {
   told = let m = committed c.args.store.now in
       let sized = c.requires.df.ready.usable.committed_size in
-      let level = level_zero m _ _ _ c.requires.entries c.if-is_deepest.false c.is_deepest.ensures.1 in
-      let none : c.first_free.result ≡ None = search rules in
-      let free = free_there m _ _ _ c.requires.entries none c.first_free.ensures in
+      let level = level_zero m (table m) _ _ refl c.if-deepest.false c.in_ok-deepest.ensures.told.1 in
+      let none : c.in_ok-found.found ≡ None = search rules in
+      let free = free_there m _ _ _ (ap table c.is_deepest.ensures.store.only.keeps.committed_words) none
+      c.in_ok-found.ensures.told in
       sym (place_none m sized c.requires.df.tree c.args.df c.requires.df.used c.args.fcp.now.kind level free);
-  store = reads_none _ c.requires.df.ready;
+  store = reads_on _ _ _ _ c.is_deepest.ensures.store.only c.in_ok-found.ensures.store;
 }
 
-pub free_count-requires-clause-free : goal.free_count-requires-clause-free
-free_count-requires-clause-free g c =
-    let m = committed c.args.store.now in laid_has_free (block_count m) m (extents (table m)) c.requires.df.tree.blocks
+pub free_up_to-requires-clause-ready : goal.free_up_to-requires-clause-ready
+free_up_to-requires-clause-ready g c = c.in_ok-found.ensures.store.ready
 
-pub returns-then-free-blocks_for : goal.returns-then-free-blocks_for
-returns-then-free-blocks_for g c = record {
+pub free_up_to-requires-clause-free : goal.free_up_to-requires-clause-free
+free_up_to-requires-clause-free g c =
+    let m = committed c.args.store.now in
+    let words = c.first_free.ensures.store.only.keeps.committed_words
+    ∙ c.is_deepest.ensures.store.only.keeps.committed_words in
+    subst (λ (l : List ℕ). HasFree l) (sym words)
+    (laid_has_free (block_count m) m (extents (table m)) c.requires.df.tree.blocks)
+
+pub returns-in_err-free : goal.returns-in_err-free
+returns-in_err-free g c = record {
+  told = none_ok _ _ _ c.from_residual-in_err-free.ensures.1;
+  store = reads_handed _ _ _ _ c.from_residual-in_err-free.ensures.1
+      (reads_on _ _ _ _ (reads_then _ _ _ c.is_deepest.ensures.store.only c.first_free.ensures.store.only)
+      c.in_err-free.ensures.store);
+}
+
+pub returns-then-free-blocks : goal.returns-then-free-blocks
+returns-then-free-blocks g c = record {
   told = let m = committed c.args.store.now in
       let sized = c.requires.df.ready.usable.committed_size in
-      let level = level_zero m _ _ _ c.requires.entries c.if-is_deepest.false c.is_deepest.ensures.1 in
-      let free = free_there m _ _ _ c.requires.entries c.in-Some.is c.first_free.ensures in
-      let count = c.in_ok-free.ensures.count in
-      let blocks = c.blocks_for.ensures ∙ ap blocks_for c.size.ensures in
+      let level = level_zero m (table m) _ _ refl c.if-deepest.false c.in_ok-deepest.ensures.told.1 in
+      let free = free_there m _ _ _ (ap table c.is_deepest.ensures.store.only.keeps.committed_words) c.in-Some.is
+      c.in_ok-found.ensures.told in
+      let chain = ap (λ (l : List ℕ). length (free_chain l)) (c.first_free.ensures.store.only.keeps.committed_words
+      ∙ c.is_deepest.ensures.store.only.keeps.committed_words) in
+      let count = c.in_ok-free.ensures.few c.if-free-blocks.true in
+      let blocks = c.blocks_for-blocks.ensures ∙ ap blocks_for c.size.ensures in
       sym (place_small m sized c.requires.df.tree c.args.df c.requires.df.used c.args.fcp.now.kind c.in-Some.e level
-      free
-      (omega (arith, count, blocks, c.if-free-blocks_for.true)));
-  store = c.in_ok-free.ensures.store;
+      free (omega (arith, count, chain, blocks, c.if-free-blocks.true)));
+  store = reads_on _ _ _ _ (reads_then _ _ _ c.is_deepest.ensures.store.only c.first_free.ensures.store.only)
+      c.in_ok-free.ensures.store;
 }
 
 pub returns : goal.returns
 returns g c = record {
   told = let m = committed c.args.store.now in
       let sized = c.requires.df.ready.usable.committed_size in
-      let level = level_zero m _ _ _ c.requires.entries c.if-is_deepest.false c.is_deepest.ensures.1 in
-      let free = free_there m _ _ _ c.requires.entries c.in-Some.is c.first_free.ensures in
-      let count = c.in_ok-free.ensures.count in
-      let blocks = c.blocks_for.ensures ∙ ap blocks_for c.size.ensures in
+      let level = level_zero m (table m) _ _ refl c.if-deepest.false c.in_ok-deepest.ensures.told.1 in
+      let free = free_there m _ _ _ (ap table c.is_deepest.ensures.store.only.keeps.committed_words) c.in-Some.is
+      c.in_ok-found.ensures.told in
+      let chain = ap (λ (l : List ℕ). length (free_chain l)) (c.first_free.ensures.store.only.keeps.committed_words
+      ∙ c.is_deepest.ensures.store.only.keeps.committed_words) in
+      let least = c.in_ok-free.ensures.least in
+      let blocks = c.blocks_for-blocks.ensures ∙ ap blocks_for c.size.ensures in
       place_there m sized c.requires.df.tree c.args.df c.requires.df.used c.args.fcp.now.kind c.in-Some.e level free
-      (omega (arith, count, blocks, c.if-free-blocks_for.false));
-  store = c.in_ok-free.ensures.store;
-}
-
-pub free_count-requires-clause-ready : goal.free_count-requires-clause-ready
-free_count-requires-clause-ready g c = c.requires.df.ready
-
-pub returns-in_err-free : goal.returns-in_err-free
-returns-in_err-free g c = record {
-  told = none_ok _ _ _ c.from_residual.ensures.1;
-  store = reads_handed _ _ _ _ c.from_residual.ensures.1 c.in_err-free.ensures.store;
+      (omega (arith, least, chain, blocks, c.if-free-blocks.false));
+  store = reads_on _ _ _ _ (reads_then _ _ _ c.is_deepest.ensures.store.only c.first_free.ensures.store.only)
+      c.in_ok-free.ensures.store;
 }

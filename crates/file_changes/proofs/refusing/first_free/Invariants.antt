@@ -1,6 +1,12 @@
 use Rattle.std.proofs.Common.{◌≢◌, ◌<◌, ℕ}
-use Rattle.file_tree.specs.Table.{entry_in}
+use Rattle.undo_journal.specs.Memory.{committed, IsReady}
+use Rattle.undo_journal.specs.Calls.{OnlyReads}
+use Rattle.file_tree.specs.Table.{table, entry_in}
 use Rattle.file_changes.proofs.refusing.first_free.Given as goal
 
 abbrev pub invariant-loop-e : goal.invariant-loop-e
-invariant-loop-e l = record { none : (f : ℕ) → f < l.e → (entry_in l.entries f).kind ≢ 0 }
+invariant-loop-e g l = let t = table (committed l.initial.store) in record {
+  ready : IsReady l.store;
+  reads : OnlyReads l.initial.store l.store;
+  none : (f : ℕ) → f < l.e → (entry_in t f).kind ≢ 0;
+}

@@ -1,5 +1,5 @@
 use Rattle.undo_journal.specs.laws.Exits.{none_ok}
-use Rattle.std.proofs.Common.{◌≡◌, Bool, List, ℕ, [], ◌∷◌, ◌++◌, length, Option, is_some, sym, ◌∙◌, ap, subst, arith}
+use Rattle.std.proofs.Common.{◌≡◌, Bool, List, ℕ, [], ◌∷◌, ◌++◌, Option, is_some, refl, sym, ◌∙◌, ap, subst}
 use Rattle.undo_journal.specs.Memory.{committed}
 use Rattle.card_state.specs.FileControl.{name_bytes, short_of_kind, IsShort}
 use Rattle.card_state.specs.declared.fcp.ShortIdentifier.{ShortIdentifier}
@@ -9,10 +9,10 @@ use Rattle.file_tree.specs.Table.{table, path_of, IsTable}
 use Rattle.file_tree.specs.Trees.{tree_of}
 use Rattle.card_state.specs.NewFiles.{has_name, has_short_given}
 use Rattle.file_tree.specs.Naming.{TellsNamed}
-use Rattle.file_tree.specs.laws.Tables.{length-table}
 use Rattle.file_tree.specs.laws.Refusing.{child_told, name_told}
 use Rattle.file_changes.specs.laws.Allowed.{taken_is, creatable_short}
-use Rattle.undo_journal.specs.laws.Told.{reads_handed}
+use Rattle.undo_journal.specs.laws.Told.{reads_handed, reads_on}
+use Rattle.file_tree.specs.laws.StoredFiles.{file_still}
 use Rattle.file_changes.proofs.refusing.taken.Goals as goal
 
 -- whether a name is taken, by what a look-up in the entries that were read found
@@ -24,11 +24,17 @@ name_is_taken m rules entries name text found taken read same is told =
     let of_entries : List Entry → Type 0 = λ t. TellsNamed t text found in
     name_told m rules name found (subst of_text same (subst of_entries read told)) ∙ sym is
 
-pub entry_named-named-requires : goal.entry_named-named-requires
-entry_named-named-requires g c =
-    let l = length-table (committed c.args.store.now) in
-    let a = ap (λ (t : List Entry). length t) c.requires.entries in
-    omega (arith, l, a)
+pub find_name-requires-clause-ready : goal.find_name-requires-clause-ready
+find_name-requires-clause-ready g c = c.requires.df.ready
+
+pub find_name-requires-clause-tree : goal.find_name-requires-clause-tree
+find_name-requires-clause-tree g c = c.requires.df.tree
+
+pub returns-in_err-named : goal.returns-in_err-named
+returns-in_err-named g c = record {
+  told = none_ok _ _ _ c.from_residual.ensures.1;
+  store = reads_handed _ _ _ _ c.from_residual.ensures.1 c.in_err-named.ensures.store;
+}
 
 pub is_short_taken-requires-clause-short : goal.is_short_taken-requires-clause-short
 is_short_taken-requires-clause-short g c =
@@ -47,22 +53,24 @@ returns g c = record {
       (c.child-child.ensures m c.requires.index)
       ∙ sym c.is_some.ensures in
       let named : has_name tree (name_bytes fcp.kind) ≡ c.is_some-2.result =
-      name_is_taken m rules _ (name_bytes fcp.kind) _ c.entry_named-named.result c.is_some-2.result
-      c.requires.entries
-      c.name.ensures
-      c.is_some-2.ensures c.entry_named-named.ensures in
+      name_is_taken m rules (table m) (name_bytes fcp.kind) _ c.in_ok-named.named c.is_some-2.result refl c.name.ensures
+      c.is_some-2.ensures c.in_ok-named.ensures.named in
       let short : has_short_given tree path (short_of_kind fcp.kind) ≡ c.in_ok-short.short =
       sym (c.in_ok-short.ensures.told
+      ∙ ap (λ (l : List ℕ). has_short_given (tree_of l) (path_of (table l) c.args.df) c.short.result)
+      c.find_name.ensures.store.only.keeps.committed_words
       ∙ (λ i. has_short_given tree path (c.short.ensures i))) in
       c.first_taken.ensures ∙ sym (taken_is tree path fcp _ _ _ child named short);
-  store = c.in_ok-short.ensures.store;
+  store = reads_on _ _ _ _ c.find_name.ensures.store.only c.in_ok-short.ensures.store;
 }
 
 pub returns-in_err-short : goal.returns-in_err-short
 returns-in_err-short g c = record {
-  told = none_ok _ _ _ c.from_residual.ensures.1;
-  store = reads_handed _ _ _ _ c.from_residual.ensures.1 c.in_err-short.ensures.store;
+  told = none_ok _ _ _ c.from_residual-in_err-short.ensures.1;
+  store = reads_handed _ _ _ _ c.from_residual-in_err-short.ensures.1
+      (reads_on _ _ _ _ c.find_name.ensures.store.only c.in_err-short.ensures.store);
 }
 
 pub is_short_taken-requires-clause-df : goal.is_short_taken-requires-clause-df
-is_short_taken-requires-clause-df g c = c.requires.df
+is_short_taken-requires-clause-df g c =
+    file_still _ _ _ c.find_name.ensures.store.only c.in_ok-named.ensures.store.ready c.requires.df

@@ -17,7 +17,13 @@ head-page : (words : List ℕ) → head_told (slice_index words 0) (slice_index 
 head-page words =
     let first = slice_index words 0 in
     let told : EntryHead =
-    record { kind = byte_of first 0; life = byte_of first 1; parent = byte_of (slice_index words 1) 0 } in
+    record {
+      kind = byte_of first 0;
+      life = byte_of first 1;
+      parent = byte_of (slice_index words 1) 0;
+      short = byte_of (slice_index words 1) 1;
+      name_length = byte_of (slice_index words 1) 2;
+    } in
     let pick = λ (b : Bool). if b then head_of free_entry else told in
     elim (eqb_tells first 0) [
       | inl same ↦ ap pick same.0 ∙ sym (ap (λ (x : Entry). head_of x) (entry_of-free words same.1))

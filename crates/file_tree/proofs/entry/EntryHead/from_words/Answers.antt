@@ -8,7 +8,13 @@ use Rattle.file_tree.proofs.entry.EntryHead.from_words.Goals as goal
 
 -- what two words tell
 abbrev told : ℕ → ℕ → EntryHead
-told first second = record { kind = byte_of first 0; life = byte_of first 1; parent = byte_of second 0 }
+told first second = record {
+  kind = byte_of first 0;
+  life = byte_of first 1;
+  parent = byte_of second 0;
+  short = byte_of second 1;
+  name_length = byte_of second 2;
+}
 
 pub returns-then-first-eq0 : goal.returns-then-first-eq0
 returns-then-first-eq0 c = elim (eqb_tells c.args.first 0) [
@@ -27,6 +33,8 @@ returns c =
         kind = slice_index_or (first i) 0 0;
         life = slice_index_or (first i) 1 0;
         parent = slice_index_or (second i) 0 0;
+        short = slice_index_or (second i) 1 0;
+        name_length = slice_index_or (second i) 2 0;
       })
           ∙ sym (ap (λ (b : Bool). if b then head_of free_entry else told c.args.first c.args.second) other.0)
     ]
