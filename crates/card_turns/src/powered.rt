@@ -54,6 +54,8 @@ impl<B: Board> Powered<B> {
     ///
     /// The board, and why no card starts: `PowerLost` where power was lost in the start, or was off; `Fault` of the
     /// device; `BadJournal` where the journal can't be undone; `Damaged` where the memory stands for no card.
+    // (Kept out of its caller, so that the loop over lines has no room for what a power-on needs.)
+    #[inline(never)]
     pub fn start(board: B) -> Result<Powered<B>, (B, StartFault)>
         ensures started { IfOk result (λ p. Starts (B.facts board) p.card × (p.link ≡ fresh)) }
         ensures stopped { IfErr result (λ e. StartStopsBy e.1 (B.facts board) (B.facts e.0)) }
