@@ -37,8 +37,8 @@ class Piped:
 
 
 def shares_of_cat(paths, place):
-    """Of each program the seconds of a line, and the share of cat's rate, each the median of all rounds. A round asks cat
-    and then the program, so that what else the machine does tells on both."""
+    """Of each program the seconds of a line, and the share of cat's rate, each the median of all rounds. A round asks
+    cat and then the program, so that other load on the machine slows both."""
     cat = Piped("cat")
     asked = {name: Piped(path) for name, path in paths.items()}
     for program in [cat, *asked.values()]:
