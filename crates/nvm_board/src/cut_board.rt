@@ -105,7 +105,7 @@ impl Board for CutBoard {
     ghost use Rattle.nvm_board.specs.declared.board.TheConstants.{SECRETS};
     ghost use Rattle.nvm_board.specs.Calls.{TellsWord, FitsPage, Compares};
     ghost use Rattle.nvm_board.specs.Facts.{address};
-    ghost use Rattle.nvm_board.specs.Cut.{cut_facts, WritesOrTears};
+    ghost use Rattle.nvm_board.specs.Cut.{cut_facts, last_torn, WritesOrTears};
     ghost use Rattle.nvm_board.specs.laws.Counts.{cut_is_board};
 
     ghost facts = { cut_facts };
@@ -121,6 +121,7 @@ impl Board for CutBoard {
 
         // Only writes bring the cut nearer.
         ensures arm { (cut_facts self.new).pending ≡ (cut_facts self.old).pending }
+        ensures torn { last_torn self.new ≡ last_torn self.old }
     {
         self.ram.read(at)
     }
@@ -143,6 +144,7 @@ impl Board for CutBoard {
 
         // Only writes bring the cut nearer.
         ensures arm { (cut_facts self.new).pending ≡ (cut_facts self.old).pending }
+        ensures torn { last_torn self.new ≡ last_torn self.old }
     {
         self.ram.compare(secret, kept, shown)
     }
@@ -151,11 +153,23 @@ impl Board for CutBoard {
 }
 
 impl Socket for CutBoard {
-    fn light(&mut self) -> Result<(), WornOut> {
+    ghost use Rattle.std.specs.Prelude.{◌≡◌, ◌↔◌, true, false, IsErr, OnOk, OnErr};
+    ghost use Rattle.nvm_board.specs.Facts.{IsWornOut};
+    ghost use Rattle.nvm_board.specs.Cut.{cut_facts, last_torn};
+
+    fn light(&mut self) -> Result<(), WornOut>
+        ensures worn { IsErr result ↔ IsWornOut (cut_facts self.old) }
+        ensures lit { OnOk result (cut_facts self.new ≡ record (cut_facts self.old) { dark = false }) }
+        ensures same { OnErr result (cut_facts self.new ≡ cut_facts self.old) }
+        ensures torn { last_torn self.new ≡ last_torn self.old }
+    {
         self.ram.light()
     }
 
-    fn power_off(&mut self) {
+    fn power_off(&mut self)
+        ensures facts { cut_facts self.new ≡ record (cut_facts self.old) { dark = true } }
+        ensures torn { last_torn self.new ≡ last_torn self.old }
+    {
         self.ram.power_off();
     }
 }
@@ -163,12 +177,13 @@ impl Socket for CutBoard {
 impl Armed for CutBoard {
     ghost use Rattle.std.specs.Prelude.{◌≡◌, ◌≤◌};
     ghost use Rattle.nvm_board.specs.Calls.{Arms};
-    ghost use Rattle.nvm_board.specs.Cut.{cut_facts};
+    ghost use Rattle.nvm_board.specs.Cut.{cut_facts, last_torn};
 
     fn arm(&mut self, k: u32, mask: u16)
         requires { 1 ≤ k }
         ensures arms { Arms k mask (cut_facts self.old) (cut_facts self.new) }
         ensures due { (cut_facts self.new).due ≡ 1 }
+        ensures torn { last_torn self.new ≡ last_torn self.old }
     {
         self.arm = Some(Arm::at(k, mask));
     }
