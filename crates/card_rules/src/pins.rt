@@ -1,6 +1,6 @@
 //! PIN numbers, and sets of PINs: those that are verified, and those that are disabled.
 
-ghost use Rattle.std.specs.Prelude.{◌≡◌, ◌<◌, ◌-◌, ◌↔◌, IsSome, IfSome, List, Bool};
+ghost use Rattle.std.specs.Prelude.{◌≡◌, ◌<◌, ◌-◌, ◌↔◌, IsSome, IfSome, List, Bool, length};
 ghost use Rattle.card_rules.specs.Pins.{IsPinNumber, no_pins, has_pin, with_pin, without_pin};
 ghost use Rattle.card_rules.specs.declared.pins.TheConstants.{PINS};
 
@@ -69,6 +69,8 @@ impl Model for PinSet {
     ghost Value = { List Bool };
 
     ghost view = { λ v. v.marks };
+
+    ghost invariant = { λ v. length v.marks ≡ 8 };
 
     ghost inverse = { λ pins. record { marks = pins } };
 }
