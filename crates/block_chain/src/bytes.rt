@@ -186,6 +186,7 @@ fn fill_block<B: Board>(
     ensures any_exit { Torn (committed store.old) (address page 1) words.now (committed store.new) }
     ensures done { OnOk result (committed store.new ≡ written (committed store.old) (address page 1) words.now) }
     ensures store { Changes 1 store.old store.new (result_err result) }
+    ensures counted { OnOk result (store.new.facts.writes ≡ store.old.facts.writes + 1) }
 {
     store.write_plain(page, 1, words)
 }
@@ -204,6 +205,7 @@ pub fn fill<B: Board>(store: &mut Store<B>, n: u16, byte: u8) -> Result<(), Stor
     ensures done { OnOk result (bytes_of (committed store.new) (take n (free_chain (committed store.old)))
         ≡ replicate (BLOCK_BYTES * n) byte) }
     ensures store { Changes n store.old store.new (result_err result) }
+    ensures counted { OnOk result (store.new.facts.writes ≡ store.old.facts.writes + n) }
 {
     let word = u32::from_be_bytes([byte; 4]);
     let words = [word; BLOCK_WORDS as usize];

@@ -24,6 +24,7 @@ loop-i-init g c =
       filled = λ k place below low high. absurd (omega (arith, below));
       page = c.in_ok-page.ensures.page ∙ leads_first m _ (free_chain m) c.requires.free.leads;
       changes = reads_change 0 _ _ _ c.requires.ready.idle c.in_ok-page.ensures.store;
+      counted = (let none = c.read_head.ensures.store.only.board.writes in omega (arith, none));
     }
 
 pub fill_block-requires-clause-block : goal.fill_block-requires-clause-block
@@ -108,6 +109,10 @@ loop-i-preserved g c =
       changes = reads_after _ _ _ _ _
           (changes_on c.loop-i._i 1 _ _ _ _ _ (omega arith) c.loop-i.invariant.changes c.in_ok-fill_block.ensures.store)
           c.in_ok-page-2.ensures.store;
+      counted = (let none = c.read_link.ensures.store.only.board.writes in
+          let one = c.in_ok-fill_block.ensures.counted in
+          let before = c.loop-i.invariant.counted in
+          omega (arith, none, one, before));
     }
 
 pub returns-clause-done : goal.returns-clause-done
@@ -155,6 +160,20 @@ returns-in_err-page-clause-any_exit g c = none_filled _ _ _ c.read_head.ensures.
 
 pub returns-clause-any_exit : goal.returns-clause-any_exit
 returns-clause-any_exit g c = c.loop-i.invariant.only
+
+pub returns-in_err-page-clause-counted : goal.returns-in_err-page-clause-counted
+returns-in_err-page-clause-counted g c = none_ok _ _ _ c.from_residual.ensures.1
+
+pub returns-in_err-fill_block-clause-counted : goal.returns-in_err-fill_block-clause-counted
+returns-in_err-fill_block-clause-counted g c = none_ok _ _ _ c.from_residual-in_err-fill_block.ensures.1
+
+pub returns-in_err-page-2-clause-counted : goal.returns-in_err-page-2-clause-counted
+returns-in_err-page-2-clause-counted g c = none_ok _ _ _ c.from_residual-in_err-page-2.ensures.1
+
+pub returns-clause-counted : goal.returns-clause-counted
+returns-clause-counted g c =
+    let invariant = c.loop-i.invariant in
+    omega (arith, invariant.counted, invariant.in_range, c.loop-i-test.false)
 
 pub returns-clause-store : goal.returns-clause-store
 returns-clause-store g c = changes_within c.loop-i._i _ _ _ _ c.loop-i.invariant.in_range c.loop-i.invariant.changes

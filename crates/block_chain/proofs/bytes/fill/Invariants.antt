@@ -1,4 +1,4 @@
-use Rattle.std.proofs.Common.{◌≡◌, ◌≤◌, slice_index, take, None}
+use Rattle.std.proofs.Common.{◌≡◌, ◌≤◌, ◌+◌, slice_index, take, None}
 use Rattle.undo_journal.specs.Memory.{committed}
 use Rattle.undo_journal.specs.Calls.{Changes}
 use Rattle.block_chain.specs.Chains.{free_chain}
@@ -14,4 +14,5 @@ invariant-loop-i g l = let m = committed l.fn.store in record {
   filled : AreFilled (committed l.store) (take l._i (free_chain m)) (filled_word l.fn.byte);
   page : l.page ≡ slice_index (free_chain m) l._i;
   changes : Changes l._i l.fn.store l.store None;
+  counted : l.store.facts.writes ≡ l.fn.store.facts.writes + l._i;
 }
