@@ -32,6 +32,25 @@ links_more first end page w m now after from below only torn = ⊎_elim
     }))
     torn
 
+-- and the links before and behind it stay
+pub links_before : (page w : ℕ) (now after : List ℕ) → (after ≡ now) ⊎ (after ≡ slice_set now (address page 0) w)
+    → (q : ℕ) → q < page → link after q ≡ link now q
+links_before page w now after torn q before = ⊎_elim
+    (λ (old : after ≡ now). ap (λ (l : List ℕ). link l q) old)
+    (λ (new : after ≡ slice_set now (address page 0) w). ap (λ (l : List ℕ). link l q) new
+    ∙ word-set_other now page 0 q 0 w (omega arith) (omega arith)
+    (inl (λ same. let z : ⊥ = omega (arith, same, before) in z)))
+    torn
+
+pub links_behind : (page w : ℕ) (now after : List ℕ) → (after ≡ now) ⊎ (after ≡ slice_set now (address page 0) w)
+    → (q : ℕ) → page < q → link after q ≡ link now q
+links_behind page w now after torn q past = ⊎_elim
+    (λ (old : after ≡ now). ap (λ (l : List ℕ). link l q) old)
+    (λ (new : after ≡ slice_set now (address page 0) w). ap (λ (l : List ℕ). link l q) new
+    ∙ word-set_other now page 0 q 0 w (omega arith) (omega arith)
+    (inl (λ same. let z : ⊥ = omega (arith, same, past) in z)))
+    torn
+
 -- then it is linked, beside those before it
 pub linked_more : (first end rest page w : ℕ) (now after : List ℕ) → IsMemory now → page < pages_of now
     → w ≡ (if page + 1 == end then rest else page + 1) → after ≡ slice_set now (address page 0) w

@@ -5,7 +5,7 @@ ghost use Rattle.nvm_board.specs.Facts.{pages_of};
 ghost use Rattle.undo_journal.specs.Memory.{committed, IsReady};
 ghost use Rattle.undo_journal.specs.Calls.{Changes};
 ghost use Rattle.block_chain.specs.declared.layout.TheConstants.{FIRST_BLOCK_PAGE};
-ghost use Rattle.block_chain.specs.Changes.{LinksAlone, AreLinked};
+ghost use Rattle.block_chain.specs.Changes.{LinksAlone, LinksFirst, AreLinked};
 
 use undo_journal::{Board, Store, StoreErr};
 
@@ -33,6 +33,7 @@ pub fn link_pages<B: Board>(
     requires order { first ≤ end }
     requires inside { end ≤ pages_of (committed store.old) }
     ensures any_exit { LinksAlone first end (committed store.old) (committed store.new) }
+    ensures ascending { LinksFirst first end rest (committed store.old) (committed store.new) }
     ensures done { OnOk result (AreLinked first end rest (committed store.new)) }
     ensures store { Changes (end - first) store.old store.new (result_err result) }
     ensures counted { OnOk result (store.new.facts.writes ≡ store.old.facts.writes + (end - first)) }

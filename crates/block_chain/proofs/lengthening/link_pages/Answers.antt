@@ -1,11 +1,11 @@
 use Rattle.std.specs.Prelude.{◌<◌}
-use Rattle.std.proofs.Common.{◌∙◌, arith, inr}
+use Rattle.std.proofs.Common.{◌∙◌, arith, inr, refl}
 use Rattle.nvm_board.specs.laws.Sizes.{page_within, pages_same}
 use Rattle.undo_journal.specs.Memory.{committed}
 use Rattle.undo_journal.specs.laws.Memory.{current_size}
 use Rattle.undo_journal.specs.laws.Exits.{none_ok}
 use Rattle.undo_journal.specs.laws.Told.{reads_none, reads_change, changes_on, changes_handed, changes_within}
-use Rattle.block_chain.proofs.Linking.{links_none, links_more, linked_more}
+use Rattle.block_chain.proofs.Linking.{links_none, links_more, linked_more, links_before, links_behind}
 use Rattle.block_chain.proofs.lengthening.link_pages.Goals as goal
 
 pub loop-page-init : goal.loop-page-init
@@ -14,6 +14,7 @@ loop-page-init g c = record {
   within = c.requires.order;
   only = links_none _ _ _;
   linked = λ q from below. absurd (omega (arith, from, below));
+  behind = λ q from below. refl;
   changes = reads_change _ _ _ _ c.requires.ready.idle (reads_none _ c.requires.ready);
   counted = omega arith;
 }
@@ -41,6 +42,9 @@ loop-page-preserved g c =
       linked = linked_more c.args.first c.args.end c.args.rest c.loop-page.page _ (committed c.loop-page.store) _
           invariant.changes.ready.usable.committed_size (omega (arith, lt, c.requires.inside, pages))
           (c.from.ensures ∙ c.next_page-next.ensures) c.in_ok-write_plain.ensures.done invariant.linked;
+      behind = λ q from below.
+          links_behind c.loop-page.page _ (committed c.loop-page.store) _ c.write_plain.ensures.any_exit q
+          (omega (arith, from)) ∙ invariant.behind q (omega (arith, from)) below;
       changes = changes_on _ 1 _ _ _ _ _ (omega (arith, invariant.from)) invariant.changes
           c.in_ok-write_plain.ensures.store;
       counted = omega (arith, c.in_ok-write_plain.ensures.counted, invariant.counted, invariant.from);
@@ -62,6 +66,27 @@ returns-in_err-write_plain-clause-store g c =
     changes_handed _ _ _ _ _ c.from_residual.ensures.1
     (changes_on _ 1 _ _ _ _ _ (omega (arith, lt, c.loop-page.invariant.from)) c.loop-page.invariant.changes
     c.in_err-write_plain.ensures.store)
+
+pub returns-in_err-write_plain-clause-ascending : goal.returns-in_err-write_plain-clause-ascending
+returns-in_err-write_plain-clause-ascending g c =
+    let invariant = c.loop-page.invariant in
+    let torn = c.write_plain.ensures.any_exit in
+    record {
+      made = c.loop-page.page;
+      linked = λ q from below. links_before c.loop-page.page _ (committed c.loop-page.store) _ torn q below
+          ∙ invariant.linked q from below;
+      behind = λ q past below. links_behind c.loop-page.page _ (committed c.loop-page.store) _ torn q past
+          ∙ invariant.behind q (omega (arith, past)) below;
+    }
+
+pub returns-clause-ascending : goal.returns-clause-ascending
+returns-clause-ascending g c =
+    let invariant = c.loop-page.invariant in
+    record {
+      made = c.loop-page.page;
+      linked = invariant.linked;
+      behind = λ q past below. invariant.behind q (omega (arith, past)) below;
+    }
 
 pub returns-clause-any_exit : goal.returns-clause-any_exit
 returns-clause-any_exit g c = c.loop-page.invariant.only

@@ -11,6 +11,7 @@ invariant-loop-page g l = let m = committed l.fn.store in record {
   within : l.page ≤ l.end;
   only : LinksAlone l.first l.end m (committed l.store);
   linked : (q : ℕ) → l.first ≤ q → q < l.page → link (committed l.store) q ≡ (if q + 1 == l.end then l.rest else q + 1);
+  behind : (q : ℕ) → l.page ≤ q → q < l.end → link (committed l.store) q ≡ link m q;
   changes : Changes (l.page - l.first) l.fn.store l.store None;
   counted : l.store.facts.writes ≡ l.fn.store.facts.writes + (l.page - l.first);
 }
