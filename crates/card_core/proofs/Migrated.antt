@@ -1,7 +1,7 @@
 -- A card of format 1 that becomes one of format 2, at whatever exit, and what a start finds then.
-use Rattle.std.specs.Prelude.{◌↔◌}
+use Rattle.std.specs.Prelude.{◌↔◌, ◌≤◌}
 use Rattle.std.proofs.Common.{◌≡◌, ◌⊎◌, ◌+◌, ◌-◌, ◌==◌, ℕ, Bool, true≢false, List, length, if◌then◌else◌}
-use Rattle.std.proofs.Common.{Option, Some, sym, ◌∙◌, ap, subst, arith, inl, inr, ⊎_elim}
+use Rattle.std.proofs.Common.{true, Option, Some, sym, ◌∙◌, ap, subst, arith, inl, inr, ⊎_elim}
 use Rattle.nvm_board.specs.Facts.{Facts, IsMemory, pages_of}
 use Rattle.nvm_board.specs.laws.Sizes.{pages_same}
 use Rattle.undo_journal.specs.Memory.{committed, Memory}
@@ -31,7 +31,7 @@ use Rattle.card_core.specs.StartParts.{IsCardIn, TellsCard}
 use Rattle.card_core.specs.declared.check.Checked.{Checked}
 use Rattle.card_core.specs.declared.memory_format.MemoryFormat.{MemoryFormat}
 use Rattle.card_core.specs.declared.memory_format.MemoryFormat.TheVariants.{One, Two}
-use Rattle.card_core.specs.Starting.{KeepsFormat, TakesAllPages, power_on_writes}
+use Rattle.card_core.specs.Starting.{KeepsFormat, RenamesLast, TakesAllPages, power_on_writes}
 use Rattle.command_base.specs.laws.CardLaws.{blocks_new, blocks_old, card_format, card_space_is, marked_new, old_format}
 use Rattle.command_base.specs.laws.CardLaws.{old_mark}
 use Rattle.command_base.specs.laws.CardLaws.{pins_new, pins_old}
@@ -168,6 +168,11 @@ renewal-writes m mid same old =
     ap (λ (l : List ℕ). migration_writes (pages_of l)) same
     ∙ sym (ap (λ (b : Bool). if b then 0 else migration_writes (pages_of m)) (old_format m old))
 
+-- of format 2 there are none
+pub renewal-none : (m : List ℕ) → is_format_2 m ≡ true
+    → (if is_format_2 m then 0 else migration_writes (pages_of m)) ≡ 0
+renewal-none m new = ap (λ (b : Bool). if b then 0 else migration_writes (pages_of m)) new
+
 -- where the same words are found, the same card is
 pub found-still : (old new : List ℕ) → words_found new ≡ words_found old
     → (IsSound new ↔ IsSound old) → FindsAgain old new
@@ -220,6 +225,41 @@ module _ (first : List ℕ) (opened last : Memory) (sized : IsMemory (committed 
       (λ (new : IsNew (committed last)). end_new (committed last) new.mark ∙ new.pages
       ∙ pages_same last.facts.words (committed last) (length-data_words (undo last.facts.words)
       ∙ length-undo last.facts.words)) migrated.1.format) exit
+
+-- and the mark is new only behind all of it but the last write
+pub renames-last : (first : Facts) (opened last : Memory) → committed opened ≡ words_found first.words
+    → opened.facts.writes ≡ first.writes + start_writes first
+    → (word (committed last) HEADER_PAGE MARK_WORD ≡ word (committed opened) HEADER_PAGE MARK_WORD)
+    ⊎ (opened.facts.writes
+    + (if is_format_2 (committed opened) then 0 else migration_writes (pages_of (committed opened)))
+    ≤ last.facts.writes + 1) → RenamesLast first last.facts
+renames-last first opened last undone before exit =
+    let size : length (committed opened) ≡ length first.words =
+    ap (λ (l : List ℕ). length l) undone ∙ length-data_words (undo first.words) ∙ length-undo first.words in
+    let pages = pages_same first.words (committed opened) size in
+    let more : ℕ = if is_format_2 (committed opened) then 0 else migration_writes (pages_of (committed opened)) in
+    let most : ℕ = if is_format_2 (words_found first.words) then 0 else migration_writes (pages_of first.words) in
+    let bound : more ≡ most = λ i. if is_format_2 (undone i) then 0 else migration_writes (pages i) in
+    ⊎_elim
+    (λ (kept : word (committed last) HEADER_PAGE MARK_WORD ≡ word (committed opened) HEADER_PAGE MARK_WORD).
+    inl (kept ∙ ap (λ (l : List ℕ). word l HEADER_PAGE MARK_WORD) undone))
+    (λ (all : opened.facts.writes + more ≤ last.facts.writes + 1). inr (omega (arith, before, all, bound)))
+    exit
+
+-- what an opening and a renewal spend exactly
+pub spends-all : (first : Facts) (opened last : Memory) → committed opened ≡ words_found first.words
+    → opened.facts.writes ≡ first.writes + start_writes first
+    → last.facts.writes ≡ opened.facts.writes
+    + (if is_format_2 (committed opened) then 0 else migration_writes (pages_of (committed opened)))
+    → last.facts.writes ≡ first.writes + power_on_writes first
+spends-all first opened last undone before after =
+    let size : length (committed opened) ≡ length first.words =
+    ap (λ (l : List ℕ). length l) undone ∙ length-data_words (undo first.words) ∙ length-undo first.words in
+    let pages = pages_same first.words (committed opened) size in
+    let more : ℕ = if is_format_2 (committed opened) then 0 else migration_writes (pages_of (committed opened)) in
+    let most : ℕ = if is_format_2 (words_found first.words) then 0 else migration_writes (pages_of first.words) in
+    let bound : more ≡ most = λ i. if is_format_2 (undone i) then 0 else migration_writes (pages i) in
+    omega (arith, before, after, bound)
 
 -- what an opening and a renewal spend together
 pub spends-on : (first : Facts) (opened last : Memory) → committed opened ≡ words_found first.words

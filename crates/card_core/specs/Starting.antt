@@ -1,5 +1,5 @@
--- What a start makes of the format of a memory, and how many device writes it makes at most.
-use Rattle.std.specs.Prelude.{◌≡◌, ◌⊎◌, ◌+◌, ℕ, false, if◌then◌else◌, IsTrue, List}
+-- What a start makes of the format of a memory, and how many device writes it makes.
+use Rattle.std.specs.Prelude.{◌≡◌, ◌⊎◌, ◌+◌, ◌≤◌, ℕ, false, if◌then◌else◌, IsTrue, List}
 use Rattle.nvm_board.specs.Facts.{Facts, pages_of}
 use Rattle.undo_journal.specs.Spending.{start_writes, KeepsBoard}
 use Rattle.undo_journal.specs.Undo.{gate}
@@ -28,10 +28,20 @@ TakesAllPages old new = is_format_2 (words_found old) ≡ false → end_page (wo
 abbrev pub KeepsUnlessOld : Facts → Facts → Type 0
 KeepsUnlessOld old new = gate old.words ≡ 0 → ¬ IsOldCard (words_found old.words) → KeepsBoard old new
 
+-- The words that are found stay, each of them, unless they are a card of format 1.
+abbrev pub KeepsFoundUnlessOld : List ℕ → List ℕ → Type 0
+KeepsFoundUnlessOld old new = ¬ IsOldCard (words_found old) → words_found new ≡ words_found old
+
 -- device writes of the way to format 2, where the memory isn't of it
 abbrev pub renewal_writes : List ℕ → ℕ
 renewal_writes m = if is_format_2 (words_found m) then 0 else migration_writes (pages_of m)
 
--- device writes of a start at most: those of the rollback, and those of the way to format 2
+-- device writes of a start: those of the rollback, and those of the way to format 2
 abbrev pub power_on_writes : Facts → ℕ
 power_on_writes facts = start_writes facts + renewal_writes facts.words
+
+-- The mark of what is found is as it was; or all device writes of a start are made, or all but the last.
+abbrev pub RenamesLast : Facts → Facts → Type 0
+RenamesLast old new =
+    (word (words_found new.words) HEADER_PAGE MARK_WORD ≡ word (words_found old.words) HEADER_PAGE MARK_WORD)
+    ⊎ (old.writes + power_on_writes old ≤ new.writes + 1)

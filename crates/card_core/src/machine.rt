@@ -14,7 +14,8 @@ ghost use Rattle.card_model.specs.declared.requests.Target.{Target};
 ghost use Rattle.command_base.specs.Comparing.{comparisons, ComparesAsked};
 ghost use Rattle.card_model.specs.Cards.{card_space};
 ghost use Rattle.command_base.specs.Finding.{HasCard, FindsAgain};
-ghost use Rattle.card_core.specs.Starting.{IsNewFound, KeepsFormat, KeepsUnlessOld, TakesAllPages, power_on_writes};
+ghost use Rattle.card_core.specs.Starting.{IsNewFound, KeepsFormat, KeepsFoundUnlessOld, KeepsUnlessOld};
+ghost use Rattle.card_core.specs.Starting.{RenamesLast, TakesAllPages, power_on_writes};
 ghost use Rattle.card_core.specs.Running.{Starts, StartStopsBy, Steps, FailsIn, IsCutIn, card_found, memory_failure};
 ghost use Rattle.command_base.specs.Spending.{writes_of};
 ghost use Rattle.card_model.specs.Steps.{IsStage, ChangesNothing};
@@ -86,8 +87,14 @@ impl<B: Board> Card<B> {
         ensures format { IfOk result (λ c. IsNewFound c.facts.words) }
         ensures all_pages { IfOk result (λ c. TakesAllPages (B.facts board).words c.facts.words) }
         ensures format_err { IfErr result (λ e. KeepsFormat (B.facts board).words (B.facts e.0).words) }
+        // The words that are found stay, each of them, unless they are a card of format 1.
+        ensures kept { IfOk result (λ c. KeepsFoundUnlessOld (B.facts board).words c.facts.words) }
+        ensures kept_err { IfErr result (λ e. KeepsFoundUnlessOld (B.facts board).words (B.facts e.0).words) }
         ensures shut { IfOk result (λ c. KeepsUnlessOld (B.facts board) c.facts) }
         ensures shut_err { IfErr result (λ e. KeepsUnlessOld (B.facts board) (B.facts e.0)) }
+        // Its last write alone makes the mark that of format 2, and where it is done it made just these writes.
+        ensures last { IfErr result (λ e. RenamesLast (B.facts board) (B.facts e.0)) }
+        ensures counted { IfOk result (λ c. c.facts.writes ≡ (B.facts board).writes + power_on_writes (B.facts board)) }
         ensures writes { IfOk result (λ c. WritesAtMost (power_on_writes (B.facts board)) (B.facts board) c.facts) }
         ensures writes_err { IfErr result
             (λ e. WritesAtMost (power_on_writes (B.facts board)) (B.facts board) (B.facts e.0)) }

@@ -1,5 +1,8 @@
 //! What a start finds of a card, whose memory becomes one of format 2 if it isn't yet.
-ghost use Rattle.std.specs.Prelude.{◌≡◌, ◌⊎◌, IfOk, if◌then◌else◌};
+ghost use Rattle.std.specs.Prelude.{◌≡◌, ◌⊎◌, ◌+◌, ◌≤◌, IfOk, IsSome, if◌then◌else◌};
+ghost use Rattle.block_chain.specs.Words.{word};
+ghost use Rattle.block_chain.specs.declared.layout.TheConstants.{HEADER_PAGE};
+ghost use Rattle.file_tree.specs.declared.layout.TheConstants.{MARK_WORD};
 ghost use Rattle.std.specs.Result.{result_err};
 ghost use Rattle.nvm_board.specs.Facts.{pages_of};
 ghost use Rattle.undo_journal.specs.Calls.{Changes, OnlyReads};
@@ -22,6 +25,11 @@ pub(crate) fn survey_card<B: Board>(store: &mut Store<B>) -> Result<Option<Surve
     ensures any_exit { (committed store.new ≡ committed store.old)
         ⊎ (IsOldCard (committed store.old) × Migrates (committed store.old) (committed store.new)) }
     ensures card { IfOk result (TellsSurvey (committed store.old) (committed store.new)) }
+    ensures last { (word (committed store.new) HEADER_PAGE MARK_WORD ≡ word (committed store.old) HEADER_PAGE MARK_WORD)
+        ⊎ (store.old.facts.writes + (if is_format_2 (committed store.old) then 0
+        else migration_writes (pages_of (committed store.old))) ≤ store.new.facts.writes + 1) }
+    ensures counted { IfOk result (λ found. IsSome found → store.new.facts.writes ≡ store.old.facts.writes
+        + (if is_format_2 (committed store.old) then 0 else migration_writes (pages_of (committed store.old)))) }
     ensures idle { ¬ IsOldCard (committed store.old) → OnlyReads store.old store.new }
     ensures store { Changes (if is_format_2 (committed store.old) then 0
         else migration_writes (pages_of (committed store.old))) store.old store.new (result_err result) }

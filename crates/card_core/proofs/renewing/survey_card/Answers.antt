@@ -3,10 +3,16 @@ use Rattle.undo_journal.specs.Calls.{Changes}
 use Rattle.undo_journal.specs.Memory.{committed}
 use Rattle.undo_journal.specs.laws.Told.{changes_after, changes_handed}
 use Rattle.file_tree.specs.Table.{table}
+use Rattle.command_base.specs.laws.CardLaws.{card_format}
+use Rattle.std.proofs.Common.{arith, ⊎_elim}
+use Rattle.block_chain.specs.Words.{word}
+use Rattle.block_chain.specs.declared.layout.TheConstants.{HEADER_PAGE}
+use Rattle.file_tree.specs.declared.layout.TheConstants.{MARK_WORD}
 use Rattle.file_tree.specs.Indexes.{IsIndex}
 use Rattle.card_model.specs.Cards.{card_space}
 use Rattle.command_base.specs.Standing.{card_of, IsCard, IsOldCard}
 use Rattle.card_core.proofs.Migrated.{found-free, found-one, found-two, found-where, grown-space, renewal-writes}
+use Rattle.card_core.proofs.Migrated.{renewal-none}
 use Rattle.card_core.proofs.Migrated.{renewed-card}
 use Rattle.card_core.proofs.renewing.survey_card.Goals as goal
 
@@ -22,6 +28,54 @@ returns-in_err-migrate-in-One-clause-store g c =
     c.in_err-migrate-in-One.ensures.store in
     changes_handed _ first last _ _ c.from_residual-in_err-migrate-in-One.ensures.1
     (subst (λ (n : ℕ). Changes n first last told) (renewal-writes m (committed c.find_card.new.store) same old) changes)
+
+pub returns-in_err-migrate-in-One-clause-last : goal.returns-in_err-migrate-in-One-clause-last
+returns-in_err-migrate-in-One-clause-last g c =
+    let m = committed c.args.store.now in
+    let same = c.find_card.ensures.store.only.keeps.committed_words in
+    let old = found-one m _ c.in-Some.found c.in-Some.is c.in-One.is c.in_ok-found.ensures.told in
+    let all = renewal-writes m (committed c.find_card.new.store) same old in
+    let read = c.find_card.ensures.store.only.board.writes in
+    ⊎_elim
+    (λ kept. inl (kept ∙ ap (λ (l : List ℕ). word l HEADER_PAGE MARK_WORD) same))
+    (λ most. inr (omega (arith, most, all, read)))
+    c.in_err-migrate-in-One.ensures.last
+
+pub returns-in_ok-migrate-in-One-clause-last : goal.returns-in_ok-migrate-in-One-clause-last
+returns-in_ok-migrate-in-One-clause-last g c =
+    let m = committed c.args.store.now in
+    let same = c.find_card.ensures.store.only.keeps.committed_words in
+    let old = found-one m _ c.in-Some.found c.in-Some.is c.in-One.is c.in_ok-found.ensures.told in
+    let all = renewal-writes m (committed c.find_card.new.store) same old in
+    let read = c.find_card.ensures.store.only.board.writes in
+    let made = c.in_ok-migrate-in-One.ensures.counted in
+    inr (omega (arith, made, all, read))
+
+pub returns-in-Two-clause-last : goal.returns-in-Two-clause-last
+returns-in-Two-clause-last g c =
+    inl (ap (λ (l : List ℕ). word l HEADER_PAGE MARK_WORD) c.find_card.ensures.store.only.keeps.committed_words)
+
+pub returns-in_err-found-clause-last : goal.returns-in_err-found-clause-last
+returns-in_err-found-clause-last g c =
+    inl (ap (λ (l : List ℕ). word l HEADER_PAGE MARK_WORD) c.find_card.ensures.store.only.keeps.committed_words)
+
+pub returns-in-Two-clause-counted : goal.returns-in-Two-clause-counted
+returns-in-Two-clause-counted g c =
+    let m = committed c.args.store.now in
+    let there = found-two m _ c.in-Some.found c.in-Some.is c.in-Two.is c.in_ok-found.ensures.told in
+    let none = renewal-none m (card_format m there.0) in
+    let same = c.find_card.ensures.store.only.board.writes in
+    λ some. omega (arith, none, same)
+
+pub returns-in_ok-migrate-in-One-clause-counted : goal.returns-in_ok-migrate-in-One-clause-counted
+returns-in_ok-migrate-in-One-clause-counted g c =
+    let m = committed c.args.store.now in
+    let same = c.find_card.ensures.store.only.keeps.committed_words in
+    let old = found-one m _ c.in-Some.found c.in-Some.is c.in-One.is c.in_ok-found.ensures.told in
+    let all = renewal-writes m (committed c.find_card.new.store) same old in
+    let read = c.find_card.ensures.store.only.board.writes in
+    let made = c.in_ok-migrate-in-One.ensures.counted in
+    λ some. omega (arith, all, read, made)
 
 pub returns-in-Two-clause-card : goal.returns-in-Two-clause-card
 returns-in-Two-clause-card g c =

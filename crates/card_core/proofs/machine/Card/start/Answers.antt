@@ -13,6 +13,10 @@ use Rattle.command_base.specs.declared.current.Current.{Current}
 use Rattle.command_base.specs.Working.{IsKept, session_of, table_in}
 use Rattle.card_core.specs.StartParts.{TellsSurvey}
 use Rattle.command_base.specs.laws.Entries.{master-path}
+use Rattle.std.specs.Prelude.{◌+◌, if◌then◌else◌, IsSome}
+use Rattle.nvm_board.specs.Facts.{pages_of}
+use Rattle.file_tree.specs.Formats.{is_format_2}
+use Rattle.migration.specs.Migrating.{migration_writes}
 use Rattle.nvm_board.specs.Facts.{Facts}
 use Rattle.card_core.specs.Running.{StartStopsBy}
 use Rattle.undo_journal.specs.laws.Calls.{boards_then, within_more}
@@ -20,9 +24,10 @@ use Rattle.block_chain.specs.Words.{word}
 use Rattle.block_chain.specs.declared.layout.TheConstants.{HEADER_PAGE}
 use Rattle.file_tree.specs.declared.layout.TheConstants.{MARK_WORD}
 use Rattle.command_base.specs.Standing.{IsOldCard}
-use Rattle.card_core.specs.Starting.{KeepsFormat, power_on_writes}
+use Rattle.card_core.specs.Starting.{KeepsFormat, KeepsFoundUnlessOld, RenamesLast, power_on_writes}
 use Rattle.command_base.specs.laws.CardLaws.{card_format}
-use Rattle.card_core.proofs.Migrated.{found-again, found-format, found-pages, found-still, spends-on}
+use Rattle.card_core.proofs.Migrated.{found-again, found-format, found-pages, found-still, renames-last}
+use Rattle.card_core.proofs.Migrated.{spends-all, spends-on}
 use Rattle.card_core.proofs.Powers.{found-there, starts-kept, stops-found, stops-opening}
 use Rattle.card_core.proofs.machine.Card.start.Goals as goal
 
@@ -95,10 +100,47 @@ returns-in-Ok-survey_of-clause-all_pages g c =
     c.in-Ok.ensures.ready.usable.committed_size c.in-Ok.ensures.found
     c.survey_card.ensures.any_exit (kept.1 refl).kept.card
 
+pub returns-in-Ok-survey_of-clause-kept : goal.returns-in-Ok-survey_of-clause-kept
+returns-in-Ok-survey_of-clause-kept g c =
+    λ new. (c.survey_card.ensures.idle (subst (λ (l : List ℕ). ¬ IsOldCard l) (sym c.in-Ok.ensures.found)
+    new)).keeps.committed_words ∙ c.in-Ok.ensures.found
+
+pub returns-in-Err-survey_of-clause-kept_err : goal.returns-in-Err-survey_of-clause-kept_err
+returns-in-Err-survey_of-clause-kept_err g c =
+    subst (λ (now : Facts). KeepsFoundUnlessOld (g.B.Board.facts c.args.board).words now.words)
+    (sym c.into_board.ensures)
+    (λ new. (c.survey_card.ensures.idle (subst (λ (l : List ℕ). ¬ IsOldCard l) (sym c.in-Ok.ensures.found)
+    new)).keeps.committed_words ∙ c.in-Ok.ensures.found)
+
+pub returns-in-Err-clause-kept_err : goal.returns-in-Err-clause-kept_err
+returns-in-Err-clause-kept_err g c = λ new. ap data_words c.in-Err.ensures.kept_err
+
 pub returns-in-Ok-survey_of-clause-shut : goal.returns-in-Ok-survey_of-clause-shut
 returns-in-Ok-survey_of-clause-shut g c =
     λ shut new. boards_then _ _ _ (c.in-Ok.ensures.shut shut)
     (c.survey_card.ensures.idle (subst (λ (l : List ℕ). ¬ IsOldCard l) (sym c.in-Ok.ensures.found) new)).board
+
+pub returns-in-Err-survey_of-clause-last : goal.returns-in-Err-survey_of-clause-last
+returns-in-Err-survey_of-clause-last g c =
+    let first = g.B.Board.facts c.args.board in
+    subst (λ (now : Facts). RenamesLast first now) (sym c.into_board.ensures)
+    (renames-last first c.in-Ok.store c.survey_card.new.store c.in-Ok.ensures.found c.in-Ok.ensures.counted
+    c.survey_card.ensures.last)
+
+pub returns-in-Err-clause-last : goal.returns-in-Err-clause-last
+returns-in-Err-clause-last g c =
+    inl (ap (λ (l : List ℕ). word l HEADER_PAGE MARK_WORD) (ap data_words c.in-Err.ensures.kept_err))
+
+pub returns-in-Ok-survey_of-clause-counted : goal.returns-in-Ok-survey_of-clause-counted
+returns-in-Ok-survey_of-clause-counted g c =
+    let there = found-there c.survey_card.result c.survey_of.result c.in-Ok-survey_of.field-0 c.survey_of.ensures
+    c.in-Ok-survey_of.is in
+    spends-all (g.B.Board.facts c.args.board) c.in-Ok.store c.survey_card.new.store c.in-Ok.ensures.found
+    c.in-Ok.ensures.counted
+    (subst (λ (r : Result (Option Survey) StoreErr). IfOk r (λ found. IsSome found
+    → c.survey_card.new.store.facts.writes ≡ c.in-Ok.store.facts.writes
+    + (if is_format_2 (committed c.in-Ok.store) then 0 else migration_writes (pages_of (committed c.in-Ok.store)))))
+    there c.survey_card.ensures.counted refl)
 
 pub returns-in-Ok-survey_of-clause-writes : goal.returns-in-Ok-survey_of-clause-writes
 returns-in-Ok-survey_of-clause-writes g c =
