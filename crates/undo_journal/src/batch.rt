@@ -197,6 +197,8 @@ fn save_and_write<B: Board>(board: &mut B, used: u16, sets: &[Waiting]) -> Resul
     ensures sound { IsSound (B.facts board.new).words }
     ensures counts { OnOk result (gate (B.facts board.new).words ≡ used + length sets.now) }
     ensures light { Answered (B.facts board.old) (B.facts board.new) result }
+    ensures turned { gate (B.facts board.new).words ≡ 0
+        → (used ≡ 0) × ((B.facts board.new).writes ≤ (B.facts board.old).writes + 2) }
     ensures counted { OnOk result ((B.facts board.new).writes ≡ (B.facts board.old).writes + batch_writes sets.now) }
     ensures writes { WritesAtMost (batch_writes sets.now) (B.facts board.old) (B.facts board.new) }
 {
@@ -225,6 +227,8 @@ fn flush<B: Board>(board: &mut B, batch: &mut Batch) -> Result<(), DeviceErr>
     ensures counted { OnOk result ((B.facts board.new).writes
         ≡ (B.facts board.old).writes + batch_writes batch.old.waiting.items) }
     ensures writes { WritesAtMost (batch_writes batch.old.waiting.items) (B.facts board.old) (B.facts board.new) }
+    ensures turned { gate (B.facts board.new).words ≡ 0
+        → (batch.old.used ≡ 0) × ((B.facts board.new).writes ≤ (B.facts board.old).writes + 2) }
     ensures used { batch.new.used ≡ batch.old.used + array_vec_len batch.old.waiting }
     ensures empty { batch.new.waiting.items ≡ [] }
 {
@@ -279,6 +283,9 @@ pub(crate) fn finish<B: Board>(board: &mut B, batch: &mut Batch) -> Result<(), D
         ≤ (B.facts board.new).writes + 1) }
     ensures done { OnOk result (data_words (undo (B.facts board.new).words)
         ≡ data_words (overlay batch.old.waiting.items (B.facts board.old).words)) }
+    ensures turned { gate (B.facts board.new).words ≡ 0 → (data_words (undo (B.facts board.new).words)
+        ≡ data_words (overlay batch.old.waiting.items (B.facts board.old).words))
+        ⊎ ((batch.old.used ≡ 0) × ((B.facts board.new).writes ≤ (B.facts board.old).writes + 2)) }
     ensures shut { OnOk result (gate (B.facts board.new).words ≡ 0) }
     ensures sound { IsSound (B.facts board.new).words }
     ensures light { Answered (B.facts board.old) (B.facts board.new) result }

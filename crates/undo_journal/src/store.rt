@@ -11,7 +11,7 @@ ghost use Rattle.undo_journal.specs.declared.layout.TheConstants.{PAIRS};
 ghost use Rattle.undo_journal.specs.declared.error.StoreErr.TheVariants.{PowerLost};
 ghost use Rattle.undo_journal.specs.Undo.{undo, data_words, IsDataAddress, IsDataRun, IsSound};
 ghost use Rattle.undo_journal.specs.Spending.{KeepsShut, WritesAtMost, rollback_writes, start_writes};
-ghost use Rattle.undo_journal.specs.Commits.{StaysShut, TurnsGate};
+ghost use Rattle.undo_journal.specs.Commits.{StaysShut, TurnedCommits, TurnsGate};
 ghost use Rattle.undo_journal.specs.Memory.{committed, current, commit_writes, room, set_writes};
 ghost use Rattle.undo_journal.specs.Memory.{store_result_of, taken};
 ghost use Rattle.undo_journal.specs.Memory.{EndsAt, GoesOn, InRuns, IsIdle, IsOpen, IsReady, Joins, KeepsWords};
@@ -284,6 +284,7 @@ impl<B: Board> Store<B> {
     pub(crate) fn commit(&mut self) -> Result<(), StoreErr>
         ensures any_exit { (committed self.new ≡ committed self.old)
             ⊎ ((committed self.new ≡ current self.old) × TurnsGate (committed self.old) self.new) }
+        ensures turned { TurnedCommits self.old self.new }
         ensures last { (committed self.new ≡ committed self.old)
             ⊎ (self.old.facts.writes + commit_writes self.old ≤ self.new.facts.writes + 1) }
         ensures done { OnOk result (committed self.new ≡ current self.old) }

@@ -4,7 +4,7 @@ ghost use Rattle.std.specs.Prelude.{true, slice_index, slice_set};
 ghost use Rattle.std.specs.Result.{result_err};
 ghost use Rattle.nvm_board.specs.Torn.{written};
 ghost use Rattle.undo_journal.specs.declared.error.StoreErr.TheVariants.{PowerLost};
-ghost use Rattle.undo_journal.specs.Commits.{TurnsGate};
+ghost use Rattle.undo_journal.specs.Commits.{TurnedCommits, TurnsGate};
 ghost use Rattle.undo_journal.specs.Endings.{ended, end_writes};
 ghost use Rattle.undo_journal.specs.Undo.{IsDataAddress, IsDataRun};
 ghost use Rattle.undo_journal.specs.Spending.{rollback_writes, WritesAtMost};
@@ -100,6 +100,8 @@ impl<B: Board> Txn<'_, B> {
         ensures any_exit { (committed self.exit.0.now ≡ committed (memory_of self.entry))
             ⊎ ((committed self.exit.0.now ≡ current (memory_of self.entry))
             × TurnsGate (committed (memory_of self.entry)) self.exit.0.now) }
+        // Once the gate has turned to 0 these words stand.
+        ensures turned { TurnedCommits (memory_of self.entry) self.exit.0.now }
         // Other words are committed by its last write alone.
         ensures last { (committed self.exit.0.now ≡ committed (memory_of self.entry))
             ⊎ ((memory_of self.entry).facts.writes + commit_writes (memory_of self.entry)
@@ -143,6 +145,7 @@ impl<B: Board> Txn<'_, B> {
         ensures any_exit { (committed self.exit.0.now ≡ committed (memory_of self.entry))
             ⊎ (IsOk work × (committed self.exit.0.now ≡ current (memory_of self.entry))
             × TurnsGate (committed (memory_of self.entry)) self.exit.0.now) }
+        ensures turned { IsOk work → TurnedCommits (memory_of self.entry) self.exit.0.now }
         ensures last { (committed self.exit.0.now ≡ committed (memory_of self.entry))
             ⊎ ((memory_of self.entry).facts.writes + commit_writes (memory_of self.entry)
             ≤ self.exit.0.now.facts.writes + 1) }

@@ -35,6 +35,25 @@ returns-clause-any_exit g c =
     ))
     c.write_gate.ensures.torn
 
+pub returns-in_err-flush-clause-turned : goal.returns-in_err-flush-clause-turned
+returns-in_err-flush-clause-turned g c = λ shut. inr (c.in_err-flush.ensures.turned shut)
+
+pub returns-then-batch-eq0-clause-turned : goal.returns-then-batch-eq0-clause-turned
+returns-then-batch-eq0-clause-turned g c = λ shut.
+    inl (committed-shut _ (c.in_ok-flush.ensures.counts ∙ c.if-batch-eq0.true) ∙ c.in_ok-flush.ensures.done)
+
+pub returns-clause-turned : goal.returns-clause-turned
+returns-clause-turned g c =
+    let flushed = (g.B.Board.facts c.flush.new.board).words in
+    let memory = (g.met.B.Board.is_board c.flush.new.board).sized in
+    let within : GATE < length flushed = omega (arith, least_words _ memory) in
+    let counts = c.in_ok-flush.ensures.counts in
+    let some = c.if-batch-eq0.false in
+    λ shut. ⊎_elim
+    (λ old. let is = ap gate old in absurd (omega (arith, shut, is, counts, some)))
+    (λ new. inl (gate-commits flushed _ within new ∙ c.in_ok-flush.ensures.done))
+    c.write_gate.ensures.torn
+
 pub returns-clause-done : goal.returns-clause-done
 returns-clause-done g c =
     let flushed = (g.B.Board.facts c.flush.new.board).words in

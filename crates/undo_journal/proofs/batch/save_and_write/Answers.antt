@@ -1,4 +1,4 @@
-use Rattle.std.proofs.Common.{◌≡◌, ◌+◌, ◌*◌, ℕ, List, length, inr, sym, ◌∙◌, ap, arith, subst}
+use Rattle.std.proofs.Common.{◌+◌, ◌*◌, ℕ, List, length, inr, sym, ◌∙◌, ap, arith, subst}
 use Rattle.std.proofs.Math.ListN.{length-set}
 use Rattle.nvm_board.specs.laws.Torn.{length-written}
 use Rattle.undo_journal.specs.Batches.{AreSets}
@@ -8,6 +8,8 @@ use Rattle.undo_journal.proofs.Saving.{pairs-torn, pairs-sound, gate-torn, gate-
 use Rattle.undo_journal.specs.laws.Joining.{writes-some}
 use Rattle.std.specs.Prelude.{◌≤◌}
 use Rattle.nvm_board.specs.Facts.{IsMemory}
+use Rattle.std.proofs.Common.{◌<◌, ◌≡◌, ⊎_elim, get_or-set_same, slice_set}
+use Rattle.undo_journal.specs.Undo.{gate}
 use Rattle.nvm_board.specs.laws.Sizes.{least_words}
 use Rattle.undo_journal.specs.declared.layout.TheConstants.{GATE, JOURNAL, JOURNAL_END}
 use Rattle.undo_journal.proofs.batch.save_and_write.Goals as goal
@@ -51,6 +53,39 @@ returns-in_err-write_gate-clause-sound g c =
     gate-sound _ _ _ c.args.sets.now
     _ c.in_ok-pairs.ensures.reads.words (c.deref.ensures.0 ∙ c.in_ok-pairs.ensures.words) r.sound r.counts r.room r.sets
     (journal_within _ (g.met.B.Board.is_board _).sized) _ c.in_ok-write_pairs.ensures.done _
+    c.in_err-write_gate.ensures.torn
+
+pub returns-in_err-write_pairs-clause-turned : goal.returns-in_err-write_pairs-clause-turned
+returns-in_err-write_pairs-clause-turned g c =
+    let r = c.requires in
+    let same = (pairs-torn _ _ _ c.args.sets.now
+    _ c.in_ok-pairs.ensures.reads.words (c.deref.ensures.0 ∙ c.in_ok-pairs.ensures.words) r.sound r.counts r.room r.sets
+    (journal_within _ (g.met.B.Board.is_board _).sized) _ c.in_err-write_pairs.ensures.torn).gates in
+    let counts = r.counts in
+    let one = c.in_err-write_pairs.ensures.writes.writes in
+    let none = c.in_ok-pairs.ensures.reads.writes in
+    λ shut. (omega (arith, shut, same, counts), omega (arith, one, none))
+
+pub returns-in_err-write_gate-clause-turned : goal.returns-in_err-write_gate-clause-turned
+returns-in_err-write_gate-clause-turned g c =
+    let r = c.requires in
+    let p = (g.B.Board.facts c.write_pairs.new.board).words in
+    let n = (g.B.Board.facts c.write_gate.new.board).words in
+    let same = (pairs-torn _ _ _ c.args.sets.now
+    _ c.in_ok-pairs.ensures.reads.words (c.deref.ensures.0 ∙ c.in_ok-pairs.ensures.words) r.sound r.counts r.room r.sets
+    (journal_within _ (g.met.B.Board.is_board _).sized) _ c.in_ok-write_pairs.ensures.torn).gates in
+    let counts = r.counts in
+    let some = r.some in
+    let board = g.met.B.Board.is_board c.write_pairs.new.board in
+    let within : GATE < length p = omega (arith, least_words _ board.sized) in
+    let two = c.in_err-write_gate.ensures.writes.writes in
+    let one = c.in_ok-write_pairs.ensures.counted in
+    let none = c.in_ok-pairs.ensures.reads.writes in
+    λ shut. ⊎_elim
+    (λ (old : n ≡ p). let is = ap gate old in (omega (arith, shut, is, same, counts), omega (arith, two, one, none)))
+    (λ (new : n ≡ slice_set p GATE (c.args.used + length c.args.sets.now)).
+    let is : gate n ≡ c.args.used + length c.args.sets.now = ap gate new ∙ get_or-set_same p GATE _ 0 within in
+    absurd (omega (arith, shut, is, some)))
     c.in_err-write_gate.ensures.torn
 
 pub write_words-requires-clause-sound : goal.write_words-requires-clause-sound

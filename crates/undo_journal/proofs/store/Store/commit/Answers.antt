@@ -1,4 +1,4 @@
-use Rattle.std.proofs.Common.{◌+◌, ◌≤◌, ap, refl, sym, ◌∙◌, subst, Err}
+use Rattle.std.proofs.Common.{◌≡◌, ◌+◌, ◌≤◌, ap, refl, sym, ◌∙◌, subst, Err}
 use Rattle.std.proofs.Math.Logic.{⊎_map}
 use Rattle.undo_journal.specs.Memory.{Memory, committed, current, commit_writes}
 use Rattle.undo_journal.specs.Spending.{WritesAtMost}
@@ -37,6 +37,14 @@ returns-in-Ok-clause-any_exit g c =
       },
     ))
     c.finish-answer.ensures.any_exit
+
+pub returns-in-Ok-clause-turned : goal.returns-in-Ok-clause-turned
+returns-in-Ok-clause-turned g c =
+    let after = g.B.Board.facts c.finish-answer.new.board in
+    λ shut works. ⊎_map
+    (λ done. done ∙ ap current c.self.view_is)
+    (λ early. subst (λ (m : Memory). (m.used ≡ 0) × (after.writes ≤ m.facts.writes + 2)) c.self.view_is early)
+    (c.finish-answer.ensures.turned shut)
 
 pub returns-in-Ok-clause-done : goal.returns-in-Ok-clause-done
 returns-in-Ok-clause-done g c =
