@@ -126,6 +126,8 @@ module _ (board left : Facts) (first armed last : BenchState) (told : Came) (rep
         armed = armed;
         last = last;
         arm = subst (λ (b : BenchState). IsArmed number mask b armed) is arm;
+        good = arms first-good;
+        good_left = (plays (arms first-good)).0;
         start = start;
         spared = spares;
       }) (plays (arms first-good)).1
@@ -148,9 +150,68 @@ module _ (board left : Facts) (first armed last : BenchState) (told : Came) (rep
         last = last;
         before = subst (λ (b : BenchState). Runs b prepare trace prepared) is before.1;
         arm = arm;
+        good = arms before.0;
+        good_left = (plays (arms before.0)).0;
         sent = good-block armed last command i sent;
         spared = spares;
       }) (plays (arms before.0)).1
+
+-- the board that is left where power was lost, with no cut to come
+module _ (board left : Facts) (first armed last : BenchState) (told : Came) (reply : List ℕ) (number mask : ℕ)
+    (fine : board.faults ≡ 0) (due : board.due ≡ due_of board.pending) (is : first ≡ off_with board)
+    (left_is : left ≡ record (bench_facts last) { dark = true }) (dark : told ≡ came.Dark)
+    (fired : left.pending ≡ None) (card : HasCard board.words) where
+  first-well : IsGood first
+  first-well = subst (λ (b : BenchState). IsGood b) (sym is)
+      (record { has_card = card; faults = fine; due = due; well = tt })
+
+  left-card : IsGood last → HasCard left.words
+  left-card good = subst HasCard (sym (ap (λ (f : Facts). f.words) left_is)) good.has_card
+
+  -- the start is cut
+  pub cuts-start : (IsGood first → IsGood armed) → IsArmed number mask first armed
+      → (IsGood armed → IsGood last × TellsItem told reply (λ i. GoodTurn armed turn.On i last))
+      → CutsStart number mask board left
+  cuts-start arms arm plays =
+      let good = arms first-well in
+      let played = plays good in
+      record {
+        armed = armed;
+        last = last;
+        arm = subst (λ (b : BenchState). IsArmed number mask b armed) is arm;
+        good = good;
+        good_left = played.0;
+        cut = subst (λ (t : Came). TellsItem t reply (λ i. GoodTurn armed turn.On i last)) dark played.1;
+        left_is = left_is;
+        fired = fired;
+        has_card = left-card played.0;
+      }
+
+  -- the command is cut
+  pub cuts-command : (prepare : List Turn) (trace : List Item) (prepared : BenchState) (command : Bor (List ℕ))
+      → (IsGood first → IsGood prepared × Runs first prepare trace prepared) → (IsGood prepared → IsGood armed)
+      → IsArmed number mask prepared armed
+      → (IsGood armed → IsGood last × TellsItem told reply (λ i. GoodTurn armed (turn.Block command) i last))
+      → CutsCommand number mask board prepare command.now left
+  cuts-command prepare trace prepared command prepares arms arm plays =
+      let before = prepares first-well in
+      let good = arms before.0 in
+      let played = plays good in
+      record {
+        trace = trace;
+        prepared = prepared;
+        armed = armed;
+        last = last;
+        before = subst (λ (b : BenchState). Runs b prepare trace prepared) is before.1;
+        arm = arm;
+        good = good;
+        good_left = played.0;
+        cut = good-block armed last command item.Dark
+            (subst (λ (t : Came). TellsItem t reply (λ i. GoodTurn armed (turn.Block command) i last)) dark played.1);
+        left_is = left_is;
+        fired = fired;
+        has_card = left-card played.0;
+      }
 
 -- where there is none, one fact follows from the other
 pub if-none : {T : Type 0} (o : Option T) (A B : Type 0) → (A → B) → IfNone o A → IfNone o B

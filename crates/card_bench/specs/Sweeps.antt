@@ -8,6 +8,7 @@ use Rattle.card_turns.specs.declared.playing.Item.{Item}
 use Rattle.card_turns.specs.declared.playing.Item.TheVariants.{Dark}
 use Rattle.card_turns.specs.BenchStates.{BenchState, off, on, bench_facts, IsArmed}
 use Rattle.command_base.specs.Finding.{HasCard}
+use Rattle.card_turns.specs.Plays.{IsGood}
 use Rattle.card_turns.specs.Turns.{GoodBlock, GoodTurn, Runs}
 use Rattle.card_turns.specs.CardBlocks.{IsBlockStage}
 use Rattle.card_model.specs.Cards.{card_space, Card}
@@ -38,6 +39,8 @@ pub record CutsCommand (number mask : ℕ) (board : Facts) (prepare : List Turn)
   pub last : BenchState
   pub before : Runs (off_with board) prepare trace prepared
   pub arm : IsArmed number mask prepared armed
+  pub good : IsGood armed
+  pub good_left : IsGood last
   pub cut : GoodBlock armed command Dark last
   pub left_is : left ≡ left_by last
   pub fired : left.pending ≡ None
@@ -48,6 +51,8 @@ pub record CutsStart (number mask : ℕ) (board left : Facts) : Type 0 where
   pub armed : BenchState
   pub last : BenchState
   pub arm : IsArmed number mask (off_with board) armed
+  pub good : IsGood armed
+  pub good_left : IsGood last
   pub cut : GoodTurn armed turn.On Dark last
   pub left_is : left ≡ left_by last
   pub fired : left.pending ≡ None
@@ -59,6 +64,8 @@ pub record SparesStart (number mask : ℕ) (board : Facts) : Type 0 where
   pub armed : BenchState
   pub last : BenchState
   pub arm : IsArmed number mask (off_with board) armed
+  pub good : IsGood armed
+  pub good_left : IsGood last
   pub start : GoodTurn armed turn.On item last
   pub spared : (item ≢ Dark) ⊎ (is_some (bench_facts last).pending ≡ true)
 

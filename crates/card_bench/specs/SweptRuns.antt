@@ -8,6 +8,7 @@ use Rattle.card_turns.specs.declared.playing.Turn.{Turn}
 use Rattle.card_turns.specs.declared.playing.Item.{Item}
 use Rattle.card_turns.specs.declared.playing.Item.TheVariants.{Dark}
 use Rattle.card_turns.specs.BenchStates.{BenchState, bench_facts, IsArmed}
+use Rattle.card_turns.specs.Plays.{IsGood}
 use Rattle.card_turns.specs.Turns.{GoodBlock, Runs}
 use Rattle.card_bench.specs.Masks.{mask_of, mask_count_of, words_tried}
 use Rattle.card_bench.specs.Sweeps.{CutsCommand, CutsStart, SparesStart, EndsIn, off_with}
@@ -22,6 +23,8 @@ pub record SparesCommand (number mask : ℕ) (board : Facts) (prepare : List Tur
   pub last : BenchState
   pub before : Runs (off_with board) prepare trace prepared
   pub arm : IsArmed number mask prepared armed
+  pub good : IsGood armed
+  pub good_left : IsGood last
   pub sent : GoodBlock armed command item last
   pub spared : (item ≢ Dark) ⊎ (is_some (bench_facts last).pending ≡ true)
 

@@ -1,6 +1,6 @@
 //! Laws of the definitions: each is a function whose contract is the law.
 
-ghost use Rattle.std.specs.Prelude.{◌≡◌, ◌≢◌, ◌⊎◌, ◌≤◌, ◌+◌, ◌*◌, ℕ, List, length, true, Ok, Err, None};
+ghost use Rattle.std.specs.Prelude.{◌≡◌, ◌≢◌, ◌⊎◌, ◌≤◌, ◌+◌, ◌-◌, ◌*◌, ℕ, List, length, true, Ok, Err, None};
 ghost use Rattle.t1_link.specs.Blocks.{Block as BlockValue, heard};
 ghost use Rattle.t1_link.specs.Garbled.{last_bit_turned};
 ghost use Rattle.t1_link.specs.declared.block.Fault.TheVariants.{WrongCheck};
@@ -13,7 +13,9 @@ ghost use Rattle.card_turns.specs.declared.playing.Turn.{Turn};
 ghost use Rattle.card_turns.specs.declared.playing.Turn.TheVariants.{On};
 ghost use Rattle.nvm_board.specs.Facts.{Facts};
 ghost use Rattle.card_turns.specs.BenchStates.{BenchState, bench_card, bench_facts};
-ghost use Rattle.card_bench.specs.Sweeps.{GivenByRun, IsStageOf};
+ghost use Rattle.card_bench.specs.Sweeps.{GivenByRun, IsStageOf, SparesStart};
+ghost use Rattle.card_bench.specs.SweptRuns.{SparesCommand};
+ghost use Rattle.card_core.specs.Starting.{power_on_writes};
 ghost use Rattle.card_bench.specs.Tallies.{Finding};
 ghost use Rattle.card_bench.specs.Exchanges.{Desk};
 ghost use Rattle.card_bench.specs.ExchangeWorlds.{ExchangeLaw};
@@ -98,6 +100,17 @@ pub fn swept_cards_are_stages()
     ensures { (board : Facts) (prepare : List Turn) (command : List ℕ) (probe : List Turn) (depth : ℕ) (given : Finding)
         → (s : GivenByRun board prepare command probe depth given)
         → IsStageOf s.cut.armed command (bench_card s.rest.end.started) }
+{}
+
+/// A sweep spares what makes fewer writes, and nothing else: a start that is spared at a write makes fewer, as many as
+/// the memory before it asks for, and so does a command that is spared. The counts of the board have to be far from
+/// their end.
+pub fn spared_runs_make_fewer_writes()
+    ensures start { (number mask : ℕ) (board : Facts) → SparesStart number mask board → HasLeft 3787 board
+        → power_on_writes board ≤ number - 1 }
+    ensures command { (number mask : ℕ) (board : Facts) (prepare : List Turn) (command : List ℕ)
+        → (s : SparesCommand number mask board prepare command) → HasLeft 700 (bench_facts s.prepared)
+        → (bench_facts s.last).writes ≤ (bench_facts s.prepared).writes + (number - 1) }
 {}
 
 /// How many blocks a command puts on the line at most, as a reader sees it.

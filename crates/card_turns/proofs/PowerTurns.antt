@@ -1,10 +1,11 @@
 -- A power-on, by how the start of the card ended.
 use Rattle.std.specs.Prelude.{◌≡◌, ◌≤◌, ◌+◌, ◌⊎◌, ℕ, true, false, List, Option, IfSome}
-use Rattle.std.proofs.Common.{arith, ap, inl, inr, refl, subst, sym, ◌∙◌, true≢false}
+use Rattle.std.proofs.Common.{arith, ap, ap₂, inl, inr, refl, subst, sym, ◌∙◌, true≢false}
 use Rattle.nvm_board.specs.Aims.{Aim, aim, KeepsAim}
 use Rattle.nvm_board.specs.Facts.{Facts, GoesDark, IsMemory, IsWorn, IsWornOut, Steady}
 use Rattle.undo_journal.specs.declared.layout.TheConstants.{PAIRS}
-use Rattle.undo_journal.specs.Spending.{WritesAtMost, start_writes}
+use Rattle.undo_journal.specs.Spending.{WritesAtMost, rollback_writes, start_writes}
+use Rattle.undo_journal.specs.Undo.{gate}
 use Rattle.card_core.specs.declared.faults.StartFault.{StartFault}
 use Rattle.card_core.specs.declared.faults.StartFault.TheVariants.{PowerLost, Fault, BadJournal, Damaged}
 use Rattle.command_base.specs.Comparing.{Comparisons, comparisons}
@@ -95,6 +96,10 @@ module _ (old : BenchState) (dark : Facts) (darkened : dark ≡ record (bench_fa
     lit-counts : comparisons lit ≡ comparisons (bench_facts old)
     lit-counts = ap comparisons lights ∙ same-counts
 
+    -- the same device writes are asked for
+    lit-asked : power_on_writes lit ≡ power_on_writes (bench_facts old)
+    lit-asked = ap (λ (l : List ℕ). rollback_writes (gate l) + renewal_writes l) lit-words
+
     found-again : (new : List ℕ) → FindsAgain lit.words new → found new ≡ found (bench_facts old).words
     found-again new again = again.card ∙ ap found lit-words
 
@@ -134,8 +139,9 @@ module _ (old : BenchState) (dark : Facts) (darkened : dark ≡ record (bench_fa
 
     -- the card starts
     pub starts : (p : Powered) → Starts lit p.card → p.link ≡ fresh → FindsAgain lit.words p.card.facts.words
-        → WritesAtMost (power_on_writes lit) lit p.card.facts → Plays old turn.On item.Atr (on p)
-    starts p started link again spent =
+        → WritesAtMost (power_on_writes lit) lit p.card.facts
+        → p.card.facts.writes ≡ lit.writes + power_on_writes lit → Plays old turn.On item.Atr (on p)
+    starts p started link again spent counted =
         let power = started.power in
         let counts = writing-compares (power_on_writes lit) lit p.card.facts spent in
         record {
@@ -149,8 +155,11 @@ module _ (old : BenchState) (dark : Facts) (darkened : dark ≡ record (bench_fa
           };
           well = λ good. started.state;
           guesses = pays-nothing old (on p) (found-again p.card.facts.words again) (counts ∙ lit-counts);
-          one = λ before good.
-              ((started.session, link, started.state, power.lit), leaves (on p) again (counts ∙ lit-counts));
+          one = λ before good. (
+            (started.session, link, started.state, power.lit),
+            leaves (on p) again (counts ∙ lit-counts),
+            counted ∙ ap₂ (λ (done more : ℕ). done + more) lit-writes lit-asked,
+          );
           wears = λ before good. start-wears p.card.facts spent before good.faults;
         }
 
@@ -206,7 +215,8 @@ module _ (old : BenchState) (dark : Facts) (darkened : dark ≡ record (bench_fa
             };
             well = λ good. tt;
             guesses = guesses;
-            one = λ before good. (unlit, rests);
+            one = λ before good.
+                (unlit, rests, let most = spent-so.writes in omega (arith, most, lit-writes, lit-asked));
             wears = λ before good. start-wears new spent-so before good.faults;
           }
 

@@ -8,6 +8,7 @@ use Rattle.nvm_board.specs.declared.board.TheConstants.{MOST_PAGES}
 use Rattle.file_tree.specs.Formats.{is_format_2}
 use Rattle.migration.specs.Migrating.{migration_writes}
 use Rattle.command_base.specs.Finding.{words_found}
+use Rattle.card_core.specs.Starting.{power_on_writes}
 use Rattle.t1_link.specs.CardTable.{link_step}
 use Rattle.card_turns.specs.declared.playing.Turn.{Turn}
 use Rattle.card_turns.specs.declared.playing.Turn.TheVariants as turn
@@ -16,19 +17,28 @@ use Rattle.card_turns.specs.declared.playing.Item.TheVariants.{Atr, Quiet, Mute,
 use Rattle.card_turns.specs.BenchStates.{BenchState, off, on, bench_card, bench_facts, IsFresh, IsOff, switched_off}
 use Rattle.card_turns.specs.CardBlocks.{Powered, Replies, IsRun, BlockStands, IsBlockStage}
 
+-- The device writes of a start are those of the rollback, and of the way to format 2.
+abbrev pub WritesAsAsked : Facts → Facts → Type 0
+WritesAsAsked old new = new.writes ≡ old.writes + power_on_writes old
+
+-- or not all of them
+abbrev pub WritesNoMore : Facts → Facts → Type 0
+WritesNoMore old new = new.writes ≤ old.writes + power_on_writes old
+
 -- What a start leaves, cut or not: the card that is found is what it was, and no secret was compared.
 pub record LeavesCard (old new : BenchState) : Type 0 where
   pub card : bench_card new ≡ bench_card old
   pub compares : (bench_facts new).compares ≡ (bench_facts old).compares
   pub matches : (bench_facts new).matches ≡ (bench_facts old).matches
 
--- Power on: the card starts, in a fresh session, with a fresh link; or power is lost; or, where a count of the board
--- stands at its end, the card stays mute, and nothing is done but that power went off.
+-- Power on: the card starts, in a fresh session, with a fresh link, by as many device writes as the memory asks for; or
+-- power is lost in one of them, or before; or, where a count of the board stands at its end, the card stays mute, and
+-- nothing is done but that power went off.
 abbrev pub TurnsOn : BenchState → Item → BenchState → Type 0
-TurnsOn old Atr new = IsFresh new × LeavesCard old new
+TurnsOn old Atr new = IsFresh new × LeavesCard old new × WritesAsAsked (bench_facts old) (bench_facts new)
 TurnsOn old Quiet new = ⊥
 TurnsOn old Mute new = (new ≡ switched_off old) × IsWornOut (bench_facts new)
-TurnsOn old Dark new = IsOff new × LeavesCard old new
+TurnsOn old Dark new = IsOff new × LeavesCard old new × WritesNoMore (bench_facts old) (bench_facts new)
 TurnsOn old (Reply block) new = ⊥
 
 -- Power off: nothing is said, and nothing else is done.

@@ -8,7 +8,8 @@ ghost use Rattle.command_base.specs.declared.spending.TheConstants.{COMMAND_WRIT
 ghost use Rattle.command_base.specs.Finding.{HasCard, FindsAgain};
 ghost use Rattle.card_core.specs.Running.{Starts, StartStopsBy, card_found};
 ghost use Rattle.card_model.specs.Cards.{card_space};
-ghost use Rattle.card_core.specs.Starting.{IsNewFound, KeepsFormat, KeepsUnlessOld, TakesAllPages, power_on_writes};
+ghost use Rattle.card_core.specs.Starting.{IsNewFound, KeepsFormat, KeepsFoundUnlessOld, KeepsUnlessOld};
+ghost use Rattle.card_core.specs.Starting.{RenamesLast, TakesAllPages, power_on_writes};
 ghost use Rattle.t1_link.specs.CardTable.{link_step, fresh};
 ghost use Rattle.card_turns.specs.CardBlocks.{Replies, RepliesFailure, FailsAt, IsCutAt, IsBlockStage};
 ghost use Rattle.card_turns.specs.CardBlocks.{IsRun, BlockChangesNothing, BlockCompares, BlockStands};
@@ -65,10 +66,17 @@ impl<B: Board> Powered<B> {
         ensures format { IfOk result (λ p. IsNewFound p.card.facts.words) }
         ensures all_pages { IfOk result (λ p. TakesAllPages (B.facts board).words p.card.facts.words) }
         ensures format_err { IfErr result (λ e. KeepsFormat (B.facts board).words (B.facts e.0).words) }
+        // The words that are found stay, each of them, unless they are a card of format 1; the last write of a start
+        // alone makes the mark that of format 2.
+        ensures kept { IfOk result (λ p. KeepsFoundUnlessOld (B.facts board).words p.card.facts.words) }
+        ensures kept_err { IfErr result (λ e. KeepsFoundUnlessOld (B.facts board).words (B.facts e.0).words) }
+        ensures last { IfErr result (λ e. RenamesLast (B.facts board) (B.facts e.0)) }
         // Where no pair of the journal counts, and there is no card of format 1, no word changes,
         // and nothing is written.
         ensures shut { IfOk result (λ p. KeepsUnlessOld (B.facts board) p.card.facts) }
         ensures shut_err { IfErr result (λ e. KeepsUnlessOld (B.facts board) (B.facts e.0)) }
+        ensures counted { IfOk result
+            (λ p. p.card.facts.writes ≡ (B.facts board).writes + power_on_writes (B.facts board)) }
         ensures writes { IfOk result
             (λ p. WritesAtMost (power_on_writes (B.facts board)) (B.facts board) p.card.facts) }
         ensures writes_err { IfErr result

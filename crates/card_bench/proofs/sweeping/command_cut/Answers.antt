@@ -1,7 +1,9 @@
-use Rattle.std.proofs.Common.{◌≡◌, ◌∙◌, ap, false, refl, sym, true≢false}
+use Rattle.std.proofs.Common.{◌≡◌, ◌∙◌, ap, false, refl, sym, true, true≢false}
+use Rattle.std.proofs.lemmas.Option.{IfSome_then}
+use Rattle.nvm_board.specs.Cut.{cut_facts}
 use Rattle.card_turns.specs.declared.came.Came.TheVariants as came
 use Rattle.card_bench.specs.Sweeps.{off_with}
-use Rattle.card_bench.proofs.SweepLemmas.{if-none, spares-command}
+use Rattle.card_bench.proofs.SweepLemmas.{cuts-command, if-none, spares-command}
 use Rattle.card_bench.proofs.sweeping.command_cut.Goals as goal
 use Rattle.card_bench.proofs.sweeping.command_cut.Goals.{in-Dark, in_default}
 
@@ -17,3 +19,16 @@ returns-clause-spared c =
     c.args.plan.command c.in_ok-played.ensures c.arm_well.ensures.good c.arm_well.ensures.armed
     c.turn_well-came.ensures)
     c.cut_board.ensures.spared
+
+pub returns-clause-cut : goal.returns-clause-cut
+returns-clause-cut c =
+    let lost : c.match-matches.matches ≡ true → c.turn_well-came.result ≡ came.Dark = elim c.match-matches.branch [
+      | in-Dark w ↦ λ is. w.in-Dark.is
+      | in_default w ↦ λ is. absurd (true≢false (sym is ∙ w.matches-is))
+    ] in
+    IfSome_then c.cut_board.result c.cut_board.ensures.cut
+    (λ left fell card. cuts-command _ _ _ _ _ _ _ _ _ refl refl
+    (c.new-bench.ensures ∙ ap off_with c.in_ok-copy.ensures.facts) (ap cut_facts fell.0 ∙ c.into_board.ensures)
+    (lost fell.1) fell.2 card _ _ _
+    c.args.plan.command c.in_ok-played.ensures c.arm_well.ensures.good
+    c.arm_well.ensures.armed c.turn_well-came.ensures)

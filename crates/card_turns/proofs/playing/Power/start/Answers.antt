@@ -18,6 +18,7 @@ returns-in-Ok-start-clause-plays g c =
     c.in-Ok.ensures.lit (g.met.B.Board.is_board c.light.new.self).sized c.in-Ok-start.powered
     c.in-Ok-start.ensures.started.0
     c.in-Ok-start.ensures.started.1 c.in-Ok-start.ensures.found c.in-Ok-start.ensures.writes
+    c.in-Ok-start.ensures.counted
 
 pub returns-in-Ok-start-clause-kept : goal.returns-in-Ok-start-clause-kept
 returns-in-Ok-start-clause-kept g c =
