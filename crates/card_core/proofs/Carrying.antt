@@ -29,7 +29,7 @@ use Rattle.card_model.specs.Steps.{attempt_of, IsDoing, carried_out, outcome_of,
 use Rattle.card_model.specs.Steps.{gated_served}
 use Rattle.command_base.specs.Comparing.{comparisons, Comparisons, ComparesAsked, ComparesBy}
 use Rattle.command_base.specs.Counting.{CountsAnswered, CountsServed, CountsShown}
-use Rattle.card_model.specs.Behaviours.{Attempt, refused, outcome}
+use Rattle.card_model.specs.Behaviours.{Attempt, is_right, refused, outcome}
 use Rattle.command_base.specs.Served.{CarriesOut, Serves}
 use Rattle.card_model.specs.Sessions.{Session}
 use Rattle.command_base.specs.Spending.{writes_asked}
@@ -47,10 +47,13 @@ unfolding card_of
 in-use-is m = refl
 
 -- what was counted after reads was counted with them
-counts-after : (shown : Option Attempt) (a b d : Facts) → KeepsBoard a b → CountsShown shown b d → CountsShown shown a d
-counts-after None a b d keeps counts = tt
-counts-after (Some attempt) a b d keeps counts = record {
+counts-after : (shown : Option Attempt) (c : Card) (a b d : Facts) → KeepsBoard a b → CountsShown shown c b d
+    → CountsShown shown c a d
+counts-after None c a b d keeps counts = tt
+counts-after (Some attempt) c a b d keeps counts = record {
   compared = counts.compared ∙ ap (λ (l : List ℕ). raised l attempt.secret) keeps.compares;
+  matched = counts.matched
+      ∙ ap (λ (l : List ℕ). if is_right c attempt then raised l attempt.secret else l) keeps.matches;
   charged = let more = counts.charged in omega (arith, more, keeps.writes);
 }
 
@@ -84,7 +87,7 @@ module _ (request : Request) (old mid new : Memory) (x y : Current) (text : List
             (λ (l : List ℕ). KeepsPlaces (table l) (table (committed new))) same (keeps stays)) serves.places;
         counted = subst (λ (l : List ℕ). OnOk result (CountsServed (card_of l) (session_of (table l) x) request
             old.facts new.facts)) same
-            (on_then _ _ result (λ counts unrefused. counts-after (attempt_of request) old.facts mid.facts
+            (on_then _ _ result (λ counts unrefused. counts-after (attempt_of request) (card_in mid) old.facts mid.facts
             new.facts reads.board (counts unrefused)) serves.counted);
       }
 

@@ -1,27 +1,29 @@
 -- A guess that is answered was counted, behind a charge (ISO/IEC 7816-4, clause 11, basic security handling).
-use Rattle.std.specs.Prelude.{◌≡◌, ◌<◌, true, Option, Some, None, Result, Ok, Err}
+use Rattle.std.specs.Prelude.{◌≡◌, ◌<◌, Bool, true, if◌then◌else◌, Option, Some, None, Result, Ok, Err}
 use Rattle.card_rules.specs.declared.status.Sw.{Sw}
 use Rattle.nvm_board.specs.Facts.{Facts, raised}
 use Rattle.card_model.specs.Requests.{Request}
 use Rattle.card_model.specs.Cards.{Card}
 use Rattle.card_model.specs.Steps.{attempt_of, refusals_of}
-use Rattle.card_model.specs.Behaviours.{refused_by, Attempt}
+use Rattle.card_model.specs.Behaviours.{is_right, refused_by, Attempt}
 use Rattle.card_model.specs.Sessions.{Session}
 
--- An attempt that was answered was counted: its secret was compared once, and a device write was made, the charge.
-pub record CountsAttempt (a : Attempt) (old new : Facts) : Type 0 where
+-- An attempt that was answered was counted: its secret was compared once, and a device write was made, the charge. A
+-- match was counted where what was shown is what the PIN keeps, and only there.
+pub record CountsAttempt (right : Bool) (a : Attempt) (old new : Facts) : Type 0 where
   pub compared : new.compares ≡ raised old.compares a.secret
+  pub matched : new.matches ≡ (if right then raised old.matches a.secret else old.matches)
   pub charged : old.writes < new.writes
 
 -- a request that shows no secret has nothing to count
-abbrev pub CountsShown : Option Attempt → Facts → Facts → Type 0
-CountsShown None old new = Unit {0}
-CountsShown (Some a) old new = CountsAttempt a old new
+abbrev pub CountsShown : Option Attempt → Card → Facts → Facts → Type 0
+CountsShown None c old new = Unit {0}
+CountsShown (Some a) c old new = CountsAttempt (is_right c a) a old new
 
 -- nor has one that is refused
 abbrev pub CountsServed : Card → Session → Request → Facts → Facts → Type 0
 CountsServed c s request old new =
-    refused_by (refusals_of c s request) ≡ None → CountsShown (attempt_of request) old new
+    refused_by (refusals_of c s request) ≡ None → CountsShown (attempt_of request) c old new
 
 -- nor has a command that its form refuses, or that a card refuses whose use has ended
 abbrev pub CountsAnswered : Result Request Sw → Card → Session → Facts → Facts → Type 0

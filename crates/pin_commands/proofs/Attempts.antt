@@ -451,20 +451,27 @@ module _ (request : Request) (a : Attempt) (asks : IsAttempt request a) (old : M
         charged = let more = spends.more in omega (arith, charge, more)
 
         counts-by : (end : AttemptEnd) → EndsByOutcome a.secret a.shown (a.becomes (pin_in b a.secret)) b e end
-            → CountsAttempt a old.facts e.facts
+            → CountsAttempt (is_right c a) a old.facts e.facts
         counts-by Matched set = record {
           compared = set.match_counted.compared ∙ ap (λ (l : List ℕ). raised l a.secret) costs.compares;
+          matched = subst (λ (t : Bool). e.facts.matches
+              ≡ (if t then raised old.facts.matches a.secret else old.facts.matches))
+              (sym (right set.match_counted.right))
+              (set.match_counted.matched ∙ ap (λ (l : List ℕ). raised l a.secret) costs.matches);
           charged = charged;
         }
         counts-by (Wrong left) is = record {
           compared = is.compared ∙ ap (λ (l : List ℕ). raised l a.secret) costs.compares;
+          matched = subst (λ (t : Bool). e.facts.matches
+              ≡ (if t then raised old.facts.matches a.secret else old.facts.matches))
+              (sym (wrong is.wrong)) (is.matched ∙ costs.matches);
           charged = charged;
         }
 
         counts-end : (end : AttemptEnd) → EndsByOutcome a.secret a.shown (a.becomes (pin_in b a.secret)) b e end
             → CountsServed c s request old.facts e.facts
         counts-end end done =
-            λ _. subst (λ (o : Option Attempt). CountsShown o old.facts e.facts) (sym asks.shows)
+            λ _. subst (λ (o : Option Attempt). CountsShown o c old.facts e.facts) (sym asks.shows)
             (counts-by end done)
 
       -- the end was made

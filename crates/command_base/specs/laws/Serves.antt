@@ -51,7 +51,7 @@ reads-compared old new reads =
 pub counts-none : (request : Request) (c : Card) (s : Session) (old new : Facts) → attempt_of request ≡ None
     → CountsServed c s request old new
 counts-none request c s old new unshown =
-    λ _. subst (λ (shown : Option Attempt). CountsShown shown old new) (sym unshown) tt
+    λ _. subst (λ (shown : Option Attempt). CountsShown shown c old new) (sym unshown) tt
 
 module _ (request : Request) (old : Memory) (x : Current) (new : Memory) where
   -- after reads alone nothing was compared
