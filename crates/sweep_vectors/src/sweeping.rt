@@ -49,7 +49,7 @@ const RING: &str = "00E000001A621882044621000383026F038800800200098A01058C030300
 
 const LIST: &str = "00E000001B621982044221000383026F04880120800200098A01058C03030000";
 
-const GROWING: &str = "00E000001D621B8205422100040183026F018801088002000C8A01058C0407000000";
+const GROWING: &str = "00E000001C621A8205422100020183026F048800800200068A01058C0407000000";
 
 const OWNED: &str = "00E000001B62198202412183026F068800800200018A01058C063B0000000000";
 
@@ -193,16 +193,18 @@ fn check<R: Abort + AllocGlobal>(
     Ok(())
 }
 
-/// So many different results come where no start is cut.
-fn check_results<R: Abort + AllocGlobal>(rt: &R, case: &Case, results: usize) -> Result<(), Fail> {
-    let sweep = swept(rt.alloc(), case, 0)??;
-    assert!(rt;
-        sweep.seen.len() == results,
-        "{} results of {}",
-        sweep.seen.len(),
-        case.command
-    );
-    Ok(())
+/// What a command's sweep gives where no start is cut: of so many runs all but the last find the card before it, and the
+/// last one the card after it.
+fn check_once<R: Abort + AllocGlobal>(
+    rt: &R,
+    case: &Case,
+    runs: u32,
+    before: (u16, u16, &'static [&'static str]),
+    after: (u16, u16, &'static [&'static str]),
+) -> Result<(), Fail> {
+    let old = (before.0, before.1, before.2, runs.saturating_sub(1));
+    let new = (after.0, after.1, after.2, 1);
+    check(rt, case, 0, runs, &[old, new])
 }
 
 /// The old bytes so often, and the new ones once.
@@ -269,100 +271,188 @@ fn right_value_costs_a_try_until_the_last_write(rt: HostRuntime) -> Result<(), F
     )
 }
 
-/// Where memory is refused in the sweep, it says so, and nothing else.
+/// CREATE FILE: the file is there or not.
 #[test]
-fn refused_memory_is_told(rt: HostRuntime) -> Result<(), Fail> {
-    let board = uncut_board(rt.alloc())?;
-    let command = framed(rt.alloc(), 0x00, WRONG)?;
-    let query = framed(rt.alloc(), 0x00, "00200001")?;
-    match sweep(
-        rt.alloc(),
-        &board,
-        &[Turn::On],
-        &command,
-        &[Turn::Block(&query)],
-        3,
-    ) {
-        Ok(sweep) => assert!(rt;
-            sweep.runs == 2 && sweep.seen.len() == 2,
-            "{} runs",
-            sweep.runs
-        ),
-        Err(AllocError) => {}
-    }
-    Ok(())
+fn file_is_there_or_not(rt: HostRuntime) -> Result<(), Fail> {
+    check_once(
+        &rt,
+        &Case::new(&[], FILE, &[SELECT]),
+        72,
+        (895, 62, &["6A82"]),
+        (894, 61, &["9000"]),
+    )
 }
 
-/// The card is as before the command, or as after it.
+/// DELETE FILE of a directory with two files and a directory in it.
 #[test]
-fn command_is_done_or_not(rt: HostRuntime) -> Result<(), Fail> {
-    let cases = [
-        // CREATE FILE: the file is there or not.
-        Case::new(&[], FILE, &[SELECT]),
-        // DELETE FILE of a directory with a file in it.
-        Case::new(
-            &[DIRECTORY, FILE, "00A4000C023F00"],
+fn files_are_gone_together(rt: HostRuntime) -> Result<(), Fail> {
+    check_once(
+        &rt,
+        &Case::new(
+            &[
+                DIRECTORY,
+                FILE,
+                "00E000001862168202412183026F0588008002003D8A01058C03030000",
+                "00E000001362118202782183025F018A01058C0407000000",
+                "00A4000C023F00",
+            ],
             "00E40000027F10",
             &["00A4000C027F10"],
         ),
-        // UPDATE RECORD of a ring: it has the record or not.
-        Case::new(&[RING, "00DC000303000005"], "00DC000303000006", RECORDS),
-        // INCREASE.
-        Case::new(&[RING, "00DC000303000005"], "803200000300000100", RECORDS),
-        // APPEND RECORD.
-        Case::new(&[GROWING], "00E200080401020304", &[SELECT, "00B2020404"]),
-        // UPDATE RECORD of a list.
-        Case::new(
+        34,
+        (892, 58, &["9000"]),
+        (895, 62, &["6A82"]),
+    )
+}
+
+/// A ring has its new record or not, and keeps the order of the others.
+#[test]
+fn record_is_old_or_new(rt: HostRuntime) -> Result<(), Fail> {
+    // UPDATE RECORD of the ring that was filled, and of one with a record before.
+    check_once(
+        &rt,
+        &Case::new(&[RING], "00DC000303FFFFFE", RECORDS),
+        18,
+        (894, 61, &["9000", "FFFFFF9000", "FFFFFF9000"]),
+        (894, 61, &["9000", "FFFFFE9000", "FFFFFF9000"]),
+    )?;
+    check_once(
+        &rt,
+        &Case::new(&[RING, "00DC000303000005"], "00DC000303000006", RECORDS),
+        18,
+        (894, 61, &["9000", "0000059000", "FFFFFF9000"]),
+        (894, 61, &["9000", "0000069000", "0000059000"]),
+    )?;
+    // INCREASE.
+    check_once(
+        &rt,
+        &Case::new(&[RING, "00DC000303FFFFFE"], "803200000300000100", RECORDS),
+        18,
+        (894, 61, &["9000", "FFFFFE9000", "FFFFFF9000"]),
+        (894, 61, &["9000", "FFFFFF9000", "FFFFFE9000"]),
+    )?;
+    // APPEND RECORD.
+    check_once(
+        &rt,
+        &Case::new(
+            &[GROWING],
+            "00E20000024142",
+            &["00A4000C026F04", "00B2020402"],
+        ),
+        14,
+        (894, 61, &["9000", "6A83"]),
+        (894, 61, &["9000", "41429000"]),
+    )?;
+    // UPDATE RECORD of a list.
+    check_once(
+        &rt,
+        &Case::new(
             &[LIST],
             "00DC022403010203",
             &["00A4000C026F04", "00B2020403"],
         ),
-        // ACTIVATE FILE.
-        Case::new(&[ASLEEP], "00440000026F06", STATE),
-        // DEACTIVATE FILE.
-        Case::new(&[OWNED], "00040000026F06", STATE),
-        // TERMINATE DF.
-        Case::new(&[OWNED_DIRECTORY], "00E60000027F21", &["00A4000C027F21"]),
-        // TERMINATE EF.
-        Case::new(&[OWNED], "00E80000026F06", STATE),
-        // TERMINATE CARD USAGE.
-        Case::new(
+        14,
+        (894, 61, &["9000", "FFFFFF9000"]),
+        (894, 61, &["9000", "0102039000"]),
+    )
+}
+
+/// A file is in its new state or not, and so is the card.
+#[test]
+fn state_is_old_or_new(rt: HostRuntime) -> Result<(), Fail> {
+    // ACTIVATE FILE, DEACTIVATE FILE and TERMINATE EF; the latter two of the current file.
+    check_once(
+        &rt,
+        &Case::new(&[ASLEEP], "00440000026F06", STATE),
+        10,
+        (894, 61, &["6283"]),
+        (894, 61, &["9000"]),
+    )?;
+    check_once(
+        &rt,
+        &Case::new(&[OWNED], "00040000", STATE),
+        10,
+        (894, 61, &["9000"]),
+        (894, 61, &["6283"]),
+    )?;
+    check_once(
+        &rt,
+        &Case::new(&[OWNED], "00E80000", STATE),
+        10,
+        (894, 61, &["9000"]),
+        (894, 61, &["6285"]),
+    )?;
+    // TERMINATE DF.
+    check_once(
+        &rt,
+        &Case::new(&[OWNED_DIRECTORY], "00E60000027F21", &["00A4000C027F21"]),
+        10,
+        (895, 61, &["9000"]),
+        (895, 61, &["6285"]),
+    )?;
+    // TERMINATE CARD USAGE.
+    check_once(
+        &rt,
+        &Case::new(
             &["002000080831323334FFFFFFFF"],
             "00FE0000",
             &["00A4000C023F00"],
         ),
-        // RESET RETRY COUNTER by a wrong value: a try is gone or not.
-        Case::new(
+        10,
+        (895, 62, &["9000"]),
+        (895, 62, &["6985"]),
+    )
+}
+
+/// RESET RETRY COUNTER by a wrong value: a try is gone or not.
+#[test]
+fn wrong_unblocking_value_costs_a_try(rt: HostRuntime) -> Result<(), Fail> {
+    check_once(
+        &rt,
+        &Case::new(
             &[],
             "002C000110303030303030303035363738FFFFFFFF",
             &["002C0001"],
         ),
-    ];
-    for case in &cases {
-        check_results(&rt, case, 2)?;
-    }
-    Ok(())
+        2,
+        (895, 62, &["63CA"]),
+        (895, 62, &["63C9"]),
+    )
 }
 
-/// And of one on a PIN that is right, or it is charged alone.
+/// A right value costs a try, until the last write gives all tries back and sets the new value.
 #[test]
 fn right_value_is_charged_first(rt: HostRuntime) -> Result<(), Fail> {
-    let cases = [
-        // CHANGE REFERENCE DATA: the PIN is changed, or a try is gone, or neither.
-        Case::new(
+    // CHANGE REFERENCE DATA.
+    check(
+        &rt,
+        &Case::new(
             &[WRONG],
             "002400011031323334FFFFFFFF35363738FFFFFFFF",
             TRIES,
         ),
-        // RESET RETRY COUNTER.
-        Case::new(
+        0,
+        20,
+        &[
+            (895, 62, &["63C2"], 1),
+            (895, 62, &["63C1"], 18),
+            (895, 62, &["63C3"], 1),
+        ],
+    )?;
+    // RESET RETRY COUNTER. The new value is wrong until then.
+    check(
+        &rt,
+        &Case::new(
             &[],
             "002C000110313233343536373835363738FFFFFFFF",
             &["002C0001", "002000010835363738FFFFFFFF"],
         ),
-    ];
-    for case in &cases {
-        check_results(&rt, case, 3)?;
-    }
-    Ok(())
+        0,
+        22,
+        &[
+            (895, 62, &["63CA", "63C2"], 1),
+            (895, 62, &["63C9", "63C2"], 20),
+            (895, 62, &["63CA", "9000"], 1),
+        ],
+    )
 }
