@@ -75,6 +75,17 @@ const CREATE: Exchange = (
 
 const SELECT: Exchange = ("00A4000C026F01", "9000");
 
+// The CREATE of a file 6F06 of one byte, of which its rule allows everything, and of a directory 7F10.
+const CREATE_OWNED: Exchange = (
+    "00E000001B62198202412183026F068800800200018A01058C063B0000000000",
+    "9000",
+);
+
+const CREATE_DIRECTORY: Exchange = ("00E000001362118202782183027F108A01058C0407000000", "9000");
+
+// VERIFY of another value than that of PIN 1.
+const WRONG: &str = "002000010830303030FFFFFFFF";
+
 const OLD_BYTES: &[Exchange] = &[SELECT, ("00B0000004", "FFFFFFFF9000")];
 
 const NEW_BYTES: &[Exchange] = &[SELECT, ("00B0000004", "010203049000")];
@@ -132,7 +143,7 @@ const FAILED_WRITES: &[FailedWrite] = &[
 // A command that fails, and another one: nothing is done until the next start.
 const FAILED_UPDATE: &[Exchange] = &[("00D600000401020304", "6581"), ("00B0000004", "6581")];
 
-const FAILED_VERIFY: &[Exchange] = &[("002000010830303030FFFFFFFF", "6581"), ("00200001", "6581")];
+const FAILED_VERIFY: &[Exchange] = &[(WRONG, "6581"), ("00200001", "6581")];
 
 /// Whether a write fails, and the next start finds what it is to find.
 fn fails_so(alloc: Global, board: FaultBoard, row: &FailedWrite) -> Result<bool, Fail> {
@@ -164,12 +175,7 @@ struct FailedCommand {
     before: &'static [Exchange],
     command: Exchange,
     found: &'static [&'static [Exchange]],
-    /// Of so many calls one is tried. Each write is.
-    step: u32,
 }
-
-// CREATE FILE makes some thousands of calls.
-const STRIDE: u32 = 37;
 
 const FILES: &[FailedCommand] = &[
     FailedCommand {
@@ -177,7 +183,6 @@ const FILES: &[FailedCommand] = &[
         before: &[],
         command: CREATE,
         found: &[&[("00A4000C026F01", "6A82")], OLD_BYTES],
-        step: STRIDE,
     },
     FailedCommand {
         made: &[CREATE],
@@ -187,21 +192,111 @@ const FILES: &[FailedCommand] = &[
             "62178202412183026F018801088002000A8A01058C030300009000",
         ),
         found: &[OLD_BYTES],
-        step: 1,
     },
     FailedCommand {
         made: &[CREATE],
         before: &[SELECT],
         command: ("00D600000401020304", "9000"),
         found: &[OLD_BYTES, NEW_BYTES],
-        step: 1,
     },
     FailedCommand {
         made: &[CREATE],
         before: &[SELECT],
         command: ("00B000000A", "FFFFFFFFFFFFFFFFFFFF9000"),
         found: &[OLD_BYTES],
-        step: 1,
+    },
+    FailedCommand {
+        made: &[CREATE],
+        before: &[],
+        command: (
+            "00E000001962178202412183026F018801088002000A8A01058C03030000",
+            "6A89",
+        ),
+        found: &[OLD_BYTES],
+    },
+    FailedCommand {
+        made: &[CREATE],
+        before: &[],
+        command: ("00E40000026F01", "9000"),
+        found: &[OLD_BYTES, &[("00A4000C026F01", "6A82")]],
+    },
+    FailedCommand {
+        made: &[],
+        before: &[],
+        command: ("00E40000022FE2", "9000"),
+        found: &[&[("00A4000C022FE2", "9000")], &[("00A4000C022FE2", "6A82")]],
+    },
+    FailedCommand {
+        made: &[CREATE],
+        before: &[],
+        command: ("00A4000C026F01", "9000"),
+        found: &[OLD_BYTES],
+    },
+    FailedCommand {
+        made: &[CREATE],
+        before: &[],
+        command: (
+            "00A40804026F0100",
+            "62178202412183026F018801088002000A8A01058C030300009000",
+        ),
+        found: &[OLD_BYTES],
+    },
+    FailedCommand {
+        made: &[CREATE],
+        before: &[],
+        command: ("00A4000C027777", "6A82"),
+        found: &[OLD_BYTES],
+    },
+    FailedCommand {
+        made: &[CREATE],
+        before: &[SELECT],
+        command: ("00B0000B01", "6B00"),
+        found: &[OLD_BYTES],
+    },
+    FailedCommand {
+        made: &[CREATE_OWNED],
+        before: &[("00A4000C026F06", "9000")],
+        command: ("00040000", "9000"),
+        found: &[&[("00A4000C026F06", "9000")], &[("00A4000C026F06", "6283")]],
+    },
+    FailedCommand {
+        made: &[CREATE_OWNED, ("00040000", "9000")],
+        before: &[("00A4000C026F06", "6283")],
+        command: ("00440000", "9000"),
+        found: &[&[("00A4000C026F06", "6283")], &[("00A4000C026F06", "9000")]],
+    },
+    FailedCommand {
+        made: &[CREATE_OWNED],
+        before: &[("00A4000C026F06", "9000")],
+        command: ("00E80000", "9000"),
+        found: &[&[("00A4000C026F06", "9000")], &[("00A4000C026F06", "6285")]],
+    },
+    FailedCommand {
+        made: &[CREATE_OWNED],
+        before: &[],
+        command: ("00E40000026F06", "9000"),
+        found: &[&[("00A4000C026F06", "9000")], &[("00A4000C026F06", "6A82")]],
+    },
+    FailedCommand {
+        made: &[],
+        before: &[("002000080831323334FFFFFFFF", "9000")],
+        command: ("00FE0000", "9000"),
+        found: &[&[("00A4000C022FE2", "9000")], &[("00A4000C022FE2", "6985")]],
+    },
+    FailedCommand {
+        made: &[CREATE_DIRECTORY, CREATE],
+        before: &[],
+        command: ("00E40000027F10", "9000"),
+        found: &[
+            &[("00A4000C027F10", "9000"), ("00A4000C026F01", "9000")],
+            &[("00A4000C027F10", "6A82")],
+        ],
+    },
+    FailedCommand {
+        made: &[],
+        before: &[],
+        command: CREATE_DIRECTORY,
+        found: &[&[("00A4000C027F10", "6A82")], &[("00A4000C027F10", "9000")]],
     },
 ];
 
@@ -211,18 +306,16 @@ const PINS: &[FailedCommand] = &[
         before: &[],
         command: ("00200001", "63C3"),
         found: &[&[("00200001", "63C3")]],
-        step: 1,
     },
     // VERIFY of another value: a try may be gone. Of the value: one may, or all are there.
     FailedCommand {
         made: &[],
         before: &[],
-        command: ("002000010830303030FFFFFFFF", "63C2"),
+        command: (WRONG, "63C2"),
         found: &[&[("00200001", "63C3")], &[("00200001", "63C2")]],
-        step: 1,
     },
     FailedCommand {
-        made: &[("002000010830303030FFFFFFFF", "63C2")],
+        made: &[(WRONG, "63C2")],
         before: &[],
         command: ("002000010831323334FFFFFFFF", "9000"),
         found: &[
@@ -230,7 +323,95 @@ const PINS: &[FailedCommand] = &[
             &[("00200001", "63C1")],
             &[("00200001", "63C3")],
         ],
-        step: 1,
+    },
+    FailedCommand {
+        made: &[(WRONG, "63C2"), (WRONG, "63C1"), (WRONG, "63C0")],
+        before: &[],
+        command: ("002000010831323334FFFFFFFF", "6983"),
+        found: &[&[("00200001", "63C0"), ("002C0001", "63CA")]],
+    },
+    FailedCommand {
+        made: &[(WRONG, "63C2")],
+        before: &[],
+        command: ("002400011031323334FFFFFFFF35363738FFFFFFFF", "9000"),
+        found: &[
+            &[("00200001", "63C2"), ("002C0001", "63CA")],
+            &[("00200001", "63C1"), ("002C0001", "63CA")],
+            &[("00200001", "63C3"), ("002000010835363738FFFFFFFF", "9000")],
+        ],
+    },
+    FailedCommand {
+        made: &[],
+        before: &[],
+        command: ("002400011030303030FFFFFFFF35363738FFFFFFFF", "63C2"),
+        found: &[
+            &[("00200001", "63C3"), ("002C0001", "63CA")],
+            &[("00200001", "63C2"), ("002C0001", "63CA")],
+        ],
+    },
+    FailedCommand {
+        made: &[(WRONG, "63C2"), (WRONG, "63C1"), (WRONG, "63C0")],
+        before: &[],
+        command: ("002C000110313233343536373835363738FFFFFFFF", "9000"),
+        found: &[
+            &[("00200001", "63C0"), ("002C0001", "63CA")],
+            &[("00200001", "63C0"), ("002C0001", "63C9")],
+            &[
+                ("00200001", "63C3"),
+                ("002C0001", "63CA"),
+                ("002000010835363738FFFFFFFF", "9000"),
+            ],
+        ],
+    },
+    FailedCommand {
+        made: &[],
+        before: &[],
+        command: ("002C000110000000000000000035363738FFFFFFFF", "63C9"),
+        found: &[
+            &[("00200001", "63C3"), ("002C0001", "63CA")],
+            &[("00200001", "63C3"), ("002C0001", "63C9")],
+        ],
+    },
+    FailedCommand {
+        made: &[(WRONG, "63C2")],
+        before: &[],
+        command: ("002600010831323334FFFFFFFF", "9000"),
+        found: &[
+            &[("00200001", "63C2"), ("002800010831323334FFFFFFFF", "6985")],
+            &[("00200001", "63C1"), ("002800010831323334FFFFFFFF", "6985")],
+            &[("00200001", "63C3"), ("002000010831323334FFFFFFFF", "6984")],
+        ],
+    },
+    FailedCommand {
+        made: &[("002600010831323334FFFFFFFF", "9000")],
+        before: &[],
+        command: ("002800010831323334FFFFFFFF", "9000"),
+        found: &[
+            &[("00200001", "63C3"), ("002000010831323334FFFFFFFF", "6984")],
+            &[("00200001", "63C2"), ("002000010831323334FFFFFFFF", "6984")],
+            &[("00200001", "63C3"), ("002800010831323334FFFFFFFF", "6985")],
+        ],
+    },
+    FailedCommand {
+        made: &[("002600010831323334FFFFFFFF", "9000")],
+        before: &[],
+        command: ("002800010830303030FFFFFFFF", "63C2"),
+        found: &[
+            &[("00200001", "63C3"), ("002000010831323334FFFFFFFF", "6984")],
+            &[("00200001", "63C2"), ("002000010831323334FFFFFFFF", "6984")],
+        ],
+    },
+    FailedCommand {
+        made: &[("002600010831323334FFFFFFFF", "9000")],
+        before: &[],
+        command: ("002000010831323334FFFFFFFF", "6984"),
+        found: &[&[("00200001", "63C3"), ("002000010831323334FFFFFFFF", "6984")]],
+    },
+    FailedCommand {
+        made: &[],
+        before: &[],
+        command: ("002800010831323334FFFFFFFF", "6985"),
+        found: &[&[("00200001", "63C3"), ("002C0001", "63CA")]],
     },
 ];
 
@@ -271,28 +452,96 @@ const RECORDS: &[FailedCommand] = &[
         before: &[],
         command: CREATE_CYCLIC,
         found: &[&[("00A4000C026F03", "6A82")], FILLED],
-        step: STRIDE,
     },
     FailedCommand {
         made: &[CREATE_CYCLIC],
         before: &[SELECT_CYCLIC],
         command: PUT,
         found: &[FILLED, ONE_PUT],
-        step: 1,
     },
     FailedCommand {
         made: &[CREATE_CYCLIC, PUT],
         before: &[SELECT_CYCLIC],
         command: ("803200000300000100", "FFFFFF0000019000"),
         found: &[ONE_PUT, INCREASED],
-        step: 1,
     },
     FailedCommand {
         made: &[CREATE_CYCLIC, PUT],
         before: &[SELECT_CYCLIC],
         command: ("00B2010403", "FFFFFE9000"),
         found: &[ONE_PUT],
-        step: 1,
+    },
+    FailedCommand {
+        made: &[
+            CREATE_CYCLIC,
+            PUT,
+            ("803200000300000100", "FFFFFF0000019000"),
+        ],
+        before: &[SELECT_CYCLIC],
+        command: ("803200000300000100", "9850"),
+        found: &[INCREASED],
+    },
+    FailedCommand {
+        made: &[CREATE_CYCLIC, PUT],
+        before: &[SELECT_CYCLIC],
+        command: ("00B2000303", "FFFFFF9000"),
+        found: &[ONE_PUT],
+    },
+    FailedCommand {
+        made: &[CREATE_CYCLIC, PUT],
+        before: &[SELECT_CYCLIC],
+        command: ("00B2000203", "FFFFFE9000"),
+        found: &[ONE_PUT],
+    },
+    FailedCommand {
+        made: &[CREATE_CYCLIC, PUT],
+        before: &[SELECT_CYCLIC],
+        command: ("00DC010403000000", "6981"),
+        found: &[ONE_PUT],
+    },
+    FailedCommand {
+        made: &[CREATE_CYCLIC, PUT],
+        before: &[SELECT_CYCLIC],
+        command: ("00A2010401FE00", "019000"),
+        found: &[ONE_PUT],
+    },
+    FailedCommand {
+        made: &[CREATE_CYCLIC],
+        before: &[SELECT_CYCLIC],
+        command: ("00E2000003FFFFFE", "6982"),
+        found: &[FILLED],
+    },
+    FailedCommand {
+        made: &[(
+            "00E000001C621A8205422100020183026F048800800200068A01058C0407000000",
+            "9000",
+        )],
+        before: &[("00A4000C026F04", "9000")],
+        command: ("00E20000024142", "9000"),
+        found: &[
+            &[
+                ("00A4000C026F04", "9000"),
+                ("00B2010402", "FFFF9000"),
+                ("00B2020402", "6A83"),
+            ],
+            &[
+                ("00A4000C026F04", "9000"),
+                ("00B2010402", "FFFF9000"),
+                ("00B2020402", "41429000"),
+            ],
+        ],
+    },
+    FailedCommand {
+        made: &[(
+            "00E000001C621A8205422100020183026F048800800200068A01058C0407000000",
+            "9000",
+        )],
+        before: &[("00A4000C026F04", "9000")],
+        command: ("00DC0104024142", "9000"),
+        found: &[
+            &[("00A4000C026F04", "9000"), ("00B2010402", "FFFF9000")],
+            &[("00A4000C026F04", "9000"), ("00B2010402", "41429000")],
+        ],
     },
 ];
 
@@ -330,17 +579,17 @@ fn fails_after(
     Ok(Some(fails))
 }
 
-/// How many calls, or writes, a command makes at most, where each that is tried fails as it is to.
+/// How many calls, or writes, a command makes, where each fails as it is to.
 fn calls_of(
     alloc: Global,
     board: &FaultBoard,
     row: &FailedCommand,
-    (step, mask): (u32, u16),
+    mask: u16,
 ) -> Result<Option<u32>, Fail> {
-    let mut calls = 0;
-    for _ in 0..4_000 {
+    // CREATE FILE makes some thousands of calls.
+    for calls in 0..20_000 {
         match fails_after(alloc, board.copy(alloc)?, row, (calls, mask))? {
-            Some(true) => calls = step.saturating_add(calls),
+            Some(true) => {}
             Some(false) => return Ok(Some(calls)),
             None => return Ok(None),
         }
@@ -360,7 +609,7 @@ fn made(alloc: Global, board: FaultBoard, exchanges: &[Exchange]) -> Result<Faul
 /// A command fails at its calls, of which it makes one at least.
 fn check_calls<R: Abort + AllocGlobal>(rt: &R, row: &FailedCommand) -> Result<(), Fail> {
     let board = made(rt.alloc(), FaultBoard::on_calls(rt.alloc())?, row.made)?;
-    let calls = calls_of(rt.alloc(), &board, row, (row.step, 0x0000))?;
+    let calls = calls_of(rt.alloc(), &board, row, 0x0000)?;
     assert!(rt; calls > Some(0), "of {}", row.command.0);
     Ok(())
 }
@@ -369,7 +618,7 @@ fn check_calls<R: Abort + AllocGlobal>(rt: &R, row: &FailedCommand) -> Result<()
 fn check_writes<R: Abort + AllocGlobal>(rt: &R, row: &FailedCommand) -> Result<(), Fail> {
     let board = made(rt.alloc(), FaultBoard::on_writes(rt.alloc())?, row.made)?;
     for mask in [0x0000, 0x0001] {
-        let writes = calls_of(rt.alloc(), &board, row, (1, mask))?;
+        let writes = calls_of(rt.alloc(), &board, row, mask)?;
         assert!(rt; writes.is_some(), "of {} by {mask}", row.command.0);
     }
     Ok(())
