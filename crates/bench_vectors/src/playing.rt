@@ -6,7 +6,7 @@ use nvm_board::CutBoard;
 use std::test::Fail;
 
 // Power on and off, blocks with wrong check bytes and lengths and of another node, and requests of the link.
-const TURNS: [Turn<'static>; 10] = [
+const TURNS: [Turn<'static>; 12] = [
     Turn::Block(RESYNCH),
     Turn::On,
     Turn::Block(BAD_CHECK),
@@ -17,6 +17,8 @@ const TURNS: [Turn<'static>; 10] = [
     Turn::Off,
     Turn::On,
     Turn::Block(SELECT),
+    Turn::Block(SELECT_ALONE),
+    Turn::Block(SELECT_FIVE),
 ];
 
 /// What a turn is to end in.
@@ -39,6 +41,8 @@ const WANTED: &[(usize, Wanted)] = &[
     (7, Wanted::Quiet),
     (8, Wanted::Atr),
     (9, Wanted::Reply(TEMPLATE)),
+    (10, Wanted::Reply(&[0x00, 0x40, 0x02, 0x90, 0x00, 0xD2])),
+    (11, Wanted::Reply(&[0x00, 0x00, 0x02, 0x6C, 0x14, 0x7A])),
 ];
 
 const BAD_CHECK: &[u8] = &[
@@ -54,6 +58,15 @@ const RESYNCH: &[u8] = &[0x00, 0xC0, 0x00, 0xC0];
 // SELECT of the master file, whose template is the answer, in one block.
 const SELECT: &[u8] = &[
     0x00, 0x00, 0x08, 0x00, 0xA4, 0x00, 0x04, 0x02, 0x3F, 0x00, 0x00, 0x95,
+];
+
+// The same without Le, and with an Le of 5, where the template has 20 bytes.
+const SELECT_ALONE: &[u8] = &[
+    0x00, 0x40, 0x07, 0x00, 0xA4, 0x00, 0x04, 0x02, 0x3F, 0x00, 0xDA,
+];
+
+const SELECT_FIVE: &[u8] = &[
+    0x00, 0x00, 0x08, 0x00, 0xA4, 0x00, 0x04, 0x02, 0x3F, 0x00, 0x05, 0x90,
 ];
 
 const TEMPLATE: &[u8] = &[
@@ -73,7 +86,7 @@ fn is_so(item: Option<&Item>, wanted: &Wanted) -> bool {
 }
 
 /// A trace before the turns: no item is yet what its turn is to end in.
-fn blank() -> [Item; 10] {
+fn blank() -> [Item; 12] {
     [
         Item::Quiet,
         Item::Quiet,
@@ -83,6 +96,8 @@ fn blank() -> [Item; 10] {
         Item::Quiet,
         Item::Quiet,
         Item::Atr,
+        Item::Quiet,
+        Item::Quiet,
         Item::Quiet,
         Item::Quiet,
     ]
