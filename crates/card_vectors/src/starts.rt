@@ -1,9 +1,10 @@
 //! Starts that fail: at a journal that can't be undone, whose memory is left as it is,
 //! and at each call of the device in turn.
 
-use crate::fixtures::formatted;
+use crate::fixtures::{formatted, formatted_old};
 use card_core::{Card, StartFault};
-use nvm_board::{Armed, CutBoard, FaultBoard};
+use nvm_board::{Armed, Board, CutBoard, FaultBoard};
+use std::alloc::Global;
 use std::test::Fail;
 use store_vectors::fixtures::with_words;
 
@@ -54,5 +55,45 @@ fn a_failed_call_stops_a_start(rt: HostRuntime) -> Result<(), Fail> {
     // It reads the gate, four words of the header, two of them twice, the first word of each entry, eleven of the two
     // that a file has, three of each PIN, and the link of each block.
     assert!(rt; failed_starts(board) == Some(1 + 6 + 64 + 11 * 2 + 3 * 8 + 896));
+    Ok(())
+}
+
+/// How many calls, or writes, of the start that makes format 2 fail in turn, where each gives a fault, and the next start
+/// is done and finds the card.
+fn failed_migrations(alloc: Global, board: &FaultBoard, mask: u16) -> Result<Option<u32>, Fail> {
+    for call in 1..=6_000 {
+        let mut copy = board.copy(alloc)?;
+        copy.arm(call, mask);
+        match Card::start(copy) {
+            Ok(card) => return Ok((card.free().blocks == 895).then_some(call - 1)),
+            Err((again, StartFault::Fault)) => match Card::start(again) {
+                Ok(card) => {
+                    let free = card.free();
+                    if free.blocks != 895 || free.entries != 62 {
+                        return Ok(None);
+                    }
+                    let mut board = card.into_board();
+                    if board.read(0)? != 0x5453_4332 || board.read(1158)? != 1 {
+                        return Ok(None);
+                    }
+                }
+                Err(_) => return Ok(None),
+            },
+            Err(_) => return Ok(None),
+        }
+    }
+    Ok(None)
+}
+
+#[test]
+fn a_failed_call_of_a_migration(rt: HostRuntime) -> Result<(), Fail> {
+    let board = formatted_old(FaultBoard::on_calls(rt.alloc())?)?;
+    let calls = failed_migrations(rt.alloc(), &board, 0)?;
+    assert!(rt; calls == Some(1_030), "calls {calls:?}");
+    let board = formatted_old(FaultBoard::on_writes(rt.alloc())?)?;
+    for mask in [0x0000, 0x0001, 0xFFFF, 0x0002, 0x8000, 0x5555] {
+        let writes = failed_migrations(rt.alloc(), &board, mask)?;
+        assert!(rt; writes == Some(15), "writes {writes:?} by {mask}");
+    }
     Ok(())
 }
