@@ -107,7 +107,7 @@ fn receive_ready(number: u8, error: u8) -> Wanted {
     }
 }
 
-const ANSWER: &[u8] = &[0x3C; 70];
+const ANSWER: &[u8] = b"ABCDEFGHIJKLMNOPQRSTUVWXYZabcdefghijklmnopqrstuvwxyz0123456789.,:;!?-_";
 
 /// The state of the card's end.
 #[derive(Clone, Copy)]
@@ -266,11 +266,14 @@ impl Card {
         }
     }
 
-    /// Whether a command is to be run that ends with these bytes, of which 262 are kept.
+    /// Whether a command is to be run that ends with these bytes, behind those of the one block before, if there was
+    /// one. Of its bytes 262 are kept.
     fn is_run(&self, field: &[u8]) -> bool {
+        let command = self.end.command();
         self.end.waiting()
-            && self.end.command().len() == self.table.kept.min(262)
-            && (self.table.kept > 262 || self.end.command().ends_with(field))
+            && command.len() == self.table.kept.min(262)
+            && (self.table.kept == field.len() || command.starts_with(LONGEST_FIELD))
+            && (self.table.kept > 262 || command.ends_with(field))
     }
 
     /// Whether the first block of the answer is right.
@@ -284,7 +287,11 @@ impl Card {
     }
 }
 
-const COMMAND: &[u8] = &[0x5A; 261];
+// Their bytes differ from one place to the next, so that their order shows.
+const COMMAND: &[u8] = b"\
+    ABCDEFGHIJKLMNOPQRSTUVWXYZabcdefghijklmnopqrstuvwxyz0123456789BCDEFGHIJKLMNOPQRSTUVWXYZ\
+    abcdefghijklmnopqrstuvwxyz0123456789ACDEFGHIJKLMNOPQRSTUVWXYZabcdefghijklmnopqrstuvwxyz\
+    0123456789ABDEFGHIJKLMNOPQRSTUVWXYZabcdefghijklmnopqrstuvwxyz0123456789ABCEFGHIJKLMNOPQ";
 
 /// The state of the reader's end that has a command in hand.
 #[derive(Clone, Copy)]
@@ -460,7 +467,9 @@ impl Reader {
             (Next::Send, ReaderSays::Sends(wanted)) => is_block(self.block.as_slice(), wanted),
             (Next::Done, ReaderSays::Done(size)) => {
                 let answer = self.end.answer();
-                answer.len() == size && answer.ends_with(field)
+                answer.len() == size
+                    && answer.ends_with(field)
+                    && (size == field.len() || answer.starts_with(LONGEST_FIELD))
             }
             (Next::Unknown, ReaderSays::Unknown) => true,
             (Next::Failed(Failure::LinkLost), ReaderSays::Failed(Failure::LinkLost)) => true,
@@ -485,11 +494,19 @@ const NO_BLOCK: &[u8] = b"";
 // The reader takes 254 bytes.
 const LARGEST_SIZE: &[u8] = b"\x00\xC1\x01\xFE\x3E";
 
-// An I-block of 254 bytes, with number 0, that more blocks follow.
+// An I-block of 254 bytes, with number 0, that more blocks follow, and what it carries.
 const LONGEST_BEGIN: &[u8] = b"\x00\x20\xFE\
-    ZZZZZZZZZZZZZZZZZZZZZZZZZZZZZZZZZZZZZZZZZZZZZZZZZZZZZZZZZZZZZZZZZZZZZZZZZZZZZZZZZZZZZZ\
-    ZZZZZZZZZZZZZZZZZZZZZZZZZZZZZZZZZZZZZZZZZZZZZZZZZZZZZZZZZZZZZZZZZZZZZZZZZZZZZZZZZZZZZZ\
-    ZZZZZZZZZZZZZZZZZZZZZZZZZZZZZZZZZZZZZZZZZZZZZZZZZZZZZZZZZZZZZZZZZZZZZZZZZZZZZZZZZZ\xDE";
+    ABCDEFGHIJKLMNOPQRSTUVWXYZabcdefghijklmnopqrstuvwxyz0123456789BCDEFGHIJKLMNOPQRSTUVW\
+    XYZabcdefghijklmnopqrstuvwxyz0123456789ACDEFGHIJKLMNOPQRSTUVWXYZabcdefghijklmnopqrst\
+    uvwxyz0123456789ABDEFGHIJKLMNOPQRSTUVWXYZabcdefghijklmnopqrstuvwxyz0123456789ABCEFGH\
+    IJ\
+    \xD1";
+
+const LONGEST_FIELD: &[u8] = b"\
+    ABCDEFGHIJKLMNOPQRSTUVWXYZabcdefghijklmnopqrstuvwxyz0123456789BCDEFGHIJKLMNOPQRSTUVW\
+    XYZabcdefghijklmnopqrstuvwxyz0123456789ACDEFGHIJKLMNOPQRSTUVWXYZabcdefghijklmnopqrst\
+    uvwxyz0123456789ABDEFGHIJKLMNOPQRSTUVWXYZabcdefghijklmnopqrstuvwxyz0123456789ABCEFGH\
+    IJ";
 
 // Blocks that come after power-on, in each of the states of the card's end.
 const CARD_STATES: &[&[&[u8]]] = &[
