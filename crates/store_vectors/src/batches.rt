@@ -1,5 +1,5 @@
-//! Sets that wait and are written eight together: device writes, counted,
-//! and words before or after a cut at each of them.
+//! Sets that wait and are written eight together: device writes, counted, and words before or after a cut at each of
+//! them, and at each of those of the opening after it.
 ghost use Rattle.std.specs.Prelude.{◌≤◌, OnOk};
 ghost use Rattle.undo_journal.specs.Memory.{room, IsOpen, IsReady};
 ghost use Rattle.undo_journal.specs.Lent.{memory_of};
@@ -54,14 +54,31 @@ fn found<B: Board>(store: &mut Store<B>) -> Result<[u32; 5], StoreErr>
     ])
 }
 
-/// Whether a change is cut that is armed at a write, and the words after it, when there is power again.
-fn cut_at(alloc: Global, end: End, write: u32, mask: u16) -> Result<(bool, [u32; 5]), Fail>
-    requires { 1 ≤ write }
+// A cut at a device write of the change, counted from 1, with those words new whose bit of the mask is set; and one at
+// a write of the opening after it, by the mask's first bit.
+#[derive(Clone, Copy)]
+struct Cuts {
+    write: u32,
+    mask: u16,
+    next: u32,
+}
+
+/// Whether a change is cut that is armed at a write, and the words after it, when there is power again, and the next
+/// opening is cut too, or not where it makes fewer writes.
+fn cut_at(alloc: Global, end: End, cuts: Cuts) -> Result<(bool, [u32; 5]), Fail>
+    requires change { 1 ≤ cuts.write }
+    requires opening { 1 ≤ cuts.next }
 {
     let mut store = opened(CutBoard::new(alloc)?)?;
-    store.arm(write, mask);
+    store.arm(cuts.write, cuts.mask);
     let is_cut = change(&mut store, end).is_err();
     let mut board = store.into_board();
+    board.light()?;
+    board.arm(cuts.next, cuts.mask & 1);
+    let mut board = match Store::open(board) {
+        Ok(store) => store.into_board(),
+        Err((board, _)) => board,
+    };
     board.light()?;
     let mut store = opened(board)?;
     Ok((is_cut, found(&mut store)?))
@@ -75,15 +92,34 @@ fn words_after(end: End, writes: u32, write: u32, mask: u16) -> [u32; 5] {
     }
 }
 
+// An opening makes at most one device write for each of the thirteen pairs, and one for the gate.
+const OPENING_WRITES: u32 = 14;
+
+/// A change is cut at a write, or not where it makes fewer, and so is the opening after it, at each of its writes.
+fn check_cut<R: Abort + AllocGlobal>(
+    rt: &R,
+    change: (End, u32),
+    write: u32,
+    mask: u16,
+) -> Result<(), Fail>
+    requires { 1 ≤ write }
+{
+    let (end, writes) = change;
+    for next in 1..=OPENING_WRITES + 1 {
+        let found = cut_at(rt.alloc(), end, Cuts { write, mask, next })?;
+        assert!(rt;
+            found == (write <= writes, words_after(end, writes, write, mask)),
+            "at {write}, and then at {next}"
+        );
+    }
+    Ok(())
+}
+
 /// A change is cut at each of its writes, and not past them.
 fn check_end<R: Abort + AllocGlobal>(rt: &R, end: End, writes: u32) -> Result<(), Fail> {
     for write in 1..=writes.saturating_add(1) {
         for &mask in MASKS {
-            let found = cut_at(rt.alloc(), end, write, mask)?;
-            assert!(rt;
-                found == (write <= writes, words_after(end, writes, write, mask)),
-                "at {write}"
-            );
+            check_cut(rt, (end, writes), write, mask)?;
         }
     }
     Ok(())
