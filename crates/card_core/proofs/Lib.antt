@@ -9,3 +9,5 @@ pub mod FactoryBlocks
 pub mod FactoryTable
 pub mod FactoryLemmas
 pub mod FactoryFound
+pub mod Refusing
+pub mod Failing

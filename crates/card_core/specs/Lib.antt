@@ -7,3 +7,4 @@ pub mod FaultParts
 pub mod ShownSessions
 pub mod StartParts
 pub mod Lending
+pub mod Refused

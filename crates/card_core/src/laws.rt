@@ -1,5 +1,5 @@
 //! Laws of the definitions, as contracts of functions that do nothing.
-ghost use Rattle.std.specs.Prelude.{◌≡◌, ◌≤◌, ◌+◌, ◌/◌, ◌++◌, ℕ, List, length};
+ghost use Rattle.std.specs.Prelude.{◌≡◌, ◌≢◌, ◌⊎◌, ◌≤◌, ◌+◌, ◌/◌, ◌++◌, ℕ, List, length};
 ghost use Rattle.undo_journal.specs.Spending.{transaction_writes};
 ghost use Rattle.block_chain.specs.Changes.{touched_blocks, touched_words};
 ghost use Rattle.ef_body.specs.Changes.{update_writes};
@@ -10,6 +10,7 @@ ghost use Rattle.file_tree.specs.declared.layout.TheConstants.{MARK, MARK_WORD, 
 ghost use Rattle.file_tree.specs.declared.layout.TheConstants.{PAGES_WORD, STATE_WORD};
 ghost use Rattle.pin_store.specs.declared.layout.TheConstants.{FIRST_PIN_PAGE};
 ghost use Rattle.card_rules.specs.declared.pins.TheConstants.{PINS};
+ghost use Rattle.card_rules.specs.declared.status.TheConstants.Sw.{MEMORY_FAILURE};
 ghost use Rattle.nvm_board.specs.Facts.{IsMemory};
 ghost use Rattle.pin_store.specs.declared.layout.TheConstants.{PIN_MARK_WORD};
 ghost use Rattle.card_model.specs.Requests.{AreBytes, Request};
@@ -17,6 +18,8 @@ ghost use Rattle.card_model.specs.Cards.{Card, IsAnswer, IsProper};
 ghost use Rattle.command_base.specs.Finding.{Finds, HasCard, found};
 ghost use Rattle.card_model.specs.Behaviours.{answer_bytes};
 ghost use Rattle.command_base.specs.Standing.{StandsFor};
+ghost use Rattle.card_core.specs.Refused.{IsSuccess, LeavesAll, ShowsWrong};
+ghost use Rattle.card_model.specs.CommandTable.{asked};
 ghost use Rattle.card_model.specs.Sessions.{Session};
 ghost use Rattle.card_model.specs.Steps.{IsStage, commits_served, carried_out, alone_served, gated_served};
 
@@ -40,6 +43,20 @@ pub fn found_is_proper()
 pub fn step_keeps_proper()
     ensures { (c : Card) (s : Session) (command : List ℕ) → IsProper c → AreBytes command
         → IsProper (carried_out c s command).card }
+{}
+
+/// A command that answers another status than 9000 and the warnings 6282, 6283 and 6285 leaves the card and the session
+/// as they were, but for a value of a PIN that was shown wrong: then a try is gone.
+pub fn refusals_leave_all()
+    ensures { (c : Card) (s : Session) (command : List ℕ) → LeavesAll c s (carried_out c s command)
+        ⊎ IsSuccess (carried_out c s command).response.status
+        ⊎ ShowsWrong c (asked command) (carried_out c s command).response.status }
+{}
+
+/// No command of a proper card answers 6581: that status word tells of the device alone.
+pub fn no_step_answers_a_memory_failure()
+    ensures { (c : Card) (s : Session) (command : List ℕ) → IsProper c
+        → (carried_out c s command).response.status ≢ MEMORY_FAILURE }
 {}
 
 /// No command changes how many blocks a card has, nor does any of its stages: it is one number for a whole run.
