@@ -187,6 +187,13 @@ impl<B: Board> Card<B> {
     }
 
     /// The board, as it is.
+    pub fn board(&self) -> &B
+        ensures { B.facts result.now ≡ self.now.facts }
+    {
+        self.lent.store.board()
+    }
+
+    /// The board by itself, as it is.
     pub fn into_board(self) -> B
         ensures { B.facts result ≡ self.facts }
     {

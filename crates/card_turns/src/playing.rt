@@ -204,6 +204,16 @@ impl<B: Socket> Bench<B> {
         matches!(&self.power, Power::On(_))
     }
 
+    /// The board, as it is.
+    pub fn board(&self) -> &B
+        ensures { B.facts result.now ≡ bench_facts self.now }
+    {
+        match &self.power {
+            Power::Off(board) => board,
+            Power::On(powered) => powered.board(),
+        }
+    }
+
     /// The board, power off.
     pub fn into_board(self) -> B
         ensures { B.facts result ≡ record (bench_facts self) { dark = true } }

@@ -142,6 +142,13 @@ impl<B: Board> Powered<B> {
     }
 
     /// The board, as it is.
+    pub fn board(&self) -> &B
+        ensures { B.facts result.now ≡ self.now.card.facts }
+    {
+        self.card.board()
+    }
+
+    /// The board by itself, as it is.
     pub fn into_board(self) -> B
         ensures { B.facts result ≡ self.card.facts }
     {

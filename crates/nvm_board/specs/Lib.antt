@@ -3,6 +3,7 @@ pub mod Aims
 pub mod Torn
 pub mod Calls
 pub mod Ram
+pub mod Given
 pub mod Cut
 pub mod Faulty
 pub mod laws

@@ -19,10 +19,11 @@ pub struct CutBoard {
 }
 
 impl CutBoard {
-    ghost use Rattle.std.specs.Prelude.{◌≡◌, ◌≤◌, is_some, IfOk};
+    ghost use Rattle.std.specs.Prelude.{◌≡◌, ◌≤◌, is_some, IfOk, IfSome, IsNone};
     ghost use Rattle.nvm_board.specs.Calls.{FitsPage};
     ghost use Rattle.nvm_board.specs.Cut.{cut_facts, last_torn, IsNewCutBoard, WritesOrTears};
-    ghost use Rattle.nvm_board.specs.Facts.{address};
+    ghost use Rattle.nvm_board.specs.Facts.{IsMemory, address};
+    ghost use Rattle.nvm_board.specs.Given.{board_with};
 
     /// A lit board of 1,024 pages whose words and counts are 0, with no cut to come.
     ///
@@ -63,6 +64,27 @@ impl CutBoard {
             arm: self.arm,
             torn_words: self.torn_words,
         })
+    }
+
+    /// A lit board with these words, whose counts are 0 and on which no cut is to come. None if no board has that number
+    /// of words: 16 a page, 1,024 to 4,096 pages.
+    pub fn of_words(words: Vec<u32>) -> Option<CutBoard>
+        ensures board { IfSome result (λ b. cut_facts b ≡ board_with words.items) }
+        ensures torn { IfSome result (λ b. last_torn b ≡ 0) }
+        ensures none { IsNone result → ¬ IsMemory words.items }
+    {
+        Some(CutBoard {
+            ram: RamBoard::of_words(words)?,
+            arm: None,
+            torn_words: 0,
+        })
+    }
+
+    /// The words, with power on or off.
+    pub fn words(&self) -> &[u32]
+        ensures { result.now ≡ (cut_facts self.now).words }
+    {
+        self.ram.words()
     }
 
     /// Whether a cut is to come.

@@ -5,7 +5,8 @@ ghost use Rattle.nvm_board.specs.declared.board.TheConstants.{SECRETS, COUNT_END
 ghost use Rattle.nvm_board.specs.Facts.{AreWords, address, pages_of};
 
 use crate::board::{
-    Board, COUNT_END, DeviceErr, Faultless, LEAST_PAGES, PAGE_WORDS, SECRETS, Socket, WornOut,
+    Board, COUNT_END, DeviceErr, Faultless, LEAST_PAGES, MOST_PAGES, PAGE_WORDS, SECRETS, Socket,
+    WornOut,
 };
 use crate::runs::{put_masked, put_run};
 use std::alloc::{AllocError, Global};
@@ -34,7 +35,9 @@ pub struct RamBoard {
 }
 
 impl RamBoard {
-    ghost use Rattle.nvm_board.specs.Facts.{IsWorn, IsWornOut, new_board, raised};
+    ghost use Rattle.std.specs.Prelude.{IfSome, IsNone};
+    ghost use Rattle.nvm_board.specs.Facts.{IsMemory, IsWorn, IsWornOut, new_board, raised};
+    ghost use Rattle.nvm_board.specs.Given.{board_with};
     ghost use Rattle.nvm_board.specs.Ram.{ram_facts};
     ghost use Rattle.nvm_board.specs.Torn.{IsTornBy};
 
@@ -66,6 +69,36 @@ impl RamBoard {
             compares: [0; SECRETS as usize],
             matches: [0; SECRETS as usize],
         })
+    }
+
+    /// A lit board with these words, whose counts are 0. None if no board has that number of words.
+    pub(crate) fn of_words(words: Vec<u32>) -> Option<RamBoard>
+        ensures board { IfSome result (λ b. ram_facts b ≡ board_with words.items) }
+        ensures none { IsNone result → ¬ IsMemory words.items }
+    {
+        let pages = words.len() / usize::from(PAGE_WORDS);
+        if words.len() % usize::from(PAGE_WORDS) != 0
+            || pages < usize::from(LEAST_PAGES)
+            || usize::from(MOST_PAGES) < pages
+        {
+            return None;
+        }
+        Some(RamBoard {
+            pages: pages as u16,
+            words,
+            dark: false,
+            cuts: 0,
+            writes: 0,
+            compares: [0; SECRETS as usize],
+            matches: [0; SECRETS as usize],
+        })
+    }
+
+    /// The words, with power on or off.
+    pub(crate) fn words(&self) -> &[u32]
+        ensures { result.now ≡ (ram_facts self.now).words }
+    {
+        &self.words
     }
 
     /// Another board with the same words, light and counts.

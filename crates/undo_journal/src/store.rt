@@ -99,6 +99,13 @@ impl<B: Board> Store<B> {
         }
     }
 
+    /// The board, as it is.
+    pub fn board(&self) -> &B
+        ensures { B.facts result.now ≡ self.now.facts }
+    {
+        &self.board
+    }
+
     /// How many pages the memory has. No call changes it.
     pub fn pages(&self) -> u16
         ensures committed { result ≡ pages_of (committed self.now) }

@@ -1,0 +1,21 @@
+use Rattle.std.proofs.Common.{◌≤◌, ◌+◌, ◌*◌, ℕ, length, ap, arith}
+use Rattle.nvm_board.specs.Cut.{cut_facts}
+use Rattle.nvm_board.specs.Facts.{address}
+use Rattle.nvm_board.specs.laws.Counts.{cut_is_board}
+use Rattle.nvm_board.specs.laws.Sizes.{page_within}
+use Rattle.nvm_board.specs.laws.Torn.{IsMixture-Torn}
+use Rattle.kept_board.proofs.kept_board.KeptBoardBoard.write.Goals as goal
+
+-- a write changes no number of words, so its run lies in the memory after it too
+pub hand_on-requires-clause-within : goal.hand_on-requires-clause-within
+hand_on-requires-clause-within g c =
+    let old = c.args.self.now.cut in
+    let page = page_within (cut_facts old).words c.args.page (cut_is_board old).sized c.requires.page in
+    let run = c.requires.run in
+    let fits : address c.args.page c.args.first + length c.args.words.now ≤ length (cut_facts old).words =
+    omega (arith, page, run) in
+    let size = (IsMixture-Torn _ _ _ _ fits c.write-result.ensures.writes.torn).size in
+    let pages = c.from-2.ensures in
+    let first = c.from-3.ensures in
+    let before = ap (λ (n : ℕ). n * c.from-2.result) c.from.ensures in
+    omega (arith, fits, size, before, pages, first)

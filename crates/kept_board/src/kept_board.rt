@@ -1,0 +1,127 @@
+//! A board in working memory whose words a follower has too.
+ghost use Rattle.std.specs.Prelude.{◌≡◌, ◌+◌, ◌≤◌, length};
+ghost use Rattle.nvm_board.specs.Cut.{cut_facts};
+ghost use Rattle.nvm_board.specs.declared.board.TheConstants.{PAGE_WORDS};
+
+use crate::followed::Followed;
+use crate::follower::Follower;
+use nvm_board::{Armed, Board, CutBoard, DeviceErr, Faultless, PAGE_WORDS, Socket, WornOut};
+
+/// A board in working memory that can be cut. Its follower is handed the words of each device write, once, in order, as
+/// the write left them: of a torn one too. A follower that fails changes nothing of the board, and is handed nothing
+/// more.
+#[derive(Drop)]
+pub struct KeptBoard<F: Follower> {
+    cut: CutBoard,
+    follower: F,
+    follows: bool,
+}
+
+impl<F: Follower> KeptBoard<F> {
+    ghost use Rattle.std.specs.Prelude.{true};
+    ghost use Rattle.kept_board.specs.Handed.{HandsOn};
+    ghost use Rattle.kept_board.specs.Kept.{kept_facts};
+
+    /// The board, and a follower that has its words already.
+    pub fn new(cut: CutBoard, follower: F) -> KeptBoard<F>
+        ensures facts { kept_facts result ≡ cut_facts cut }
+        ensures follower { result.follower ≡ follower }
+        ensures follows { result.follows ≡ true }
+    {
+        KeptBoard {
+            cut,
+            follower,
+            follows: true,
+        }
+    }
+
+    /// Hands on the words of a write.
+    fn hand_on(&mut self, at: usize, size: usize)
+        requires size { size ≤ PAGE_WORDS }
+        requires within { at + size ≤ length (cut_facts self.old.cut).words }
+        ensures cut { self.new.cut ≡ self.old.cut }
+        ensures handed { HandsOn self.old.follows at size (cut_facts self.old.cut).words
+            (F.handed self.old.follower) (F.handed self.new.follower) }
+    {
+        if self.follows {
+            self.follows = self.follower.take(at, &self.cut.words()[at..at + size]);
+        }
+    }
+}
+
+impl<F: Follower> Board for KeptBoard<F> {
+    ghost use Rattle.std.specs.Prelude.{◌≡◌, ◌<◌, length};
+    ghost use Rattle.nvm_board.specs.declared.board.TheConstants.{SECRETS};
+    ghost use Rattle.nvm_board.specs.Calls.{TellsWord, FitsPage, Writes, Compares};
+    ghost use Rattle.nvm_board.specs.Facts.{address};
+    ghost use Rattle.nvm_board.specs.Cut.{cut_facts, WritesOrTears};
+    ghost use Rattle.nvm_board.specs.laws.Counts.{cut_is_board};
+    ghost use Rattle.kept_board.specs.Handed.{HandsOn};
+    ghost use Rattle.kept_board.specs.Kept.{kept_facts};
+
+    ghost facts = { kept_facts };
+
+    fn pages(&self) -> u16 {
+        self.cut.pages()
+    }
+
+    fn read(&mut self, at: u16) -> Result<u32, DeviceErr>
+        requires { at < length (cut_facts self.old.cut).words }
+        ensures tells { TellsWord at (cut_facts self.old.cut) (cut_facts self.new.cut) result }
+        ensures follower { self.new.follower ≡ self.old.follower }
+    {
+        self.cut.read(at)
+    }
+
+    fn write(&mut self, page: u16, first: u8, words: &[u32]) -> Result<(), DeviceErr>
+        requires { FitsPage page first words.now (cut_facts self.old.cut) }
+        ensures writes { WritesOrTears (address page first) words.now self.old.cut self.new.cut result }
+        ensures handed { HandsOn self.old.follows (address page first) (length words.now)
+            (cut_facts self.new.cut).words (F.handed self.old.follower) (F.handed self.new.follower) }
+    {
+        let result = self.cut.write(page, first, words);
+        let at = usize::from(PAGE_WORDS) * usize::from(page) + usize::from(first);
+        self.hand_on(at, words.len());
+        result
+    }
+
+    fn compare(&mut self, secret: u8, kept: &[u8; 8], shown: &[u8; 8]) -> Result<bool, DeviceErr>
+        requires { secret < SECRETS }
+        ensures compares { Compares secret kept.now shown.now (cut_facts self.old.cut) (cut_facts self.new.cut) result }
+        ensures follower { self.new.follower ≡ self.old.follower }
+    {
+        self.cut.compare(secret, kept, shown)
+    }
+
+    ghost is_board = { λ b. cut_is_board b.cut };
+}
+
+impl<F: Follower> Socket for KeptBoard<F> {
+    fn light(&mut self) -> Result<(), WornOut> {
+        self.cut.light()
+    }
+
+    fn power_off(&mut self) {
+        self.cut.power_off();
+    }
+}
+
+impl<F: Follower> Armed for KeptBoard<F> {
+    fn arm(&mut self, k: u32, mask: u16) {
+        self.cut.arm(k, mask);
+    }
+}
+
+impl<F: Follower> Faultless for KeptBoard<F> {
+    ghost use Rattle.std.specs.Prelude.{refl};
+
+    ghost faultless = { λ b. record { faults = refl; due = refl } };
+}
+
+impl<F: Follower> Followed for KeptBoard<F> {
+    ghost has_kept = { λ b. b.follows };
+
+    fn follows(&self) -> bool {
+        self.follows
+    }
+}
