@@ -1,4 +1,4 @@
--- File control parameters: what a file of each kind has, and the ranges (ISO/IEC 7816-4, 7.4.3).
+-- File control parameters: their fields for each kind of file, and their ranges (ISO/IEC 7816-4, 7.4.3).
 use Rattle.std.specs.Prelude.{ℕ, List, [], Some, None, ◌≡◌, ◌≢◌, ◌/◌, ◌%◌, ◌^◌, ◌<◌, ◌≤◌, ⊤, IsTrue, length, Option}
 use Rattle.card_state.specs.declared.fcp.FileKind.{FileKind}
 use Rattle.card_state.specs.declared.fcp.FileKind.TheVariants.{Df, Transparent, Linear, Cyclic}
@@ -9,9 +9,9 @@ use Rattle.card_rules.specs.Rule.{is_rule}
 use Rattle.card_state.specs.declared.fcp.Fcp.{Fcp}
 use Rattle.card_state.specs.declared.fcp.Records.{Records}
 
--- What a file of each kind has, field by field: empty, absent or 0 where a kind lacks the field.
+-- The fields for each kind of file: empty, absent or 0 if the kind lacks the field.
 
--- the bytes of the name
+-- The bytes of the name.
 abbrev pub name_bytes : FileKind → List ℕ
 name_bytes (Df None) = []
 name_bytes (Df (Some name)) = name
@@ -19,14 +19,14 @@ name_bytes (Transparent short size) = []
 name_bytes (Linear short records) = []
 name_bytes (Cyclic short records) = []
 
--- the short identifier
+-- The short identifier.
 abbrev pub short_of_kind : FileKind → ShortIdentifier
 short_of_kind (Df name) = Absent
 short_of_kind (Transparent short size) = short
 short_of_kind (Linear short records) = short
 short_of_kind (Cyclic short records) = short
 
--- how many bytes the file has
+-- The size of the file in bytes.
 abbrev pub size_of_kind : FileKind → ℕ
 size_of_kind (Df name) = 0
 size_of_kind (Transparent short size) = size
@@ -35,23 +35,23 @@ size_of_kind (Cyclic short records) = records.size
 
 -- The ranges of file control parameters.
 
--- a short identifier is 1 to 30
+-- A short identifier, if one is given, is 1 to 30.
 abbrev pub IsShort : ShortIdentifier → Type 0
 IsShort Absent = ⊤
 IsShort Empty = ⊤
 IsShort (Given number) = (1 ≤ number) × (number ≤ 30)
 
--- a file has 1 to 32,767 bytes
+-- The size of an EF is 1 to 32,767 bytes.
 pub record IsSize (size : ℕ) : Type 0 where
   pub least : 1 ≤ size
   pub most : size ≤ 32767
 
--- a name has 1 to 16 bytes
+-- A name has 1 to 16 bytes.
 abbrev pub IsName : Option (List ℕ) → Type 0
 IsName None = ⊤
 IsName (Some name) = (1 ≤ length name) × (length name ≤ 16)
 
--- up to 254 records of 1 to 255 bytes fill the size, and no more exist
+-- The size is a whole number of records, at most 254, each of 1 to 255 bytes. No more records exist than that.
 pub record IsRecords (records : Records) : Type 0 where
   pub shortest : 1 ≤ records.record_length
   pub longest : records.record_length ≤ 255
@@ -66,7 +66,7 @@ IsKind (Transparent short size) = IsShort short × IsSize size
 IsKind (Linear short records) = IsShort short × IsRecords records
 IsKind (Cyclic short records) = IsShort short × IsRecords records
 
--- file control parameters in their ranges, those of the MF and of a terminated file among them
+-- File control parameters in their ranges. Those of the MF and of a terminated file are included.
 pub record IsInRange (fcp : Fcp) : Type 0 where
   pub identifier : fcp.identifier < 2 ^ 16
   pub current_df : fcp.identifier ≢ 0x3FFF
@@ -74,7 +74,7 @@ pub record IsInRange (fcp : Fcp) : Type 0 where
   pub rule : IsTrue (is_rule fcp.rule)
   pub kind : IsKind fcp.kind
 
--- what a template of CREATE FILE can tell: no MF, and no terminated file
+-- The parameters that a template of CREATE FILE can give: not the MF's, and no terminated file.
 pub record IsCreatable (fcp : Fcp) : Type 0 where
   pub ranges : IsInRange fcp
   pub below_mf : fcp.identifier ≢ 0x3F00

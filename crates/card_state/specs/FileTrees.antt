@@ -1,5 +1,5 @@
--- The files of a card as they are meant: a tree of dedicated and elementary files (ISO/IEC 7816-4, clause 7;
--- ETSI TS 102 221, clause 8).
+-- The files of a card: a tree of dedicated and elementary files (ISO/IEC 7816-4, clause 7; ETSI TS 102 221, clause
+-- 8).
 use Rattle.std.specs.Prelude.{◌+◌, ◌-◌, ℕ, List, length, Bool, true, false, IsTrue, ◌&&◌, [], ◌∷◌, take, slice_index}
 use Rattle.std.specs.Prelude.{Option, None, unwrap_or, is_some}
 use Rattle.std.specs.List.{splice}
@@ -9,86 +9,85 @@ use Rattle.std.specs.FinMap.{FinMap, get}
 use Rattle.card_rules.specs.declared.life_cycle.LifeCycle.{LifeCycle}
 use Rattle.card_rules.specs.declared.life_cycle.LifeCycle.TheVariants.{Activated}
 
--- Bytes in the place of others.
+-- Replacing some of a list's bytes.
 
--- bytes with others put in place of those from an offset on
+-- The bytes with new ones written over them from an offset on.
 abbrev pub overwrite : List ℕ → ℕ → List ℕ → List ℕ
 overwrite bytes offset new = splice bytes offset (offset + length new) new
 
--- The files of a card as they are meant: a tree of dedicated and elementary files (ISO/IEC 7816-4, clause 7;
--- ETSI TS 102 221, clause 8).
+-- The tree of dedicated and elementary files (ISO/IEC 7816-4, clause 7; ETSI TS 102 221, clause 8).
 
--- What an elementary file holds: bytes; or records of one length, at most as many as the capacity, in the order of
--- their numbers; or the same, the newest first, so that record 1 is the one written last. (The length of a record comes
--- first, then the capacity, then the records.)
+-- The content of an EF. A transparent one is a list of bytes. A linear one has a record length, a capacity in
+-- records, and its records in the order of their numbers. A cyclic one has the same, with the newest record first as
+-- record 1.
 pub data Body : Type 0 where
   transparent : List ℕ → Body
   linear : ℕ → ℕ → List (List ℕ) → Body
   cyclic : ℕ → ℕ → List (List ℕ) → Body
 
--- a dedicated file, with its name, if it has one; an elementary file, with its short identifier, if it has one
+-- A DF has an optional name, an EF an optional short identifier and its content.
 pub data Kind : Type 0 where
   dedicated : Option (List ℕ) → Kind
   elementary : Option ℕ → Body → Kind
 
--- a file: its life cycle status, the bytes of its access rule, and what it is
+-- A file: life cycle state, access rule (as bytes) and kind.
 pub record File : Type 0 where
   pub life : LifeCycle
   pub rule : List ℕ
   pub kind : Kind
 
--- where a file stands: the identifiers from below the master file down, so that the master file's path is empty
+-- The path of a file: the identifiers from below the MF down to the file. The MF's path is empty.
 abbrev pub Path : Type 0
 Path = List ℕ
 
--- files by their paths
+-- The files of a card by path.
 abbrev pub Tree : Type 0
 Tree = FinMap (slice_cmp nat_cmp) File
 
--- the identifier of the master file
+-- The identifier of the MF.
 abbrev pub master_file : ℕ
 master_file = 0x3F00
 
--- the path one level up; the master file has none, and gives its own
+-- The path one level up. The MF has no parent, so its own path is the result.
 abbrev pub parent : Path → Path
 parent path = take (length path - 1) path
 
--- the identifier of the file at a path
+-- The identifier of the file at a path.
 abbrev pub identifier : Path → ℕ
 identifier path = slice_index (master_file ∷ path) (length path)
 
--- a file without content, which stands where no file is looked at
+-- A placeholder for a file that doesn't exist; `file_at` needs a value there.
 abbrev pub no_file : File
 no_file = record { life = Activated; rule = []; kind = dedicated None }
 
--- whether there is a file at a path
+-- True if there is a file at the path.
 abbrev pub exists : Tree → Path → Bool
 exists tree path = is_some (get tree path)
 
--- the file at a path; a refusal comes before any use of it where there is none
+-- The file at a path, `no_file` if there is none. Commands refuse such a path before they use it.
 abbrev pub file_at : Tree → Path → File
 file_at tree path = unwrap_or (get tree path) no_file
 
--- whether it is a dedicated file
+-- True for a DF.
 abbrev pub is_dedicated : Kind → Bool
 is_dedicated (dedicated name) = true
 is_dedicated (elementary short body) = false
 
--- whether it is an elementary file of bytes
+-- True for a transparent EF.
 abbrev pub is_transparent : Kind → Bool
 is_transparent (dedicated name) = false
 is_transparent (elementary short (transparent bytes)) = true
 is_transparent (elementary short (linear record_length capacity records)) = false
 is_transparent (elementary short (cyclic record_length capacity records)) = false
 
--- the bytes of a transparent file
+-- The bytes of a transparent EF, none for any other file.
 abbrev pub bytes_of : Kind → List ℕ
 bytes_of (dedicated name) = []
 bytes_of (elementary short (transparent bytes)) = bytes
 bytes_of (elementary short (linear record_length capacity records)) = []
 bytes_of (elementary short (cyclic record_length capacity records)) = []
 
--- a transparent file with these bytes
+-- A transparent EF with these bytes. Any other file is unchanged.
 abbrev pub with_bytes : Kind → List ℕ → Kind
 with_bytes (dedicated name) new = dedicated name
 with_bytes (elementary short (transparent bytes)) new = elementary short (transparent new)
@@ -97,13 +96,12 @@ with_bytes (elementary short (linear record_length capacity records)) new =
 with_bytes (elementary short (cyclic record_length capacity records)) new =
     elementary short (cyclic record_length capacity records)
 
--- the short identifier of an elementary file, if it has one
+-- The short identifier of an EF, if it has one.
 abbrev pub short_of : Kind → Option ℕ
 short_of (dedicated name) = None
 short_of (elementary short body) = short
 
--- The files of a card: the master file is there, and the parent of each other file, and these are dedicated files.
--- (The master file's own parent is the master file.)
+-- A valid tree: the MF exists, and the parent of each file exists and is a DF. (The parent of the MF is the MF.)
 pub record IsTree (tree : Tree) : Type 0 where
   pub master : IsTrue (exists tree [])
   pub parents : (path : Path) → IsTrue (exists tree path)

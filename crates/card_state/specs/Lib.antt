@@ -1,4 +1,4 @@
--- What a card is.
+-- The card state: files, PINs and free space.
 pub mod FileControl
 pub mod FileLives
 pub mod FileTrees

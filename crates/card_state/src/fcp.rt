@@ -6,7 +6,7 @@ use card_rules::limits::MOST_NAME_BYTES;
 use card_rules::{Compact, LifeCycle};
 use std::marker::Model;
 
-/// The file control parameters of a file. The name is borrowed from the text that it was read from.
+/// The file control parameters of one file. The name is borrowed from the text it was read from.
 #[derive(Drop)]
 pub struct Fcp<'a> {
     pub identifier: u16,
@@ -15,24 +15,24 @@ pub struct Fcp<'a> {
     pub kind: FileKind<'a>,
 }
 
-/// The kind of a file, and what files of this kind alone have.
+/// The kind of a file, with the parameters of this kind alone.
 #[derive(Drop)]
 pub enum FileKind<'a> {
-    /// A dedicated file, which may have a name.
+    /// A dedicated file (DF), with or without a name.
     Df {
         name: Option<DfName<'a>>,
     },
-    /// An elementary file of `size` bytes, 1 to 32,767.
+    /// An elementary file (EF) of `size` bytes, 1 to 32,767.
     Transparent {
         short: ShortIdentifier,
         size: u16,
     },
-    /// An elementary file of records in the order of their numbers.
+    /// An EF of records, numbered in the order of their creation.
     Linear {
         short: ShortIdentifier,
         records: Records,
     },
-    /// An elementary file of records, the newest first.
+    /// An EF of records, numbered from the newest to the oldest.
     Cyclic {
         short: ShortIdentifier,
         records: Records,
@@ -42,7 +42,7 @@ pub enum FileKind<'a> {
 impl<'a> FileKind<'a> {
     ghost use Rattle.card_state.specs.FileControl.{name_bytes, short_of_kind, size_of_kind};
 
-    /// The bytes of the name, 1 to 16; none where the file has no name.
+    /// Returns the name, 1 to 16 bytes, or no bytes without one.
     pub fn name(&self) -> &'a [u8]
         ensures { result.now ≡ name_bytes self.now }
     {
@@ -52,7 +52,7 @@ impl<'a> FileKind<'a> {
         }
     }
 
-    /// The short identifier; absent for a DF.
+    /// Returns the short identifier, `Absent` for a DF.
     pub fn short(&self) -> ShortIdentifier
         ensures { result ≡ short_of_kind self.now }
     {
@@ -63,7 +63,7 @@ impl<'a> FileKind<'a> {
         }
     }
 
-    /// How many bytes the file has, 1 to 32,767; 0 for a DF.
+    /// Returns the size: 1 to 32,767 bytes, 0 for a DF.
     pub fn size(&self) -> u16
         ensures { result ≡ size_of_kind self.now }
     {
@@ -75,29 +75,29 @@ impl<'a> FileKind<'a> {
     }
 }
 
-/// The short identifier of an elementary file.
+/// The short identifier of an EF, as its parameters give it.
 #[derive(Clone, Copy)]
 pub enum ShortIdentifier {
-    /// Nothing is said of it.
+    /// The parameters don't mention a short identifier.
     Absent,
-    /// The file has none.
+    /// The file has no short identifier.
     Empty,
-    /// The number, 1 to 30.
+    /// The short identifier, 1 to 30.
     Given(u8),
 }
 
-/// The records of an elementary file.
+/// The records of an EF.
 #[derive(Clone, Copy)]
 pub struct Records {
-    /// The number of bytes of all records, 1 to 32,767: a multiple of the record length, up to 254 records.
+    /// The size of the EF in bytes, 1 to 32,767. It is a multiple of the record length, and at most 254 records.
     pub size: u16,
-    /// The number of bytes of a record, 1 to 255.
+    /// The length of a record in bytes, 1 to 255.
     pub record_length: u8,
-    /// How many records exist.
+    /// The number of records that exist.
     pub existing: u8,
 }
 
-/// The name of a dedicated file, 1 to 16 bytes.
+/// The name of a DF, 1 to 16 bytes.
 #[derive(Drop)]
 pub struct DfName<'a> {
     bytes: &'a [u8],
@@ -114,7 +114,7 @@ impl<'a> Model for DfName<'a> {
 }
 
 impl<'a> DfName<'a> {
-    /// The name of these bytes, where they are 1 to 16.
+    /// Returns a name of these bytes, or `None` unless 1 to 16.
     pub fn new(bytes: &'a [u8]) -> Option<DfName<'a>>
         ensures { result ≡ (if nat_le 1 (length bytes.now) && nat_le (length bytes.now) 16 then Some bytes.now else
             None) }
@@ -126,7 +126,7 @@ impl<'a> DfName<'a> {
         }
     }
 
-    /// The bytes of the name, 1 to 16.
+    /// Returns the bytes of the name, 1 to 16.
     pub fn as_bytes(&self) -> &'a [u8]
         ensures value { result.now ≡ self.now }
         ensures some { 1 ≤ length self.now }

@@ -1,5 +1,5 @@
-//! What a card is: its files, their contents and life cycles, its PINs, its free space. Nothing of words, pages, journals
-//! or boards, and nothing of commands.
+//! The card state: files, their contents and life cycles, PINs and free space. Words, pages, journals, boards and
+//! commands are defined elsewhere.
 #![tactic(auto)]
 
 mod fcp;

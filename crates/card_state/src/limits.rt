@@ -1,10 +1,10 @@
-//! Limits of a card.
+//! Limits of the card state.
 
-/// Files of a card, the master file among them.
+/// The number of file entries of a card, one for the MF.
 pub const ENTRIES: u16 = 64;
 
-/// Tries of a PIN, after its value was shown.
+/// The tries of a PIN value after a match.
 pub const TRIES: u8 = 3;
 
-/// Tries of an unblocking value, after it was shown.
+/// The tries of an unblocking value after a match.
 pub const UNBLOCKING_TRIES: u8 = 10;

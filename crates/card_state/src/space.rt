@@ -1,10 +1,10 @@
-//! Free space.
+//! Free space of a card.
 
-/// What is free for new files.
+/// The space that is free for new files.
 #[derive(Clone, Copy, Debug, PartialEq, Eq)]
 pub struct FreeSpace {
-    /// Blocks that no file holds.
+    /// The number of blocks that belong to no file.
     pub blocks: u16,
-    /// File entries that no file has.
+    /// The number of file entries that belong to no file.
     pub entries: u16,
 }
