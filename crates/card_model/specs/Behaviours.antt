@@ -1,5 +1,4 @@
--- What a command is to the tree machine, and what comes of it: refusals in their order, the answer, the attempts on a PIN,
--- the commits.
+-- The behaviour of a command: refusals in their order, the answer, the attempt on a PIN, the commits.
 use Rattle.std.specs.Prelude.{ℕ, ◌/◌, ◌%◌, Bool, List, [], ◌∷◌, ◌++◌, Option, Some, None, if◌then◌else◌, ◌+◌, ◌-◌, ◌&&◌}
 use Rattle.std.specs.Prelude.{not, nat_eq, true, slice_index_or, slice_set}
 use Rattle.card_rules.specs.declared.status.Sw.{Sw}
@@ -9,104 +8,104 @@ use Rattle.std.specs.Cmp.Lexicographic.{pointwise}
 use Rattle.card_rules.specs.declared.pins.TheConstants.{PINS}
 use Rattle.card_state.specs.Secrets.{charged_pin, kept, tries_left}
 
--- What comes of a command, whatever it is: what may refuse it, in which order, and its answer.
+-- The outcome of a command: refusals in their order, and the answer.
 
--- the data of an answer, and its status word
+-- A response: its data and its status word.
 pub record Response : Type 0 where
   pub text : List ℕ
   pub status : Sw
 
--- the bytes of an answer: the data, and then SW1 and SW2
+-- The bytes of a response: the data, then SW1 and SW2.
 abbrev pub answer_bytes : Response → List ℕ
 answer_bytes response = response.text ++ response.status.0 / 256 ∷ response.status.0 % 256 ∷ []
 
--- an answer without data
+-- A response without data.
 abbrev pub only_status : Sw → Response
 only_status status = record { text = []; status = status }
 
--- the card and the session that a command leaves, and its answer
+-- The card and the session after a command, with its response.
 pub record Outcome : Type 0 where
   pub card : Card
   pub session : Session
   pub response : Response
 
--- a refusal, and whether it applies
+-- A status word with the condition under which a command is refused with it.
 pub record Refusal : Type 0 where
   pub applies : Bool
   pub status : Sw
 
--- What may refuse a command whose form is good, by what it is about.
+-- The refusals of a command in good form, by subject.
 pub record Refusals : Type 0 where
-  -- the file that the command is about isn't there
+  -- The file that the command works on doesn't exist.
   pub target : List Refusal
-  -- the file, or one above it, is in a state of its life cycle that doesn't allow the command
+  -- The file or an ancestor is in a life cycle state that doesn't allow the command.
   pub life_cycle : List Refusal
-  -- its structure isn't one that the command is for
+  -- The file's structure isn't one that the command works on.
   pub structure : List Refusal
-  -- the template that the command brings tells of no file
+  -- The template in the command's data is faulty.
   pub template : List Refusal
-  -- the access rule of the file doesn't allow the command
+  -- The access rule of the file doesn't allow the command.
   pub access : List Refusal
-  -- names that are taken, sizes, contents, and the length of the answer
+  -- Names in use, sizes, contents, PIN states, and the length of the answer.
   pub limits : List Refusal
 
--- nothing refuses it
+-- A command without refusals.
 abbrev pub no_refusals : Refusals
 no_refusals = record { target = []; life_cycle = []; structure = []; template = []; access = []; limits = [] }
 
--- the order in which refusals count, for all commands
+-- The order of refusals, the same for all commands.
 abbrev pub in_order : Refusals → List Refusal
 in_order refusals =
     refusals.target
     ++ (refusals.life_cycle ++ (refusals.structure ++ (refusals.template ++ (refusals.access ++ refusals.limits))))
 
--- the first refusal that applies
+-- The status word of the first refusal whose condition is true.
 abbrev pub first_applying : List Refusal → Option Sw
 first_applying [] = None
 first_applying (refusal ∷ refusals) = if refusal.applies then Some refusal.status else first_applying refusals
 
--- the status word of the refusal that counts, if any does
+-- The status word with which the command is refused, if any.
 abbrev pub refused_by : Refusals → Option Sw
 refused_by refusals = first_applying (in_order refusals)
 
--- a refusal changes nothing
+-- The outcome of a refusal: card and session are unchanged.
 abbrev pub refused : Card → Session → Sw → Outcome
 refused c s status = record { card = c; session = s; response = only_status status }
 
--- the refusal that counts, else what the command does
+-- The refusal, or else the effect of the command.
 abbrev pub unless_refused : Card → Session → Option Sw → Outcome → Outcome
 unless_refused c s None done = done
 unless_refused c s (Some status) done = refused c s status
 
--- the outcome that leaves this session, and answers this data and status word
+-- The outcome with this card, session, data and status word.
 abbrev pub outcome : Card → Session → List ℕ → Sw → Outcome
 outcome c s text status = record { card = c; session = s; response = record { text = text; status = status } }
 
--- An attempt at a secret of a PIN, which the PIN law and the guess law are about: what is shown, what it costs, and the
--- cards that it passes (ISO/IEC 7816-4, clause 11, basic security handling).
+-- An attempt on a secret of a PIN: the presented value, its cost in tries, and the cards after each commit. The PIN
+-- law and the guess law are about attempts (ISO/IEC 7816-4, clause 11, basic security handling).
 
--- stands for a PIN that there isn't
+-- A placeholder for a PIN that doesn't exist.
 abbrev pub no_pin : Pin
 no_pin = record { value = []; tries = 0; unblocking = []; unblocking_tries = 0; enabled = true }
 
--- PIN n of a card: PIN 1 is the first
+-- PIN n of a card, counted from 1.
 abbrev pub pin_of : Card → ℕ → Pin
 pin_of c n = slice_index_or c.pins (n - 1) no_pin
 
--- a card whose PIN n is this one
+-- The card with another PIN n.
 abbrev pub with_pin_of : Card → ℕ → Pin → Card
 with_pin_of c n pin = record c { pins = slice_set c.pins (n - 1) pin }
 
--- the secrets of PIN n: its value, and the value that unblocks it
+-- The number of the value of PIN n among the secrets. `unblocking_of` is that of its unblocking value.
 abbrev pub value_of : ℕ → ℕ
 value_of n = n - 1
 
 abbrev pub unblocking_of : ℕ → ℕ
 unblocking_of n = PINS + (n - 1)
 
--- A secret of a PIN is shown: which one, and what is shown of it; what refuses that by whether the PIN is enabled; what
--- the PIN becomes where it is right, and whether more than its tries is set then; and whether it is no longer verified
--- where it is wrong.
+-- A secret of PIN `pin` is presented: its number, and the presented value `shown`. `unusable` gives the refusals that
+-- depend on the PIN's state. After a match the PIN is `becomes`; `renews` is true if more than its tries changes.
+-- `unverifies` is true if a mismatch ends the PIN's verification.
 pub record Attempt : Type 0 where
   pub pin : ℕ
   pub secret : ℕ
@@ -116,45 +115,45 @@ pub record Attempt : Type 0 where
   pub renews : Bool
   pub unverifies : Bool
 
--- the tries that are left of a secret of PIN n
+-- The tries that are left of a secret of PIN n.
 abbrev pub tries_of : Card → ℕ → ℕ → ℕ
 tries_of c n secret = tries_left secret (pin_of c n)
 
--- a try is taken away before anything is compared
+-- The card after the charge: one try is used up before the comparison.
 abbrev pub charged_card : Card → Attempt → Card
 charged_card c a = with_pin_of c a.pin (charged_pin a.secret (pin_of c a.pin))
 
--- whether what is shown is what the PIN keeps
+-- True if the presented value equals the stored one.
 abbrev pub is_right : Card → Attempt → Bool
 is_right c a = pointwise nat_eq (kept a.secret (pin_of c a.pin)) a.shown
 
--- after the charge, where it is right, the PIN is set
+-- The card after the charge and a match.
 abbrev pub settled_card : Card → Attempt → Card
 settled_card c a = let charged = charged_card c a in with_pin_of charged a.pin (a.becomes (pin_of charged a.pin))
 
--- The cards that an attempt passes: the charge lasts by itself.
+-- The cards after each commit of an attempt. The charge is a commit by itself.
 abbrev pub attempt_commits : Card → Attempt → List Card
 attempt_commits c a = charged_card c a ∷ (if is_right c a then settled_card c a ∷ [] else [])
 
--- those that the word of the tries commits: the charge, and what a right value renews, where that is the tries alone
+-- The commits that the tries word makes: the charge, and the end of a match that restores only the tries.
 abbrev pub tries_commits : Card → Attempt → List Card
 tries_commits c a = charged_card c a ∷ (if is_right c a && not a.renews then settled_card c a ∷ [] else [])
 
--- and those that a transaction commits: a new value or the mark, with the tries
+-- The commits that a transaction makes: a match that also changes the value or the mark.
 abbrev pub value_commits : Card → Attempt → List Card
 value_commits c a = if is_right c a && a.renews then settled_card c a ∷ [] else []
 
--- What a command is to the tree machine: one record for each command.
+-- A behaviour: one record for each command.
 
--- Of the card and the session before it: what may refuse the command; what it does where nothing refuses it; and then
--- the card after each of its commits, in order. Of the command alone: what it shows of a PIN.
+-- From the card and the session before the command: its refusals, its effect if nothing refuses it, and the card
+-- after each commit, in order. From the command alone: the secret that it presents.
 pub record Behaviour : Type 0 where
   pub refusals : Card → Session → Refusals
   pub effect : Card → Session → Outcome
   pub commits : Card → Session → List Card
   pub shown : Option Attempt
 
--- a command that only looks leaves the card as it is: it commits nothing
+-- A command that only reads leaves the card unchanged and commits nothing.
 abbrev pub looks : (Card → Session → Refusals) → (Card → Session → Outcome) → Behaviour
 looks refusals effect = record {
   refusals = refusals;
@@ -163,7 +162,7 @@ looks refusals effect = record {
   shown = None;
 }
 
--- a command that changes the card does it in one commit
+-- A command that changes the card with one commit.
 abbrev pub changes : (Card → Session → Refusals) → (Card → Session → Outcome) → Behaviour
 changes refusals effect = record {
   refusals = refusals;

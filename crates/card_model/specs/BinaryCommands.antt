@@ -1,4 +1,4 @@
--- READ BINARY and UPDATE BINARY: the bytes of a transparent file (ISO/IEC 7816-4, 11.3).
+-- READ BINARY and UPDATE BINARY: the bytes of a transparent EF (ISO/IEC 7816-4, 11.3).
 use Rattle.std.specs.Prelude.{ℕ, ◌+◌, ◌==◌, nat_lt, nat_le, List, [], ◌∷◌, length, take, drop, if◌then◌else◌}
 use Rattle.card_rules.specs.declared.access_mode.AccessBit.TheVariants.{Read, Update}
 use Rattle.card_rules.specs.declared.status.Sw.{Sw}
@@ -9,11 +9,11 @@ use Rattle.card_model.specs.Cards.{Card, is_transparent, bytes_of, overwrite, wi
 use Rattle.card_model.specs.Guards.{file_refusals, naming, target_kind, target_path, with_limits}
 use Rattle.card_model.specs.Sessions.{Session}
 
--- the bytes that the file that is named holds
+-- The bytes of the target.
 abbrev pub target_bytes : Card → Session → Target → List ℕ
 target_bytes c s target = bytes_of (target_kind c s target)
 
--- an offset at the end of the bytes or past it; bytes from an offset on that reach past the end
+-- Two refusals: an offset at or past the end of the bytes, and data that would extend past the end.
 abbrev pub is_past : Card → Session → Target → ℕ → Refusal
 is_past c s target offset = record { applies = nat_le (length (target_bytes c s target)) offset; status = WRONG_OFFSET }
 
@@ -23,7 +23,7 @@ is_too_long c s target offset bytes = record {
   status = NO_ROOM;
 }
 
--- what refuses READ BINARY and UPDATE BINARY
+-- The refusals of READ BINARY and of UPDATE BINARY.
 abbrev pub read_refusals : Card → Session → Target → ℕ → Refusals
 read_refusals c s target offset = with_limits (file_refusals c s target is_transparent Read)
     (is_past c s target offset ∷ [])
@@ -33,18 +33,19 @@ update_refusals c s target offset bytes =
     with_limits (file_refusals c s target is_transparent Update)
     (is_past c s target offset ∷ is_too_long c s target offset bytes ∷ [])
 
--- Of the bytes from the offset on, Le 00 asks for all, at most 256; a larger Le than there are bytes gives them all.
+-- The response for the bytes from the offset on. Le 00 returns all, at most 256. A larger Le than there are bytes
+-- returns them all, with 6282.
 abbrev pub read_response : List ℕ → ℕ → Response
 read_response rest expected =
     if expected == 0 then record { text = take 256 rest; status = DONE } else
     if nat_lt (length rest) expected then record { text = rest; status = END_REACHED } else
     record { text = take expected rest; status = DONE }
 
--- the status word that tells where fewer bytes are left than an Le byte asks for
+-- The status word: 6282 if Le is larger than the number of bytes left.
 abbrev pub end_status : ℕ → ℕ → Sw
 end_status rest expected = if nat_lt rest expected then END_REACHED else DONE
 
--- READ BINARY that isn't refused
+-- The effect of READ BINARY.
 abbrev pub binary_read : Card → Session → Target → ℕ → ℕ → Outcome
 binary_read c s target offset expected = record {
   card = c;
@@ -52,12 +53,12 @@ binary_read c s target offset expected = record {
   response = read_response (drop offset (target_bytes c s target)) expected;
 }
 
--- the card in which the bytes take the place of those from the offset on
+-- The card with the bytes written over those from the offset on.
 abbrev pub updated_card : Card → Session → Target → ℕ → List ℕ → Card
 updated_card c s target offset bytes =
     with_content c (target_path c s target) (overwrite (target_bytes c s target) offset bytes)
 
--- UPDATE BINARY that isn't refused
+-- The effect of UPDATE BINARY.
 abbrev pub binary_updated : Card → Session → Target → ℕ → List ℕ → Outcome
 binary_updated c s target offset bytes = record {
   card = updated_card c s target offset bytes;

@@ -1,5 +1,4 @@
--- The card as it is meant: a tree of files, eight PINs, a state, and room for blocks; and when it is well formed
--- (ISO/IEC 7816-4, clause 7; ETSI TS 102 221, clause 8).
+-- The card, and when it is well formed (ISO/IEC 7816-4, clause 7; ETSI TS 102 221, clause 8).
 use Rattle.std.specs.Prelude.{ℕ, Bool, List, ◌≡◌, ◌<◌, ◌≤◌, ◌*◌, length, All, Option, Some, None}
 use Rattle.std.specs.FinMap.{insert, get}
 use Rattle.card_state.specs.declared.space.FreeSpace.{FreeSpace}
@@ -11,43 +10,42 @@ pub use Rattle.card_state.specs.FileTrees.{Tree, master_file, parent, identifier
 pub use Rattle.card_state.specs.FileTrees.{is_dedicated, is_transparent, bytes_of, with_bytes, overwrite, short_of}
 pub use Rattle.card_state.specs.Secrets.{Pin}
 
--- The card as it is meant: a tree of files, eight PINs, a state, and room for so much (ISO/IEC 7816-4,
--- clause 7; ETSI TS 102 221, clause 8).
+-- The card (ISO/IEC 7816-4, clause 7; ETSI TS 102 221, clause 8).
 
--- PIN 1 is the first of the list; `in_use` is false from TERMINATE CARD USAGE on; `blocks` is how many blocks it has
--- for the contents of files, once it is started
+-- PIN 1 is the first of the list. `in_use` becomes false with TERMINATE CARD USAGE. `blocks` is the number of blocks
+-- for file contents after power-on.
 pub record Card : Type 0 where
   pub tree : Tree
   pub pins : List Pin
   pub in_use : Bool
   pub blocks : ℕ
 
--- what is free on a card: of its blocks those that no file costs, and the file entries that no file has
+-- The free space of a card: blocks that no file takes up, and unused file entries.
 abbrev pub card_space : Card → FreeSpace
 card_space card = free_space card.blocks card.tree
 
--- a card whose transparent file at a path holds these bytes
+-- The card with other bytes in the transparent EF at a path.
 abbrev pub with_content : Card → Path → List ℕ → Card
 with_content card path bytes =
     let file = file_at card.tree path in
     record card { tree = insert card.tree path (record file { kind = with_bytes file.kind bytes }) }
 
--- When a card is well formed: what it holds are bytes, each record has its file's record length, and each length,
--- number and short identifier is in its range.
+-- A well-formed card. Contents are bytes, and each record has the record length of its file. Each length, number and
+-- short identifier is in its range.
 
--- a record of so many bytes
+-- A record of this length.
 pub record IsRecord (long : ℕ) (text : List ℕ) : Type 0 where
   pub bytes : AreBytes text
   pub size : length text ≡ long
 
--- bytes of a file, 1 to 32,767
+-- The bytes of a transparent EF, 1 to 32,767.
 pub record IsContent (content : List ℕ) : Type 0 where
   pub bytes : AreBytes content
   pub some : 1 ≤ length content
   pub size : length content ≤ 32767
 
--- Records of one length, which is 1 to 255 bytes: at most as many as there is room for, which is 1 to 254 of them, and
--- at most 32,767 bytes.
+-- Records of one length, 1 to 255 bytes. Their number is at most the capacity, which is 1 to 254 records and at most
+-- 32,767 bytes.
 pub record AreRecords (long most : ℕ) (records : List (List ℕ)) : Type 0 where
   pub each : All (IsRecord long) records
   pub some : 1 ≤ long
@@ -57,13 +55,13 @@ pub record AreRecords (long most : ℕ) (records : List (List ℕ)) : Type 0 whe
   pub capacity : most ≤ 254
   pub number : length records ≤ most
 
--- what an elementary file holds
+-- The content of a well-formed EF.
 abbrev pub IsProperBody : Body → Type 0
 IsProperBody (transparent bytes) = IsContent bytes
 IsProperBody (linear record_length capacity records) = AreRecords record_length capacity records
 IsProperBody (cyclic record_length capacity records) = AreRecords record_length capacity records
 
--- a name is 1 to 16 bytes
+-- A name is 1 to 16 bytes.
 pub record IsName (name : List ℕ) : Type 0 where
   pub bytes : AreBytes name
   pub some : 1 ≤ length name
@@ -73,7 +71,7 @@ abbrev pub IsProperName : Option (List ℕ) → Type 0
 IsProperName None = Unit {0}
 IsProperName (Some name) = IsName name
 
--- a short identifier is 1 to 30
+-- A short identifier is 1 to 30.
 abbrev pub IsProperShort : Option ℕ → Type 0
 IsProperShort None = Unit {0}
 IsProperShort (Some n) = (1 ≤ n) × (n ≤ 30)
@@ -82,19 +80,19 @@ abbrev pub IsProperKind : Kind → Type 0
 IsProperKind (dedicated name) = IsProperName name
 IsProperKind (elementary short body) = IsProperShort short × IsProperBody body
 
--- a rule is at most 8 bytes
+-- An access rule is at most 8 bytes.
 pub record IsProperFile (file : File) : Type 0 where
   pub rule : AreBytes file.rule
   pub rule_size : length file.rule ≤ 8
   pub kind : IsProperKind file.kind
 
--- an identifier is two bytes, and no PIN has more tries left than there may be
+-- A well-formed card: each file is well formed, an identifier is two bytes, no PIN has too many tries left.
 pub record IsProper (c : Card) : Type 0 where
   pub files : (path : Path) (file : File) → get c.tree path ≡ Some file → IsProperFile file
   pub identifiers : (path : Path) (file : File) → get c.tree path ≡ Some file → identifier path < 65536
   pub pins : All HasFewTries c.pins
 
--- An answer is 2 to 258 bytes: at most 256 of data, and SW1 and SW2.
+-- An answer is 2 to 258 bytes: at most 256 bytes of data, SW1 and SW2.
 pub record IsAnswer (answer : List ℕ) : Type 0 where
   pub at_least : 2 ≤ length answer
   pub at_most : length answer ≤ 258

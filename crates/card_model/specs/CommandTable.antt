@@ -1,4 +1,4 @@
--- What the bytes of a command ask for: the one table of all commands (ISO/IEC 7816-4, 5.2 and clause 11; ISO/IEC 7816-9;
+-- The command table: the request that the bytes of a command make (ISO/IEC 7816-4, 5.2 and clause 11; ISO/IEC 7816-9;
 -- ETSI TS 102 221, clause 11).
 use Rattle.std.specs.Prelude.{ℕ, ◌+◌, ◌==◌, List, [], ◌∷◌, length, take, slice_index, Option, Some, None, if◌then◌else◌}
 use Rattle.std.specs.Prelude.{Bool, nat_le, ◌&&◌, ◌||◌, ◌-◌, not, unwrap_or, ◌/◌, ◌%◌, drop, ◌++◌, find, is_some}
@@ -30,14 +30,14 @@ use Rattle.card_rules.specs.declared.status.TheConstants.Sw.{WRONG_LENGTH, WRONG
 use Rattle.card_rules.specs.declared.status.TheConstants.Sw.{UNKNOWN_CLASS}
 use Rattle.card_model.specs.declared.requests.Subject.TheVariants as subject
 
--- What follows the four header bytes of a short command (ISO/IEC 7816-4, 5.2).
+-- The body of a short command, after its four header bytes (ISO/IEC 7816-4, 5.2).
 
--- the bytes that are sent with a command, and its Le byte, if it has one
+-- The data of a command, and its Le byte if it has one.
 pub record Body : Type 0 where
   pub sent : List ℕ
   pub expected : Option ℕ
 
--- The four forms: nothing; Le; Lc with Lc bytes; Lc with Lc bytes and Le. Lc is not 0. Other bytes are no form.
+-- The four forms: nothing; Le; Lc and Lc bytes; Lc, Lc bytes and Le. Lc is not 0. Any other body is malformed.
 abbrev pub body_of : List ℕ → Option Body
 body_of [] = Some (record { sent = []; expected = None })
 body_of (le ∷ []) = Some (record { sent = []; expected = Some le })
@@ -51,34 +51,34 @@ body_of (lc ∷ byte ∷ bytes) =
     }) else
     None
 
--- A row of the table of commands (ISO/IEC 7816-4, clause 5.4):
--- what is allowed under a class and an instruction, and what it means.
+-- A row of the command table: what a class and an instruction allow, and what the command means (ISO/IEC 7816-4,
+-- clause 5.4).
 
 pub record Row : Type 0 where
   pub class : ℕ
   pub instruction : ℕ
-  -- whether P1 and P2 are allowed
+  -- True if P1 and P2 are allowed.
   pub parameters : ℕ → ℕ → Bool
-  -- whether so many bytes may be sent under P1 and P2, with Le or without
+  -- True if this number of data bytes is allowed under P1 and P2. The last argument is true if there is an Le.
   pub lengths : ℕ → ℕ → ℕ → Bool → Bool
-  -- what is asked for by P1, P2 and the body
+  -- The request, by P1, P2 and the body.
   pub meaning : ℕ → ℕ → Body → Request
 
 -- The row of SELECT (ISO/IEC 7816-4, 11.2.2).
 
--- P1: by identifier 00, the parent 03, by name 04, by path from the master file 08, from the current dedicated file 09
+-- P1: by identifier 00, parent 03, by name 04, by path from the MF 08, by path from the current DF 09.
 abbrev pub is_way : ℕ → Bool
 is_way p1 = (p1 == 0x00) || (p1 == 0x03) || (p1 == 0x04) || (p1 == 0x08) || (p1 == 0x09)
 
--- P2 of the first or only file that fits: with its template 04, with no data 0C
+-- P2, always for the first or only occurrence: 04 returns the template, 0C no data.
 abbrev pub is_returned : ℕ → Bool
 is_returned p2 = (p2 == 0x04) || (p2 == 0x0C)
 
--- what P2 wants to be answered
+-- The data that P2 asks for.
 abbrev pub returned_by : ℕ → Returned
 returned_by p2 = if p2 == 0x04 then Template else Nothing
 
--- whether so many bytes name a file under P1
+-- True if this number of data bytes names a file under P1.
 abbrev pub names_file : ℕ → ℕ → Bool
 names_file p1 sent =
     if p1 == 0x00 then (sent == 0) || (sent == 2) else
@@ -86,12 +86,12 @@ names_file p1 sent =
     if p1 == 0x04 then nat_le 1 sent && nat_le sent 16 else
     is_path sent
 
--- no bytes name the master file, two bytes name a file by its identifier
+-- No bytes name the MF, two bytes name a file by its identifier.
 abbrev pub by_identifier : List ℕ → Selection
 by_identifier [] = master_file
 by_identifier (high ∷ bytes) = identifier (two_bytes high (slice_index bytes 0))
 
--- the file that is named under P1
+-- The file that the data name under P1.
 abbrev pub named_file : ℕ → List ℕ → Selection
 named_file p1 sent =
     if p1 == 0x00 then by_identifier sent else
@@ -100,7 +100,7 @@ named_file p1 sent =
     if p1 == 0x08 then path_from_master (identifiers sent) else
     path_from_current (identifiers sent)
 
--- SELECT: Le may stand or not
+-- SELECT: Le is optional.
 abbrev pub select_row : Row
 select_row = record {
   class = 0x00;
@@ -113,26 +113,25 @@ select_row = record {
 abbrev pub select_rows : List Row
 select_rows = select_row ∷ []
 
--- The rows of the commands on an elementary file of bytes (ISO/IEC 7816-4, 11.3).
+-- The rows of the binary commands (ISO/IEC 7816-4, 11.3).
 
--- P1 of a binary command with bit 8 set holds a short identifier in its bits 5 to 1,
--- and then P2 is the offset; else P1 P2 is the offset
+-- With bit 8 set, P1 has a short identifier in bits 5 to 1, and P2 is the offset. Otherwise P1 P2 is the offset.
 abbrev pub names_short : ℕ → Bool
 names_short p1 = nat_le 0x80 p1
 
--- whether P1 and P2 are a place in an elementary file: a short identifier is 1 to 30
+-- True if P1 and P2 are valid: a short identifier is 1 to 30.
 abbrev pub is_place : ℕ → ℕ → Bool
 is_place p1 p2 = not (names_short p1) || (nat_le 1 (p1 - 0x80) && nat_le (p1 - 0x80) 30)
 
--- the elementary file that P1 names
+-- The EF that P1 names.
 abbrev pub named_target : ℕ → Target
 named_target p1 = if names_short p1 then Short (p1 - 0x80) else Current
 
--- the offset that P1 and P2 name
+-- The offset in P1 and P2.
 abbrev pub named_offset : ℕ → ℕ → ℕ
 named_offset p1 p2 = if names_short p1 then p2 else two_bytes p1 p2
 
--- READ BINARY: nothing is sent; Le must stand
+-- READ BINARY: no data; Le is required.
 abbrev pub read_binary_row : Row
 read_binary_row = record {
   class = 0x00;
@@ -142,7 +141,7 @@ read_binary_row = record {
   meaning = λ p1 p2 body. read_binary (named_target p1) (named_offset p1 p2) (unwrap_or body.expected 0);
 }
 
--- UPDATE BINARY: 1 to 255 bytes are sent; Le must not stand
+-- UPDATE BINARY: 1 to 255 bytes of data; no Le.
 abbrev pub update_binary_row : Row
 update_binary_row = record {
   class = 0x00;
@@ -155,18 +154,18 @@ update_binary_row = record {
 abbrev pub binary_rows : List Row
 binary_rows = read_binary_row ∷ update_binary_row ∷ []
 
--- The rows of the commands on files as such (ISO/IEC 7816-9).
+-- The rows of the commands on files (ISO/IEC 7816-9).
 
--- no bytes name the current file, two bytes name a file by its identifier
+-- No bytes name the current file, two bytes name a file by its identifier.
 abbrev pub subject_named : List ℕ → Subject
 subject_named [] = subject.Current
 subject_named (high ∷ bytes) = subject.Identifier (two_bytes high (slice_index bytes 0))
 
--- P1 and P2 of the commands on files are 00 00
+-- P1 and P2 of the commands on files are 00 00.
 abbrev pub is_no_parameter : ℕ → ℕ → Bool
 is_no_parameter p1 p2 = (p1 == 0x00) && (p2 == 0x00)
 
--- CREATE FILE: a template of 1 to 255 bytes; Le must not stand
+-- CREATE FILE: a template of 1 to 255 bytes; no Le.
 abbrev pub create_file_row : Row
 create_file_row = record {
   class = 0x00;
@@ -176,7 +175,7 @@ create_file_row = record {
   meaning = λ p1 p2 body. create_file body.sent;
 }
 
--- DELETE FILE: by identifier or, without data, the current file; Le must not stand
+-- DELETE FILE: an identifier, or no data for the current file; no Le.
 abbrev pub delete_file_row : Row
 delete_file_row = record {
   class = 0x00;
@@ -191,19 +190,19 @@ file_rows = create_file_row ∷ delete_file_row ∷ []
 
 -- The rows of the commands on records (ISO/IEC 7816-4, 11.4), and of INCREASE (ETSI TS 102 221, 11.1.8).
 
--- the upper five bits of P2 of a command on records are a short identifier, 1 to 30, or 0 for the current file
+-- The upper five bits of P2 are a short identifier, 1 to 30, or 0 for the current EF.
 abbrev pub is_record_file : ℕ → Bool
 is_record_file p2 = nat_le (p2 / 8) 30
 
 abbrev pub record_file : ℕ → Target
 record_file p2 = if p2 / 8 == 0 then Current else Short (p2 / 8)
 
--- P1 is a record's number, or 0 for the current record
+-- P1 is a record number, or 0 for the current record.
 abbrev pub record_place : ℕ → RecordPlace
 record_place p1 = if p1 == 0 then CurrentRecord else Number p1
 
--- the lower three bits of P2 are a mode: the next record 2, the previous one 3, each with P1 0;
--- the record that P1 names 4
+-- The lower three bits of P2 are a mode. 2 is the next record and 3 the previous one, each with P1 00; 4 is the
+-- record that P1 names.
 abbrev pub is_choice : ℕ → ℕ → Bool
 is_choice p1 p2 = ((p2 % 8 == 2) && (p1 == 0)) || ((p2 % 8 == 3) && (p1 == 0)) || (p2 % 8 == 4)
 
@@ -213,14 +212,14 @@ record_choice p1 p2 =
     if p2 % 8 == 3 then Previous else
     At (record_place p1)
 
--- a search goes from the record that P1 names: in mode 4 forward, in mode 5 backward
+-- A search begins at the record that P1 names: forward in mode 4, backward in mode 5.
 abbrev pub is_direction : ℕ → Bool
 is_direction p2 = (p2 % 8 == 4) || (p2 % 8 == 5)
 
 abbrev pub direction : ℕ → Direction
 direction p2 = if p2 % 8 == 4 then Forward else Backward
 
--- READ RECORD: nothing is sent; Le must stand
+-- READ RECORD: no data; Le is required.
 abbrev pub read_record_row : Row
 read_record_row = record {
   class = 0x00;
@@ -230,7 +229,7 @@ read_record_row = record {
   meaning = λ p1 p2 body. read_record (record_file p2) (record_choice p1 p2) (unwrap_or body.expected 0);
 }
 
--- UPDATE RECORD: 1 to 255 bytes are sent; Le must not stand
+-- UPDATE RECORD: 1 to 255 bytes of data; no Le.
 abbrev pub update_record_row : Row
 update_record_row = record {
   class = 0x00;
@@ -240,7 +239,7 @@ update_record_row = record {
   meaning = λ p1 p2 body. update_record (record_file p2) (record_choice p1 p2) body.sent;
 }
 
--- APPEND RECORD: P1 and the lower three bits of P2 are 0; 1 to 255 bytes are sent; Le must not stand
+-- APPEND RECORD: P1 and the lower three bits of P2 are 0; 1 to 255 bytes of data; no Le.
 abbrev pub append_record_row : Row
 append_record_row = record {
   class = 0x00;
@@ -250,7 +249,7 @@ append_record_row = record {
   meaning = λ p1 p2 body. append_record (record_file p2) body.sent;
 }
 
--- SEARCH RECORD: 1 to 255 bytes are sent; Le may stand
+-- SEARCH RECORD: 1 to 255 bytes of data; Le is optional.
 abbrev pub search_record_row : Row
 search_record_row = record {
   class = 0x00;
@@ -260,7 +259,7 @@ search_record_row = record {
   meaning = λ p1 p2 body. search_record (record_file p2) (record_place p1) (direction p2) body.sent body.expected;
 }
 
--- INCREASE, under class 80: 1 to 255 bytes are sent; Le may stand
+-- INCREASE, class 80: 1 to 255 bytes of data; Le is optional.
 abbrev pub increase_row : Row
 increase_row = record {
   class = 0x80;
@@ -273,17 +272,16 @@ increase_row = record {
 abbrev pub record_rows : List Row
 record_rows = read_record_row ∷ update_record_row ∷ append_record_row ∷ search_record_row ∷ increase_row ∷ []
 
--- The rows of the commands on life cycles (ISO/IEC 7816-9).
+-- The rows of the life cycle commands (ISO/IEC 7816-9).
 
--- the instruction of each change
+-- The instruction of each life cycle command.
 abbrev pub change_instruction : LifeCycleChange → ℕ
 change_instruction Deactivate = 0x04
 change_instruction Activate = 0x44
 change_instruction TerminateDf = 0xE6
 change_instruction TerminateEf = 0xE8
 
--- DEACTIVATE FILE, ACTIVATE FILE, TERMINATE DF, TERMINATE EF:
--- by identifier or, without data, the current file; Le must not stand
+-- DEACTIVATE FILE, ACTIVATE FILE, TERMINATE DF, TERMINATE EF: an identifier, or no data for the current file; no Le.
 abbrev pub life_cycle_row : LifeCycleChange → Row
 life_cycle_row change = record {
   class = 0x00;
@@ -293,7 +291,7 @@ life_cycle_row change = record {
   meaning = λ p1 p2 body. change_life_cycle change (subject_named body.sent);
 }
 
--- TERMINATE CARD USAGE: nothing is sent; Le must not stand
+-- TERMINATE CARD USAGE: no data; no Le.
 abbrev pub terminate_card_usage_row : Row
 terminate_card_usage_row = record {
   class = 0x00;
@@ -310,21 +308,21 @@ life_cycle_rows =
 
 -- The rows of the commands on PINs (ISO/IEC 7816-4, 11.5).
 
--- P1 is 00 and P2 names a PIN, 1 to 8
+-- P1 is 00, and P2 is a PIN number, 1 to 8.
 abbrev pub is_pin : ℕ → ℕ → Bool
 is_pin p1 p2 = (p1 == 0x00) && (nat_le 1 p2 && nat_le p2 8)
 
--- the value that is shown, if one is
+-- The presented value, None without data.
 abbrev pub shown_value : List ℕ → Option (List ℕ)
 shown_value [] = None
 shown_value (byte ∷ bytes) = Some (byte ∷ bytes)
 
--- the value that is shown and the new one, 8 bytes each, if they are sent
+-- The presented value (the first 8 bytes) and the new value (the rest), None without data.
 abbrev pub shown_values : List ℕ → Option (List ℕ × List ℕ)
 shown_values [] = None
 shown_values (byte ∷ bytes) = Some (take 8 (byte ∷ bytes), drop 8 (byte ∷ bytes))
 
--- VERIFY: the PIN's value, or nothing to ask for the tries that are left; Le must not stand
+-- VERIFY: the PIN's value, or no data to query the tries left; no Le.
 abbrev pub verify_row : Row
 verify_row = record {
   class = 0x00;
@@ -334,7 +332,7 @@ verify_row = record {
   meaning = λ p1 p2 body. verify p2 (shown_value body.sent);
 }
 
--- CHANGE REFERENCE DATA: the PIN's value and the new one; Le must not stand
+-- CHANGE REFERENCE DATA: the PIN's value and the new value; no Le.
 abbrev pub change_reference_data_row : Row
 change_reference_data_row = record {
   class = 0x00;
@@ -344,8 +342,7 @@ change_reference_data_row = record {
   meaning = λ p1 p2 body. change_reference_data p2 (take 8 body.sent) (drop 8 body.sent);
 }
 
--- RESET RETRY COUNTER: the PIN's unblocking value and the new value, or nothing to ask for the unblocking tries that
--- are left; Le must not stand
+-- RESET RETRY COUNTER: the unblocking value and the new value, or no data to query the unblocking tries left; no Le.
 abbrev pub reset_retry_counter_row : Row
 reset_retry_counter_row = record {
   class = 0x00;
@@ -355,12 +352,12 @@ reset_retry_counter_row = record {
   meaning = λ p1 p2 body. reset_retry_counter p2 (shown_values body.sent);
 }
 
--- the instruction of each change of the verification requirement
+-- The instruction of each change of the verification requirement.
 abbrev pub requirement_instruction : RequirementChange → ℕ
 requirement_instruction Disable = 0x26
 requirement_instruction Enable = 0x28
 
--- DISABLE VERIFICATION REQUIREMENT, ENABLE VERIFICATION REQUIREMENT: the PIN's value; Le must not stand
+-- DISABLE and ENABLE VERIFICATION REQUIREMENT: the PIN's value; no Le.
 abbrev pub requirement_row : RequirementChange → Row
 requirement_row change = record {
   class = 0x00;
@@ -375,34 +372,34 @@ pin_rows =
     verify_row ∷ change_reference_data_row ∷ reset_retry_counter_row ∷ requirement_row Disable
     ∷ requirement_row Enable ∷ []
 
--- What the bytes of a command ask for, or the first refusal: class, instruction, P1 and P2, and then lengths.
+-- Parsing: the request of a command, or the first refusal by class, instruction, P1 P2 and lengths, in this order.
 
--- the commands that are built
+-- All commands of the card.
 abbrev pub command_table : List Row
 command_table = select_rows ++ binary_rows ++ file_rows ++ record_rows ++ life_cycle_rows ++ pin_rows
 
--- the row of an instruction under its class
+-- The row of an instruction under its class.
 abbrev pub row_of : ℕ → ℕ → Option Row
 row_of class instruction = find (λ row. (row.class == class) && (row.instruction == instruction)) command_table
 
--- the classes that are known
+-- The classes that the card knows.
 abbrev pub is_class : ℕ → Bool
 is_class class = (class == 0x00) || (class == 0x80)
 
--- what is asked for by a body of a good form, if its lengths are right
+-- The request that a well-formed body makes, provided that its lengths are allowed.
 abbrev pub asked_by_body : Row → ℕ → ℕ → Option Body → Result Request Sw
 asked_by_body row p1 p2 None = Err WRONG_LENGTH
 asked_by_body row p1 p2 (Some body) =
     if row.lengths p1 p2 (length body.sent) (is_some body.expected)
     then Ok (row.meaning p1 p2 body) else Err WRONG_LENGTH
 
--- what is asked for under a known instruction
+-- The request under a known instruction.
 abbrev pub asked_by_row : Option Row → ℕ → ℕ → List ℕ → Result Request Sw
 asked_by_row None p1 p2 bytes = Err UNKNOWN_INSTRUCTION
 asked_by_row (Some row) p1 p2 bytes =
     if row.parameters p1 p2 then asked_by_body row p1 p2 (body_of bytes) else Err WRONG_PARAMETERS
 
--- what the bytes of a command ask for
+-- The request that the bytes of a command make, or the status word that refuses them.
 abbrev pub asked : List ℕ → Result Request Sw
 asked (class ∷ instruction ∷ p1 ∷ p2 ∷ bytes) =
     if is_class class then asked_by_row (row_of class instruction) p1 p2 bytes else Err UNKNOWN_CLASS

@@ -1,4 +1,4 @@
--- Commands on files as such: CREATE FILE and DELETE FILE (ISO/IEC 7816-9).
+-- Commands on files: CREATE FILE and DELETE FILE (ISO/IEC 7816-9).
 use Rattle.std.specs.Prelude.{◌==◌, ◌||◌, ℕ, List, [], ◌∷◌, ◌++◌, length, not, nat_eq, None, is_none, unwrap_or, Bool}
 use Rattle.std.specs.Prelude.{true, false, Result, Ok, Err}
 use Rattle.std.specs.FinMap.{insert, retain_keys}
@@ -23,13 +23,12 @@ use Rattle.card_model.specs.Reaching.{subject_of}
 use Rattle.card_model.specs.SelectCommand.{selecting}
 use Rattle.card_model.specs.Sessions.{Session, at_dedicated_file}
 
--- the path of the file that is named; where none is, the command is refused
+-- The path of the subject. If there is no such file the command is refused, whatever the path.
 abbrev pub subject_path : Card → Session → Subject → Path
 subject_path c s subject = unwrap_or (subject_of c.tree s subject) []
 
--- What refuses DELETE FILE: no such file; the master file, which can't be deleted; a file above it is deactivated or
--- terminated, while the file itself may be; neither its own rule allows it nor, for the files in it,
--- that of its parent.
+-- The refusals of DELETE FILE. The file doesn't exist. It is the MF. An ancestor is deactivated or terminated; the
+-- file itself may be. Neither the file's own rule nor that of its parent, for the files in it, allows the command.
 abbrev pub delete_refusals : Card → Session → Subject → Refusals
 delete_refusals c s subject = record no_refusals {
   target = record { applies = is_none (subject_of c.tree s subject); status = FILE_NOT_FOUND }
@@ -39,14 +38,14 @@ delete_refusals c s subject = record no_refusals {
       || allowed c s (parent (subject_path c s subject)) DeleteChild) ∷ [];
 }
 
--- a card without the file at a path and all files below it: those whose paths begin with it
+-- The card without a file and all files below it: those whose paths begin with the file's path.
 abbrev pub without : Card → Path → Card
 without c path = record c { tree = retain_keys c.tree (λ other. not (starts_with nat_eq other path)) }
 
 abbrev pub deleted_card : Card → Session → Subject → Card
 deleted_card c s subject = without c (subject_path c s subject)
 
--- DELETE FILE that isn't refused: the parent of the file becomes the current dedicated file, whatever was current
+-- The effect of DELETE FILE: the parent becomes the current DF, whatever was current before.
 abbrev pub file_deleted : Card → Session → Subject → Outcome
 file_deleted c s subject = record {
   card = deleted_card c s subject;
@@ -58,7 +57,7 @@ abbrev pub on_delete_file : Subject → Behaviour
 on_delete_file subject =
     changes (λ c s. delete_refusals c s subject) (λ c s. file_deleted c s subject)
 
--- the file control parameters that a template tells; where it tells none, those of no file, and the command is refused
+-- A placeholder for the parameters that a faulty template lacks. Such a command is refused.
 abbrev pub no_parameters : Fcp
 no_parameters = record { identifier = 0; life_cycle = Activated; rule = []; kind = Df None }
 
@@ -70,9 +69,9 @@ abbrev pub tells_none : Result Fcp FcpFault → Bool
 tells_none (Ok fcp) = false
 tells_none (Err fault) = true
 
--- What refuses CREATE FILE in a dedicated file by the parameters of the new file: a child has its identifier; a file of
--- the card has its name; a child has the short identifier that is given for it; it would stand on level 9; there is no
--- file entry for it, or there are too few blocks.
+-- The refusals of CREATE FILE by the new file's parameters. A child has its identifier. A DF of the card has its
+-- name. A child has its given short identifier. The new file would be on level 9. There is no free entry, or too few
+-- free blocks.
 abbrev pub place_refusals : Card → Path → Fcp → List Refusal
 place_refusals c df fcp =
     record { applies = exists c.tree (df ++ fcp.identifier ∷ []); status = FILE_EXISTS }
@@ -81,15 +80,15 @@ place_refusals c df fcp =
     ∷ record { applies = length df == 7; status = CONDITIONS_NOT_SATISFIED }
     ∷ record { applies = has_no_room c.blocks c.tree fcp.kind; status = NO_ROOM } ∷ []
 
--- what the rule of a dedicated file must allow for a file of a kind to be created in it
+-- The operation that the DF's rule must allow, by the kind of the new file.
 abbrev pub creation_bit : FileKind → AccessBit
 creation_bit (Df name) = CreateDf
 creation_bit (Transparent short size) = CreateEf
 creation_bit (Linear short records) = CreateEf
 creation_bit (Cyclic short records) = CreateEf
 
--- What refuses CREATE FILE: the current dedicated file is barred; a template that tells of no file; the rule of the
--- current dedicated file doesn't allow a file of this kind in it; what the file would need is taken.
+-- The refusals of CREATE FILE. The current DF is barred. The template is faulty. The rule of the current DF doesn't
+-- allow a new file of this kind. The names or the space for the new file are in use.
 abbrev pub create_refusals : Card → Session → List ℕ → Refusals
 create_refusals c s template = record no_refusals {
   life_cycle = barred_file c s.current_df ∷ [];
@@ -98,17 +97,17 @@ create_refusals c s template = record no_refusals {
   limits = place_refusals c s.current_df (told_by (fcp_read template));
 }
 
--- a card with a new file in a dedicated file: all its bytes, or the records that exist, are FF
+-- The card with a new file in a DF. All bytes of its content, or of its existing records, are FF.
 abbrev pub with_new : Card → Path → Fcp → Card
 with_new c df fcp = record c {
   tree = insert c.tree (df ++ fcp.identifier ∷ []) (new_file fcp (short_of_new c.tree df fcp));
 }
 
--- the new file stands in the current dedicated file
+-- The card with the new file in the current DF.
 abbrev pub created_card : Card → Session → List ℕ → Card
 created_card c s template = with_new c s.current_df (told_by (fcp_read template))
 
--- CREATE FILE that isn't refused: the new file becomes current
+-- The effect of CREATE FILE: the new file becomes current.
 abbrev pub new_outcome : Card → Session → Fcp → Outcome
 new_outcome c s fcp =
     let df = s.current_df in

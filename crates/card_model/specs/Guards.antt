@@ -1,5 +1,5 @@
--- What refuses a command by the file that it is for: its life cycle, its access rule, its structure; and by Le
--- (ISO/IEC 7816-4, 5.1, 7.3.1, 7.4.10 and 9.3.3).
+-- Refusals that several commands share: by life cycle, access rule and structure of the file, and by Le (ISO/IEC
+-- 7816-4, 5.1, 7.3.1, 7.4.10 and 9.3.3).
 use Rattle.std.specs.Prelude.{Bool, List, map, not, is_none, [], ◌∷◌, unwrap_or, ◌≡◌, ◌≤◌, ℕ, ◌+◌, ◌%◌, ◌==◌, nat_lt}
 use Rattle.std.specs.Prelude.{true, false, ◌&&◌, length, Option, Some, None}
 use Rattle.card_rules.specs.declared.access_mode.AccessBit.{AccessBit}
@@ -15,29 +15,29 @@ use Rattle.card_model.specs.declared.requests.Target.{Target}
 use Rattle.card_model.specs.declared.requests.Target.TheVariants.{Current, Short}
 use Rattle.card_model.specs.Reaching.{target_of}
 
--- What refuses a command by the life cycle of a file, and by its access rule (ISO/IEC 7816-4, 7.4.10 and 9.3.3).
+-- Refusals by the life cycle and the access rule of a file (ISO/IEC 7816-4, 7.4.10 and 9.3.3).
 
--- the file at a path is barred: it, or a file above it, is deactivated or terminated
+-- The file is barred: it or an ancestor is deactivated or terminated.
 abbrev pub barred_file : Card → Path → Refusal
 barred_file c path = record { applies = is_barred c.tree path; status = CONDITIONS_NOT_SATISFIED }
 
--- a file above it is deactivated or terminated
+-- An ancestor is deactivated or terminated.
 abbrev pub barred_above : Card → Path → Refusal
 barred_above c path = record { applies = has_barred_above c.tree path; status = CONDITIONS_NOT_SATISFIED }
 
--- a file above it is, or its own state doesn't allow the life cycle command
+-- An ancestor is deactivated or terminated, or the file's own state doesn't allow the life cycle command.
 abbrev pub no_next_life : Card → Path → LifeCycleCommand → Refusal
 no_next_life c path command = record {
   applies = is_none (next_life c.tree path command);
   status = CONDITIONS_NOT_SATISFIED;
 }
 
--- the PINs that are disabled, each of PIN 1 to 8 marked
+-- For each PIN in order, true if it is disabled.
 abbrev pub disabled_of : Card → List Bool
 disabled_of c = map (λ pin. not pin.enabled) c.pins
 
--- whether the rule of the file at a path allows what a bit stands for, in its state,
--- by the PINs that are verified or disabled
+-- True if the rule of the file allows an operation in the file's state, with the session's verified PINs and the
+-- card's disabled ones.
 abbrev pub allowed : Card → Session → Path → AccessBit → Bool
 allowed c s path bit = is_allowed c.tree path bit (marks_of s.verified) (disabled_of c)
 
@@ -47,24 +47,24 @@ unless_allowed allowed = record { applies = not allowed; status = ACCESS_DENIED 
 abbrev pub denied : Card → Session → Path → AccessBit → Refusal
 denied c s path bit = unless_allowed (allowed c s path bit)
 
--- The elementary file whose contents a command is for, and what refuses the command by that file, whatever it is
--- (ISO/IEC 7816-4, 7.3.1, 7.4.10 and 9.3.3).
+-- The EF that a command on contents works on, and the refusals that all these commands share (ISO/IEC 7816-4, 7.3.1,
+-- 7.4.10 and 9.3.3).
 
--- the path of the file that is named; where none is, the command is refused
+-- The path of the target. If there is no such EF the command is refused, whatever the path.
 abbrev pub target_path : Card → Session → Target → Path
 target_path c s target = unwrap_or (target_of c.tree s target) []
 
--- what that file is
+-- The kind and the content of the target.
 abbrev pub target_kind : Card → Session → Target → Kind
 target_kind c s target = (file_at c.tree (target_path c s target)).kind
 
--- the status word where there is no such elementary file
+-- The status word if there is no such EF.
 abbrev pub missing : Target → Sw
 missing Current = NO_CURRENT_EF
 missing (Short n) = FILE_NOT_FOUND
 
--- What refuses each command on contents by its file: none is named; it is barred; its structure isn't one that the
--- command is for; its rule doesn't allow what the command does.
+-- The refusals of each command on contents by its file. There is no such file. It is barred. Its structure isn't one
+-- that the command works on. Its rule doesn't allow the operation.
 abbrev pub file_refusals : Card → Session → Target → (Kind → Bool) → AccessBit → Refusals
 file_refusals c s target fits bit = record no_refusals {
   target = record { applies = is_none (target_of c.tree s target); status = missing target } ∷ [];
@@ -73,37 +73,37 @@ file_refusals c s target fits bit = record no_refusals {
   access = denied c s (target_path c s target) bit ∷ [];
 }
 
--- and further by what the contents are
+-- The same refusals with further ones that depend on the content.
 abbrev pub with_limits : Refusals → List Refusal → Refusals
 with_limits refusals limits = record refusals { limits = limits }
 
--- the elementary file that a short identifier names becomes current anew
+-- An EF named by its short identifier becomes current anew. For the current EF the session is unchanged.
 abbrev pub naming : Session → Target → Path → Session
 naming s Current path = s
 naming s (Short n) path = at_elementary_file s (parent path) (identifier path)
 
--- How much of the data that a command found is given, by its Le (ISO/IEC 7816-4, 5.1).
+-- The data that a command returns, by its Le (ISO/IEC 7816-4, 5.1).
 
--- Without Le none of the data is given; with Le, where it isn't refused, all of it.
+-- Without Le the command returns no data. With Le, unless it is refused, it returns all.
 abbrev pub given : Option ℕ → List ℕ → List ℕ
 given None found = []
 given (Some le) found = found
 
--- Le asks for less than was found; Le 00 asks for all
+-- True if Le is less than the length of the data. Le 00 is never less.
 abbrev pub asks_less : Option ℕ → List ℕ → Bool
 asks_less None found = false
 asks_less (Some le) found = not (le == 0) && nat_lt le (length found)
 
--- 6CXX: XX is the length of what was found, at most 256, which is told as 00
+-- The status word 6CXX. XX is the length of the data, at most 256, where 00 means 256.
 abbrev pub right_length : List ℕ → Sw
 right_length found = record { 0 = 0x6C00 + length found % 256 }
 
--- Le that asks for less is refused, by the length that it should have
+-- The refusal of an Le that is too small, with the right length.
 abbrev pub length_refusal : Option ℕ → List ℕ → Refusal
 length_refusal expected found = record { applies = asks_less expected found; status = right_length found }
 
--- What becomes of an empty answer where data is found: what Le gives of the data;
--- or nothing, and the refusal of an Le that asks for less.
+-- An answer that was empty before: without a refusal it holds the data that Le asks for. If Le is too small, it is
+-- empty and the refusal gives the right length.
 abbrev pub IsGiven : Option ℕ → List ℕ → List ℕ → Option Sw → Type 0
 IsGiven expected found text None =
     (asks_less expected found ≡ false) × (text ≡ given expected found) × (length text ≤ 256)

@@ -1,4 +1,4 @@
--- What commands make of a card.
+-- The commands of the card.
 pub mod Behaviours
 pub mod BinaryCommands
 pub mod Cards

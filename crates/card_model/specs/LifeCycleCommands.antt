@@ -1,5 +1,5 @@
--- Commands on life cycles: ACTIVATE FILE, DEACTIVATE FILE, TERMINATE DF, TERMINATE EF and TERMINATE CARD USAGE
--- (ISO/IEC 7816-9).
+-- Life cycle commands: ACTIVATE FILE, DEACTIVATE FILE, TERMINATE DF, TERMINATE EF and TERMINATE CARD USAGE (ISO/IEC
+-- 7816-9).
 use Rattle.std.specs.Prelude.{◌==◌, ℕ, Bool, true, false, not, if◌then◌else◌, List, [], ◌∷◌, Option, Some, is_none}
 use Rattle.std.specs.Prelude.{unwrap_or}
 use Rattle.std.specs.FinMap.{insert}
@@ -24,21 +24,21 @@ use Rattle.card_model.specs.Sessions.{Session}
 use Rattle.card_rules.specs.declared.access_mode.AccessBit.TheVariants as bit
 use Rattle.card_rules.specs.declared.life_cycle.LifeCycleCommand.TheVariants as command
 
--- the row of the table of states that a command has
+-- The command's row in the table of life cycle states.
 abbrev pub command_of : LifeCycleChange → LifeCycleCommand
 command_of Activate = command.Activate
 command_of Deactivate = command.Deactivate
 command_of TerminateDf = command.Terminate
 command_of TerminateEf = command.Terminate
 
--- what the file's rule must allow
+-- The operation that the file's rule must allow.
 abbrev pub change_bit : LifeCycleChange → AccessBit
 change_bit Activate = bit.Activate
 change_bit Deactivate = bit.Deactivate
 change_bit TerminateDf = bit.Terminate
 change_bit TerminateEf = bit.Terminate
 
--- the files that the command is for
+-- The files that the command works on.
 abbrev pub is_for : LifeCycleChange → Kind → Bool
 is_for Activate kind = true
 is_for Deactivate kind = true
@@ -47,8 +47,8 @@ is_for TerminateDf (elementary short body) = false
 is_for TerminateEf (dedicated name) = false
 is_for TerminateEf (elementary short body) = true
 
--- The file that a command is about where it names none: for TERMINATE DF the current dedicated file, for TERMINATE EF
--- the current elementary file, and for the others this one, or else that one.
+-- The file that a command without data works on. For TERMINATE DF it is the current DF, for TERMINATE EF the current
+-- EF. For the others it is the current EF, or the current DF if there is no current EF.
 abbrev pub current_subject : Session → LifeCycleChange → Option Path
 current_subject s TerminateDf = Some s.current_df
 current_subject s TerminateEf = current_elementary s
@@ -58,7 +58,7 @@ current_subject s Deactivate = Some (unwrap_or (current_elementary s) s.current_
 abbrev pub changed_file : Tree → Session → LifeCycleChange → Subject → Option Path
 changed_file tree s change = subject_or (current_subject s change) tree s
 
--- its path; where there is none, the command is refused
+-- The path of the file. If there is none the command is refused, whatever the path.
 abbrev pub changed_path : Card → Session → LifeCycleChange → Subject → Path
 changed_path c s change subject = unwrap_or (changed_file c.tree s change subject) []
 
@@ -66,8 +66,8 @@ abbrev pub no_subject : Subject → Sw
 no_subject Current = NO_CURRENT_EF
 no_subject (Identifier id) = FILE_NOT_FOUND
 
--- What refuses a change of a file's life cycle: no such file; a file above it is deactivated or terminated, or its own
--- state doesn't allow the change; it isn't of the kind that the command is for; its rule doesn't allow the change.
+-- The refusals of a life cycle command on a file. The file doesn't exist. An ancestor is deactivated or terminated,
+-- or the file's state doesn't allow the change. The file is of the wrong kind. Its rule doesn't allow the change.
 abbrev pub change_refusals : Card → Session → LifeCycleChange → Subject → Refusals
 change_refusals c s change subject =
     let path = changed_path c s change subject in
@@ -78,20 +78,20 @@ change_refusals c s change subject =
       access = denied c s path (change_bit change) ∷ [];
     }
 
--- the state after the change; where there is none, the command is refused
+-- The state after the change. If there is none the command is refused, and the state is the present one.
 abbrev pub changed_life : Card → Session → LifeCycleChange → Subject → LifeCycle
 changed_life c s change subject =
     let path = changed_path c s change subject in
     unwrap_or (next_life c.tree path (command_of change)) (life_at c.tree path)
 
--- a card whose file at a path is in a state
+-- The card with another state of the file at a path.
 abbrev pub with_life_at : Card → Path → LifeCycle → Card
 with_life_at c path life = record c { tree = insert c.tree path (with_life (file_at c.tree path) life) }
 
 abbrev pub changed_card : Card → Session → LifeCycleChange → Subject → Card
 changed_card c s change subject = with_life_at c (changed_path c s change subject) (changed_life c s change subject)
 
--- the file becomes current anew, also where its state stays
+-- The effect: the file becomes current anew, even if its state doesn't change.
 abbrev pub life_changed : Card → Session → LifeCycleChange → Subject → Outcome
 life_changed c s change subject =
     let path = changed_path c s change subject in
@@ -101,7 +101,7 @@ life_changed c s change subject =
       response = only_status DONE;
     }
 
--- a change to the state that a file has already commits nothing
+-- A change to the state that the file already has commits nothing.
 abbrev pub life_commits : Card → Session → LifeCycleChange → Subject → List Card
 life_commits c s change subject =
     if life_cycle_byte (changed_life c s change subject)
@@ -114,11 +114,11 @@ on_change_life_cycle change subject =
       commits = λ c s. life_commits c s change subject;
     }
 
--- TERMINATE CARD USAGE asks the rule of the master file alone
+-- TERMINATE CARD USAGE: only the rule of the MF can refuse it.
 abbrev pub terminate_card_refusals : Card → Session → Refusals
 terminate_card_refusals c s = record no_refusals { access = denied c s [] bit.Terminate ∷ [] }
 
--- a card whose use has ended
+-- The card after TERMINATE CARD USAGE.
 abbrev pub terminated_card : Card → Card
 terminated_card c = record c { in_use = false }
 

@@ -15,18 +15,18 @@ use Rattle.card_model.specs.Cards.{Card, Pin}
 use Rattle.card_model.specs.Sessions.{Session}
 pub use Rattle.card_model.specs.Behaviours.{Attempt, no_pin, pin_of, unblocking_of, value_of}
 
--- the value of a disabled PIN is of no use, but to enable it; one that is enabled already isn't enabled again
+-- The value of a disabled PIN only serves to enable it. A PIN that is enabled can't be enabled again.
 abbrev pub while_enabled : Pin → List Refusal
 while_enabled pin = record { applies = not pin.enabled; status = REFERENCE_DATA_NOT_USABLE } ∷ []
 
 abbrev pub while_disabled : Pin → List Refusal
 while_disabled pin = record { applies = pin.enabled; status = CONDITIONS_NOT_SATISFIED } ∷ []
 
--- the value that unblocks it is of use in either case
+-- The unblocking value can be used in either state.
 abbrev pub in_any_case : Pin → List Refusal
 in_any_case pin = []
 
--- what each command shows, and what comes of it
+-- The attempt that each command makes.
 abbrev pub verifying : ℕ → List ℕ → Attempt
 verifying n shown = record {
   pin = n;
@@ -60,7 +60,7 @@ resetting n shown new = record {
   unverifies = false;
 }
 
--- what DISABLE and ENABLE VERIFICATION REQUIREMENT make of the mark of a PIN, and for which PIN they are
+-- The mark that DISABLE and ENABLE VERIFICATION REQUIREMENT set: true for enabled.
 abbrev pub is_enabled_by : RequirementChange → Bool
 is_enabled_by Disable = false
 is_enabled_by Enable = true
@@ -80,12 +80,12 @@ marking change n shown = record {
   unverifies = true;
 }
 
--- 63CX: X tries are left
+-- The status word 63CX, where X is the number of tries left.
 abbrev pub tries_told : ℕ → Sw
 tries_told tries = record { 0 = 0x63C0 + tries }
 
--- An attempt is refused where no try is left, and then where the PIN is disabled or enabled; nothing is compared then,
--- and no try is taken away. A question for the tries is never refused.
+-- An attempt is refused if no try is left, and then if the PIN's state doesn't allow it. A refused attempt compares
+-- nothing and uses up no try. A query is never refused.
 abbrev pub attempt_refusals : Card → Attempt → Refusals
 attempt_refusals c a = record no_refusals {
   limits = record { applies = tries_of c a.pin a.secret == 0; status = METHOD_BLOCKED } ∷ a.unusable (pin_of c a.pin);
@@ -95,7 +95,7 @@ abbrev pub pin_refusals : Card → Option Attempt → Refusals
 pin_refusals c None = no_refusals
 pin_refusals c (Some a) = attempt_refusals c a
 
--- a PIN that was shown is verified; one whose value was shown wrong no longer is
+-- After a match the PIN is verified. After a mismatch of its value it no longer is.
 abbrev pub verifying_session : Session → Attempt → Session
 verifying_session s a = record s { verified = insert s.verified a.pin }
 
@@ -103,7 +103,7 @@ abbrev pub unverified : Session → Attempt → Bool → Session
 unverified s a true = record s { verified = remove s.verified a.pin }
 unverified s a false = s
 
--- what an attempt does: where it is wrong, the answer tells the tries that are left
+-- The effect of an attempt. The answer to a mismatch gives the tries left.
 abbrev pub attempted_as : Card → Session → Attempt → Bool → Outcome
 attempted_as c s a true = record {
   card = settled_card c a;
@@ -119,7 +119,7 @@ attempted_as c s a false = record {
 abbrev pub attempted : Card → Session → Attempt → Outcome
 attempted c s a = attempted_as c s a (is_right c a)
 
--- the command without data tells the tries that are left of the secret, and changes nothing
+-- The effect of a query: the answer gives the tries left of the secret, and nothing changes.
 abbrev pub told_tries : Card → Session → ℕ → ℕ → Outcome
 told_tries c s n secret = record { card = c; session = s; response = only_status (tries_told (tries_of c n secret)) }
 
@@ -127,12 +127,12 @@ abbrev pub pin_effect : Card → Session → ℕ → ℕ → Option Attempt → 
 pin_effect c s n secret None = told_tries c s n secret
 pin_effect c s n secret (Some a) = attempted c s a
 
--- and the cards that it passes
+-- The cards after each commit.
 abbrev pub pin_commits : Card → Option Attempt → List Card
 pin_commits c None = []
 pin_commits c (Some a) = attempt_commits c a
 
--- a command on a secret of PIN n: it shows the secret, or asks for the tries that are left of it
+-- A command on a secret of PIN n: an attempt, or a query of the tries left.
 abbrev pub shows : ℕ → ℕ → Option Attempt → Behaviour
 shows n secret shown = record {
   refusals = λ c s. pin_refusals c shown;

@@ -1,4 +1,4 @@
--- Which file a command names (ISO/IEC 7816-4, 7.3.1 and 11.2.2).
+-- The file that a command names (ISO/IEC 7816-4, 7.3.1 and 11.2.2).
 use Rattle.std.specs.Prelude.{[], ◌∷◌, ◌++◌, Option, Some, option_map, unwrap_or}
 use Rattle.card_model.specs.Requests.{Selection, master_file, identifier, parent, name, path_from_master}
 use Rattle.card_model.specs.Requests.{path_from_current}
@@ -11,7 +11,7 @@ use Rattle.card_state.specs.Selectors.{Selector, reached, selected, child_by_sho
 use Rattle.card_state.specs.Selectors as selector
 use Rattle.card_model.specs.Sessions.{Session}
 
--- what SELECT names, as the tree of files speaks of it
+-- The selection of SELECT as a selector in the tree of files.
 abbrev pub named : Selection → Selector
 named master_file = selector.the_master
 named (identifier id) = selector.by_identifier id
@@ -20,25 +20,25 @@ named (name bytes) = selector.by_name bytes
 named (path_from_master identifiers) = selector.path_from_master identifiers
 named (path_from_current identifiers) = selector.path_from_current identifiers
 
--- the file that SELECT names from a current dedicated file
+-- The file that SELECT selects from a current DF.
 abbrev pub selected_from : Tree → Path → Selection → Option Path
 selected_from tree df selection = selected tree df (named selection)
 
--- the current elementary file, if there is one
+-- The path of the current EF, if there is one.
 abbrev pub current_elementary : Session → Option Path
 current_elementary s = option_map (λ id. s.current_df ++ id ∷ []) s.current_ef
 
--- the elementary file that a binary command names: the current one, or a child of the current dedicated file
+-- The EF that a command on contents names: the current one, or a child of the current DF by its short identifier.
 abbrev pub target_of : Tree → Session → Target → Option Path
 target_of tree s Current = current_elementary s
 target_of tree s (Short n) = child_by_short tree s.current_df n
 
--- the file that a command on files is about: its own, where it names none; or the one that SELECT would reach by an
--- identifier
+-- The file that a command on files works on: `own` if it names none, or the file that SELECT selects by the
+-- identifier.
 abbrev pub subject_or : Option Path → Tree → Session → Subject → Option Path
 subject_or own tree s subject.Current = own
 subject_or own tree s (subject.Identifier id) = reached tree s.current_df id
 
--- its own is the current elementary file, else the current dedicated file
+-- Without a name it is the current EF, or the current DF if there is no current EF.
 abbrev pub subject_of : Tree → Session → Subject → Option Path
 subject_of tree s = subject_or (Some (unwrap_or (current_elementary s) s.current_df)) tree s

@@ -22,7 +22,7 @@ use Rattle.card_model.specs.Sessions.{Session}
 
 -- READ, UPDATE, APPEND and SEARCH RECORD (ISO/IEC 7816-4, 11.4; ETSI TS 102 221, 11.1).
 
--- what a file of records holds; another file holds none
+-- The records of a record EF, none for any other file.
 abbrev pub records_of : Kind → List (List ℕ)
 records_of (elementary short (linear long capacity records)) = records
 records_of (elementary short (cyclic long capacity records)) = records
@@ -49,74 +49,74 @@ is_cyclic kind = false
 abbrev pub has_records : Kind → Bool
 has_records kind = is_linear kind || is_cyclic kind
 
--- a file of records with these
+-- A record EF with these records. Any other file is unchanged.
 abbrev pub with_records : Kind → List (List ℕ) → Kind
 with_records (elementary short (linear long capacity records)) new = elementary short (linear long capacity new)
 with_records (elementary short (cyclic long capacity records)) new = elementary short (cyclic long capacity new)
 with_records kind new = kind
 
--- the record pointer that a command begins with: a file that a short identifier names becomes current
--- anew, and then its pointer is unset
+-- The record pointer at the begin of a command. An EF named by its short identifier becomes current anew, so that its
+-- pointer is unset.
 abbrev pub pointer_at : Session → Target → Option ℕ
 pointer_at s Current = s.pointer
 pointer_at s (Short n) = None
 
--- The record after the pointer, where it is unset the first, and behind the last one of a cyclic file the first.
+-- The record after the pointer: the first if the pointer is unset, and after the last one of a cyclic EF.
 abbrev pub next_record : Bool → ℕ → Option ℕ → ℕ
 next_record wraps last None = 1
 next_record wraps last (Some number) = if wraps && nat_le last number then 1 else number + 1
 
--- The record before the pointer, where it is unset the last, and before the first one of a cyclic file the last.
+-- The record before the pointer: the last if the pointer is unset, and before the first one of a cyclic EF.
 abbrev pub previous_record : Bool → ℕ → Option ℕ → ℕ
 previous_record wraps last None = last
 previous_record wraps last (Some number) = if wraps && nat_le number 1 then last else number - 1
 
--- the number of a place; an unset pointer is at no record, 0
+-- The number of a place. An unset pointer gives 0, which is no record.
 abbrev pub place_number : RecordPlace → Option ℕ → ℕ
 place_number CurrentRecord pointer = unwrap_or pointer 0
 place_number (Number number) pointer = number
 
--- the number of the record that is chosen; where there is no such record, the command is refused
+-- The number of the chosen record. If there is no such record the command is refused.
 abbrev pub chosen_number : Kind → Option ℕ → RecordChoice → ℕ
 chosen_number kind pointer Next = next_record (is_cyclic kind) (length (records_of kind)) pointer
 chosen_number kind pointer Previous = previous_record (is_cyclic kind) (length (records_of kind)) pointer
 chosen_number kind pointer (At place) = place_number place pointer
 
--- the next and the previous record become the current one, and a record that is named by a number doesn't
+-- Next and previous move the pointer to that record. A record at a place leaves the pointer as it is.
 abbrev pub pointer_after : Option ℕ → RecordChoice → ℕ → Option ℕ
 pointer_after pointer Next number = Some number
 pointer_after pointer Previous number = Some number
 pointer_after pointer (At place) number = pointer
 
--- the file of a command, and the record that it chooses
+-- The number of the record that a command chooses in its file.
 abbrev pub target_number : Card → Session → Target → RecordChoice → ℕ
 target_number c s target choice = chosen_number (target_kind c s target) (pointer_at s target) choice
 
--- the session in which a command named its file and left the pointer so
+-- The session with the target named by the command, and this record pointer.
 abbrev pub pointing : Session → Target → Path → Option ℕ → Session
 pointing s target path pointer = record (naming s target path) { pointer = pointer }
 
--- there is no record of this number
+-- There is no record of this number.
 abbrev pub no_record : Card → Session → Target → ℕ → Refusal
 no_record c s target number = record {
   applies = not (has_record (records_of (target_kind c s target)) number);
   status = RECORD_NOT_FOUND;
 }
 
--- bytes of another length than a record's
+-- The data don't have the record length.
 abbrev pub no_record_length : Card → Session → Target → List ℕ → Refusal
 no_record_length c s target bytes = record {
   applies = not (length bytes == record_length (target_kind c s target));
   status = WRONG_LENGTH;
 }
 
--- a card whose file of records at a path holds these
+-- The card with other records in the record EF at a path.
 abbrev pub with_records_at : Card → Path → List (List ℕ) → Card
 with_records_at c path records =
     let file = file_at c.tree path in
     record c { tree = insert c.tree path (record file { kind = with_records file.kind records }) }
 
--- READ RECORD: Le is 00 or the length of a record
+-- READ RECORD: Le is 00 or the length of the record.
 abbrev pub read_record_refusals : Card → Session → Target → RecordChoice → ℕ → Refusals
 read_record_refusals c s target choice expected =
     let number = target_number c s target choice in
@@ -138,8 +138,8 @@ abbrev pub on_read_record : Target → RecordChoice → ℕ → Behaviour
 on_read_record target choice expected =
     looks (λ c s. read_record_refusals c s target choice expected) (λ c s. record_read c s target choice)
 
--- Of a cyclic file UPDATE RECORD replaces the oldest record alone, which is the one before record 1: another one is
--- refused as one of a structure that the command isn't for.
+-- In a cyclic EF, UPDATE RECORD replaces the oldest record, and must name it as the previous record. Any other choice
+-- is refused as a wrong structure.
 abbrev pub is_oldest : RecordChoice → Bool
 is_oldest Next = false
 is_oldest Previous = true
@@ -148,7 +148,7 @@ is_oldest (At place) = false
 abbrev pub replaces : RecordChoice → Kind → Bool
 replaces choice kind = if is_oldest choice then has_records kind else is_linear kind
 
--- the record whose place is taken: of a cyclic file there must be one, whatever its pointer is
+-- The number that must exist. A cyclic EF needs at least one record, wherever its pointer is.
 abbrev pub replaced_number : Card → Session → Target → RecordChoice → ℕ
 replaced_number c s target choice =
     if is_cyclic (target_kind c s target) then 1 else target_number c s target choice
@@ -158,8 +158,8 @@ update_record_refusals c s target choice bytes =
     with_limits (file_refusals c s target (replaces choice) Update)
     (no_record c s target (replaced_number c s target choice) ∷ no_record_length c s target bytes ∷ [])
 
--- the records after it: of a linear file one is another;
--- of a cyclic one the new record stands in front, and the last is away
+-- The records after the command. A linear EF has one record replaced. A cyclic EF gets the new record in front and
+-- loses the last one.
 abbrev pub updated_records : Kind → ℕ → List ℕ → List (List ℕ)
 updated_records kind number bytes =
     let records = records_of kind in
@@ -185,7 +185,7 @@ abbrev pub on_update_record : Target → RecordChoice → List ℕ → Behaviour
 on_update_record target choice bytes =
     changes (λ c s. update_record_refusals c s target choice bytes) (λ c s. record_updated c s target choice bytes)
 
--- APPEND RECORD: a linear file that is full is refused, and a cyclic one drops its last record
+-- APPEND RECORD: a full linear EF refuses it, a full cyclic EF loses its last record.
 abbrev pub append_refusals : Card → Session → Target → List ℕ → Refusals
 append_refusals c s target bytes =
     let kind = target_kind c s target in
@@ -201,7 +201,7 @@ abbrev pub appended_card : Card → Session → Target → List ℕ → Card
 appended_card c s target bytes =
     with_records_at c (target_path c s target) (appended_records (target_kind c s target) bytes)
 
--- the new record becomes the current one
+-- The effect: the new record becomes the current one.
 abbrev pub record_appended : Card → Session → Target → List ℕ → Outcome
 record_appended c s target bytes =
     let kind = target_kind c s target in
@@ -216,7 +216,7 @@ abbrev pub on_append_record : Target → List ℕ → Behaviour
 on_append_record target bytes =
     changes (λ c s. append_refusals c s target bytes) (λ c s. record_appended c s target bytes)
 
--- SEARCH RECORD: from the record that is named on, up to the last or down to the first
+-- SEARCH RECORD: from the named record up to the last, or down to the first.
 abbrev pub matches : Card → Session → Target → RecordPlace → Direction → List ℕ → List ℕ
 matches c s target first direction text =
     found direction (place_number first (pointer_at s target)) text (records_of (target_kind c s target))
@@ -227,7 +227,7 @@ search_refusals c s target first direction text expected =
     (no_record c s target (place_number first (pointer_at s target))
     ∷ length_refusal expected (matches c s target first direction text) ∷ [])
 
--- the first record that matches becomes the current one; where none does the pointer stays
+-- The first match becomes the current record. Without a match the pointer is unchanged.
 abbrev pub pointer_found : Option ℕ → List ℕ → Option ℕ
 pointer_found pointer [] = pointer
 pointer_found pointer (number ∷ numbers) = Some number
@@ -250,23 +250,23 @@ on_search_record target first direction text expected =
     looks (λ c s. search_refusals c s target first direction text expected)
     (λ c s. records_searched c s target first direction text expected)
 
--- INCREASE (ETSI TS 102 221, 11.1.8): a number is added to the newest record of the current cyclic file.
+-- INCREASE (ETSI TS 102 221, 11.1.8): a number is added to the newest record of the current cyclic EF.
 
--- the current file, and its records
+-- The kind and the content of the current EF.
 abbrev pub increased_kind : Card → Session → Kind
 increased_kind c s = target_kind c s Current
 
--- the new record: the sum, in as many bytes as a record has
+-- The new record: the sum in the record length.
 abbrev pub sum_record : Card → Session → List ℕ → List ℕ
 sum_record c s sent =
     let kind = increased_kind c s in spelled (record_length kind) (raised_number (records_of kind) sent)
 
--- the answer: the new record, and then what was sent
+-- The data of the answer: the new record, then the added number.
 abbrev pub increased_data : Card → Session → List ℕ → List ℕ
 increased_data c s sent = sum_record c s sent ++ sent
 
--- What refuses INCREASE besides its file, which is the current one, and cyclic: more bytes than a record has, or an
--- answer of more than 256 bytes; no record; a sum that needs more bytes than a record has; an Le that asks for less.
+-- The refusals of INCREASE. Its file is the current EF, which must be cyclic. The data are longer than a record, or
+-- the answer longer than 256 bytes. There is no record. The sum doesn't fit in a record. Le is too small.
 abbrev pub increase_refusals : Card → Session → List ℕ → Option ℕ → Refusals
 increase_refusals c s sent expected =
     let kind = increased_kind c s in
@@ -277,7 +277,7 @@ increase_refusals c s sent expected =
     ∷ record { applies = nat_le (256 ^ long) (raised_number (records_of kind) sent); status = MAXIMUM_REACHED }
     ∷ length_refusal expected (increased_data c s sent) ∷ [])
 
--- the sum stands in front, and the last record is away
+-- The card with the sum in front and without the last record.
 abbrev pub increased_card : Card → Session → List ℕ → Card
 increased_card c s sent =
     let records = records_of (increased_kind c s) in

@@ -1,4 +1,4 @@
--- What a command asks for, as numbers and bytes with no place in memory (ISO/IEC 7816-4, clause 11).
+-- Requests: the meaning of a command as numbers and bytes (ISO/IEC 7816-4, clause 11).
 use Rattle.std.specs.Prelude.{ℕ, ◌+◌, ◌*◌, ◌==◌, ◌%◌, nat_le, Bool, ◌&&◌, List, [], ◌∷◌, Option, ◌≤◌, ◌≡◌, length, ◌<◌}
 use Rattle.std.specs.Prelude.{All, unwrap_or, IfSome}
 use Rattle.card_model.specs.declared.requests.Returned.{Returned}
@@ -15,81 +15,81 @@ use Rattle.card_model.specs.declared.requests.Target.TheVariants.{Current, Short
 use Rattle.card_rules.specs.declared.status.Sw.{Sw}
 use Rattle.card_rules.specs.Pins.{IsPinNumber}
 
--- Numbers of two bytes.
+-- Two-byte numbers.
 
--- two bytes as a number, the first one the more significant
+-- Two bytes as a number, the more significant one first.
 abbrev pub two_bytes : ℕ → ℕ → ℕ
 two_bytes high low = 256 * high + low
 
--- The files that SELECT can name, and how (ISO/IEC 7816-4, 11.2.2).
+-- The files that SELECT can name (ISO/IEC 7816-4, 11.2.2).
 
--- a file that SELECT names, by numbers, with no place in memory
+-- The name that SELECT gives for a file, as numbers and bytes.
 pub data Selection : Type 0 where
   master_file : Selection
-  -- the first file with this identifier that is reached from the current dedicated file
+  -- The first file with this identifier among the candidates from the current DF.
   identifier : ℕ → Selection
-  -- the parent of the current dedicated file
+  -- The parent of the current DF.
   parent : Selection
-  -- the dedicated file with this name
+  -- The DF with this name.
   name : List ℕ → Selection
-  -- the file at the end of these identifiers, each a child of the file before it, from the master file on
+  -- The file at the end of these identifiers, from below the MF on; each is a child of the one before.
   path_from_master : List ℕ → Selection
-  -- the same from the current dedicated file on
+  -- The same from below the current DF on.
   path_from_current : List ℕ → Selection
 
--- bytes as identifiers, two bytes each
+-- Bytes as identifiers, two bytes each. An odd last byte is dropped.
 abbrev pub identifiers : List ℕ → List ℕ
 identifiers (high ∷ low ∷ bytes) = two_bytes high low ∷ identifiers bytes
 identifiers bytes = []
 
--- how many bytes are a path: one to seven identifiers
+-- True if this number of bytes is a path: one to seven identifiers.
 abbrev pub is_path : ℕ → Bool
 is_path sent = (sent % 2 == 0) && nat_le 2 sent && nat_le sent 14
 
--- What a command asks for (ISO/IEC 7816-4, clause 11).
+-- Requests (ISO/IEC 7816-4, clause 11).
 
--- a command as a value: numbers, and the bytes that were sent, with no place in memory
+-- The request that a command makes, as numbers and bytes.
 pub data Request : Type 0 where
-  -- the file, what is to be answered, and Le
+  -- The file, the data to return, Le.
   select : Selection → Returned → Option ℕ → Request
-  -- the elementary file, the offset of the first byte, and Le
+  -- The EF, the offset of the first byte, Le.
   read_binary : Target → ℕ → ℕ → Request
-  -- the elementary file, the offset of the first byte, and the bytes
+  -- The EF, the offset of the first byte, the bytes.
   update_binary : Target → ℕ → List ℕ → Request
-  -- the template of the new file
+  -- The template of the new file.
   create_file : List ℕ → Request
-  -- the file
+  -- The file.
   delete_file : Subject → Request
-  -- the elementary file, the record, and Le
+  -- The EF, the record, Le.
   read_record : Target → RecordChoice → ℕ → Request
-  -- the elementary file, the record, and the bytes
+  -- The EF, the record, the bytes.
   update_record : Target → RecordChoice → List ℕ → Request
-  -- the elementary file, and the bytes
+  -- The EF, the bytes.
   append_record : Target → List ℕ → Request
-  -- the elementary file, the record to begin at, the direction, the text, and Le
+  -- The EF, the record to begin at, the direction, the search string, Le.
   search_record : Target → RecordPlace → Direction → List ℕ → Option ℕ → Request
-  -- the number to be added, and Le
+  -- The number to add, Le.
   increase : List ℕ → Option ℕ → Request
-  -- what is done, and the file
+  -- The change, the file.
   change_life_cycle : LifeCycleChange → Subject → Request
   terminate_card_usage : Request
-  -- the PIN, and the value that is shown, if one is
+  -- The PIN; the presented value, None for a query.
   verify : ℕ → Option (List ℕ) → Request
-  -- the PIN, the value that is shown, and the new one
+  -- The PIN, the presented value, the new value.
   change_reference_data : ℕ → List ℕ → List ℕ → Request
-  -- the PIN, the unblocking value that is shown and the new value, if they are
+  -- The PIN; the presented unblocking value and the new value, None for a query.
   reset_retry_counter : ℕ → Option (List ℕ × List ℕ) → Request
-  -- what is done to the verification requirement, the PIN, and the value that is shown
+  -- The change of the verification requirement, the PIN, the presented value.
   change_requirement : RequirementChange → ℕ → List ℕ → Request
 
--- What the parts of a request can be.
+-- The ranges of the parts of a request.
 
--- a short identifier is 1 to 30
+-- A short identifier is 1 to 30.
 abbrev pub IsTarget : Target → Type 0
 IsTarget Current = Unit {0}
 IsTarget (Short number) = (1 ≤ number) × (number ≤ 30)
 
--- the number of a record is 1 to 255
+-- A record number is 1 to 255.
 abbrev pub IsRecordPlace : RecordPlace → Type 0
 IsRecordPlace CurrentRecord = Unit {0}
 IsRecordPlace (Number number) = (1 ≤ number) × (number ≤ 255)
@@ -99,13 +99,13 @@ IsRecordChoice Next = Unit {0}
 IsRecordChoice Previous = Unit {0}
 IsRecordChoice (At place) = IsRecordPlace place
 
--- How much a command can name or send.
+-- The sizes of names and data.
 
--- a list with so many numbers, from one count to another
+-- A list of `least` to `most` numbers.
 abbrev pub HasBetween : ℕ → ℕ → List ℕ → Type 0
 HasBetween least most numbers = (least ≤ length numbers) × (length numbers ≤ most)
 
--- a name is 1 to 16 bytes, a path 1 to 7 identifiers
+-- A name is 1 to 16 bytes, a path 1 to 7 identifiers.
 abbrev pub IsSizedName : Selection → Type 0
 IsSizedName master_file = Unit {0}
 IsSizedName (identifier number) = Unit {0}
@@ -114,21 +114,21 @@ IsSizedName (name bytes) = HasBetween 1 16 bytes
 IsSizedName (path_from_master path) = HasBetween 1 7 path
 IsSizedName (path_from_current path) = HasBetween 1 7 path
 
--- the value of a PIN is 8 bytes
+-- A PIN value is 8 bytes.
 abbrev pub IsPinValue : List ℕ → Type 0
 IsPinValue bytes = length bytes ≡ 8
 
--- Numbers that are bytes or identifiers, and status words.
+-- Bytes, identifiers and status words.
 
--- each of these numbers is a byte, 0 to 255
+-- Each number is a byte, 0 to 255.
 abbrev pub AreBytes : List ℕ → Type 0
 AreBytes numbers = All (λ number. number < 256) numbers
 
--- each of these numbers is an identifier, two bytes
+-- Each number is a two-byte identifier.
 abbrev pub AreIdentifiers : List ℕ → Type 0
 AreIdentifiers numbers = All (λ number. number < 65536) numbers
 
--- a file that bytes can name
+-- A file whose name consists of bytes or two-byte identifiers.
 abbrev pub IsNamedByBytes : Selection → Type 0
 IsNamedByBytes master_file = Unit {0}
 IsNamedByBytes (identifier number) = number < 65536
@@ -137,23 +137,24 @@ IsNamedByBytes (name bytes) = AreBytes bytes
 IsNamedByBytes (path_from_master path) = AreIdentifiers path
 IsNamedByBytes (path_from_current path) = AreIdentifiers path
 
--- a status word is two bytes
+-- A status word is two bytes.
 abbrev pub IsStatusWord : Sw → Type 0
 IsStatusWord status = status.0 < 65536
 
--- What the fields of a request can be: one record for each kind of request.
+-- The fields of a request: one record for each kind of request.
 
--- What is known of the fields of a request, since its row of the table of commands allowed them.
+-- The properties of a request's fields that follow from its row of the command table.
 pub record Fields : Type 1 where
-  -- where the command is of bytes: Le is a byte, and so is each byte that was sent; an identifier is of two bytes
+  -- If the command consists of bytes: Le and each byte of the data are bytes, an identifier is two bytes.
   pub of_bytes : Type 0
-  -- of whatever numbers it is: what is written, searched for or added, and a template,
-  -- is 1 to 255 of them, a PIN's value 8, a name 1 to 16, a path 1 to 7 identifiers
+  -- For a command of any numbers: data to write, search for or add, and a template, are 1 to 255 of them. A PIN value
+  -- is 8 of them, a name 1 to 16, a path 1 to 7 identifiers.
   pub sized : Type 0
-  -- of a parsed command: how much is named or sent, and the ranges of what P1 and P2 name; an offset is at most 32,767
+  -- For a parsed command: the ranges of P1 and P2, an offset of at most 32,767, and the sizes above but those of PIN
+  -- values.
   pub in_range : Type 0
 
--- a request whose fields can be anything that they are made of
+-- A request whose fields have no properties.
 abbrev pub any_fields : Fields
 any_fields = record { of_bytes = Unit {0}; sized = Unit {0}; in_range = Unit {0} }
 
@@ -227,10 +228,10 @@ fields_of (change_requirement change pin shown) = record {
   in_range = IsPinNumber pin;
 }
 
--- a request whose Le and whatever is sent are bytes, and whose identifiers are of two bytes
+-- A request whose Le and data are bytes, and whose identifiers are two bytes.
 abbrev pub IsOfBytes : Request → Type 0
 IsOfBytes request = (fields_of request).of_bytes
 
--- a request that names and sends no more than the table of commands allows
+-- A request whose names and data have the sizes that the command table allows.
 abbrev pub IsSized : Request → Type 0
 IsSized request = (fields_of request).sized

@@ -16,7 +16,7 @@ use Rattle.card_model.specs.Reaching.{selected_from}
 use Rattle.card_model.specs.Sessions.{Session, at_dedicated_file, at_elementary_file}
 use Rattle.card_model.specs.Templates.{template_at}
 
--- the status word of SELECT tells the selected file's own life cycle
+-- The status word, by the selected file's own life cycle state.
 abbrev pub selection_status : LifeCycle → Sw
 selection_status Creation = DONE
 selection_status Initialisation = DONE
@@ -24,31 +24,31 @@ selection_status Deactivated = SELECTED_DEACTIVATED
 selection_status Activated = DONE
 selection_status Terminated = SELECTED_TERMINATED
 
--- the session in which a file has become current
+-- The session after a file has become current.
 abbrev pub selecting : Session → Path → Kind → Session
 selecting s path (dedicated name) = at_dedicated_file s path
 selecting s path (elementary short body) = at_elementary_file s (parent path) (identifier path)
 
--- the data that SELECT finds: the template of the file at a path, where it is asked for
+-- The data of SELECT: the template of the file, if it is asked for.
 abbrev pub selection_data : Returned → Tree → Path → List ℕ
 selection_data Template tree path = template_at tree path
 selection_data Nothing tree path = []
 
--- the path of the file that is reached; where none is, SELECT is refused
+-- The path of the selected file. If there is none SELECT is refused, whatever the path.
 abbrev pub selected_path : Card → Session → Selection → Path
 selected_path c s selection = unwrap_or (selected_from c.tree s.current_df selection) []
 
 abbrev pub selected_data : Card → Session → Selection → Returned → List ℕ
 selected_data c s selection returned = selection_data returned c.tree (selected_path c s selection)
 
--- What refuses SELECT: no file is reached; Le asks for less than its data. Neither life cycles nor access rules bar it.
+-- The refusals of SELECT: there is no such file, or Le is too small. Life cycles and access rules don't refuse it.
 abbrev pub select_refusals : Card → Session → Selection → Returned → Option ℕ → Refusals
 select_refusals c s selection returned expected = record no_refusals {
   target = record { applies = is_none (selected_from c.tree s.current_df selection); status = FILE_NOT_FOUND } ∷ [];
   limits = length_refusal expected (selected_data c s selection returned) ∷ [];
 }
 
--- SELECT that isn't refused: the file becomes current
+-- The effect of SELECT: the file becomes current.
 abbrev pub selected : Card → Session → Selection → Returned → Option ℕ → Outcome
 selected c s selection returned expected =
     let path = selected_path c s selection in

@@ -1,4 +1,4 @@
--- What the card keeps in working memory from power-on to power-off (ISO/IEC 7816-4, 7.1; ETSI TS 102 221, 8.4).
+-- The session: what the card remembers from power-on to power-off (ISO/IEC 7816-4, 7.1; ETSI TS 102 221, 8.4).
 use Rattle.std.specs.Prelude.{ℕ, Bool, List, [], map, Option, Some, None, refl}
 use Rattle.std.specs.Ordering.{nat_cmp}
 use Rattle.std.specs.Coded.{Coded, code_by, coded×, coded_ℕ, coded_list, coded_option}
@@ -7,23 +7,23 @@ use Rattle.std.specs.List.{filter, range_with_len}
 use Rattle.card_rules.specs.Pins.{has_pin}
 use Rattle.card_model.specs.Cards.{Path}
 
--- The current dedicated file; the identifier of the current elementary file, a child of it, if there is one; the
--- number of the record that the record pointer is set to, if it is set; the numbers of the PINs that are verified.
+-- The current DF and, if there is one, the identifier of the current EF, a child of it. The record pointer, if it is
+-- set. The numbers of the verified PINs.
 pub record Session : Type 0 where
   pub current_df : Path
   pub current_ef : Option ℕ
   pub pointer : Option ℕ
   pub verified : FinSet nat_cmp
 
--- a mark for each of PIN 1 to 8, in this order: whether it is verified
+-- For PIN 1 to 8 in order, true if the PIN is verified.
 abbrev pub marks_of : FinSet nat_cmp → List Bool
 marks_of verified = map (λ n. contains verified n) (range_with_len 1 8)
 
--- the numbers that are marked, of 1 to 8
+-- The set of PINs, 1 to 8, whose mark is true.
 abbrev pub marked : List Bool → FinSet nat_cmp
 marked marks = from_list (filter (has_pin marks) (range_with_len 1 8))
 
--- a session is stored as the tuple of its parts
+-- The encoding of a session as the tuple of its fields.
 abbrev pub session_code : Coded Session
 session_code =
     code_by (Path × (Option ℕ × (Option ℕ × FinSet nat_cmp)))
@@ -32,14 +32,14 @@ session_code =
     (λ p. record { current_df = p.0; current_ef = p.1.0; pointer = p.1.1.0; verified = p.1.1.1 })
     (λ _. refl)
 
--- the session as power-on begins it
+-- The session at power-on.
 abbrev pub fresh_session : Session
 fresh_session = record { current_df = []; current_ef = None; pointer = None; verified = empty }
 
--- a dedicated file becomes the current one, and no elementary file is current
+-- A DF becomes current. There is no current EF then.
 abbrev pub at_dedicated_file : Session → Path → Session
 at_dedicated_file s path = record s { current_df = path; current_ef = None; pointer = None }
 
--- an elementary file becomes the current one, and its parent the current dedicated file; the pointer is unset
+-- An EF becomes current, and its parent the current DF. The pointer is unset.
 abbrev pub at_elementary_file : Session → Path → ℕ → Session
 at_elementary_file s above id = record s { current_df = above; current_ef = Some id; pointer = None }

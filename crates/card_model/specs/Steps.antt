@@ -1,4 +1,4 @@
--- One step of the tree machine, and the cards that it passes (ISO/IEC 7816-4, clause 11).
+-- One step of the tree machine, and the cards after its commits (ISO/IEC 7816-4, clause 11).
 use Rattle.card_model.specs.Requests.{Request, select, read_binary, update_binary, create_file, delete_file}
 use Rattle.card_model.specs.Requests.{read_record, update_record, append_record, search_record, increase}
 use Rattle.card_model.specs.Requests.{change_life_cycle, terminate_card_usage, verify, change_reference_data}
@@ -22,7 +22,7 @@ use Rattle.card_model.specs.Cards.{Card}
 use Rattle.card_model.specs.Sessions.{Session}
 pub use Rattle.card_model.specs.Behaviours.{Response, answer_bytes, Outcome, refused}
 
--- What each command is: the one list of all commands. Each stands beside its own definitions.
+-- The behaviour of each command. Each one is defined in the file of its command.
 
 abbrev pub behaviour_of : Request → Behaviour
 behaviour_of (select selection returned expected) = on_select selection returned expected
@@ -45,23 +45,23 @@ behaviour_of (change_requirement change pin shown) = on_change_requirement chang
 
 -- One step of the tree machine: a command on a card in a session (ISO/IEC 7816-4, clause 11).
 
--- what may refuse a request
+-- The refusals of a request.
 unfoldable pub refusals_of : Card → Session → Request → Refusals
 refusals_of c s request = (behaviour_of request).refusals c s
 
--- what a request that isn't refused does
+-- The effect of a request that isn't refused.
 unfoldable pub effect : Card → Session → Request → Outcome
 effect c s request = (behaviour_of request).effect c s
 
--- one step of a card that is in use: the first refusal in the order, else what is asked for
+-- One step of a card in use: the first refusal in the order, or else the effect.
 unfoldable pub served : Card → Session → Request → Outcome
 served c s request = unless_refused c s (refused_by (refusals_of c s request)) (effect c s request)
 
--- one step: a card whose use has ended refuses each command, before anything that it is about is looked at
+-- One step. A card after TERMINATE CARD USAGE refuses each request before any other check.
 unfoldable pub step : Card → Session → Request → Outcome
 step c s request = if c.in_use then served c s request else refused c s CONDITIONS_NOT_SATISFIED
 
--- what the machine makes of the bytes of a command: the refusals that their form calls for come first
+-- The outcome of parsed bytes: a parse error refuses the command, a request is a step.
 abbrev pub outcome_of : Card → Session → Result Request Sw → Outcome
 outcome_of c s (Ok request) = step c s request
 outcome_of c s (Err status) = refused c s status
@@ -69,18 +69,18 @@ outcome_of c s (Err status) = refused c s status
 abbrev pub carried_out : Card → Session → List ℕ → Outcome
 carried_out c s command = outcome_of c s (asked command)
 
--- The cards that a command passes, as a cut or a fault may leave them.
+-- The cards after each commit of a command: power loss or a fault leaves one of them.
 
--- the card after each commit of a request that isn't refused, in order
+-- The card after each commit of a request that isn't refused, in order.
 unfoldable pub commits : Card → Session → Request → List Card
 commits c s request = (behaviour_of request).commits c s
 
--- a refusal commits nothing
+-- A refusal commits nothing.
 abbrev pub commits_unless : Option Sw → List Card → List Card
 commits_unless None cards = cards
 commits_unless (Some status) cards = []
 
--- nor does a card whose use has ended
+-- A card after TERMINATE CARD USAGE commits nothing either.
 abbrev pub commits_served : Card → Session → Request → List Card
 commits_served c s request = commits_unless (refused_by (refusals_of c s request)) (commits c s request)
 
@@ -88,32 +88,32 @@ abbrev pub commits_asked : Card → Session → Result Request Sw → List Card
 commits_asked c s (Ok request) = if c.in_use then commits_served c s request else []
 commits_asked c s (Err status) = []
 
--- the stages of a command, in order: the card before it, and the card after each of its commits
+-- The stages of a command, in order: the card before it, then the card after each commit.
 abbrev pub stages : Card → Session → List ℕ → List Card
 stages c s command = c ∷ commits_asked c s (asked command)
 
--- a card is one of the stages
+-- A card is one of the stages.
 abbrev pub IsStage : Card → Session → List ℕ → Card → Type 0
 IsStage c s command d = Contains (stages c s command) d
 
--- the command changes nothing that lasts: it is refused, or only looks
+-- The command changes nothing that lasts: it is refused, or only reads.
 abbrev pub ChangesNothing : Card → Session → List ℕ → Type 0
 ChangesNothing c s command = stages c s command ≡ c ∷ []
 
--- What a request shows of a PIN.
+-- The secret that a request presents.
 
--- what a request shows of a PIN, if it does
+-- The attempt that a request makes, if any.
 abbrev pub attempt_of : Request → Option Attempt
 attempt_of request = (behaviour_of request).shown
 
--- The commits of a request: those that words of their own make, and those of the gate.
+-- The commits of a request, split into those that a single word makes and those of the journal gate.
 
--- the last of a card and the cards after it
+-- The last card of the list, or `c` if the list is empty.
 abbrev pub last_of : Card → List Card → Card
 last_of c [] = c
 last_of c (d ∷ cards) = last_of d cards
 
--- the commits of a request that is carried out, by their words
+-- The commits that a single word makes: those of the tries word. `commits_gated` has the other ones.
 abbrev pub commits_alone : Card → Option Attempt → List Card
 commits_alone c None = []
 commits_alone c (Some a) = tries_commits c a
@@ -129,16 +129,16 @@ abbrev pub gated_served : Card → Session → Request → List Card
 gated_served c s request =
     commits_unless (refused_by (refusals_of c s request)) (commits_gated c (attempt_of request) (commits c s request))
 
--- A request that is being carried out.
+-- A request that is under way.
 
--- A request that isn't refused and changes something lasting, at whatever exit: the card is the one before it, or the
--- one after one of its commits.
+-- A request that isn't refused and has commits, at any exit. The card is the one before it, or after one of its
+-- commits.
 pub record IsDoing (c : Card) (s : Session) (request : Request) (d : Card) : Type 0 where
   pub unrefused : refused_by (refusals_of c s request) ≡ None
   pub lasts : commits c s request ≢ []
   pub card : Contains (c ∷ commits c s request) d
 
--- CREATE FILE and DELETE FILE alone change which files there are
+-- Only CREATE FILE and DELETE FILE change which files exist.
 abbrev pub moves_files : Request → Bool
 moves_files (create_file template) = true
 moves_files (delete_file subject) = true

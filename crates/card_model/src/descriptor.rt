@@ -1,13 +1,13 @@
-//! The file descriptor: of what kind a file is (ISO/IEC 7816-4, 7.4.5).
+//! The file descriptor: the kind of a file (ISO/IEC 7816-4, 7.4.5).
 
-/// In which order the records of an elementary file are.
+/// The order in which the records of an EF are numbered.
 #[derive(Clone, Copy)]
 pub enum Structure {
     Linear,
     Cyclic,
 }
 
-/// What a file descriptor tells of a file.
+/// The meaning of a file descriptor.
 #[derive(Clone, Copy)]
 pub enum Descriptor {
     Df,
@@ -15,7 +15,7 @@ pub enum Descriptor {
     Records {
         structure: Structure,
         record_length: u16,
-        /// How many records exist; None: as many as there is room for.
+        /// The number of records that exist; `None` if all that fit do.
         existing: Option<u8>,
     },
 }

@@ -1,14 +1,14 @@
-//! What can be wrong with a template.
+//! The faults of a template.
 
-/// Why a text is no template of file control parameters. Of several faults the least is reported.
+/// The fault of a text that is no template. A text with several faults has the least of them.
 #[derive(Clone, Copy, PartialEq, Eq)]
 pub enum FcpFault {
-    /// The text isn't tag 62, a length byte and objects that fill it exactly.
+    /// The text isn't tag 62, a length byte, objects of that length.
     Shape = 1,
-    /// An object that must be there is missing.
+    /// A required object is missing.
     Missing = 2,
-    /// A tag of the table comes twice.
+    /// A tag of the table occurs twice.
     Twice = 3,
-    /// An object has a tag, a length or a value that the table doesn't have.
+    /// The table doesn't allow the tag, length or value of an object.
     Value = 4,
 }

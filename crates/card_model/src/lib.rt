@@ -1,5 +1,5 @@
-//! What commands make of a card: what bytes ask for, sessions, refusals in their order, steps and stages. Nothing of
-//! words, pages, journals or boards.
+//! The commands of the card: requests, sessions, refusals in their order, steps and stages. Words, pages, journals
+//! and boards are defined elsewhere.
 #![tactic(auto)]
 
 mod descriptor;

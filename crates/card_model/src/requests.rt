@@ -1,44 +1,44 @@
-//! What the parts of a request are.
+//! The parts of a request.
 
-/// The elementary file of a binary command.
+/// The EF that a binary command works on.
 #[derive(Clone, Copy)]
 pub enum Target {
-    /// The current one.
+    /// The current EF.
     Current,
-    /// The child of the current dedicated file with this short identifier, 1 to 30.
+    /// The current DF's child with this short identifier, 1 to 30.
     Short(u8),
 }
 
-/// The file that a command on files is about.
+/// The file that a command on files works on.
 #[derive(Clone, Copy)]
 pub enum Subject {
-    /// The current elementary file, and where none is current the current dedicated file.
+    /// The current EF, or else the current DF.
     Current,
-    /// The file that SELECT would reach by this identifier from the current dedicated file.
+    /// The file that SELECT by this identifier selects from the current DF.
     Identifier(u16),
 }
 
-/// A record by its number, or the current one.
+/// A record by its number, or the current record.
 #[derive(Clone, Copy)]
 pub enum RecordPlace {
-    /// The record that the record pointer stands at.
+    /// The current record, whose number is the record pointer.
     CurrentRecord,
     /// The record with this number, 1 to 255.
     Number(u8),
 }
 
-/// How a command names a record.
+/// The way in which a command names a record.
 #[derive(Clone, Copy)]
 pub enum RecordChoice {
-    /// The one after the current record.
+    /// The record after the current one.
     Next,
-    /// The one before the current record.
+    /// The record before the current one.
     Previous,
-    /// The one at this place.
+    /// The record at this place.
     At(RecordPlace),
 }
 
-/// What SELECT answers.
+/// The data that SELECT returns.
 #[derive(Clone, Copy)]
 pub enum Returned {
     /// The template of the file's control parameters.
@@ -47,7 +47,7 @@ pub enum Returned {
     Nothing,
 }
 
-/// What a command does to the life cycle of a file.
+/// A change of the life cycle state of a file.
 #[derive(Clone, Copy)]
 pub enum LifeCycleChange {
     /// DEACTIVATE FILE.
@@ -60,11 +60,11 @@ pub enum LifeCycleChange {
     TerminateEf,
 }
 
-/// What a command does to the verification requirement of a PIN.
+/// A change of the verification requirement of a PIN.
 #[derive(Clone, Copy)]
 pub enum RequirementChange {
-    /// DISABLE VERIFICATION REQUIREMENT: conditions of access rules that ask for the PIN are met without it.
+    /// DISABLE VERIFICATION REQUIREMENT: access conditions that name the PIN hold without it.
     Disable,
-    /// ENABLE VERIFICATION REQUIREMENT: they ask for it again.
+    /// ENABLE VERIFICATION REQUIREMENT: access conditions that name the PIN require it again.
     Enable,
 }
