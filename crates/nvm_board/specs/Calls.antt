@@ -1,4 +1,4 @@
--- What each call of a board tells, and what it leaves of the board.
+-- The calls of a board: their results and their effects.
 use Rattle.std.specs.Prelude.{◌≡◌, ◌⊎◌, ◌+◌, ◌↔◌, if◌then◌else◌, ℕ, List, Bool, Result, IsTrue, IfOk, OnOk, OnErr}
 use Rattle.std.specs.Prelude.{◌<◌, ◌≤◌, ◌-◌, Some, length, slice_index}
 use Rattle.nvm_board.specs.declared.board.Arm.{Arm}
@@ -8,7 +8,7 @@ use Rattle.nvm_board.specs.Facts.{Facts, Answered, IsLostRightly, RisesAt, raise
 use Rattle.nvm_board.specs.Aims.{AimStays, AimsAtWrite}
 use Rattle.nvm_board.specs.Torn.{Torn, written}
 
--- A read tells the word at an address. Nothing of the board changes but what `light` says.
+-- A read returns the word at an address. Words and counts of writes, comparisons and matches are unchanged.
 pub record TellsWord (at : ℕ) (old new : Facts) (result : Result ℕ DeviceErr) : Type 0 where
   pub word : IfOk result (λ w. w ≡ slice_index old.words at)
   pub light : Answered old new result
@@ -19,14 +19,14 @@ pub record TellsWord (at : ℕ) (old new : Facts) (result : Result ℕ DeviceErr
   pub compares : new.compares ≡ old.compares
   pub matches : new.matches ≡ old.matches
 
--- What a write asks for: words that lie in one page of the board, from the page's word `first` on.
+-- The arguments of a write: words that lie in one page of the board, from the page's word `first` on.
 pub record FitsPage (number first : ℕ) (words : List ℕ) (board : Facts) : Type 0 where
   pub page : number < pages_of board.words
   pub some : 0 < length words
   pub run : first + length words ≤ PAGE_WORDS
 
--- A write turns each word of a run, from an address on, from old to new. After an error each of them is old or new by
--- itself. Nothing else raises the writes.
+-- A write turns each word of a run, from an address on, from old to new. After an error each of them is old or new,
+-- independently of the others. No other call raises the count of writes.
 pub record Writes {T : Type 0} (at : ℕ) (run : List ℕ) (old new : Facts) (result : Result T DeviceErr) : Type 0 where
   pub done : OnOk result (new.words ≡ written old.words at run)
   pub torn : Torn old.words at run new.words
@@ -38,8 +38,8 @@ pub record Writes {T : Type 0} (at : ℕ) (run : List ℕ) (old new : Facts) (re
   pub compares : new.compares ≡ old.compares
   pub matches : new.matches ≡ old.matches
 
--- A comparison tells whether the shown bytes are the kept ones of a secret. It is counted, and so is a match. Nothing
--- else raises these counts.
+-- A comparison returns true if the presented bytes equal the stored ones of a secret. It is counted, and so is a
+-- match. No other call raises these counts.
 pub record Compares (secret : ℕ) (kept shown : List ℕ) (old new : Facts) (result : Result Bool DeviceErr)
     : Type 0 where
   pub equal : IfOk result (λ e. IsTrue e ↔ (kept ≡ shown))
@@ -53,8 +53,8 @@ pub record Compares (secret : ℕ) (kept shown : List ℕ) (old new : Facts) (re
   pub matched : IfOk result (λ e. new.matches ≡ (if e then raised old.matches secret else old.matches))
   pub matched_err : OnErr result (RisesAt old.matches secret new.matches)
 
--- What is set to come at the kth write, by this mask, takes the place of what was set before. Nothing else changes, but
--- that a cut may be due.
+-- Sets a cut or a fault at write `k` with this mask. It replaces what was set before. Nothing else changes, but that
+-- a cut may be due.
 pub record Arms (k mask : ℕ) (old new : Facts) : Type 0 where
   pub due : new.due ≤ 1
   pub same : new ≡ record old { due = new.due; pending = Some (record { whole_writes = k - 1; mask = mask }) }

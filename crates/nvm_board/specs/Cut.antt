@@ -1,4 +1,4 @@
--- What contracts know of a board that loses power at a write of one's choice.
+-- The facts of a board that loses power at a chosen write.
 use Rattle.std.specs.Prelude.{◌≡◌, ◌+◌, ℕ, List, Option, Some, None, Result, IsOk, IsErr}
 use Rattle.std.specs.Prelude.{IsErrOf, true, false, length}
 use Rattle.nvm_board.specs.declared.board.Arm.{Arm}
@@ -11,26 +11,26 @@ use Rattle.nvm_board.specs.Calls.{Writes}
 use Rattle.nvm_board.specs.Ram.{ram_facts}
 use Rattle.nvm_board.specs.Torn.{IsTornBy}
 
--- a cut is to come while an arm is pending
+-- A cut is due while an arm is pending.
 abbrev pub cut_facts : CutBoard → Facts
 cut_facts b = record (ram_facts b.ram) { due = due_of b.arm; pending = b.arm }
 
--- A write that no cut falls into. It leaves this arm pending;
--- or power is lost in it for a count at its end, and the arm stays.
+-- A write that no cut falls into. On success `next` is pending. On an error a count was at its end, and the arm is
+-- unchanged.
 pub record IsSpared {T : Type 0} (next : Option Arm) (old new : Facts) (result : Result T DeviceErr) : Type 0 where
   pub done : IsOk result → new.pending ≡ next
   pub worn : IsErr result → IsWorn old
   pub stays : IsErr result → new.pending ≡ old.pending
 
--- A write that the cut falls into: it is torn by the mask, and no cut is to come any more.
+-- The write that the cut falls into: power is lost, the write is torn by the mask, and no cut is set any more.
 pub record IsCut {T : Type 0} (mask at : ℕ) (run : List ℕ) (old new : Facts) (result : Result T DeviceErr)
     : Type 0 where
   pub lost : IsErrOf result PowerLost
   pub torn : IsTornBy mask old.words at run new.words
   pub spent : new.pending ≡ None
 
--- What a write of this run does to the cut that is to come: on a dark board nothing; on a lit one it brings the cut
--- nearer by one write, until none is left before it.
+-- The effect of a write on the set cut. On a board without power there is none. On a powered one the cut comes nearer
+-- by one write, or falls if no write is left before it.
 pub record ArmAfter {T : Type 0} (at : ℕ) (run : List ℕ) (old new : Facts) (result : Result T DeviceErr) : Type 0 where
   pub dark : old.dark ≡ true → new.pending ≡ old.pending
   pub unarmed : old.dark ≡ false → old.pending ≡ None → IsSpared None old new result
@@ -39,25 +39,25 @@ pub record ArmAfter {T : Type 0} (at : ℕ) (run : List ℕ) (old new : Facts) (
   pub fires : (mask : ℕ) → old.dark ≡ false → old.pending ≡ Some (record { whole_writes = 0; mask = mask })
       → IsCut mask at run old new result
 
--- how many words the last torn write had; 0 before any
+-- The number of words of the last torn write, 0 before any.
 abbrev pub last_torn : CutBoard → ℕ
 last_torn b = b.torn_words
 
--- what a write of so many words does to that: it is the torn one, or nothing changes
+-- The effect of a write of `size` words on that number: it becomes `size` if the write is torn, else it is unchanged.
 pub record TornAfter (size : ℕ) (old : Facts) (had has : ℕ) : Type 0 where
   pub fires : (mask : ℕ) → old.dark ≡ false → old.pending ≡ Some (record { whole_writes = 0; mask = mask }) → has ≡ size
   pub dark : old.dark ≡ true → has ≡ had
   pub unarmed : old.pending ≡ None → has ≡ had
   pub before : (left mask : ℕ) → old.pending ≡ Some (record { whole_writes = left + 1; mask = mask }) → has ≡ had
 
--- a write of this run, on a board of which a cut may be set to come
+-- A write of this run on a board that may have a cut set.
 pub record WritesOrTears {T : Type 0} (at : ℕ) (run : List ℕ) (old new : CutBoard) (result : Result T DeviceErr)
     : Type 0 where
   pub writes : Writes at run (cut_facts old) (cut_facts new) result
   pub arm : ArmAfter at run (cut_facts old) (cut_facts new) result
   pub torn_words : TornAfter (length run) (cut_facts old) (last_torn old) (last_torn new)
 
--- a new board of so many pages, of which no write was torn
+-- A new board with this number of pages, on which no write was torn.
 pub record IsNewCutBoard (pages : ℕ) (b : CutBoard) : Type 0 where
   pub facts : cut_facts b ≡ new_board pages
   pub torn : last_torn b ≡ 0

@@ -1,4 +1,4 @@
--- What contracts know of a board, and what its calls do to it.
+-- The facts of a board, which contracts use, and the effect of its calls on power and faults.
 use Rattle.std.specs.Prelude.{◌≡◌, ◌⊎◌, ℕ, ◌≤◌, ◌<◌, ◌+◌, ◌*◌, ◌/◌, ◌^◌, Bool, true, false, List}
 use Rattle.std.specs.Prelude.{replicate, slice_index}
 use Rattle.std.specs.Prelude.{slice_set, length, All, Contains, Option, None, Result, IsOk, IsErrOf}
@@ -7,8 +7,9 @@ use Rattle.nvm_board.specs.declared.board.DeviceErr.{DeviceErr}
 use Rattle.nvm_board.specs.declared.board.DeviceErr.TheVariants.{PowerLost, Fault}
 use Rattle.nvm_board.specs.declared.board.TheConstants.{COUNT_END, PAGE_WORDS, LEAST_PAGES, MOST_PAGES, SECRETS}
 
--- All that contracts know of a board: its words, whether its power is off, how many cuts may still come, which cut or
--- fault is set to come at a later write, and what it has counted; the comparisons and matches for each secret.
+-- The facts of a board: all that contracts say about it. `dark` is true if power is off. `due` is the number of cuts
+-- that may still come. `pending` is the cut or fault that is set. The other fields are counts; `compares` and
+-- `matches` have one per secret.
 pub record Facts : Type 0 where
   pub words : List ℕ
   pub dark : Bool
@@ -20,21 +21,21 @@ pub record Facts : Type 0 where
   pub compares : List ℕ
   pub matches : List ℕ
 
--- the address of a word by its page and its place in the page
+-- The address of a word by its page and its index in the page.
 abbrev pub address : ℕ → ℕ → ℕ
 address page first = PAGE_WORDS * page + first
 
--- the pages of a memory
+-- The number of pages of a memory.
 abbrev pub pages_of : List ℕ → ℕ
 pages_of words = length words / PAGE_WORDS
 
--- a memory is 1,024 to 4,096 whole pages
+-- A memory is 1,024 to 4,096 whole pages.
 pub record IsMemory (words : List ℕ) : Type 0 where
   pub whole : length words ≡ PAGE_WORDS * pages_of words
   pub least : LEAST_PAGES ≤ pages_of words
   pub most : pages_of words ≤ MOST_PAGES
 
--- a new board of so many pages: lit, all words and counts 0, and no cut to come
+-- A new board with this number of pages: powered, all words and counts 0, no cut set.
 abbrev pub new_board : ℕ → Facts
 new_board pages = record {
   words = replicate (PAGE_WORDS * pages) 0;
@@ -48,11 +49,11 @@ new_board pages = record {
   matches = replicate SECRETS 0;
 }
 
--- each is a word of 32 bits
+-- Each number is a word of 32 bits.
 abbrev pub AreWords : List ℕ → Type 0
 AreWords words = All (λ w. w < 2 ^ 32) words
 
--- no count is past its end
+-- No count is past its end.
 pub record CountsFit (f : Facts) : Type 0 where
   pub faults : f.faults ≤ COUNT_END
   pub cuts : f.cuts ≤ COUNT_END
@@ -60,8 +61,8 @@ pub record CountsFit (f : Facts) : Type 0 where
   pub compares : All (λ n. n ≤ COUNT_END) f.compares
   pub matches : All (λ n. n ≤ COUNT_END) f.matches
 
--- What each board is at any time: it has whole pages of words of 32 bits, counts the comparisons of each secret and its
--- matches, no count is past its end, and a lit one can count one more cut.
+-- The invariant of every board. It has whole pages of 32-bit words and a count of comparisons and of matches for each
+-- secret. No count is past its end, and a powered board can count one more cut.
 pub record IsBoard (f : Facts) : Type 0 where
   pub sized : IsMemory f.words
   pub words_fit : AreWords f.words
@@ -69,16 +70,16 @@ pub record IsBoard (f : Facts) : Type 0 where
   pub counts_fit : CountsFit f
   pub may_go : f.dark ≡ false → f.cuts < COUNT_END
 
--- a count that a call may raise, other than the cuts, stands at its end
+-- A count other than that of the cuts is at its end.
 abbrev pub IsWorn : Facts → Type 0
 IsWorn f = (f.faults ≡ COUNT_END) ⊎ (f.writes ≡ COUNT_END) ⊎ Contains f.compares COUNT_END
     ⊎ Contains f.matches COUNT_END
 
--- some count stands at its end
+-- Some count is at its end.
 abbrev pub IsWornOut : Facts → Type 0
 IsWornOut f = (f.cuts ≡ COUNT_END) ⊎ IsWorn f
 
--- a lit board stays lit, and has neither a cut nor a fault
+-- The board was and stays powered, without a cut and without a fault.
 pub record Steady (old new : Facts) : Type 0 where
   pub was_lit : old.dark ≡ false
   pub lit : new.dark ≡ false
@@ -86,7 +87,7 @@ pub record Steady (old new : Facts) : Type 0 where
   pub cuts : new.cuts ≡ old.cuts
   pub due : new.due ≡ old.due
 
--- a lit board goes dark: a cut was due, or a count stands at its end
+-- A powered board loses power: a cut was due, or a count is at its end.
 pub record GoesDark (old new : Facts) : Type 0 where
   pub was_lit : old.dark ≡ false
   pub dark : new.dark ≡ true
@@ -94,7 +95,7 @@ pub record GoesDark (old new : Facts) : Type 0 where
   pub cuts : new.cuts ≡ old.cuts + 1
   pub due : (old.due ≡ new.due + 1) ⊎ (IsWorn new × (new.due ≡ old.due))
 
--- a lit board has a fault, and stays lit
+-- A powered board has a fault, and stays powered.
 pub record Fails (old new : Facts) : Type 0 where
   pub was_lit : old.dark ≡ false
   pub lit : new.dark ≡ false
@@ -102,20 +103,20 @@ pub record Fails (old new : Facts) : Type 0 where
   pub cuts : new.cuts ≡ old.cuts
   pub due : new.due ≡ old.due
 
--- What an answer tells of power and device. A dark board answers PowerLost, and nothing of it changes.
+-- The effect of a call on power and faults, by its result. A board without power returns PowerLost and is unchanged.
 pub record Answered {T : Type 0} (old new : Facts) (result : Result T DeviceErr) : Type 0 where
   pub ok : IsOk result → Steady old new
   pub lost : IsErrOf result PowerLost → GoesDark old new ⊎ ((old.dark ≡ true) × (new ≡ old))
   pub fault : IsErrOf result Fault → Fails old new
 
--- Where a call loses power that was on, a cut was due, or a count stood at its end before the call.
+-- If a call loses power that was on, a cut was due, or a count was at its end before the call.
 unfoldable pub IsLostRightly : {T : Type 0} → Facts → Facts → Result T DeviceErr → Type 0
 IsLostRightly old new result = IsErrOf result PowerLost → old.dark ≡ false → (old.due ≡ new.due + 1) ⊎ IsWorn old
 
--- one more of a secret's comparisons or matches
+-- The counts with one more for a secret.
 abbrev pub raised : List ℕ → ℕ → List ℕ
 raised counts secret = slice_set counts secret (slice_index counts secret + 1)
 
--- at most one more of a secret's comparisons or matches
+-- The counts with at most one more for a secret.
 abbrev pub RisesAt : List ℕ → ℕ → List ℕ → Type 0
 RisesAt old secret new = (new ≡ old) ⊎ (new ≡ raised old secret)

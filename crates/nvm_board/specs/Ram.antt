@@ -1,4 +1,4 @@
--- What contracts know of a board in working memory, which has no faults and no cuts to come.
+-- The facts of a board in working memory, which has no faults and no cuts to come.
 use Rattle.std.specs.Prelude.{None}
 use Rattle.nvm_board.specs.declared.ram_board.RamBoard.{RamBoard}
 use Rattle.nvm_board.specs.Facts.{Facts}

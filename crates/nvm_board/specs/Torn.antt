@@ -1,25 +1,25 @@
--- Words that a write leaves in the memory, whole or torn: each word of its run is old or new, by itself.
+-- Words after a write, whole or torn: each word of its run is old or new, independently of the others.
 use Rattle.std.specs.Prelude.{◌≡◌, ◌⊎◌, ◌<◌, ◌≤◌, ◌+◌, ℕ, List, [], ◌∷◌, length, slice_index, slice_set}
 use Rattle.std.specs.Int.{IsBitSet}
 
--- the words after the run is written from this address on
+-- The words after a whole write of the run from this address on.
 abbrev pub written : List ℕ → ℕ → List ℕ → List ℕ
 written m at [] = m
 written m at (w ∷ run) = written (slice_set m at w) (at + 1) run
 
--- each word of the run is old or new, by itself, and all others are old
+-- Each word of the run is old or new, independently of the others. All other words are old.
 abbrev pub Torn : List ℕ → ℕ → List ℕ → List ℕ → Type 0
 Torn m at [] after = after ≡ m
 Torn m at (w ∷ run) after = Torn m (at + 1) run after ⊎ Torn (slice_set m at w) (at + 1) run after
 
--- the same by index: outside the run a word is old, inside it old or new
+-- The same by index: outside the run a word is old, inside it old or new.
 pub record IsMixture (m : List ℕ) (at : ℕ) (run after : List ℕ) : Type 0 where
   pub size : length after ≡ length m
   pub elsewhere : (k : ℕ) → (k < at) ⊎ (at + length run ≤ k) → slice_index after k ≡ slice_index m k
   pub each : (k : ℕ) → k < length run → (slice_index after (at + k) ≡ slice_index m (at + k))
       ⊎ (slice_index after (at + k) ≡ slice_index run k)
 
--- word k of the run is new where bit k of the mask is set, else old
+-- Word k of the run is new if bit k of the mask is set, else old.
 pub record IsTornBy (mask : ℕ) (m : List ℕ) (at : ℕ) (run after : List ℕ) : Type 0 where
   pub size : length after ≡ length m
   pub elsewhere : (k : ℕ) → (k < at) ⊎ (at + length run ≤ k) → slice_index after k ≡ slice_index m k

@@ -1,10 +1,10 @@
-//! When a cut, or a fault, that is set comes.
+//! The moment at which a cut or a fault that is set takes effect.
 ghost use Rattle.std.specs.Prelude.{◌≡◌, ◌≤◌, ◌+◌, ◌-◌, ℕ, false, is_some, Some, None, IfSome};
 
 use crate::board::Arm;
 
 impl Arm {
-    /// What is to come at write `k` from now on, counted from 1, by a mask.
+    /// Returns an arm for write `k` from now on, counted from 1.
     pub(crate) fn at(k: u32, mask: u16) -> Arm
         requires { 1 ≤ k }
         ensures { result ≡ record { whole_writes = k - 1; mask = mask } }
@@ -16,7 +16,7 @@ impl Arm {
     }
 }
 
-/// The mask of the cut, where the board is lit and its next write is the torn one.
+/// Returns the mask if a powered board's next write is torn.
 pub(crate) fn firing(arm: Option<Arm>, is_dark: bool) -> Option<u16>
     ensures fires { IfSome result (λ mask. (is_dark ≡ false) × (arm ≡ Some record { whole_writes = 0; mask = mask })) }
     ensures spared { result ≡ None → is_dark ≡ false → (mask : ℕ)
@@ -31,7 +31,7 @@ pub(crate) fn firing(arm: Option<Arm>, is_dark: bool) -> Option<u16>
     Some(arm.mask)
 }
 
-/// What is still to come of a cut after a whole write.
+/// Returns what remains of an arm after a whole write.
 pub(crate) fn nearer(arm: Option<Arm>) -> Option<Arm>
     ensures none { arm ≡ None → result ≡ None }
     ensures due { is_some result ≡ is_some arm }

@@ -1,110 +1,112 @@
-//! What a board is: its calls, and what each does to its words, its light and its counts.
+//! Boards: their calls, and the effect of each on words, power and counts.
 ghost use Rattle.std.specs.Prelude.{◌≡◌, ◌<◌, ◌≤◌, ◌↔◌, true, false, length, IsErr, OnOk, OnErr};
 ghost use Rattle.nvm_board.specs.declared.board.TheConstants.{SECRETS};
 ghost use Rattle.nvm_board.specs.Facts.{Facts, IsBoard, IsWornOut, address, pages_of};
 ghost use Rattle.nvm_board.specs.Aims.{HasNoFault};
 ghost use Rattle.nvm_board.specs.Calls.{TellsWord, FitsPage, Writes, Compares, Arms};
 
-/// Pages of a board at least.
+/// The least number of pages of a board.
 pub const LEAST_PAGES: u16 = 1024;
 
-/// Pages of a board at most.
+/// The greatest number of pages of a board.
 pub const MOST_PAGES: u16 = 4096;
 
-/// Words of a page, each of 32 bits. A word's address is its page times `PAGE_WORDS`, plus its place in the page.
+/// The number of 32-bit words of a page. A word's address is its page times `PAGE_WORDS`, plus its index in the page.
 pub const PAGE_WORDS: u16 = 16;
 
-/// Secrets that a board compares: 0 to 7 are PIN 1 to 8, 8 to 15 their unblocking values.
+/// The number of secrets that a board compares. Secrets 0 to 7 are the values of PIN 1 to 8, secrets 8 to 15 their
+/// unblocking values.
 pub const SECRETS: u8 = 16;
 
-/// Where each count of a board ends.
+/// The end of each count of a board.
 pub const COUNT_END: u64 = u64::MAX;
 
-/// Why a board didn't carry out a call.
+/// The reason why a board didn't carry out a call.
 #[derive(Clone, Copy, Debug, PartialEq, Eq)]
 pub enum DeviceErr {
-    /// Power failed in the call, or was off. The board is dark.
+    /// Power failed in the call, or was off. The board is without power.
     PowerLost,
-    /// The device failed. The board is still lit.
+    /// The device failed. The board still has power.
     Fault,
 }
 
-/// A count of the board stands at its end, so power doesn't come on any more.
+/// Power-on fails, since a count of the board is at its end.
 #[derive(Clone, Copy, Debug, PartialEq, Eq)]
 pub struct WornOut;
 
-/// A cut, or a fault, that is to come at a write, or at a call of a board that counts its calls.
+/// A cut or a fault that is set. It counts writes, or calls on a board that counts its calls.
 #[derive(Clone, Copy, Debug, PartialEq, Eq)]
 pub struct Arm {
-    /// The writes, or calls, that are still carried out before the torn one.
+    /// The number of writes, or calls, before the torn one.
     pub whole_writes: u32,
-    /// Which words of the torn write are new: bit i tells of the ith.
+    /// The words of the torn write that are new. Bit i is for the ith.
     pub mask: u16,
 }
 
-/// A memory of words that power may leave, with a comparer of secrets. The atomic step is one word of one
-/// write that turns from old to new: power may fail between any two such steps.
+/// A non-volatile memory of words, with a comparer of secrets. Words change atomically. Power may fail between any
+/// two words of a write.
 pub trait Board {
-    /// What contracts know of the board.
+    /// The facts of the board, which contracts use.
     ghost facts: { Self → Facts };
 
-    /// How many pages the board has. No call changes it, since none changes the number of words.
+    /// Returns the number of pages. No call changes it, since none changes the number of words.
     fn pages(&self) -> u16
         ensures { result ≡ pages_of (facts self.now).words };
 
-    /// The word at an address.
+    /// Returns the word at an address.
     fn read(&mut self, at: u16) -> Result<u32, DeviceErr>
         requires { at < length (facts self.old).words }
         ensures { TellsWord at (facts self.old) (facts self.new) result };
 
-    /// Writes 1 to 16 words of one page, from its word `first` on. After an error each of them is old or
-    /// new by itself.
+    /// Writes 1 to 16 words of one page, from word `first` on. After an error each of them is old or new,
+    /// independently of the others.
     fn write(&mut self, page: u16, first: u8, words: &[u32]) -> Result<(), DeviceErr>
         requires { FitsPage page first words.now (facts self.old) }
         ensures { Writes (address page first) words.now (facts self.old) (facts self.new) result };
 
-    /// Whether the shown bytes are the kept ones of a secret. Each comparison and each match is counted.
+    /// Returns true if the presented bytes equal the stored ones. The board counts each comparison and each match of
+    /// a secret.
     fn compare(&mut self, secret: u8, kept: &[u8; 8], shown: &[u8; 8]) -> Result<bool, DeviceErr>
         requires { secret < SECRETS }
         ensures { Compares secret kept.now shown.now (facts self.old) (facts self.new) result };
 
-    /// What each board is at any time.
+    /// The invariant of every board.
     ghost is_board: { (board : Self) → IsBoard (facts board) };
 }
 
-/// A board whose power comes and goes by call. Its words stay.
+/// A board whose power can be switched. Its words stay.
 pub trait Socket: Board {
-    /// Power comes on, unless a count stands at its end: then nothing changes.
+    /// Switches power on. If a count is at its end, nothing changes.
     fn light(&mut self) -> Result<(), WornOut>
         ensures worn { IsErr result ↔ IsWornOut (Self.facts self.old) }
         ensures lit { OnOk result (Self.facts self.new ≡ record (Self.facts self.old) { dark = false }) }
         ensures same { OnErr result (Self.facts self.new ≡ Self.facts self.old) };
 
-    /// Power goes off.
+    /// Switches power off.
     fn power_off(&mut self)
         ensures { Self.facts self.new ≡ record (Self.facts self.old) { dark = true } };
 }
 
-/// A board on which a cut, or a fault, can be set to come at a later write. On a board that fails at its
-/// calls it is a fault at call `k`, which leaves words as they are, whatever the mask.
+/// A board on which a cut or a fault can be set. It comes at a later write. On a board that fails at its calls, it is
+/// a fault at call `k` that changes no word, whatever the mask.
 pub trait Armed: Socket {
-    /// Write `k` from now on, counted from 1, will be torn: bit i of the mask tells whether the ith written
-    /// word is new, from bit 0. It takes the place of what was set before.
+    /// Sets write `k` from now on, counted from 1, to be torn. Bit i of the mask is set if the ith word of the write
+    /// is to be new, from bit 0. It replaces what was set before.
     fn arm(&mut self, k: u32, mask: u16)
         requires { 1 ≤ k }
         ensures { Arms k mask (Self.facts self.old) (Self.facts self.new) };
 }
 
-/// A board that has no faults, and loses power by the cut alone that is set on it, or where a count stands at its end.
+/// A board without faults. It loses power only at a cut that is set on it, or if a count is at its end.
 pub trait Faultless: Board {
-    /// No fault is counted, and a cut is due where one is set.
+    /// No fault is counted. A cut is due if and only if one is set.
     ghost faultless: { (board : Self) → HasNoFault (Self.facts board) };
 }
 
-/// Tells that a board counts no fault, and that a cut is due where one is set.
+/// Proves that no fault is counted. A cut is due if and only if one is set.
 pub fn has_no_fault<B: Faultless>(board: &B)
     ensures { HasNoFault (B.facts board.now) }
 {
-    // Only its law is asked for.
+    // Only the law of the board is needed.
     let _ = board;
 }

@@ -1,4 +1,4 @@
-//! A board in working memory that loses power at a write of one's choice.
+//! A board in working memory that loses power at a chosen write.
 ghost use Rattle.std.specs.Prelude.{◌≡◌, ◌≤◌, IfOk};
 ghost use Rattle.nvm_board.specs.declared.board.TheConstants.{LEAST_PAGES, MOST_PAGES, PAGE_WORDS};
 
@@ -7,13 +7,13 @@ use crate::board::{Arm, Armed, Board, DeviceErr, Faultless, LEAST_PAGES, Socket,
 use crate::ram_board::RamBoard;
 use std::alloc::{AllocError, Global};
 
-/// A board in working memory of which one write can be set to be torn, with power lost in it. The arm stays
-/// over power-ons until it fires.
+/// A board in working memory on which one write can be torn. Power is lost in that write. The arm survives power-ons
+/// until it fires.
 #[derive(Drop)]
 pub struct CutBoard {
     ram: RamBoard,
     arm: Option<Arm>,
-    /// How many words the last torn write had; 0 before any.
+    /// The number of words of the last torn write, 0 before any.
     torn_words: u8,
     ghost torn_fit: { torn_words ≤ PAGE_WORDS },
 }
@@ -25,7 +25,7 @@ impl CutBoard {
     ghost use Rattle.nvm_board.specs.Facts.{IsMemory, address};
     ghost use Rattle.nvm_board.specs.Given.{board_with};
 
-    /// A lit board of 1,024 pages whose words and counts are 0, with no cut to come.
+    /// Returns a powered board of 1,024 pages without a cut set. All its words and counts are 0.
     ///
     /// # Errors
     /// There is too little memory for the words.
@@ -35,7 +35,7 @@ impl CutBoard {
         CutBoard::with_pages(alloc, LEAST_PAGES)
     }
 
-    /// The same of so many pages.
+    /// Returns such a board with this number of pages.
     ///
     /// # Errors
     /// There is too little memory for the words.
@@ -51,7 +51,7 @@ impl CutBoard {
         })
     }
 
-    /// Another board with the same words, light and counts, and the same cut to come.
+    /// Returns a second board with the same words, power, counts and cut.
     ///
     /// # Errors
     /// There is too little memory for the words.
@@ -94,7 +94,7 @@ impl CutBoard {
         self.arm.is_some()
     }
 
-    /// How many words the last torn write had; 0 before any.
+    /// Returns the length of the last torn write in words, or 0.
     pub fn torn_words(&self) -> u8
         ensures last { result ≡ last_torn self.now }
         ensures fits { result ≤ PAGE_WORDS }
@@ -102,8 +102,8 @@ impl CutBoard {
         self.torn_words
     }
 
-    /// A write on a board of which a cut is set to come: the cut falls into it, or comes nearer by one. It stands
-    /// apart, and is called: so a write with no cut to come, as nearly all are, pays for none of this.
+    /// Writes on a board with a cut set. The cut falls into this write, or comes nearer by one. This is a function of
+    /// its own, so that a write without a cut, the usual case, doesn't pay for it.
     #[inline(never)]
     #[tactic(auto, unfolding(crate::specs::Facts::IsLostRightly))]
     fn write_armed(&mut self, page: u16, first: u8, words: &[u32]) -> Result<(), DeviceErr>

@@ -1,4 +1,4 @@
-//! A board in working memory that fails once, at a call or at a write of one's choice.
+//! A board in working memory that fails once, at a chosen call or write.
 ghost use Rattle.std.specs.Prelude.{◌≡◌, ◌<◌, ◌≤◌, false, IfOk};
 ghost use Rattle.nvm_board.specs.declared.board.TheConstants.{COUNT_END, LEAST_PAGES, MOST_PAGES};
 
@@ -7,7 +7,7 @@ use crate::board::{Arm, Armed, Board, COUNT_END, DeviceErr, LEAST_PAGES, Socket,
 use crate::ram_board::RamBoard;
 use std::alloc::{AllocError, Global};
 
-/// What a fault that is to come counts, until it comes.
+/// The events that an arm counts until its fault comes.
 #[derive(Clone, Copy, Debug, PartialEq, Eq)]
 pub enum Counted {
     /// Each read, write and comparison.
@@ -16,15 +16,15 @@ pub enum Counted {
     Writes,
 }
 
-/// A board in working memory of which one call can be set to fail, and which works on afterwards. What is set stays
-/// over power-ons until the fault comes.
+/// A board in working memory on which one call can fail. It works on afterwards. The arm survives power-ons until the
+/// fault comes.
 #[derive(Drop)]
 pub struct FaultBoard {
     ram: RamBoard,
     arm: Option<Arm>,
-    /// What the arm counts.
+    /// The events that the present arm counts.
     counted: Counted,
-    /// What an arm counts that is set by `Armed::arm`.
+    /// The events that an arm set by `Armed::arm` counts.
     armed_by: Counted,
     faults: u64,
     ghost faults_fit: { faults ≤ COUNT_END },
@@ -37,8 +37,8 @@ impl FaultBoard {
     ghost use Rattle.nvm_board.specs.Facts.{address, pages_of};
     ghost use Rattle.nvm_board.specs.Faulty.{fault_facts, counting, IsNewFaultBoard, SetsFault, IsFaulty, LeavesRun};
 
-    /// A lit board of 1,024 pages whose words and counts are 0, with no fault to come. `Armed::arm` sets one at a call,
-    /// whatever the mask.
+    /// Returns a powered board of 1,024 pages without a fault set. All its words and counts are 0. `Armed::arm` sets
+    /// a fault at a call, whatever the mask.
     ///
     /// # Errors
     /// There is too little memory for the words.
@@ -48,7 +48,7 @@ impl FaultBoard {
         FaultBoard::with_pages(alloc, LEAST_PAGES, Counted::Calls)
     }
 
-    /// The same, but that `Armed::arm` sets a fault at a write, which is torn by the mask.
+    /// Returns such a board that fails at writes. `Armed::arm` sets a fault at a write, torn by the mask.
     ///
     /// # Errors
     /// There is too little memory for the words.
@@ -58,7 +58,7 @@ impl FaultBoard {
         FaultBoard::with_pages(alloc, LEAST_PAGES, Counted::Writes)
     }
 
-    /// The one or the other, of so many pages.
+    /// Returns a new board of either kind with this number of pages.
     ///
     /// # Errors
     /// There is too little memory for the words.
@@ -76,7 +76,7 @@ impl FaultBoard {
         })
     }
 
-    /// Another board with the same words, light and counts, and the same fault to come.
+    /// Returns a second board with the same words, power, counts and fault.
     ///
     /// # Errors
     /// There is too little memory for the words.
@@ -93,15 +93,15 @@ impl FaultBoard {
         })
     }
 
-    /// Whether a fault is to come.
+    /// Returns true if a fault is set.
     pub fn pending(&self) -> bool
         ensures { result ≡ is_some (fault_facts self.now).pending }
     {
         self.arm.is_some()
     }
 
-    /// The kth read, write or comparison from now on, counted from 1, will answer Fault, and change no word. It takes
-    /// the place of what was set before.
+    /// Sets a fault at call `k` from now on, counted from 1. A call is a read, a write or a comparison. The failing
+    /// call changes no word. It replaces what was set before.
     pub fn arm_call(&mut self, k: u32)
         requires { 1 ≤ k }
         ensures { SetsFault Calls k 0 self.old self.new }
@@ -109,8 +109,8 @@ impl FaultBoard {
         self.set(Counted::Calls, k, 0);
     }
 
-    /// The kth write from now on, counted from 1, will be torn by the mask, and answer Fault. It takes the place of
-    /// what was set before.
+    /// Sets a fault at write `k` from now on, counted from 1. The mask tears that write. It replaces what was set
+    /// before.
     pub fn arm_write(&mut self, k: u32, mask: u16)
         requires { 1 ≤ k }
         ensures { SetsFault Writes k mask self.old self.new }
@@ -118,7 +118,7 @@ impl FaultBoard {
         self.set(Counted::Writes, k, mask);
     }
 
-    /// Sets what is to come.
+    /// Sets a fault.
     fn set(&mut self, counted: Counted, k: u32, mask: u16)
         requires { 1 ≤ k }
         ensures { SetsFault counted k mask self.old self.new }
@@ -127,7 +127,7 @@ impl FaultBoard {
         self.counted = counted;
     }
 
-    /// The arm that a read or a comparison brings nearer.
+    /// Returns the arm that a read or a comparison brings nearer.
     fn call_arm(&self) -> Option<Arm>
         ensures calls { self.now.counted ≡ Calls → result ≡ self.now.arm }
         ensures writes { self.now.counted ≡ Writes → result ≡ None }
@@ -138,7 +138,7 @@ impl FaultBoard {
         }
     }
 
-    /// A read or a comparison was carried out.
+    /// Brings the fault nearer after a read or a comparison.
     fn pass_call(&mut self)
         ensures none { self.old.arm ≡ None → self.new.arm ≡ None }
         ensures before { (left mask : ℕ) → self.old.counted ≡ Calls
@@ -153,7 +153,7 @@ impl FaultBoard {
         }
     }
 
-    /// Leaves the run of a write that fails: old, or torn by the mask.
+    /// Leaves the run of a failing write old or torn.
     fn leave(&mut self, page: u16, first: u8, words: &[u32], mask: u16)
         requires page { page < pages_of (fault_facts self.old).words }
         requires run { first + length words.now ≤ PAGE_WORDS }
@@ -168,7 +168,7 @@ impl FaultBoard {
         }
     }
 
-    /// Fails in a call: the fault is counted, or power is lost where no further one can be.
+    /// Fails in a call. It counts the fault, or loses power if the count is at its end.
     fn fail(&mut self) -> DeviceErr
         requires { (fault_facts self.old).dark ≡ false }
         ensures failed { IsFaulty (fault_facts self.old) (fault_facts self.new) result }

@@ -4,8 +4,8 @@ ghost use Rattle.nvm_board.specs.declared.board.TheConstants.{LEAST_PAGES, MOST_
 ghost use Rattle.nvm_board.specs.Facts.{IsMemory, pages_of};
 ghost use Rattle.nvm_board.specs.Torn.{Torn, IsMixture};
 
-/// The numbers of a board: its pages at least and at most, the words of a page and of the least board,
-/// its secrets, and where a count ends.
+/// Proves the numbers of a board. These are its pages, the words of a page and of the least board, its secrets, and
+/// the end of a count.
 pub fn layout()
     ensures least { LEAST_PAGES ≡ 1024 }
     ensures most { MOST_PAGES ≡ 4096 }
@@ -15,7 +15,7 @@ pub fn layout()
     ensures count_end { COUNT_END ≡ 18446744073709551615 }
 {}
 
-/// A memory is 16 words for each of 1,024 to 4,096 pages, and no other list of words is one.
+/// Proves that a memory is 16 words a page. It has 1,024 to 4,096 pages.
 #[tactic(auto, using(crate::specs::laws::Sizes::memory_of_pages))]
 pub fn memories()
     ensures made { (words : List ℕ) (pages : ℕ) → 1024 ≤ pages → pages ≤ 4096 → length words ≡ 16 * pages
@@ -25,8 +25,8 @@ pub fn memories()
     ensures most { (words : List ℕ) → IsMemory words → pages_of words ≤ 4096 }
 {}
 
-/// A torn run is each list of as many words in which every word of the run is old or new by itself, and all
-/// others are old.
+/// Proves that `Torn` and `IsMixture` mean the same. Each word of the run is old or new, independently of the others.
+/// All other words are old.
 pub fn torn_by_words()
     ensures { (m run after : List ℕ) (at : ℕ) → at + length run ≤ length m
         → (Torn m at run after ↔ IsMixture m at run after) }

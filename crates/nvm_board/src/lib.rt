@@ -1,5 +1,5 @@
-//! A card's memory as a device: words in pages, whose writes may be torn where power fails, and a
-//! comparer of secrets that counts. Boards in working memory stand for it.
+//! The memory of a card as a device: words in pages, whose writes are torn if power fails, and a comparer of secrets
+//! that counts. The boards here are simulated in working memory.
 #![tactic(auto)]
 
 mod arming;

@@ -1,4 +1,4 @@
-//! A board in working memory, which never fails and loses power only by call or at the end of a count.
+//! A board in working memory, which never fails. It loses power only by call or at the end of a count.
 ghost use Rattle.std.specs.Prelude.{◌≡◌, ◌+◌, ◌*◌, ◌<◌, ◌≤◌, ◌↔◌, if◌then◌else◌, true, false, length, IsTrue, All};
 ghost use Rattle.std.specs.Prelude.{Contains, IfOk, slice_index};
 ghost use Rattle.nvm_board.specs.declared.board.TheConstants.{SECRETS, COUNT_END, LEAST_PAGES, MOST_PAGES, PAGE_WORDS};
@@ -11,7 +11,7 @@ use crate::board::{
 use crate::runs::{put_masked, put_run};
 use std::alloc::{AllocError, Global};
 
-/// A board in working memory. Its words are gone with it.
+/// A board in working memory. Dropping it loses its words.
 #[derive(Drop)]
 pub struct RamBoard {
     pages: u16,
@@ -41,7 +41,7 @@ impl RamBoard {
     ghost use Rattle.nvm_board.specs.Ram.{ram_facts};
     ghost use Rattle.nvm_board.specs.Torn.{IsTornBy};
 
-    /// A lit board of 1,024 pages whose words and counts are 0.
+    /// Returns a powered board of 1,024 pages. All its words and counts are 0.
     ///
     /// # Errors
     /// There is too little memory for the words.
@@ -51,7 +51,7 @@ impl RamBoard {
         RamBoard::with_pages(alloc, LEAST_PAGES)
     }
 
-    /// The same of so many pages.
+    /// Returns such a board with this number of pages.
     ///
     /// # Errors
     /// There is too little memory for the words.
@@ -121,14 +121,14 @@ impl RamBoard {
         })
     }
 
-    /// Whether power is off.
+    /// Returns true if power is off.
     pub(crate) fn is_dark(&self) -> bool
         ensures { result ≡ (ram_facts self.now).dark }
     {
         self.dark
     }
 
-    /// Whether a count stands at its end.
+    /// Returns true if a count is at its end.
     fn is_worn_out(&self) -> bool
         ensures worn { IsTrue result ↔ IsWornOut (ram_facts self.now) }
         ensures spare { result ≡ false → self.now.cuts < COUNT_END }
@@ -148,7 +148,7 @@ impl RamBoard {
         self.dark = true;
     }
 
-    /// Whether a count that a comparison raises stands at its end.
+    /// Returns true if a count of this comparison is at its end.
     fn counts_end(&self, secret: usize, equal: bool) -> bool
         requires { secret < SECRETS }
         ensures worn { IsTrue result → IsWorn (ram_facts self.now) }
@@ -158,7 +158,7 @@ impl RamBoard {
         self.compares[secret] == COUNT_END || equal && self.matches[secret] == COUNT_END
     }
 
-    /// Counts a comparison of a secret, and whether it was a match.
+    /// Counts a comparison of a secret, and a match if `equal`.
     fn count(&mut self, secret: usize, equal: bool)
         requires place { secret < SECRETS }
         requires spare { slice_index self.old.compares secret < COUNT_END }
@@ -174,7 +174,7 @@ impl RamBoard {
         }
     }
 
-    /// Writes those words of the run whose bit of the mask is set.
+    /// Writes the words of the run whose mask bit is set.
     pub(crate) fn put_torn(&mut self, page: u16, first: u8, words: &[u32], mask: u16)
         requires page { page < pages_of (ram_facts self.old).words }
         requires run { first + length words.now ≤ PAGE_WORDS }
@@ -279,14 +279,14 @@ impl Faultless for RamBoard {
     ghost faultless = { λ b. record { faults = refl; due = refl } };
 }
 
-/// A word's place among all words.
+/// Returns the address of a word.
 fn place(page: u16, first: u8) -> usize
     ensures { result ≡ address page first }
 {
     usize::from(PAGE_WORDS) * usize::from(page) + usize::from(first)
 }
 
-/// Whether one of the counts stands at its end.
+/// Returns true if one of the counts is at its end.
 fn has_ended(counts: &[u64]) -> bool
     ensures { IsTrue result ↔ Contains counts.now COUNT_END }
 {

@@ -6,7 +6,7 @@ ghost use Rattle.nvm_board.specs.declared.board.TheConstants.{PAGE_WORDS};
 
 use crate::board::PAGE_WORDS;
 
-/// Writes the run into the words, from the place `start` on.
+/// Writes the run over the words from index `start` on.
 pub(crate) fn put_run(words: &mut [u32], start: usize, run: &[u32])
     requires { start + length run.now ≤ length words.old }
     ensures put { words.new ≡ written words.old start run.now }
@@ -18,7 +18,7 @@ pub(crate) fn put_run(words: &mut [u32], start: usize, run: &[u32])
     }
 }
 
-/// Writes those words of the run whose bit of the mask is set.
+/// Writes the words of the run whose mask bit is set.
 pub(crate) fn put_masked(words: &mut Vec<u32>, start: usize, run: &[u32], mask: u16)
     requires inside { start + length run.now ≤ length words.old.items }
     requires page { length run.now ≤ PAGE_WORDS }
