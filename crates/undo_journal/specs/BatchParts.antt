@@ -1,4 +1,4 @@
--- A store that works, by its board and its batch.
+-- A store that hasn't failed, from its board and its batch.
 use Rattle.std.specs.Prelude.{None}
 use Rattle.nvm_board.specs.Facts.{Facts}
 use Rattle.undo_journal.specs.declared.batch.Batch.{Batch}

@@ -1,58 +1,58 @@
--- The sets of a transaction that wait: what they make of the words, and how many device writes they take.
+-- The waiting sets of a transaction: their effect on the words, and their number of device writes.
 use Rattle.std.specs.Prelude.{◌==◌, ◌<◌, ◌≤◌, ◌+◌, ◌-◌, ◌/◌, ◌%◌, ◌^◌, ◌&&◌, ℕ, not, if◌then◌else◌, List, []}
 use Rattle.std.specs.Prelude.{◌∷◌, slice_set, zero, suc, nat_lt, Option, Some, None}
 use Rattle.nvm_board.specs.declared.board.TheConstants.{PAGE_WORDS}
 use Rattle.undo_journal.specs.declared.batch.Waiting.{Waiting}
 use Rattle.undo_journal.specs.Undo.{IsOutside}
 
--- the words, with those that wait
+-- The words with the waiting sets written over them.
 abbrev pub overlay : List Waiting → List ℕ → List ℕ
 overlay [] m = m
 overlay (s ∷ rest) m = overlay rest (slice_set m s.at s.word)
 
--- the word that waits for an address, if one does
+-- The waiting word for an address, if there is one.
 abbrev pub look_up : ℕ → List Waiting → Option ℕ
 look_up a [] = None
 look_up a (s ∷ rest) = if s.at == a then Some s.word else look_up a rest
 
--- the sets with one more: it takes the place of one of its address
+-- The sets with one more. It replaces one of the same address.
 abbrev pub joined : Waiting → List Waiting → List Waiting
 joined new [] = new ∷ []
 joined new (s ∷ rest) = if nat_lt s.at new.at then s
     ∷ joined new rest else (if s.at == new.at then new ∷ rest else new ∷ s ∷ rest)
 
--- the sets with those of words from an address on, one by one
+-- The sets with one more for each of the words from an address on.
 abbrev pub joined_run : ℕ → List ℕ → List Waiting → List Waiting
 joined_run at [] sets = sets
 joined_run at (w ∷ words) sets = joined_run (at + 1) words (joined (record { at = at; word = w }) sets)
 
--- a set of a data word of so many words, not below this address
+-- A set of a data word in a memory of `size` words, at address `least` or above.
 pub record IsSet (size least : ℕ) (s : Waiting) : Type 0 where
   pub from : least ≤ s.at
   pub outside : IsOutside s.at
   pub within : s.at < size
   pub fits : s.word < 2 ^ 32
 
--- sets of data words of so many words, each address above the one before it, from this one on
+-- Sets of data words in a memory of `size` words, by ascending address from `least` on.
 abbrev pub AreSets : ℕ → ℕ → List Waiting → Type 0
 AreSets size least [] = Unit {0}
 AreSets size least (s ∷ rest) = IsSet size least s × AreSets size (s.at + 1) rest
 
--- 0 where a word goes on with a run that would end before `next`, else 1: a run is of successive addresses of one page
+-- 0 if address `a` continues a run that would go on at `next`, else 1. A run has successive addresses in one page.
 abbrev pub begins : ℕ → ℕ → ℕ
 begins next a = if (a == next) && not (a % PAGE_WORDS == 0) then 0 else 1
 
--- how many runs the sets make, after one that would go on at `next`
+-- The number of runs that the sets make after a run that would go on at `next`.
 abbrev pub runs_from : ℕ → List Waiting → ℕ
 runs_from next [] = 0
 runs_from next (s ∷ rest) = begins next s.at + runs_from (s.at + 1) rest
 
--- how many pages hold so many words from an address on
+-- The number of pages that contain a run of words from an address on.
 abbrev pub touched_pages : ℕ → ℕ → ℕ
 touched_pages at zero = 0
 touched_pages at (suc n) = (at + n) / PAGE_WORDS + 1 - at / PAGE_WORDS
 
--- device writes of a batch: its pairs, the gate, and its runs; none where nothing waits
+-- The device writes of a batch: its pairs, the gate, and one per run; none if no set waits.
 abbrev pub batch_writes : List Waiting → ℕ
 batch_writes [] = 0
 batch_writes (s ∷ rest) = 2 + runs_from 0 (s ∷ rest)

@@ -4,15 +4,15 @@ use Rattle.undo_journal.specs.declared.layout.TheConstants.{GATE}
 use Rattle.undo_journal.specs.Memory.{Memory, committed, current}
 use Rattle.undo_journal.specs.Undo.{gate, undo, data_words, IsSound}
 
--- The gate is 0, and it alone makes the change: were it so many pairs, undo would be defined, and the words before
--- would stand. (That it was so many just before is no fact of one memory.)
+-- The gate is 0, and its write alone is the commit. With `pairs` in its place, undo would be defined and would give
+-- the words before. One memory can't say that the gate had that value just before.
 pub record TurnsGate (before : List ℕ) (new : Memory) : Type 0 where
   pub shut : gate new.facts.words ≡ 0
   pub pairs : ℕ
   pub sound : IsSound (slice_set new.facts.words GATE pairs)
   pub former : data_words (undo (slice_set new.facts.words GATE pairs)) ≡ before
 
--- What at most one transaction leaves: the words that were committed before; or others, and then by its gate alone.
+-- The effect of at most one transaction: the committed words are unchanged, or the gate alone committed new ones.
 abbrev pub CommitsByGate : Memory → Memory → Type 0
 CommitsByGate old new = (committed new ≡ committed old) ⊎ TurnsGate (committed old) new
 

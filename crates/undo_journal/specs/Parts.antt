@@ -1,11 +1,11 @@
--- Words of inner contracts: a set that joins those that wait, and what is written of them.
+-- Words of inner contracts: adding a set to the waiting ones, and the words that a batch writes.
 use Rattle.std.specs.Prelude.{◌≡◌, ◌⊎◌, ◌==◌, ◌+◌, ◌%◌, ◌&&◌, ℕ, suc, not, if◌then◌else◌, nat_lt, List, [], ◌∷◌}
 use Rattle.std.specs.Prelude.{slice_index, slice_index_or, ◌<◌, length}
 use Rattle.nvm_board.specs.declared.board.TheConstants.{PAGE_WORDS}
 use Rattle.undo_journal.specs.declared.batch.Waiting.{Waiting}
 use Rattle.undo_journal.specs.Undo.{Pair}
 
--- how many sets, from the first on, are of smaller addresses
+-- The number of leading sets with smaller addresses.
 abbrev pub before : ℕ → List Waiting → ℕ
 before a [] = 0
 before a (s ∷ rest) = if nat_lt s.at a then suc (before a rest) else 0
@@ -20,27 +20,27 @@ run_words next [] = []
 run_words next (s ∷ rest) = if (s.at == next) && not (s.at % PAGE_WORDS == 0) then s.word
     ∷ run_words (s.at + 1) rest else []
 
--- the words of the first run
+-- The words of the first run.
 abbrev pub first_words : List Waiting → List ℕ
 first_words [] = []
 first_words (s ∷ rest) = s.word ∷ run_words (s.at + 1) rest
 
--- the pairs of sets: each address, and the word that is there
+-- The pairs of the sets: each address with its present word.
 abbrev pub pairs_of : List ℕ → List Waiting → List Pair
 pairs_of m [] = []
 pairs_of m (s ∷ rest) = record { address = s.at; earlier = slice_index m s.at } ∷ pairs_of m rest
 
--- as words of the journal
+-- The same pairs as words of the journal.
 abbrev pub pair_words : List ℕ → List Waiting → List ℕ
 pair_words m [] = []
 pair_words m (s ∷ rest) = s.at ∷ slice_index m s.at ∷ pair_words m rest
 
--- one of the pairs names the address
+-- One of the pairs names the address.
 abbrev pub Names : List Pair → ℕ → Type 0
 Names [] a = ⊥
 Names (p ∷ ps) a = (p.address ≡ a) ⊎ Names ps a
 
--- pairs name each address of the sets
+-- The pairs name each address of the sets.
 abbrev pub AllNamed : List Pair → List Waiting → Type 0
 AllNamed ps [] = Unit {0}
 AllNamed ps (s ∷ rest) = Names ps s.at × AllNamed ps rest

@@ -1,4 +1,4 @@
-//! The sets of a transaction that wait, and how they are written, eight together.
+//! The waiting sets of a transaction, which are written in batches of eight.
 ghost use Rattle.std.specs.Prelude.{◌≡◌, ◌⊎◌, ◌↔◌, ◌+◌, ◌-◌, ◌*◌, ◌<◌, ◌≤◌, ◌%◌, ◌==◌, ◌&&◌, not, ℕ, [], length, take};
 ghost use Rattle.std.specs.Prelude.{drop, false, IsTrue, IfOk, OnOk, slice_set};
 ghost use Rattle.arrayvec.specs.ArrayVec.{array_vec_len};
@@ -20,14 +20,14 @@ use crate::journal::{write_gate, write_pairs};
 use arrayvec::ArrayVec;
 use nvm_board::{Board, DeviceErr, PAGE_WORDS};
 
-/// Sets that are written together.
+/// The number of sets in a batch.
 pub const BATCH: u16 = 8;
 
 const BATCH_SETS: usize = BATCH as usize;
 
 const BATCH_PAIR_WORDS: usize = 2 * BATCH_SETS;
 
-/// A set that waits: the address of a data word, and the word that it is to become.
+/// A waiting set: a data word's address and the new word.
 #[derive(Clone, Copy, Debug, Default)]
 pub struct Waiting {
     pub at: u16,
@@ -36,7 +36,7 @@ pub struct Waiting {
 
 type Sets = ArrayVec<Waiting, BATCH_SETS>;
 
-/// How many pairs of the journal are in use, and the sets that wait, by ascending address.
+/// The pairs in use and the waiting sets, by ascending address.
 #[derive(Drop)]
 pub(crate) struct Batch {
     pub(crate) used: u16,
@@ -44,7 +44,7 @@ pub(crate) struct Batch {
 }
 
 impl Batch {
-    /// No pair is in use, and nothing waits.
+    /// Returns an empty batch with no pair in use.
     pub(crate) fn new() -> Batch
         ensures used { result.used ≡ 0 }
         ensures waiting { result.waiting.items ≡ [] }
@@ -56,7 +56,7 @@ impl Batch {
     }
 }
 
-/// The word that waits for an address, if one does.
+/// Returns the waiting word for an address, if there is one.
 pub(crate) fn waiting_word(sets: &[Waiting], at: u16) -> Option<u32>
     ensures { result ≡ look_up at sets.now }
 {
@@ -68,7 +68,7 @@ pub(crate) fn waiting_word(sets: &[Waiting], at: u16) -> Option<u32>
     None
 }
 
-/// How many sets, from the first on, are of smaller addresses.
+/// Returns the number of leading sets with smaller addresses.
 fn place_of(sets: &[Waiting], at: u16) -> usize
     ensures { result ≡ before at sets.now }
 {
@@ -109,7 +109,7 @@ fn join(sets: &mut Sets, new: Waiting)
     }
 }
 
-/// The words of the first run of sets: of those at successive addresses in one page.
+/// Returns the words of the first run. A run has successive addresses in one page.
 fn first_run(sets: &[Waiting]) -> ArrayVec<u32, BATCH_SETS>
     requires some { 0 < length sets.now }
     requires few { length sets.now ≤ BATCH }
@@ -125,7 +125,8 @@ fn first_run(sets: &[Waiting]) -> ArrayVec<u32, BATCH_SETS>
     words
 }
 
-/// Whether a word goes on with a run of so many words from `first` on. The address after the last one fits no `u16`.
+/// Returns true if an address continues a run from `first` on. The run has `run` words so far. The sum is computed in
+/// 32 bits, since the address after the last one doesn't fit in 16.
 fn goes_on(first: u16, run: u32, at: u16) -> bool
     requires { run ≤ BATCH }
     ensures { result ≡ ((at == first + run) && not (at % PAGE_WORDS == 0)) }
@@ -133,7 +134,7 @@ fn goes_on(first: u16, run: u32, at: u16) -> bool
     u32::from(at) == u32::from(first) + run && at % PAGE_WORDS != 0
 }
 
-/// The pairs of sets as words of the journal: each address, and the word that is there.
+/// Reads the pairs of the sets, as words of the journal. A pair is the address and the present word.
 fn saved_pairs<B: Board>(
     board: &mut B,
     sets: &[Waiting],
@@ -154,7 +155,7 @@ fn saved_pairs<B: Board>(
     Ok(words)
 }
 
-/// Writes the words of sets whose pairs count, one device write for each run.
+/// Writes the words of sets that have pairs, run by run. Each run takes one device write.
 fn write_words<B: Board>(board: &mut B, sets: &[Waiting]) -> Result<(), DeviceErr>
     requires lit { (B.facts board.old).dark ≡ false }
     requires few { length sets.now ≤ BATCH }
@@ -181,7 +182,7 @@ fn write_words<B: Board>(board: &mut B, sets: &[Waiting]) -> Result<(), DeviceEr
     Ok(())
 }
 
-/// Sets data words behind their earlier words: first the pairs, then the gate that counts them, then the words.
+/// Writes a batch: first its pairs, then the gate, then its words.
 fn save_and_write<B: Board>(board: &mut B, used: u16, sets: &[Waiting]) -> Result<(), DeviceErr>
     requires lit { (B.facts board.old).dark ≡ false }
     requires sound { IsSound (B.facts board.old).words }
@@ -208,8 +209,8 @@ fn save_and_write<B: Board>(board: &mut B, used: u16, sets: &[Waiting]) -> Resul
     write_words(board, sets)
 }
 
-/// Writes what waits, if anything. Whatever comes of it, nothing waits any more, and its pairs are in use:
-/// the gate may have risen over them.
+/// Writes the waiting sets, if any. Afterwards none waits, and their pairs are in use, even after an error: the gate
+/// may already count them.
 fn flush<B: Board>(board: &mut B, batch: &mut Batch) -> Result<(), DeviceErr>
     requires lit { (B.facts board.old).dark ≡ false }
     requires sound { IsSound (B.facts board.old).words }
@@ -242,7 +243,7 @@ fn flush<B: Board>(board: &mut B, batch: &mut Batch) -> Result<(), DeviceErr>
     answer
 }
 
-/// Lets a set wait. As soon as the batch is full, it is written.
+/// Adds a set to the waiting ones. A full batch is written at once.
 pub(crate) fn add<B: Board>(board: &mut B, batch: &mut Batch, new: Waiting) -> Result<(), DeviceErr>
     requires held { IsHeld (B.facts board.old) batch.old.used batch.old.waiting.items }
     requires room { batch.old.used + array_vec_len batch.old.waiting < PAIRS }
@@ -271,7 +272,7 @@ pub(crate) fn add<B: Board>(board: &mut B, batch: &mut Batch, new: Waiting) -> R
     Ok(())
 }
 
-/// Ends a transaction: what waits is written, and the gate turns to 0, where anything was written.
+/// Commits: writes the waiting sets, then turns the gate to 0. Without a set it writes nothing.
 pub(crate) fn finish<B: Board>(board: &mut B, batch: &mut Batch) -> Result<(), DeviceErr>
     requires held { IsHeld (B.facts board.old) batch.old.used batch.old.waiting.items }
     ensures any_exit { (data_words (undo (B.facts board.new).words) ≡ data_words (undo (B.facts board.old).words))

@@ -1,26 +1,26 @@
-//! Why a store fails.
+//! Errors of the store.
 ghost use Rattle.undo_journal.specs.Memory.{store_err_of, open_fault_of};
 ghost use Rattle.std.specs.Prelude.{◌≡◌};
 
 use nvm_board::DeviceErr;
 
-/// Why a store has failed.
+/// The reason why a store has failed.
 #[derive(Clone, Copy, Debug, PartialEq, Eq)]
 pub enum StoreErr {
-    /// Power failed. The board is dark.
+    /// Power failed. The board is without power.
     PowerLost,
     /// The device failed.
     Fault,
 }
 
-/// Why a store was not opened.
+/// The reason why a store couldn't be opened.
 #[derive(Clone, Copy, Debug, PartialEq, Eq)]
 pub enum OpenFault {
-    /// Power failed, or was off. The board is dark.
+    /// Power failed, or was off. The board is without power.
     PowerLost,
     /// The device failed.
     Fault,
-    /// More pairs count than the journal has, or one of them names a word that is no data word. Nothing was
+    /// The journal is invalid. Its gate counts more pairs than it has, or a pair names no data word. Nothing was
     /// written.
     BadJournal,
 }

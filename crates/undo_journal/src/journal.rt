@@ -1,4 +1,4 @@
-//! The work of the journal on a board: the gate, the test of a journal, and the rollback.
+//! The journal on a board: the gate, the check of the journal, and the rollback.
 ghost use Rattle.std.specs.Prelude.{◌≡◌, ◌↔◌, ◌+◌, ◌*◌, ◌<◌, ◌≤◌, ℕ, false, IsTrue, IfOk, OnOk, MatchOption};
 ghost use Rattle.std.specs.Prelude.{◌%◌, length};
 ghost use Rattle.nvm_board.specs.Torn.{Torn, written};
@@ -22,14 +22,14 @@ pub(crate) fn write_word<B: Board>(board: &mut B, at: Address, word: u32) -> Res
     board.write(page, place, &[word])
 }
 
-/// Writes how many pairs count.
+/// Writes the number of pairs that count.
 pub(crate) fn write_gate<B: Board>(board: &mut B, count: u16) -> Result<(), DeviceErr>
     ensures { WritesWord GATE count (B.facts board.old) (B.facts board.new) result }
 {
     write_word(board, Address { number: GATE }, u32::from(count))
 }
 
-/// The address of a pair of the journal.
+/// Returns the address of a pair of the journal.
 fn pair_address(i: u16) -> Address
     requires { i < PAIRS }
     ensures { result.number ≡ JOURNAL + 2 * i }
@@ -39,7 +39,7 @@ fn pair_address(i: u16) -> Address
     }
 }
 
-/// Writes pairs into the journal, which lie in one page.
+/// Writes pairs of one page into the journal.
 pub(crate) fn write_pairs<B: Board>(board: &mut B, i: u16, words: &[u32]) -> Result<(), DeviceErr>
     requires whole { i % BATCH ≡ 0 }
     requires room { 2 * i + length words.now ≤ 2 * PAIRS }
@@ -56,7 +56,7 @@ pub(crate) fn write_pairs<B: Board>(board: &mut B, i: u16, words: &[u32]) -> Res
     board.write(page, place, words)
 }
 
-/// Whether an address is that of a data word, in a memory of so many words.
+/// Returns true for a data word's address. The memory has `words` words.
 fn is_data_address(at: u32, words: u32) -> bool
     requires { GATE ≤ words }
     ensures { IsTrue result ↔ (IsOutside at × (at < words)) }
@@ -64,14 +64,14 @@ fn is_data_address(at: u32, words: u32) -> bool
     at < u32::from(GATE) || (u32::from(JOURNAL_END)..words).contains(&at)
 }
 
-/// How many words a board has: up to 65,536, so that their number fits no address.
+/// Returns the number of words, up to 65,536. That number doesn't fit in 16 bits.
 fn word_count<B: Board>(board: &B) -> u32
     ensures { result ≡ length (B.facts board.now).words }
 {
     u32::from(PAGE_WORDS) * u32::from(board.pages())
 }
 
-/// Whether each of the first pairs names a data word.
+/// Returns true if the first `count` pairs all name data words.
 fn names_data_words<B: Board>(board: &mut B, count: u16) -> Result<bool, DeviceErr>
     requires lit { (B.facts board.old).dark ≡ false }
     requires room { count ≤ PAIRS }
@@ -90,7 +90,7 @@ fn names_data_words<B: Board>(board: &mut B, count: u16) -> Result<bool, DeviceE
     Ok(true)
 }
 
-/// How many pairs count, if undo is defined.
+/// Returns the number of pairs that count, `None` for an invalid journal.
 pub(crate) fn sound_pairs<B: Board>(board: &mut B) -> Result<Option<u16>, DeviceErr>
     ensures sound { IfOk result (λ c. MatchOption c (IsBadJournal (B.facts board.old).words)
         (λ n. IsSound (B.facts board.old).words × (gate (B.facts board.old).words ≡ n))) }
@@ -106,7 +106,7 @@ pub(crate) fn sound_pairs<B: Board>(board: &mut B) -> Result<Option<u16>, Device
     Ok(if sound { Some(count) } else { None })
 }
 
-/// Puts back the earlier word of a pair.
+/// Writes back the earlier word of a pair.
 fn put_back<B: Board>(board: &mut B, i: u16) -> Result<(), DeviceErr>
     requires inside { i < PAIRS }
     requires place { IsDataAddress (B.facts board.old).words (pair_at (B.facts board.old).words i).address }
@@ -119,8 +119,7 @@ fn put_back<B: Board>(board: &mut B, i: u16) -> Result<(), DeviceErr>
     write_word(board, Address { number: at as u16 }, earlier)
 }
 
-/// Puts back the earlier words, from the last pair to the first, and then sets the gate to 0. With no pair it
-/// writes nothing.
+/// Writes back the earlier words, last pair first. Then it sets the gate to 0. Without a pair it writes nothing.
 pub(crate) fn roll_back<B: Board>(board: &mut B, count: u16) -> Result<(), DeviceErr>
     requires sound { IsSound (B.facts board.old).words }
     requires counts { gate (B.facts board.old).words ≡ count }

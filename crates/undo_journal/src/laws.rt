@@ -2,7 +2,7 @@
 ghost use Rattle.std.specs.Prelude.{◌≡◌};
 ghost use Rattle.undo_journal.specs.declared.layout.TheConstants.{GATE, JOURNAL, JOURNAL_END, PAIRS};
 
-/// Where the gate and the journal lie: their addresses, the first one after them, and how many pairs there are.
+/// Proves the addresses of gate and journal, and the number of pairs.
 pub fn layout()
     ensures gate { GATE ≡ 1168 }
     ensures journal { JOURNAL ≡ 1184 }

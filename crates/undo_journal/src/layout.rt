@@ -1,7 +1,7 @@
-//! Where the journal lies in the memory.
+//! The place of the journal in the memory.
 use nvm_board::PAGE_WORDS;
 
-/// The page of the gate, whose word 0 is the number of pairs that count.
+/// The page of the gate. Its word 0, the gate, is the number of pairs that count.
 pub const GATE_PAGE: u16 = 73;
 
 /// The first page of the journal's pairs.
@@ -13,11 +13,11 @@ pub const JOURNAL_END_PAGE: u16 = 128;
 /// The address of the gate.
 pub const GATE: u16 = GATE_PAGE * PAGE_WORDS;
 
-/// The address of the journal's first pair. A pair is two words: an address, and the word that was there.
+/// The address of the first pair. A pair is two words: an address, and the earlier word at that address.
 pub const JOURNAL: u16 = JOURNAL_PAGE * PAGE_WORDS;
 
 /// The address of the first word after the journal.
 pub const JOURNAL_END: u16 = JOURNAL_END_PAGE * PAGE_WORDS;
 
-/// Pairs that the journal holds.
+/// The number of pairs in the journal.
 pub const PAIRS: u16 = (JOURNAL_END - JOURNAL) / 2;

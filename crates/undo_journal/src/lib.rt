@@ -1,5 +1,5 @@
-//! A store over a board: two lists of words, committed and current, of which a cut or a fault leaves the
-//! committed one. A journal of earlier words takes back what was not committed.
+//! A transactional store on a board, with an undo journal. After power loss or a fault, recovery restores the
+//! committed words: the journal has the earlier word of each one that an open transaction changed.
 #![tactic(auto)]
 
 mod address;

@@ -1,4 +1,4 @@
-//! The store: two lists of words over a board.
+//! The store: committed and current words on a board.
 ghost use Rattle.std.specs.Prelude.{◌≡◌, ◌⊎◌, ◌↔◌, ◌+◌, ◌-◌, ◌<◌, ◌≤◌, if◌then◌else◌, length, IsTrue, IfOk, IfErr};
 ghost use Rattle.std.specs.Prelude.{OnOk, OnErr, IsErrOf, Some, true, slice_index, slice_set};
 ghost use Rattle.std.specs.Option.{option_or};
@@ -26,9 +26,8 @@ use crate::txn::Txn;
 use nvm_board::{Armed, Board, DeviceErr, Faultless, has_no_fault};
 use std::marker::Model;
 
-/// Two lists of words over a board: the committed one, which a cut or a fault leaves, and the current one.
-/// After an error the store has failed: it answers the same error, and writes nothing, until its board is
-/// opened again.
+/// A store on a board: the committed words and the current words. Power loss or a fault leaves the committed ones.
+/// After an error the store has failed: it returns the same error and writes nothing until its board is opened again.
 #[derive(Drop)]
 pub struct Store<B: Board> {
     board: B,
@@ -60,11 +59,10 @@ impl<B: Board> Store<B> {
     ghost use Rattle.undo_journal.specs.Lent.{memory_of, store_of};
     ghost use Rattle.undo_journal.specs.Calls.{OnlyReads, Reads, Changes};
 
-    /// Opens the store of a board, and takes back what was not committed. Where that fails it gives the board
-    /// back.
+    /// Opens the store of a board and rolls back uncommitted words. On failure it returns the board.
     ///
     /// # Errors
-    /// `PowerLost` or `Fault` of the device; `BadJournal` where undo isn't defined, and nothing was written.
+    /// `PowerLost` or `Fault` of the device. `BadJournal` for an invalid journal; then nothing was written.
     pub fn open(mut board: B) -> Result<Store<B>, (B, OpenFault)>
         ensures ready { IfOk result IsReady }
         ensures undone { IfOk result (λ s. s.facts.words ≡ undo (B.facts board).words) }
@@ -76,7 +74,7 @@ impl<B: Board> Store<B> {
         ensures writes { IfOk result (λ s. WritesAtMost (start_writes (B.facts board)) (B.facts board) s.facts) }
         ensures counted { IfOk result (λ s. s.facts.writes ≡ (B.facts board).writes + start_writes (B.facts board)) }
 
-        // The undone words stay where the store is not opened, too, and undo is defined just where it was.
+        // A failed open changes neither the words after undo, nor if undo is defined.
         ensures kept_err { IfErr result (λ e. undo (B.facts e.0).words ≡ undo (B.facts board).words) }
         ensures sound_err { IfErr result (λ e. IsSound (B.facts e.0).words ↔ IsSound (B.facts board).words) }
         ensures not_opened { IfErr result (λ e. OpensNot e.1 (B.facts board) (B.facts e.0)) }
@@ -114,7 +112,7 @@ impl<B: Board> Store<B> {
         self.board.pages()
     }
 
-    /// The current word at an address.
+    /// Returns the current word at an address.
     ///
     /// # Errors
     /// The store's failure: power was lost, or the device failed, in this call or in an earlier one.
@@ -135,11 +133,11 @@ impl<B: Board> Store<B> {
         noted(&mut self.failed, answer)
     }
 
-    /// The word at an address of a store that is ready. No set waits then, and no call has failed, so the board alone
-    /// is asked: a start reads hundreds of words so.
+    /// Returns the word at an address of a store that is ready. Then no set waits and no call has failed, so one
+    /// device read is enough. Power-on reads hundreds of words in this way.
     ///
     /// # Errors
-    /// What the device answers: power was lost, or it failed.
+    /// The device's error: power was lost, or the device failed.
     pub fn read_committed(&mut self, at: u16) -> Result<u32, StoreErr>
         requires ready { IsReady self.old }
         requires place { IsDataAddress (committed self.old) at }
@@ -160,7 +158,7 @@ impl<B: Board> Store<B> {
         Txn { store: self }
     }
 
-    /// Writes one word lastingly, in one device write.
+    /// Commits one word, in one device write.
     ///
     /// # Errors
     /// The store's failure: power was lost, or the device failed, in this call or in an earlier one.
@@ -180,8 +178,8 @@ impl<B: Board> Store<B> {
         noted(&mut self.failed, answer)
     }
 
-    /// Writes 1 to 16 words of one page in one device write, without undo: after an error each of them is old
-    /// or new by itself.
+    /// Writes 1 to 16 words of one page without undo. It takes one device write. After an error each of them is old
+    /// or new, independently of the others.
     ///
     /// # Errors
     /// The store's failure: power was lost, or the device failed, in this call or in an earlier one.
@@ -202,7 +200,7 @@ impl<B: Board> Store<B> {
         noted(&mut self.failed, answer)
     }
 
-    /// Hands a comparison on to the board, and writes nothing.
+    /// Passes a comparison on to the board, and writes nothing.
     ///
     /// # Errors
     /// The store's failure: power was lost, or the device failed, in this call or in an earlier one.
@@ -219,7 +217,7 @@ impl<B: Board> Store<B> {
         ensures writes { self.new.facts.writes ≡ self.old.facts.writes }
         ensures cut { AimStays self.old.facts self.new.facts }
 
-        // The comparison and the match are counted, and nothing else.
+        // Only the comparison and the match are counted.
         ensures compared { OnOk result (self.new.facts.compares ≡ raised self.old.facts.compares secret) }
         ensures compared_err { OnErr result (RisesAt self.old.facts.compares secret self.new.facts.compares) }
         ensures matched { IfOk result (λ e. self.new.facts.matches ≡
@@ -231,7 +229,7 @@ impl<B: Board> Store<B> {
         noted(&mut self.failed, answer)
     }
 
-    /// The board, as it is.
+    /// Returns the board as it is.
     pub fn into_board(self) -> B
         ensures { B.facts result ≡ self.facts }
     {
@@ -243,7 +241,7 @@ impl<B: Board> Store<B> {
         board
     }
 
-    /// Ok unless the store has failed.
+    /// Returns the store's failure, if it has failed.
     pub(crate) fn check(&self) -> Result<(), StoreErr>
         ensures ready { OnOk result (IsOpen self.now) }
         ensures tells { self.now.failed ≡ result_err result }
@@ -255,14 +253,14 @@ impl<B: Board> Store<B> {
         }
     }
 
-    /// How many more sets there is room for.
+    /// Returns the number of further sets that fit in the journal.
     pub(crate) fn room(&self) -> usize
         ensures { result ≡ room self.now }
     {
         usize::from(PAIRS).saturating_sub(usize::from(self.batch.used) + self.batch.waiting.len())
     }
 
-    /// A set of a transaction.
+    /// Sets the current word at an address, in a transaction.
     pub(crate) fn set(&mut self, at: u16, word: u32) -> Result<(), StoreErr>
         requires room { 0 < room self.old }
         requires place { IsDataAddress (current self.old) at }
@@ -286,8 +284,8 @@ impl<B: Board> Store<B> {
         noted(&mut self.failed, answer)
     }
 
-    /// Makes the current words the committed ones: what waits is written, and the gate turns to 0,
-    /// and that word alone decides.
+    /// Commits the current words. It writes the waiting sets, then turns the gate to 0. The gate's write alone is the
+    /// commit.
     pub(crate) fn commit(&mut self) -> Result<(), StoreErr>
         ensures any_exit { (committed self.new ≡ committed self.old)
             ⊎ ((committed self.new ≡ current self.old) × TurnsGate (committed self.old) self.new) }
@@ -306,7 +304,7 @@ impl<B: Board> Store<B> {
                 noted(&mut self.failed, answer)
             }
             Err(e) => {
-                // The transaction is over, also on a store that has failed.
+                // The transaction is over even if the store has failed.
                 self.batch = Batch::new();
                 Err(e)
             }
@@ -322,7 +320,7 @@ impl<B: Board> Store<B> {
         ensures dark { IsErrOf result PowerLost → self.new.facts.dark ≡ true }
     {
         let checked = self.check();
-        // The transaction is over, also on a store that has failed.
+        // The transaction is over even if the store has failed.
         let count = self.batch.used;
         self.batch = Batch::new();
         checked?;
@@ -332,7 +330,7 @@ impl<B: Board> Store<B> {
 }
 
 impl<B: Armed> Store<B> {
-    /// Sets a cut, or a fault, to come at a later write (`Armed::arm`).
+    /// Sets a cut or a fault at a later write (`Armed::arm`).
     pub fn arm(&mut self, k: u32, mask: u16)
         requires { 1 ≤ k }
         ensures due { self.new.facts.due ≤ 1 }
@@ -350,7 +348,7 @@ impl<B: Armed> Store<B> {
 }
 
 impl<B: Faultless> Store<B> {
-    /// Tells that the board counts no fault, and that a cut is due where one is set.
+    /// Proves that no fault is counted. A cut is due if and only if one is set.
     pub fn has_no_fault(&self)
         ensures { HasNoFault self.now.facts }
     {
@@ -358,7 +356,7 @@ impl<B: Faultless> Store<B> {
     }
 }
 
-/// The device's answer, with the store's word for its error. An error is noted as the store's failure.
+/// Returns the device's result with a store error. An error becomes the store's failure.
 fn noted<T>(failed: &mut Option<StoreErr>, answer: Result<T, DeviceErr>) -> Result<T, StoreErr>
     ensures answer { result ≡ store_result_of answer }
     ensures failed { failed.new ≡ option_or (result_err result) failed.old }

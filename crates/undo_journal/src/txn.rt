@@ -1,4 +1,4 @@
-//! A transaction.
+//! Transactions.
 ghost use Rattle.std.specs.Prelude.{◌≡◌, ◌⊎◌, ◌+◌, ◌*◌, ◌<◌, ◌≤◌, length, IfOk, OnOk, IsErrOf, IsOk, None, Some};
 ghost use Rattle.std.specs.Prelude.{true, slice_index, slice_set};
 ghost use Rattle.std.specs.Result.{result_err};
@@ -17,8 +17,8 @@ use crate::error::StoreErr;
 use crate::store::Store;
 use nvm_board::Board;
 
-/// A transaction on a store: its sets become lasting together by `commit`, or none of them by `abandon`. It must be
-/// spent: by `end`, which is the one or the other by what became of the work, or by one of the two.
+/// A transaction on a store. `commit` makes all its sets permanent, `abandon` none of them. It must end with one of
+/// these, or with `end`, which chooses by the result of the work.
 pub struct Txn<'a, B: Board> {
     pub(crate) store: &'a mut Store<B>,
 }
@@ -27,14 +27,14 @@ impl<B: Board> Txn<'_, B> {
     ghost use Rattle.undo_journal.specs.Lent.{memory_of};
     ghost use Rattle.undo_journal.specs.Calls.{Changes, ReadsIn, SetsIn};
 
-    /// How many more sets there is room for.
+    /// Returns the number of further sets that fit in the journal.
     pub fn room(&self) -> usize
         ensures { result ≡ room (memory_of self.now) }
     {
         self.store.room()
     }
 
-    /// The current word at an address.
+    /// Returns the current word at an address.
     ///
     /// # Errors
     /// The store's failure: power was lost, or the device failed, in this call or in an earlier one.
@@ -47,9 +47,9 @@ impl<B: Board> Txn<'_, B> {
         self.store.read(at)
     }
 
-    /// Sets the current word at an address. It waits until eight sets do, or the commit comes: then they are written
-    /// together, in one device write for their pairs, one for the gate that counts these, and one for each run of
-    /// words. An abandon drops it.
+    /// Sets the current word at an address. The set waits until eight sets do, or until the commit. They are then
+    /// written together: one device write for their pairs, one for the gate, and one for each run of words. An
+    /// abandon drops waiting sets.
     ///
     /// # Errors
     /// The store's failure: power was lost, or the device failed, in this call or in an earlier one.
@@ -69,7 +69,7 @@ impl<B: Board> Txn<'_, B> {
         self.store.set(at, word)
     }
 
-    /// Sets the words from an address on, one by one, so that they lie in one run for each page.
+    /// Sets the words from an address on. They lie in one run per page.
     ///
     /// # Errors
     /// The store's failure: power was lost, or the device failed, in this call or in an earlier one.
@@ -91,8 +91,9 @@ impl<B: Board> Txn<'_, B> {
         Ok(())
     }
 
-    /// Makes the current words lasting: what waits is written, and then the gate turns to 0, in one device write. While
-    /// that word is old the words before stand, with it new these. Where no set was made it writes nothing.
+    /// Makes the current words permanent. It writes the waiting sets, then turns the gate to 0 in one device write.
+    /// Before that write, recovery restores the committed words; after it, the new words are committed. Without a set
+    /// it writes nothing.
     ///
     /// # Errors
     /// The store's failure: power was lost, or the device failed, in this call or in an earlier one.
@@ -117,8 +118,8 @@ impl<B: Board> Txn<'_, B> {
         store.commit()
     }
 
-    /// Takes the sets back: what waits is dropped, and earlier words are put back from the last pair to the first, and
-    /// then the gate. Where nothing was written it writes nothing.
+    /// Rolls the transaction back. It drops the waiting sets, writes back the earlier words, last pair first, and
+    /// then the gate. If no batch was written it writes nothing.
     ///
     /// # Errors
     /// The store's failure: power was lost, or the device failed, in this call or in an earlier one.
@@ -135,12 +136,12 @@ impl<B: Board> Txn<'_, B> {
         store.abandon()
     }
 
-    /// Ends the transaction by what became of its work: commits it where that was done, and abandons it where it
-    /// failed. Then the work's error is answered, also where the words could not be put back.
+    /// Ends the transaction by the result of the work. It commits after success and abandons after an error. Then it
+    /// returns the work's error, even if the rollback failed.
     ///
     /// # Errors
-    /// The work's error; or the store's failure in the commit:
-    /// power was lost, or the device failed, in it or in an earlier call.
+    /// The work's error, or the store's failure in the commit: power was lost, or the device failed, in this call or
+    /// in an earlier one.
     pub fn end(self, work: Result<(), StoreErr>) -> Result<(), StoreErr>
         ensures any_exit { (committed self.exit.0.now ≡ committed (memory_of self.entry))
             ⊎ (IsOk work × (committed self.exit.0.now ≡ current (memory_of self.entry))
@@ -161,7 +162,7 @@ impl<B: Board> Txn<'_, B> {
         match work {
             Ok(()) => store.commit(),
             Err(e) => {
-                // the error that ended the work is told, whatever comes of the rollback
+                // The work's error is returned, whatever the rollback does.
                 let _ = store.abandon();
                 Err(e)
             }
