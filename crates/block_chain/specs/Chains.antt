@@ -7,59 +7,58 @@ use Rattle.block_chain.specs.declared.chain.Chain.{Chain}
 use Rattle.block_chain.specs.Words.{link, block_bytes, IsBlock}
 use Rattle.block_chain.specs.Counts.{NoneTwice}
 
--- the links lead from a page over these blocks to this page
+-- The links lead from page `from` over these blocks to page `to`.
 abbrev pub Leads : List ℕ → ℕ → List ℕ → ℕ → Type 0
 Leads m from [] to = from ≡ to
 Leads m from (p ∷ ps) to = (from ≡ p) × IsBlock m p × Leads m (link m p) ps to
 
--- the pages that the links lead over from a page on, at most so many, up to the link 0
+-- The pages along the links from a page on up to the link 0, at most n of them.
 unfoldable pub pages_from : List ℕ → ℕ → ℕ → List ℕ
 pages_from m zero page = []
 pages_from m (suc n) page = if page == 0 then [] else page ∷ pages_from m n (link m page)
 
--- the chain from a page on, with at most as many links as a memory can have blocks
+-- The chain from a page on, with at most as many pages as a memory can have blocks.
 abbrev pub chain : List ℕ → ℕ → List ℕ
 chain m page = pages_from m MOST_BLOCKS page
 
--- the chain of the free blocks, which the header begins
+-- The chain of the free blocks, which begins in the header.
 abbrev pub free_chain : List ℕ → List ℕ
 free_chain m = chain m (slice_index m FREE_HEAD)
 
--- the bytes of these blocks
+-- The bytes of these blocks.
 unfoldable pub bytes_of : List ℕ → List ℕ → List ℕ
 bytes_of m ps = flat_map (block_bytes m) ps
 
--- These are the blocks of the chain from a page on: no block stands twice, the last links to 0. (No list of blocks
--- without
--- twins has more than there are; it is said here so that no proof has to count.)
+-- The pages are the blocks of the chain from a page on: no block occurs twice, and the last links to 0. The size
+-- follows from the other two fields. It is stated so that proofs needn't count.
 pub record IsChain (m : List ℕ) (from : ℕ) (ps : List ℕ) : Type 0 where
   pub leads : Leads m from ps 0
   pub once : NoneTwice ps
   pub size : length ps ≤ MOST_BLOCKS
 
--- the free blocks are a chain
+-- The free blocks are a chain.
 abbrev pub HasFree : List ℕ → Type 0
 HasFree m = IsChain m (slice_index m FREE_HEAD) (free_chain m)
 
--- the blocks of a chain that is named by its first and its last one
+-- The blocks of a chain that is named by its first and its last block.
 abbrev pub chain_of : List ℕ → Chain → List ℕ
 chain_of m c = chain m c.first
 
--- and its bytes
+-- The bytes of that chain.
 abbrev pub chain_bytes : List ℕ → Chain → List ℕ
 chain_bytes m c = bytes_of m (chain_of m c)
 
--- the chain has blocks, and its last is the one named
+-- The chain has at least one block, and its last block is the one named.
 pub record IsWhole (m : List ℕ) (c : Chain) : Type 0 where
   pub leads : Leads m c.first (chain_of m c) 0
   pub some : 1 ≤ length (chain_of m c)
   pub last : c.last ≡ slice_index (chain_of m c) (length (chain_of m c) - 1)
 
--- the blocks of chains, laid end to end
+-- The blocks of the chains, one chain after the other.
 unfoldable pub laid : List ℕ → List Chain → List ℕ
 laid m cs = flat_map (chain_of m) cs
 
--- Chains that can be given back: each is whole, and no block stands twice in them and the free chain.
+-- Chains that can be given back: each is whole, and no block occurs twice in them and in the free chain.
 pub record AreApart (m : List ℕ) (cs : List Chain) : Type 0 where
   pub each : All (IsWhole m) cs
   pub once : NoneTwice (laid m cs ++ free_chain m)

@@ -1,4 +1,4 @@
--- What the calls on chains make of the words of a memory.
+-- The effects of calls on chains on the words of a memory.
 use Rattle.std.specs.Prelude.{◌≡◌, ◌≢◌, ◌⊎◌, ◌==◌, ◌<◌, ◌≤◌, ◌+◌, ◌-◌, ◌/◌, ℕ, zero, suc, if◌then◌else◌}
 use Rattle.std.specs.Prelude.{List, ◌++◌, length, slice_index, take, drop}
 use Rattle.std.specs.List.{splice}
@@ -10,61 +10,61 @@ use Rattle.block_chain.specs.Layout.{IsOf}
 use Rattle.block_chain.specs.Counts.{IsNotIn}
 use Rattle.block_chain.specs.Chains.{free_chain, bytes_of, IsChain, laid}
 
--- Only the links of these blocks, and the header's word that names the first free block, may be other.
+-- Only the links of these blocks and the header's word for the first free block may change.
 pub record OnlyLinks (m : List ℕ) (ps : List ℕ) (after : List ℕ) : Type 0 where
   pub size : length after ≡ length m
   pub others : (page place : ℕ) → place < PAGE_WORDS → (place ≢ 0) ⊎ IsNotIn page ps
       → (page ≢ HEADER_PAGE) ⊎ (place ≢ FREE_HEAD_WORD) → word after page place ≡ word m page place
 
--- Only words of these blocks that hold bytes may be other: all but their links.
+-- Only the content words of these blocks may change: all but their links.
 pub record OnlyContent (m : List ℕ) (ps : List ℕ) (after : List ℕ) : Type 0 where
   pub size : length after ≡ length m
   pub others : (page place : ℕ) → place < PAGE_WORDS → (place ≡ 0) ⊎ IsNotIn page ps
       → word after page place ≡ word m page place
 
--- the first n free blocks become a chain, the others stay free
+-- The first n free blocks become a chain. The other ones stay free.
 pub record Takes (m : List ℕ) (n : ℕ) (c : Chain) (after : List ℕ) : Type 0 where
   pub taken : IsChain after c.first (take n (free_chain m))
   pub last : c.last ≡ slice_index (free_chain m) (n - 1)
   pub free : IsChain after (slice_index after FREE_HEAD) (drop n (free_chain m))
   pub only : OnlyLinks m (take n (free_chain m)) after
 
--- the blocks of these chains are free again, before those that were free
+-- The blocks of these chains are free again, in front of those that were free.
 pub record GivesBack (m : List ℕ) (cs : List Chain) (after : List ℕ) : Type 0 where
   pub free : IsChain after (slice_index after FREE_HEAD) (laid m cs ++ free_chain m)
   pub only : OnlyLinks m (laid m cs) after
 
--- bytes with others put in place of those from an offset on
+-- The bytes with new ones written over them from an offset on.
 abbrev pub overwrite : List ℕ → ℕ → List ℕ → List ℕ
 overwrite bytes offset new = splice bytes offset (offset + length new) new
 
--- the bytes of these blocks are overwritten, and all else stays
+-- The bytes of these blocks are overwritten. All else is unchanged.
 pub record Overwrites (m ps : List ℕ) (offset : ℕ) (bytes after : List ℕ) : Type 0 where
   pub content : bytes_of after ps ≡ overwrite (bytes_of m ps) offset bytes
   pub only : OnlyContent m ps after
 
--- how many words hold so many bytes of a chain from an offset on: four bytes a word
+-- The number of words that contain a range of bytes of a chain, four bytes a word.
 abbrev pub touched_words : ℕ → ℕ → ℕ
 touched_words offset zero = 0
 touched_words offset (suc n) = (offset + n) / 4 + 1 - offset / 4
 
--- how many blocks hold so many bytes of a chain from an offset on
+-- The number of blocks that contain a range of bytes of a chain.
 abbrev pub touched_blocks : ℕ → ℕ → ℕ
 touched_blocks offset zero = 0
 touched_blocks offset (suc n) = (offset + n) / BLOCK_BYTES + 1 - offset / BLOCK_BYTES
 
--- all words of these n blocks stay, and the header's that names the first free one
+-- All words of n blocks are unchanged, and so is the header's word for the first free block.
 pub record KeepsBlocks (n : ℕ) (m after : List ℕ) : Type 0 where
   pub size : length after ≡ length m
   pub words : (page place : ℕ) → IsOf n page → place < PAGE_WORDS → word after page place ≡ word m page place
   pub head : slice_index after FREE_HEAD ≡ slice_index m FREE_HEAD
 
--- some of these bytes, from the first on, are appended
+-- Some of these bytes, from the first on, are appended.
 pub record AppendsSome (old bytes new : List ℕ) : Type 0 where
   pub some : ℕ
   pub is : new ≡ old ++ take some bytes
 
--- Only the links of the pages from one page up to another may be other.
+-- Only the links of the pages from `first` up to `end` may change.
 pub record LinksAlone (first end : ℕ) (m after : List ℕ) : Type 0 where
   pub size : length after ≡ length m
   pub others : (page place : ℕ) → place < PAGE_WORDS → (place ≢ 0) ⊎ (page < first) ⊎ (end ≤ page)

@@ -1,4 +1,4 @@
--- What is meant: words, chains of blocks, what the calls make of them, and the layout. The laws stand apart.
+-- Blocks: words, chains, the effects of calls, and the layout. Their laws are in a module of their own.
 pub mod Words
 pub mod Counts
 pub mod Chains

@@ -1,4 +1,4 @@
--- What single steps of the calls on chains find and do. No public clause names these.
+-- Steps inside the calls on chains. No public clause uses these definitions.
 use Rattle.std.specs.Prelude.{◌≡◌, ◌<◌, ◌≤◌, ◌+◌, ◌-◌, ◌&&◌, ℕ, List, length, slice_index, nat_le, nat_lt}
 use Rattle.std.specs.Prelude.{if◌then◌else◌, ◌*◌, ◌%◌, [], ◌∷◌, slice_set}
 use Rattle.nvm_board.specs.Facts.{address}
@@ -12,12 +12,12 @@ use Rattle.block_chain.specs.declared.chain.Chain.{Chain}
 use Rattle.block_chain.specs.declared.layout.TheConstants.{FREE_HEAD, FIRST_BLOCK_PAGE, BLOCK_WORDS}
 use Rattle.block_chain.specs.declared.walk.Walked.{Walked}
 
--- the byte at a place, where bytes are put from an offset on
+-- The byte at index `at` after bytes are written from an offset on.
 abbrev pub byte_over : ℕ → List ℕ → ℕ → ℕ → ℕ
 byte_over offset bytes at byte =
     if nat_le offset at && nat_lt at (offset + length bytes) then slice_index bytes (at - offset) else byte
 
--- the first n free blocks, and the page of the one after them, or 0
+-- The first n free blocks, and the page of the free block after them, or 0.
 pub record IsFirstFree (m : List ℕ) (n : ℕ) (c : Chain) (rest : ℕ) : Type 0 where
   pub first : c.first ≡ slice_index m FREE_HEAD
   pub last : c.last ≡ slice_index (free_chain m) (n - 1)
@@ -25,7 +25,7 @@ pub record IsFirstFree (m : List ℕ) (n : ℕ) (c : Chain) (rest : ℕ) : Type 
   pub after : rest ≡ link m c.last
   pub small : rest < MOST_PAGES
 
--- One content word of a block takes over its bytes of those that are put from an offset on.
+-- One content word of a block takes its bytes from those that are written from an offset on.
 pub record PutsWord (m : List ℕ) (page k offset : ℕ) (bytes after : List ℕ) : Type 0 where
   pub put : ℕ
   pub done : after ≡ slice_set m (address page (1 + k % BLOCK_WORDS)) put
@@ -33,55 +33,56 @@ pub record PutsWord (m : List ℕ) (page k offset : ℕ) (bytes after : List ℕ
       → slice_index (word_bytes put) place ≡ byte_over offset bytes (4 * k + place)
       (slice_index (word_bytes (word m page (1 + k % BLOCK_WORDS))) place)
 
--- Behind reads, a set of some word at an address joins those that wait, or fills a batch with them.
+-- After some reads, a set of a word at an address joins the waiting sets, or fills a batch with them.
 pub record JoinsAt (at : ℕ) (old new : Memory) : Type 0 where
   pub found : Memory
   pub reads : OnlyReads old found
   pub word : ℕ
   pub joins : Joins (record { at = at; word = word }) found new
 
--- the first block of chains, or else the first free one
+-- The first block of the chains, or of the free chain if there are none.
 abbrev pub first_of : List ℕ → List Chain → ℕ
 first_of m [] = slice_index m FREE_HEAD
 first_of m (c ∷ cs) = c.first
 
--- the words after the last block of each chain links to the first of the next one, and of all to the first free one
+-- The words after joining. The last block of each chain links to the first of the next one, that of the last chain to
+-- the first free block.
 unfoldable pub joined : List ℕ → List Chain → List ℕ
 joined m [] = m
 joined m (c ∷ cs) = slice_set (joined m cs) (address c.last 0) (first_of m cs)
 
--- the word whose four bytes are this byte
+-- The word whose four bytes are this byte.
 abbrev pub filled_word : ℕ → ℕ
 filled_word byte = byte * 0x1000000 + byte * 0x10000 + byte * 0x100 + byte
 
--- a page that may be a block's in some memory
+-- A page that can be a block in some memory.
 abbrev pub IsPlace : ℕ → Type 0
 IsPlace page = (FIRST_BLOCK_PAGE ≤ page) × (page < MOST_PAGES)
 
--- how often a block was marked
+-- The mark of a block.
 abbrev pub marked : List ℕ → ℕ → ℕ
 marked seen page = slice_index seen (page - FIRST_BLOCK_PAGE)
 
--- no page is marked
+-- No page is marked.
 abbrev pub AreBlank : List ℕ → Type 0
 AreBlank seen = (place : ℕ) → slice_index seen place ≡ 0
 
--- a mark for each block before the page `end`, 0 or 1
+-- A mark for each block before the page `end`, 0 or 1.
 pub record AreMarks (end : ℕ) (seen : List ℕ) : Type 0 where
   pub room : end ≤ FIRST_BLOCK_PAGE + length seen
   pub each : (page : ℕ) → IsPlace page → marked seen page ≤ 1
 
--- the chain from a page on ends, all of it are blocks before the page `end`, and none was marked or stands in it twice
+-- The chain from a page on ends. It consists of blocks before the page `end`, none of them marked and none twice.
 pub record IsFresh (end : ℕ) (m : List ℕ) (seen : List ℕ) (from : ℕ) : Type 0 where
   pub leads : Leads m from (chain m from) 0
   pub below : (q : ℕ) → end ≤ q → IsNotIn q (chain m from)
   pub once : (page : ℕ) → IsPlace page → marked seen page + count page (chain m from) ≤ 1
 
--- these blocks were marked
+-- The walk marked these blocks.
 abbrev pub Marks : List ℕ → List ℕ → List ℕ → Type 0
 Marks old ps new = (page : ℕ) → IsPlace page → marked new page ≡ marked old page + count page ps
 
--- the chain from a page on was fresh, and is marked now
+-- The chain from a page on was fresh, and its blocks are now marked.
 pub record IsWalked (end : ℕ) (m : List ℕ) (from : ℕ) (old : List ℕ) (w : Walked) (new : List ℕ) : Type 0 where
   pub fresh : IsFresh end m old from
   pub blocks : w.blocks ≡ length (chain m from)

@@ -1,4 +1,4 @@
-//! Bytes of a chain that are set within a transaction, and of free blocks that are filled before one.
+//! Writing bytes of a chain in a transaction, and filling free blocks before one.
 ghost use Rattle.std.specs.Prelude.{◌≡◌, ◌↔◌, ◌+◌, ◌-◌, ◌*◌, ◌/◌, ◌<◌, ◌≤◌, ℕ, length, take, replicate, IfOk, OnOk};
 ghost use Rattle.std.specs.Prelude.{slice_index, ◌%◌, ◌==◌, if◌then◌else◌, IsTrue};
 ghost use Rattle.undo_journal.specs.Undo.{IsDataAddress};
@@ -23,7 +23,7 @@ use crate::layout::{BLOCK_BYTES, BLOCK_WORDS, WORD_BYTES};
 use crate::words::{next, read_head, read_link, walk};
 use undo_journal::{Board, PAGE_WORDS, Store, StoreErr, Txn};
 
-/// A word whose first byte is that at `at`, with bytes from an offset on put in place of its own.
+/// Returns a word with new bytes over its own. Its first byte is at `at`; the new bytes begin at `offset`.
 fn overwritten_word(word: u32, at: u16, offset: u16, bytes: &[u8]) -> u32
     requires { at + 3 < 65536 }
     ensures { (place : ℕ) → place < 4 → slice_index (word_bytes result) place
@@ -38,7 +38,7 @@ fn overwritten_word(word: u32, at: u16, offset: u16, bytes: &[u8]) -> u32
     ])
 }
 
-/// The byte at `at`, or the one of the bytes from an offset on that takes its place.
+/// Returns the byte at `at`, or the new byte over it.
 fn overwritten_byte(byte: u8, at: u16, offset: u16, bytes: &[u8]) -> u8
     ensures { result ≡ byte_over offset bytes.now at byte }
 {
@@ -49,14 +49,14 @@ fn overwritten_byte(byte: u8, at: u16, offset: u16, bytes: &[u8]) -> u8
     }
 }
 
-/// Whether bytes that are put from an offset on take the place of all four of a word, whose first byte is that at `at`.
+/// Returns true if new bytes cover all four of a word. Its first byte is at `at`; the new bytes begin at `offset`.
 fn covers_word(at: u16, offset: u16, bytes: &[u8]) -> bool
     ensures { IsTrue result ↔ ((offset ≤ at) × (at + 4 ≤ offset + length bytes.now)) }
 {
     offset <= at && usize::from(at - offset) + 4 <= bytes.len()
 }
 
-/// The word that four bytes make, from a place on.
+/// Returns four bytes from an index on as a word.
 fn word_of(bytes: &[u8], from: usize) -> u32
     requires { from + 4 ≤ length bytes.now }
     ensures { (place : ℕ) → place < 4 → slice_index (word_bytes result) place ≡ slice_index bytes.now (from + place) }
@@ -69,8 +69,9 @@ fn word_of(bytes: &[u8], from: usize) -> u32
     ])
 }
 
-/// The word at an address, whose first byte is that at `first` of a chain, with bytes from an offset on put in place of
-/// its own. It is read only where it keeps some of them, as at most the first and the last word of an update do.
+/// Returns the word at an address with new bytes over its own. Its first byte is at `first` in the chain; the new
+/// bytes begin at `offset`. The word is read only if some of its bytes stay, which concerns at most the first and the
+/// last word of an update.
 fn new_word<B: Board>(
     txn: &mut Txn<'_, B>,
     at: u16,
@@ -93,8 +94,7 @@ fn new_word<B: Board>(
     Ok(overwritten_word(word, first, offset, bytes))
 }
 
-/// Sets the content word of a block in which bytes lie that are put from an offset of its chain on:
-/// word k of the chain.
+/// Sets word k of a chain, which lies in block `page`. It takes its new bytes from those that begin at `offset`.
 fn put_word<B: Board>(
     txn: &mut Txn<'_, B>,
     page: u16,
@@ -119,8 +119,8 @@ fn put_word<B: Board>(
     txn.set(at, new)
 }
 
-/// The block that holds word k of a chain, by the block of the word before it: where a block ends between them, the
-/// next one.
+/// Returns the block of word k, by that of the word before. A block ends before word k if k is a multiple of
+/// `BLOCK_WORDS`.
 fn block_of_word<B: Board>(txn: &mut Txn<'_, B>, page: u16, k: u16) -> Result<u16, StoreErr>
     requires ready { IsOpen (memory_of txn.old) }
     requires block { IsBlock (current (memory_of txn.old)) page }
@@ -136,11 +136,11 @@ fn block_of_word<B: Board>(txn: &mut Txn<'_, B>, page: u16, k: u16) -> Result<u1
     }
 }
 
-/// Puts bytes in place of those of a chain from an offset on: one set for each touched word, in order, so that the sets
-/// lie in one run for each touched block. No bytes change nothing.
+/// Writes bytes over those of a chain from an offset on. It makes one set for each touched word, in order, so that
+/// the sets lie in one run for each touched block. Without bytes nothing changes.
 ///
 /// # Errors
-/// What the store answers: power was lost, or the device failed.
+/// The store's failure: power was lost, or the device failed.
 pub fn set_bytes<B: Board>(
     txn: &mut Txn<'_, B>,
     chain: Chain,
@@ -161,7 +161,7 @@ pub fn set_bytes<B: Board>(
     ensures none { length bytes.now ≡ 0 → memory_of txn.new ≡ memory_of txn.old }
 {
     if bytes.is_empty() {
-        // the offset may be the size of the chain: there is no block there
+        // The offset may be the size of the chain, and no block is there.
         return Ok(());
     }
     let mut page = walk(txn, chain.first, offset / BLOCK_BYTES)?;
@@ -191,11 +191,11 @@ fn fill_block<B: Board>(
     store.write_plain(page, 1, words)
 }
 
-/// Fills the first n free blocks with a byte, in one device write a block. No other word changes, at no exit, so that
-/// all that stood in the memory still stands.
+/// Fills the first n free blocks with a byte. It takes one device write per block. No other word changes, at any
+/// exit.
 ///
 /// # Errors
-/// What the store answers: power was lost, or the device failed. Then the blocks may hold anything.
+/// The store's failure: power was lost, or the device failed. Then the content of these blocks is undefined.
 pub fn fill<B: Board>(store: &mut Store<B>, n: u16, byte: u8) -> Result<(), StoreErr>
     requires ready { IsReady store.old }
     requires free { HasFree (committed store.old) }

@@ -1,19 +1,19 @@
-//! Chains, as the crates above name them.
+//! Chains, as callers name them.
 
-/// A chain of blocks, by its first and its last.
+/// A chain of blocks, by its first and its last block.
 #[derive(Clone, Copy, Default)]
 pub struct Chain {
-    /// The page of its first block.
+    /// The page of the first block.
     pub first: u16,
-    /// The page of its last block.
+    /// The page of the last block.
     pub last: u16,
 }
 
-/// A chain, and how many blocks it has.
+/// A chain with its number of blocks.
 #[derive(Clone, Copy, Default)]
 pub struct Extent {
     /// The chain.
     pub chain: Chain,
-    /// How many blocks it has.
+    /// The number of its blocks.
     pub blocks: u16,
 }

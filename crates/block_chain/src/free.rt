@@ -13,10 +13,10 @@ use crate::layout::FREE_HEAD;
 use crate::words::{head, next, read_head, read_link, walk};
 use undo_journal::{Board, PAGE_WORDS, Store, StoreErr, Txn};
 
-/// How many blocks are free: one device read a free block.
+/// Returns the number of free blocks. It takes one device read for the head and one per free block.
 ///
 /// # Errors
-/// What the store answers: power was lost, or the device failed.
+/// The store's failure: power was lost, or the device failed.
 pub fn free_count<B: Board>(store: &mut Store<B>) -> Result<u16, StoreErr>
     requires ready { IsReady store.old }
     requires free { HasFree (committed store.old) }
@@ -68,10 +68,10 @@ fn first_free<B: Board>(txn: &mut Txn<'_, B>, n: u16) -> Result<(Chain, u16), St
     Ok((Chain { first, last }, rest))
 }
 
-/// Takes the first n free blocks, of 1 or more: they become a chain, whose bytes stay as they are.
+/// Takes the first n free blocks as a chain. n is at least 1. Their bytes are unchanged.
 ///
 /// # Errors
-/// What the store answers: power was lost, or the device failed.
+/// The store's failure: power was lost, or the device failed.
 pub fn take<B: Board>(txn: &mut Txn<'_, B>, n: u16) -> Result<Chain, StoreErr>
     requires ready { IsOpen (memory_of txn.old) }
     requires free { HasFree (current (memory_of txn.old)) }
@@ -87,11 +87,11 @@ pub fn take<B: Board>(txn: &mut Txn<'_, B>, n: u16) -> Result<Chain, StoreErr>
     Ok(chain)
 }
 
-/// Gives the blocks of chains back: the last block of each links to the first of the next one, the last block of all to
-/// the first that was free. It makes one set for each chain and one for the header; no chains change nothing.
+/// Gives the blocks of chains back. The last block of each links to the first of the next one, and that of the last
+/// chain to the first free block. It makes one set per chain and one for the header. Without chains nothing changes.
 ///
 /// # Errors
-/// What the store answers: power was lost, or the device failed.
+/// The store's failure: power was lost, or the device failed.
 pub fn give_back<B: Board>(txn: &mut Txn<'_, B>, chains: &[Chain]) -> Result<(), StoreErr>
     requires ready { IsOpen (memory_of txn.old) }
     requires free { HasFree (current (memory_of txn.old)) }
@@ -108,7 +108,7 @@ pub fn give_back<B: Board>(txn: &mut Txn<'_, B>, chains: &[Chain]) -> Result<(),
     txn.set(FREE_HEAD, u32::from(page))
 }
 
-/// Joins chains to the free one. The answer is the first block of all, or 0.
+/// Joins chains to the free one, and returns its new first block.
 fn join<B: Board>(txn: &mut Txn<'_, B>, chains: &[Chain]) -> Result<u16, StoreErr>
     requires ready { IsOpen (memory_of txn.old) }
     requires free { HasFree (current (memory_of txn.old)) }

@@ -8,8 +8,8 @@ ghost use Rattle.block_chain.specs.Layout.{IsOf};
 ghost use Rattle.block_chain.specs.Words.{IsBlock, block_bytes, link};
 ghost use Rattle.block_chain.specs.Writes.{put_writes};
 
-/// Where blocks lie: from page 128 on, each with a link in its word 0 and 60 bytes in the 15 words after it. Word 1 of
-/// the memory names the first free block.
+/// Proves where blocks lie. They are the pages from 128 on. Word 0 of a block is its link; its other 15 words have 60
+/// bytes. Word 1 of the memory is the first free block.
 pub fn layout()
     ensures pages { (n page : ℕ) → IsOf n page ↔ ((128 ≤ page) × (page < 128 + n)) }
     ensures blocks { MOST_BLOCKS ≡ 3968 }
@@ -20,8 +20,8 @@ pub fn layout()
     ensures links { (m : List ℕ) (page : ℕ) → link m page ≡ slice_index m (16 * page) }
 {}
 
-/// How many device writes it takes to put bytes into a chain, with the commit: 29 of 255 bytes from the first on, 4 of
-/// 10, none of none; and wherever they begin no more than a transaction of so many words in so many blocks may make.
+/// Proves the device writes of an update with its commit. It takes 29 for 255 bytes at offset 0, 4 for 10 bytes, none
+/// for no bytes. At any offset they are no more than the bound for a transaction of these words in these blocks.
 #[tactic(auto, using(crate::specs::laws::Writes::put_writes_most))]
 pub fn put_costs()
     ensures most_bytes { put_writes 0 255 ≡ 29 }

@@ -1,4 +1,4 @@
-//! Pages behind the blocks of a memory that are linked, so that they can become blocks.
+//! Linking pages after the blocks of a memory, so that they can become blocks.
 ghost use Rattle.std.specs.Prelude.{◌≡◌, ◌==◌, ◌+◌, ◌-◌, ◌<◌, ◌≤◌, if◌then◌else◌, OnOk};
 ghost use Rattle.std.specs.Result.{result_err};
 ghost use Rattle.nvm_board.specs.Facts.{pages_of};
@@ -9,7 +9,7 @@ ghost use Rattle.block_chain.specs.Changes.{LinksAlone, LinksFirst, AreLinked};
 
 use undo_journal::{Board, Store, StoreErr};
 
-/// The page that a page before `end` links to: the next one, or where there is none the page `rest`.
+/// Returns the link of a page before `end`. It is the next page, or `rest`.
 fn next_page(page: u16, end: u16, rest: u16) -> u16
     requires { page < end }
     ensures { result ≡ (if page + 1 == end then rest else page + 1) }
@@ -17,11 +17,11 @@ fn next_page(page: u16, end: u16, rest: u16) -> u16
     if page + 1 == end { rest } else { page + 1 }
 }
 
-/// Links the pages from one page up to another, in ascending order: each to the next one, and the last to the page
-/// `rest`. It makes one plain write a page. No word changes but their links, at no exit.
+/// Links pages in ascending order, each to the next. The last links to `rest`. It takes one plain write per page.
+/// Only these links change, at any exit.
 ///
 /// # Errors
-/// What the store answers: power was lost, or the device failed. Then any first of them are linked.
+/// The store's failure: power was lost, or the device failed. Then only some of the pages may be linked.
 pub fn link_pages<B: Board>(
     store: &mut Store<B>,
     first: u16,

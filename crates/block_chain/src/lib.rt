@@ -1,5 +1,5 @@
-//! Chains of blocks over a store: lists of bytes that share no block, the free blocks among them, and the check that a
-//! memory's blocks are laid out so.
+//! Chains of blocks on a store: lists of bytes that share no block. The free blocks are a chain too. A check finds
+//! out if the blocks of a memory are laid out in this way.
 #![tactic(auto)]
 
 mod bytes;

@@ -17,7 +17,7 @@ use crate::words::read_link;
 use arrayvec::ArrayVec;
 use undo_journal::{Board, PAGE_WORDS, Store, StoreErr};
 
-/// A byte of a word, 0 the most significant.
+/// Returns byte `place` of a word, 0 the most significant.
 fn byte_of(word: u32, place: u16) -> u8
     requires { place < 4 }
     ensures { result ≡ slice_index (word_bytes word) place }
@@ -25,7 +25,7 @@ fn byte_of(word: u32, place: u16) -> u8
     word.to_be_bytes()[usize::from(place)]
 }
 
-/// Block k of a chain, by its first block: one device read a link.
+/// Returns block k of a chain, with one device read per link.
 fn block_at<B: Board>(store: &mut Store<B>, first: u16, k: u16) -> Result<u16, StoreErr>
     requires ready { IsReady store.old }
     requires leads { Leads (committed store.old) first (chain (committed store.old) first) 0 }
@@ -58,10 +58,10 @@ fn place_of_byte(offset: u16) -> u16
     offset / WORD_BYTES % BLOCK_WORDS
 }
 
-/// The byte of a chain at an offset below its size.
+/// Returns the byte of a chain at an offset below its size.
 ///
 /// # Errors
-/// What the store answers: power was lost, or the device failed.
+/// The store's failure: power was lost, or the device failed.
 pub fn byte_at<B: Board>(store: &mut Store<B>, chain: Chain, offset: u16) -> Result<u8, StoreErr>
     requires ready { IsReady store.old }
     requires leads { Leads (committed store.old) chain.first (chain_of (committed store.old) chain) 0 }
@@ -82,8 +82,8 @@ fn append_word<const N: usize>(out: &mut ArrayVec<u8, N>, word: u32)
     out.try_extend_from_slice(&word.to_be_bytes()).unwrap();
 }
 
-/// Appends some bytes of a word, from a place on, one by one.
-// (Kept out of the loop over words, in which nearly all are whole.)
+/// Appends `some` bytes of a word from `from` on, one by one.
+// Not part of the loop over words, since nearly all words of a long read are whole.
 #[inline(never)]
 fn append_part<const N: usize>(out: &mut ArrayVec<u8, N>, word: u32, from: u16, some: u16)
     requires within { from + some ≤ 4 }
@@ -95,8 +95,8 @@ fn append_part<const N: usize>(out: &mut ArrayVec<u8, N>, word: u32, from: u16, 
     }
 }
 
-/// Appends some bytes of a word, from a place on. A whole word, as nearly all of a long read are, is copied at once:
-/// that takes a third of the instructions that four single bytes do.
+/// Appends `some` bytes of a word from `from` on. A whole word, as nearly all of a long read are, is copied at once.
+/// That takes a third of the instructions of four single bytes.
 fn append_bytes<const N: usize>(out: &mut ArrayVec<u8, N>, word: u32, from: u16, some: u16)
     requires within { from + some ≤ 4 }
     requires room { array_vec_len out.old + some ≤ N }
@@ -162,11 +162,11 @@ fn block_of_byte<B: Board>(
     }
 }
 
-/// Appends so many bytes of a chain, from an offset on. It makes one device read for each word that holds some of them,
-/// and one for each link that it goes over. At an error some of them may stand in the buffer.
+/// Appends `count` bytes of a chain from an offset on. It takes one device read per touched word and one per link.
+/// After an error the buffer may have some of them.
 ///
 /// # Errors
-/// What the store answers: power was lost, or the device failed.
+/// The store's failure: power was lost, or the device failed.
 pub fn read_bytes<B: Board, const N: usize>(
     store: &mut Store<B>,
     chain: Chain,
@@ -186,7 +186,7 @@ pub fn read_bytes<B: Board, const N: usize>(
     ensures store { Reads store.old store.new (result_err result) }
 {
     if count == 0 {
-        // the offset may be the size of the chain: there is no block there
+        // The offset may be the size of the chain, and no block is there.
         return Ok(());
     }
     let mut page = block_at(store, chain.first, offset / BLOCK_BYTES)?;

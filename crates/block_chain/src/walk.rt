@@ -15,17 +15,17 @@ use crate::chain::Extent;
 use crate::layout::{FIRST_BLOCK_PAGE, FREE_HEAD, MOST_BLOCKS};
 use undo_journal::{Board, PAGE_WORDS, Store, StoreErr};
 
-/// So many marks at most are blanked in a few instructions; more of them a byte at a time.
+/// The greatest number of marks that are cleared in a few instructions. More are cleared byte by byte.
 const FEW_BLOCKS: u16 = 1_984;
 
-/// How long a chain is, and its last block, or 0.
+/// The length of a chain and its last block, or 0.
 #[derive(Clone, Copy)]
 pub(crate) struct Walked {
     pub blocks: u16,
     pub last: u16,
 }
 
-/// Marks a block before the page `end`, if it is one that was not marked before.
+/// Marks a block before the page `end`, unless it is marked already.
 fn mark(page: u32, end: u16, seen: &mut [u8]) -> bool
     requires some { FIRST_BLOCK_PAGE ≤ end }
     requires most { end ≤ MOST_PAGES }
@@ -47,8 +47,8 @@ fn mark(page: u32, end: u16, seen: &mut [u8]) -> bool
     true
 }
 
-/// Walks over the chain from a page on, and marks its blocks. The answer is None where it does not end, leads out of
-/// the blocks before the page `end`, or comes to one that was marked. The marks alone end a ring.
+/// Walks over the chain from a page on and marks its blocks. It returns `None` if the chain doesn't end, leads out of
+/// the blocks before the page `end`, or comes to a marked block. The marks alone end a cycle.
 #[inline(always)]
 fn walk_over<B: Board>(
     store: &mut Store<B>,
@@ -68,7 +68,7 @@ fn walk_over<B: Board>(
     let mut page = first;
     let mut blocks = 0;
     let mut last = 0;
-    // Page 0 is no block's, so what can't be marked is the end of the chain as well.
+    // Page 0 is no block, so a page that can't be marked may also be the end of the chain.
     while mark(page, end, seen) {
         last = page as u16;
         page = store.read_committed(PAGE_WORDS * last)?;
@@ -80,14 +80,15 @@ fn walk_over<B: Board>(
     Ok(Some(Walked { blocks, last }))
 }
 
-/// The check of the layout at a start: whether the free chain and these extents are laid out as they should be, each
-/// of so many blocks in exactly one of them, once. Then the answer is how many blocks are free, else None.
+/// Checks the layout of the blocks at power-on. The free chain and the extents must contain each of `count` blocks
+/// exactly once, and each extent must be as it says. It returns the number of free blocks, or `None` for another
+/// layout.
 ///
-/// Each block is marked when the walk first comes to it, and no marked one is gone over again. So a ring ends the walk,
-/// and there are never more device reads than blocks and one, whatever the words are.
+/// The walk marks each block when it first comes to it, and stops at a marked one. So a cycle ends the walk, and
+/// there are at most as many device reads as blocks and one, whatever the words are.
 ///
 /// # Errors
-/// What the store answers: power was lost, or the device failed.
+/// The store's failure: power was lost, or the device failed.
 pub fn lay<B: Board>(
     store: &mut Store<B>,
     extents: &[Extent],
@@ -106,8 +107,8 @@ pub fn lay<B: Board>(
     }
 }
 
-/// The same of a memory of more blocks. It is no part of `lay`, which would
-/// else blank all these marks for few blocks, too.
+/// Checks a memory of more blocks. It isn't part of `lay`, which would otherwise clear all these marks for few blocks
+/// too.
 #[inline(never)]
 fn lay_many<B: Board>(
     store: &mut Store<B>,
@@ -123,7 +124,7 @@ fn lay_many<B: Board>(
     lay_marked(store, extents, count, &mut seen)
 }
 
-/// The same over marks that are all blank. As a part of its caller it has marks whose address nothing else knows.
+/// Checks with cleared marks. It is inlined, so that the address of the marks is known to nothing else.
 #[inline(always)]
 fn lay_marked<B: Board>(
     store: &mut Store<B>,
@@ -161,7 +162,7 @@ fn lay_marked<B: Board>(
     Ok(Some(free))
 }
 
-/// Whether what was walked over is as an extent says.
+/// Returns true if a walked chain is as the extent says.
 fn is_extent(walked: Walked, extent: &Extent) -> bool
     ensures { IsTrue result ↔ ((walked.blocks ≡ extent.now.blocks) × (walked.last ≡ extent.now.chain.last)) }
 {

@@ -1,4 +1,4 @@
-//! Links of blocks, read from a store or within a transaction.
+//! Links of blocks, read from a store or in a transaction.
 ghost use Rattle.std.specs.Prelude.{◌≡◌, ◌*◌, ◌<◌, length, IfOk, slice_index};
 ghost use Rattle.std.specs.Result.{result_err};
 ghost use Rattle.nvm_board.specs.declared.board.TheConstants.{MOST_PAGES};
@@ -12,7 +12,7 @@ ghost use Rattle.block_chain.specs.declared.layout.TheConstants.{FREE_HEAD};
 use crate::layout::FREE_HEAD;
 use undo_journal::{Board, PAGE_WORDS, Store, StoreErr, Txn};
 
-/// The page of the first free block, or 0.
+/// Returns the page of the first free block, or 0.
 pub(crate) fn read_head<B: Board>(store: &mut Store<B>) -> Result<u16, StoreErr>
     requires ready { IsReady store.old }
     requires small { slice_index (committed store.old) FREE_HEAD < MOST_PAGES }
@@ -23,7 +23,7 @@ pub(crate) fn read_head<B: Board>(store: &mut Store<B>) -> Result<u16, StoreErr>
     Ok(word as u16)
 }
 
-/// The page of the block after a block, or 0.
+/// Returns the page of the next block in the chain, or 0.
 pub(crate) fn read_link<B: Board>(store: &mut Store<B>, page: u16) -> Result<u16, StoreErr>
     requires ready { IsReady store.old }
     requires block { IsBlock (committed store.old) page }
@@ -35,7 +35,7 @@ pub(crate) fn read_link<B: Board>(store: &mut Store<B>, page: u16) -> Result<u16
     Ok(word as u16)
 }
 
-/// The page of the first free block, or 0.
+/// Returns the page of the first free block, or 0.
 pub(crate) fn head<B: Board>(txn: &mut Txn<'_, B>) -> Result<u16, StoreErr>
     requires ready { IsOpen (memory_of txn.old) }
     requires small { slice_index (current (memory_of txn.old)) FREE_HEAD < MOST_PAGES }
@@ -46,7 +46,7 @@ pub(crate) fn head<B: Board>(txn: &mut Txn<'_, B>) -> Result<u16, StoreErr>
     Ok(word as u16)
 }
 
-/// The page of the block after a block, or 0.
+/// Returns the page of the next block in the chain, or 0.
 pub(crate) fn next<B: Board>(txn: &mut Txn<'_, B>, page: u16) -> Result<u16, StoreErr>
     requires ready { IsOpen (memory_of txn.old) }
     requires block { IsBlock (current (memory_of txn.old)) page }
@@ -58,7 +58,7 @@ pub(crate) fn next<B: Board>(txn: &mut Txn<'_, B>, page: u16) -> Result<u16, Sto
     Ok(word as u16)
 }
 
-/// Block k of a chain, by its first block.
+/// Returns block k of a chain, by its first block.
 pub(crate) fn walk<B: Board>(txn: &mut Txn<'_, B>, first: u16, k: u16) -> Result<u16, StoreErr>
     requires ready { IsOpen (memory_of txn.old) }
     requires leads { Leads (current (memory_of txn.old)) first (chain (current (memory_of txn.old)) first) 0 }
