@@ -1,4 +1,4 @@
--- What a change of the words of a memory makes of the tree of files.
+-- The effects of changed words on the file tree.
 use Rattle.std.specs.Prelude.{◌≡◌, ◌≢◌, ◌⊎◌, ◌<◌, ◌≤◌, ◌+◌, ℕ, List, [], ◌∷◌, ◌++◌, length, false, not, nat_eq}
 use Rattle.std.specs.List.{starts_with}
 use Rattle.std.specs.FinMap.{insert, retain_keys}
@@ -15,30 +15,30 @@ use Rattle.file_tree.specs.Formats.{block_count, SameFormat}
 use Rattle.file_tree.specs.Table.{table, entry_in, path_of, IsUsed}
 use Rattle.file_tree.specs.Trees.{tree_of, TreeStands}
 
--- the page of a file entry
+-- The page of a file entry.
 abbrev pub IsEntryPage : ℕ → Type 0
 IsEntryPage page = (FIRST_ENTRY_PAGE ≤ page) × (page < FIRST_ENTRY_PAGE + ENTRIES)
 
--- Every word before the blocks stays but those of file entries, and the header's that names the first free block.
+-- Every word before the blocks is unchanged, but for file entries and the header's word for the first free block.
 pub record KeepsRest (m after : List ℕ) : Type 0 where
   pub size : length after ≡ length m
   pub words : (page place : ℕ) → place < PAGE_WORDS → (IsEntryPage page → ⊥) → page < FIRST_BLOCK_PAGE
       → (page ≢ HEADER_PAGE) ⊎ (place ≢ FREE_HEAD_WORD) → word after page place ≡ word m page place
 
--- The words that the tree depends on stay: those of file entries and of blocks, the one that names the first free
--- block, and those that tell the format.
+-- The words that the tree depends on are unchanged: those of file entries and blocks, and the header's words for the
+-- first free block and for the format.
 pub record KeepsTree (m after : List ℕ) : Type 0 where
   pub entries : (page place : ℕ) → 1 ≤ page → page < 65 → place < PAGE_WORDS
       → word after page place ≡ word m page place
   pub blocks : KeepsBlocks (block_count m) m after
   pub format : SameFormat m after
 
--- a file with bytes put in place of its own from an offset on
+-- The file with bytes written over its own from an offset on.
 abbrev pub with_overwritten : File → ℕ → List ℕ → File
 with_overwritten file offset bytes =
     record file { kind = with_bytes file.kind (overwrite (bytes_of file.kind) offset bytes) }
 
--- The bytes of an entry's file are overwritten, and no other file is other.
+-- The bytes of an entry's file are overwritten. No other file changes.
 pub record Rewrites (m : List ℕ) (e offset : ℕ) (bytes after : List ℕ) : Type 0 where
   pub tree : tree_of after ≡ insert (tree_of m) (path_of (table m) e)
       (with_overwritten (file_at (tree_of m) (path_of (table m) e)) offset bytes)
@@ -47,7 +47,7 @@ pub record Rewrites (m : List ℕ) (e offset : ℕ) (bytes after : List ℕ) : T
   pub rest : KeepsRest m after
   pub table : table after ≡ table m
 
--- Neither the tree nor what is free is other.
+-- Neither the tree nor the free space changes.
 pub record SameTree (m after : List ℕ) : Type 0 where
   pub tree : tree_of after ≡ tree_of m
   pub stands : TreeStands after
@@ -55,13 +55,13 @@ pub record SameTree (m after : List ℕ) : Type 0 where
   pub rest : KeepsRest m after
   pub table : table after ≡ table m
 
--- A file more stands in the dedicated file of an entry, under this identifier, and no other file is other.
+-- A new file is in the DF of an entry under this identifier. No other file changes.
 pub record Creates (m : List ℕ) (df identifier : ℕ) (file : File) (after : List ℕ) : Type 0 where
   pub tree : tree_of after ≡ insert (tree_of m) (path_of (table m) df ++ identifier ∷ []) file
   pub stands : TreeStands after
   pub rest : KeepsRest m after
 
--- An entry's file is away, with all files below it, and no other file is other, nor its entry.
+-- The file of an entry is deleted with all files below it. No other file changes, and neither does its entry.
 pub record Deletes (m : List ℕ) (e : ℕ) (after : List ℕ) : Type 0 where
   pub tree : tree_of after ≡ retain_keys (tree_of m) (λ path. not (starts_with nat_eq path (path_of (table m) e)))
   pub stands : TreeStands after
@@ -69,6 +69,6 @@ pub record Deletes (m : List ℕ) (e : ℕ) (after : List ℕ) : Type 0 where
   pub kept : (f : ℕ) → IsUsed (table m) f → starts_with nat_eq (path_of (table m) f) (path_of (table m) e) ≡ false
       → (entry_in (table after) f ≡ entry_in (table m) f) × (path_of (table after) f ≡ path_of (table m) f)
 
--- so much more is free
+-- The free space with some more freed.
 abbrev pub with_freed : FreeSpace → FreeSpace → FreeSpace
 with_freed old freed = record { blocks = old.blocks + freed.blocks; entries = old.entries + freed.entries }

@@ -1,4 +1,4 @@
--- File entries: what the words of a page tell of a file, and the files that they mean.
+-- File entries: the encoding of an entry in the words of a page, and the file that it describes.
 use Rattle.std.specs.Prelude.{Bool, ℕ, ◌+◌, ◌*◌, ◌/◌, ◌%◌, ◌==◌, nat_le, if◌then◌else◌, List, map, take, replicate}
 use Rattle.std.specs.Prelude.{slice_index, slice_range, Option, None, Some, unwrap_or}
 use Rattle.std.specs.List.{flat_map, range_with_len}
@@ -14,18 +14,18 @@ use Rattle.file_tree.specs.declared.entry.EntryHead.{EntryHead}
 use Rattle.card_state.specs.FileTrees.{transparent, linear, cyclic, dedicated, elementary, Body, Kind, File}
 use Rattle.card_state.specs.Spaces.{blocks_for}
 
--- the first and the last two bytes of a word
+-- The first and the last two bytes of a word.
 abbrev pub high : ℕ → ℕ
 high word = word / 0x10000
 
 abbrev pub low : ℕ → ℕ
 low word = word % 0x10000
 
--- a byte of a word, the most significant first
+-- A byte of a word, the most significant one first.
 abbrev pub byte_of : ℕ → ℕ → ℕ
 byte_of word place = slice_index (word_bytes word) place
 
--- the entry that no file has
+-- A free entry.
 abbrev pub free_entry : Entry
 free_entry = record {
   kind = 0;
@@ -45,12 +45,12 @@ free_entry = record {
   start = 0;
 }
 
--- the bytes of so many words from a place on
+-- The bytes of n words from index `place` on.
 abbrev pub bytes_from : List ℕ → ℕ → ℕ → List ℕ
 bytes_from words place n = flat_map (λ k. word_bytes (slice_index words k)) (range_with_len place n)
 
--- The entry that the words of a page tell, the most significant byte first. Its kind is 0 where it is free, 1 of a
--- dedicated file, 2 of a transparent, 3 of a linear and 4 of a cyclic elementary file.
+-- The entry that the words of a page encode, the most significant byte first. Kinds: 0 free, 1 DF, 2 transparent, 3
+-- linear, 4 cyclic EF.
 abbrev pub entry_told : List ℕ → Entry
 entry_told words = record {
   kind = byte_of (slice_index words 0) 0;
@@ -70,7 +70,7 @@ entry_told words = record {
   start = low (slice_index words 10);
 }
 
--- Of a free entry only word 0 is looked at: where it is 0, nothing behind it counts.
+-- An entry is free if word 0 is 0, whatever the other words are.
 unfoldable pub entry_of : List ℕ → Entry
 entry_of words = if slice_index words 0 == 0 then free_entry else entry_told words
 
@@ -95,56 +95,55 @@ head_told first second =
       name_length = byte_of second 2;
     }
 
--- the state that a life cycle status byte tells, and the state of an entry's file (By the rules on
--- entries the byte stands for a state.)
+-- The life cycle state that a byte encodes, and that of an entry's file. By the rules on entries the byte is valid.
 abbrev pub state_told : ℕ → LifeCycle
 state_told byte = unwrap_or (life_cycle_at byte) Activated
 
 abbrev pub life_told : Entry → LifeCycle
 life_told entry = state_told entry.life
 
--- the name, and the access rule: so many of the bytes that the entry has for them
+-- The name and the access rule: the first bytes of their fields, as many as their lengths say.
 abbrev pub name_of : Entry → List ℕ
 name_of entry = take entry.name_length entry.name
 
 abbrev pub rule_of : Entry → List ℕ
 rule_of entry = take entry.rule_length entry.rule
 
--- whether that rule allows an operation in the state of the file, where these PINs are verified, and these are disabled
+-- True if the rule allows an operation in the file's state, with these verified and disabled PINs.
 abbrev pub is_allowed_by : Entry → AccessBit → List Bool → List Bool → Bool
 is_allowed_by entry bit verified disabled = allows (rule_of entry) bit (life_told entry) verified disabled
 
--- how many records a body has room for
+-- The number of records that fit.
 abbrev pub capacity_of : Entry → ℕ
 capacity_of entry = entry.size / entry.record_length
 
--- The record in a slot: the slots lie one behind the other, each as long as a record.
+-- The record in slot `i`. Slots are adjacent, each as long as a record.
 abbrev pub slot : Entry → List ℕ → ℕ → List ℕ
 slot entry bytes i = slice_range bytes (i * entry.record_length) (i * entry.record_length + entry.record_length)
 
--- record k of a linear file is in slot k - 1
+-- Record k of a linear EF is in slot k - 1.
 abbrev pub linear_records : Entry → List ℕ → List (List ℕ)
 linear_records entry bytes = map (slot entry bytes) (range_with_len 0 entry.records)
 
--- record k of a cyclic file is k - 1 slots behind the start, where the last slot is followed by the first
+-- Record k of a cyclic EF is k - 1 slots after the start. The first slot follows the last one.
 abbrev pub cyclic_records : Entry → List ℕ → List (List ℕ)
 cyclic_records entry bytes =
     map (λ i. slot entry bytes ((entry.start + i) % capacity_of entry)) (range_with_len 0 entry.records)
 
--- the body of an elementary file whose blocks hold these bytes
+-- The content of an EF whose blocks have these bytes.
 abbrev pub body_of : Entry → List ℕ → Body
 body_of entry bytes =
     if entry.kind == 2 then transparent (take entry.size bytes) else
     if entry.kind == 3 then linear entry.record_length (capacity_of entry) (linear_records entry bytes) else
     cyclic entry.record_length (capacity_of entry) (cyclic_records entry bytes)
 
--- a dedicated file has a name where its length is not 0, an elementary file a short identifier where it is not 0
+-- A DF has a name unless the length is 0. An EF has a short identifier unless it is 0.
 abbrev pub kind_of : Entry → List ℕ → Kind
 kind_of entry bytes =
     if entry.kind == 1 then dedicated (if entry.name_length == 0 then None else Some (name_of entry))
     else elementary (if entry.short == 0 then None else Some entry.short) (body_of entry bytes)
 
--- the file of a used entry whose blocks hold these bytes
+-- The file of a used entry whose blocks have these bytes.
 unfoldable pub file_of : Entry → List ℕ → File
 file_of entry bytes = record {
   life = life_told entry;
@@ -152,7 +151,7 @@ file_of entry bytes = record {
   kind = kind_of entry bytes;
 }
 
--- the blocks that an entry names: its chain has as many as its size takes
+-- The blocks of an EF: the chain that its entry names, with the number of blocks that its size needs.
 abbrev pub extent_told : Entry → Extent
 extent_told entry = record {
   chain = record { first = entry.first; last = entry.last };
@@ -160,6 +159,6 @@ extent_told entry = record {
       blocks_for entry.size;
 }
 
--- the entry of an elementary file names blocks, and no other entry does
+-- Only the entry of an EF has blocks.
 unfoldable pub extent_of : Entry → Option Extent
 extent_of entry = if nat_le 2 entry.kind then Some (extent_told entry) else None

@@ -1,4 +1,4 @@
--- What single steps of a search and of a change of an index find. No public clause names these.
+-- Steps inside a search and a change of an index. No public clause uses these definitions.
 use Rattle.std.specs.Prelude.{◌≡◌, ◌≢◌, ◌==◌, ◌<◌, ◌≤◌, ◌/◌, ◌++◌, ℕ, zero, suc, Bool, true, false, not}
 use Rattle.std.specs.Prelude.{if◌then◌else◌, List, [], ◌∷◌}
 use Rattle.std.specs.Prelude.{All, Contains, length, slice_index_or, Option, None, Some, Result, Ok, Err}
@@ -11,28 +11,28 @@ use Rattle.file_tree.specs.Table.{IsUsed, HaveIdentifiers}
 use Rattle.file_tree.specs.Subtrees.{leads}
 use Rattle.file_tree.specs.Indexes.{AreSorted, IsPlace, IsIndex, place_of}
 
--- the key of the place with a number
+-- The key of place `k`.
 abbrev pub key_at : List Place → ℕ → Place → Key
 key_at places k d = (slice_index_or places k d).key
 
--- all places before a number have keys before one, and all from a number on keys behind it
+-- All places before an index have smaller keys. `AreBehind`: all places from an index on have greater keys.
 abbrev pub AreBefore : List Place → Key → ℕ → Type 0
 AreBefore places key low = (k : ℕ) (d : Place) → k < low → IsBefore (key_at places k d) key
 
 abbrev pub AreBehind : List Place → Key → ℕ → Type 0
 AreBehind places key high = (k : ℕ) (d : Place) → high ≤ k → k < length places → IsBefore key (key_at places k d)
 
--- where a key stands, or where it would
+-- The result of a search: the index of the key, or else the one where it belongs.
 abbrev pub TellsSearch : List Place → Key → Result ℕ ℕ → Type 0
 TellsSearch places key (Ok at) = (d : Place) → key_at places at d ≡ key
 TellsSearch places key (Err at) = AreBefore places key at × AreBehind places key at
 
--- how many of 63 places are left after so many halvings
+-- The number of 63 places that are left after n halvings.
 unfoldable pub halved : ℕ → ℕ
 halved zero = 63
 halved (suc n) = halved n / 2
 
--- A place is put between those with keys before its own and those with keys behind it.
+-- A place is inserted after those with smaller keys and before those with greater keys.
 pub record Puts (old : List Place) (place : Place) (new : List Place) : Type 0 where
   pub front : List Place
   pub back : List Place
@@ -41,32 +41,32 @@ pub record Puts (old : List Place) (place : Place) (new : List Place) : Type 0 w
   pub before : All (λ p. IsBefore p.key place.key) front
   pub behind : All (λ p. IsBefore place.key p.key) back
 
--- a place was put, or else one has its key
+-- The place was inserted, or its key is in use.
 abbrev pub TellsPut : List Place → Place → List Place → Bool → Type 0
 TellsPut old place new true = Puts old place new
 TellsPut old place new false = All (λ p. p.key ≢ place.key) old → ⊥
 
--- the index of a table of entries, or None where two children of one dedicated file have one identifier
+-- The index of a table of entries, None if two children of one DF have the same identifier.
 abbrev pub TellsIndex : List Entry → Option Index → Type 0
 TellsIndex t None = HaveIdentifiers t → ⊥
 TellsIndex t (Some index) = HaveIdentifiers t × IsIndex t index
 
--- The places of the files of the entries 1 to before a number, by ascending keys.
+-- The places of the files of entries 1 to `end` - 1, by ascending keys.
 pub record ArePlacesTo (t : List Entry) (end : ℕ) (places : List Place) : Type 0 where
   pub each : All (IsPlace t) places
   pub below : All (λ p. p.entry < end) places
   pub all : (e : ℕ) → 0 < e → e < end → IsUsed t e → Contains places (place_of t e)
   pub sorted : AreSorted places
 
--- the parent of an entry by its place; the entry without one is the master file's
+-- The parent of an entry, from the places. Only the MF has no place.
 unfoldable pub parent_by : List Place → ℕ → ℕ
 parent_by [] e = 0
 parent_by (p ∷ ps) e = if p.entry == e then p.key.parent else parent_by ps e
 
--- whether at most so many steps to these parents lead from an entry to another one, or it is that
+-- True if entry `e` is `top`, or at most n steps to these parents lead there.
 abbrev pub leads_by : List Place → ℕ → ℕ → ℕ → Bool
 leads_by places n top e = leads (parent_by places) n top e
 
--- whether a place is neither that of an entry's file nor of a file below it
+-- True if the place is outside the subtree of an entry.
 abbrev pub is_outside : List Place → ℕ → Place → Bool
 is_outside places top p = not (leads_by places 7 top p.entry)

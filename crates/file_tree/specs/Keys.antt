@@ -1,11 +1,11 @@
--- What files are found by in an index, and the order of that.
+-- The keys of the index and their order.
 use Rattle.std.specs.Prelude.{◌≡◌, ◌⊎◌, ◌<◌, ℕ}
 use Rattle.file_tree.specs.declared.steps.Key.{Key}
 
--- the key of a file with this parent and identifier
+-- The key of a file with this parent and identifier.
 abbrev pub key_for : ℕ → ℕ → Key
 key_for parent identifier = record { parent = parent; identifier = identifier }
 
--- a key is before another by its parent, and below one parent by its identifier
+-- The order of keys: by parent, then by identifier.
 abbrev pub IsBefore : Key → Key → Type 0
 IsBefore one other = (one.parent < other.parent) ⊎ ((one.parent ≡ other.parent) × (one.identifier < other.identifier))

@@ -3,7 +3,7 @@ use Rattle.std.specs.Prelude.{ℕ}
 use Rattle.file_tree.specs.declared.kinds.EntryKind.{EntryKind}
 use Rattle.file_tree.specs.declared.kinds.EntryKind.TheVariants.{Free, Dedicated, Transparent, Linear, Cyclic}
 
--- the byte that stands for a kind; no other byte stands for one
+-- The byte of a kind. No other byte is one.
 abbrev pub kind_byte : EntryKind → ℕ
 kind_byte Free = 0
 kind_byte Dedicated = 1

@@ -1,5 +1,5 @@
--- What is meant: files and the tree, what names reach, free space, entries, their table, and the tree of a memory.
--- The laws stand apart.
+-- The file tree in a memory: entries, their table, the tree, its changes, names and the index. The laws are in a
+-- module of their own.
 pub mod States
 pub mod Kinds
 pub mod Entries

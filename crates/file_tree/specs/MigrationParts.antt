@@ -1,12 +1,12 @@
--- The way of a memory from format 1 to format 2: what its transaction makes of the words that were linked before it.
+-- The last step of the migration from format 1 to format 2: its transaction, after the new blocks are linked.
 use Rattle.std.specs.Prelude.{◌≡◌, ◌==◌, ◌<◌, ◌≤◌, ℕ, List, length, if◌then◌else◌}
 use Rattle.nvm_board.specs.declared.board.TheConstants.{PAGE_WORDS}
 use Rattle.block_chain.specs.Words.{word}
 use Rattle.block_chain.specs.declared.layout.TheConstants.{HEADER_PAGE, FREE_HEAD_WORD, FIRST_BLOCK_PAGE}
 use Rattle.file_tree.specs.declared.layout.TheConstants.{MARK_WORD, PAGES_WORD, MARK, OLD_END_PAGE, STATE_WORD}
 
--- The header has the mark of format 2, names this page as the end of the blocks, and page 1,024 as the first free
--- block, if there are more blocks than before; the state, the entries and the blocks are as they were.
+-- The header has the mark of format 2 and names page `end` as the end of the blocks. If there are new blocks, page
+-- 1,024 is the first free one. The state, the entries and the blocks are unchanged.
 pub record Renames (end : ℕ) (m after : List ℕ) : Type 0 where
   pub size : length after ≡ length m
   pub mark : word after HEADER_PAGE MARK_WORD ≡ MARK

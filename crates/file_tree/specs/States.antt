@@ -1,5 +1,4 @@
--- The life cycle of the files of a card: which files are barred, and what a command makes of a file's state
--- (ISO/IEC 7816-9; ISO/IEC 7816-4, 7.4.10).
+-- Changes of life cycle states in a memory (ISO/IEC 7816-9; ISO/IEC 7816-4, 7.4.10).
 use Rattle.std.specs.Prelude.{◌≡◌, ◌≢◌, ℕ, List, slice_set}
 use Rattle.std.specs.FinMap.{insert}
 use Rattle.card_rules.specs.LifeCycle.{life_cycle_byte}
@@ -14,11 +13,11 @@ use Rattle.file_tree.specs.Table.{table, entry_in, path_of}
 use Rattle.file_tree.specs.Trees.{tree_of, TreeStands}
 use Rattle.card_state.specs.FileLives.{with_life}
 
--- the words of a card whose use has ended
+-- The words after TERMINATE CARD USAGE.
 abbrev pub with_card_terminated : List ℕ → List ℕ
 with_card_terminated m = slice_set m (address HEADER_PAGE STATE_WORD) CARD_TERMINATED
 
--- The file of an entry is in a state, and nothing else of it or of another file is other.
+-- The file of an entry is in a state. Nothing else of it or of another file changes.
 pub record ChangesLife (m : List ℕ) (e : ℕ) (state : LifeCycle) (after : List ℕ) : Type 0 where
   pub tree : tree_of after
       ≡ insert (tree_of m) (path_of (table m) e) (with_life (file_at (tree_of m) (path_of (table m) e)) state)

@@ -1,10 +1,10 @@
--- A file in a store: what a call asks for that looks at a file, or changes it.
+-- A file in a store: the precondition of calls that read or change it.
 use Rattle.std.specs.Prelude.{ℕ}
 use Rattle.undo_journal.specs.Memory.{Memory, IsReady, committed}
 use Rattle.file_tree.specs.Table.{table, IsUsed}
 use Rattle.file_tree.specs.Trees.{TreeStands}
 
--- A store is ready, its words stand for a tree, and an entry has a file.
+-- The store is ready, its words are a valid tree, and the entry has a file.
 pub record HasFile (m : Memory) (e : ℕ) : Type 0 where
   pub ready : IsReady m
   pub tree : TreeStands (committed m)

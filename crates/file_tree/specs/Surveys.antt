@@ -1,4 +1,4 @@
--- What a start finds of a tree of files.
+-- The result of the check of a file tree.
 use Rattle.std.specs.Prelude.{◌≡◌, List, ℕ, Option, None, Some}
 use Rattle.file_tree.specs.declared.tree.Survey.{Survey}
 use Rattle.file_tree.specs.Formats.{block_count}
@@ -7,7 +7,7 @@ use Rattle.file_tree.specs.Table.{table}
 use Rattle.file_tree.specs.Trees.{tree_of, TreeStands}
 use Rattle.file_tree.specs.Indexes.{IsIndex}
 
--- the free space of the tree, and the index of its files, or None exactly where the words stand for none
+-- The free space and the index of the tree, None exactly if the words aren't a valid tree.
 abbrev pub TellsTree : List ℕ → Option Survey → Type 0
 TellsTree m None = TreeStands m → ⊥
 TellsTree m (Some survey) =

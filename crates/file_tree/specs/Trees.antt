@@ -1,4 +1,4 @@
--- The tree of files that the words of a memory stand for.
+-- The file tree in the words of a memory.
 use Rattle.std.specs.Prelude.{◌≡◌, ◌==◌, ℕ, if◌then◌else◌, List, [], Option, None, Some}
 use Rattle.std.specs.List.{range_with_len, filter_map}
 use Rattle.std.specs.Option.{option_map_or}
@@ -13,29 +13,29 @@ use Rattle.card_state.specs.Spaces.{free_space}
 use Rattle.file_tree.specs.Entries.{file_of, extent_of}
 use Rattle.file_tree.specs.Table.{table, entry_in, path_of, extents, IsTable}
 
--- the bytes in the blocks of an entry's file; a dedicated file has none
+-- The bytes in the blocks of an entry's file, none for a DF.
 unfoldable pub content : List ℕ → Entry → List ℕ
 content m entry = option_map_or (λ extent. bytes_of m (blocks_of m extent)) (extent_of entry) []
 
--- the file that an entry of a memory stands for
+-- The file that an entry of a memory describes.
 abbrev pub file_in : List ℕ → ℕ → File
 file_in m e = file_of (entry_in (table m) e) (content m (entry_in (table m) e))
 
--- the path and the file of an entry, if it has one
+-- The path and the file of an entry, if it has one.
 unfoldable pub node : List ℕ → ℕ → Option (Path × File)
 node m e = if (entry_in (table m) e).kind == 0 then None else Some (path_of (table m) e, file_in m e)
 
--- the tree of all files
+-- The tree of all files.
 unfoldable pub tree_of : List ℕ → Tree
 tree_of m = from_entries (filter_map (node m) (range_with_len 0 64))
 
--- The words stand for a tree: the entries hold to their rules, and the free chain and the files' chains hold each block
--- once, each file as many as its size takes.
+-- The words are a valid tree. The entries satisfy their rules, and the free chain and the files' chains contain each
+-- block once. Each file has as many blocks as its size needs.
 pub record TreeStands (m : List ℕ) : Type 0 where
   pub entries : IsTable (table m)
   pub blocks : AreLaid (block_count m) m (extents (table m))
 
--- what a check of the words answers: the free space of the tree, or None exactly where they stand for none
+-- The result of a check of the words: the free space of the tree, None exactly if the words aren't a valid tree.
 abbrev pub TellsSpace : List ℕ → Option FreeSpace → Type 0
 TellsSpace m None = TreeStands m → ⊥
 TellsSpace m (Some free) = TreeStands m × (free ≡ free_space (block_count m) (tree_of m))

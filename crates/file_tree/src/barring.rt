@@ -1,4 +1,4 @@
-//! Which files are barred, and what their rules allow (ISO/IEC 7816-9; ISO/IEC 7816-4, 7.4.10).
+//! Barred files and access rules (ISO/IEC 7816-9; ISO/IEC 7816-4, 7.4.10).
 
 ghost use Rattle.std.specs.Prelude.{◌≡◌};
 ghost use Rattle.undo_journal.specs.Memory.{committed};
@@ -16,16 +16,15 @@ use crate::reading::read_entry_head;
 use card_rules::{AccessBit, LifeCycle, PinSet, allows};
 use undo_journal::{Board, Store, StoreErr};
 
-/// A file in this state bars itself and all files below it.
+/// Returns true if this state bars a file and its descendants.
 fn bars(life: LifeCycle) -> bool
     ensures { result ≡ bars life }
 {
     matches!(life, LifeCycle::Deactivated | LifeCycle::Terminated)
 }
 
-/// A file above that of an entry is deactivated or terminated. By at most seven steps from child to parent all files
-/// above are met; each step reads the head of one entry, and a file that bars ends the way. `parent` is the number that
-/// the entry tells of its parent.
+/// Returns true if an ancestor is deactivated or terminated. At most seven steps to parents meet all ancestors. Each
+/// step reads the head of one entry, and the first file that bars ends the walk. `parent` is the parent in entry `e`.
 pub fn is_below_barred<B: Board>(store: &mut Store<B>, e: u8, parent: u8) -> Result<bool, StoreErr>
     requires file { HasFile store.old e }
     requires parent { parent ≡ (entry_in (table (committed store.old)) e).parent }
@@ -47,11 +46,11 @@ pub fn is_below_barred<B: Board>(store: &mut Store<B>, e: u8, parent: u8) -> Res
     Ok(false)
 }
 
-/// The file of an entry is barred: it, or a file above it, is deactivated or terminated. The entry is at hand: it isn't
-/// read again.
+/// Returns true if the file of an entry is barred. It or an ancestor is deactivated or terminated then. The entry is
+/// an argument, so it isn't read again.
 ///
 /// # Errors
-/// What the store answers: power was lost, or the device failed.
+/// The store's failure: power was lost, or the device failed.
 pub fn is_barred_at<B: Board>(store: &mut Store<B>, e: u8, entry: &Entry) -> Result<bool, StoreErr>
     requires file { HasFile store.old e }
     requires entry { entry.now ≡ entry_in (table (committed store.old)) e }
@@ -64,8 +63,8 @@ pub fn is_barred_at<B: Board>(store: &mut Store<B>, e: u8, entry: &Entry) -> Res
     is_below_barred(store, e, entry.parent)
 }
 
-/// Whether the access rule of an entry's file allows what the bit stands for, where these PINs are verified, and these
-/// are disabled (ISO/IEC 7816-4, 9.3.3). The entry is at hand: its rule is asked where it lies.
+/// Returns true if the entry's access rule allows the operation. `verified` and `disabled` are the PINs in these
+/// states (ISO/IEC 7816-4, 9.3.3). The rule is read in place, in the entry.
 pub fn is_allowed_at(entry: &Entry, bit: AccessBit, verified: &PinSet, disabled: &PinSet) -> bool
     ensures { result ≡ is_allowed_by entry.now bit verified.now disabled.now }
 {

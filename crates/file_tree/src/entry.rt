@@ -1,4 +1,4 @@
-//! File entries, as their pages hold them.
+//! File entries, as stored in their pages.
 
 ghost use Rattle.std.specs.Prelude.{◌≡◌, ◌≢◌, ◌↔◌, ◌<◌, ◌++◌, take, IfSome, IsNone, IsTrue};
 ghost use Rattle.card_rules.specs.LifeCycle.{life_cycle_byte};
@@ -14,39 +14,38 @@ use arrayvec::ArrayVec;
 use block_chain::{Chain, Extent};
 use card_rules::LifeCycle;
 
-/// A file entry, as words 0 to 10 of its page tell it. Any words are an entry; the rules on entries say which tables of
-/// entries are a tree.
+/// A file entry: words 0 to 10 of its page. Any words are an entry; the rules on entries say which tables are a tree.
 #[derive(Clone, Copy, Default)]
 pub struct Entry {
-    /// The byte of its kind.
+    /// The kind as a byte.
     pub kind: u8,
     /// The life cycle status byte (ISO/IEC 7816-4, 7.4.10).
     pub life: u8,
     /// The file identifier.
     pub identifier: u16,
-    /// The number of the parent's entry; the master file's is its own, 0.
+    /// The number of the parent's entry, for the MF its own (0).
     pub parent: u8,
     /// The short identifier, or 0 for none.
     pub short: u8,
-    /// How many bytes of `name` are the name of a dedicated file; 0 for none.
+    /// The length of a DF's name in `name`, 0 for none.
     pub name_length: u8,
-    /// How many bytes of `rule` are the access rule.
+    /// The length of the access rule in `rule`.
     pub rule_length: u8,
-    /// The access rule in compact format, and bytes that are not looked at.
+    /// The access rule in compact format, then unused bytes.
     pub rule: [u8; 8],
-    /// The name, and bytes that are not looked at.
+    /// The name, then unused bytes.
     pub name: [u8; 16],
-    /// The bytes that are reserved for the body.
+    /// The bytes that are reserved for the content.
     pub size: u16,
-    /// The bytes of a record; of a transparent file 0.
+    /// The record length in bytes, 0 for a transparent EF.
     pub record_length: u16,
-    /// The page of the body's first block.
+    /// The page of the content's first block.
     pub first: u16,
-    /// The page of its last block.
+    /// The page of the content's last block.
     pub last: u16,
-    /// How many records exist.
+    /// The number of records that exist.
     pub records: u16,
-    /// The slot of record 1 of a cyclic file; of other files 0.
+    /// The slot of record 1 of a cyclic EF, 0 for others.
     pub start: u16,
 }
 
@@ -54,11 +53,11 @@ pub struct Entry {
 /// name need no more.
 #[derive(Clone, Copy)]
 pub struct EntryHead {
-    /// The byte of the entry's kind.
+    /// The kind as a byte.
     pub kind: u8,
     /// The life cycle status byte (ISO/IEC 7816-4, 7.4.10).
     pub life: u8,
-    /// The number of the parent's entry; the master file's is its own, 0.
+    /// The number of the parent's entry, for the MF its own (0).
     pub parent: u8,
     /// The short identifier; 0 where there is none.
     pub short: u8,
@@ -66,24 +65,24 @@ pub struct EntryHead {
     pub name_length: u8,
 }
 
-/// The most elements of a list that has at most one for each entry.
+/// The capacity of a list with at most one element per entry.
 pub const TABLE_ROOM: usize = ENTRIES as usize;
 
-/// The file entries of a memory, in the order of their numbers.
+/// The file entries of a memory, by number.
 pub type Table = ArrayVec<Entry, TABLE_ROOM>;
 
-/// The extents of elementary files.
+/// The extents of EFs.
 pub type ExtentList = ArrayVec<Extent, TABLE_ROOM>;
 
 impl Entry {
-    /// The entry that no file has.
+    /// Returns a free entry.
     pub fn free() -> Entry
         ensures { result ≡ free_entry }
     {
         Entry::default()
     }
 
-    /// The entry that the first words of a page tell.
+    /// Returns the entry that the first words of a page encode.
     pub(crate) fn from_words(words: &[u32; ENTRY_WORDS]) -> Entry
         ensures { result ≡ entry_of words.now }
     {
@@ -111,7 +110,7 @@ impl Entry {
         }
     }
 
-    /// What of it concerns the files below.
+    /// Returns the head of the entry.
     pub fn head(&self) -> EntryHead
         ensures { result ≡ head_of self.now }
     {
@@ -124,7 +123,7 @@ impl Entry {
         }
     }
 
-    /// What it is for; None where its byte stands for no kind, as in no entry of a tree.
+    /// Returns the kind, or `None` for an invalid byte. An entry of a tree always has a valid one.
     pub fn kind(&self) -> Option<EntryKind>
         ensures some { IfSome result (λ kind. self.now.kind ≡ kind_byte kind) }
         ensures none { IsNone result → 4 < self.now.kind }
@@ -132,49 +131,50 @@ impl Entry {
         EntryKind::from_byte(self.kind)
     }
 
-    /// Whether it is of this kind.
+    /// Returns true if the entry has this kind.
     pub fn has_kind(&self, kind: EntryKind) -> bool
         ensures { IsTrue result ↔ (self.now.kind ≡ kind_byte kind) }
     {
         self.kind == kind.to_byte()
     }
 
-    /// Whether a file has it.
+    /// Returns true if the entry has a file.
     pub fn is_used(&self) -> bool
         ensures { IsTrue result ↔ (self.now.kind ≢ 0) }
     {
         !self.has_kind(EntryKind::Free)
     }
 
-    /// The state of the file.
+    /// Returns the life cycle state of the file.
     pub fn life_cycle(&self) -> LifeCycle
         ensures { result ≡ life_told self.now }
     {
         state_of(self.life)
     }
 
-    /// Whether its file is in this state.
+    /// Returns true if the file is in this life cycle state.
     pub fn has_life_cycle(&self, state: LifeCycle) -> bool
         ensures { IsTrue result ↔ (self.now.life ≡ life_cycle_byte state) }
     {
         self.life == state.to_byte()
     }
 
-    /// The name of a dedicated file, or no bytes.
+    /// Returns the name of a DF, empty without one.
     pub fn name(&self) -> &[u8]
         ensures { result.now ≡ name_of self.now }
     {
         first_bytes(&self.name, self.name_length)
     }
 
-    /// The access rule.
+    /// Returns the access rule.
     pub fn rule(&self) -> &[u8]
         ensures { result.now ≡ rule_of self.now }
     {
         first_bytes(&self.rule, self.rule_length)
     }
 
-    /// The blocks that an elementary file has: as many as its size takes, in the chain that the entry names.
+    /// Returns the blocks of an EF, `None` for other entries. Their number follows from the size; the entry names the
+    /// chain.
     #[tactic(auto, unfolding(crate::specs::Entries::extent_of))]
     pub(crate) fn extent(&self) -> Option<Extent>
         ensures { result ≡ extent_of self.now }
@@ -192,7 +192,7 @@ impl Entry {
 }
 
 impl EntryHead {
-    /// The head of the entry that begins with these words.
+    /// Returns the head of the entry that begins with these words.
     pub(crate) fn from_words(first: u32, second: u32) -> EntryHead
         ensures { result ≡ head_told first second }
     {
@@ -217,14 +217,14 @@ impl EntryHead {
         self.kind != EntryKind::Free.to_byte()
     }
 
-    /// Whether the entry is a dedicated file's.
+    /// Returns true for the entry of a DF.
     pub fn is_dedicated(self) -> bool
         ensures { IsTrue result ↔ (self.kind ≡ 1) }
     {
         self.kind == EntryKind::Dedicated.to_byte()
     }
 
-    /// The state of the entry's file.
+    /// Returns the life cycle state of the entry's file.
     pub fn life_cycle(self) -> LifeCycle
         ensures { result ≡ state_told self.life }
     {
@@ -232,14 +232,14 @@ impl EntryHead {
     }
 }
 
-/// The state that a life cycle status byte tells. In an entry of a tree the byte stands for one.
+/// Returns the state that a life cycle status byte encodes. An entry of a tree always has a valid byte.
 fn state_of(life: u8) -> LifeCycle
     ensures { result ≡ state_told life }
 {
     LifeCycle::from_byte(life).unwrap_or(LifeCycle::Activated)
 }
 
-/// The first bytes of some, so many as are meant, or all where there are fewer.
+/// Returns the first `length` bytes, or all if there are fewer.
 fn first_bytes(bytes: &[u8], length: u8) -> &[u8]
     ensures { result.now ≡ take length bytes.now }
 {
@@ -247,28 +247,28 @@ fn first_bytes(bytes: &[u8], length: u8) -> &[u8]
     &bytes[..length]
 }
 
-/// The first two bytes of a word.
+/// Returns the first two bytes of a word.
 fn high(word: u32) -> u16
     ensures { result ≡ high word }
 {
     (word >> 16) as u16
 }
 
-/// The last two bytes of a word.
+/// Returns the last two bytes of a word.
 fn low(word: u32) -> u16
     ensures { result ≡ low word }
 {
     (word % 0x1_0000) as u16
 }
 
-/// The bytes of two words, as those of one number: so they are put in one piece where they are stored.
+/// Returns the bytes of two words. They are built from one number, so that they are stored in one piece.
 fn two_words(first: u32, second: u32) -> [u8; 8]
     ensures { result ≡ word_bytes first ++ word_bytes second }
 {
     (u64::from(first) * 0x1_0000_0000 + u64::from(second)).to_be_bytes()
 }
 
-/// The bytes of four words.
+/// Returns the bytes of four words.
 fn four_words(first: u32, second: u32, third: u32, fourth: u32) -> [u8; 16]
     ensures { result ≡ word_bytes first ++ word_bytes second ++ word_bytes third ++ word_bytes fourth }
 {

@@ -1,4 +1,4 @@
-//! The format of a memory, as its header tells it.
+//! The format of a memory, as its header says.
 
 ghost use Rattle.std.specs.Prelude.{◌≡◌, ◌+◌, ◌-◌, ◌<◌, ◌≤◌, IfOk, MatchOption};
 ghost use Rattle.std.specs.Result.{result_err};
@@ -12,7 +12,7 @@ use crate::layout::{MARK, MARK_WORD, OLD_END_PAGE, PAGES_WORD};
 use block_chain::{FIRST_BLOCK_PAGE, HEADER_PAGE};
 use undo_journal::{Board, PAGE_WORDS, Store, StoreErr};
 
-/// The page where the blocks end: the one that a header of format 2 names, or that of format 1.
+/// Returns the page where the blocks end. The header of format 2 names it; format 1 has a fixed one.
 fn read_end_page<B: Board>(store: &mut Store<B>) -> Result<u32, StoreErr>
     requires ready { IsReady store.old }
     ensures end { IfOk result (λ end. end ≡ end_page (committed store.old)) }
@@ -26,7 +26,7 @@ fn read_end_page<B: Board>(store: &mut Store<B>) -> Result<u32, StoreErr>
     }
 }
 
-/// How many blocks end before a page, if this is in the memory.
+/// Returns the number of blocks before page `end`. It returns `None` if that page is outside the memory.
 fn count_before(end: u32, pages: u16) -> Option<u16>
     requires { FIRST_BLOCK_PAGE ≤ pages }
     ensures { MatchOption result (pages < end) (λ n. (n ≡ end - FIRST_BLOCK_PAGE) × (FIRST_BLOCK_PAGE + n ≤ pages)) }
@@ -37,7 +37,7 @@ fn count_before(end: u32, pages: u16) -> Option<u16>
     Some((end as u16).saturating_sub(FIRST_BLOCK_PAGE))
 }
 
-/// How many blocks the memory has by its header, or None where they do not all lie in it.
+/// Returns the number of blocks. It returns `None` if not all of them lie in the memory.
 pub(crate) fn read_block_count<B: Board>(store: &mut Store<B>) -> Result<Option<u16>, StoreErr>
     requires ready { IsReady store.old }
     ensures count { IfOk result (λ count. MatchOption count

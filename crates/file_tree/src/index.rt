@@ -1,4 +1,4 @@
-//! Where each file is by its parent and identifier, held in working memory, so that no store is read to find it.
+//! The index: each file by parent and identifier, in working memory. A lookup reads no store.
 
 ghost use Rattle.std.specs.Prelude.{◌≡◌, ◌<◌, ◌≤◌, ◌↔◌, ℕ, List, All, IsTrue, length, filter, option_map};
 ghost use Rattle.std.specs.Prelude.{slice_index};
@@ -19,27 +19,27 @@ use crate::steps::{Key, Steps};
 use arrayvec::ArrayVec;
 use std::cmp::Ordering;
 
-/// The most places: one for each entry but the master file's.
+/// The greatest number of places: one per entry but the MF's.
 const MOST_PLACES: usize = 63;
 
-/// Where a file is: what it is found by, and its entry.
+/// The place of a file: its key and its entry.
 #[derive(Clone, Copy, Default)]
 struct Place {
     key: Key,
     entry: u8,
 }
 
-/// Places by ascending keys.
+/// Places in ascending order of their keys.
 type PlaceList = ArrayVec<Place, MOST_PLACES>;
 
-/// Where each file of a tree is but the master file, by ascending keys.
+/// The places of all files but the MF, by ascending keys.
 #[derive(Drop)]
 pub struct Index {
     places: PlaceList,
 }
 
-/// Where a key stands among places with ascending keys, or else where it would stand.
-/// Each comparison halves what is left of them.
+/// Searches a key among places in ascending order, by bisection. It returns the index of the key, or else the one
+/// where it belongs.
 fn search(places: &[Place], key: Key, steps: &mut Steps) -> Result<usize, usize>
     requires few { length places.now ≤ 63 }
     requires fresh { steps.old ≡ 0 }
@@ -60,7 +60,7 @@ fn search(places: &[Place], key: Key, steps: &mut Steps) -> Result<usize, usize>
     Err(low)
 }
 
-/// Whether a key is behind those of all places, which ascend.
+/// Returns true if a key is greater than those of all places.
 fn is_behind(places: &[Place], key: Key) -> bool
     ensures { AreSorted places.now → (IsTrue result ↔ All (λ place. IsBefore place.key key) places.now) }
 {
@@ -75,7 +75,7 @@ fn is_behind(places: &[Place], key: Key) -> bool
     }
 }
 
-/// The entry of the parent of an entry's file; of the master file its own.
+/// Returns the parent of an entry's file, for the MF its own.
 fn parent_of(places: &[Place], entry: u8) -> u8
     ensures { result ≡ parent_by places.now entry }
 {
@@ -118,7 +118,7 @@ fn places_outside(places: &[Place], top: u8) -> PlaceList
 }
 
 impl Index {
-    /// The index of a table of entries, or None where two children of one dedicated file have one identifier.
+    /// Returns the index of a table of entries. It returns `None` if two children of one DF have the same identifier.
     pub(crate) fn of(entries: &[Entry]) -> Option<Index>
         requires { length entries.now ≡ 64 }
         ensures { TellsIndex entries.now result }
@@ -141,8 +141,7 @@ impl Index {
         Some(index)
     }
 
-    /// The entry of the child of a dedicated file with an identifier, if it has one,
-    /// and how many comparisons that took.
+    /// Returns the child of a DF by identifier, with the comparisons made. The child is an entry number, or `None`.
     pub fn find(&self, parent: u8, identifier: u16) -> (Reached, Steps)
         ensures found { (m : List ℕ) → IsIndex (table m) self.now → TellsChild (table m) parent identifier result.0 }
         ensures path { (m : List ℕ) → TreeStands m → IsUsed (table m) parent → IsIndex (table m) self.now
@@ -158,7 +157,7 @@ impl Index {
         }
     }
 
-    /// The entry of the child of a dedicated file with an identifier, if it has one.
+    /// Returns the entry of a DF's child by identifier, if any.
     pub fn child(&self, parent: u8, identifier: u16) -> Reached
         ensures { (m : List ℕ) → IsIndex (table m) self.now → TellsChild (table m) parent identifier result }
     {
@@ -166,7 +165,7 @@ impl Index {
         child
     }
 
-    /// The entry of the parent of a used entry's file; of the master file its own.
+    /// Returns the parent of a used entry, for the MF its own.
     pub(crate) fn parent(&self, entry: u8) -> u8
         ensures { (m : List ℕ) → IsTable (table m) → IsUsed (table m) entry → IsIndex (table m) self.now
             → result ≡ (entry_in (table m) entry).parent }
@@ -174,8 +173,8 @@ impl Index {
         parent_of(self.places.as_slice(), entry)
     }
 
-    /// Puts the place of one file more where its key belongs, if no place has that key, and answers whether none had.
-    /// Files are mostly made by ascending identifiers, so the end is tried first.
+    /// Inserts a place in order, unless its key is in use. It returns true if it did. Most files are created by
+    /// ascending identifiers, so it tries the end first.
     fn put(&mut self, place: Place) -> bool
         requires { length self.old.places.items < 63 }
         ensures { AreSorted self.old.places.items → TellsPut self.old.places.items place self.new.places.items result }
@@ -194,8 +193,7 @@ impl Index {
         }
     }
 
-    /// The index once a file is created: the file of this entry,
-    /// with this identifier in the dedicated file of its parent.
+    /// Adds a created file. It has this entry, and this identifier below its parent.
     pub fn with(&mut self, parent: u8, identifier: u16, entry: u8)
         requires free { IsFreeIn self.old entry }
         ensures added { (t after : List Entry) → IsTable after
@@ -209,7 +207,7 @@ impl Index {
         self.put(place);
     }
 
-    /// The index once the file of an entry is deleted, with all files below it.
+    /// Removes a deleted file and all files below it.
     pub fn without(&mut self, entry: u8)
         ensures deleted { (m after : List ℕ) → TreeStands m → 0 < entry → IsUsed (table m) entry → Deletes m entry after
             → IsIndex (table m) self.old → IsIndex (table after) self.new }

@@ -3,23 +3,23 @@
 ghost use Rattle.std.specs.Prelude.{◌≡◌, ◌<◌, IfSome, IsNone};
 ghost use Rattle.file_tree.specs.Kinds.{kind_byte};
 
-/// What an entry is for, as the first byte of its page tells it.
+/// The kind of an entry, as the first byte of its page.
 #[derive(Clone, Copy)]
 pub enum EntryKind {
-    /// No file: the entry is free.
+    /// The entry is free.
     Free,
-    /// A dedicated file.
+    /// A DF.
     Dedicated,
-    /// A transparent elementary file: its body is a list of bytes.
+    /// A transparent EF: its content is a list of bytes.
     Transparent,
-    /// An elementary file of records in number order.
+    /// An EF of records, numbered in the order of their creation.
     Linear,
-    /// An elementary file of records, the newest first.
+    /// An EF of records, numbered from the newest to the oldest.
     Cyclic,
 }
 
 impl EntryKind {
-    /// The kind that a byte stands for; the bytes from 5 on stand for none.
+    /// Returns the kind for a byte. The bytes from 5 on have none.
     pub const fn from_byte(byte: u8) -> Option<EntryKind>
         ensures some { IfSome result (λ kind. byte ≡ kind_byte kind) }
         ensures none { IsNone result → 4 < byte }
@@ -34,7 +34,7 @@ impl EntryKind {
         }
     }
 
-    /// The byte that stands for this kind, which `from_byte` reads again.
+    /// Returns the byte of this kind, the inverse of `from_byte`.
     pub const fn to_byte(self) -> u8
         ensures { result ≡ kind_byte self }
     {

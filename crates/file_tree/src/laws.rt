@@ -1,4 +1,4 @@
-//! Laws of the tree that a memory stands for.
+//! Laws of the file tree in a memory.
 
 ghost use Rattle.nvm_board.specs.Facts.{IsMemory};
 ghost use Rattle.std.specs.Prelude.{◌≡◌, ◌≢◌, ◌-◌, ◌&&◌, ℕ, List, ◌∷◌, ◌++◌, length, take, Some, None, false, IsTrue};
@@ -20,9 +20,9 @@ ghost use Rattle.file_tree.specs.Table.{free_entries, table, path_of, IsUsed};
 ghost use Rattle.file_tree.specs.Trees.{file_in, tree_of, TreeStands};
 ghost use Rattle.file_tree.specs.Changes.{KeepsTree, SameTree};
 
-/// Entry 0 is on page 1, there are 64 entries, no file is more than seven steps below the master file, and this has the
-/// identifier 3F00. The largest file has 547 blocks; a creation makes at most 556 device writes, a deletion 180.
-/// Word 2 of the header is 1 where the card is terminated.
+/// Proves the numbers of the layout. Entry 0 is on page 1. There are 64 entries. The MF has the identifier 3F00, and
+/// no file is more than seven steps below it. The largest file has 547 blocks. A creation takes at most 556 device
+/// writes, a deletion 180. Word 2 of the header is 1 on a terminated card.
 pub fn layout()
     ensures first { FIRST_ENTRY_PAGE ≡ 1 }
     ensures entries { ENTRIES ≡ 64 }
@@ -32,8 +32,8 @@ pub fn layout()
     ensures state { (STATE_WORD ≡ 2) × (CARD_TERMINATED ≡ 1) }
 {}
 
-/// Word 0 of the header is the mark, 54534332 in format 2 and 54534331 in format 1. In format 2 word 3 is the page
-/// where the blocks end; in any other the memory has the 896 blocks of format 1.
+/// Proves the formats of the header. Word 0 is the mark: 54534332 in format 2, 54534331 in format 1. In format 2,
+/// word 3 is the page where the blocks end. Any other memory has the 896 blocks of format 1.
 #[tactic(auto, using(crate::specs::laws::Formats::count_new, crate::specs::laws::Formats::count_old))]
 pub fn formats()
     ensures marks { (MARK ≡ 0x54534332) × (OLD_MARK ≡ 0x54534331) }
@@ -42,34 +42,34 @@ pub fn formats()
     ensures old { (m : List ℕ) → word m 0 0 ≢ 0x54534332 → block_count m ≡ 896 }
 {}
 
-/// The tree has each used entry's file at its path.
+/// Proves that the tree has each used entry's file at its path.
 #[tactic(auto, using(crate::specs::laws::Nodes::files))]
 pub fn entries_are_files()
     ensures { (m : List ℕ) (e : ℕ) → TreeStands m → IsUsed (table m) e
         → get (tree_of m) (path_of (table m) e) ≡ Some (file_in m e) }
 {}
 
-/// What the tree has at a path is the file of a used entry with this path.
+/// Proves that the tree has only files of used entries.
 #[tactic(auto, using(crate::specs::laws::Nodes::files))]
 pub fn files_are_entries()
     ensures { (m : List ℕ) (path : Path) → TreeStands m
         → ((e : ℕ) → IsUsed (table m) e → path_of (table m) e ≡ path → ⊥) → get (tree_of m) path ≡ None }
 {}
 
-/// Files with one path are one file.
+/// Proves that two entries never have the same path.
 #[tactic(auto, using(crate::specs::laws::Paths::one_path))]
 pub fn one_file_a_path()
     ensures { (m : List ℕ) (e f : ℕ) → TreeStands m → IsUsed (table m) e → IsUsed (table m) f
         → path_of (table m) e ≡ path_of (table m) f → e ≡ f }
 {}
 
-/// The files are those of a card: the master file is there, and each file's parent, a dedicated file.
+/// Proves that the files are a valid tree. The MF exists, and the parent of each file is a DF.
 #[tactic(auto, using(crate::specs::laws::Standing::stands_tree))]
 pub fn files_of_a_card()
     ensures { (m : List ℕ) → TreeStands m → IsTree (tree_of m) }
 {}
 
-/// Free are the blocks of the free chain, and the entries that no file has.
+/// Proves that free space is the free chain and the unused entries.
 #[tactic(auto, using(crate::specs::laws::Costs::space_counted))]
 pub fn free_space_is_counted()
     ensures { (m : List ℕ) → IsMemory m → TreeStands m
@@ -77,29 +77,29 @@ pub fn free_space_is_counted()
         ≡ record { blocks = length (free_chain m); entries = free_entries (table m) } }
 {}
 
-/// The tree depends on the pages of entries, on blocks,
-/// and on the header's words of free blocks and of the format alone.
+/// Proves which words the tree depends on. These are the pages of entries and blocks, and the header's words for the
+/// first free block and for the format.
 pub fn words_elsewhere_keep_the_tree()
     ensures { (m after : List ℕ) → IsMemory m → KeepsTree m after → TreeStands m
         → TreeStands after × (table after ≡ table m) × (tree_of after ≡ tree_of m) × (free_chain after ≡ free_chain m) }
 {}
 
-/// A path leads through dedicated files alone: where it goes on from a file, this is there, and a dedicated file.
+/// Proves that each inner file of an existing path is a DF.
 #[tactic(auto, using(crate::specs::laws::Selecting::way_through))]
 pub fn paths_lead_through_dedicated_files()
     ensures { (m : List ℕ) (path left : Path) (id : ℕ) → TreeStands m → IsTrue (exists (tree_of m) (path ++ id ∷ left))
         → IsTrue (exists (tree_of m) path && is_dedicated (file_at (tree_of m) path).kind) }
 {}
 
-/// No path has an identifier that no file has below the master file: 3F00, 3FFF and FFFF name no child.
+/// Proves that no child has a reserved identifier: 3F00, 3FFF or FFFF.
 #[tactic(auto, using(crate::specs::laws::Selecting::way_reserved))]
 pub fn no_path_has_a_reserved_identifier()
     ensures { (m : List ℕ) (path left : Path) (id : ℕ) → TreeStands m → IsReserved id
         → exists (tree_of m) (path ++ id ∷ left) ≡ false }
 {}
 
-/// Whatever the contents of the first free blocks become, by `block_chain::fill` cut at any word,
-/// each file stands as it was.
+/// Proves that filling free blocks leaves all files unchanged. That holds whatever content they get, so
+/// `block_chain::fill` may be interrupted at any word.
 pub fn filled_blocks_leave_the_tree()
     ensures { (m after : List ℕ) (n : ℕ) → IsMemory m → TreeStands m
         → OnlyContent m (take n (free_chain m)) after → SameTree m after }

@@ -1,4 +1,4 @@
-//! The tree of files that a memory holds, as a table of file entries over chains of blocks.
+//! The file tree of a card, stored as a table of file entries and chains of blocks.
 #![tactic(auto)]
 
 mod barring;

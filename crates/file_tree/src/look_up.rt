@@ -1,4 +1,4 @@
-//! Files by two bytes, which the index finds, and by short identifiers, which entries are read for.
+//! Lookups by identifier, which use the index, and by short identifier, which read entries.
 
 ghost use Rattle.std.specs.Prelude.{◌≡◌, ◌≢◌, ◌==◌, ◌≤◌, ◌↔◌, ℕ, List, IsTrue, IfOk, IfSome, option_map};
 ghost use Rattle.std.specs.Result.{result_err};
@@ -19,7 +19,7 @@ use crate::reading::{read_entry, read_entry_head};
 use card_rules::identifiers::MASTER_FILE;
 use undo_journal::{Board, Store, StoreErr};
 
-/// What a look-up reaches: the number of the entry, or None where no file is what is looked for.
+/// The result of a lookup: the entry's number, or `None`.
 pub type Reached = Option<u8>;
 
 /// An entry is that of the child of a dedicated file with this short identifier. Its head tells.
@@ -29,7 +29,7 @@ fn is_child(head: EntryHead, df: u8, short: u8) -> bool
     head.is_used() && head.parent == df && head.short == short
 }
 
-/// The entry of the child of a dedicated file with this short identifier, if it has one.
+/// Returns the entry of a DF's child by short identifier, if any.
 fn first_child<B: Board>(store: &mut Store<B>, df: u8, short: u8) -> Result<Reached, StoreErr>
     requires ready { IsReady store.old }
     ensures { Learns store.old store.new result (TellsShort (table (committed store.old)) df short) }
@@ -43,10 +43,10 @@ fn first_child<B: Board>(store: &mut Store<B>, df: u8, short: u8) -> Result<Reac
     Ok(None)
 }
 
-/// The entry of the child of a dedicated file that a short identifier names, if it has one.
+/// Returns the entry of a DF's child by short identifier, if any.
 ///
 /// # Errors
-/// What the store answers: power was lost, or the device failed.
+/// The store's failure: power was lost, or the device failed.
 pub fn find_short<B: Board>(store: &mut Store<B>, df: u8, short: u8) -> Result<Reached, StoreErr>
     requires df { HasFile store.old df }
     requires some { 1 ≤ short }
@@ -60,7 +60,7 @@ pub fn find_short<B: Board>(store: &mut Store<B>, df: u8, short: u8) -> Result<R
     first_child(store, df, short)
 }
 
-/// A dedicated file beside this one with this identifier. The master file has none beside it.
+/// Returns the DF beside this one with this identifier. The MF has none beside it.
 fn find_beside<B: Board>(
     store: &mut Store<B>,
     index: &Index,
@@ -81,7 +81,7 @@ fn find_beside<B: Board>(
     Ok(other.has_kind(EntryKind::Dedicated).then_some(beside))
 }
 
-/// The file of a used entry has this identifier: it is the child of its parent that has it.
+/// Returns true if a used entry's file has this identifier. It is looked up among the children of its parent.
 fn has_identifier(index: &Index, e: u8, identifier: u16) -> bool
     ensures { (m : List ℕ) → IsTable (table m) → IsUsed (table m) e → IsIndex (table m) index.now
         → result ≡ ((entry_in (table m) e).identifier == identifier) }
@@ -95,7 +95,7 @@ fn has_identifier(index: &Index, e: u8, identifier: u16) -> bool
     }
 }
 
-/// The parent of a dedicated file, or itself, or the master file: the first that has this identifier.
+/// Returns the first of parent, DF and MF with this identifier.
 fn find_above(index: &Index, df: u8, identifier: u16) -> Reached
     ensures { (m : List ℕ) → IsTable (table m) → IsUsed (table m) df → IsIndex (table m) index.now
         → TellsAbove (table m) df identifier result }
@@ -112,11 +112,11 @@ fn find_above(index: &Index, df: u8, identifier: u16) -> Reached
     }
 }
 
-/// The entry of the file that two bytes name from a dedicated file: a child of it; a dedicated file beside it; its
-/// parent; itself; the master file. The first of these that exists counts (ISO/IEC 7816-4, 7.3.1).
+/// Returns the entry that an identifier selects from a DF. The candidates, in order: a child of the DF, a DF beside
+/// it, its parent, itself, the MF (ISO/IEC 7816-4, 7.3.1).
 ///
 /// # Errors
-/// What the store answers: power was lost, or the device failed.
+/// The store's failure: power was lost, or the device failed.
 pub fn select<B: Board>(
     store: &mut Store<B>,
     index: &Index,

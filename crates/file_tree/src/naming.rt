@@ -1,4 +1,4 @@
-//! Files by their names, and along paths: what SELECT reaches but by two bytes (ISO/IEC 7816-4, 7.3.1 and 11.2.2).
+//! Lookups by name and by path (ISO/IEC 7816-4, 7.3.1 and 11.2.2).
 
 ghost use Rattle.std.specs.Prelude.{◌≡◌, ◌↔◌, ◌<◌, min, length, option_map, IfOk, IfSome, IsTrue, List, ℕ};
 ghost use Rattle.std.specs.Result.{result_err};
@@ -21,7 +21,7 @@ use crate::reading::{read_entry, read_entry_head};
 use card_rules::limits::MOST_NAME_BYTES;
 use undo_journal::{Board, Store, StoreErr};
 
-/// An entry is a dedicated file's with this name.
+/// Returns true for the entry of a DF with this name.
 fn bears_name(entry: &Entry, name: &[u8]) -> bool
     ensures { IsTrue result ↔ BearsName entry.now name.now }
 {
@@ -67,10 +67,10 @@ fn first_named<B: Board>(store: &mut Store<B>, name: &[u8]) -> Result<Reached, S
     Ok(None)
 }
 
-/// The entry of the dedicated file of the card that has this name, whole; no file has the empty one.
+/// Returns the entry of the DF with this name. The name must match in full. The empty name matches no file.
 ///
 /// # Errors
-/// What the store answers: power was lost, or the device failed.
+/// The store's failure: power was lost, or the device failed.
 pub fn find_name<B: Board>(store: &mut Store<B>, name: &[u8]) -> Result<Reached, StoreErr>
     requires ready { IsReady store.old }
     requires tree { TreeStands (committed store.old) }
@@ -83,10 +83,10 @@ pub fn find_name<B: Board>(store: &mut Store<B>, name: &[u8]) -> Result<Reached,
     first_named(store, name)
 }
 
-/// The entry of the parent of a dedicated file. The master file (entry 0) has none.
+/// Returns the parent of a DF. The MF (entry 0) has none.
 ///
 /// # Errors
-/// What the store answers: power was lost, or the device failed.
+/// The store's failure: power was lost, or the device failed.
 pub fn find_parent<B: Board>(store: &mut Store<B>, df: u8) -> Result<Reached, StoreErr>
     requires df { HasFile store.old df }
     ensures found { IfOk result (λ found. option_map (path_of (table (committed store.old))) found
@@ -101,8 +101,8 @@ pub fn find_parent<B: Board>(store: &mut Store<B>, df: u8) -> Result<Reached, St
     Ok(Some(entry.parent))
 }
 
-/// The entry of the file at the end of a path from a file: each identifier is that of a child of the one before. The
-/// empty path leads to the file itself, and no path leads through an elementary file.
+/// Returns the entry at the end of a path from a file. Each identifier is that of a child of the file before. The
+/// empty path leads to the file itself. No path leads through an EF.
 pub fn find_path(index: &Index, df: u8, path: &[u16]) -> Reached
     ensures found { (m : List ℕ) → TreeStands m → IsUsed (table m) df → IsIndex (table m) index.now
         → option_map (path_of (table m)) result
@@ -120,7 +120,7 @@ pub fn find_path(index: &Index, df: u8, path: &[u16]) -> Reached
     Some(at)
 }
 
-/// The same from the master file, whose identifier is not in the path.
+/// Returns the entry at the end of a path from the MF. The MF's identifier isn't in the path.
 pub fn find_path_from_master(index: &Index, path: &[u16]) -> Reached
     ensures found { (m : List ℕ) → TreeStands m → IsIndex (table m) index.now → (df : Path)
         → option_map (path_of (table m)) result ≡ selected (tree_of m) df (path_from_master path.now) }

@@ -5,7 +5,7 @@ ghost use Rattle.file_tree.specs.Subtrees.{leads, TellsParents};
 
 use crate::layout::DEEPEST;
 
-/// An entry is another one, or stands below it: at most seven steps to parents lead to that.
+/// Returns true if entry `e` is `top` or below it. At most seven steps to parents lead there.
 pub fn is_within<F: Fn(u8) -> u8>(parent_of: F, top: u8, e: u8) -> bool
     requires { F.IsAlwaysCallable parent_of }
     ensures { (parent : ℕ → ℕ) → TellsParents (F.post parent_of) parent → result ≡ leads parent 7 top e }

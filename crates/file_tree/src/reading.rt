@@ -1,4 +1,4 @@
-//! Entries read from a store.
+//! Reading entries from a store.
 
 ghost use Rattle.std.specs.Prelude.{◌≡◌, ◌+◌, ◌<◌, ℕ, [], slice_index, IfOk, OnOk};
 ghost use Rattle.std.specs.Result.{result_err};
@@ -12,7 +12,7 @@ use crate::entry::{Entry, EntryHead, Table};
 use crate::layout::{ENTRIES_END, ENTRY_WORDS, entry_address};
 use undo_journal::{Board, Store, StoreErr};
 
-/// The words of an entry's page that an entry takes, each read once.
+/// Returns the words of an entry, each read once.
 fn read_words<B: Board>(store: &mut Store<B>, e: u8) -> Result<[u32; ENTRY_WORDS], StoreErr>
     requires ready { IsReady store.old }
     requires within { e < 64 }
@@ -28,10 +28,10 @@ fn read_words<B: Board>(store: &mut Store<B>, e: u8) -> Result<[u32; ENTRY_WORDS
     Ok(words)
 }
 
-/// An entry by its number, as its page tells it.
+/// Returns an entry by its number.
 ///
 /// # Errors
-/// What the store answers: power was lost, or the device failed.
+/// The store's failure: power was lost, or the device failed.
 #[inline(never)]
 pub fn read_entry<B: Board>(store: &mut Store<B>, e: u8) -> Result<Entry, StoreErr>
     requires ready { IsReady store.old }
@@ -43,7 +43,7 @@ pub fn read_entry<B: Board>(store: &mut Store<B>, e: u8) -> Result<Entry, StoreE
     Ok(Entry::from_words(&words))
 }
 
-/// The same, of which no more is read than its first word where that tells that it is free.
+/// Returns an entry by its number. Of a free entry it reads only the first word.
 fn read_used<B: Board>(store: &mut Store<B>, e: u8) -> Result<Entry, StoreErr>
     requires ready { IsReady store.old }
     requires within { e < 64 }
@@ -57,11 +57,11 @@ fn read_used<B: Board>(store: &mut Store<B>, e: u8) -> Result<Entry, StoreErr>
     read_entry(store, e)
 }
 
-/// Puts all entries, in the order of their numbers, into an empty table. It reads the first word of each, and eleven
-/// more of those that a file has. The table is filled where it is, since it is 2,816 bytes long.
+/// Fills an empty table with all entries, by number. It reads the first word of each entry, and eleven more of each
+/// used one. The table is filled in place, since it is 2,816 bytes long.
 ///
 /// # Errors
-/// What the store answers: power was lost, or the device failed.
+/// The store's failure: power was lost, or the device failed.
 pub(crate) fn fill_table<B: Board>(
     store: &mut Store<B>,
     entries: &mut Table,
@@ -77,10 +77,10 @@ pub(crate) fn fill_table<B: Board>(
     Ok(())
 }
 
-/// All entries, in the order of their numbers.
+/// Returns all entries, by number.
 ///
 /// # Errors
-/// What the store answers: power was lost, or the device failed.
+/// The store's failure: power was lost, or the device failed.
 pub fn read_table<B: Board>(store: &mut Store<B>) -> Result<Table, StoreErr>
     requires ready { IsReady store.old }
     ensures table { IfOk result (λ entries. entries.items ≡ table (committed store.old)) }
@@ -91,10 +91,10 @@ pub fn read_table<B: Board>(store: &mut Store<B>) -> Result<Table, StoreErr>
     Ok(entries)
 }
 
-/// The head of an entry by its number: it reads two words where the whole entry takes eleven.
+/// Returns the head of an entry by its number. It reads two words, where a whole entry takes eleven.
 ///
 /// # Errors
-/// What the store answers: power was lost, or the device failed.
+/// The store's failure: power was lost, or the device failed.
 pub fn read_entry_head<B: Board>(store: &mut Store<B>, e: u8) -> Result<EntryHead, StoreErr>
     requires ready { IsReady store.old }
     requires within { e < 64 }

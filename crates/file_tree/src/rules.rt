@@ -1,4 +1,4 @@
-//! The rules on one entry.
+//! The rules on a single entry.
 
 ghost use Rattle.std.specs.Prelude.{◌↔◌, IsTrue, All};
 ghost use Rattle.file_tree.specs.Table.{IsTransparentBody, IsRecordBody, HasShort, HasName, HasRule, HasBody};
@@ -10,7 +10,7 @@ use card_rules::identifiers::{CURRENT_FILE, RESERVED};
 use card_rules::limits::{MOST_BYTES, MOST_RECORD_BYTES, MOST_RECORDS, MOST_SHORT};
 use card_rules::{Compact, LifeCycle};
 
-/// A body of bytes: 1 to 32,767 of them, and no records.
+/// Returns true for the body of a transparent EF. It has 1 to 32,767 bytes and no records.
 fn is_transparent_body(entry: &Entry) -> bool
     ensures { IsTrue result ↔ IsTransparentBody entry.now }
 {
@@ -20,7 +20,8 @@ fn is_transparent_body(entry: &Entry) -> bool
         && entry.start == 0
 }
 
-/// A body of records: 1 to 254 slots of 1 to 255 bytes, 32,767 bytes at most; a linear file begins in the first slot.
+/// Returns true for the body of a record EF. It has 1 to 254 slots of 1 to 255 bytes, 32,767 bytes at most. In a
+/// linear EF record 1 is in the first slot.
 fn is_record_body(entry: &Entry) -> bool
     ensures { IsTrue result ↔ IsRecordBody entry.now }
 {
@@ -38,7 +39,7 @@ fn is_record_body(entry: &Entry) -> bool
         && (!entry.has_kind(EntryKind::Linear) || entry.start == 0)
 }
 
-/// A body of the entry's kind.
+/// Returns true if the body fits the entry's kind.
 fn has_body(entry: &Entry) -> bool
     ensures { IsTrue result ↔ HasBody entry.now }
 {
@@ -49,14 +50,14 @@ fn has_body(entry: &Entry) -> bool
     }
 }
 
-/// A short identifier up to 30, of an elementary file alone.
+/// Returns true if the short identifier is valid. It is at most 30, and 0 for a DF.
 fn has_short(entry: &Entry) -> bool
     ensures { IsTrue result ↔ HasShort entry.now }
 {
     entry.short <= MOST_SHORT && (!entry.has_kind(EntryKind::Dedicated) || entry.short == 0)
 }
 
-/// A name of at most 16 bytes, of a dedicated file alone.
+/// Returns true if the name is valid. It has at most 16 bytes, and none for an EF.
 fn has_name(entry: &Entry) -> bool
     ensures { IsTrue result ↔ HasName entry.now }
 {
@@ -64,14 +65,14 @@ fn has_name(entry: &Entry) -> bool
         && (entry.has_kind(EntryKind::Dedicated) || entry.name_length == 0)
 }
 
-/// An access rule of at most 8 bytes.
+/// Returns true if the access rule is valid. It has at most 8 bytes.
 fn has_rule(entry: &Entry) -> bool
     ensures { IsTrue result ↔ HasRule entry.now }
 {
     usize::from(entry.rule_length) <= entry.rule.len() && Compact::parse(entry.rule()).is_some()
 }
 
-/// What a used entry says of its file.
+/// Returns true if a used entry satisfies the rules.
 fn is_file_entry(entry: &Entry) -> bool
     ensures { IsTrue result ↔ IsFileEntry entry.now }
 {
@@ -85,7 +86,7 @@ fn is_file_entry(entry: &Entry) -> bool
         && has_body(entry)
 }
 
-/// The entry is free, or it is a file's.
+/// Returns true if the entry is free or valid.
 pub(crate) fn is_entry(entry: &Entry) -> bool
     ensures { IsTrue result ↔ IsEntry entry.now }
 {
@@ -96,7 +97,7 @@ pub(crate) fn is_entry(entry: &Entry) -> bool
     }
 }
 
-/// Each entry of the table is free, or it is a file's.
+/// Returns true if each entry is free or valid.
 pub(crate) fn are_entries(entries: &[Entry]) -> bool
     ensures { IsTrue result ↔ All IsEntry entries.now }
 {

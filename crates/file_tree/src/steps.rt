@@ -1,4 +1,4 @@
-//! The keys that files are found by, and the count of their comparisons.
+//! The keys of the index, and the count of their comparisons.
 
 ghost use Rattle.std.specs.Prelude.{◌≡◌, ◌<◌, ◌+◌};
 ghost use Rattle.std.specs.Ordering.{MatchOrdering};
@@ -7,8 +7,8 @@ ghost use Rattle.file_tree.specs.Keys.{key_for, IsBefore};
 use std::cmp::Ordering;
 use std::marker::Model;
 
-/// What a file is found by: the entry of its parent, and its identifier. Its fields are private, so that keys are
-/// compared by `Steps::compare` alone.
+/// The key of a file: its parent's entry and its identifier. The fields are private, so that only `Steps::compare`
+/// compares keys.
 #[derive(Clone, Copy, Default)]
 pub(crate) struct Key {
     parent: u8,
@@ -16,14 +16,14 @@ pub(crate) struct Key {
 }
 
 impl Key {
-    /// The key of the file with this identifier below the file of an entry.
+    /// Returns the key of a file by its parent and its identifier.
     pub(crate) fn new(parent: u8, identifier: u16) -> Key
         ensures { result ≡ key_for parent identifier }
     {
         Key { parent, identifier }
     }
 
-    /// The entry of the parent.
+    /// Returns the entry of the parent.
     pub(crate) fn parent(self) -> u8
         ensures { result ≡ self.parent }
     {
@@ -31,7 +31,7 @@ impl Key {
     }
 }
 
-/// How many comparisons of keys a search took.
+/// The number of key comparisons of a search.
 #[derive(Clone, Copy)]
 pub struct Steps {
     count: u8,
@@ -48,14 +48,14 @@ impl Model for Steps {
 }
 
 impl Steps {
-    /// No comparison yet.
+    /// Returns a count of 0.
     pub(crate) fn new() -> Steps
         ensures { result ≡ 0 }
     {
         Steps { count: 0 }
     }
 
-    /// How many comparisons there were.
+    /// Returns the number of comparisons.
     pub fn count(self) -> u8
         ensures { result ≡ self }
     {
@@ -63,7 +63,7 @@ impl Steps {
         count
     }
 
-    /// Compares two keys, and counts that: by their parents, and below one parent by their identifiers.
+    /// Compares and counts two keys. The parents come first, then the identifiers.
     pub(crate) fn compare(&mut self, one: Key, other: Key) -> Ordering
         requires { self.old < 255 }
         ensures order { MatchOrdering result (IsBefore one other) (one ≡ other) (IsBefore other one) }

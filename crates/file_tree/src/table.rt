@@ -1,4 +1,4 @@
-//! The rules on the table of entries. They look at entries that were read; no store is touched.
+//! The rules on a table of entries that was read. They touch no store.
 
 ghost use Rattle.std.specs.Prelude.{◌≡◌, ◌↔◌, ◌<◌, ◌≤◌, length, IsTrue};
 ghost use Rattle.file_tree.specs.Table.{entry_in, ancestor, extents, free_entries, IsMasterFile, IsBelowMaster};
@@ -11,7 +11,7 @@ use crate::layout::DEEPEST;
 use crate::rules::are_entries;
 use card_rules::identifiers::MASTER_FILE;
 
-/// The parent of an entry's file; past the table that of a free entry.
+/// Returns the parent of an entry's file. Past the table it is 0.
 pub fn parent_of(entries: &[Entry], e: u8) -> u8
     ensures { result ≡ (entry_in entries.now e).parent }
 {
@@ -21,7 +21,7 @@ pub fn parent_of(entries: &[Entry], e: u8) -> u8
     }
 }
 
-/// The entry that so many steps to parents lead to. The master file is its own parent, so no step leads on from there.
+/// Returns the entry after `steps` steps to parents. The MF is its own parent, so the walk stays there.
 #[tactic(auto, using(crate::specs::laws::Levels::levels))]
 pub fn ancestor(entries: &[Entry], steps: u8, e: u8) -> u8
     ensures { result ≡ ancestor entries.now steps e }
@@ -37,14 +37,14 @@ pub fn ancestor(entries: &[Entry], steps: u8, e: u8) -> u8
     at
 }
 
-/// Entry 0 is that of the master file.
+/// Returns true if entry 0 is a valid one of the MF.
 fn is_master_file(entry: &Entry) -> bool
     ensures { IsTrue result ↔ IsMasterFile entry.now }
 {
     entry.has_kind(EntryKind::Dedicated) && entry.identifier == MASTER_FILE && entry.parent == 0
 }
 
-/// The file of an entry stands in a dedicated file, no more than seven steps below the master file.
+/// Returns true if a file is below the MF. Its parent is a DF, and the MF at most seven steps away.
 fn is_below_master(entries: &[Entry], e: u8) -> bool
     requires { e < length entries.now }
     ensures { IsTrue result ↔ IsBelowMaster entries.now e }
@@ -58,7 +58,7 @@ fn is_below_master(entries: &[Entry], e: u8) -> bool
     }
 }
 
-/// So does each file but the master file.
+/// Returns true if each file but the MF is so.
 fn are_below_master(entries: &[Entry]) -> bool
     requires { length entries.now ≤ 64 }
     ensures { IsTrue result ↔ AreBelow entries.now }
@@ -71,15 +71,16 @@ fn are_below_master(entries: &[Entry]) -> bool
     true
 }
 
-/// Two entries have the same name, which has bytes.
+/// Returns true if two entries have the same non-empty name.
 fn bear_one_name(one: &Entry, other: &Entry) -> bool
     ensures { IsTrue result ↔ BearOneName one.now other.now }
 {
     !one.name().is_empty() && one.name() == other.name()
 }
 
-/// Whether two used entries can't stand in one table, though their identifiers may: children of one dedicated file with
-/// one short identifier, or files with one name. `e` is the number of the first; the master file is no child.
+/// Returns true if two used entries can't be in one table. They are children of one DF with the same short
+/// identifier, or DFs with the same name. `e` is the number of the first; the MF is no child. Identifiers are checked
+/// elsewhere.
 fn are_alike(e: usize, one: &Entry, other: &Entry) -> bool
     ensures { IsTrue result ↔ Alike e one.now other.now }
 {
@@ -88,15 +89,15 @@ fn are_alike(e: usize, one: &Entry, other: &Entry) -> bool
     siblings || bear_one_name(one, other)
 }
 
-/// Whether an entry's file has neither a short identifier nor a name.
+/// Returns true if a file has neither short identifier nor name.
 fn has_identifier_alone(entry: &Entry) -> bool
     ensures { IsTrue result ↔ ((entry.now.short ≡ 0) × (entry.now.name_length ≡ 0)) }
 {
     entry.short == 0 && entry.name_length == 0
 }
 
-/// Whether no used entry behind this one is like it. A file without a short identifier and without a name is like none,
-/// so that the others are not looked at.
+/// Returns true if no later used entry conflicts with this one. A file without short identifier and name conflicts
+/// with none, so the others aren't read.
 fn is_alone(entries: &[Entry], e: usize) -> bool
     requires { e < length entries.now }
     ensures { IsTrue result ↔ IsAlone entries.now e }
@@ -114,7 +115,7 @@ fn is_alone(entries: &[Entry], e: usize) -> bool
     true
 }
 
-/// Whether no two used entries are alike.
+/// Returns true if no two used entries conflict.
 fn are_apart(entries: &[Entry]) -> bool
     ensures { IsTrue result ↔ AreApart entries.now }
 {
@@ -126,8 +127,8 @@ fn are_apart(entries: &[Entry]) -> bool
     true
 }
 
-/// Whether entries hold to the rules that make a tree of them, where no two children of one dedicated file have one
-/// identifier: the index of the entries tells that.
+/// Returns true if the entries satisfy the rules of a tree. The caller's index has already shown that children of one
+/// DF have different identifiers.
 pub(crate) fn is_table(entries: &[Entry]) -> bool
     requires size { length entries.now ≡ 64 }
     requires apart { HaveIdentifiers entries.now }
@@ -139,7 +140,7 @@ pub(crate) fn is_table(entries: &[Entry]) -> bool
         && are_apart(entries)
 }
 
-/// The extents that the entries of elementary files name, in the order of entries.
+/// Returns the extents of the EFs, in the order of their entries.
 #[tactic(auto, using(crate::specs::laws::Tables::extents_pushed))]
 pub fn extents_of(entries: &[Entry]) -> ExtentList
     requires { length entries.now ≤ 64 }
@@ -154,7 +155,7 @@ pub fn extents_of(entries: &[Entry]) -> ExtentList
     extents
 }
 
-/// How many entries no file has.
+/// Returns the number of free entries.
 pub fn count_free(entries: &[Entry]) -> u16
     requires { length entries.now ≡ 64 }
     ensures { result ≡ free_entries entries.now }

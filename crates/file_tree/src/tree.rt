@@ -1,4 +1,4 @@
-//! Whether a memory stands for a tree of files, and what a start keeps of the tree.
+//! The check of a memory's file tree at power-on, and its results.
 
 ghost use Rattle.std.specs.Prelude.{◌≡◌, IfOk};
 ghost use Rattle.std.specs.Result.{result_err};
@@ -17,21 +17,21 @@ use block_chain::lay;
 use card_state::FreeSpace;
 use undo_journal::{Board, Store, StoreErr};
 
-/// What a start finds of a tree of files.
+/// The results of the check of a file tree.
 #[derive(Drop)]
 pub struct Survey {
-    /// What is free for new files.
+    /// The space that is free for new files.
     pub free: FreeSpace,
-    /// Where each file is.
+    /// The index of the files.
     pub index: Index,
 }
 
-/// What a start finds of a memory that stands for a tree of files, or None where it stands for none. It reads the first
-/// word of each entry, eleven more of each that a file has, one link of each block, and the header's words of the
-/// format and of the free chain. The index is made of the entries that were read.
+/// Checks the file tree, and returns free space and index. It returns `None` for an invalid tree. It reads the first
+/// word of each entry and eleven more of each used one. It also reads one link per block, and the header's words for
+/// the format and for the first free block. It builds the index from the entries that it reads.
 ///
 /// # Errors
-/// What the store answers: power was lost, or the device failed.
+/// The store's failure: power was lost, or the device failed.
 pub fn survey_tree<B: Board>(store: &mut Store<B>) -> Result<Option<Survey>, StoreErr>
     requires ready { IsReady store.old }
     ensures tree { IfOk result (TellsTree (committed store.old)) }
@@ -51,8 +51,7 @@ pub fn survey_tree<B: Board>(store: &mut Store<B>) -> Result<Option<Survey>, Sto
     Ok(Some(Survey { free, index }))
 }
 
-/// The free space of a memory whose entries hold to their rules, or None where their blocks are not laid out as they
-/// should be.
+/// Returns the free space of a memory with valid entries. It returns `None` if the blocks aren't laid out properly.
 fn find_free<B: Board>(store: &mut Store<B>, all: &[Entry]) -> Result<Option<FreeSpace>, StoreErr>
     requires ready { IsReady store.old }
     requires read { all.now ≡ table (committed store.old) }
