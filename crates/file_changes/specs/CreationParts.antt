@@ -1,4 +1,4 @@
--- What single steps of a creation find and write. No public clause names these.
+-- Steps inside a creation. No public clause uses these definitions.
 use Rattle.std.specs.Prelude.{◌≡◌, ◌≢◌, ◌==◌, ◌⊎◌, ◌<◌, ◌≤◌, ◌+◌, ◌-◌, ◌*◌, ℕ, if◌then◌else◌, List, ◌++◌, length}
 use Rattle.std.specs.Prelude.{take, replicate, Option, None, Some}
 use Rattle.nvm_board.specs.declared.board.TheConstants.{PAGE_WORDS}
@@ -24,62 +24,62 @@ use Rattle.file_tree.specs.Trees.{tree_of}
 use Rattle.card_state.specs.NewFiles.{blank}
 use Rattle.file_changes.specs.CreationRefusals.{taken_refusal, place_refusal, creation_refusal}
 
--- an entry is free, or none is
+-- The entry is free, or None if all are in use.
 abbrev pub TellsFreeEntry : List Entry → Option ℕ → Type 0
 TellsFreeEntry t None = (f : ℕ) → f < 64 → (entry_in t f).kind ≢ 0
 TellsFreeEntry t (Some e) = (e < 64) × ((entry_in t e).kind ≡ 0)
 
--- An entry is free, in a dedicated file that is not on the last level, and there are enough free blocks.
+-- The entry is free, the DF isn't on the last level, and there are enough free blocks.
 pub record IsPlace (m : List ℕ) (df : ℕ) (kind : FileKind) (e : ℕ) : Type 0 where
   pub small : e < 64
   pub free : (entry_in (table m) e).kind ≡ 0
   pub level : ancestor (table m) 6 df ≡ 0
   pub enough : blocks_for (size_of_kind kind) ≤ length (free_chain m)
 
--- a place, where there is one, or why not
+-- The place of a new file, or the refusal.
 abbrev pub TellsPlace : List ℕ → ℕ → FileKind → Place → Type 0
 TellsPlace m df kind (Refused status) =
     place_refusal (block_count m) (tree_of m) (path_of (table m) df) kind ≡ Some status
 TellsPlace m df kind (At e) =
     (place_refusal (block_count m) (tree_of m) (path_of (table m) df) kind ≡ None) × IsPlace m df kind e
 
--- a place for a new file, or the first reason why it is refused
+-- The place of a new file, or the first of all refusals.
 abbrev pub FindsPlace : List ℕ → ℕ → Fcp → Place → Type 0
 FindsPlace m df fcp (Refused status) =
     creation_refusal (block_count m) (tree_of m) (path_of (table m) df) fcp ≡ Some status
 FindsPlace m df fcp (At e) = (taken_refusal (tree_of m) (path_of (table m) df) fcp ≡ None)
     × (place_refusal (block_count m) (tree_of m) (path_of (table m) df) fcp.kind ≡ None) × IsPlace m df fcp.kind e
 
--- so many bytes, with zeros behind those that are there
+-- The bytes, padded with zeros to length n.
 abbrev pub padded : ℕ → List ℕ → List ℕ
 padded n bytes = bytes ++ replicate (n - length bytes) 0
 
--- the number of a kind in an entry
+-- The number of a kind in an entry.
 abbrev pub kind_number : FileKind → ℕ
 kind_number (kinds.Df name) = 1
 kind_number (kinds.Transparent short size) = 2
 kind_number (kinds.Linear short records) = 3
 kind_number (kinds.Cyclic short records) = 4
 
--- how many bytes a record has; 0 where the kind has none
+-- The record length, 0 for a kind without records.
 abbrev pub record_length_of_kind : FileKind → ℕ
 record_length_of_kind (kinds.Df name) = 0
 record_length_of_kind (kinds.Transparent short size) = 0
 record_length_of_kind (kinds.Linear short records) = records.record_length
 record_length_of_kind (kinds.Cyclic short records) = records.record_length
 
--- how many records exist; 0 where the kind has none
+-- The number of existing records, 0 for a kind without records.
 abbrev pub existing_of_kind : FileKind → ℕ
 existing_of_kind (kinds.Df name) = 0
 existing_of_kind (kinds.Transparent short size) = 0
 existing_of_kind (kinds.Linear short records) = records.existing
 existing_of_kind (kinds.Cyclic short records) = records.existing
 
--- no blocks
+-- The chain of a file without blocks.
 abbrev pub no_chain : Chain
 no_chain = record { first = 0; last = 0 }
 
--- the entry of a new file
+-- The entry of a new file.
 abbrev pub entry_for : Fcp → ℕ → ℕ → Chain → Entry
 entry_for fcp parent short chain = record {
   kind = kind_number fcp.kind;
@@ -99,22 +99,22 @@ entry_for fcp parent short chain = record {
   start = 0;
 }
 
--- 0 stands for no short identifier
+-- The short identifier as an option: 0 is none.
 abbrev pub short_option : ℕ → Option ℕ
 short_option short = if short == 0 then None else Some short
 
--- An entry's words are written on its page, and no other page changes.
+-- The words of an entry are written on its page. No other page changes.
 pub record WritesEntry (m : List ℕ) (e : ℕ) (x : Entry) (after : List ℕ) : Type 0 where
   pub size : length after ≡ length m
   pub entry : entry_of (page_words after (FIRST_ENTRY_PAGE + e)) ≡ x
   pub others : (page place : ℕ) → place < PAGE_WORDS → page ≢ FIRST_ENTRY_PAGE + e
       → word after page place ≡ word m page place
 
--- an entry with the blocks of a chain
+-- The entry with the blocks of a chain.
 abbrev pub with_chain : Entry → Chain → Entry
 with_chain x c = record x { first = c.first; last = c.last }
 
--- The first free blocks are taken, and an entry that names them is written.
+-- The first n free blocks are taken, and an entry that names them is written.
 pub record TakesAndWrites (m : List ℕ) (e : ℕ) (x : Entry) (n : ℕ) (after : List ℕ) : Type 0 where
   pub between : List ℕ
   pub chain : Chain
@@ -122,17 +122,17 @@ pub record TakesAndWrites (m : List ℕ) (e : ℕ) (x : Entry) (n : ℕ) (after 
   pub takes : Takes m n chain between
   pub writes : WritesEntry between e (with_chain x chain) after
 
--- a new file's entry is written, over blocks that are taken where it has some
+-- The entry of a new file is written, and blocks are taken if it has any.
 abbrev pub AddsFile : List ℕ → ℕ → Entry → ℕ → List ℕ → Type 0
 AddsFile m e x n after = ((n ≡ 0) × WritesEntry m e x after) ⊎ TakesAndWrites m e x n after
 
--- First the blocks are filled.
+-- The blocks are filled before that.
 pub record FillsAndAdds (m : List ℕ) (e : ℕ) (x : Entry) (n : ℕ) (after : List ℕ) : Type 0 where
   pub between : List ℕ
   pub only : OnlyContent m (take n (free_chain m)) between
   pub filled : bytes_of between (take n (free_chain m)) ≡ replicate (BLOCK_BYTES * n) blank
   pub adds : AddsFile between e x n after
 
--- at most free blocks are other, or all is done
+-- At most free blocks have changed, or everything is done.
 abbrev pub FillsOrAdds : List ℕ → ℕ → Entry → ℕ → List ℕ → Type 0
 FillsOrAdds m e x n after = OnlyContent m (take n (free_chain m)) after ⊎ FillsAndAdds m e x n after

@@ -1,4 +1,4 @@
--- Why a dedicated file takes no new file: the first of the reasons, in their order (ISO/IEC 7816-9, CREATE FILE).
+-- The refusals of a new file in a DF, in their order (ISO/IEC 7816-9, CREATE FILE).
 use Rattle.std.specs.Prelude.{◌==◌, ℕ, if◌then◌else◌}
 use Rattle.std.specs.Prelude.{[], ◌∷◌, ◌++◌, length, Option, None, Some}
 use Rattle.card_rules.specs.declared.status.Sw.{Sw}
@@ -10,25 +10,25 @@ use Rattle.card_state.specs.FileControl.{short_of_kind, name_bytes}
 use Rattle.card_state.specs.FileTrees.{dedicated, Path, Tree, exists}
 use Rattle.card_state.specs.NewFiles.{has_name, has_short_given, has_no_room}
 
--- why a name of the file is taken: its identifier is a child's, its name a file's,
--- or the short identifier that is given a child's
+-- The refusal by a name in use: a child has the identifier, a DF has the name, or a child has the given short
+-- identifier.
 abbrev pub taken_refusal : Tree → Path → Fcp → Option Sw
 taken_refusal tree df fcp =
     if exists tree (df ++ fcp.identifier ∷ []) then Some FILE_EXISTS else
     if has_name tree (name_bytes fcp.kind) then Some NAME_EXISTS else
     if has_short_given tree df (short_of_kind fcp.kind) then Some WRONG_DATA else None
 
--- why there is no place for it: it would stand at level 9, or there is no room
+-- The refusal by place: the file would be on level 9, or there is no free entry or too few free blocks.
 abbrev pub place_refusal : ℕ → Tree → Path → FileKind → Option Sw
 place_refusal n tree df kind =
     if length df == 7 then Some CONDITIONS_NOT_SATISFIED else
     if has_no_room n tree kind then Some NO_ROOM else None
 
--- the first of two reasons
+-- The first of two refusals.
 abbrev pub first_reason : Option Sw → Option Sw → Option Sw
 first_reason (Some status) other = Some status
 first_reason None other = other
 
--- the first reason why a dedicated file takes no such file, in a memory of n blocks
+-- The first refusal of a new file in a DF, in a memory of n blocks.
 abbrev pub creation_refusal : ℕ → Tree → Path → Fcp → Option Sw
 creation_refusal n tree df fcp = first_reason (taken_refusal tree df fcp) (place_refusal n tree df fcp.kind)

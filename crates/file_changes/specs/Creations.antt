@@ -1,4 +1,4 @@
--- What creating a file answers, and makes of the tree.
+-- The result of a creation, and its effect on the tree.
 use Rattle.std.specs.Prelude.{◌≡◌, ℕ, List, [], ◌∷◌, ◌++◌, None, Some}
 use Rattle.card_state.specs.declared.fcp.Fcp.{Fcp}
 use Rattle.file_changes.specs.declared.creating.Creation.{Creation}
@@ -12,12 +12,12 @@ use Rattle.file_tree.specs.Indexes.{AddsEntry}
 use Rattle.card_state.specs.NewFiles.{new_file, short_of_new}
 use Rattle.file_changes.specs.CreationRefusals.{creation_refusal}
 
--- A file more stands in a dedicated file, new as its file control parameters tell.
+-- There is a new file in a DF, as its file control parameters describe it.
 abbrev pub CreatesNew : List ℕ → ℕ → Fcp → List ℕ → Type 0
 CreatesNew m df fcp after =
     Creates m df fcp.identifier (new_file fcp (short_of_new (tree_of m) (path_of (table m) df) fcp)) after
 
--- The file of an entry is new: nothing refused it, and it took so many blocks and an entry.
+-- The file of the entry is new. Nothing refused it, and it took the stated number of blocks and one entry.
 pub record IsCreated (m : List ℕ) (df : ℕ) (fcp : Fcp) (e blocks : ℕ) (after : List ℕ) : Type 0 where
   pub none : creation_refusal (block_count m) (tree_of m) (path_of (table m) df) fcp ≡ None
   pub creates : CreatesNew m df fcp after
@@ -27,7 +27,7 @@ pub record IsCreated (m : List ℕ) (df : ℕ) (fcp : Fcp) (e blocks : ℕ) (aft
   pub space : free_space (block_count m) (tree_of m)
       ≡ with_freed (free_space (block_count after) (tree_of after)) (record { blocks = blocks; entries = 1 })
 
--- a file is created, or why not
+-- The result of a creation: the new file, or the refusal.
 abbrev pub TellsCreation : List ℕ → ℕ → Fcp → Creation → List ℕ → Type 0
 TellsCreation m df fcp (Refused status) after =
     (creation_refusal (block_count m) (tree_of m) (path_of (table m) df) fcp ≡ Some status) × (after ≡ m)

@@ -1,4 +1,4 @@
--- What single steps of a deletion find and free. No public clause names these.
+-- Steps inside a deletion. No public clause uses these definitions.
 use Rattle.std.specs.Prelude.{◌≡◌, ◌≢◌, ◌==◌, ◌⊎◌, ◌<◌, ◌+◌, ◌&&◌, ℕ, Bool, not, if◌then◌else◌, List, map, length}
 use Rattle.std.specs.List.{range_with_len, sum_by}
 use Rattle.nvm_board.specs.declared.board.TheConstants.{PAGE_WORDS}
@@ -15,26 +15,26 @@ use Rattle.file_tree.specs.Entries.{free_entry}
 use Rattle.file_tree.specs.Table.{table, entry_in, extents, free_entries}
 use Rattle.file_tree.specs.Subtrees.{leads_up}
 
--- whether an entry's file is the one of another entry, or stands below it
+-- True if entry `f` is used and in the subtree of `top`.
 abbrev pub is_gone : List Entry → ℕ → ℕ → Bool
 is_gone t top f = not ((entry_in t f).kind == 0) && leads_up t 7 top f
 
--- an entry, where it goes with another one; else a free one
+-- The entry if it is in the subtree of `top`, else a free one.
 abbrev pub going : List Entry → ℕ → ℕ → Entry
 going t top f = if is_gone t top f then entry_in t f else free_entry
 
--- the part that goes
+-- The part of the table that is the subtree.
 unfoldable pub part_below : List Entry → ℕ → List Entry
 part_below t top = map (going t top) (range_with_len 0 64)
 
--- The part of the table that goes, the chains of its extents, and how many blocks and entries they are.
+-- All that is deleted: the part of the table, the chains of its extents, and the numbers of its blocks and entries.
 pub record IsRemoval (m : List ℕ) (e : ℕ) (removal : Removal) : Type 0 where
   pub part : removal.part.items ≡ part_below (table m) e
   pub chains : removal.chains.items ≡ chains_of (extents (part_below (table m) e))
   pub blocks : removal.space.blocks ≡ sum_by (λ x. x.blocks) (extents (part_below (table m) e))
   pub entries : removal.space.entries + free_entries (part_below (table m) e) ≡ 64
 
--- The first so many entries of a part are freed, by their word 0, and no other word is other.
+-- The first k entries of a part are freed by setting their word 0 to 0. No other word changes.
 pub record FreesUpTo (m : List ℕ) (part : List Entry) (k : ℕ) (after : List ℕ) : Type 0 where
   pub size : length after ≡ length m
   pub freed : (f : ℕ) → f < k → (entry_in part f).kind ≢ 0 → word after (FIRST_ENTRY_PAGE + f) 0 ≡ 0
@@ -42,16 +42,16 @@ pub record FreesUpTo (m : List ℕ) (part : List Entry) (k : ℕ) (after : List 
       → (place ≢ 0) ⊎ ((f : ℕ) → f < k → page ≡ FIRST_ENTRY_PAGE + f → (entry_in part f).kind ≡ 0)
       → word after page place ≡ word m page place
 
--- all of its entries
+-- All entries of the part are freed.
 abbrev pub FreesEntries : List ℕ → List Entry → List ℕ → Type 0
 FreesEntries m part after = FreesUpTo m part ENTRIES after
 
--- They are freed, and then chains are given back.
+-- The entries are freed, then the chains are given back.
 pub record Removes (m : List ℕ) (part : List Entry) (chains : List Chain) (after : List ℕ) : Type 0 where
   pub between : List ℕ
   pub freed : FreesEntries m part between
   pub given : GivesBack between chains after
 
--- after they are freed, chains can be given back
+-- Once the entries are freed, the chains can be given back.
 abbrev pub CanGive : List ℕ → List Entry → List Chain → Type 0
 CanGive m part chains = (between : List ℕ) → FreesEntries m part between → HasFree between × AreApart between chains

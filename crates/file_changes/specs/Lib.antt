@@ -1,4 +1,4 @@
--- What a creation and a deletion find before they write, and what a creation has made.
+-- Creations and deletions: their results and refusals, and the steps inside them.
 pub mod Creations
 pub mod CreationParts
 pub mod DeletionParts

@@ -1,4 +1,4 @@
-//! Creating a file.
+//! CREATE FILE: creating a file (ISO/IEC 7816-9).
 
 ghost use Rattle.std.specs.Prelude.{◌≡◌, ◌≢◌, ◌⊎◌, ◌&&◌, ◌<◌, ◌≤◌, nat_le, length, Some, IfOk, OnOk};
 ghost use Rattle.std.specs.Prelude.{MatchResult, if◌then◌else◌};
@@ -36,19 +36,19 @@ use card_state::{Fcp, FileKind, ShortIdentifier};
 use file_tree::{Entry, EntryKind, Index, blocks_for, find_short};
 use undo_journal::{Board, Store, StoreErr, Txn};
 
-/// What came of a creation.
+/// The result of a creation.
 #[derive(Clone, Copy)]
 pub enum Creation {
-    /// The file of this entry is new, and has so many blocks.
+    /// The new file has this entry and this number of blocks.
     Created { entry: u8, blocks: u16 },
-    /// The first reason why it is refused, as a status word. Nothing was changed.
+    /// The first refusal, as a status word. Nothing was changed.
     Refused(Sw),
 }
 
-/// What each byte of a new file is.
+/// The value of each byte of a new file.
 const BLANK: u8 = 0xFF;
 
-/// The low five bits of an identifier, if they are 1 to 30; else 0.
+/// Returns the low five bits if they are 1 to 30, else 0.
 fn low_short(identifier: u16) -> u8
     ensures { result ≡ (if nat_le 1 (low_bits identifier) && nat_le (low_bits identifier) 30 then low_bits identifier
         else 0) }
@@ -61,7 +61,8 @@ fn low_short(identifier: u16) -> u8
     }
 }
 
-/// The low five bits of an identifier as a short identifier, if no child has it; 0 for none.
+/// Returns the default short identifier, 0 for none. It is the low five bits of the identifier, if they are 1 to 30
+/// and no child has them.
 fn short_by_default<B: Board>(store: &mut Store<B>, df: u8, identifier: u16) -> Result<u8, StoreErr>
     requires df { HasFile store.old df }
     ensures { Learns store.old store.new result (λ n. short_option n
@@ -77,7 +78,7 @@ fn short_by_default<B: Board>(store: &mut Store<B>, df: u8, identifier: u16) -> 
     }
 }
 
-/// The short identifier of a new file; 0 for none. A dedicated file has none.
+/// Returns the short identifier of a new file, 0 for none. A DF has none.
 fn short_of<B: Board>(store: &mut Store<B>, df: u8, fcp: &Fcp<'_>) -> Result<u8, StoreErr>
     requires df { HasFile store.old df }
     requires fcp { IsCreatable fcp.now }
@@ -94,7 +95,7 @@ fn short_of<B: Board>(store: &mut Store<B>, df: u8, fcp: &Fcp<'_>) -> Result<u8,
     }
 }
 
-/// The kind of the entry of a file.
+/// Returns the kind of a file's entry.
 fn entry_kind(kind: &FileKind<'_>) -> EntryKind
     ensures { kind_byte result ≡ kind_number kind.now }
 {
@@ -106,7 +107,7 @@ fn entry_kind(kind: &FileKind<'_>) -> EntryKind
     }
 }
 
-/// How many bytes a record of a file has, and how many records of a new one exist; 0 where its kind has no records.
+/// Returns the record length in bytes and the number of records. Both are 0 for a kind without records.
 fn records_of(kind: &FileKind<'_>) -> (u8, u8)
     ensures { result ≡ (record_length_of_kind kind.now, existing_of_kind kind.now) }
 {
@@ -119,7 +120,7 @@ fn records_of(kind: &FileKind<'_>) -> (u8, u8)
     }
 }
 
-/// Some bytes, with zeros behind them.
+/// Returns the bytes, padded with zeros.
 fn padded<const N: usize>(bytes: &[u8]) -> [u8; N]
     requires { length bytes.now ≤ N }
     ensures { result ≡ padded N bytes.now }
@@ -131,7 +132,7 @@ fn padded<const N: usize>(bytes: &[u8]) -> [u8; N]
     all
 }
 
-/// The entry of a new file, without its blocks.
+/// Returns the entry of a new file, without its blocks.
 fn entry_for(fcp: &Fcp<'_>, parent: u8, short: u8) -> Entry
     requires { IsCreatable fcp.now }
     ensures { result ≡ entry_for fcp.now parent short no_chain }
@@ -158,7 +159,7 @@ fn entry_for(fcp: &Fcp<'_>, parent: u8, short: u8) -> Entry
     }
 }
 
-/// Writes the entry of a new file, and takes its blocks, if it has some.
+/// Writes the entry of a new file, and takes its blocks.
 fn add_file<B: Board>(
     txn: &mut Txn<'_, B>,
     e: u8,
@@ -187,7 +188,7 @@ fn add_file<B: Board>(
     write_entry(txn, e, entry)
 }
 
-/// Fills the blocks of a new file, and then adds it in a transaction.
+/// Fills a new file's blocks, then adds it in a transaction.
 fn write_file<B: Board>(
     store: &mut Store<B>,
     e: u8,
@@ -229,13 +230,13 @@ fn find_place<B: Board>(
     }
 }
 
-/// Creates a file in the dedicated file of an entry, as its file control parameters tell: all its bytes, or the records
-/// that exist, are FF. Its blocks are filled first; then one transaction takes them and writes its entry. Where it is
-/// refused nothing is changed, and nothing is written. The index follows once all is done.
+/// Creates a file in the DF of an entry. Its content is FF throughout, or its existing records are. Its blocks are
+/// filled first; then one transaction takes them and writes its entry. A refusal changes and writes nothing. The
+/// index is updated after the commit.
 ///
 /// # Errors
-/// What the store answers: power was lost, or the device failed.
-/// The tree is then as it was, or as after the creation; and the index as it was.
+/// The store's failure: power was lost, or the device failed. The tree is then as before or as after the creation,
+/// and the index is unchanged.
 pub fn create<B: Board>(
     store: &mut Store<B>,
     index: &mut Index,

@@ -1,4 +1,4 @@
-//! Deleting a file, with all files below it.
+//! DELETE FILE: deleting a file with all files below it (ISO/IEC 7816-9).
 
 ghost use Rattle.std.specs.Prelude.{◌≡◌, ◌⊎◌, ◌<◌, ◌≤◌, ◌+◌, length, IfOk, OnOk, MatchResult};
 ghost use Rattle.std.specs.List.{sum_by};
@@ -27,10 +27,10 @@ use file_tree::{
 };
 use undo_journal::{Board, Store, StoreErr, Txn};
 
-/// The chains of some elementary files.
+/// The chains of some EFs.
 type ChainList = ArrayVec<Chain, TABLE_ROOM>;
 
-/// An entry that goes with another one, as it is in the part that goes; else a free one.
+/// Returns an entry in the subtree of `top`, else a free one.
 fn going_entry(entries: &[Entry], top: u8, e: u8) -> Entry
     requires { e < length entries.now }
     ensures { result ≡ going entries.now top e }
@@ -43,7 +43,7 @@ fn going_entry(entries: &[Entry], top: u8, e: u8) -> Entry
     }
 }
 
-/// The part of a table that a file and all files below it have; free entries stand for the others.
+/// Returns the subtree of a file as a table. Entries outside it are free ones.
 fn part_of(entries: &[Entry], top: u8) -> Table
     requires { length entries.now ≡ 64 }
     ensures { result.items ≡ part_below entries.now top }
@@ -55,7 +55,7 @@ fn part_of(entries: &[Entry], top: u8) -> Table
     part
 }
 
-/// The chains of extents.
+/// Returns the chains of extents.
 fn chains_in(extents: &[Extent]) -> ChainList
     requires { length extents.now ≤ 64 }
     ensures { result.items ≡ chains_of extents.now }
@@ -67,7 +67,7 @@ fn chains_in(extents: &[Extent]) -> ChainList
     chains
 }
 
-/// How many blocks extents have together.
+/// Returns the total number of blocks of extents.
 fn blocks_in(extents: &[Extent]) -> u16
     requires { sum_by (λ x. x.blocks) extents.now ≤ MOST_BLOCKS }
     ensures { result ≡ sum_by (λ x. x.blocks) extents.now }
@@ -79,7 +79,7 @@ fn blocks_in(extents: &[Extent]) -> u16
     blocks
 }
 
-/// Frees each entry of which a part of the table has a file.
+/// Frees each entry that is used in a part of the table.
 fn free_part<B: Board>(txn: &mut Txn<'_, B>, part: &[Entry]) -> Result<(), StoreErr>
     requires ready { IsOpen (memory_of txn.old) }
     requires size { length part.now ≡ 64 }
@@ -95,7 +95,7 @@ fn free_part<B: Board>(txn: &mut Txn<'_, B>, part: &[Entry]) -> Result<(), Store
     Ok(())
 }
 
-/// Frees the entries of a part of the table, and gives chains back.
+/// Frees a part of the table, and gives chains back.
 fn take_away<B: Board>(
     txn: &mut Txn<'_, B>,
     part: &[Entry],
@@ -113,7 +113,7 @@ fn take_away<B: Board>(
     give_back(txn, chains)
 }
 
-/// The same, in a transaction: all of it, or nothing.
+/// Frees entries and chains in one transaction.
 fn remove<B: Board>(store: &mut Store<B>, part: &[Entry], chains: &[Chain]) -> Result<(), StoreErr>
     requires ready { IsReady store.old }
     requires size { length part.now ≡ 64 }
@@ -130,7 +130,7 @@ fn remove<B: Board>(store: &mut Store<B>, part: &[Entry], chains: &[Chain]) -> R
     txn.end(work)
 }
 
-/// What goes with a file: its entries and those of all files below it, their chains, and how much they take.
+/// All that is deleted with a file: entries, chains and their space.
 #[derive(Drop)]
 struct Removal {
     part: Table,
@@ -138,7 +138,7 @@ struct Removal {
     space: FreeSpace,
 }
 
-/// What goes with the file of an entry.
+/// Returns all that is deleted with the file of an entry.
 fn removal_of<B: Board>(store: &mut Store<B>, e: u8) -> Result<Removal, StoreErr>
     requires file { HasFile store.old e }
     requires below { 0 < e }
@@ -159,13 +159,12 @@ fn removal_of<B: Board>(store: &mut Store<B>, e: u8) -> Result<Removal, StoreErr
     })
 }
 
-/// Deletes the file of an entry, with all files below it, in one transaction: their entries are free then, and their
-/// blocks. The answer is how many of both. The master file (entry 0) is not deleted.
-/// The index follows once all is done.
+/// Deletes a file with all files below it, in one transaction. It returns the numbers of freed blocks and entries.
+/// The MF (entry 0) can't be deleted. The index is updated after the commit.
 ///
 /// # Errors
-/// What the store answers: power was lost, or the device failed.
-/// The tree is then as it was, or as after the deletion; and the index as it was.
+/// The store's failure: power was lost, or the device failed. The tree is then as before or as after the deletion,
+/// and the index is unchanged.
 pub fn delete<B: Board>(
     store: &mut Store<B>,
     index: &mut Index,

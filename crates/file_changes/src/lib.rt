@@ -1,4 +1,4 @@
-//! What changes the tree of files: files are created and deleted, and their life cycles change.
+//! Changes of the file tree: creation and deletion of files, and their life cycles.
 #![tactic(auto)]
 
 mod creating;

@@ -1,4 +1,4 @@
-//! Life cycles of files (ISO/IEC 7816-9; ISO/IEC 7816-4, 7.4.10): which files are barred, and a file in another state.
+//! Changes of life cycle states (ISO/IEC 7816-9; ISO/IEC 7816-4, 7.4.10).
 
 ghost use Rattle.std.specs.Prelude.{◌≡◌, ◌⊎◌, slice_set, OnOk};
 ghost use Rattle.std.specs.Result.{result_err};
@@ -20,12 +20,11 @@ use card_rules::{LifeCycle, LifeCycleCommand};
 use file_tree::{CARD_TERMINATED, Entry, STATE_WORD, entry_address, is_below_barred, read_entry};
 use undo_journal::{Board, PAGE_WORDS, Store, StoreErr};
 
-/// The state of an entry's file after a life cycle command. None where it is refused, as its conditions of use aren't
-/// satisfied: a file above is deactivated or terminated, or the state found does not allow it. The entry is at hand: it
-/// isn't read again.
+/// Returns the state after a life cycle command, `None` for a refusal. It is refused if an ancestor is deactivated or
+/// terminated, or if the present state doesn't allow it. The entry is an argument, so it isn't read again.
 ///
 /// # Errors
-/// What the store answers: power was lost, or the device failed.
+/// The store's failure: power was lost, or the device failed.
 pub fn next_life_cycle<B: Board>(
     store: &mut Store<B>,
     e: u8,
@@ -44,14 +43,14 @@ pub fn next_life_cycle<B: Board>(
     Ok(LifeCycle::next_state(command, entry.life_cycle()))
 }
 
-/// The first word of an entry in another state.
+/// Returns the first word of an entry in another state.
 fn life_word(entry: &Entry, state: LifeCycle) -> u32
     ensures { TellsLife entry.now (life_cycle_byte state) result }
 {
     two_bytes(entry.kind, state.to_byte(), entry.identifier)
 }
 
-/// Writes a word, in a transaction.
+/// Writes a word in a transaction.
 fn write_word<B: Board>(store: &mut Store<B>, at: u16, word: u32) -> Result<(), StoreErr>
     requires ready { IsReady store.old }
     requires place { IsDataAddress (committed store.old) at }
@@ -66,12 +65,11 @@ fn write_word<B: Board>(store: &mut Store<B>, at: u16, word: u32) -> Result<(), 
     txn.end(work)
 }
 
-/// Brings the file of an entry into a state: ACTIVATE, DEACTIVATE and TERMINATE, once nothing refuses them. Where the
-/// file is in this state nothing is written.
+/// Sets the life cycle state of a file. The caller has checked ACTIVATE, DEACTIVATE or TERMINATE. If the file is in
+/// this state already, nothing is written.
 ///
 /// # Errors
-/// What the store answers: power was lost, or the device failed.
-/// The file is then in the state that it was in, or in the new one.
+/// The store's failure: power was lost, or the device failed. The file is then in its old state or in the new one.
 pub fn set_life_cycle<B: Board>(
     store: &mut Store<B>,
     e: u8,
@@ -93,11 +91,11 @@ pub fn set_life_cycle<B: Board>(
     write_word(store, entry_address(e), life_word(&entry, state))
 }
 
-/// Ends the use of the card: the state of the card in the header is "terminated". No other word changes. A card whose
-/// use has ended already is to take no such command: the word would be written again.
+/// Sets the state of the card to terminated. No other word changes. A card that is terminated already must not get
+/// this call, since the word would be written again.
 ///
 /// # Errors
-/// What the store answers: power was lost, or the device failed. The state is then as it was, or "terminated".
+/// The store's failure: power was lost, or the device failed. The state is then the old one or terminated.
 pub fn terminate_card<B: Board>(store: &mut Store<B>) -> Result<(), StoreErr>
     requires ready { IsReady store.old }
     ensures any_exit { (committed store.new ≡ committed store.old)

@@ -1,4 +1,4 @@
-//! Where a new file finds a place.
+//! The place of a new file.
 
 ghost use Rattle.undo_journal.specs.Memory.{committed};
 ghost use Rattle.undo_journal.specs.Calls.{Learns};
@@ -12,7 +12,7 @@ use card_state::Fcp;
 use file_tree::blocks_for;
 use undo_journal::{Board, Store, StoreErr};
 
-/// The place of a new file: an entry that no file has. Or why there is none.
+/// The place of a new file, a free entry, or the refusal.
 #[derive(Clone, Copy)]
 pub(crate) enum Place {
     At(u8),

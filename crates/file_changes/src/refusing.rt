@@ -1,4 +1,4 @@
-//! Whether a new file is refused, and why.
+//! Refusals of a new file.
 
 ghost use Rattle.std.specs.Prelude.{◌≡◌, ◌≢◌, ◌↔◌, IsTrue, if◌then◌else◌, Some, None};
 ghost use Rattle.undo_journal.specs.Memory.{committed, IsReady};
@@ -49,7 +49,7 @@ pub(crate) fn first_free<B: Board>(store: &mut Store<B>) -> Result<Option<u8>, S
     Ok(None)
 }
 
-/// A child of the dedicated file has the short identifier that is given.
+/// Returns true if a child has the given short identifier.
 fn is_short_taken<B: Board>(
     store: &mut Store<B>,
     df: u8,
@@ -69,7 +69,7 @@ fn is_short_taken<B: Board>(
     }
 }
 
-/// Which names of a new file other files have.
+/// The names of a new file that other files already have.
 #[derive(Clone, Copy)]
 struct TakenNames {
     identifier: bool,
@@ -77,7 +77,7 @@ struct TakenNames {
     short: bool,
 }
 
-/// The first reason why a new file is refused: its identifier is taken, its name, or its short identifier.
+/// Returns the first refusal: by identifier, by name, or by short identifier.
 fn first_taken(taken: TakenNames) -> Option<Sw>
     ensures { result ≡ (if taken.identifier then Some FILE_EXISTS else if taken.name then Some NAME_EXISTS else
         if taken.short then Some WRONG_DATA else None) }

@@ -1,4 +1,4 @@
-//! Entries written within a transaction.
+//! Writing entries in a transaction.
 
 ghost use Rattle.std.specs.Prelude.{◌≡◌, ◌≢◌, ◌∷◌, [], ◌<◌, ◌≤◌, ◌+◌, ◌*◌, OnOk, length, take, drop};
 ghost use Rattle.std.specs.Result.{result_err};
@@ -12,7 +12,7 @@ ghost use Rattle.file_changes.specs.CreationParts.{WritesEntry};
 use file_tree::{ENTRY_WORDS, Entry, entry_address};
 use undo_journal::{Board, StoreErr, Txn};
 
-/// The words that tell an entry.
+/// Returns the words that encode an entry.
 fn words_of(entry: Entry) -> [u32; ENTRY_WORDS]
     ensures { entry_told result ≡ entry }
 {
@@ -38,7 +38,7 @@ fn words_of(entry: Entry) -> [u32; ENTRY_WORDS]
     ]
 }
 
-/// The word of four bytes, from a place on.
+/// Returns four bytes from an index on as a word.
 fn word_at(bytes: &[u8], at: usize) -> u32
     requires { at + 4 ≤ length bytes.now }
     ensures { word_bytes result ≡ take 4 (drop at bytes.now) }
@@ -46,28 +46,28 @@ fn word_at(bytes: &[u8], at: usize) -> u32
     four_bytes(bytes[at], bytes[at + 1], bytes[at + 2], bytes[at + 3])
 }
 
-/// The word of four bytes.
+/// Returns four bytes as a word.
 fn four_bytes(first: u8, second: u8, third: u8, fourth: u8) -> u32
     ensures { word_bytes result ≡ first ∷ second ∷ third ∷ fourth ∷ [] }
 {
     u32::from_be_bytes([first, second, third, fourth])
 }
 
-/// Two bytes, and behind them two more.
+/// Returns a word of two bytes and a 16-bit number.
 pub(crate) fn two_bytes(first: u8, second: u8, low: u16) -> u32
     ensures { result ≡ 16777216 * first + 65536 * second + low }
 {
     0x100_0000 * u32::from(first) + 0x1_0000 * u32::from(second) + u32::from(low)
 }
 
-/// Two halves of a word.
+/// Returns a word of two 16-bit numbers.
 fn halves(high: u16, low: u16) -> u32
     ensures { result ≡ 65536 * high + low }
 {
     0x1_0000 * u32::from(high) + u32::from(low)
 }
 
-/// Writes an entry's words on its page: one set a word.
+/// Writes an entry on its page, one set per word.
 pub(crate) fn write_entry<B: Board>(
     txn: &mut Txn<'_, B>,
     e: u8,
