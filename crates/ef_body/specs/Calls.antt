@@ -1,4 +1,4 @@
--- What calls on bodies leave and answer: of a buffer, of a store, of its committed words.
+-- The postconditions of calls on bodies: for the buffer, the store and its committed words.
 use Rattle.std.specs.Prelude.{◌≡◌, ◌⊎◌, ℕ, Option, List, [], length, Result, IfOk, OnOk}
 use Rattle.std.specs.Result.{result_err}
 use Rattle.card_rules.specs.declared.status.Sw.{Sw}
@@ -13,13 +13,13 @@ use Rattle.ef_body.specs.declared.slot.RecordSlot.{RecordSlot}
 use Rattle.card_state.specs.RecordLists.{spelled, record_of, raised_number}
 use Rattle.ef_body.specs.Refusals.{missing_record, unraised, Decides, DecidesUnlessFailed, IfRefused, failure}
 
--- A look for the record of a number in a ring finds it, unless there is none.
+-- The lookup of a record in a ring finds it, unless there is none.
 pub record FindsRecord (ring : Cyclic) (number : ℕ) (result : Result RecordSlot Sw) : Type 0 where
   pub found : IfOk result (λ slot. (slot.ring ≡ ring) × (slot.number ≡ number))
   pub refusal : (records : List (List ℕ)) → length records ≡ ring.records
       → missing_record records number ≡ result_err result
 
--- These bytes are read into a buffer, in place of what stood there. Where the store fails, it may hold a first part of
+-- The call reads these bytes into a buffer, replacing its content. If the store fails, the buffer has a first part of
 -- them.
 pub record ReadsInto {T : Type 0} (wanted : List ℕ) (old new : Memory) (buffer : List ℕ) (result : Result T StoreErr)
     : Type 0 where
@@ -27,7 +27,7 @@ pub record ReadsInto {T : Type 0} (wanted : List ℕ) (old new : Memory) (buffer
   pub any_exit : AppendsSome [] wanted buffer
   pub store : Reads old new (result_err result)
 
--- The same, unless a refusal is due: then the buffer is empty, and nothing was done.
+-- The same, unless the call is refused: then the buffer is empty, and nothing was done.
 pub record ReadsUnlessRefused {T : Type 0} (due : Option Sw) (wanted : List ℕ) (old new : Memory) (buffer : List ℕ)
     (result : Result T BodyErr) : Type 0 where
   pub bytes : OnOk result (buffer ≡ wanted)
@@ -36,8 +36,8 @@ pub record ReadsUnlessRefused {T : Type 0} (due : Option Sw) (wanted : List ℕ)
   pub refused : IfRefused (result_err result) ((buffer ≡ []) × (new ≡ old))
   pub store : Reads old new (failure (result_err result))
 
--- The committed words become so, by one turn of the gate and at most n device writes. Where the store fails, they may
--- be as before.
+-- The committed words become new ones that satisfy `becomes`, by one turn of the gate and at most n device writes. If
+-- the store fails, they may be as before.
 pub record Commits {T : Type 0} (becomes : List ℕ → Type 0) (n : ℕ) (old new : Memory) (result : Result T StoreErr)
     : Type 0 where
   pub any_exit : (committed new ≡ committed old) ⊎ becomes (committed new)
@@ -45,7 +45,7 @@ pub record Commits {T : Type 0} (becomes : List ℕ → Type 0) (n : ℕ) (old n
   pub by_gate : CommitsByGate old new
   pub store : Changes n old new (result_err result)
 
--- The same, unless a refusal is due: then nothing was done.
+-- The same, unless the call is refused: then nothing was done.
 pub record CommitsUnlessRefused {T : Type 0} (due : Option Sw) (becomes : List ℕ → Type 0) (n : ℕ) (old new : Memory)
     (result : Result T BodyErr) : Type 0 where
   pub any_exit : (committed new ≡ committed old) ⊎ becomes (committed new)
@@ -55,8 +55,8 @@ pub record CommitsUnlessRefused {T : Type 0} (due : Option Sw) (becomes : List �
   pub by_gate : CommitsByGate old new
   pub store : Changes n old new (failure (result_err result))
 
--- A buffer receives the sum of record 1 and the sent number, in so many bytes, unless there is no record, or no sum in
--- so many: then it is empty. Where the store fails, it may hold a first part of record 1 in place of the sum.
+-- The buffer gets the sum of record 1 and the sent number, in `size` bytes. It is empty if there is no record, or the
+-- sum doesn't fit. If the store fails, it has a first part of record 1, or the sum.
 pub record ReceivesSum {T : Type 0} (size : ℕ) (records : List (List ℕ)) (sent buffer_now : List ℕ)
     (result : Result T BodyErr) : Type 0 where
   pub bytes : OnOk result (buffer_now ≡ spelled size (raised_number records sent))

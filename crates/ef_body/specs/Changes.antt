@@ -1,4 +1,4 @@
--- What the calls on bodies make of the words of a memory.
+-- The effects of calls on bodies on the words of a memory.
 use Rattle.std.specs.Prelude.{◌≡◌, ◌≢◌, ◌⊎◌, ◌<◌, ◌+◌, ◌-◌, ◌*◌, ◌/◌, ◌%◌, ℕ, List, length, slice_index}
 use Rattle.nvm_board.specs.Facts.{address}
 use Rattle.nvm_board.specs.declared.board.TheConstants.{PAGE_WORDS}
@@ -14,41 +14,40 @@ use Rattle.ef_body.specs.declared.cyclic.Cyclic.{Cyclic}
 use Rattle.card_state.specs.RecordLists.{front, spelled, raised_number}
 use Rattle.ef_body.specs.Bodies.{transparent_bytes, linear_records, cyclic_records, start_told}
 
--- Every word stays but the words of these blocks that hold bytes, and the one at this address.
+-- Only the content words of these blocks and the word at this address may change.
 pub record OnlyBody (m ps : List ℕ) (told_at : ℕ) (after : List ℕ) : Type 0 where
   pub size : length after ≡ length m
   pub others : (page place : ℕ) → place < PAGE_WORDS → (place ≡ 0) ⊎ IsNotIn page ps → address page place ≢ told_at
       → word after page place ≡ word m page place
 
--- A transparent body has these bytes, and all else stays.
+-- A transparent EF has these bytes. All else is unchanged.
 pub record TransparentBecomes (m : List ℕ) (body : Transparent) (bytes after : List ℕ) : Type 0 where
   pub becomes : transparent_bytes after body ≡ bytes
   pub blocks : chain_of after body.chain ≡ chain_of m body.chain
   pub only : OnlyContent m (chain_of m body.chain) after
 
--- A linear body has these records, and all else stays.
+-- A linear EF has these records. All else is unchanged.
 pub record LinearBecomes (m : List ℕ) (body : Linear) (records : List (List ℕ)) (after : List ℕ) : Type 0 where
   pub becomes : linear_records after body ≡ records
   pub start : start_told after body.told_at ≡ 0
   pub blocks : chain_of after body.chain ≡ chain_of m body.chain
   pub only : OnlyBody m (chain_of m body.chain) body.told_at after
 
--- A ring has these records, of which the first lies where it lay before, and all else stays.
+-- A ring has these records, with record 1 in the same slot as before. All else is unchanged.
 pub record RecordsBecome (m : List ℕ) (ring : Cyclic) (records : List (List ℕ)) (after : List ℕ) : Type 0 where
   pub becomes : cyclic_records after ring ≡ records
   pub start : start_told after ring.told_at ≡ ring.start
   pub blocks : chain_of after ring.chain ≡ chain_of m ring.chain
   pub only : OnlyBody m (chain_of m ring.chain) ring.told_at after
 
--- A cyclic body has these records, of which the first lies in the slot before that of record 1 before, and all else
--- stays.
+-- A cyclic EF has these records, with record 1 in the slot before that of the former record 1. All else is unchanged.
 pub record CyclicBecomes (m : List ℕ) (body : Cyclic) (records : List (List ℕ)) (after : List ℕ) : Type 0 where
   pub becomes : cyclic_records after body ≡ records
   pub start : start_told after body.told_at ≡ (body.start + body.capacity - 1) % body.capacity
   pub blocks : chain_of after body.chain ≡ chain_of m body.chain
   pub only : OnlyBody m (chain_of m body.chain) body.told_at after
 
--- Bytes of a chain are overwritten and the word at an address is set, and all else stays.
+-- Bytes of a chain are overwritten, and the word at an address is set. All else is unchanged.
 pub record PutsRecord (m : List ℕ) (c : Chain) (offset : ℕ) (bytes : List ℕ) (told_at told : ℕ) (after : List ℕ)
     : Type 0 where
   pub becomes : chain_bytes after c ≡ overwrite (chain_bytes m c) offset bytes
@@ -56,16 +55,16 @@ pub record PutsRecord (m : List ℕ) (c : Chain) (offset : ℕ) (bytes : List �
   pub blocks : chain_of after c ≡ chain_of m c
   pub only : OnlyBody m (chain_of m c) told_at after
 
--- INCREASE: the sum of record 1 and the sent number, in as many bytes as a record has, becomes the newest record, and
--- the oldest is dropped.
+-- INCREASE: the sum of record 1 and the sent number, in the record length, becomes the newest record. The oldest is
+-- dropped.
 abbrev pub Increases : List ℕ → Cyclic → List ℕ → List ℕ → Type 0
 Increases m body sent after =
     let records = cyclic_records m body in
     CyclicBecomes m body (front (length records) (spelled body.record_length (raised_number records sent)) records)
     after
 
--- Device writes at most of an UPDATE BINARY of so many bytes: they touch at most ceil(count / 4) + 1 words; for each
--- eight of these one write of pairs, one of the gate and one of words; one write more at each of at most ceil(count /
--- 60) ends of a block; one commit.
+-- The device writes of an UPDATE BINARY of `count` bytes, at most. They touch at most ceil(count / 4) + 1 words. Each
+-- eight of these take three writes: pairs, gate and words. Each of at most ceil(count / 60) block ends takes one
+-- more, and the commit one.
 abbrev pub update_writes : ℕ → ℕ
 update_writes count = 3 * (((count + 3) / 4 + 1 + 7) / 8) + (count + 59) / 60 + 1

@@ -1,5 +1,5 @@
--- What is meant: lists of records and where they lie, numbers, searching, bodies in a memory, and what calls on them
--- promise. The laws stand apart.
+-- Bodies of EFs: records and their slots, refusals, bodies in a memory, their changes, and the postconditions of
+-- calls. The laws are in a module of their own.
 pub mod Records
 pub mod Refusals
 pub mod Bodies

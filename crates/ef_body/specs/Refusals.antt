@@ -1,4 +1,4 @@
--- What refuses a call on a body, and what an answer says of it.
+-- The refusals of calls on bodies, and their relation to the result.
 use Rattle.std.specs.Prelude.{◌≡◌, Option, None, Some, ◌+◌, ◌^◌, ℕ, List, length, nat_le, nat_lt, if◌then◌else◌}
 use Rattle.card_rules.specs.declared.status.Sw.{Sw}
 use Rattle.undo_journal.specs.declared.error.StoreErr.{StoreErr}
@@ -7,50 +7,50 @@ use Rattle.ef_body.specs.declared.error.BodyErr.TheVariants.{Refused, Store}
 use Rattle.card_rules.specs.declared.status.TheConstants.Sw.{RECORD_NOT_FOUND, NO_ROOM, WRONG_OFFSET, MAXIMUM_REACHED}
 use Rattle.card_state.specs.RecordLists.{has_record, raised_number}
 
--- An answer decides what refuses a call: it is a refusal, with that status word, just where one applies.
+-- The result is a refusal with this status word exactly if the refusal applies.
 abbrev pub Decides : Option Sw → Option BodyErr → Type 0
 Decides refusal None = refusal ≡ None
 Decides refusal (Some (Refused status)) = refusal ≡ Some status
 Decides refusal (Some (Store e)) = refusal ≡ None
 
--- The same where the store is read before it is known what refuses: then it may fail in that.
+-- The same for a call that reads the store to find out: it may fail in that.
 abbrev pub DecidesUnlessFailed : Option Sw → Option BodyErr → Type 0
 DecidesUnlessFailed refusal None = refusal ≡ None
 DecidesUnlessFailed refusal (Some (Refused status)) = refusal ≡ Some status
 DecidesUnlessFailed refusal (Some (Store e)) = Unit {0}
 
--- a fact that holds where the call is refused
+-- A fact that holds if the call is refused.
 abbrev pub IfRefused : Option BodyErr → Type 0 → Type 0
 IfRefused None fact = Unit {0}
 IfRefused (Some (Refused status)) fact = fact
 IfRefused (Some (Store e)) fact = Unit {0}
 
--- why the store failed, by the answer: a refusal is no failure of the store
+-- The store's failure in a result. A refusal is none.
 abbrev pub failure : Option BodyErr → Option StoreErr
 failure None = None
 failure (Some (Refused status)) = None
 failure (Some (Store e)) = Some e
 
--- there is no record of this number
+-- There is no record of this number.
 abbrev pub missing_record : List (List ℕ) → ℕ → Option Sw
 missing_record records number = if has_record records number then None else Some RECORD_NOT_FOUND
 
--- a linear file holds as many records as it has room for
+-- A linear EF has as many records as its capacity.
 abbrev pub full : ℕ → List (List ℕ) → Option Sw
 full capacity records = if nat_le capacity (length records) then Some NO_ROOM else None
 
--- there is no record, or the sum needs more bytes than a record has
+-- There is no record, or the sum doesn't fit in a record.
 abbrev pub unraised : ℕ → List (List ℕ) → List ℕ → Option Sw
 unraised size records sent =
     if has_record records 1
     then (if nat_le (256 ^ size) (raised_number records sent) then Some MAXIMUM_REACHED else None)
     else Some RECORD_NOT_FOUND
 
--- the offset is at the end of the bytes or past it
+-- The offset is at the end of the bytes or past it.
 abbrev pub past_end : List ℕ → ℕ → Option Sw
 past_end bytes offset = if nat_le (length bytes) offset then Some WRONG_OFFSET else None
 
--- besides, bytes put there reach past the end
+-- The same, or the new bytes would extend past the end.
 abbrev pub overlong : List ℕ → ℕ → List ℕ → Option Sw
 overlong bytes offset new =
     if nat_le (length bytes) offset then Some WRONG_OFFSET else

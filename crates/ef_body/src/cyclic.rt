@@ -1,4 +1,4 @@
-//! Cyclic bodies: records of one length, the newest first (ETSI TS 102 221, 8.2.2.3).
+//! Cyclic EFs: records of one length, the newest first (ETSI TS 102 221, 8.2.2.3).
 ghost use Rattle.std.specs.Prelude.{◌≡◌, ◌≤◌, ◌<◌, ◌⊎◌, ◌↔◌, ◌+◌, min, length, None, Some, IsTrue, IfOk, OnOk};
 ghost use Rattle.std.specs.Prelude.{refl, nat_le, if◌then◌else◌};
 ghost use Rattle.std.specs.Result.{result_err};
@@ -24,9 +24,9 @@ use block_chain::Chain;
 use card_rules::Sw;
 use undo_journal::{Board, Store, StoreErr};
 
-/// A cyclic body: the chain of its blocks, the length of a record in bytes (1 to 255), how many records it has room
-/// for (1 to 254) and how many there are, the slot of record 1, and the address of the word of its entry that tells
-/// the last two.
+/// The body of a cyclic EF. It has the chain of its blocks, the record length in bytes (1 to 255), and the capacity
+/// in records (1 to 254). It also has the number of records and the slot of record 1, and the address of the entry's
+/// word for these two.
 #[derive(Clone, Copy)]
 pub struct Cyclic {
     pub chain: Chain,
@@ -54,18 +54,17 @@ impl RecordBody for Cyclic {
 }
 
 impl Cyclic {
-    /// Whether there is a record of this number, 1 the newest.
+    /// Returns true if there is a record of this number. Record 1 is the newest.
     pub(crate) fn has_record(self, number: u16) -> bool
         ensures { IsTrue result ↔ ((1 ≤ number) × (number ≤ self.records)) }
     {
         (1..=self.records).contains(&number)
     }
 
-    /// Looks for a free slot behind the last record, for one record more that takes the place of none: that of a linear
-    /// body.
+    /// Returns a free slot behind the last record, for a linear EF.
     ///
     /// # Errors
-    /// 6A84 exactly where there are as many records as slots.
+    /// 6A84 exactly if all slots have records.
     pub fn find_behind(self) -> Result<FreeSlot, Sw>
         ensures found { IfOk result (λ slot. slot.ring ≡ self) }
         ensures refusal { result_err result ≡ (if nat_le self.capacity self.records then Some NO_ROOM else None) }
@@ -76,11 +75,11 @@ impl Cyclic {
         Ok(FreeSlot { ring: self })
     }
 
-    /// Puts a record in front and drops the oldest one, in one transaction: the number of records stays (UPDATE
-    /// RECORD, PREVIOUS, ETSI TS 102 221, 11.1.6).
+    /// Puts a record in front and drops the oldest one. It takes one transaction, and the number of records doesn't
+    /// change (UPDATE RECORD, PREVIOUS, ETSI TS 102 221, 11.1.6).
     ///
     /// # Errors
-    /// 6A83 where there is no record. What the store answers: then the records are as before, or with the new one.
+    /// 6A83 if there is no record. The store's failure: then the records are as before, or with the new one.
     pub fn update_oldest<B: Board>(self, store: &mut Store<B>, bytes: &[u8]) -> Result<(), BodyErr>
         requires ready { IsReady store.old }
         requires body { IsCyclic (committed store.old) self }
@@ -93,11 +92,11 @@ impl Cyclic {
         from_store(newest.replace_oldest(store, bytes))
     }
 
-    /// Adds a record in front, in one transaction: where there is room for no more, the oldest one is dropped (APPEND
-    /// RECORD, ISO/IEC 7816-4, 11.4.6).
+    /// Adds a record in front, in one transaction. If the EF is full, it drops the oldest one (APPEND RECORD, ISO/IEC
+    /// 7816-4, 11.4.6).
     ///
     /// # Errors
-    /// What the store answers: then the records are as before, or with the new one. It refuses nothing.
+    /// The store's failure: then the records are as before, or with the new one. It refuses nothing.
     pub fn append<B: Board>(self, store: &mut Store<B>, bytes: &[u8]) -> Result<(), BodyErr>
         requires ready { IsReady store.old }
         requires body { IsCyclic (committed store.old) self }
@@ -109,10 +108,10 @@ impl Cyclic {
         from_store(self.push_front(store, bytes))
     }
 
-    /// The same, answered as the store answers it.
+    /// Adds a record in front, with the store's error type.
     ///
     /// # Errors
-    /// What the store answers: then the records are as before, or with the new one.
+    /// The store's failure: then the records are as before, or with the new one.
     pub fn push_front<B: Board>(self, store: &mut Store<B>, bytes: &[u8]) -> Result<(), StoreErr>
         requires ready { IsReady store.old }
         requires body { IsCyclic (committed store.old) self }
@@ -124,7 +123,7 @@ impl Cyclic {
         put_front(self, store, bytes, self.appended())
     }
 
-    /// How many records there are with one more: as many as there is room for at most.
+    /// Returns the number of records with one more, at most the capacity.
     fn appended(self) -> u16
         requires few { self.capacity ≤ 254 }
         requires room { self.records ≤ self.capacity }
@@ -133,14 +132,13 @@ impl Cyclic {
         self.capacity.min(self.records + 1)
     }
 
-    /// Looks whether record 1 can be raised by the sent number: puts into the buffer, in place of what stood there, the
-    /// record that INCREASE stores, which is the number that record 1 spells, with the sent number added, in as many
-    /// bytes as a record has, and answers the receipt of record 1. Nothing is written: `RecordSlot::replace_oldest`
-    /// stores the sum then, and refuses nothing.
+    /// Computes the record that INCREASE stores, and returns record 1 as found. The buffer gets record 1 as a number
+    /// plus the sent number, in the record length. Nothing is written. `RecordSlot::replace_oldest` then stores the
+    /// sum, and refuses nothing.
     ///
     /// # Errors
-    /// 6A83 where there is no record, 9850 where the sum doesn't fit a record: then the buffer is empty. What the store
-    /// answers: then it holds a first part of record 1.
+    /// 6A83 if there is no record, 9850 if the sum doesn't fit in a record: then the buffer is empty. The store's
+    /// failure: then the buffer has a first part of record 1.
     pub fn raise<B: Board, const N: usize>(
         self,
         store: &mut Store<B>,
@@ -166,13 +164,13 @@ impl Cyclic {
         Ok(newest)
     }
 
-    /// Stores the sum of record 1 and the sent number as a new record in front, in one transaction, and drops the
-    /// oldest one; the new record is put into the buffer (INCREASE, ETSI TS 102 221, 11.1.8).
+    /// Stores the sum of record 1 and the sent number in front. It takes one transaction, drops the oldest record,
+    /// and puts the new one into the buffer (INCREASE, ETSI TS 102 221, 11.1.8).
     ///
     /// # Errors
-    /// 6A83 where there is no record, 9850 where the sum doesn't fit a record: then the buffer is empty. What the store
-    /// answers: then the records are as before, or with the new one, and the buffer holds it,
-    /// or a first part of record 1.
+    /// 6A83 if there is no record, 9850 if the sum doesn't fit in a record: then the buffer is empty. The store's
+    /// failure: then the records are as before, or with the new one. The buffer then has the new record, or a first
+    /// part of record 1.
     pub fn increase<B: Board, const N: usize>(
         self,
         store: &mut Store<B>,

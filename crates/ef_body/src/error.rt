@@ -1,4 +1,4 @@
-//! Why a call on a body fails.
+//! Errors of calls on the body of an EF.
 ghost use Rattle.std.specs.Prelude.{◌≡◌, option_map};
 ghost use Rattle.std.specs.Result.{result_err};
 ghost use Rattle.ef_body.specs.declared.error.BodyErr.TheVariants.{Refused, Store};
@@ -6,10 +6,10 @@ ghost use Rattle.ef_body.specs.declared.error.BodyErr.TheVariants.{Refused, Stor
 use card_rules::Sw;
 use undo_journal::StoreErr;
 
-/// Why a call on a body fails.
+/// The reason why a call on a body fails.
 #[derive(Clone, Copy, Debug, PartialEq, Eq)]
 pub enum BodyErr {
-    /// The body refuses, with this status word. Nothing was written.
+    /// The call is refused with this status word. Nothing was written.
     Refused(Sw),
     /// The store failed.
     Store(StoreErr),
@@ -23,7 +23,7 @@ impl From<Sw> for BodyErr {
     }
 }
 
-/// The store's answer, as a body's.
+/// Returns the store's result with the error type of a body.
 pub(crate) fn from_store(answered: Result<(), StoreErr>) -> Result<(), BodyErr>
     ensures { result_err result ≡ option_map Store (result_err answered) }
 {

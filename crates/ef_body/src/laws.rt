@@ -4,16 +4,16 @@ ghost use Rattle.block_chain.specs.Writes.{put_writes};
 ghost use Rattle.ef_body.specs.Changes.{update_writes};
 ghost use Rattle.ef_body.specs.declared.layout.TheConstants.{MOST_RECORD_BYTES, RECORD_WRITES, UPDATE_WRITES};
 
-/// A record has at most 255 bytes. An update of one makes at most 33 device writes, and a record that is added, or
-/// put in front, at most 34.
+/// Proves the greatest record length and numbers of device writes. A record has at most 255 bytes. An update of one
+/// takes at most 33 device writes, and a new record at most 34.
 pub fn numbers()
     ensures bytes { MOST_RECORD_BYTES ≡ 255 }
     ensures update { UPDATE_WRITES ≡ 33 }
     ensures record_writes { RECORD_WRITES ≡ 34 }
 {}
 
-/// The device writes of an UPDATE BINARY, which its offset and the number of its bytes say exactly, are no more than
-/// its bounds: that by the number of bytes alone, and 33 of up to 255 bytes.
+/// Proves bounds for the device writes of UPDATE BINARY. The exact number depends on the offset and on the number of
+/// bytes. One bound depends only on the number of bytes; the other is 33 for up to 255 bytes.
 #[tactic(auto, using(crate::proofs::Putting::updates_most, crate::proofs::Putting::updates_few))]
 pub fn updates_write_little()
     ensures most { (offset count : ℕ) → put_writes offset count ≤ update_writes count }

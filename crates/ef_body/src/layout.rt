@@ -1,12 +1,13 @@
-//! Numbers of bodies.
+//! Limits of bodies.
 use card_rules::limits;
 
-/// The most bytes of a record, as a length.
+/// The greatest record length in bytes, as a length.
 pub const MOST_RECORD_BYTES: usize = limits::MOST_RECORD_BYTES as usize;
 
-/// Device writes at most where up to 255 bytes of a body are set in one transaction: three for each eight of the 65
-/// words that they may touch, and one for each of the six blocks that hold them.
+/// The greatest number of device writes of a transaction on 255 bytes. It is the bound of a transaction of 65 sets,
+/// as many words as the bytes may touch, in six runs, one per block.
 pub const UPDATE_WRITES: u16 = 33;
 
-/// Device writes at most where besides the word of the entry is set: one more, since it lies elsewhere.
+/// The greatest number of device writes with the entry's word. That set is one more run, since the word lies
+/// elsewhere.
 pub const RECORD_WRITES: u16 = UPDATE_WRITES + 1;

@@ -1,5 +1,5 @@
-//! Bodies of elementary files: lists of bytes, and lists of records in number order (linear) or newest first
-//! (cyclic), in the blocks of a chain (ISO/IEC 7816-4, 7.3 and 11.3 to 11.4; ETSI TS 102 221, 8.2.2).
+//! The bodies of EFs, which are their contents in a memory: bytes (transparent), records in number order (linear) or
+//! newest first (cyclic) (ISO/IEC 7816-4, 7.3 and 11.3 to 11.4; ETSI TS 102 221, 8.2.2).
 #![tactic(auto)]
 
 mod cyclic;

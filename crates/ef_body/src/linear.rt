@@ -1,4 +1,4 @@
-//! Linear bodies: records of one length, in number order (ETSI TS 102 221, 8.2.2.2).
+//! Linear EFs: records of one length, in number order (ETSI TS 102 221, 8.2.2.2).
 ghost use Rattle.std.specs.Prelude.{◌≡◌, ◌-◌, ◌++◌, ◌∷◌, [], length, slice_set};
 ghost use Rattle.std.specs.Prelude.{ℕ, List, IfOk};
 ghost use Rattle.std.specs.Result.{result_err};
@@ -18,8 +18,8 @@ use block_chain::Chain;
 use card_rules::Sw;
 use undo_journal::{Board, Store};
 
-/// A linear body: the chain of its blocks, the length of a record in bytes (1 to 255), how many records it has room
-/// for (1 to 254) and how many there are, and the address of the word of its entry that tells so.
+/// The body of a linear EF. It has the chain of its blocks, the record length in bytes (1 to 255), and the capacity
+/// in records (1 to 254). It also has the number of records, and the address of the entry's word for it.
 #[derive(Clone, Copy)]
 pub struct Linear {
     pub chain: Chain,
@@ -36,7 +36,7 @@ impl RecordBody for Linear {
 
     ghost ring_of = { ring_of };
 
-    /// The ring's record 1 lies in slot 0: its slots are never followed past the last one.
+    /// Record 1 is in slot 0, so the slots never wrap around.
     fn ring(self) -> Cyclic {
         Cyclic {
             chain: self.chain,
@@ -54,10 +54,10 @@ impl RecordBody for Linear {
 }
 
 impl Linear {
-    /// Looks for room behind the last record.
+    /// Returns a free slot behind the last record.
     ///
     /// # Errors
-    /// 6A84 exactly where there are as many records as there is room for.
+    /// 6A84 exactly if there are as many records as the capacity.
     pub fn find_room(self) -> Result<FreeSlot, Sw>
         ensures found { IfOk result (λ slot. slot.ring ≡ ring_of self) }
         ensures refusal { (records : List (List ℕ)) → length records ≡ self.records
@@ -66,10 +66,10 @@ impl Linear {
         self.ring().find_behind()
     }
 
-    /// Puts a record in place of the one of a number, in one transaction (UPDATE RECORD, ISO/IEC 7816-4, 11.4.5).
+    /// Replaces the record of a number. It takes one transaction (UPDATE RECORD, ISO/IEC 7816-4, 11.4.5).
     ///
     /// # Errors
-    /// 6A83 where there is no such record. What the store answers: then the old record stands, or the new one.
+    /// 6A83 if there is no such record. The store's failure: then the record is the old one or the new one.
     pub fn update<B: Board>(
         self,
         store: &mut Store<B>,
@@ -87,11 +87,11 @@ impl Linear {
         from_store(slot.replace(store, bytes))
     }
 
-    /// Adds a record behind the last one, in one transaction: its bytes, and then how many there are (APPEND RECORD,
-    /// ISO/IEC 7816-4, 11.4.6).
+    /// Adds a record behind the last one, in one transaction. It sets the bytes, then the number of records (APPEND
+    /// RECORD, ISO/IEC 7816-4, 11.4.6).
     ///
     /// # Errors
-    /// 6A84 where there is no room. What the store answers: then the records are as before, or with the new one.
+    /// 6A84 if the EF is full. The store's failure: then the records are as before, or with the new one.
     pub fn append<B: Board>(self, store: &mut Store<B>, bytes: &[u8]) -> Result<(), BodyErr>
         requires ready { IsReady store.old }
         requires body { IsLinear (committed store.old) self }

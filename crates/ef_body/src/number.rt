@@ -1,11 +1,11 @@
-//! Numbers as bytes spell them, the most significant byte first.
+//! Numbers as bytes, the most significant byte first.
 ghost use Rattle.std.specs.Prelude.{◌≡◌, ◌≤◌, ◌<◌, ◌+◌, ◌-◌, ◌^◌, length, slice_index, nat_lt, if◌then◌else◌};
 ghost use Rattle.std.specs.Prelude.{All};
 ghost use Rattle.card_state.specs.RecordLists.{number_of};
 
 use arrayvec::ArrayVec;
 
-/// A byte of a number, by its place from the least significant one, 0; before the first byte there are zeros.
+/// Returns a byte by its place. Place 0 is the least significant one; places before the first byte are 0.
 fn digit(bytes: &[u8], place: usize) -> u16
     ensures digit { result ≡ (if nat_lt place (length bytes.now)
         then slice_index bytes.now (length bytes.now - 1 - place) else 0) }
@@ -18,8 +18,7 @@ fn digit(bytes: &[u8], place: usize) -> u16
     }
 }
 
-/// Adds the number that bytes spell to the one in the buffer, in as many bytes as that one has. Whether it doesn't
-/// fit.
+/// Adds a number to the one in the buffer. The sum keeps the buffer's length. It returns true on overflow.
 pub(crate) fn add<const N: usize>(number: &mut ArrayVec<u8, N>, sent: &[u8]) -> bool
     requires { length sent.now ≤ length number.old.items }
     ensures size { length number.new.items ≡ length number.old.items }

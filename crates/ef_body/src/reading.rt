@@ -1,4 +1,4 @@
-//! Records that are read.
+//! Reading records.
 ghost use Rattle.std.specs.Prelude.{◌≤◌};
 ghost use Rattle.undo_journal.specs.Memory.{committed, IsReady};
 ghost use Rattle.card_state.specs.RecordLists.{record_of};
@@ -11,10 +11,10 @@ use block_chain::read_bytes;
 use undo_journal::{Board, Store, StoreErr};
 
 impl RecordSlot {
-    /// Reads the record into the buffer, in place of what stood there (READ RECORD, ISO/IEC 7816-4, 11.4.3).
+    /// Reads the record. It replaces the content of the buffer (READ RECORD, ISO/IEC 7816-4, 11.4.3).
     ///
     /// # Errors
-    /// What the store answers: then the buffer may hold some of its bytes, from the first on. It refuses nothing.
+    /// The store's failure: then the buffer may have a first part of the record. It refuses nothing.
     pub fn read<B: Board, const N: usize>(
         self,
         store: &mut Store<B>,

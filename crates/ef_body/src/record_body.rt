@@ -1,4 +1,4 @@
-//! Records that are found, read and searched by their numbers, the same way in a linear and in a cyclic body.
+//! Lookup, reading and search of records by number, the same for linear and cyclic EFs.
 ghost use Rattle.std.specs.Prelude.{◌≡◌, ◌≤◌, ℕ, List};
 ghost use Rattle.undo_journal.specs.Memory.{committed, IsReady};
 ghost use Rattle.ef_body.specs.declared.cyclic.Cyclic.{Cyclic};
@@ -14,26 +14,25 @@ use arrayvec::ArrayVec;
 use card_rules::{Direction, Sw};
 use undo_journal::{Board, Store};
 
-/// A body of records, which lie in the slots of a ring: a linear one, of which record 1 is the first, or a cyclic one,
-/// of which it is the newest.
+/// A body of records, in the slots of a ring. Record 1 is the first of a linear EF, the newest of a cyclic one.
 pub trait RecordBody: Copy {
-    /// That the words of a memory tell of the body.
+    /// The words of a memory describe this body.
     ghost is_body: { List ℕ → Self → Type 0 };
 
-    /// Its records by these words, in the order of their numbers.
+    /// Its records in these words, by number.
     ghost records_in: { List ℕ → Self → List (List ℕ) };
 
     /// The ring of its slots.
     ghost ring_of: { Self → Cyclic };
 
-    /// The same body as a cyclic one.
+    /// Returns the same body as a cyclic one.
     fn ring(self) -> Cyclic
         ensures { result ≡ ring_of self };
 
-    /// Looks for the record of a number, 1 the first of a linear body, the newest of a cyclic one.
+    /// Returns the record of a number. Record 1 is the first of a linear EF, the newest of a cyclic one.
     ///
     /// # Errors
-    /// 6A83 exactly where there is no such record.
+    /// 6A83 exactly if there is no such record.
     final fn find(self, number: u16) -> Result<RecordSlot, Sw>
         ensures { FindsRecord (ring_of self) number result }
     {
@@ -44,12 +43,11 @@ pub trait RecordBody: Copy {
         Ok(RecordSlot { ring, number })
     }
 
-    /// Reads the record of a number into the buffer, in place of what stood there (READ RECORD, ISO/IEC 7816-4,
-    /// 11.4.3).
+    /// Reads the record of a number. It replaces the content of the buffer (READ RECORD, ISO/IEC 7816-4, 11.4.3).
     ///
     /// # Errors
-    /// 6A83 where there is no such record: then the buffer is empty. What the store answers: then the buffer may hold
-    /// some of its bytes, from the first on.
+    /// 6A83 if there is no such record: then the buffer is empty. The store's failure: then the buffer may have a
+    /// first part of the record.
     final fn read<B: Board, const N: usize>(
         self,
         store: &mut Store<B>,
@@ -67,13 +65,13 @@ pub trait RecordBody: Copy {
         from_store(slot.read(store, bytes))
     }
 
-    /// Puts the numbers of the records that hold the text into the buffer, in place of what stood there: from the
-    /// record of a number on up to the last one, or down to record 1, without wrapping around (SEARCH RECORD, ISO/IEC
-    /// 7816-4, 11.4.7).
+    /// Puts the numbers of matching records into the buffer, replacing its content. These are the records that
+    /// contain the string, from the record `first` up to the last one or down to record 1. The search doesn't wrap
+    /// around (SEARCH RECORD, ISO/IEC 7816-4, 11.4.7).
     ///
     /// # Errors
-    /// 6A83 where there is no record of that number: then the buffer is empty. What the store answers: then the
-    /// buffer may hold some of the numbers, from the first on.
+    /// 6A83 if there is no record of that number: then the buffer is empty. The store's failure: then the buffer may
+    /// have the first of the numbers.
     final fn search<B: Board, const N: usize>(
         self,
         store: &mut Store<B>,
@@ -94,10 +92,10 @@ pub trait RecordBody: Copy {
         from_store(slot.search(store, direction, text, numbers))
     }
 
-    /// The ring is a cyclic body by the same words.
+    /// The ring is a valid cyclic body in the same words.
     ghost ring_is: { (m : List ℕ) (body : Self) → is_body m body → IsCyclic m (ring_of body) };
 
-    /// And it has the same records.
+    /// The ring has the same records.
     ghost ring_records: { (m : List ℕ) (body : Self) → is_body m body
         → cyclic_records m (ring_of body) ≡ records_in m body };
 }

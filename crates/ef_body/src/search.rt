@@ -1,4 +1,4 @@
-//! Records that hold a text.
+//! Searching records for a string.
 ghost use Rattle.std.specs.Prelude.{◌≡◌, ◌≤◌, ◌<◌, ◌+◌, ◌-◌, ◌++◌, ◌∷◌, [], cond, drop, nat_eq, length};
 ghost use Rattle.std.specs.Prelude.{slice_index};
 ghost use Rattle.std.specs.List.{starts_with};
@@ -26,7 +26,7 @@ fn begins_at(text: &[u8], bytes: &[u8], at: usize) -> bool
     bytes[at..].starts_with(text)
 }
 
-/// Whether a text stands anywhere in a record.
+/// Returns true if the string occurs anywhere in a record.
 fn stands(text: &[u8], bytes: &[u8]) -> bool
     ensures { result ≡ stands_in text.now bytes.now }
 {
@@ -38,7 +38,7 @@ fn stands(text: &[u8], bytes: &[u8]) -> bool
     false
 }
 
-/// Whether a text stands in the record of a number.
+/// Returns true if the record of a number contains the string.
 fn record_holds<B: Board>(
     body: Cyclic,
     store: &mut Store<B>,
@@ -58,7 +58,7 @@ fn record_holds<B: Board>(
     Ok(stands(text, &bytes))
 }
 
-/// How many records a search looks at.
+/// Returns the number of records that a search reads.
 fn steps_of(direction: Direction, first: u16, records: u16) -> u16
     requires some { 1 ≤ first }
     requires last { first ≤ records }
@@ -71,7 +71,7 @@ fn steps_of(direction: Direction, first: u16, records: u16) -> u16
     }
 }
 
-/// The number of the record that a search looks at after so many others.
+/// Returns the number of the record at a step of the search.
 fn number_at(direction: Direction, first: u16, records: u16, step: u16) -> u16
     requires some { 1 ≤ first }
     requires last { first ≤ records }
@@ -87,7 +87,7 @@ fn number_at(direction: Direction, first: u16, records: u16, step: u16) -> u16
     }
 }
 
-/// Adds a number where its record holds the text.
+/// Appends a number if its record contains the string.
 fn note<const N: usize>(numbers: &mut ArrayVec<u8, N>, number: u16, holds: bool)
     requires room { length numbers.old.items < N }
     requires small { number < 256 }
@@ -99,12 +99,12 @@ fn note<const N: usize>(numbers: &mut ArrayVec<u8, N>, number: u16, holds: bool)
 }
 
 impl RecordSlot {
-    /// Puts the numbers of the records that hold the text into the buffer, in place of what stood there: from this
-    /// record on up to the last one, or down to record 1, without wrapping around (SEARCH RECORD, ISO/IEC 7816-4,
-    /// 11.4.7).
+    /// Puts the numbers of matching records into the buffer, replacing its content. These are the records that
+    /// contain the string, from this record up to the last one or down to record 1. The search doesn't wrap around
+    /// (SEARCH RECORD, ISO/IEC 7816-4, 11.4.7).
     ///
     /// # Errors
-    /// What the store answers: then the buffer may hold some of the numbers, from the first on. It refuses nothing.
+    /// The store's failure: then the buffer may have the first of the numbers. It refuses nothing.
     pub fn search<B: Board, const N: usize>(
         self,
         store: &mut Store<B>,

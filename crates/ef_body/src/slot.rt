@@ -1,9 +1,9 @@
-//! The slots of a ring of records, and the receipts of a look: that a record lies in one, that one is free.
+//! The slots of a ring of records, and the results of lookups: a record, or a free slot.
 ghost use Rattle.std.specs.Prelude.{◌≡◌, ◌≤◌, ◌<◌, ◌+◌, ◌-◌, ◌*◌, ◌%◌};
 
 use crate::cyclic::Cyclic;
 
-/// The receipt that a ring has a record of a number, 1 the first: what is done with that record refuses nothing.
+/// A record that was found in a ring, by its number. Calls on it refuse nothing.
 #[derive(Clone, Copy)]
 pub struct RecordSlot {
     pub ring: Cyclic,
@@ -12,15 +12,15 @@ pub struct RecordSlot {
     ghost to_last: { number ≤ ring.records },
 }
 
-/// The receipt that a ring has a slot behind its last record for one more.
+/// A free slot that was found behind the last record. Calls on it refuse nothing.
 #[derive(Clone, Copy)]
 pub struct FreeSlot {
     pub ring: Cyclic,
     ghost room: { ring.records < ring.capacity },
 }
 
-/// The slot of a number, 1 that of record 1: the last slot is followed by the first. The slot before that of record 1
-/// is that of the number that is the capacity.
+/// Returns the slot of a number. The first slot follows the last one, so the slot before that of record 1 has the
+/// capacity as its number.
 pub(crate) fn slot_of(ring: Cyclic, number: u16) -> u16
     requires start { ring.start < ring.capacity }
     requires few { ring.capacity ≤ 254 }
@@ -32,7 +32,7 @@ pub(crate) fn slot_of(ring: Cyclic, number: u16) -> u16
     (ring.start + number - 1) % ring.capacity
 }
 
-/// Where a slot begins among the bytes of the chain.
+/// Returns the offset of a slot in the bytes of the chain.
 pub(crate) fn offset_of(ring: Cyclic, slot: u16) -> u16
     requires within { slot < ring.capacity }
     requires small { ring.capacity * ring.record_length ≤ 32767 }

@@ -1,4 +1,4 @@
-//! Transparent bodies: bytes (ISO/IEC 7816-4, 7.3.2 and 11.3).
+//! Transparent EFs: bytes (ISO/IEC 7816-4, 7.3.2 and 11.3).
 ghost use Rattle.std.specs.Prelude.{◌≡◌, ◌≤◌, ◌<◌, ◌+◌, ◌↔◌, min, length, take, drop, IsTrue, OnOk};
 ghost use Rattle.undo_journal.specs.Memory.{committed, IsReady};
 ghost use Rattle.undo_journal.specs.Spending.{transaction_writes, WritesAtMost};
@@ -17,7 +17,7 @@ use block_chain::{Chain, read_bytes};
 use card_rules::Sw;
 use undo_journal::{Board, Store};
 
-/// A transparent body: the chain of its blocks, and how many bytes it has, 1 to 32,767.
+/// The body of a transparent EF. It has a chain, and a size of 1 to 32,767 bytes.
 #[derive(Clone, Copy)]
 pub struct Transparent {
     pub chain: Chain,
@@ -25,14 +25,14 @@ pub struct Transparent {
 }
 
 impl Transparent {
-    /// Whether the body ends at an offset, or before it.
+    /// Returns true if an offset is at the end or past it.
     fn ends_at(self, offset: u16) -> bool
         ensures { IsTrue result ↔ (self.size ≤ offset) }
     {
         self.size <= offset
     }
 
-    /// Whether the body ends before the last of so many bytes from an offset on, at which it does not end.
+    /// Returns true if `count` bytes would extend past the end. The offset itself is before the end.
     fn ends_before(self, offset: u16, count: usize) -> bool
         requires { offset < self.size }
         ensures { IsTrue result ↔ (self.size < offset + count) }
@@ -40,12 +40,12 @@ impl Transparent {
         count > usize::from(self.size - offset)
     }
 
-    /// Reads bytes from an offset on into the buffer, in place of what stood there: as many as are asked for, or all
-    /// that are left where these are fewer (READ BINARY, ISO/IEC 7816-4, 11.3.3).
+    /// Reads bytes from an offset on into the buffer, replacing its content. It reads `most` bytes, or all that are
+    /// left if they are fewer (READ BINARY, ISO/IEC 7816-4, 11.3.3).
     ///
     /// # Errors
-    /// 6B00 where the offset is at the end of the body or past it: then the buffer is empty. What the store answers:
-    /// then the buffer may hold some of the bytes, from the first on.
+    /// 6B00 if the offset is at the end or past it: then the buffer is empty. The store's failure: then the buffer
+    /// may have the first of the bytes.
     pub fn read<B: Board, const N: usize>(
         self,
         store: &mut Store<B>,
@@ -68,12 +68,12 @@ impl Transparent {
         from_store(read_bytes(store, self.chain, offset, count, bytes))
     }
 
-    /// Puts bytes, 255 at most, in place of those from an offset on, in one transaction, of as many device writes as
-    /// the offset and their number say (UPDATE BINARY, ISO/IEC 7816-4, 11.3.5).
+    /// Writes at most 255 bytes from an offset on, in one transaction. The number of device writes follows from the
+    /// offset and the number of bytes (UPDATE BINARY, ISO/IEC 7816-4, 11.3.5).
     ///
     /// # Errors
-    /// 6B00 where the offset is at the end of the body or past it, 6A84 where they reach past the end. What the store
-    /// answers: then all of the bytes are old, or all that were sent stand there.
+    /// 6B00 if the offset is at the end or past it, 6A84 if the bytes would extend past the end. The store's failure:
+    /// then all of the bytes are old, or all are new.
     pub fn update<B: Board>(
         self,
         store: &mut Store<B>,
@@ -101,7 +101,7 @@ impl Transparent {
     }
 }
 
-/// The smaller of two numbers.
+/// Returns the smaller of two numbers.
 fn smaller(first: u16, second: u16) -> u16
     ensures { result ≡ min first second }
 {

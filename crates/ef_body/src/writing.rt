@@ -1,4 +1,4 @@
-//! The words of bodies that are written, each time in one transaction.
+//! Writing the bodies of EFs, each time in one transaction.
 ghost use Rattle.std.specs.Prelude.{◌≡◌, ◌≤◌, ◌<◌, ◌+◌, ◌*◌, ◌-◌, ◌++◌, ◌∷◌, [], length, slice_set, OnOk};
 ghost use Rattle.std.specs.Result.{result_err};
 ghost use Rattle.undo_journal.specs.Memory.{committed, current, room, InRuns, IsOpen, IsReady};
@@ -20,14 +20,14 @@ use crate::slot::{FreeSlot, RecordSlot, offset_of, slot_of};
 use block_chain::{Chain, set_bytes};
 use undo_journal::{Board, Store, StoreErr, Txn};
 
-/// The word of an entry that tells how many records there are, and in which slot record 1 lies.
+/// Returns the entry's word for its records. It has their number and the slot of record 1.
 fn counts(number: u16, start: u16) -> u32
     ensures { result ≡ counts_word number start }
 {
     0x10000 * u32::from(number) + u32::from(start)
 }
 
-/// Puts bytes in place of those of a chain from an offset on, in one transaction.
+/// Writes bytes of a chain from an offset on, in one transaction.
 pub(crate) fn put_bytes<B: Board>(
     store: &mut Store<B>,
     chain: Chain,
@@ -48,8 +48,7 @@ pub(crate) fn put_bytes<B: Board>(
     txn.end(work)
 }
 
-/// Puts a record's bytes in place of those of a chain from an offset on, and then sets the word of the entry, in one
-/// transaction.
+/// Writes a record's bytes, then the entry's word. It takes one transaction.
 fn put_record<B: Board>(
     store: &mut Store<B>,
     chain: Chain,
@@ -70,7 +69,7 @@ fn put_record<B: Board>(
     txn.end(work)
 }
 
-/// Sets a record's bytes, and then the word of the entry.
+/// Sets a record's bytes, then the word of the entry.
 fn set_record<B: Board>(
     txn: &mut Txn<'_, B>,
     chain: Chain,
@@ -92,8 +91,8 @@ fn set_record<B: Board>(
     txn.set(told_at, told)
 }
 
-/// Puts a record before the others of a cyclic body, in one transaction: its bytes into the slot before that of
-/// record 1, and then, with that slot as the start, how many records there are from now on.
+/// Puts a record in front of a cyclic EF, in one transaction. Its bytes go into the slot before that of record 1. The
+/// entry's word then names that slot and the new number of records.
 pub(crate) fn put_front<B: Board>(
     body: Cyclic,
     store: &mut Store<B>,
@@ -116,10 +115,10 @@ pub(crate) fn put_front<B: Board>(
 }
 
 impl RecordSlot {
-    /// Puts a record in place of this one, in one transaction (UPDATE RECORD, ISO/IEC 7816-4, 11.4.5).
+    /// Replaces this record, in one transaction (UPDATE RECORD, ISO/IEC 7816-4, 11.4.5).
     ///
     /// # Errors
-    /// What the store answers: then the old record stands, or the new one. It refuses nothing.
+    /// The store's failure: then the record is the old one or the new one. It refuses nothing.
     pub fn replace<B: Board>(self, store: &mut Store<B>, bytes: &[u8]) -> Result<(), StoreErr>
         requires ready { IsReady store.old }
         requires body { IsCyclic (committed store.old) self.ring }
@@ -132,12 +131,12 @@ impl RecordSlot {
         put_bytes(store, self.ring.chain, offset, bytes)
     }
 
-    /// Puts a record in front and drops the oldest one, in one transaction: the number of records stays (UPDATE
-    /// RECORD, PREVIOUS, and INCREASE, ETSI TS 102 221, 11.1.6 and 11.1.8). Which record the receipt is of plays no
-    /// part: that there is one does.
+    /// Puts a record in front and drops the oldest one. It takes one transaction, and the number of records doesn't
+    /// change (UPDATE RECORD, PREVIOUS, and INCREASE, ETSI TS 102 221, 11.1.6 and 11.1.8). Any record will do as
+    /// `self`, since it only shows that there is one.
     ///
     /// # Errors
-    /// What the store answers: then the records are as before, or with the new one. It refuses nothing.
+    /// The store's failure: then the records are as before, or with the new one. It refuses nothing.
     pub fn replace_oldest<B: Board>(
         self,
         store: &mut Store<B>,
@@ -155,11 +154,11 @@ impl RecordSlot {
 }
 
 impl FreeSlot {
-    /// Adds a record behind the last one, in one transaction: its bytes, and then how many there are (APPEND RECORD,
-    /// ISO/IEC 7816-4, 11.4.6).
+    /// Adds a record behind the last one, in one transaction. It sets the bytes, then the number of records (APPEND
+    /// RECORD, ISO/IEC 7816-4, 11.4.6).
     ///
     /// # Errors
-    /// What the store answers: then the records are as before, or with the new one. It refuses nothing.
+    /// The store's failure: then the records are as before, or with the new one. It refuses nothing.
     pub fn append<B: Board>(self, store: &mut Store<B>, bytes: &[u8]) -> Result<(), StoreErr>
         requires ready { IsReady store.old }
         requires body { IsCyclic (committed store.old) self.ring }
