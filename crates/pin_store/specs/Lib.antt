@@ -1,4 +1,4 @@
--- What is meant: a PIN, its page, and what the calls leave of a store. The laws stand apart.
+-- PINs in a memory: their pages, and the postconditions of calls. The laws are in a module of their own.
 pub mod Pages
 pub mod Trials
 pub mod RenewalParts

@@ -8,19 +8,19 @@ use Rattle.card_rules.specs.declared.pins.TheConstants.{PINS}
 use Rattle.card_state.specs.declared.limits.TheConstants.{TRIES, UNBLOCKING_TRIES}
 use Rattle.card_state.specs.Secrets.{Pin, enabled_pin}
 
--- the page of a PIN; PIN 1 is at 0
+-- The page of a PIN. PIN 1 has index 0.
 abbrev pub pin_page : ℕ → ℕ
 pin_page pin = FIRST_PIN_PAGE + pin
 
--- a word of it
+-- A word of that page.
 abbrev pub pin_word : List ℕ → ℕ → ℕ → ℕ
 pin_word m pin place = slice_index m (address (pin_page pin) place)
 
--- the eight bytes of two words, the most significant byte of each word first
+-- The eight bytes of two words, the most significant byte of each word first.
 abbrev pub bytes_of_words : ℕ → ℕ → List ℕ
 bytes_of_words first second = to_be_bytes w32 first ++ to_be_bytes w32 second
 
--- the PIN of a page: tries, unblocking tries, the value in two words, the unblocking value in two, the mark
+-- The PIN of a page: tries, unblocking tries, the value in two words, the unblocking value in two, the mark.
 unfoldable pub pin_at : List ℕ → ℕ → Pin
 pin_at m pin = record {
   value = bytes_of_words (pin_word m pin 2) (pin_word m pin 3);
@@ -30,19 +30,19 @@ pin_at m pin = record {
   enabled = pin_word m pin PIN_MARK_WORD == 1;
 }
 
--- all PINs, PIN 1 first
+-- All PINs, PIN 1 first.
 unfoldable pub pins_of : List ℕ → List Pin
 pins_of m = map (pin_at m) (range_with_len 0 PINS)
 
--- and all PINs of a memory whose pages have no marks
+-- All PINs of a memory whose pages have no marks.
 unfoldable pub unmarked_pins_of : List ℕ → List Pin
 unmarked_pins_of m = map (λ pin. enabled_pin (pin_at m pin)) (range_with_len 0 PINS)
 
--- this word of each PIN's page is at most so much
+-- Word `place` of every PIN page is at most `most`.
 pub record AreAtMost (most place : ℕ) (m : List ℕ) : Type 0 where
   pub each : (pin : ℕ) → pin < PINS → pin_word m pin place ≤ most
 
--- a PIN has at most 3 tries, and its unblocking value at most 10
+-- A PIN has at most 3 tries left, and at most 10 unblocking tries.
 pub record IsPinPage (m : List ℕ) (pin : ℕ) : Type 0 where
   pub tries : pin_word m pin 0 ≤ TRIES
   pub unblocking_tries : pin_word m pin 1 ≤ UNBLOCKING_TRIES
@@ -50,30 +50,30 @@ pub record IsPinPage (m : List ℕ) (pin : ℕ) : Type 0 where
 pub record ArePinPages (m : List ℕ) : Type 0 where
   pub each : (pin : ℕ) → pin < PINS → IsPinPage m pin
 
--- a mark is 1 or 0
+-- A mark is 1 or 0.
 abbrev pub IsMark : List ℕ → ℕ → Type 0
 IsMark m pin = pin_word m pin PIN_MARK_WORD ≤ 1
 
 pub record AreMarks (m : List ℕ) : Type 0 where
   pub each : (pin : ℕ) → pin < PINS → IsMark m pin
 
--- each PIN is enabled
+-- Each PIN is enabled.
 pub record AreEnabled (m : List ℕ) : Type 0 where
   pub each : (pin : ℕ) → pin < PINS → pin_word m pin PIN_MARK_WORD ≡ 1
 
--- the words of the PINs stay, but for their marks
+-- The words of the PINs are unchanged, but for their marks.
 pub record KeepsSecrets (m after : List ℕ) : Type 0 where
   pub words : (pin place : ℕ) → pin < PINS → place < PIN_MARK_WORD → pin_word after pin place ≡ pin_word m pin place
 
--- the words that the PINs depend on stay
+-- The words that the PINs depend on are unchanged.
 pub record KeepsPins (m after : List ℕ) : Type 0 where
   pub words : (pin place : ℕ) → pin < PINS → place < PIN_WORDS → pin_word after pin place ≡ pin_word m pin place
 
--- the address of a word that the PIN at this place doesn't depend on
+-- The address of a word that the PIN doesn't depend on.
 abbrev pub IsApart : ℕ → ℕ → Type 0
 IsApart pin k = (k < address (pin_page pin) 0) ⊎ (address (pin_page pin) PIN_WORDS ≤ k)
 
--- A PIN becomes this one, and no word apart from it changes. Its mark stays a mark, 1 or 0.
+-- A PIN becomes `now`. No word apart from it changes, and a valid mark stays valid.
 pub record SetsPin (m : List ℕ) (pin : ℕ) (now : Pin) (after : List ℕ) : Type 0 where
   pub size : length after ≡ length m
   pub elsewhere : (k : ℕ) → IsApart pin k → slice_index after k ≡ slice_index m k

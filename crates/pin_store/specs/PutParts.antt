@@ -1,4 +1,4 @@
--- What the calls leave that set a PIN, which compare nothing. No public clause names these.
+-- The calls that set a PIN and compare nothing. No public clause uses these definitions.
 use Rattle.std.specs.Prelude.{◌≡◌, ◌⊎◌, ◌+◌, ℕ, Result, OnOk}
 use Rattle.std.specs.Result.{result_err}
 use Rattle.undo_journal.specs.declared.error.StoreErr.{StoreErr}
@@ -11,8 +11,8 @@ use Rattle.card_state.specs.Secrets.{Pin, owner}
 use Rattle.pin_store.specs.Pages.{ArePinPages, SetsPin, pin_at}
 use Rattle.pin_store.specs.Trials.{pin_in}
 
--- Within a transaction the PIN of a secret becomes what `set` makes of it, in so many words, which lie in so many runs
--- (`spans`). A commit of them alone takes the device writes of such a transaction.
+-- Within a transaction, the PIN of a secret is changed by `set`, with `words` sets in `spans` runs. A commit of these
+-- sets alone takes the device writes of such a transaction.
 pub record SetsIts {B : Type 0} (words spans secret : ℕ) (set : Pin → Pin) (old new : Txn B)
     (result : Result (Unit {0}) StoreErr) : Type 0 where
   pub done : OnOk result (SetsPin (current (memory_of old)) (owner secret)
@@ -21,8 +21,8 @@ pub record SetsIts {B : Type 0} (words spans secret : ℕ) (set : Pin → Pin) (
   pub counted : OnOk result (CountsCommit (transaction_writes words spans) (memory_of old) (memory_of new))
   pub runs : InRuns spans (memory_of old) (memory_of new)
 
--- The PIN of a secret becomes what `set` makes of it, in so many device writes; at each exit it is set so, or all is as
--- it was. `gate` says what becomes of the gate.
+-- The PIN of a secret is changed by `set`, in `writes` device writes. At each exit either that is done, or nothing
+-- has changed. `gate` describes the effect on the gate.
 pub record PutsIts (gate : Memory → Memory → Type 0) (writes secret : ℕ) (set : Pin → Pin) (old new : Memory)
     (result : Result (Unit {0}) StoreErr) : Type 0 where
   pub any_exit : (committed new ≡ committed old)

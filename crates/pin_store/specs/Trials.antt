@@ -1,5 +1,5 @@
--- What a charge and the ends that follow it leave of a store, and the law that binds them:
--- a comparison costs a lasting try.
+-- The postconditions of a charge and of the calls that consume it, and the PIN law: a comparison permanently uses up
+-- a try.
 use Rattle.std.specs.Prelude.{◌≡◌, ◌⊎◌, ◌<◌, ◌≤◌, ◌+◌, ℕ, List, slice_index}
 use Rattle.std.specs.Prelude.{Option, Some, None, Result, Ok, Err, IfOk, OnOk}
 use Rattle.std.specs.Result.{result_err}
@@ -17,23 +17,22 @@ use Rattle.card_state.specs.Secrets.{Pin, owner, kept, tries_left, full_tries, c
 use Rattle.pin_store.specs.Pages.{pin_at, ArePinPages, IsApart, IsMark, SetsPin}
 use Rattle.card_rules.specs.declared.pins.TheConstants.{PINS}
 
--- the PIN of a secret, as what is committed has it
+-- The PIN of a secret in the committed words.
 abbrev pub pin_in : Memory → ℕ → Pin
 pin_in m secret = pin_at (committed m) (owner secret)
 
--- the failure of the store that a call tells
+-- The store's failure in the result of a charge.
 abbrev pub store_failure : {T : Type 0} → Result T PinErr → Option StoreErr
 store_failure (Ok x) = None
 store_failure (Err pin_err.Blocked) = None
 store_failure (Err (pin_err.Store e)) = Some e
 
--- a try of a secret, of which there was one, was taken away
+-- A try of a secret was left, and is used up.
 pub record Charges (secret : ℕ) (old new : Memory) : Type 0 where
   pub left : 0 < tries_left secret (pin_in old secret)
   pub charged : SetsPin (committed old) (owner secret) (charged_pin secret (pin_in old secret)) (committed new)
 
--- at most n device writes, none taken back, which bring a cut that is set nearer,
--- and at most one comparison, of this secret
+-- At most n device writes, which bring a set cut nearer, and at most one comparison, of this secret.
 pub record ComparesOnce (n secret : ℕ) (old new : Facts) : Type 0 where
   pub writes : new.writes ≤ old.writes + n
   pub more : old.writes ≤ new.writes
@@ -41,18 +40,19 @@ pub record ComparesOnce (n secret : ℕ) (old new : Facts) : Type 0 where
   pub compares : RisesAt old.compares secret new.compares
   pub matches : RisesAt old.matches secret new.matches
 
--- what is kept of a secret was shown, and the match was counted
+-- The presented bytes equal the stored ones, and the match is counted.
 pub record IsMatch (secret : ℕ) (shown : List ℕ) (old new : Memory) : Type 0 where
   pub right : kept secret (pin_in old secret) ≡ shown
   pub compared : new.facts.compares ≡ raised old.facts.compares secret
   pub matched : new.facts.matches ≡ raised old.facts.matches secret
 
--- the match set the PIN
+-- The match set the PIN.
 pub record SetsByMatch (secret : ℕ) (shown : List ℕ) (now : Pin) (old new : Memory) : Type 0 where
   pub match_counted : IsMatch secret shown old new
   pub sets : SetsPin (committed old) (owner secret) now (committed new)
 
--- what is kept was not shown: the comparison was counted, and nothing was written; so many tries are left
+-- The presented bytes differ from the stored ones. The comparison is counted, nothing is written, and `tries` are
+-- left.
 pub record IsWrong (secret : ℕ) (shown : List ℕ) (tries : ℕ) (old new : Memory) : Type 0 where
   pub wrong : ¬ (kept secret (pin_in old secret) ≡ shown)
   pub left : tries ≡ tries_left secret (pin_in old secret)
@@ -61,23 +61,23 @@ pub record IsWrong (secret : ℕ) (shown : List ℕ) (tries : ℕ) (old new : Me
   pub writes : new.facts.writes ≡ old.facts.writes
   pub same : committed new ≡ committed old
 
--- what a comparison leaves by its outcome, before an end sets anything
+-- The effect of a comparison by its outcome, before the PIN is set.
 abbrev pub Compared : ℕ → List ℕ → Memory → Memory → Outcome → Type 0
 Compared secret shown old new Matched = IsMatch secret shown old new
 Compared secret shown old new (Wrong left) = IsWrong secret shown left old new
 
--- device writes of an end, which follows a charge: so many after a match, else none
+-- The device writes after a charge: `writes` after a match, none after a mismatch.
 abbrev pub end_writes : ℕ → Outcome → ℕ
 end_writes writes Matched = writes
 end_writes writes (Wrong left) = 0
 
--- what an end leaves by its outcome: after a match the PIN is this one, else all is as it was
+-- The effect of such a call by its outcome: after a match the PIN is `now`, after a mismatch nothing is written.
 abbrev pub EndsByOutcome : ℕ → List ℕ → Pin → Memory → Memory → Outcome → Type 0
 EndsByOutcome secret shown now old new Matched = SetsByMatch secret shown now old new
 EndsByOutcome secret shown now old new (Wrong left) = IsWrong secret shown left old new
 
--- What a call leaves that takes a try of a secret away, or is refused: at each exit all is as it was, or the try is
--- gone, by one device write; what is refused writes nothing.
+-- A call that uses up a try of a secret, or is refused. At each exit either nothing has changed, or the try is used
+-- up by one device write. A refused call writes nothing.
 pub record TakesTry {T E : Type 0} (secret : ℕ) (refused : Type 0) (old new : Memory) (result : Result T E)
     (told : Option StoreErr) : Type 0 where
   pub any_exit : (committed new ≡ committed old) ⊎ Charges secret old new
@@ -87,8 +87,8 @@ pub record TakesTry {T E : Type 0} (secret : ℕ) (refused : Type 0) (old new : 
   pub store : Changes 1 old new told
   pub counted : OnOk result (new.facts.writes ≡ old.facts.writes + 1)
 
--- A call that ends a charge: it compares once, and a match sets the PIN to what `set` makes of it, in so many device
--- writes; at each exit the PIN is set so, or all is as it was. `gate` says what becomes of the gate.
+-- A call that consumes a charge. It compares once, and a match changes the PIN by `set` in `writes` device writes. At
+-- each exit either that is done, or nothing has changed. `gate` describes the effect on the gate.
 pub record Ends (gate : Memory → Memory → Type 0) (writes secret : ℕ) (shown : List ℕ) (set : Pin → Pin)
     (old new : Memory) (result : Result Outcome StoreErr) : Type 0 where
   pub any_exit : (committed new ≡ committed old) ⊎ SetsByMatch secret shown (set (pin_in old secret)) old new
@@ -99,22 +99,22 @@ pub record Ends (gate : Memory → Memory → Type 0) (writes secret : ℕ) (sho
   pub spends : ComparesOnce writes secret old.facts new.facts
   pub counted : IfOk result (λ outcome. new.facts.writes ≡ old.facts.writes + end_writes writes outcome)
 
--- A match of what was shown was counted, and all tries of it are there again.
+-- A match was counted, and all tries of the secret are restored.
 pub record FillsByMatch (secret : ℕ) (shown : List ℕ) (old new : Memory) : Type 0 where
   pub match_counted : IsMatch secret shown old new
   pub full : tries_left secret (pin_in new secret) ≡ full_tries secret
 
--- A comparison was counted: there was a try, and it is gone, or all are there after a match.
+-- A comparison was counted and is paid for: a try was left and is used up, or all tries are restored after a match.
 pub record PaysForOne (secret : ℕ) (shown : List ℕ) (old new : Memory) : Type 0 where
   pub compared : new.facts.compares ≡ raised old.facts.compares secret
   pub left : 0 < tries_left secret (pin_in old secret)
   pub paid : (tries_left secret (pin_in new secret) + 1 ≡ tries_left secret (pin_in old secret))
       ⊎ FillsByMatch secret shown old new
 
--- The PIN law, of the store before the charge and after the end, or where either stopped. The tries of what is shown
--- stay, or are one fewer, or all of them after a match; where a comparison was counted, it was paid for. The PIN
--- changes but for these tries by a match alone, its unblocking value never, its unblocking tries by no command that
--- shows its value. No word apart from the PIN changes, and its mark stays a mark, 1 or 0.
+-- The PIN law, from before the charge to any exit of the charge or of the call that consumes it. The tries of the
+-- presented secret are unchanged, one fewer, or all restored after a match. A counted comparison is paid for. Only a
+-- match changes the PIN but for these tries. The unblocking value never changes, and the unblocking tries only by a
+-- command that presents the unblocking value. No word apart from the PIN changes, and a valid mark stays valid.
 pub record KeepsPinLaw (secret : ℕ) (shown : List ℕ) (old new : Memory) : Type 0 where
   pub tries : (tries_left secret (pin_in new secret) ≡ tries_left secret (pin_in old secret))
       ⊎ (tries_left secret (pin_in new secret) + 1 ≡ tries_left secret (pin_in old secret))

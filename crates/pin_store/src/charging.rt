@@ -1,4 +1,4 @@
-//! The tries of a secret, and the charge that takes one away before anything is compared.
+//! The tries of a secret, and the charge that uses up a try before the comparison.
 ghost use Rattle.std.specs.Prelude.{◌≡◌, ◌<◌, IfOk, IsErrOf};
 ghost use Rattle.std.specs.Result.{result_err};
 ghost use Rattle.nvm_board.specs.declared.board.TheConstants.{SECRETS};
@@ -16,8 +16,8 @@ use crate::words::{address_of, tries_place};
 use std::marker::Model;
 use undo_journal::{Board, Store, StoreErr};
 
-/// The receipt of a charge: a try of this secret is gone. It is spent by `settle`, `change`, `reset_counter` or
-/// `set_enabled`, which alone compare; it can't be copied or dropped.
+/// The receipt of a charge. A try of this secret is used up. `settle`, `change`, `reset_counter` and `set_enabled`
+/// consume it, and only they compare. It can't be copied or dropped.
 pub struct Charged {
     pub(crate) secret: u8,
 }
@@ -34,7 +34,8 @@ impl Model for Charged {
 }
 
 impl Charged {
-    /// The secret whose try is gone: 0 to 7 the values of PIN 1 to 8, 8 to 15 their unblocking values.
+    /// Returns the secret that was charged. Secrets 0 to 7 are the values of PIN 1 to 8, 8 to 15 their unblocking
+    /// values.
     pub fn secret(&self) -> u8
         ensures secret { result ≡ self.now }
         ensures in_range { result < SECRETS }
@@ -43,10 +44,10 @@ impl Charged {
     }
 }
 
-/// How many tries are left of a secret.
+/// Returns the number of tries left of a secret.
 ///
 /// # Errors
-/// What the store answers: power was lost, or the device failed.
+/// The store's failure: power was lost, or the device failed.
 pub fn tries<B: Board>(store: &mut Store<B>, secret: u8) -> Result<u8, StoreErr>
     requires ready { IsReady store.old }
     requires secret { secret < SECRETS }
@@ -58,10 +59,10 @@ pub fn tries<B: Board>(store: &mut Store<B>, secret: u8) -> Result<u8, StoreErr>
     Ok(word as u8)
 }
 
-/// Whether the PIN of a secret is enabled: its verification is required.
+/// Returns true if the PIN is enabled. Its verification is required then.
 ///
 /// # Errors
-/// What the store answers: power was lost, or the device failed.
+/// The store's failure: power was lost, or the device failed.
 pub fn is_enabled<B: Board>(store: &mut Store<B>, secret: u8) -> Result<bool, StoreErr>
     requires ready { IsReady store.old }
     requires secret { secret < SECRETS }
@@ -72,13 +73,12 @@ pub fn is_enabled<B: Board>(store: &mut Store<B>, secret: u8) -> Result<bool, St
     Ok(mark == 1)
 }
 
-/// Takes a try of a secret away, lastingly, in one device write (`counted` of `takes`). Nothing is compared, at no
-/// exit: the counts of comparisons and of matches stay (`store` of `takes`).
+/// Uses up a try of a secret permanently. It takes one device write (`counted` of `takes`). It compares nothing, at
+/// any exit: the counts of comparisons and of matches are unchanged (`store` of `takes`).
 ///
 /// # Errors
-/// `Blocked` exactly where no try is left (`blocked`, `done`): then nothing is written, at no exit (`kept` of `takes`).
-/// Else what the store answers: power was lost, or the device failed. The try may be gone then, and no receipt is
-/// given.
+/// `Blocked` if no try is left (`blocked`, `done`). In that state it writes nothing, at any exit (`kept` of `takes`).
+/// The store's failure: power was lost, or the device failed. The try may be used up then, and there is no receipt.
 pub fn charge<B: Board>(store: &mut Store<B>, secret: u8) -> Result<Charged, PinErr>
     requires ready { IsReady store.old }
     requires secret { secret < SECRETS }

@@ -1,4 +1,4 @@
-//! Whether the words of a memory have PINs: no more tries are left than there may be, and a mark is 1 or 0.
+//! The check of the PINs in a memory: their tries are in range, and a mark is 1 or 0.
 ghost use Rattle.std.specs.Prelude.{◌<◌, ◌↔◌, IsTrue};
 ghost use Rattle.nvm_board.specs.declared.board.TheConstants.{PAGE_WORDS};
 ghost use Rattle.undo_journal.specs.Calls.{Learns};
@@ -9,7 +9,7 @@ use crate::layout::{PIN_MARK_WORD, PINS, TRIES, UNBLOCKING_TRIES};
 use crate::words::address_of;
 use undo_journal::{Board, Store, StoreErr};
 
-/// Whether this word of no PIN's page is more than so much.
+/// Returns true if no PIN's word `place` is above `most`.
 fn are_at_most<B: Board>(store: &mut Store<B>, place: u16, most: u32) -> Result<bool, StoreErr>
     requires ready { IsReady store.old }
     requires place { place < PAGE_WORDS }
@@ -24,10 +24,11 @@ fn are_at_most<B: Board>(store: &mut Store<B>, place: u16, most: u32) -> Result<
     Ok(true)
 }
 
-/// Whether no PIN has more than 3 tries left, and no unblocking value more than 10. Any bytes are a value.
+/// Returns true if no PIN has too many tries. At most 3 are left of a value, and 10 of an unblocking value. Any bytes
+/// are a value.
 ///
 /// # Errors
-/// What the store answers: power was lost, or the device failed.
+/// The store's failure: power was lost, or the device failed.
 pub fn are_pins<B: Board>(store: &mut Store<B>) -> Result<bool, StoreErr>
     requires ready { IsReady store.old }
     ensures { Learns store.old store.new result (λ pins. IsTrue pins ↔ ArePinPages (committed store.old)) }
@@ -38,11 +39,10 @@ pub fn are_pins<B: Board>(store: &mut Store<B>) -> Result<bool, StoreErr>
     are_at_most(store, 1, u32::from(UNBLOCKING_TRIES))
 }
 
-/// Whether each PIN has a mark: 1 where it is enabled, 0 where it is disabled.
-/// A memory whose pages have no marks is not to be asked.
+/// Returns true if each mark is 1 (enabled) or 0 (disabled). Don't call it on a memory whose pages have no marks.
 ///
 /// # Errors
-/// What the store answers: power was lost, or the device failed.
+/// The store's failure: power was lost, or the device failed.
 pub fn are_marks<B: Board>(store: &mut Store<B>) -> Result<bool, StoreErr>
     requires ready { IsReady store.old }
     ensures { Learns store.old store.new result (λ marks. IsTrue marks ↔ AreMarks (committed store.old)) }

@@ -1,19 +1,19 @@
-//! What a comparison tells, and why a try isn't charged.
+//! The outcome of a comparison, and the errors of a charge.
 ghost use Rattle.std.specs.Prelude.{◌≡◌};
 ghost use Rattle.pin_store.specs.declared.errors.PinErr.TheVariants.{Store};
 
 use undo_journal::StoreErr;
 
-/// What a comparison tells.
+/// The outcome of a comparison.
 #[derive(Clone, Copy, Debug, PartialEq, Eq)]
 pub enum Outcome {
-    /// The shown bytes are the kept ones.
+    /// The presented bytes equal the stored ones.
     Matched,
-    /// They are not. So many tries are left of the secret.
+    /// They don't. This number of tries is left of the secret.
     Wrong(u8),
 }
 
-/// Why a try isn't charged.
+/// The reason why a charge fails.
 #[derive(Clone, Copy, Debug, PartialEq, Eq)]
 pub enum PinErr {
     /// No try is left. Nothing was written.

@@ -11,36 +11,36 @@ ghost use Rattle.pin_store.specs.Pages.{pins_of, unmarked_pins_of, AreEnabled, A
 ghost use Rattle.pin_store.specs.Pages.{KeepsPins, KeepsSecrets, SetsPin};
 ghost use Rattle.pin_store.specs.Trials.{pin_in, Charges, ComparesOnce, KeepsPinLaw, SetsByMatch};
 
-/// The numbers of PINs: the pages of 8 PINs from page 65 on, of which 7 words are looked at, the last of them the mark;
-/// 3 tries, 10 unblocking tries.
+/// Proves the numbers of PINs. There are 8 PINs with a page each, from page 65 on. Seven words of it are used; the
+/// last is the mark. A PIN has 3 tries and 10 unblocking tries.
 pub fn layout()
     ensures pages { (FIRST_PIN_PAGE ≡ 65) × (PINS ≡ 8) × (PIN_WORDS ≡ 7) × (PIN_MARK_WORD ≡ 6) }
     ensures tries { (TRIES ≡ 3) × (UNBLOCKING_TRIES ≡ 10) }
 {}
 
-/// The PINs depend on seven words of each of their pages, pages 65 to 72.
+/// Proves that the PINs depend on seven words per page. Their pages are 65 to 72.
 pub fn words_elsewhere_keep_the_pins()
     ensures pins { (m after : List ℕ) → KeepsPins m after → pins_of after ≡ pins_of m }
     ensures pages { (m after : List ℕ) → KeepsPins m after → ArePinPages m → ArePinPages after }
     ensures marks { (m after : List ℕ) → KeepsPins m after → AreMarks m → AreMarks after }
 {}
 
-/// The PINs of a memory whose pages have no marks are enabled, and depend on six words of each page.
+/// Proves that PINs without marks are enabled. They depend on six words of each page.
 #[tactic(auto, using(crate::specs::laws::AllPins::secrets_kept, crate::specs::laws::AllPins::secrets_pages))]
 pub fn pins_without_marks_are_enabled()
     ensures pins { (m after : List ℕ) → KeepsSecrets m after → unmarked_pins_of after ≡ unmarked_pins_of m }
     ensures pages { (m after : List ℕ) → KeepsSecrets m after → ArePinPages m → ArePinPages after }
 {}
 
-/// Once each PIN is marked as enabled, the PINs are those of a memory without marks.
+/// Proves that marking all PINs as enabled leaves them unchanged.
 #[tactic(auto, using(crate::specs::laws::AllPins::enabled_unmarked, crate::specs::laws::AllPins::enabled_marks))]
 pub fn pins_marked_as_enabled_are_so()
     ensures pins { (m : List ℕ) → AreEnabled m → pins_of m ≡ unmarked_pins_of m }
     ensures marks { (m : List ℕ) → AreEnabled m → AreMarks m }
 {}
 
-/// Where one PIN is set, the list of PINs has it in the place of the old one, and no other PIN changes. The pages stay
-/// as they may be, if the new PIN has no more tries than there may be, and marks stay marks.
+/// Proves that setting one PIN changes no other. The PIN pages stay valid if the new PIN doesn't have too many tries,
+/// and marks stay valid.
 pub fn one_pin_is_set()
     ensures pins { (m after : List ℕ) (pin : ℕ) (now : Pin) → pin < PINS → SetsPin m pin now after
         → pins_of after ≡ slice_set (pins_of m) pin now }
@@ -49,9 +49,9 @@ pub fn one_pin_is_set()
     ensures marks { (m after : List ℕ) (pin : ℕ) (now : Pin) → SetsPin m pin now after → AreMarks m → AreMarks after }
 {}
 
-/// The PIN law: a comparison costs a lasting try. It holds of the store before a charge and at each of its exits, and
-/// of the store before a charge and at each exit of the end that spends its receipt: what `charge`, `settle`, `change`,
-/// `reset_counter` and `set_enabled` leave, by their `any_exit`, `store` and `spends`, is all that it asks.
+/// Proves the PIN law: a comparison permanently uses up a try. It holds from before a charge to each of its exits,
+/// and to each exit of the call that consumes the receipt. The premises are what `charge`, `settle`, `change`,
+/// `reset_counter` and `set_enabled` ensure by `any_exit`, `store` and `spends`.
 pub fn a_comparison_costs_a_try()
     ensures charge { (secret : ℕ) (shown : List ℕ) (a b : Memory) → (committed b ≡ committed a) ⊎ Charges secret a b
         → WritesAtMost 1 a.facts b.facts → KeepsPinLaw secret shown a b }

@@ -1,5 +1,5 @@
-//! PINs over a store: a try is taken away, lastingly, before anything is compared. Only the receipt of a charge leads
-//! to a comparison, and each receipt is spent by one end.
+//! PINs on a store. A try is used up permanently before any comparison. Only the receipt of a charge leads to a
+//! comparison, and exactly one call consumes it.
 #![tactic(auto)]
 
 mod charging;

@@ -1,4 +1,4 @@
-//! PINs that are set after a match.
+//! Setting a PIN after a match.
 ghost use Rattle.std.specs.Prelude.{◌≡◌, ◌≤◌, if◌then◌else◌};
 ghost use Rattle.undo_journal.specs.Commits.{CommitsByGate, StaysShut};
 ghost use Rattle.undo_journal.specs.Lent.{memory_of};
@@ -12,18 +12,19 @@ use crate::layout::{PIN_MARK_WORD, TRIES, UNBLOCKING_TRIES};
 use crate::words::{address_of, tries_place, words_of};
 use undo_journal::{Board, Store, StoreErr, Txn};
 
-/// What a right value renews of a PIN, beside the tries of the value.
+/// What a match changes besides the tries of the value.
 #[derive(Clone, Copy)]
 pub(crate) enum Renewal<'a> {
-    /// A new value takes the place of the old one.
+    /// The value is replaced.
     Value(&'a [u8; 8]),
-    /// A new value takes the place of the old one, and the unblocking tries are all there again.
+    /// The value is replaced, and all unblocking tries are restored.
     ValueAndTries(&'a [u8; 8]),
-    /// The PIN is enabled, or disabled.
+    /// The PIN is enabled or disabled.
     Mark(bool),
 }
 
-/// Sets the tries of a PIN to 3, and its value, within a transaction: words 0, 2 and 3 of its page, in this order.
+/// Sets the tries of a PIN to 3, and its value. In a transaction, it sets words 0, 2 and 3 of the page, in this
+/// order.
 fn set_value<B: Board>(txn: &mut Txn<'_, B>, secret: u8, new: &[u8; 8]) -> Result<(), StoreErr>
     requires ready { IsOpen (memory_of txn.old) }
     requires room { 3 ≤ room (memory_of txn.old) }
@@ -34,8 +35,8 @@ fn set_value<B: Board>(txn: &mut Txn<'_, B>, secret: u8, new: &[u8; 8]) -> Resul
     txn.set_run(address_of(secret, 2), &[first, second])
 }
 
-/// Sets the tries of a PIN to 3, its unblocking tries to 10, and its value, within a transaction:
-/// words 0 to 3 of its page, in this order.
+/// Sets all tries of a PIN, and its value. The tries are 3, the unblocking tries 10. In a transaction, it sets words
+/// 0 to 3 of the page, in this order.
 fn set_all<B: Board>(txn: &mut Txn<'_, B>, secret: u8, new: &[u8; 8]) -> Result<(), StoreErr>
     requires ready { IsOpen (memory_of txn.old) }
     requires room { 4 ≤ room (memory_of txn.old) }
@@ -48,7 +49,7 @@ fn set_all<B: Board>(txn: &mut Txn<'_, B>, secret: u8, new: &[u8; 8]) -> Result<
     )
 }
 
-/// Sets the tries of a PIN to 3, and its mark, within a transaction: words 0 and 6 of its page, in this order.
+/// Sets the tries of a PIN to 3, and its mark. In a transaction, it sets words 0 and 6 of the page, in this order.
 fn set_mark<B: Board>(txn: &mut Txn<'_, B>, secret: u8, enabled: bool) -> Result<(), StoreErr>
     requires ready { IsOpen (memory_of txn.old) }
     requires room { 2 ≤ room (memory_of txn.old) }
@@ -58,14 +59,14 @@ fn set_mark<B: Board>(txn: &mut Txn<'_, B>, secret: u8, enabled: bool) -> Result
     txn.set_run(address_of(secret, PIN_MARK_WORD), &[mark_of(enabled)])
 }
 
-/// The mark of a PIN that is enabled, or disabled.
+/// Returns the mark of an enabled or a disabled PIN.
 fn mark_of(enabled: bool) -> u32
     ensures { result ≡ (if enabled then 1 else 0) }
 {
     if enabled { 1 } else { 0 }
 }
 
-/// Sets the tries of a secret, to fewer or as many, in one device write.
+/// Lowers the tries of a secret, in one device write. An equal number is allowed.
 pub(crate) fn put_left<B: Board>(store: &mut Store<B>, secret: u8, left: u8) -> Result<(), StoreErr>
     requires ready { IsReady store.old }
     requires fewer { left ≤ tries_left secret (pin_in store.old secret) }
@@ -82,7 +83,7 @@ pub(crate) fn put_tries<B: Board>(store: &mut Store<B>, secret: u8) -> Result<()
     store.put_alone(address_of(secret, 0), u32::from(TRIES))
 }
 
-/// Sets what a right secret renews of its PIN, within a transaction.
+/// Sets what a match changes, within a transaction.
 fn set_renewed<B: Board>(
     txn: &mut Txn<'_, B>,
     secret: u8,
@@ -100,7 +101,7 @@ fn set_renewed<B: Board>(
     }
 }
 
-/// Sets what a right secret renews of its PIN, in one transaction.
+/// Sets what a match changes, in one transaction.
 pub(crate) fn put_renewed<B: Board>(
     store: &mut Store<B>,
     secret: u8,

@@ -1,4 +1,4 @@
-//! The ends that follow a charge: each compares once, what was charged, and sets the PIN where it was right.
+//! The calls that consume a charge: each compares the charged secret once, and sets the PIN after a match.
 ghost use Rattle.std.specs.Prelude.{◌≡◌, ◌<◌, ◌≤◌, if◌then◌else◌, IfOk};
 ghost use Rattle.std.specs.Result.{result_err};
 ghost use Rattle.undo_journal.specs.Calls.{Reads, Leaves};
@@ -17,11 +17,11 @@ use crate::putting::{Renewal, put_renewed, put_tries};
 use crate::words::{address_of, bytes_of, kept_place};
 use undo_journal::{Board, Store, StoreErr};
 
-/// VERIFY: compares the shown bytes with the value of the charged PIN. If they are equal, its tries are 3 again, in one
-/// device write; else nothing is written.
+/// VERIFY: compares the presented bytes with the PIN's value. A match sets its tries to 3 in one device write; a
+/// mismatch writes nothing.
 ///
 /// # Errors
-/// What the store answers: power was lost, or the device failed. The receipt is spent then, too.
+/// The store's failure: power was lost, or the device failed. The receipt is consumed even then.
 pub fn settle<B: Board>(
     store: &mut Store<B>,
     charged: Charged,
@@ -40,12 +40,11 @@ pub fn settle<B: Board>(
     Ok(outcome)
 }
 
-/// CHANGE REFERENCE DATA: compares the shown bytes with the value of the charged PIN. If they are equal, its tries are
-/// 3 again and the new value takes the place of the old one, in one transaction of five device writes;
-/// else nothing is written.
+/// CHANGE REFERENCE DATA: compares the presented bytes with the PIN's value. A match sets its tries to 3 and replaces
+/// the value, in one transaction of five device writes. A mismatch writes nothing.
 ///
 /// # Errors
-/// What the store answers: power was lost, or the device failed. The receipt is spent then, too.
+/// The store's failure: power was lost, or the device failed. The receipt is consumed even then.
 pub fn change<B: Board>(
     store: &mut Store<B>,
     charged: Charged,
@@ -60,12 +59,12 @@ pub fn change<B: Board>(
     renew(store, charged, shown, Renewal::Value(new))
 }
 
-/// RESET RETRY COUNTER: compares the shown bytes with the unblocking value of the charged PIN. If they are equal, the
-/// unblocking tries are 10 again, the tries 3, and the new value takes the place of the old one, in one transaction of
-/// four device writes; else nothing is written.
+/// RESET RETRY COUNTER: compares the presented bytes with the unblocking value. A match sets the unblocking tries to
+/// 10 and the tries to 3, and replaces the value, in one transaction of four device writes. A mismatch writes
+/// nothing.
 ///
 /// # Errors
-/// What the store answers: power was lost, or the device failed. The receipt is spent then, too.
+/// The store's failure: power was lost, or the device failed. The receipt is consumed even then.
 pub fn reset_counter<B: Board>(
     store: &mut Store<B>,
     charged: Charged,
@@ -80,12 +79,11 @@ pub fn reset_counter<B: Board>(
     renew(store, charged, shown, Renewal::ValueAndTries(new))
 }
 
-/// ENABLE and DISABLE VERIFICATION REQUIREMENT: compares the shown bytes with the value of the charged PIN. If they are
-/// equal, its tries are 3 again, and the PIN is enabled, or disabled, in one transaction of five device writes; else
-/// nothing is written.
+/// ENABLE and DISABLE VERIFICATION REQUIREMENT: compares the presented bytes with the value. A match sets the tries
+/// to 3, and enables or disables the PIN, in one transaction of five device writes. A mismatch writes nothing.
 ///
 /// # Errors
-/// What the store answers: power was lost, or the device failed. The receipt is spent then, too.
+/// The store's failure: power was lost, or the device failed. The receipt is consumed even then.
 pub fn set_enabled<B: Board>(
     store: &mut Store<B>,
     charged: Charged,
@@ -100,8 +98,8 @@ pub fn set_enabled<B: Board>(
     renew(store, charged, shown, Renewal::Mark(enabled))
 }
 
-/// Compares the shown bytes with the kept ones of the charged secret. If they are equal, what the secret renews is set
-/// in one transaction; else nothing is written.
+/// Compares the presented bytes with the charged secret. After a match it makes the renewal in one transaction. After
+/// a mismatch it writes nothing.
 fn renew<B: Board>(
     store: &mut Store<B>,
     charged: Charged,
@@ -121,7 +119,7 @@ fn renew<B: Board>(
     Ok(outcome)
 }
 
-/// Compares the shown bytes with the kept ones of the charged secret. Nothing is written.
+/// Compares the presented bytes with the charged secret. It writes nothing.
 fn compare<B: Board>(
     store: &mut Store<B>,
     charged: Charged,
@@ -143,7 +141,7 @@ fn compare<B: Board>(
     Ok(outcome_of(right, left))
 }
 
-/// The outcome of a comparison, before which so many tries were left.
+/// Returns the outcome of a comparison. `left` tries were left before it.
 fn outcome_of(right: bool, left: u8) -> Outcome
     ensures { result ≡ (if right then Outcome.Matched else Outcome.Wrong left) }
 {
@@ -154,7 +152,7 @@ fn outcome_of(right: bool, left: u8) -> Outcome
     }
 }
 
-/// What is kept of a secret.
+/// Returns the stored bytes of a secret.
 fn kept<B: Board>(store: &mut Store<B>, secret: u8) -> Result<[u8; 8], StoreErr>
     requires ready { IsReady store.old }
     requires secret { secret < SECRETS }

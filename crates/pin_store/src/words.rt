@@ -8,7 +8,7 @@ ghost use Rattle.pin_store.specs.Pages.{bytes_of_words, pin_page};
 use crate::layout::{FIRST_PIN_PAGE, PINS};
 use undo_journal::PAGE_WORDS;
 
-/// The address of a word in the page of a secret's PIN.
+/// Returns the address of a word in a secret's PIN page.
 pub(crate) fn address_of(secret: u8, place: u16) -> u16
     requires place { place < PAGE_WORDS }
     ensures { result ≡ address (pin_page (owner secret)) place }
@@ -16,21 +16,21 @@ pub(crate) fn address_of(secret: u8, place: u16) -> u16
     PAGE_WORDS * (FIRST_PIN_PAGE + u16::from(secret % PINS)) + place
 }
 
-/// The word of a PIN's page that holds the tries of a secret.
+/// Returns the index of the tries word of a secret.
 pub(crate) fn tries_place(secret: u8) -> u16
     ensures { result ≡ if is_unblocking secret then 1 else 0 }
 {
     if secret >= PINS { 1 } else { 0 }
 }
 
-/// The first of the two words of a PIN's page that hold a secret.
+/// Returns the index of the first word of a secret.
 pub(crate) fn kept_place(secret: u8) -> u16
     ensures { result ≡ if is_unblocking secret then 4 else 2 }
 {
     if secret >= PINS { 4 } else { 2 }
 }
 
-/// The eight bytes of two words, the most significant byte of each word first.
+/// Returns the bytes of two words, the most significant first.
 pub(crate) fn bytes_of(first: u32, second: u32) -> [u8; 8]
     ensures { result ≡ bytes_of_words first second }
 {
@@ -39,7 +39,7 @@ pub(crate) fn bytes_of(first: u32, second: u32) -> [u8; 8]
     [a, b, c, d, e, f, g, h]
 }
 
-/// The two words of eight bytes.
+/// Returns eight bytes as two words.
 pub(crate) fn words_of(bytes: &[u8; 8]) -> [u32; 2]
     ensures { bytes_of_words (slice_index result 0) (slice_index result 1) ≡ bytes.now }
 {
