@@ -1,4 +1,4 @@
--- The way of a memory from format 1 to format 2: what it stands for at each exit, and what it costs.
+-- The migration from format 1 to format 2: the memory at each exit, and the cost.
 use Rattle.std.specs.Prelude.{◌≡◌, ◌⊎◌, ◌<◌, ◌+◌, ◌-◌, ℕ, List, length}
 use Rattle.nvm_board.specs.Facts.{pages_of}
 use Rattle.block_chain.specs.Words.{word}
@@ -10,7 +10,7 @@ use Rattle.pin_store.specs.declared.layout.TheConstants.{FIRST_PIN_PAGE, PIN_MAR
 use Rattle.pin_store.specs.Pages.{KeepsSecrets}
 use Rattle.migration.specs.declared.migrating.TheConstants.{RENAME_WRITES}
 
--- The memory stands for the same files, PINs and state, and each file's entry is where it was.
+-- The memory has the same files, PINs and state, and each file has the same entry.
 pub record KeepsCard (m after : List ℕ) : Type 0 where
   pub size : length after ≡ length m
   pub stands : TreeStands after
@@ -19,22 +19,22 @@ pub record KeepsCard (m after : List ℕ) : Type 0 where
   pub pins : KeepsSecrets m after
   pub state : word after HEADER_PAGE STATE_WORD ≡ word m HEADER_PAGE STATE_WORD
 
--- The memory has format 2, with all its pages.
+-- The memory has format 2, with all its pages, and each PIN is marked as enabled.
 pub record IsNew (m : List ℕ) : Type 0 where
   pub mark : word m HEADER_PAGE MARK_WORD ≡ MARK
   pub pages : word m HEADER_PAGE PAGES_WORD ≡ pages_of m
   pub pins : (pin : ℕ) → pin < 8 → word m (FIRST_PIN_PAGE + pin) PIN_MARK_WORD ≡ 1
 
--- the memory of the same card has become one of format 2
+-- The memory has the same files, PINs and state, in format 2.
 pub record IsMigrated (m after : List ℕ) : Type 0 where
   pub keeps : KeepsCard m after
   pub new : IsNew after
 
--- or is still one of the format that it had
+-- The memory has the same files, PINs and state, in its old format or in format 2.
 pub record Migrates (m after : List ℕ) : Type 0 where
   pub keeps : KeepsCard m after
   pub format : (word after HEADER_PAGE MARK_WORD ≡ word m HEADER_PAGE MARK_WORD) ⊎ IsNew after
 
--- Device writes of a migration to so many pages: a link for each new block, and the transaction.
+-- The device writes of a migration to `pages` pages: one per new block for its link, and the transaction.
 abbrev pub migration_writes : ℕ → ℕ
 migration_writes pages = pages - OLD_END_PAGE + RENAME_WRITES

@@ -1,4 +1,4 @@
-//! The way of a memory from format 1 to format 2.
+//! The migration of a memory from format 1 to format 2.
 #![tactic(auto)]
 
 pub mod laws;

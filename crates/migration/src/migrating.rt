@@ -1,4 +1,4 @@
-//! The links of the new blocks, and the transaction that renames the memory.
+//! The links of the new blocks, and the transaction that changes the format.
 ghost use Rattle.std.specs.Prelude.{◌≡◌, ◌≢◌, ◌⊎◌, ◌+◌, ◌-◌, ◌<◌, ◌≤◌, [], OnOk};
 ghost use Rattle.std.specs.Result.{result_err};
 ghost use Rattle.nvm_board.specs.Facts.{pages_of};
@@ -19,10 +19,10 @@ use file_tree::{MARK, MARK_WORD, OLD_END_PAGE, PAGES_WORD};
 use pin_store::{FIRST_PIN_PAGE, PIN_MARK_WORD, PINS};
 use undo_journal::{Board, PAGE_WORDS, Store, StoreErr, Txn};
 
-/// Device writes of the transaction: the marks of the PINs are written together, then the words of the header.
+/// The number of device writes of the transaction. It writes the marks of the PINs in one batch, then the header.
 pub const RENAME_WRITES: u16 = 15;
 
-/// Sets the mark of each PIN: eight sets, which fill a batch.
+/// Sets the mark of each PIN. These are eight sets, which fill a batch.
 fn mark_pins<B: Board>(txn: &mut Txn<'_, B>) -> Result<(), StoreErr>
     requires ready { IsOpen (memory_of txn.old) }
     requires room { 8 ≤ room (memory_of txn.old) }
@@ -40,7 +40,7 @@ fn mark_pins<B: Board>(txn: &mut Txn<'_, B>) -> Result<(), StoreErr>
     Ok(())
 }
 
-/// Names page 1,024 as the first free block, where there are new ones.
+/// Sets page 1,024 as the first free block. Without new blocks it sets nothing.
 fn set_first<B: Board>(txn: &mut Txn<'_, B>, end: u16) -> Result<(), StoreErr>
     requires ready { IsOpen (memory_of txn.old) }
     requires room { 1 ≤ room (memory_of txn.old) }
@@ -56,7 +56,7 @@ fn set_first<B: Board>(txn: &mut Txn<'_, B>, end: u16) -> Result<(), StoreErr>
     txn.set(FREE_HEAD, u32::from(OLD_END_PAGE))
 }
 
-/// Renames the header: the first free block, where there are new ones, the page where the blocks end, and the mark.
+/// Sets the header. It sets the first free block, if there are new ones, the page where the blocks end, and the mark.
 fn rename_header<B: Board>(txn: &mut Txn<'_, B>, end: u16) -> Result<(), StoreErr>
     requires ready { IsOpen (memory_of txn.old) }
     requires room { 3 ≤ room (memory_of txn.old) }
@@ -73,7 +73,7 @@ fn rename_header<B: Board>(txn: &mut Txn<'_, B>, end: u16) -> Result<(), StoreEr
     txn.set(PAGE_WORDS * HEADER_PAGE + MARK_WORD, MARK)
 }
 
-/// The mark of each PIN, and then the header.
+/// Sets the mark of each PIN, then the header.
 fn rename<B: Board>(txn: &mut Txn<'_, B>, end: u16) -> Result<(), StoreErr>
     requires ready { IsOpen (memory_of txn.old) }
     requires room { 11 ≤ room (memory_of txn.old) }
@@ -87,7 +87,7 @@ fn rename<B: Board>(txn: &mut Txn<'_, B>, end: u16) -> Result<(), StoreErr>
     rename_header(txn, end)
 }
 
-/// Renames the memory in one transaction.
+/// Changes the format in one transaction.
 fn become_new<B: Board>(store: &mut Store<B>, end: u16) -> Result<(), StoreErr>
     requires ready { IsReady store.old }
     ensures any_exit { (committed store.new ≡ committed store.old)
@@ -103,11 +103,11 @@ fn become_new<B: Board>(store: &mut Store<B>, end: u16) -> Result<(), StoreErr>
     txn.end(work)
 }
 
-/// Makes a memory of format 1 one of format 2 that has all pages of its board. At every exit it stands for the same
-/// files, PINs and state, in format 1 or in format 2: in this one only after its last write.
+/// Migrates a memory of format 1 to format 2. The new memory has all pages of its board. At every exit the memory has
+/// the same files, PINs and state. It is in format 2 only after the last write.
 ///
 /// # Errors
-/// What the store answers: power was lost, or the device failed.
+/// The store's failure: power was lost, or the device failed.
 pub fn migrate<B: Board>(store: &mut Store<B>) -> Result<(), StoreErr>
     requires ready { IsReady store.old }
     requires tree { TreeStands (committed store.old) }
