@@ -11,7 +11,7 @@ use Rattle.card_rules.specs.declared.access_mode.AccessBit.TheVariants.{Read}
 abbrev pub mode_byte : AccessMode → ℕ
 mode_byte mode = mode.0
 
--- which bit of the access mode byte stands for an operation; bits are counted from 1, the least
+-- the number of the bit that controls an operation; bit 1 is the least significant
 abbrev pub bit_number : AccessBit → ℕ
 bit_number DeleteSelf = 7
 bit_number Terminate = 6
@@ -24,14 +24,14 @@ bit_number Update = 2
 bit_number DeleteChild = 1
 bit_number Read = 1
 
--- the access mode byte with that bit alone
+-- the access mode byte in which only this bit is set
 abbrev pub flag_of : AccessBit → ℕ
 flag_of bit = 2 ^ (bit_number bit - 1)
 
--- whether the bit is set in an access mode byte
+-- true if the bit is set in an access mode byte
 abbrev pub is_set : ℕ → AccessBit → Bool
 is_set mode bit = bit_at mode (bit_number bit - 1) == 1
 
--- how many bits are set from the highest down to this one, itself included
+-- the number of set bits from the highest down to this one, inclusive
 abbrev pub set_down_to : ℕ → AccessBit → ℕ
 set_down_to mode bit = count_ones (mode / 2 ^ (bit_number bit - 1))

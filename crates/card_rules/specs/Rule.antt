@@ -1,4 +1,4 @@
--- Rules in compact format, and what they allow (ISO/IEC 7816-4, 9.3.3).
+-- Access rules in compact format, and what they allow (ISO/IEC 7816-4, 9.3.3).
 use Rattle.std.specs.Prelude.{ℕ, ◌%◌, Bool, true, false, ◌&&◌, ◌||◌, ◌==◌, nat_lt, nat_le, if◌then◌else◌, List, [], ◌∷◌}
 use Rattle.std.specs.Prelude.{length, count_ones, Option, Some, None, is_some, slice_get, option_and_then}
 use Rattle.std.specs.List.{list_all}
@@ -11,36 +11,38 @@ use Rattle.card_rules.specs.declared.compact.Condition.TheVariants.{Always, Neve
 use Rattle.card_rules.specs.Access.{is_set, set_down_to}
 use Rattle.card_rules.specs.Pins.{has_pin}
 
--- what a condition byte asks for: 00 always, FF never; 11 to 18 and 91 to 98 name security environment 1 to 8,
--- in which the PIN of that number must be verified, unless it is disabled; None: the byte isn't allowed in a rule
+-- the requirement of a condition byte; None: the byte isn't allowed in a rule
+-- 00 means always, FF never; 11 to 18 and 91 to 98 name security environments 1 to 8,
+-- in which the PIN of that number must be verified or disabled
 abbrev pub condition_of : ℕ → Option Condition
 condition_of b =
     if b == 0x00 then Some Always else
     if b == 0xFF then Some Never else
     if nat_le 0x11 b && nat_le b 0x18 || nat_le 0x91 b && nat_le b 0x98 then Some (Verified (b % 16)) else None
 
--- whether a condition is met where these PINs are verified, and these are disabled
+-- true if a condition is met for these verified and disabled PINs
 abbrev pub is_met : List Bool → List Bool → Condition → Bool
 is_met verified disabled Always = true
 is_met verified disabled Never = false
 is_met verified disabled (Verified pin) = has_pin verified pin || has_pin disabled pin
 
--- a rule: an access mode byte with bit 8 clear, and an allowed condition byte for each of its set bits
+-- true for a valid rule: an access mode byte with bit 8 clear, and a valid condition byte for each set bit
 abbrev pub is_rule : List ℕ → Bool
 is_rule [] = false
 is_rule (mode ∷ conditions) =
     nat_lt mode 0x80 && (length conditions == count_ones mode) && list_all (λ b. is_some (condition_of b)) conditions
 
--- the condition of a bit that is set: the conditions stand in the order of the set bits, from the highest down,
--- so it has as many bytes of the rule before it, the access mode byte among them, as bits are set down to this one
+-- the condition of a bit; None: the bit is clear
+-- The condition bytes follow the access mode byte in the order of the set bits, from the highest down. So the index of
+-- a bit's condition in the rule is the number of set bits down to this one.
 abbrev pub condition_at : List ℕ → AccessBit → Option Condition
 condition_at [] bit = None
 condition_at (mode ∷ conditions) bit =
     if is_set mode bit then option_and_then condition_of (slice_get (mode ∷ conditions) (set_down_to mode bit)) else
     None
 
--- whether a file's rule allows an operation: everything in creation and initialisation states, else where the
--- operation's bit is set and its condition is met
+-- true if a file's rule allows an operation
+-- The creation and initialisation states allow all; other states need the bit set and its condition met.
 abbrev pub allows : List ℕ → AccessBit → LifeCycle → List Bool → List Bool → Bool
 allows rule bit Creation verified disabled = true
 allows rule bit Initialisation verified disabled = true

@@ -1,4 +1,4 @@
-//! The access mode byte of a rule, and what its bits stand for.
+//! The access mode byte of a rule, and the operation of each of its bits.
 
 ghost use Rattle.std.specs.Prelude.{⊤, ◌≡◌, ◌-◌, [], ◌∷◌, codes, count_ones, nat_lt, option_map, Some, None};
 ghost use Rattle.std.specs.Prelude.{if◌then◌else◌};
@@ -6,12 +6,13 @@ ghost use Rattle.card_rules.specs.Access.{bit_number, flag_of, is_set, set_down_
 
 use bitflags::{Flag, Flags, bitflag_items};
 
-/// What a bit of the access mode byte stands for. A bit of a DF's rule and one of an EF's rule may have one number.
+/// The operation that a bit of the access mode byte controls.
+/// Bits 1 to 3 mean one operation in a DF's rule and another in an EF's rule.
 #[derive(Clone, Copy, Debug)]
 pub enum AccessBit {
     /// Bit 7: DELETE FILE of the file itself.
     DeleteSelf,
-    /// Bit 6: TERMINATE DF or EF, and for the MF TERMINATE CARD USAGE.
+    /// Bit 6: TERMINATE DF or EF; of the MF TERMINATE CARD USAGE.
     Terminate,
     /// Bit 5: ACTIVATE FILE.
     Activate,
@@ -31,7 +32,7 @@ pub enum AccessBit {
     Read,
 }
 
-/// The access mode byte of a rule in compact format: which operations the rule has a condition for.
+/// The access mode byte: the operations with a condition.
 #[derive(Clone, Copy, PartialEq, Eq)]
 pub struct AccessMode(u8);
 
@@ -76,7 +77,7 @@ impl Flags for AccessMode {
 }
 
 impl AccessBit {
-    /// The bit's number in the access mode byte, 1 (the least) to 7.
+    /// Returns the number of the bit, 1 (the least) to 7.
     pub const fn number(self) -> u8
         ensures { result ≡ bit_number self }
     {
@@ -91,7 +92,7 @@ impl AccessBit {
         }
     }
 
-    /// The access mode byte in which this bit alone is set.
+    /// Returns the access mode byte in which this bit alone is set.
     pub fn flag(self) -> AccessMode
         ensures { mode_byte result ≡ flag_of self }
     {
@@ -111,28 +112,28 @@ impl AccessBit {
 }
 
 impl AccessMode {
-    /// The access mode of a byte, where its bit 8 is clear.
+    /// Returns the access mode of a byte with bit 8 clear.
     pub fn from_byte(byte: u8) -> Option<AccessMode>
         ensures { option_map mode_byte result ≡ (if nat_lt byte 0x80 then Some byte else None) }
     {
         AccessMode::from_bits(byte)
     }
 
-    /// Whether the bit is set.
+    /// Returns true if the bit is set.
     pub fn has(self, bit: AccessBit) -> bool
         ensures { result ≡ is_set (mode_byte self) bit }
     {
         self.contains(bit.flag())
     }
 
-    /// How many bits are set.
+    /// Returns the number of bits that are set.
     pub(crate) fn count(self) -> usize
         ensures { result ≡ count_ones (mode_byte self) }
     {
         self.0.count_ones() as usize
     }
 
-    /// How many bits are set from the highest down to this one, itself included.
+    /// Returns the number of set bits from the highest down to this.
     pub(crate) fn set_down_to(self, bit: AccessBit) -> usize
         ensures { result ≡ set_down_to (mode_byte self) bit }
     {

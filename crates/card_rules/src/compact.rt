@@ -1,4 +1,4 @@
-//! Access rules in compact format.
+//! Access rules in compact format (ISO/IEC 7816-4, 9.3.3).
 
 ghost use Rattle.std.specs.Prelude.{◌≡◌, ◌<◌, ◌≤◌, length, Some, None, is_some, IsTrue, if◌then◌else◌};
 ghost use Rattle.std.specs.List.{list_all};
@@ -11,17 +11,18 @@ use arrayvec::ArrayVec;
 use bitflags::Flags;
 use std::marker::Model;
 
-/// What a condition byte of a rule asks for.
+/// What a condition byte of a rule requires.
 #[derive(Clone, Copy)]
 enum Condition {
     Always,
     Never,
-    /// That the PIN is verified, unless it is disabled.
+    /// The PIN is verified or disabled.
     Verified(PinNumber),
 }
 
 impl Condition {
-    /// The condition of a byte: 00, FF, 11 to 18 or 91 to 98.
+    /// Returns the condition of a byte.
+    /// Valid bytes are 00, FF, 11 to 18 and 91 to 98.
     fn from_byte(byte: u8) -> Option<Condition>
         ensures { result ≡ condition_of byte }
     {
@@ -33,7 +34,7 @@ impl Condition {
         }
     }
 
-    /// Whether the condition is met where these PINs are verified, and these are disabled.
+    /// Returns true if these verified and disabled PINs meet the condition.
     fn is_met(self, verified: &PinSet, disabled: &PinSet) -> bool
         ensures { result ≡ is_met verified.now disabled.now self }
     {
@@ -45,8 +46,9 @@ impl Condition {
     }
 }
 
-/// An access rule in compact format: an access mode byte with bit 8 clear, and a condition byte for each of its set
-/// bits, from bit 7 down (ISO/IEC 7816-4, 9.3.3).
+/// An access rule in compact format (ISO/IEC 7816-4, 9.3.3).
+/// An access mode byte with bit 8 clear comes first. A condition byte for each of its set bits follows, from bit 7
+/// down.
 #[derive(Drop)]
 pub struct Compact {
     bytes: ArrayVec<u8, 8>,
@@ -64,7 +66,7 @@ impl Model for Compact {
 }
 
 impl Compact {
-    /// The rule that the bytes are, where they are one.
+    /// Returns the rule of these bytes, or `None` if invalid.
     pub fn parse(bytes: &[u8]) -> Option<Compact>
         ensures { result ≡ (if is_rule bytes.now then Some bytes.now else None) }
     {
@@ -76,7 +78,7 @@ impl Compact {
         Some(Compact { bytes: rule })
     }
 
-    /// The bytes of the rule, 1 to 8.
+    /// Returns the bytes of the rule, 1 to 8.
     pub fn as_bytes(&self) -> &[u8]
         ensures bytes { result.now ≡ self.now }
         ensures rule { IsTrue (is_rule self.now) }
@@ -86,8 +88,9 @@ impl Compact {
         self.bytes.as_slice()
     }
 
-    /// Whether the rule of a file in `state` allows what the bit stands for, where these PINs are verified,
-    /// and these are disabled.
+    /// Returns true if the rule allows the operation of `bit`.
+    /// `state` is the life cycle state of its file.
+    /// `verified` and `disabled` are the verified and the disabled PINs.
     pub fn allows(
         &self,
         bit: AccessBit,
@@ -101,8 +104,9 @@ impl Compact {
     }
 }
 
-/// Whether the bytes of a rule, of a file in `state`, allow what the bit stands for,
-/// where these PINs are verified, and these are disabled.
+/// Returns true if the rule `bytes` allows the operation of `bit`.
+/// `state` is the life cycle state of its file.
+/// `verified` and `disabled` are the verified and the disabled PINs.
 pub fn allows(
     bytes: &[u8],
     bit: AccessBit,
@@ -123,7 +127,7 @@ pub fn allows(
     }
 }
 
-/// The condition of the bit, where it is set.
+/// Returns the condition of the bit, or `None` if it is clear.
 fn condition_at(bytes: &[u8], bit: AccessBit) -> Option<Condition>
     ensures { result ≡ condition_at bytes.now bit }
 {
@@ -134,7 +138,7 @@ fn condition_at(bytes: &[u8], bit: AccessBit) -> Option<Condition>
     Condition::from_byte(*bytes.get(mode.set_down_to(bit))?)
 }
 
-/// Whether the bytes are a rule.
+/// Returns true if the bytes are a valid rule.
 fn is_rule(bytes: &[u8]) -> bool
     ensures { result ≡ is_rule bytes.now }
 {
@@ -147,7 +151,7 @@ fn is_rule(bytes: &[u8]) -> bool
     }
 }
 
-/// Whether each byte is a condition that a rule may have.
+/// Returns true if each byte is a valid condition byte.
 fn are_conditions(bytes: &[u8]) -> bool
     ensures { result ≡ list_all (λ b. is_some (condition_of b)) bytes.now }
 {

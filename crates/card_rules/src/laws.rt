@@ -15,7 +15,8 @@ ghost use Rattle.card_rules.specs.declared.access_mode.AccessBit.{AccessBit};
 ghost use Rattle.card_rules.specs.Access.{is_set};
 ghost use Rattle.card_rules.specs.Rule.{is_rule, condition_at};
 
-/// The number of each status word (ISO/IEC 7816-4, 5.1.3; the last of `failed` is of this card's own).
+/// Gives the number of each status word (ISO/IEC 7816-4, 5.1.3).
+/// `MAXIMUM_REACHED` is a status word of ETSI TS 102 221.
 pub fn status_words()
     ensures carried_out { (DONE.0 ≡ 0x9000) × (END_REACHED.0 ≡ 0x6282)
         × (SELECTED_DEACTIVATED.0 ≡ 0x6283) × (SELECTED_TERMINATED.0 ≡ 0x6285) }
@@ -28,7 +29,7 @@ pub fn status_words()
         × (NO_ROOM.0 ≡ 0x6A84) × (WRONG_PARAMETERS.0 ≡ 0x6A86) × (FILE_EXISTS.0 ≡ 0x6A89) × (NAME_EXISTS.0 ≡ 0x6A8A) }
 {}
 
-/// In a rule each bit that is set in the access mode byte has a condition.
+/// Each set bit of a rule's access mode byte has a condition.
 pub fn each_set_bit_has_a_condition()
     ensures { (mode : ℕ) (conditions : List ℕ) (bit : AccessBit) → IsTrue (is_rule (mode ∷ conditions))
         → IsTrue (is_set mode bit) → IsSome (condition_at (mode ∷ conditions) bit) }

@@ -1,5 +1,4 @@
-//! The words, states and rules that all layers of the card speak of: status words, life cycles, access rules, PIN
-//! numbers, and which way a search goes.
+//! Status words, life cycles, access rules and PIN numbers: the words that all layers of the card share.
 #![tactic(auto)]
 
 mod access_mode;

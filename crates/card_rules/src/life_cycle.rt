@@ -6,19 +6,19 @@ ghost use Rattle.card_rules.specs.LifeCycle.{life_cycle_at, life_cycle_byte, sta
 /// The life cycle status of a file (ISO/IEC 7816-4, 7.4.10).
 #[derive(Clone, Copy)]
 pub enum LifeCycle {
-    /// The file is being made, and no access rule is asked yet.
+    /// The file is being created. No access rule applies yet.
     Creation,
-    /// The file is being filled, and no access rule is asked yet.
+    /// The file is being filled. No access rule applies yet.
     Initialisation,
-    /// The file is out of use until it is activated again.
+    /// The file is out of use until a command activates it.
     Deactivated,
     /// The file is in use.
     Activated,
-    /// The file is out of use for good.
+    /// The file is permanently out of use.
     Terminated,
 }
 
-/// A command that changes the life cycle status of a file (ISO/IEC 7816-9).
+/// A command that changes the life cycle of a file (ISO/IEC 7816-9).
 #[derive(Clone, Copy)]
 pub enum LifeCycleCommand {
     /// ACTIVATE FILE.
@@ -30,7 +30,8 @@ pub enum LifeCycleCommand {
 }
 
 impl LifeCycle {
-    /// The state that a life cycle status byte of a file entry stands for: 01, 03, 04, 05 or 0C.
+    /// Returns the state of a life cycle status byte.
+    /// Valid bytes are 01, 03, 04, 05 and 0C.
     pub const fn from_byte(byte: u8) -> Option<LifeCycle>
         ensures { result ≡ life_cycle_at byte }
     {
@@ -44,7 +45,7 @@ impl LifeCycle {
         }
     }
 
-    /// The life cycle status byte of this state, which `from_byte` reads again.
+    /// Returns the life cycle status byte of this state. `from_byte` is its inverse.
     pub const fn to_byte(self) -> u8
         ensures value { result ≡ life_cycle_byte self }
         ensures read_again { life_cycle_at result ≡ Some self }
@@ -58,8 +59,9 @@ impl LifeCycle {
         }
     }
 
-    /// The state of a file after a command that found it in `state`. None where the command is refused, as its
-    /// conditions of use aren't satisfied. A file that is activated or deactivated already stays so.
+    /// Returns the state of a file after a command in `state`.
+    /// `None` means that the command is refused, as its conditions of use aren't satisfied.
+    /// Activating an activated file or deactivating a deactivated one changes nothing.
     pub const fn next_state(command: LifeCycleCommand, state: LifeCycle) -> Option<LifeCycle>
         ensures { result ≡ state_after command state }
     {

@@ -15,5 +15,6 @@ pub const MOST_SHORT: u8 = 30;
 /// The most bytes of the name of a dedicated file.
 pub const MOST_NAME_BYTES: usize = 16;
 
-/// The most bytes of data in an answer: as many as Le, a byte, can ask for.
+/// The most bytes of data in an answer.
+/// A one-byte Le can't request more.
 pub const MOST_ANSWER_DATA: usize = 256;

@@ -1,4 +1,4 @@
-//! PIN numbers, and sets of PINs: those that are verified, and those that are disabled.
+//! PIN numbers, and sets of PINs, such as the verified or the disabled ones.
 
 ghost use Rattle.std.specs.Prelude.{◌≡◌, ◌<◌, ◌-◌, ◌↔◌, IsSome, IfSome, List, Bool, length};
 ghost use Rattle.card_rules.specs.Pins.{IsPinNumber, no_pins, has_pin, with_pin, without_pin};
@@ -6,7 +6,7 @@ ghost use Rattle.card_rules.specs.declared.pins.TheConstants.{PINS};
 
 use std::marker::Model;
 
-/// How many PINs a card has. Their numbers are 1 to this one.
+/// The number of PINs of a card. Their numbers are 1 to `PINS`.
 pub const PINS: u8 = 8;
 
 /// The number of a PIN, 1 to 8.
@@ -29,7 +29,7 @@ impl Model for PinNumber {
 }
 
 impl PinNumber {
-    /// The PIN of this number, where it is 1 to 8.
+    /// Returns the PIN with this number, or `None` outside 1 to 8.
     pub fn new(number: u8) -> Option<PinNumber>
         ensures valid { IsSome result ↔ IsPinNumber number }
         ensures value { IfSome result (λ pin. pin ≡ number) }
@@ -41,7 +41,7 @@ impl PinNumber {
         }
     }
 
-    /// The number, 1 to 8.
+    /// Returns the number, 1 to 8.
     pub fn get(self) -> u8
         ensures value { result ≡ self }
         ensures in_range { IsPinNumber self }
@@ -49,7 +49,7 @@ impl PinNumber {
         self.number
     }
 
-    /// The place of the PIN in a list of all PINs.
+    /// Returns the index of the PIN among all PINs, from 0.
     fn index(self) -> usize
         ensures value { result ≡ self - 1 }
         ensures in_range { result < PINS }
@@ -58,8 +58,8 @@ impl PinNumber {
     }
 }
 
-/// A set of PINs: those that were verified in a session (ISO/IEC 7816-4, 11.5: the security status), or those that are
-/// disabled, whose verification is not required.
+/// A set of PINs, such as the verified or the disabled ones.
+/// The verified PINs are the security status (ISO/IEC 7816-4, 11.5). A disabled PIN needs no verification.
 #[derive(Clone, Copy)]
 pub struct PinSet {
     marks: [bool; PINS as usize],
@@ -76,7 +76,7 @@ impl Model for PinSet {
 }
 
 impl PinSet {
-    /// The empty set.
+    /// Returns the empty set.
     pub const fn new() -> PinSet
         ensures { result ≡ no_pins }
     {
@@ -85,7 +85,7 @@ impl PinSet {
         }
     }
 
-    /// Whether the PIN is in the set.
+    /// Returns true if the PIN is in the set.
     pub fn contains(&self, pin: PinNumber) -> bool
         ensures { result ≡ has_pin self.now pin }
     {
@@ -93,14 +93,14 @@ impl PinSet {
         self.marks[index]
     }
 
-    /// Puts the PIN into the set.
+    /// Adds the PIN to the set.
     pub fn insert(&mut self, pin: PinNumber)
         ensures { self.new ≡ with_pin self.old pin }
     {
         self.marks[pin.index()] = true;
     }
 
-    /// Takes the PIN out of the set.
+    /// Removes the PIN from the set.
     pub fn remove(&mut self, pin: PinNumber)
         ensures { self.new ≡ without_pin self.old pin }
     {
