@@ -1,4 +1,4 @@
--- The blocks of the protocol T=1, what their bytes are and what bytes are (ISO/IEC 7816-3, third edition, clause 11).
+-- The blocks of the protocol T=1, and their bytes (ISO/IEC 7816-3, third edition, clause 11).
 use Rattle.std.specs.Prelude.{◌+◌, ◌≤◌, ◌==◌, ℕ, Bool, true, false, not, ◌||◌, ◌&&◌, nat_lt, nat_le, if◌then◌else◌}
 use Rattle.std.specs.Prelude.{List, [], ◌∷◌, ◌++◌, length, fold, bit_xor}
 use Rattle.std.specs.Prelude.{slice_index, slice_range, Option, None, Some, Result, Err}
@@ -11,9 +11,9 @@ use Rattle.t1_link.specs.declared.sequence_number.SequenceNumber.{SequenceNumber
 use Rattle.t1_link.specs.declared.sequence_number.SequenceNumber.TheVariants.{Zero, One}
 use Rattle.t1_link.specs.SequenceNumbers.{at_bit}
 
--- What a block says (11.3.2.2). An I-block has its number N(S), the bit M that says that more blocks of the chain
--- follow, and its information field; an R-block has the number N(R) of the I-block that is expected, and the kind of
--- error; S-blocks request RESYNCH or an information field size, or respond to such a request.
+-- The contents of a block (11.3.2.2). An I-block has its number N(S), the bit M (more blocks of the chain follow), and
+-- its information field. An R-block has the number N(R) of the expected I-block, and the kind of error. S-blocks
+-- request RESYNCH or an information field size, or respond to such a request.
 pub data Block : Type 0 where
   information : SequenceNumber → Bool → List ℕ → Block
   receive_ready : SequenceNumber → ErrorKind → Block
@@ -31,7 +31,7 @@ field_of resynch_response = []
 field_of (ifs_request size) = size ∷ []
 field_of (ifs_response size) = size ∷ []
 
--- the bits of an R-block's control byte that tell the kind of error
+-- the bits of an R-block's control byte for the kind of error
 abbrev pub error_code : ErrorKind → ℕ
 error_code ErrorFree = 0
 error_code RedundancyError = 1
@@ -50,26 +50,26 @@ control_byte (ifs_response size) = 0xE1
 abbrev pub exclusive_or : List ℕ → ℕ
 exclusive_or bytes = fold bit_xor 0 bytes
 
--- the prologue, which is node address, control byte and length, and the information field
+-- the prologue (node address, control byte, length byte) and the information field
 abbrev pub front : Block → List ℕ
 front b = 0x00 ∷ control_byte b ∷ length (field_of b) ∷ field_of b
 
 -- the bytes of a block (11.3.1): prologue, information field, and the check byte,
--- with which the exclusive-or of all bytes is 00
+-- which makes the exclusive-or of all bytes 00
 abbrev pub frame : Block → List ℕ
 frame b = front b ++ exclusive_or (front b) ∷ []
 
--- a block of a kind that has no information field
+-- a block of a kind without information field
 abbrev pub bare : List ℕ → Block → Option Block
 bare field b = if length field == 0 then Some b else None
 
--- the information field size that an S-block tells: one byte, 01 to FE
+-- the information field size of an S-block: one byte, 01 to FE
 abbrev pub size_told : List ℕ → Option ℕ
 size_told field =
     if length field == 1 && (nat_le 1 (slice_index field 0) && nat_le (slice_index field 0) 254)
     then Some (slice_index field 0) else None
 
--- each control byte, and the block that it makes of an information field, if its kind has such a field
+-- each control byte, and the block it makes of an information field; None: the field doesn't fit the kind
 abbrev pub kinds : List ℕ → List (ℕ × Option Block)
 kinds field =
     (0x00, Some (information Zero false field))
@@ -88,23 +88,23 @@ kinds field =
     ∷ (0xE1, option_map ifs_response (size_told field))
     ∷ []
 
--- the entry of a table that stands at a control byte
+-- the entry of a table for a control byte; None: no entry
 abbrev pub at_byte : ℕ → List (ℕ × Option Block) → Option Block
 at_byte byte [] = None
 at_byte byte (k ∷ ks) = if byte == k.0 then k.1 else at_byte byte ks
 
--- what stands beside the first test that is true, or else what stands at the end
+-- the value of the first row whose test is true, else the default value
 abbrev pub first_of : {A : Type 0} → List (Bool × A) → A → A
 first_of [] otherwise = otherwise
 first_of (row ∷ rows) otherwise = if row.0 then row.1 else first_of rows otherwise
 
--- fewer than 4 bytes, or a length byte that isn't 00 to FE, or not that many bytes between prologue and check byte
+-- true if the bytes are fewer than 4, or the length byte is FF, or it isn't the length of the information field
 abbrev pub has_wrong_length : List ℕ → Bool
 has_wrong_length bytes =
     nat_lt (length bytes) 4 || nat_lt 254 (slice_index bytes 2) || not (length bytes == slice_index bytes 2 + 4)
 
--- What bytes are: a block, or the first of three faults. Their length is wrong; their exclusive-or isn't 00;
--- the node address isn't 00, or no kind of block has this control byte and information field.
+-- What bytes mean: a block, or the first of three faults. The length is wrong; the exclusive-or isn't 00;
+-- or the node address isn't 00, or no kind of block has this control byte and information field.
 unfoldable pub heard : List ℕ → Result Block Fault
 heard bytes = first_of (
     (has_wrong_length bytes, Err WrongLength)
@@ -113,7 +113,7 @@ heard bytes = first_of (
     ∷ [])
     (ok_or (at_byte (slice_index bytes 1) (kinds (slice_range bytes 3 (3 + slice_index bytes 2)))) UnknownBlock)
 
--- a block that has bytes: an information field of at most 254 bytes, a size of 01 to FE
+-- a block that can be sent: an information field of at most 254 bytes, or a size of 01 to FE
 abbrev pub IsSpellable : Block → Type 0
 IsSpellable (information number more field) = length field ≤ 254
 IsSpellable (receive_ready number error) = Unit {0}
@@ -122,7 +122,7 @@ IsSpellable resynch_response = Unit {0}
 IsSpellable (ifs_request size) = (1 ≤ size) × (size ≤ 254)
 IsSpellable (ifs_response size) = (1 ≤ size) × (size ≤ 254)
 
--- the kind of error by which a fault is told to the other end
+-- the kind of error that reports a fault to the other end
 abbrev pub told_as : Fault → ErrorKind
 told_as WrongLength = OtherError
 told_as WrongCheck = RedundancyError

@@ -1,4 +1,4 @@
--- What the fields of a `CardEnd` stand for.
+-- The state of a `CardEnd` as the card's table describes it.
 use Rattle.std.specs.Prelude.{◌≤◌, [], length, Some, None, if◌then◌else◌}
 use Rattle.t1_link.specs.CardTable.{CardLink}
 use Rattle.t1_link.specs.declared.card_end.CardEnd.TheInside.{Inside}
@@ -16,7 +16,7 @@ card_link c = record {
   waiting = if c.waits then Some c.command.items else None;
 }
 
--- every I-block fits
+-- every I-block fits into a block
 pub record IsFitting (c : Inside) : Type 0 where
   pub some : 1 ≤ c.ifsd
   pub size : c.ifsd ≤ 254

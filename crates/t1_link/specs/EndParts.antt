@@ -1,4 +1,4 @@
--- What the steps of both ends of the link do of what their tables say. No clause of a public call names these.
+-- How the steps of both ends of the link follow their tables. No public contract names these.
 use Rattle.std.specs.Prelude.{◌≡◌, ℕ, List}
 use Rattle.t1_link.specs.declared.card_end.Action.{Action}
 use Rattle.t1_link.specs.declared.card_end.Action.TheVariants.{Reply}
@@ -8,24 +8,23 @@ use Rattle.t1_link.specs.CardTable.{CardLink, Taken, action_of, after, reply_byt
 use Rattle.t1_link.specs.ReaderTable.{Outcome, Reader, Turned}
 use Rattle.t1_link.specs.ReaderFields.{left_in, next_of}
 
--- the card's end does what its table says: what it holds, what it tells its caller, and what the buffer of blocks holds
+-- the card's end follows its table: its state, the action it returns, and the contents of the block buffer
 pub record Takes (taken : Taken) (link : CardLink) (told : Action) (held : List ℕ) : Type 0 where
   pub state : link ≡ after taken
   pub action : told ≡ action_of taken.reaction
   pub block : held ≡ reply_bytes taken.reaction
 
--- the card's end, which stays as it is, replies by this block
+-- the card's end stays unchanged and replies with this block
 pub record Replies (reply : Block) (told : Action) (held : List ℕ) : Type 0 where
   pub action : told ≡ Reply
   pub block : held ≡ frame reply
 
--- the reader's end says what its table says: it tells its caller, and the buffer of blocks holds it or stays as it was
+-- the reader's end follows its table: the step it returns, and the block buffer, rewritten or unchanged
 pub record Says (outcome : Outcome) (told : Next) (before held : List ℕ) : Type 0 where
   pub next : told ≡ next_of outcome
   pub out : held ≡ left_in outcome before
 
--- the reader's end does what its table says:
--- what it holds, what it tells its caller, and what the buffer of blocks holds
+-- the reader's end follows its table: its state, the step it returns, and the block buffer
 pub record Turns (turned : Turned) (reader : Reader) (told : Next) (before held : List ℕ) : Type 0 where
   pub state : reader ≡ turned.reader
   pub next : told ≡ next_of turned.outcome

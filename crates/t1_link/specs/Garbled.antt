@@ -1,7 +1,7 @@
--- A block that is garbled.
+-- Garbled blocks.
 use Rattle.std.specs.Prelude.{ℕ, bit_xor, List, [], ◌∷◌}
 
--- bytes with bit 1 of the last one turned
+-- these bytes with bit 1 of the last one inverted
 abbrev pub last_bit_turned : List ℕ → List ℕ
 last_bit_turned [] = []
 last_bit_turned (last ∷ []) = bit_xor last 1 ∷ []

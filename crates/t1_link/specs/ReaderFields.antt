@@ -1,4 +1,4 @@
--- What the fields of a `ReaderEnd` stand for, and what it says.
+-- The state of a `ReaderEnd` as the reader's table describes it, and what it returns.
 use Rattle.std.specs.Prelude.{◌≡◌, ◌≤◌, ℕ, List, length}
 use Rattle.t1_link.specs.ReaderTable.{Reader, Outcome, sends, gives, unknown, fails}
 use Rattle.t1_link.specs.Blocks.{frame}
@@ -18,7 +18,7 @@ reader_of r = record {
   phase = r.phase;
 }
 
--- every I-block fits
+-- every I-block fits into a block
 abbrev pub IsSendable : Inside → Type 0
 IsSendable r = length r.command.field ≤ 254
 
@@ -29,21 +29,21 @@ IsSend Done = ⊥
 IsSend Unknown = ⊥
 IsSend (Failed failure) = ⊥
 
--- what the call returns
+-- the step that the call returns
 abbrev pub next_of : Outcome → Next
 next_of (sends b) = Send
 next_of (gives answer) = Done
 next_of unknown = Unknown
 next_of (fails failure) = Failed failure
 
--- what the buffer of blocks holds when the call returns, of what it held: the block that is to be sent, else the same
+-- the contents of the block buffer after the call: the block to send, else unchanged
 abbrev pub left_in : Outcome → List ℕ → List ℕ
 left_in (sends b) held = frame b
 left_in (gives answer) held = held
 left_in unknown held = held
 left_in (fails failure) held = held
 
--- an answer that is told is the one that the reader's end keeps
+-- if the outcome is an answer, the reader's end stores it
 abbrev pub HasAnswer : Outcome → Reader → Type 0
 HasAnswer (sends b) reader = Unit {0}
 HasAnswer (gives answer) reader = reader.answer ≡ answer

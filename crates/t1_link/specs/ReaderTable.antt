@@ -1,5 +1,5 @@
--- The reader's end of T=1: what it holds between blocks, and its reaction to each (ISO/IEC 7816-3, clause 11.6).
--- Its rows are numbered as in the table of docs/LINK.md.
+-- The reader's end of T=1: its state between blocks, and its reaction to each (ISO/IEC 7816-3, clause 11.6).
+-- The rows are numbered as in the table of docs/LINK.md.
 use Rattle.std.specs.Prelude.{◌+◌, ◌==◌, ◌||◌, ℕ, Bool, true, false, not, nat_lt, if◌then◌else◌, List, [], ◌∷◌, ◌++◌}
 use Rattle.std.specs.Prelude.{length, take, drop, Result, Ok, Err}
 use Rattle.t1_link.specs.declared.block.ErrorKind.{ErrorKind}
@@ -15,10 +15,9 @@ use Rattle.t1_link.specs.Blocks.{Block, information, receive_ready, resynch_requ
 use Rattle.t1_link.specs.Blocks.{ifs_response, heard, first_of, told_as}
 use Rattle.t1_link.specs.SequenceNumbers.{other_number, same}
 
--- What the reader's end holds: the number of the next I-block that it sends and of the one that it expects, how often
--- it tried in vain, the information field of its last I-block, the bytes of the command that are not sent yet, the
--- bytes of the answer that have come, how often it requested RESYNCH,
--- and whether a command is in hand or the link is given up.
+-- The state of the reader's end: the number of the next I-block to send (`ns`) and of the expected one (`nr`).
+-- `tries` counts the failed tries, and `resynchs` the RESYNCH requests. `field` is the information field of its last
+-- I-block, `rest` the command not sent yet, and `answer` the answer received so far.
 pub record Reader : Type 0 where
   pub ns : SequenceNumber
   pub nr : SequenceNumber
@@ -29,7 +28,7 @@ pub record Reader : Type 0 where
   pub resynchs : ℕ
   pub phase : Phase
 
--- after power-on and after a RESYNCH that was answered
+-- the state after power-on and after a RESYNCH response
 abbrev pub fresh_reader : Reader
 fresh_reader = record {
   ns = Zero;
@@ -43,8 +42,7 @@ fresh_reader = record {
       Idle;
 }
 
--- What the reader's end says: a block to be sent, the answer,
--- that it isn't known whether the command was run, or a failure.
+-- The result of a step: a block to send, the answer, unknown whether the command ran, or a failure.
 pub data Outcome : Type 0 where
   sends : Block → Outcome
   gives : List ℕ → Outcome
@@ -55,7 +53,7 @@ pub record Turned : Type 0 where
   pub reader : Reader
   pub outcome : Outcome
 
--- M of its last I-block: more of the command follows
+-- bit M of its last I-block: more of the command follows
 abbrev pub has_more : Reader → Bool
 has_more r = not (length r.rest == 0)
 
@@ -63,31 +61,32 @@ has_more r = not (length r.rest == 0)
 abbrev pub last_block : Reader → Block
 last_block r = information (other_number r.ns) (has_more r) r.field
 
--- RESYNCH is requested
+-- requests RESYNCH
 abbrev pub requesting : Reader → Turned
 requesting r = record { reader = record r { resynchs = r.resynchs + 1 }; outcome = sends resynch_request }
 
--- a try: this block, or after three tries the request for RESYNCH in its place
+-- a try: sends this block, or after three tries the request for RESYNCH instead
 abbrev pub trying : Reader → Block → Turned
 trying r b = if nat_lt r.tries 3 then record { reader = record r { tries = r.tries + 1 }; outcome = sends b } else
     requesting r
 
--- a try: an R-block with the expected number
+-- a try: sends an R-block with the expected number
 abbrev pub asking : Reader → ErrorKind → Turned
 asking r error = trying r (receive_ready r.nr error)
 
--- the link is given up
+-- gives up the link
 abbrev pub failing : Reader → Failure → Turned
 failing r failure = record { reader = record r { phase = Dead }; outcome = fails failure }
 
--- the next I-block of these bytes: at most 254, with M where more follow; its number turns, and no try is counted yet
+-- sends the next I-block: at most 254 of these bytes, with M if more follow
+-- The sequence number toggles, and the count of tries returns to 0.
 abbrev pub advancing : Reader → List ℕ → Turned
 advancing r bytes = record {
   reader = record r { ns = other_number r.ns; tries = 0; field = take 254 bytes; rest = drop 254 bytes };
   outcome = sends (information r.ns (not (length (drop 254 bytes) == 0)) (take 254 bytes));
 }
 
--- An R-block came, by which the card asks for the block with this number. The first row that fits counts.
+-- An R-block arrived, with which the card requests the block of this number. The first row that fits counts.
 abbrev pub turns_receive_ready : Reader → SequenceNumber → Turned
 turns_receive_ready r number = first_of (
     -- 4. the number of its last I-block: that block again, a try
@@ -98,7 +97,7 @@ turns_receive_ready r number = first_of (
     -- 6. else: R-block, other error, a try
     (asking r OtherError)
 
--- The bytes of an I-block join the answer. The first row that fits counts.
+-- Appends an I-block to the answer: `bytes` is the answer with it. The first row that fits counts.
 abbrev pub turns_answer : Reader → Bool → List ℕ → Turned
 turns_answer r more bytes = first_of (
     -- 8 and 9. an answer has at most 258 bytes
@@ -115,10 +114,10 @@ turns_answer r more bytes = first_of (
     -- 9. an answer has at least 2 bytes
     ∷ (nat_lt (length bytes) 2, failing r BadAnswer)
     ∷ [])
-    -- 9. else this is the answer, which is kept until the next command
+    -- 9. else this is the answer, stored until the next command
     (record { reader = record r { nr = other_number r.nr; answer = bytes; phase = Idle }; outcome = gives bytes })
 
--- An I-block came.
+-- An I-block arrived.
 abbrev pub turns_information : Reader → SequenceNumber → Bool → List ℕ → Turned
 turns_information r number more field = first_of (
     -- 7. its last I-block has M, or it isn't the number that is expected: R-block, other error, a try
@@ -127,54 +126,54 @@ turns_information r number more field = first_of (
     -- 8 and 9
     (turns_answer r more (r.answer ++ field))
 
--- The reaction to what was heard while the answer is awaited, row by row.
+-- The reaction to a received block while the answer is awaited, row by row.
 unfoldable pub turns_block : Reader → Result Block Fault → Turned
--- 2. no block: R-block, with the kind of error, a try
+-- 2. no valid block: R-block, with the kind of error, a try
 turns_block r (Err fault) = asking r (told_as fault)
 -- 3. an S-block: R-block, other error, a try
 turns_block r (Ok resynch_request) = asking r OtherError
 turns_block r (Ok resynch_response) = asking r OtherError
 turns_block r (Ok (ifs_request size)) = asking r OtherError
 turns_block r (Ok (ifs_response size)) = asking r OtherError
--- 4 to 6, whatever kind of error the R-block tells
+-- 4 to 6, for any kind of error in the R-block
 turns_block r (Ok (receive_ready number error)) = turns_receive_ready r number
 -- 7 to 9
 turns_block r (Ok (information number more field)) = turns_information r number more field
 
--- The response that was requested didn't come: RESYNCH is requested at most three times.
+-- The requested response didn't arrive: RESYNCH is requested at most three times.
 abbrev pub requesting_again : Reader → Turned
 requesting_again r = if nat_lt r.resynchs 3 then requesting r else failing r LinkLost
 
--- The reaction to what was heard after a request for RESYNCH: the response, or anything else.
+-- The reaction after a request for RESYNCH: to its response, or to anything else.
 unfoldable pub turns_resynch : Reader → Result Block Fault → Turned
 turns_resynch r (Ok resynch_response) = record { reader = fresh_reader; outcome = unknown }
 turns_resynch r _ = requesting_again r
 
--- the reaction to what was heard
+-- the reaction to a received block or fault
 abbrev pub reader_takes : Reader → Result Block Fault → Turned
 reader_takes r h = if r.resynchs == 0 then turns_block r h else turns_resynch r h
 
--- the reaction to bytes that came
+-- the reaction to received bytes
 abbrev pub reader_step : Reader → List ℕ → Turned
 reader_step r bytes = reader_takes r (heard bytes)
 
--- 1. nothing came in time: R-block, other error, a try; or the request for RESYNCH was not answered
+-- 1. nothing arrived in time: R-block, other error, a try; or the request for RESYNCH again
 abbrev pub reader_times_out : Reader → Turned
 reader_times_out r = if r.resynchs == 0 then asking r OtherError else requesting_again r
 
--- a command is in hand
+-- true if a command is in progress
 abbrev pub is_busy : Phase → Bool
 is_busy Idle = false
 is_busy Busy = true
 is_busy Dead = false
 
--- the link was given up
+-- true if the link is given up
 abbrev pub is_dead : Phase → Bool
 is_dead Idle = false
 is_dead Busy = false
 is_dead Dead = true
 
--- A command is to be sent: its first I-block; but over a link that was given up nothing is sent any more.
+-- Sends the first I-block of a command. Over a link that is given up nothing is sent.
 abbrev pub reader_sends : Reader → List ℕ → Turned
 reader_sends r command = if is_dead r.phase
     then record { reader = r; outcome = fails LinkLost }

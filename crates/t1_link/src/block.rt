@@ -1,4 +1,4 @@
-//! Blocks, and their bytes (ISO/IEC 7816-3, 11.3).
+//! Blocks of T=1, and their bytes (ISO/IEC 7816-3, 11.3).
 
 ghost use Rattle.std.specs.Prelude.{◌≡◌, ◌≤◌, ◌+◌, ◌++◌, [], false, length, slice_index, Ok};
 ghost use Rattle.std.specs.Option.{ok_or};
@@ -16,7 +16,8 @@ use std::ops::DerefSlice;
 /// The most bytes of an information field (11.4.2).
 pub(crate) const FIELD_LIMIT: usize = 254;
 
-/// Bytes of a block beside its information field: node address, control byte, length byte and check byte.
+/// The bytes of a block besides its information field.
+/// They are node address, control byte, length byte and check byte.
 const OVERHEAD: usize = 4;
 
 /// The most bytes of a block.
@@ -28,63 +29,63 @@ const NODE_ADDRESS: u8 = 0x00;
 /// The bit of an I-block's control byte that is its number, N(S).
 const NUMBER_SENT: u8 = 0x40;
 
-/// The bit of an I-block's control byte that says that more blocks follow, M.
+/// The bit M of an I-block's control byte: more blocks follow.
 const MORE: u8 = 0x20;
 
-/// The bit of an R-block's control byte that is the number of the I-block that is expected, N(R).
+/// The bit N(R) of an R-block's control byte: the expected number.
 const NUMBER_EXPECTED: u8 = 0x10;
 
-/// The control byte of the last I-block of a chain, with number 0.
+/// The control byte of an I-block with number 0, without M.
 const INFORMATION_0: u8 = 0x00;
 
-/// The control byte of an I-block with number 0 that more blocks follow.
+/// The control byte of an I-block with number 0 and M.
 const INFORMATION_0_MORE: u8 = INFORMATION_0 | MORE;
 
-/// The control byte of the last I-block of a chain, with number 1.
+/// The control byte of an I-block with number 1, without M.
 const INFORMATION_1: u8 = INFORMATION_0 | NUMBER_SENT;
 
-/// The control byte of an I-block with number 1 that more blocks follow.
+/// The control byte of an I-block with number 1 and M.
 const INFORMATION_1_MORE: u8 = INFORMATION_1 | MORE;
 
-/// The bit of an R-block's control byte that tells of a wrong check byte.
+/// The bit of an R-block's control byte for a wrong check byte.
 const REDUNDANCY: u8 = 0x01;
 
-/// The bit of an R-block's control byte that tells of any other error.
+/// The bit of an R-block's control byte for any other error.
 const OTHER: u8 = 0x02;
 
-/// The control byte of an R-block that expects number 0 and tells of no error.
+/// The control byte of an R-block that expects number 0, without error.
 const READY_0: u8 = 0x80;
 
-/// The control byte of an R-block that expects number 0 after a wrong check byte.
+/// The control byte of an R-block: expects 0, wrong check byte.
 const READY_0_REDUNDANCY: u8 = READY_0 | REDUNDANCY;
 
-/// The control byte of an R-block that expects number 0 after another error.
+/// The control byte of an R-block: expects 0, another error.
 const READY_0_OTHER: u8 = READY_0 | OTHER;
 
-/// The control byte of an R-block that expects number 1 and tells of no error.
+/// The control byte of an R-block that expects number 1, without error.
 const READY_1: u8 = READY_0 | NUMBER_EXPECTED;
 
-/// The control byte of an R-block that expects number 1 after a wrong check byte.
+/// The control byte of an R-block: expects 1, wrong check byte.
 const READY_1_REDUNDANCY: u8 = READY_0_REDUNDANCY | NUMBER_EXPECTED;
 
-/// The control byte of an R-block that expects number 1 after another error.
+/// The control byte of an R-block: expects 1, another error.
 const READY_1_OTHER: u8 = READY_0_OTHER | NUMBER_EXPECTED;
 
-/// The control byte of an S-block that asks to begin anew.
+/// The control byte of an S-block that requests RESYNCH.
 const RESYNCH_REQUEST: u8 = 0xC0;
 
-/// The control byte of the S-block that answers it.
+/// The control byte of the S-block that responds to RESYNCH.
 const RESYNCH_RESPONSE: u8 = 0xE0;
 
-/// The control byte of an S-block that tells the size of information field that its sender takes.
+/// The control byte of an S-block with an information field size.
 const IFS_REQUEST: u8 = 0xC1;
 
-/// The control byte of the S-block that answers it with the same size.
+/// The control byte of the S-block that responds with the same size.
 const IFS_RESPONSE: u8 = 0xE1;
 
-/// The bytes of a block: prologue, information field and check byte. A type of its own, since an answer may have as
-/// many bytes (`AnswerBytes`), and must not be sent as a block. It holds nothing, or a block that an end of the link
-/// wrote, whole or garbled. What is heard may be any bytes, and is a slice.
+/// The bytes of a block: prologue, information field and check byte.
+/// It is empty or contains a block that an end of the link wrote, whole or garbled. Received bytes are a slice instead.
+/// It is a type of its own, so that nobody sends an answer (`AnswerBytes`), which can be as long, as a block.
 #[derive(Drop)]
 pub struct BlockBytes {
     bytes: ArrayVec<u8, LONGEST_BLOCK>,
@@ -99,7 +100,7 @@ impl Model for BlockBytes {
 }
 
 impl BlockBytes {
-    /// A buffer that holds nothing.
+    /// Returns an empty buffer.
     pub fn new() -> BlockBytes
         ensures { result ≡ [] }
     {
@@ -108,7 +109,7 @@ impl BlockBytes {
         }
     }
 
-    /// What it holds.
+    /// Returns the bytes of the block.
     pub fn as_slice(&self) -> &[u8]
         ensures bytes { result.now ≡ self.now }
         ensures fits { length result.now ≤ LONGEST_BLOCK }
@@ -123,7 +124,7 @@ impl BlockBytes {
         self.bytes.clear();
     }
 
-    /// Garbles the block, as a line may: turns bit 1 of its last byte.
+    /// Garbles the block: inverts bit 1 of its last byte.
     pub fn garble(&mut self)
         ensures { self.new ≡ last_bit_turned self.old }
     {
@@ -143,7 +144,7 @@ impl DerefSlice for BlockBytes {
     }
 }
 
-/// What an R-block tells of the block that it answers.
+/// The error that an R-block reports.
 #[derive(Clone, Copy)]
 pub enum ErrorKind {
     ErrorFree,
@@ -153,7 +154,7 @@ pub enum ErrorKind {
 }
 
 impl ErrorKind {
-    /// The bits of a control byte that tell it.
+    /// Returns the bits of this kind in a control byte.
     fn code(self) -> u8
         ensures value { result ≡ error_code self }
         ensures low { result ≤ OTHER }
@@ -166,19 +167,19 @@ impl ErrorKind {
     }
 }
 
-/// Why bytes are no block.
+/// Why bytes are no valid block.
 #[derive(Clone, Copy)]
 pub enum Fault {
-    /// Fewer than 4 bytes, a length byte FF, or not as many bytes as it says.
+    /// Fewer than 4 bytes, or a length byte that doesn't fit.
     WrongLength,
     /// The exclusive-or of all bytes isn't 00.
     WrongCheck,
-    /// The node address isn't 00, or no kind of block has this control byte and information field.
+    /// Another node address than 00, or an unknown kind of block.
     UnknownBlock,
 }
 
 impl Fault {
-    /// The kind of error by which the other end is told.
+    /// Returns the kind of error for an R-block after this fault.
     pub(crate) fn error_kind(self) -> ErrorKind
         ensures { result ≡ told_as self }
     {
@@ -189,7 +190,7 @@ impl Fault {
     }
 }
 
-/// What an I-block brings: a piece of the bytes that its sender sends, under N(S), and M, that more follow.
+/// The contents of an I-block: N(S), M, and the information field.
 #[derive(Clone, Copy)]
 pub(crate) struct Piece<'a> {
     pub number: SequenceNumber,
@@ -197,7 +198,7 @@ pub(crate) struct Piece<'a> {
     pub field: &'a [u8],
 }
 
-/// A block, whose information field is lent (ISO/IEC 7816-3, 11.3).
+/// A block, with a borrowed information field (ISO/IEC 7816-3, 11.3).
 #[derive(Clone, Copy)]
 pub(crate) enum Block<'a> {
     Information(Piece<'a>),
@@ -212,9 +213,8 @@ pub(crate) enum Block<'a> {
 }
 
 impl<'a> Block<'a> {
-    /// The block that these bytes are, or what is wrong with them.
-    // (Inlined into both ends, and `of_kind` into it: so a block that is heard isn't put together in memory, only to be
-    // taken apart again, which costs 36 instructions a block.)
+    /// Returns the block of these bytes, or the first fault in them.
+    // Inlining this and `of_kind` saves 36 instructions a block: the block isn't built in memory.
     #[inline(always)]
     #[tactic(auto, unfolding(crate::specs::Blocks::heard))]
     pub(crate) fn parse(bytes: &'a [u8]) -> Result<Block<'a>, Fault>
@@ -232,7 +232,7 @@ impl<'a> Block<'a> {
         Block::of_kind(bytes[1], &bytes[3..3 + usize::from(bytes[2])])
     }
 
-    /// The block that a control byte makes of an information field.
+    /// Returns the block of a control byte and an information field.
     #[inline(always)]
     fn of_kind(control: u8, field: &'a [u8]) -> Result<Block<'a>, Fault>
         ensures { spoken result ≡ ok_or (at_byte control (kinds field.now)) Fault.UnknownBlock }
@@ -256,7 +256,7 @@ impl<'a> Block<'a> {
         }
     }
 
-    /// Makes the buffer the bytes of the block, whatever it held.
+    /// Writes the bytes of the block into the buffer, replacing its contents.
     pub(crate) fn write(self, out: &mut BlockBytes)
         requires { length (field_of (block_of self)) ≤ 254 }
         ensures { out.new ≡ frame (block_of self.entry) }
@@ -270,7 +270,7 @@ impl<'a> Block<'a> {
         bytes.push(exclusive_or(bytes.as_slice()));
     }
 
-    /// The control byte.
+    /// Returns the control byte.
     fn control_byte(self) -> u8
         ensures { result ≡ control_byte (block_of self.entry) }
     {
@@ -290,7 +290,7 @@ impl<'a> Block<'a> {
         }
     }
 
-    /// The length byte.
+    /// Returns the length byte.
     fn field_length(self) -> u8
         requires { length (field_of (block_of self)) ≤ 254 }
         ensures { result ≡ length (field_of (block_of self.entry)) }
@@ -316,7 +316,7 @@ impl<'a> Block<'a> {
     }
 }
 
-/// Whether bytes are fewer than 4, or have a length byte FF or one that tells another length.
+/// Returns true if the length byte is wrong, or a byte missing.
 fn has_wrong_length(bytes: &[u8]) -> bool
     ensures wrong { result ≡ has_wrong_length bytes.now }
     ensures right { result ≡ false → length bytes.now ≡ slice_index bytes.now 2 + 4 }
@@ -328,7 +328,7 @@ fn has_wrong_length(bytes: &[u8]) -> bool
     size > FIELD_LIMIT || bytes.len() != size + OVERHEAD
 }
 
-/// An I-block.
+/// Returns an I-block.
 fn information(number: SequenceNumber, more: bool, field: &[u8]) -> Result<Block<'_>, Fault>
     ensures { spoken result ≡ Ok (information number more field.now) }
 {
@@ -339,14 +339,14 @@ fn information(number: SequenceNumber, more: bool, field: &[u8]) -> Result<Block
     }))
 }
 
-/// An R-block, which has no information field.
+/// Returns an R-block, which has no information field.
 fn ready<'a>(number: SequenceNumber, error: ErrorKind, field: &[u8]) -> Result<Block<'a>, Fault>
     ensures { spoken result ≡ ok_or (bare field.now (receive_ready number error)) Fault.UnknownBlock }
 {
     bare(field, Block::ReceiveReady { number, error })
 }
 
-/// A block of a kind that has no information field.
+/// Returns a block of a kind that has no information field.
 fn bare<'a>(field: &[u8], block: Block<'a>) -> Result<Block<'a>, Fault>
     ensures { spoken result ≡ ok_or (bare field.now (block_of block.entry)) Fault.UnknownBlock }
 {
@@ -357,7 +357,7 @@ fn bare<'a>(field: &[u8], block: Block<'a>) -> Result<Block<'a>, Fault>
     }
 }
 
-/// The information field size that the field of an S-block tells.
+/// Returns the information field size in the field of an S-block.
 fn size_told(field: &[u8]) -> Option<u8>
     ensures { result ≡ size_told field.now }
 {
@@ -367,14 +367,14 @@ fn size_told(field: &[u8]) -> Option<u8>
     }
 }
 
-/// The exclusive-or of all bytes.
+/// Returns the exclusive-or of all bytes.
 fn exclusive_or(bytes: &[u8]) -> u8
     ensures { result ≡ exclusive_or bytes.now }
 {
     bytes.iter().fold(0, |check, byte| check ^ *byte)
 }
 
-/// Turns bit 1 of the last byte.
+/// Inverts bit 1 of the last byte.
 #[tactic(auto, using(crate::proofs::Garbled::last_bit_turned_at))]
 fn turn_last_bit(bytes: &mut [u8])
     ensures { bytes.new ≡ last_bit_turned bytes.old }

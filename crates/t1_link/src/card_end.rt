@@ -15,29 +15,30 @@ use crate::sequence_number::SequenceNumber;
 use arrayvec::ArrayVec;
 use std::marker::Model;
 
-/// The most bytes of an answer: 256 of data and a status word.
+/// The most bytes of an answer: 256 data bytes, a status word.
 pub const LONGEST_ANSWER: usize = 258;
 
-/// The bytes of an answer. It is the card that fills them, and it knows no link: so this is the plain buffer that the
-/// card takes, and no type of this crate, as that of a block is (`BlockBytes`).
+/// The bytes of an answer.
+/// The card fills this plain buffer. It isn't a type of this crate, as the card doesn't depend on the link.
 pub type AnswerBytes = ArrayVec<u8, LONGEST_ANSWER>;
 
-/// The most bytes of a command that are kept: one more than it may have, which is enough to refuse it.
+/// The most stored bytes of a command: one more than allowed.
+/// That is enough to refuse the command.
 const KEPT_COMMAND: usize = LONGEST_COMMAND + 1;
 
-/// The size of information field that a reader takes after power-on.
+/// The information field size that a reader takes after power-on, in bytes.
 const FIRST_IFSD: u8 = 32;
 
-/// What follows from a block that came.
+/// What the caller does after a block.
 #[derive(Clone, Copy)]
 pub enum Action {
-    /// The block in the buffer is to be sent.
+    /// Send the block in the buffer.
     Reply,
-    /// A whole command is to be run.
+    /// Run the whole command.
     Run,
 }
 
-/// The card's end of T=1: what was sent, what is expected, and the bytes on their way.
+/// The card's end of T=1: numbers, chain to send, received command.
 #[derive(Drop)]
 pub struct CardEnd {
     expected: SequenceNumber,
@@ -61,7 +62,7 @@ impl Model for CardEnd {
 }
 
 impl CardEnd {
-    /// The card's end after power-on.
+    /// Returns the card's end after power-on.
     pub fn new() -> CardEnd
         ensures { result ≡ record { link = fresh; waiting = None } }
     {
@@ -75,14 +76,14 @@ impl CardEnd {
         }
     }
 
-    /// Whether a command waits for its answer.
+    /// Returns true if a command waits for its answer.
     pub fn waiting(&self) -> bool
         ensures { IsTrue result ↔ IsSome self.now.waiting }
     {
         self.waits
     }
 
-    /// The bytes of the command that waits.
+    /// Returns the bytes of the command that waits for its answer.
     pub fn command(&self) -> &[u8]
         requires { IsSome self.now.waiting }
         ensures { self.now.waiting ≡ Some result.now }
@@ -90,7 +91,8 @@ impl CardEnd {
         self.command.as_slice()
     }
 
-    /// Takes a block, of whatever bytes, and puts the reply to it into the buffer, whatever that held.
+    /// Takes a block of any bytes, and writes the reply.
+    /// If a whole command has arrived, the buffer is empty and the caller runs the command.
     #[tactic(auto, unfolding(crate::specs::CardTable::card_takes))]
     pub fn take(&mut self, got: &[u8], out: &mut BlockBytes) -> Action
         requires { self.old.waiting ≡ None }
@@ -98,7 +100,7 @@ impl CardEnd {
         ensures action { result ≡ action_of (link_step self.old.link got.now).reaction }
         ensures block { out.new ≡ reply_bytes (link_step self.old.link got.now).reaction }
 
-        // What these say of the command that waits.
+        // The two cases for the command that waits.
         ensures replied { result ≡ Action.Reply → self.new.waiting ≡ None }
         ensures waits { result ≡ Action.Run → IsSome self.new.waiting }
     {
@@ -108,7 +110,7 @@ impl CardEnd {
         }
     }
 
-    /// Answers the command that waits, and puts the first I-block into the buffer, whatever that held.
+    /// Takes the answer of the command, and writes its first I-block.
     pub fn answer(&mut self, answer: &AnswerBytes, out: &mut BlockBytes)
         requires { IsSome self.old.waiting }
         ensures state { self.new ≡ after (answers self.old.link answer.now.items) }
@@ -117,11 +119,11 @@ impl CardEnd {
         self.waits = false;
         self.command.clear();
         self.answer.load(answer.as_slice());
-        // It is always a reply, as `send_next` promises.
+        // The action is always `Reply`, by the contract of `send_next`.
         let _ = self.send_next(out);
     }
 
-    /// What follows from a block.
+    /// Reacts to a valid block.
     #[tactic(auto, unfolding(crate::specs::CardTable::card_takes))]
     fn take_block(&mut self, block: Block<'_>, out: &mut BlockBytes) -> Action
         requires idle { self.old.waiting ≡ None }
@@ -147,7 +149,7 @@ impl CardEnd {
         }
     }
 
-    /// An I-block came.
+    /// Reacts to an I-block.
     fn take_information(&mut self, piece: Piece<'_>, out: &mut BlockBytes) -> Action
         requires { self.old.waiting ≡ None }
         ensures { Takes (takes_information self.old.link piece.entry.number piece.entry.more piece.entry.field.now)
@@ -166,14 +168,15 @@ impl CardEnd {
         Action::Run
     }
 
-    /// Whether an I-block with this number is the next one of a command: no answer is on its way.
+    /// Returns true if an I-block with this number continues a command.
+    /// It is false while a part of an answer remains to be sent.
     fn expects(&self, number: SequenceNumber) -> bool
         ensures { result ≡ (not (sent_more self.now.link) && same number self.now.link.nr) }
     {
         !self.answer.has_more() && number == self.expected
     }
 
-    /// An R-block came.
+    /// Reacts to an R-block.
     fn take_receive_ready(&mut self, number: SequenceNumber, out: &mut BlockBytes) -> Action
         requires { self.old.waiting ≡ None }
         ensures { Takes (takes_receive_ready self.old.link number) self.new result out.new }
@@ -187,7 +190,7 @@ impl CardEnd {
         }
     }
 
-    /// An R-block with the number that is expected.
+    /// Replies with an R-block that has the expected number.
     fn receive_ready(&self, error: ErrorKind, out: &mut BlockBytes) -> Action
         ensures { Replies (receive_ready self.now.link.nr error) result out.new }
     {
@@ -199,7 +202,7 @@ impl CardEnd {
         Action::Reply
     }
 
-    /// The last I-block sent, once more.
+    /// Replies with the last I-block again.
     fn send_again(&self, out: &mut BlockBytes) -> Action
         requires { IsSome self.now.link.sent }
         ensures { Replies (sent_block self.now.link) result out.new }
@@ -208,7 +211,7 @@ impl CardEnd {
         Action::Reply
     }
 
-    /// The next I-block of the answer.
+    /// Replies with the next I-block of the answer.
     fn send_next(&mut self, out: &mut BlockBytes) -> Action
         requires { self.old.waiting ≡ None }
         ensures { Takes (sending self.old.link self.old.link.rest) self.new result out.new }
@@ -219,7 +222,7 @@ impl CardEnd {
     }
 }
 
-/// Joins the bytes of a block to those of a command; what is past the limit is dropped.
+/// Appends a field to the command, and drops the bytes past 262.
 fn keep(command: &mut ArrayVec<u8, KEPT_COMMAND>, field: &[u8])
     ensures { command.new.items ≡ take 262 (command.old.items ++ field.now) }
 {

@@ -1,4 +1,4 @@
-//! Bytes that are sent in pieces, each in an I-block.
+//! Bytes sent in a chain of I-blocks.
 
 ghost use Rattle.std.specs.Prelude.{◌≡◌, ◌≤◌, ◌==◌, length, not};
 ghost use Rattle.t1_link.specs.CutParts.{cut, last_piece, loaded, no_pieces};
@@ -10,11 +10,11 @@ use crate::sequence_number::SequenceNumber;
 use arrayvec::ArrayVec;
 use std::marker::Model;
 
-/// The most bytes of a command: header, Lc, 255 bytes of data and Le.
-/// No more are sent in pieces, as an answer has fewer.
+/// The most bytes of a command: header, Lc, 255 bytes, Le.
+/// It also bounds what an end sends, as an answer has fewer bytes.
 pub const LONGEST_COMMAND: usize = 261;
 
-/// Bytes that are sent in pieces: the number of the next I-block, the last piece, and what is left.
+/// Bytes to send in I-blocks: next number, last piece, and rest.
 #[derive(Drop)]
 pub(crate) struct Outgoing {
     number: SequenceNumber,
@@ -39,7 +39,7 @@ impl Model for Outgoing {
 }
 
 impl Outgoing {
-    /// No bytes, after power-on.
+    /// Returns an empty buffer, as after power-on.
     pub(crate) fn new() -> Outgoing
         ensures { result ≡ no_pieces }
     {
@@ -51,7 +51,7 @@ impl Outgoing {
         }
     }
 
-    /// Other bytes, of which nothing is sent yet. The numbers go on.
+    /// Loads new bytes to send. The sequence number continues.
     pub(crate) fn load(&mut self, bytes: &[u8])
         requires { length bytes.now ≤ LONGEST_COMMAND }
         ensures { self.new ≡ loaded self.old bytes.now }
@@ -62,7 +62,7 @@ impl Outgoing {
         self.bytes.try_extend_from_slice(bytes).unwrap();
     }
 
-    /// Takes the next piece, for an I-block with the next number.
+    /// Takes the next piece, at most `size` bytes, for an I-block.
     pub(crate) fn cut(&mut self, size: usize)
         ensures after { self.new ≡ cut self.old size }
         ensures bound { length self.new.field ≤ size }
@@ -72,7 +72,7 @@ impl Outgoing {
         self.number = self.number.other();
     }
 
-    /// The I-block of the last piece.
+    /// Returns the I-block with the last piece.
     pub(crate) fn last_block(&self) -> Block<'_>
         ensures { block_of result ≡ last_piece self.now }
     {
@@ -83,14 +83,14 @@ impl Outgoing {
         })
     }
 
-    /// Whether the I-block of the last piece has this number: it is not that of the next one.
+    /// Returns true if the I-block of the last piece has this number.
     pub(crate) fn is_last(&self, number: SequenceNumber) -> bool
         ensures { result ≡ same number (other_number self.now.number) }
     {
         number != self.number
     }
 
-    /// Whether bytes are left.
+    /// Returns true if bytes remain to be sent.
     pub(crate) fn has_more(&self) -> bool
         ensures { result ≡ not (length self.now.rest == 0) }
     {

@@ -18,21 +18,21 @@ use crate::sequence_number::SequenceNumber;
 use arrayvec::ArrayVec;
 use std::marker::Model;
 
-/// How often a block is asked for or sent again before RESYNCH is requested.
+/// The number of tries before a RESYNCH request.
 const TRIES: u8 = 3;
 
-/// How often RESYNCH is requested before the link is given up.
+/// The number of RESYNCH requests before the link is given up.
 const RESYNCHS: u8 = 3;
 
 /// The fewest bytes of an answer: a status word.
 const SHORTEST_ANSWER: usize = 2;
 
-/// Whether the reader's end has a command in hand.
+/// The state of the reader's end: idle, busy or dead.
 #[derive(Clone, Copy)]
 pub enum Phase {
-    /// No command is in hand.
+    /// No command is in progress.
     Idle,
-    /// A command is in hand, and a block is on its way.
+    /// A command is in progress, and a block is under way.
     Busy,
     /// The link is given up until the next power-on.
     Dead,
@@ -41,26 +41,27 @@ pub enum Phase {
 /// Why a command failed.
 #[derive(Clone, Copy)]
 pub enum Failure {
-    /// The card doesn't answer any more.
+    /// The card no longer answers.
     LinkLost,
     /// The card's answer is longer than 258 or shorter than 2 bytes.
     BadAnswer,
 }
 
-/// What is to be done next. A block or an answer goes with it, in the buffer of blocks or in the reader's end.
+/// What the caller does next.
+/// A block goes with `Send`, in the buffer, and an answer with `Done`, in the reader's end.
 #[derive(Clone, Copy)]
 pub enum Next {
-    /// The block in the buffer is to be sent.
+    /// Send the block in the buffer.
     Send,
-    /// The command was run, and its answer has come: `ReaderEnd::answer` lends it.
+    /// The command ran, and `ReaderEnd::answer` returns its answer.
     Done,
-    /// The link was set back, and it isn't known whether the command was run.
+    /// The link was resynchronised; it is unknown whether the command ran.
     Unknown,
-    /// There will be no answer.
+    /// No answer will come.
     Failed(Failure),
 }
 
-/// The reader's end of T=1: what was sent, what is expected, and the bytes on their way.
+/// The reader's end of T=1: numbers, chain to send, received answer.
 #[derive(Drop)]
 pub struct ReaderEnd {
     expected: SequenceNumber,
@@ -84,7 +85,7 @@ impl Model for ReaderEnd {
 }
 
 impl ReaderEnd {
-    /// The reader's end after power-on.
+    /// Returns the reader's end after power-on.
     pub fn new() -> ReaderEnd
         ensures { result ≡ fresh_reader }
     {
@@ -98,7 +99,8 @@ impl ReaderEnd {
         }
     }
 
-    /// Whether a command is in hand: after a `Send`, until `Done`, `Unknown` or `Failed`.
+    /// Returns true while a command is in progress.
+    /// That is after `Send`, until `Done`, `Unknown` or `Failed`.
     pub fn busy(&self) -> bool
         ensures { IsTrue result ↔ (self.now.phase ≡ Phase.Busy) }
     {
@@ -108,15 +110,15 @@ impl ReaderEnd {
         }
     }
 
-    /// Begins anew, as after power-on.
+    /// Resets to the state after power-on.
     pub fn reset(&mut self)
         ensures { self.new ≡ fresh_reader }
     {
         *self = ReaderEnd::new();
     }
 
-    /// The bytes of the answer that have come: after `Done` the answer,
-    /// until a command is sent or the reader's end is reset.
+    /// Returns the bytes of the answer received so far.
+    /// After `Done` it is the whole answer, until the next command or `reset`.
     pub fn answer(&self) -> &[u8]
         ensures bytes { result.now ≡ self.now.answer }
         ensures fits { length result.now ≤ LONGEST_ANSWER }
@@ -124,7 +126,7 @@ impl ReaderEnd {
         self.answer.as_slice()
     }
 
-    /// Sends a command of 1 to 261 bytes. Its first block goes to the buffer.
+    /// Sends a command of 1 to 261 bytes: writes its first block.
     pub fn send(&mut self, command: &[u8], out: &mut BlockBytes) -> Next
         requires idle { self.old.phase ≢ Phase.Busy }
         requires some { 1 ≤ length command.now }
@@ -133,7 +135,7 @@ impl ReaderEnd {
         ensures next { result ≡ next_of (reader_sends self.old command.now).outcome }
         ensures out { out.new ≡ left_in (reader_sends self.old command.now).outcome out.old }
 
-        // The command is in hand exactly where a block is to be sent.
+        // A command is in progress if and only if a block is to be sent.
         ensures busy { IsSend result ↔ (self.new.phase ≡ Phase.Busy) }
     {
         if let Phase::Dead = self.phase {
@@ -145,8 +147,8 @@ impl ReaderEnd {
         self.advance(out)
     }
 
-    /// Takes a block, of whatever bytes. A block to be sent goes to the buffer;
-    /// with nothing to be sent that stays as it is.
+    /// Takes a block of any bytes, and writes the block to send.
+    /// If no block is to be sent, the buffer stays unchanged.
     #[tactic(auto, unfolding(crate::specs::ReaderTable::turns_block))]
     pub fn got(&mut self, got: &[u8], out: &mut BlockBytes) -> Next
         requires { self.old.phase ≡ Phase.Busy }
@@ -154,10 +156,10 @@ impl ReaderEnd {
         ensures next { result ≡ next_of (reader_step self.old got.now).outcome }
         ensures out { out.new ≡ left_in (reader_step self.old got.now).outcome out.old }
 
-        // After `Done` the answer that was told stands in the reader's end.
+        // After `Done` the reader's end stores the answer.
         ensures answer { HasAnswer (reader_step self.old got.now).outcome self.new }
 
-        // The command stays in hand exactly where a block is to be sent.
+        // The command stays in progress if and only if a block is to be sent.
         ensures busy { IsSend result ↔ (self.new.phase ≡ Phase.Busy) }
     {
         let heard = Block::parse(got);
@@ -170,14 +172,15 @@ impl ReaderEnd {
         }
     }
 
-    /// No block came in time. A block to be sent goes to the buffer; with nothing to be sent that stays as it is.
+    /// Reacts to a timeout, and writes the block to send.
+    /// If no block is to be sent, the buffer stays unchanged.
     pub fn timed_out(&mut self, out: &mut BlockBytes) -> Next
         requires { self.old.phase ≡ Phase.Busy }
         ensures state { self.new ≡ (reader_times_out self.old).reader }
         ensures next { result ≡ next_of (reader_times_out self.old).outcome }
         ensures out { out.new ≡ left_in (reader_times_out self.old).outcome out.old }
 
-        // The command stays in hand exactly where a block is to be sent.
+        // The command stays in progress if and only if a block is to be sent.
         ensures busy { IsSend result ↔ (self.new.phase ≡ Phase.Busy) }
     {
         if self.resynchs > 0 {
@@ -186,7 +189,7 @@ impl ReaderEnd {
         self.ask(ErrorKind::OtherError, out)
     }
 
-    /// What follows from a block while the answer is awaited.
+    /// Reacts to a valid block while the answer is awaited.
     #[tactic(auto, unfolding(crate::specs::ReaderTable::turns_block))]
     fn take_block(&mut self, block: Block<'_>, out: &mut BlockBytes) -> Next
         requires { self.old.resynchs ≡ 0 }
@@ -199,7 +202,7 @@ impl ReaderEnd {
         }
     }
 
-    /// What follows from what was heard after a request for RESYNCH.
+    /// Reacts to a received block after a request for RESYNCH.
     #[tactic(auto, unfolding(crate::specs::ReaderTable::turns_resynch))]
     fn take_resynch(&mut self, heard: Result<Block<'_>, Fault>, out: &mut BlockBytes) -> Next
         ensures { Turns (turns_resynch self.old (spoken heard.entry)) self.new result out.old out.new }
@@ -211,7 +214,7 @@ impl ReaderEnd {
         self.request_again(out)
     }
 
-    /// An R-block came.
+    /// Reacts to an R-block.
     fn take_receive_ready(&mut self, number: SequenceNumber, out: &mut BlockBytes) -> Next
         requires { self.old.resynchs ≡ 0 }
         ensures { Turns (turns_receive_ready self.old number) self.new result out.old out.new }
@@ -225,7 +228,7 @@ impl ReaderEnd {
         }
     }
 
-    /// An I-block came.
+    /// Reacts to an I-block.
     fn take_information(&mut self, piece: Piece<'_>, out: &mut BlockBytes) -> Next
         requires { self.old.resynchs ≡ 0 }
         ensures { Turns (turns_information self.old piece.entry.number piece.entry.more piece.entry.field.now)
@@ -237,7 +240,7 @@ impl ReaderEnd {
         self.take_answer(piece.more, piece.field, out)
     }
 
-    /// The bytes of an I-block join the answer.
+    /// Appends the bytes of an I-block to the answer.
     fn take_answer(&mut self, more: bool, field: &[u8], out: &mut BlockBytes) -> Next
         ensures { Turns (turns_answer self.old more (self.old.answer ++ field.now)) self.new result out.old out.new }
     {
@@ -261,7 +264,7 @@ impl ReaderEnd {
         Next::Done
     }
 
-    /// The next I-block of the command.
+    /// Sends the next I-block of the command.
     fn advance(&mut self, out: &mut BlockBytes) -> Next
         ensures { Turns (advancing self.old self.old.rest) self.new result out.old out.new }
     {
@@ -270,14 +273,14 @@ impl ReaderEnd {
         self.last_block(out)
     }
 
-    /// The last I-block.
+    /// Writes the last I-block into the buffer.
     fn last_block(&self, out: &mut BlockBytes) -> Next
         ensures { Says (sends (last_block self.now)) result out.old out.new }
     {
         sent(self.command.last_block(), out)
     }
 
-    /// A try: the last I-block again.
+    /// Sends the last I-block again, which counts as a try.
     fn send_again(&mut self, out: &mut BlockBytes) -> Next
         requires { self.old.resynchs ≡ 0 }
         ensures { Turns (trying self.old (last_block self.old)) self.new result out.old out.new }
@@ -289,7 +292,7 @@ impl ReaderEnd {
         }
     }
 
-    /// A try: an R-block with the number that is expected.
+    /// Sends an R-block with the expected number, which counts as a try.
     fn ask(&mut self, error: ErrorKind, out: &mut BlockBytes) -> Next
         requires { self.old.resynchs ≡ 0 }
         ensures { Turns (asking self.old error) self.new result out.old out.new }
@@ -307,7 +310,7 @@ impl ReaderEnd {
         }
     }
 
-    /// Counts a try, if one is left.
+    /// Counts a try, and returns false if none is left.
     fn counts_try(&mut self) -> bool
         ensures left { result ≡ nat_lt self.old.tries 3 }
         ensures state { self.new ≡ (if result then record self.old { tries = self.old.tries + 1 } else self.old) }
@@ -320,7 +323,7 @@ impl ReaderEnd {
         }
     }
 
-    /// A request for RESYNCH.
+    /// Sends a request for RESYNCH.
     fn request(&mut self, out: &mut BlockBytes) -> Next
         requires { self.old.resynchs < 3 }
         ensures { Turns (requesting self.old) self.new result out.old out.new }
@@ -329,7 +332,7 @@ impl ReaderEnd {
         sent(Block::ResynchRequest, out)
     }
 
-    /// A request for RESYNCH was not answered.
+    /// Requests RESYNCH again, or gives up the link after three requests.
     fn request_again(&mut self, out: &mut BlockBytes) -> Next
         ensures { Turns (requesting_again self.old) self.new result out.old out.new }
     {
@@ -340,7 +343,7 @@ impl ReaderEnd {
         }
     }
 
-    /// The link is given up.
+    /// Gives up the link.
     fn fail(&mut self, failure: Failure) -> Next
         ensures state { self.new ≡ (failing self.old failure).reader }
         ensures next { result ≡ next_of (failing self.old failure).outcome }
@@ -350,14 +353,14 @@ impl ReaderEnd {
     }
 }
 
-/// Whether an answer ends with fewer bytes than it must have.
+/// Returns true if an answer ends with fewer than 2 bytes.
 fn is_too_short(size: usize, more: bool) -> bool
     ensures { result ≡ (not more && nat_lt size 2) }
 {
     !more && size < SHORTEST_ANSWER
 }
 
-/// Puts a block that is to be sent into the buffer.
+/// Writes a block to send into the buffer.
 fn sent(block: Block<'_>, out: &mut BlockBytes) -> Next
     requires { length (field_of (block_of block)) ≤ 254 }
     ensures { Says (sends (block_of block.entry)) result out.old out.new }

@@ -3,7 +3,7 @@
 ghost use Rattle.std.specs.Prelude.{◌≡◌, ◌≤◌};
 ghost use Rattle.t1_link.specs.SequenceNumbers.{at_bit, other_number};
 
-/// The number of an I-block, N(S), or of the I-block that is expected, N(R): both are counted modulo 2.
+/// The number N(S) or N(R) of an I-block, modulo 2.
 #[derive(Clone, Copy, PartialEq, Eq)]
 pub(crate) enum SequenceNumber {
     Zero,
@@ -11,7 +11,7 @@ pub(crate) enum SequenceNumber {
 }
 
 impl SequenceNumber {
-    /// The other number, which is the one after and the one before.
+    /// Returns the other number, both the next and the previous one.
     pub(crate) fn other(self) -> SequenceNumber
         ensures { result ≡ other_number self }
     {
@@ -21,7 +21,7 @@ impl SequenceNumber {
         }
     }
 
-    /// What it adds to a control byte in which this is its bit.
+    /// Returns the value of the number at `bit` of a control byte.
     pub(crate) fn at_bit(self, bit: u8) -> u8
         ensures value { result ≡ at_bit bit self }
         ensures low { result ≤ bit }
