@@ -1,7 +1,7 @@
--- A body as the definitions speak of it.
+-- The body of a command as the definitions describe it (ISO/IEC 7816-4, 5.2).
 use Rattle.card_model.specs.CommandTable.{Body}
 use Rattle.apdu_core.specs.declared.form.CommandBody.{CommandBody}
 
--- a body without its place in memory
+-- a body, with its data field as a value instead of a borrowed slice
 abbrev pub body_view : CommandBody → Body
 body_view b = record { sent = b.sent.now; expected = b.expected }

@@ -1,4 +1,4 @@
--- What a parsed command asks for, and the ranges of its parts (ISO/IEC 7816-4, clause 11).
+-- Parsed commands as requests, and the ranges of their parts (ISO/IEC 7816-4, clause 11).
 use Rattle.std.specs.Prelude.{ℕ, List, ◌≡◌, option_map, Result, Ok, Err, ◌≤◌, length}
 use Rattle.apdu_core.specs.declared.path.FilePath.{FilePath}
 use Rattle.apdu_core.specs.declared.select.Selector.{Selector}
@@ -22,7 +22,7 @@ use Rattle.apdu_core.specs.declared.select.Selector.TheVariants as named
 abbrev pub identifiers_in : FilePath → List ℕ
 identifiers_in path = identifiers path.bytes.now
 
--- what a parsed selector names
+-- the file that a parsed selector names
 abbrev pub selection_of : Selector → Selection
 selection_of named.MasterFile = master_file
 selection_of (named.Identifier number) = identifier number
@@ -31,9 +31,9 @@ selection_of (named.Name bytes) = name bytes.now
 selection_of (named.PathFromMaster path) = path_from_master (identifiers_in path)
 selection_of (named.PathFromCurrent path) = path_from_current (identifiers_in path)
 
--- What a command asks for (ISO/IEC 7816-4, clause 11).
+-- Requests (ISO/IEC 7816-4, clause 11).
 
--- what a parsed command asks for
+-- the request of a parsed command
 abbrev pub request_of : Command → Request
 request_of (Select selector returned expected) = select (selection_of selector) returned expected
 request_of (ReadBinary place expected) = read_binary place.target place.offset expected
@@ -53,22 +53,22 @@ request_of (ResetRetryCounter pin values) =
     reset_retry_counter pin (option_map (λ values. (values.shown.now, values.new.now)) values)
 request_of (ChangeRequirement change pin shown) = change_requirement change pin shown.now
 
--- A parsed command, or a refusal, is what was asked.
+-- The result of parsing, a command or a refusal, is the expected one.
 abbrev pub Gives : Result Command Sw → Result Request Sw → Type 0
 Gives (Ok command) wanted = wanted ≡ Ok (request_of command)
 Gives (Err refusal) wanted = wanted ≡ Err refusal
 
--- What the parts of a parsed command can be.
+-- The ranges of the parts of a parsed command.
 
 -- a path is 1 to 7 identifiers
 abbrev pub IsFilePath : FilePath → Type 0
 IsFilePath path = (1 ≤ length (identifiers_in path)) × (length (identifiers_in path) ≤ 7)
 
--- what a parsed selector names is of a size that the table of commands allows
+-- a parsed selector has a name of a size that the table of commands allows
 abbrev pub IsSelector : Selector → Type 0
 IsSelector selector = IsSizedName (selection_of selector)
 
--- What the fields of a request can be: one record for each kind of request.
+-- The ranges of the fields of a request: one record for each kind of request.
 
 -- a parsed command
 abbrev pub IsInRange : Command → Type 0

@@ -1,4 +1,4 @@
--- The P1 of each way of SELECT that the code knows.
+-- The P1 of each selection method of SELECT (ISO/IEC 7816-4, 11.2.2).
 use Rattle.std.specs.Prelude.{ℕ}
 use Rattle.apdu_core.specs.declared.select.Way.{Way}
 use Rattle.apdu_core.specs.declared.select.Way.TheVariants.{ByIdentifier, ToParent, ByName}

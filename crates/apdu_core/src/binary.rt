@@ -11,7 +11,7 @@ use byteorder::{BigEndian, ByteOrder};
 use card_model::Target;
 use card_rules::Sw;
 
-/// Where a binary command begins to read or write: an elementary file, and an offset in bytes, 0 to 32,767.
+/// An elementary file, and an offset of 0 to 32,767 bytes.
 #[derive(Clone, Copy)]
 pub struct BinaryPlace {
     pub target: Target,
@@ -19,7 +19,7 @@ pub struct BinaryPlace {
 }
 
 impl BinaryPlace {
-    /// Reads P1 and P2 of a binary command, if they name a place.
+    /// Returns the place that P1 and P2 name, if they name one.
     fn of(p1: u8, p2: u8) -> Option<BinaryPlace>
         ensures named { result ≡ (if is_place p1 p2 then Some (record {
           target = named_target p1;
@@ -33,7 +33,7 @@ impl BinaryPlace {
                 target: Target::Current,
                 offset: BigEndian::read_u16(&[p1, p2]),
             }),
-            // Bit 8 stands, bits 7 and 6 don't, and bits 5 to 1 are a short identifier: 0 and 31 are none.
+            // Bit 8 set, bits 7 and 6 clear: bits 5 to 1 are a short identifier, of which 0 and 31 are invalid.
             0x81..=0x9E => Some(BinaryPlace {
                 target: Target::Short(p1 - 0x80),
                 offset: u16::from(p2),
@@ -43,8 +43,10 @@ impl BinaryPlace {
     }
 }
 
-/// Reads P1, P2 and what follows the header of READ BINARY. P1 and P2 that name no place are 6A86;
-/// data, or no Le, are 6700.
+/// Parses READ BINARY after its instruction.
+///
+/// # Errors
+/// 6A86 if P1 and P2 name no place; 6700 with data, or without Le.
 pub(crate) fn parse_read_binary(operands: Operands<'_>) -> Parsed<'_>
     ensures { Parses (Some read_binary_row) operands.entry result }
 {
@@ -53,8 +55,10 @@ pub(crate) fn parse_read_binary(operands: Operands<'_>) -> Parsed<'_>
     Ok(Command::ReadBinary { place, expected })
 }
 
-/// Reads P1, P2 and what follows the header of UPDATE BINARY. P1 and P2 that name no place are 6A86;
-/// no data, or Le, are 6700.
+/// Parses UPDATE BINARY after its instruction.
+///
+/// # Errors
+/// 6A86 if P1 and P2 name no place; 6700 without data, or with Le.
 pub(crate) fn parse_update_binary(operands: Operands<'_>) -> Parsed<'_>
     ensures { Parses (Some update_binary_row) operands.entry result }
 {

@@ -1,4 +1,4 @@
-//! Commands as values, and their parsing: class, instruction, P1 and P2, and then lengths (ISO/IEC 7816-4, clause 5).
+//! Commands as values, and their parser (ISO/IEC 7816-4, clause 5).
 ghost use Rattle.card_model.specs.CommandTable.{asked, row_of};
 ghost use Rattle.apdu_core.specs.Parsing.{IsParsed, Parses};
 
@@ -20,26 +20,28 @@ use card_model::{
 };
 use card_rules::{Direction, Sw};
 
-/// A command as a value. `expected` is its Le byte: how many bytes of data are wanted, 0 for all that there are.
+/// A command as a value.
+/// `expected` is its Le byte: the number of bytes requested, where 0 means all.
 #[derive(Clone, Copy)]
 pub enum Command<'a> {
-    /// SELECT (ISO/IEC 7816-4, 11.2.2), with a template in return or with no data.
+    /// SELECT (ISO/IEC 7816-4, 11.2.2), which returns a template or no data.
     Select {
         selector: Selector<'a>,
         returned: Returned,
         expected: Option<u8>,
     },
-    /// READ BINARY (ISO/IEC 7816-4, 11.3.3), from a place on.
+    /// READ BINARY (ISO/IEC 7816-4, 11.3.3), from this place on.
     ReadBinary {
         place: BinaryPlace,
         expected: u8,
     },
-    /// UPDATE BINARY (ISO/IEC 7816-4, 11.3.5): 1 to 255 bytes, written from a place on.
+    /// UPDATE BINARY (ISO/IEC 7816-4, 11.3.5) with 1 to 255 bytes.
     UpdateBinary {
         place: BinaryPlace,
         bytes: &'a [u8],
     },
-    /// CREATE FILE (ISO/IEC 7816-9): the new file's template of control parameters, 1 to 255 bytes.
+    /// CREATE FILE (ISO/IEC 7816-9).
+    /// The template of the new file's control parameters has 1 to 255 bytes.
     CreateFile {
         template: &'a [u8],
     },
@@ -53,7 +55,7 @@ pub enum Command<'a> {
         choice: RecordChoice,
         expected: u8,
     },
-    /// UPDATE RECORD (ISO/IEC 7816-4, 11.4.5), by 1 to 255 bytes.
+    /// UPDATE RECORD (ISO/IEC 7816-4, 11.4.5), with 1 to 255 bytes.
     UpdateRecord {
         target: Target,
         choice: RecordChoice,
@@ -64,7 +66,8 @@ pub enum Command<'a> {
         target: Target,
         bytes: &'a [u8],
     },
-    /// SEARCH RECORD (ISO/IEC 7816-4, 11.4.7), for a text of 1 to 255 bytes, from a record on.
+    /// SEARCH RECORD (ISO/IEC 7816-4, 11.4.7) from a record on.
+    /// The text has 1 to 255 bytes.
     SearchRecord {
         target: Target,
         first: RecordPlace,
@@ -72,7 +75,8 @@ pub enum Command<'a> {
         text: &'a [u8],
         expected: Option<u8>,
     },
-    /// INCREASE (ETSI TS 102 221, 11.1.8), by a number of 1 to 255 bytes, the most significant first.
+    /// INCREASE (ETSI TS 102 221, 11.1.8).
+    /// The number has 1 to 255 bytes, big-endian.
     Increase {
         amount: &'a [u8],
         expected: Option<u8>,
@@ -84,24 +88,25 @@ pub enum Command<'a> {
     },
     /// TERMINATE CARD USAGE (ISO/IEC 7816-9).
     TerminateCardUsage,
-    /// VERIFY (ISO/IEC 7816-4, 11.5.6) of a PIN, 1 to 8: by the value shown,
-    /// or with none to ask for the tries that are left.
+    /// VERIFY (ISO/IEC 7816-4, 11.5.6) of PIN 1 to 8.
+    /// Without a value it asks for the remaining tries.
     Verify {
         pin: u8,
         shown: Option<&'a [u8; 8]>,
     },
-    /// CHANGE REFERENCE DATA (ISO/IEC 7816-4, 11.5.7) of a PIN, 1 to 8.
+    /// CHANGE REFERENCE DATA (ISO/IEC 7816-4, 11.5.7) of PIN 1 to 8.
     ChangeReferenceData {
         pin: u8,
         values: Replacement<'a>,
     },
-    /// RESET RETRY COUNTER (ISO/IEC 7816-4, 11.5.10) of a PIN, 1 to 8: by its unblocking value, or with none to ask for
-    /// the unblocking tries that are left.
+    /// RESET RETRY COUNTER (ISO/IEC 7816-4, 11.5.10) of PIN 1 to 8.
+    /// Without a value it asks for the remaining unblocking tries.
     ResetRetryCounter {
         pin: u8,
         values: Option<Replacement<'a>>,
     },
-    /// DISABLE or ENABLE VERIFICATION REQUIREMENT (ISO/IEC 7816-4, 11.5.9 and 11.5.8) of a PIN, 1 to 8, by its value.
+    /// DISABLE or ENABLE VERIFICATION REQUIREMENT (ISO/IEC 7816-4, 11.5.9 and 11.5.8).
+    /// The PIN is 1 to 8, and its value is presented.
     ChangeRequirement {
         change: RequirementChange,
         pin: u8,
@@ -113,11 +118,11 @@ pub enum Command<'a> {
 pub(crate) type Parsed<'a> = Result<Command<'a>, Sw>;
 
 impl<'a> Command<'a> {
-    /// Reads the bytes of a command.
+    /// Parses the bytes of a command.
     ///
     /// # Errors
     ///
-    /// The status word of a refusal is the first in this order: too few bytes for a header 6700, class 6E00,
+    /// The status word of the first check that fails: fewer bytes than a header 6700, class 6E00,
     /// instruction 6D00, P1 and P2 6A86, and then lengths 6700.
     pub fn parse(bytes: &'a [u8]) -> Result<Command<'a>, Sw>
         ensures { IsParsed result (asked bytes.now) }
@@ -138,7 +143,7 @@ impl<'a> Command<'a> {
     }
 }
 
-/// Reads what follows the class of a command of class 00, whose instructions ISO/IEC 7816-4 and 7816-9 fix.
+/// Parses a command of class 00 after its class byte.
 fn parse_standard(instruction: u8, operands: Operands<'_>) -> Parsed<'_>
     ensures { Parses (row_of 0x00 instruction) operands.entry result }
 {
@@ -166,7 +171,7 @@ fn parse_standard(instruction: u8, operands: Operands<'_>) -> Parsed<'_>
     }
 }
 
-/// Reads what follows the class of a command of class 80.
+/// Parses a command of class 80 after its class.
 fn parse_proprietary(instruction: u8, operands: Operands<'_>) -> Parsed<'_>
     ensures { Parses (row_of 0x80 instruction) operands.entry result }
 {

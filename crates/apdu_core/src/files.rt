@@ -1,4 +1,4 @@
-//! Commands on files as such: CREATE FILE and DELETE FILE (ISO/IEC 7816-9).
+//! CREATE FILE and DELETE FILE (ISO/IEC 7816-9).
 ghost use Rattle.std.specs.Prelude.{◌≡◌, ◌==◌, ◌||◌, ◌&&◌, not, Some, is_some, length};
 ghost use Rattle.card_rules.specs.declared.status.TheConstants.Sw.{WRONG_LENGTH};
 ghost use Rattle.card_model.specs.CommandTable.{create_file_row, delete_file_row, subject_named};
@@ -10,10 +10,11 @@ use byteorder::{BigEndian, ByteOrder};
 use card_model::Subject;
 use card_rules::Sw;
 
-/// The file that the sent bytes name, where Le does not stand: none for the current one, or two for an identifier.
+/// Returns the file that the data field names.
+/// No data names the current file, and two bytes are an identifier.
 ///
 /// # Errors
-/// 6700 for every other number of bytes, or where Le stands.
+/// 6700 unless the data field has 0 or 2 bytes and Le is absent.
 pub(crate) fn subject_of(body: CommandBody<'_>) -> Result<Subject, Sw>
     ensures { Reads result (((length body.entry.sent.now == 0) || (length body.entry.sent.now == 2))
         && not (is_some body.entry.expected))
@@ -26,8 +27,10 @@ pub(crate) fn subject_of(body: CommandBody<'_>) -> Result<Subject, Sw>
     }
 }
 
-/// Reads P1, P2 and what follows the header of CREATE FILE. Other P1 and P2 than 00 00 are 6A86; no data, or Le, are
-/// 6700.
+/// Parses CREATE FILE after its instruction.
+///
+/// # Errors
+/// 6A86 unless P1 and P2 are 00 00; 6700 without data, or with Le.
 pub(crate) fn parse_create_file(operands: Operands<'_>) -> Parsed<'_>
     ensures { Parses (Some create_file_row) operands.entry result }
 {
@@ -36,8 +39,10 @@ pub(crate) fn parse_create_file(operands: Operands<'_>) -> Parsed<'_>
     Ok(Command::CreateFile { template })
 }
 
-/// Reads P1, P2 and what follows the header of DELETE FILE. Other P1 and P2 than 00 00 are 6A86, other lengths than 0
-/// and 2 are 6700, and so is Le.
+/// Parses DELETE FILE after its instruction.
+///
+/// # Errors
+/// 6A86 unless P1 and P2 are 00 00; 6700 for a length other than 0 and 2, or with Le.
 pub(crate) fn parse_delete_file(operands: Operands<'_>) -> Parsed<'_>
     ensures { Parses (Some delete_file_row) operands.entry result }
 {

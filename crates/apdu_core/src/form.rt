@@ -1,4 +1,4 @@
-//! What follows the instruction of a short command: P1 and P2, and the bytes after the header (ISO/IEC 7816-4, 5.2).
+//! The parts of a short command after its instruction: P1, P2 and body (ISO/IEC 7816-4, 5.2).
 ghost use Rattle.std.specs.Prelude.{◌≡◌, ◌≢◌, ◌≤◌, ◌∷◌, ◌&&◌, ◌==◌, [], nat_le, not, length, is_some, Some};
 ghost use Rattle.card_rules.specs.declared.status.TheConstants.Sw.{WRONG_LENGTH, WRONG_PARAMETERS};
 ghost use Rattle.card_model.specs.CommandTable.{is_no_parameter};
@@ -6,7 +6,7 @@ ghost use Rattle.apdu_core.specs.Parsing.{Reads, ReadsBody};
 
 use card_rules::Sw;
 
-/// What follows the instruction: P1, P2, and the bytes after the header.
+/// P1, P2, and the bytes after the header.
 #[derive(Clone, Copy)]
 pub(crate) struct Operands<'a> {
     pub p1: u8,
@@ -15,10 +15,10 @@ pub(crate) struct Operands<'a> {
 }
 
 impl Operands<'_> {
-    /// Looks whether P1 and P2 are 00 00, of a command that has no parameters.
+    /// Checks that P1 and P2 are 00 00.
     ///
     /// # Errors
-    /// 6A86 where they are not.
+    /// 6A86 if they aren't.
     pub fn no_parameters(self) -> Result<(), Sw>
         ensures { Reads result (is_no_parameter self.entry.p1 self.entry.p2) (λ _. Unit {0}) WRONG_PARAMETERS }
     {
@@ -29,7 +29,7 @@ impl Operands<'_> {
     }
 }
 
-/// What follows the header: the bytes that are sent, and Le.
+/// The body of a command: the data field, and Le if present.
 #[derive(Clone, Copy)]
 pub(crate) struct CommandBody<'a> {
     pub sent: &'a [u8],
@@ -37,10 +37,10 @@ pub(crate) struct CommandBody<'a> {
 }
 
 impl<'a> CommandBody<'a> {
-    /// The sent bytes, where there are some. Le may stand.
+    /// Returns the data field, with or without Le.
     ///
     /// # Errors
-    /// 6700 where none are sent.
+    /// 6700 if the data field is empty.
     pub fn text(self) -> Result<&'a [u8], Sw>
         requires { length self.sent.now ≤ 255 }
         ensures { Reads result (nat_le 1 (length self.entry.sent.now) && nat_le (length self.entry.sent.now) 255)
@@ -52,10 +52,10 @@ impl<'a> CommandBody<'a> {
         Ok(self.sent)
     }
 
-    /// The sent bytes, where there are some and Le does not stand.
+    /// Returns the data field of a command without Le.
     ///
     /// # Errors
-    /// 6700 where none are sent, or Le stands.
+    /// 6700 if the data field is empty, or Le is present.
     pub fn text_alone(self) -> Result<&'a [u8], Sw>
         requires { length self.sent.now ≤ 255 }
         ensures { Reads result (nat_le 1 (length self.entry.sent.now) && nat_le (length self.entry.sent.now) 255
@@ -67,10 +67,10 @@ impl<'a> CommandBody<'a> {
         self.text()
     }
 
-    /// Le, where it stands and no bytes are sent.
+    /// Returns Le of a command without data field.
     ///
     /// # Errors
-    /// 6700 where it doesn't stand, or bytes are sent.
+    /// 6700 if Le is absent, or the data field isn't empty.
     pub fn le_alone(self) -> Result<u8, Sw>
         ensures { Reads result ((length self.entry.sent.now == 0) && is_some self.entry.expected)
             (λ le. self.entry.expected ≡ Some le) WRONG_LENGTH }
@@ -81,10 +81,10 @@ impl<'a> CommandBody<'a> {
         }
     }
 
-    /// Reads the bytes after a header, where they have one of the four forms.
+    /// Parses the bytes after a header.
     ///
     /// # Errors
-    /// 6700 exactly where they have none.
+    /// 6700 if and only if they have none of the four forms of a short command.
     pub fn parse(bytes: &'a [u8]) -> Result<CommandBody<'a>, Sw>
         ensures { ReadsBody result bytes.now }
     {
@@ -101,7 +101,7 @@ impl<'a> CommandBody<'a> {
         }
     }
 
-    /// The forms that begin with Lc: its bytes, and Le behind them or not.
+    /// Parses a body that begins with Lc.
     fn with_data(lc: u8, rest: &'a [u8]) -> Result<CommandBody<'a>, Sw>
         requires { rest.now ≢ [] }
         ensures { ReadsBody result (lc ∷ rest.now) }

@@ -25,20 +25,20 @@ ghost use Rattle.card_model.specs.Requests.{append_record, search_record, increa
 ghost use Rattle.card_model.specs.Requests.{terminate_card_usage, verify, change_reference_data, change_requirement};
 ghost use Rattle.card_model.specs.Requests.{identifier, parent, name, path_from_master, path_from_current};
 
-/// A command of bytes asks for a request of bytes, Le and what is sent being bytes, each 0 to 255, and identifiers two
-/// bytes; or it is refused by a status word of two bytes.
+/// A command of bytes gives a request or a status word.
+/// Le and each byte of the data are 0 to 255, and identifiers are two bytes.
 pub fn requests_are_of_bytes()
     ensures { (command : List ℕ) → AreBytes command → MatchResult (asked command) IsOfBytes IsStatusWord }
 {}
 
-/// What a command names or sends is of the size that the table of commands allows: a name 1 to 16 bytes, a path 1 to 7
-/// identifiers, a template and what is written 1 to 255 bytes.
+/// The parts of a request have sizes of the table of commands.
+/// A name has 1 to 16 bytes, a path 1 to 7 identifiers, and a template or data to write 1 to 255 bytes.
 pub fn requests_are_sized()
     ensures { (command : List ℕ) → IfOk (asked command) IsSized }
 {}
 
-/// The classes that are known, and the class and the instruction of each command (ISO/IEC 7816-4, 5.4.2;
-/// ISO/IEC 7816-9).
+/// Gives the known classes, and the class and instruction of each command.
+/// The standards are ISO/IEC 7816-4, 5.4.2, and ISO/IEC 7816-9.
 pub fn headers()
     ensures classes { bytes_with is_class ≡ 0x00 ∷ 0x80 ∷ [] }
     ensures commands { map header command_table
@@ -48,8 +48,8 @@ pub fn headers()
         ∷ (0x00, 0x20) ∷ (0x00, 0x24) ∷ (0x00, 0x2C) ∷ (0x00, 0x26) ∷ (0x00, 0x28) ∷ [] }
 {}
 
-/// The numbers of SELECT (ISO/IEC 7816-4, 11.2.2): each P1 and P2, and how many bytes may be sent under each P1; Le may
-/// stand.
+/// Gives P1, P2 and the lengths of SELECT (ISO/IEC 7816-4, 11.2.2).
+/// Each P1 has its lengths of the data field, and Le is optional.
 pub fn select_numbers()
     ensures parameters { (p1 p2 : ℕ) → select_row.parameters p1 p2 ≡ (is_way p1 && is_returned p2) }
     ensures ways { bytes_with is_way ≡ 0x00 ∷ 0x03 ∷ 0x04 ∷ 0x08 ∷ 0x09 ∷ [] }
@@ -62,8 +62,9 @@ pub fn select_numbers()
         × (lengths_allowed select_row 0x09 p2 le ≡ 2 ∷ 4 ∷ 6 ∷ 8 ∷ 10 ∷ 12 ∷ 14 ∷ []) }
 {}
 
-/// The numbers of READ BINARY and UPDATE BINARY (ISO/IEC 7816-4, 11.3): P1 is 00 to 7F or 81 to 9E, P2 any; the one
-/// sends nothing and has Le, the other sends 1 to 255 bytes and has none.
+/// Gives P1, P2 and lengths of READ BINARY and UPDATE BINARY.
+/// The source is ISO/IEC 7816-4, 11.3.
+/// P1 is 00 to 7F or 81 to 9E, P2 any. READ BINARY has Le and no data; UPDATE BINARY has 1 to 255 bytes and no Le.
 pub fn binary_numbers()
     ensures parameters { (p2 : ℕ)
         → (first_parameters read_binary_row p2 ≡ range_with_len 0x00 128 ++ range_with_len 0x81 30)
@@ -74,8 +75,9 @@ pub fn binary_numbers()
         × (lengths_allowed update_binary_row p1 p2 false ≡ range_with_len 1 255) }
 {}
 
-/// The numbers of CREATE FILE and DELETE FILE (ISO/IEC 7816-9): P1 and P2 are 00 and Le doesn't stand; the one sends 1
-/// to 255 bytes, the other none or 2.
+/// Gives P1, P2 and lengths of CREATE FILE and DELETE FILE.
+/// The source is ISO/IEC 7816-9.
+/// P1 and P2 are 00, without Le. CREATE FILE has 1 to 255 bytes of data, DELETE FILE none or 2.
 pub fn file_numbers()
     ensures parameters { (p1 p2 : ℕ) → (create_file_row.parameters p1 p2 ≡ ((p1 == 0x00) && (p2 == 0x00)))
         × (delete_file_row.parameters p1 p2 ≡ ((p1 == 0x00) && (p2 == 0x00))) }
@@ -85,9 +87,9 @@ pub fn file_numbers()
         × (lengths_allowed delete_file_row p1 p2 false ≡ 0 ∷ 2 ∷ []) }
 {}
 
-/// P1 and P2 of the commands on records (ISO/IEC 7816-4, 11.4): each P2 that names a file; the modes of READ RECORD and
-/// UPDATE RECORD, 4 under any P1, and 2 and 3 under P1 00; those of SEARCH RECORD, 4 and 5; APPEND RECORD has P1 00 and
-/// mode 0.
+/// Gives P1 and P2 of the commands on records (ISO/IEC 7816-4, 11.4).
+/// READ RECORD and UPDATE RECORD have mode 4 with any P1, and modes 2 and 3 with P1 00. SEARCH RECORD has modes 4 and
+/// 5. APPEND RECORD has P1 00 and mode 0. P2 names a file if it is 00 to F7.
 pub fn record_parameters()
     ensures files { bytes_with is_record_file ≡ range_with_len 0x00 0xF8 }
     ensures modes { (p1 p2 : ℕ) → (is_choice p1 p2 ≡ (mode p2 == 4 || ((p1 == 0x00) && (mode p2 == 2 || mode p2 == 3))))
@@ -99,8 +101,9 @@ pub fn record_parameters()
         → append_record_row.parameters p1 p2 ≡ (is_record_file p2 && ((p1 == 0x00) && (mode p2 == 0))) }
 {}
 
-/// How much the commands on records send: READ RECORD nothing, with Le; UPDATE RECORD and APPEND RECORD 1 to 255 bytes,
-/// with no Le; SEARCH RECORD and INCREASE 1 to 255 bytes, and Le may stand. INCREASE has P1 and P2 00.
+/// Gives the lengths of the commands on records.
+/// READ RECORD has Le and no data. UPDATE RECORD and APPEND RECORD have 1 to 255 bytes and no Le. SEARCH RECORD and
+/// INCREASE have 1 to 255 bytes, and Le is optional. INCREASE has P1 and P2 00.
 pub fn record_lengths()
     ensures read { (p1 p2 : ℕ) → (lengths_allowed read_record_row p1 p2 true ≡ 0 ∷ [])
         × (lengths_allowed read_record_row p1 p2 false ≡ []) }
@@ -113,8 +116,10 @@ pub fn record_lengths()
         × ((le : Bool) → lengths_allowed increase_row p1 p2 le ≡ range_with_len 1 255) }
 {}
 
-/// The numbers of the commands on life cycles (ISO/IEC 7816-9): P1 and P2 are 00 and Le doesn't stand; DEACTIVATE FILE,
-/// ACTIVATE FILE, TERMINATE DF and TERMINATE EF send no byte or 2, TERMINATE CARD USAGE none.
+/// Gives P1, P2 and lengths of the commands on life cycles.
+/// The source is ISO/IEC 7816-9.
+/// P1 and P2 are 00, without Le. DEACTIVATE FILE, ACTIVATE FILE, TERMINATE DF and TERMINATE EF have no data or 2 bytes,
+/// TERMINATE CARD USAGE has none.
 pub fn life_cycle_numbers()
     ensures parameters { (change : LifeCycleChange) (p1 p2 : ℕ)
         → (life_cycle_row change).parameters p1 p2 ≡ ((p1 == 0x00) && (p2 == 0x00)) }
@@ -125,8 +130,10 @@ pub fn life_cycle_numbers()
         × (lengths_allowed terminate_card_usage_row p1 p2 false ≡ 0 ∷ []) }
 {}
 
-/// The numbers of the commands on PINs (ISO/IEC 7816-4, 11.5): P1 is 00, P2 is a PIN, 1 to 8, and Le doesn't stand;
-/// VERIFY sends no byte or 8, CHANGE REFERENCE DATA 16, RESET RETRY COUNTER none or 16.
+/// Gives P1, P2 and lengths of the commands on PINs.
+/// The source is ISO/IEC 7816-4, 11.5.
+/// P1 is 00, P2 is a PIN, 1 to 8, without Le. VERIFY has no data or 8 bytes, CHANGE REFERENCE DATA 16,
+/// RESET RETRY COUNTER none or 16.
 pub fn pin_numbers()
     ensures parameters { (p1 p2 : ℕ) → (verify_row.parameters p1 p2 ≡ is_pin p1 p2)
         × (change_reference_data_row.parameters p1 p2 ≡ is_pin p1 p2)
@@ -141,8 +148,8 @@ pub fn pin_numbers()
         × (lengths_allowed reset_retry_counter_row p1 p2 true ≡ []) }
 {}
 
-/// The numbers of DISABLE and ENABLE VERIFICATION REQUIREMENT (ISO/IEC 7816-4, 11.5): P1 is 00, P2 is a PIN, 1 to 8, 8
-/// bytes are sent, and Le doesn't stand.
+/// Gives P1, P2 and the lengths of DISABLE and ENABLE VERIFICATION REQUIREMENT.
+/// P1 is 00, P2 is a PIN, 1 to 8, with 8 bytes of data and without Le (ISO/IEC 7816-4, 11.5).
 pub fn requirement_numbers()
     ensures parameters { (change : RequirementChange) (p1 p2 : ℕ)
         → (requirement_row change).parameters p1 p2 ≡ is_pin p1 p2 }
@@ -151,7 +158,7 @@ pub fn requirement_numbers()
         × (lengths_allowed (requirement_row change) p1 p2 false ≡ 8 ∷ []) }
 {}
 
-/// What commands on records ask for, from their bytes.
+/// Gives the requests of commands on records, from their bytes.
 pub fn records_in_bytes()
     ensures read { (le : ℕ) → asked (0x00 ∷ 0xB2 ∷ 0x05 ∷ 0xF4 ∷ le ∷ [])
         ≡ Ok (read_record (short_file 30) (At (Number 5)) le) }
@@ -165,7 +172,7 @@ pub fn records_in_bytes()
         ≡ Ok (increase (a ∷ []) (Some le)) }
 {}
 
-/// What commands on life cycles and PINs ask for, from their bytes.
+/// Gives the requests of commands on life cycles and PINs.
 pub fn states_in_bytes()
     ensures terminate_ef { (high low : ℕ) → asked (0x00 ∷ 0xE8 ∷ 0x00 ∷ 0x00 ∷ 0x02 ∷ high ∷ low ∷ [])
         ≡ Ok (change_life_cycle TerminateEf (by_identifier (256 * high + low))) }
@@ -176,7 +183,7 @@ pub fn states_in_bytes()
         ≡ Ok (change_reference_data 1 (a ∷ b ∷ c ∷ d ∷ e ∷ f ∷ g ∷ h ∷ []) (n ∷ o ∷ p ∷ q ∷ r ∷ s ∷ t ∷ u ∷ [])) }
 {}
 
-/// What DISABLE and ENABLE VERIFICATION REQUIREMENT ask for, from their bytes.
+/// Gives the requests of DISABLE and ENABLE VERIFICATION REQUIREMENT, from their bytes.
 pub fn requirements_in_bytes()
     ensures disable { (a b c d e f g h : ℕ)
         → asked (0x00 ∷ 0x26 ∷ 0x00 ∷ 0x01 ∷ 0x08 ∷ a ∷ b ∷ c ∷ d ∷ e ∷ f ∷ g ∷ h ∷ [])
@@ -186,7 +193,7 @@ pub fn requirements_in_bytes()
         ≡ Ok (change_requirement Enable 8 (a ∷ b ∷ c ∷ d ∷ e ∷ f ∷ g ∷ h ∷ [])) }
 {}
 
-/// What SELECT asks for, from its bytes: by an identifier, a path, a name, and the parent.
+/// Gives the requests of SELECT by identifier, path, name, and parent.
 pub fn select_in_bytes()
     ensures identifier { (high low : ℕ) → asked (0x00 ∷ 0xA4 ∷ 0x00 ∷ 0x0C ∷ 0x02 ∷ high ∷ low ∷ [])
         ≡ Ok (select (identifier (256 * high + low)) Nothing None) }
@@ -201,7 +208,7 @@ pub fn select_in_bytes()
     ensures parent { asked (0x00 ∷ 0xA4 ∷ 0x03 ∷ 0x04 ∷ 0x00 ∷ []) ≡ Ok (select parent Template (Some 0)) }
 {}
 
-/// What the other commands ask for, from their bytes.
+/// Gives the requests of the other commands, from their bytes.
 pub fn commands_in_bytes()
     ensures read { (offset le : ℕ) → asked (0x00 ∷ 0xB0 ∷ 0x9E ∷ offset ∷ le ∷ [])
         ≡ Ok (read_binary (short_file 30) offset le) }

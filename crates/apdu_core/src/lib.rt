@@ -1,4 +1,4 @@
-//! The bytes of a short command (ISO/IEC 7816-4, clause 5) as a value, or the status word that refuses them.
+//! Parses the bytes of a short command into a value (ISO/IEC 7816-4, clause 5).
 #![tactic(auto)]
 
 mod binary;
@@ -24,8 +24,8 @@ pub use path::FilePath;
 pub use pins::Replacement;
 pub use select::Selector;
 
-/// The most bytes of an answer: its data, and a status word.
+/// The most bytes of an answer: its data and a status word.
 pub const MOST_ANSWER_BYTES: usize = MOST_ANSWER_DATA + 2;
 
-/// The data and the status word of an answer: 2 to 258 bytes.
+/// An answer: its data and its status word, 2 to 258 bytes.
 pub type Answer = ArrayVec<u8, MOST_ANSWER_BYTES>;

@@ -9,8 +9,10 @@ use crate::form::{CommandBody, Operands};
 use card_model::LifeCycleChange;
 use card_rules::Sw;
 
-/// Reads P1, P2 and what follows the header of a command that changes a life cycle. Other P1 and P2 than 00 00 are
-/// 6A86, other lengths than 0 and 2 are 6700, and so is Le.
+/// Parses a command that changes a life cycle, after its instruction.
+///
+/// # Errors
+/// 6A86 unless P1 and P2 are 00 00; 6700 for a length other than 0 and 2, or with Le.
 pub(crate) fn parse_life_cycle_change(change: LifeCycleChange, operands: Operands<'_>) -> Parsed<'_>
     ensures { Parses (Some (life_cycle_row change)) operands.entry result }
 {
@@ -19,8 +21,10 @@ pub(crate) fn parse_life_cycle_change(change: LifeCycleChange, operands: Operand
     Ok(Command::ChangeLifeCycle { change, subject })
 }
 
-/// Reads P1, P2 and what follows the header of TERMINATE CARD USAGE. Other P1 and P2 than 00 00 are 6A86;
-/// data, or Le, are 6700.
+/// Parses TERMINATE CARD USAGE after its instruction.
+///
+/// # Errors
+/// 6A86 unless P1 and P2 are 00 00; 6700 with data, or with Le.
 pub(crate) fn parse_terminate_card_usage(operands: Operands<'_>) -> Parsed<'_>
     ensures { Parses (Some terminate_card_usage_row) operands.entry result }
 {

@@ -1,22 +1,22 @@
-//! Paths as SELECT sends them: identifiers one behind the other (ISO/IEC 7816-4, 7.2.2).
+//! Paths in the data field of SELECT (ISO/IEC 7816-4, 7.2.2).
 ghost use Rattle.std.specs.Prelude.{◌≡◌, ◌<◌, Some, None, length, slice_index, if◌then◌else◌, option_map, IfSome};
 ghost use Rattle.apdu_core.specs.ParsedCommands.{IsFilePath, identifiers_in};
 ghost use Rattle.card_model.specs.Requests.{identifiers, is_path};
 
 use byteorder::{BigEndian, ByteOrder};
 
-/// The most bytes of a path: 7 identifiers of two bytes each, since no file stands below level 8 and the master file
-/// stands at level 1.
+/// The most bytes of a path: 7 identifiers of two bytes.
+/// The master file is at level 1, and no file is below level 8.
 const LONGEST_PATH: usize = 14;
 
-/// A path of 1 to 7 identifiers, each two bytes, the more significant first.
+/// A path of 1 to 7 identifiers, each two bytes, big-endian.
 #[derive(Clone, Copy)]
 pub struct FilePath<'a> {
     bytes: &'a [u8],
 }
 
 impl<'a> FilePath<'a> {
-    /// The path that these bytes are, if they are 1 to 7 identifiers.
+    /// Returns the path of these bytes: 1 to 7 identifiers.
     #[tactic(auto, using(card_model::specs::laws::Identifiers::identifiers_counted))]
     pub fn new(bytes: &'a [u8]) -> Option<FilePath<'a>>
         ensures identifiers { option_map identifiers_in result
@@ -30,7 +30,7 @@ impl<'a> FilePath<'a> {
         }
     }
 
-    /// How many identifiers it has.
+    /// Returns the number of identifiers.
     #[tactic(auto, using(card_model::specs::laws::Identifiers::identifiers_counted))]
     pub fn count(self) -> usize
         ensures { result ≡ length (identifiers_in self.entry) }
@@ -38,7 +38,7 @@ impl<'a> FilePath<'a> {
         self.bytes.len() / 2
     }
 
-    /// The identifier at an index, from 0 on.
+    /// Returns the identifier at an index, from 0.
     #[tactic(auto, using(card_model::specs::laws::Identifiers::identifier_at))]
     pub fn identifier(self, index: usize) -> u16
         requires { index < length (identifiers_in self) }

@@ -10,7 +10,7 @@ use crate::form::{CommandBody, Operands};
 use card_model::RequirementChange;
 use card_rules::{PINS, Sw};
 
-/// A value that is shown, and the new value of the PIN.
+/// The presented value, and the new value of the PIN.
 #[derive(Clone, Copy)]
 pub struct Replacement<'a> {
     pub shown: &'a [u8; 8],
@@ -18,7 +18,7 @@ pub struct Replacement<'a> {
 }
 
 impl<'a> Replacement<'a> {
-    /// The two values in these bytes, if they are 16.
+    /// Returns the two values of these bytes, if they are 16.
     fn of(sent: &'a [u8]) -> Option<Replacement<'a>>
         ensures { Names result (length sent.now == 16) (λ values.
             (values.shown.now ≡ take 8 sent.now) × (values.new.now ≡ drop 8 sent.now)) }
@@ -29,10 +29,10 @@ impl<'a> Replacement<'a> {
     }
 }
 
-/// The PIN that P1 and P2 name: 00, and 01 to 08.
+/// Returns the PIN, 1 to 8, that P1 and P2 name.
 ///
 /// # Errors
-/// 6A86 where they name none.
+/// 6A86 if they name none: P1 isn't 00, or P2 isn't 01 to 08.
 fn pin_named(p1: u8, p2: u8) -> Result<u8, Sw>
     ensures { Reads result (is_pin p1 p2) (λ pin. pin ≡ p2) WRONG_PARAMETERS }
 {
@@ -43,8 +43,10 @@ fn pin_named(p1: u8, p2: u8) -> Result<u8, Sw>
     }
 }
 
-/// Reads P1, P2 and what follows the header of VERIFY (ISO/IEC 7816-4, 11.5.6). P1 and P2 that name no PIN are 6A86,
-/// other lengths than 0 and 8 are 6700, and so is Le.
+/// Parses VERIFY (ISO/IEC 7816-4, 11.5.6) after its instruction.
+///
+/// # Errors
+/// 6A86 if P1 and P2 name no PIN; 6700 for a length other than 0 and 8, or with Le.
 pub(crate) fn parse_verify(operands: Operands<'_>) -> Parsed<'_>
     ensures { Parses (Some verify_row) operands.entry result }
 {
@@ -57,8 +59,10 @@ pub(crate) fn parse_verify(operands: Operands<'_>) -> Parsed<'_>
     Ok(Command::Verify { pin, shown })
 }
 
-/// Reads P1, P2 and what follows the header of CHANGE REFERENCE DATA (ISO/IEC 7816-4, 11.5.7). P1 and P2 that name no
-/// PIN are 6A86, another length than 16 is 6700, and so is Le.
+/// Parses CHANGE REFERENCE DATA (ISO/IEC 7816-4, 11.5.7) after its instruction.
+///
+/// # Errors
+/// 6A86 if P1 and P2 name no PIN; 6700 for a length other than 16, or with Le.
 pub(crate) fn parse_change_reference_data(operands: Operands<'_>) -> Parsed<'_>
     ensures { Parses (Some change_reference_data_row) operands.entry result }
 {
@@ -70,8 +74,10 @@ pub(crate) fn parse_change_reference_data(operands: Operands<'_>) -> Parsed<'_>
     }
 }
 
-/// Reads P1, P2 and what follows the header of RESET RETRY COUNTER (ISO/IEC 7816-4, 11.5.10). P1 and P2 that name no
-/// PIN are 6A86, other lengths than 0 and 16 are 6700, and so is Le.
+/// Parses RESET RETRY COUNTER (ISO/IEC 7816-4, 11.5.10) after its instruction.
+///
+/// # Errors
+/// 6A86 if P1 and P2 name no PIN; 6700 for a length other than 0 and 16, or with Le.
 pub(crate) fn parse_reset_retry_counter(operands: Operands<'_>) -> Parsed<'_>
     ensures { Parses (Some reset_retry_counter_row) operands.entry result }
 {
@@ -84,8 +90,10 @@ pub(crate) fn parse_reset_retry_counter(operands: Operands<'_>) -> Parsed<'_>
     Ok(Command::ResetRetryCounter { pin, values })
 }
 
-/// Reads P1, P2 and what follows the header of DISABLE VERIFICATION REQUIREMENT and ENABLE VERIFICATION REQUIREMENT
-/// (ISO/IEC 7816-4, 11.5). P1 and P2 that name no PIN are 6A86, another length than 8 is 6700, and so is Le.
+/// Parses DISABLE or ENABLE VERIFICATION REQUIREMENT (ISO/IEC 7816-4, 11.5) after its instruction.
+///
+/// # Errors
+/// 6A86 if P1 and P2 name no PIN; 6700 for a length other than 8, or with Le.
 pub(crate) fn parse_requirement_change(
     change: RequirementChange,
     operands: Operands<'_>,

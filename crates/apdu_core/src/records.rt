@@ -11,14 +11,14 @@ use crate::form::{CommandBody, Operands};
 use card_model::{RecordChoice, RecordPlace, Target};
 use card_rules::{Direction, Sw};
 
-/// A record of an elementary file.
+/// A record of an elementary file, as P1 and P2 name it.
 #[derive(Clone, Copy)]
 struct RecordName {
     target: Target,
     choice: RecordChoice,
 }
 
-/// The file of a command on records, by the upper five bits of its P2: 31 is none.
+/// Returns the file in bits 8 to 4 of P2.
 fn file_of(p2: u8) -> Option<Target>
     ensures file { Names result (is_record_file p2) (λ target. target ≡ record_file p2) }
     ensures ranges { IfSome result IsTarget }
@@ -30,7 +30,7 @@ fn file_of(p2: u8) -> Option<Target>
     }
 }
 
-/// The place that P1 is.
+/// Returns the record place of P1.
 fn place_of(p1: u8) -> RecordPlace
     ensures named { result ≡ record_place p1 }
     ensures ranges { IsRecordPlace result }
@@ -41,7 +41,7 @@ fn place_of(p1: u8) -> RecordPlace
     }
 }
 
-/// The record that P1 and the mode in P2 name, if they name one.
+/// Returns the record of P1 and the mode in P2, if valid.
 fn choice_of(p1: u8, p2: u8) -> Option<RecordChoice>
     ensures choice { Names result (is_choice p1 p2) (λ choice. choice ≡ record_choice p1 p2) }
     ensures ranges { IfSome result IsRecordChoice }
@@ -54,7 +54,7 @@ fn choice_of(p1: u8, p2: u8) -> Option<RecordChoice>
     }
 }
 
-/// The direction that the mode in P2 names, if it names one.
+/// Returns the search direction of the mode in P2, if valid.
 fn direction_of(p2: u8) -> Option<Direction>
     ensures { Names result (is_direction p2) (λ way. way ≡ direction p2) }
 {
@@ -66,7 +66,7 @@ fn direction_of(p2: u8) -> Option<Direction>
 }
 
 impl RecordName {
-    /// Reads P1 and P2 of READ RECORD and UPDATE RECORD, if they name a record.
+    /// Returns the record in P1 and P2 of READ or UPDATE RECORD.
     fn of(p1: u8, p2: u8) -> Option<RecordName>
         ensures record_name { Names result (is_record_file p2 && is_choice p1 p2) (λ name.
             (name.target ≡ record_file p2) × (name.choice ≡ record_choice p1 p2)) }
@@ -78,8 +78,10 @@ impl RecordName {
     }
 }
 
-/// Reads P1, P2 and what follows the header of READ RECORD (ISO/IEC 7816-4, 11.4.3). P1 and P2 that name no record are
-/// 6A86; data, or no Le, are 6700.
+/// Parses READ RECORD (ISO/IEC 7816-4, 11.4.3) after its instruction.
+///
+/// # Errors
+/// 6A86 if P1 and P2 name no record; 6700 with data, or without Le.
 pub(crate) fn parse_read_record(operands: Operands<'_>) -> Parsed<'_>
     ensures { Parses (Some read_record_row) operands.entry result }
 {
@@ -92,8 +94,10 @@ pub(crate) fn parse_read_record(operands: Operands<'_>) -> Parsed<'_>
     })
 }
 
-/// Reads P1, P2 and what follows the header of UPDATE RECORD (ISO/IEC 7816-4, 11.4.5). P1 and P2 that name no record
-/// are 6A86; no data, or Le, are 6700.
+/// Parses UPDATE RECORD (ISO/IEC 7816-4, 11.4.5) after its instruction.
+///
+/// # Errors
+/// 6A86 if P1 and P2 name no record; 6700 without data, or with Le.
 pub(crate) fn parse_update_record(operands: Operands<'_>) -> Parsed<'_>
     ensures { Parses (Some update_record_row) operands.entry result }
 {
@@ -106,8 +110,10 @@ pub(crate) fn parse_update_record(operands: Operands<'_>) -> Parsed<'_>
     })
 }
 
-/// Reads P1, P2 and what follows the header of APPEND RECORD (ISO/IEC 7816-4, 11.4.6). P1 other than 00 and P2 that
-/// name more than a file are 6A86; no data, or Le, are 6700.
+/// Parses APPEND RECORD (ISO/IEC 7816-4, 11.4.6) after its instruction.
+///
+/// # Errors
+/// 6A86 if P1 isn't 00 or P2 names more than a file; 6700 without data, or with Le.
 pub(crate) fn parse_append_record(operands: Operands<'_>) -> Parsed<'_>
     ensures { Parses (Some append_record_row) operands.entry result }
 {
@@ -119,8 +125,10 @@ pub(crate) fn parse_append_record(operands: Operands<'_>) -> Parsed<'_>
     Ok(Command::AppendRecord { target, bytes })
 }
 
-/// Reads P1, P2 and what follows the header of SEARCH RECORD (ISO/IEC 7816-4, 11.4.7). P2 that names no file or no
-/// direction is 6A86; no data is 6700.
+/// Parses SEARCH RECORD (ISO/IEC 7816-4, 11.4.7) after its instruction.
+///
+/// # Errors
+/// 6A86 if P2 names no file or no direction; 6700 without data.
 pub(crate) fn parse_search_record(operands: Operands<'_>) -> Parsed<'_>
     ensures { Parses (Some search_record_row) operands.entry result }
 {
@@ -137,7 +145,10 @@ pub(crate) fn parse_search_record(operands: Operands<'_>) -> Parsed<'_>
     })
 }
 
-/// Reads P1, P2 and what follows the header of INCREASE. Other P1 and P2 than 00 00 are 6A86; no data is 6700.
+/// Parses INCREASE after its instruction.
+///
+/// # Errors
+/// 6A86 unless P1 and P2 are 00 00; 6700 without data.
 pub(crate) fn parse_increase(operands: Operands<'_>) -> Parsed<'_>
     ensures { Parses (Some increase_row) operands.entry result }
 {

@@ -18,19 +18,19 @@ use card_rules::limits::MOST_NAME_BYTES;
 pub enum Selector<'a> {
     /// The master file.
     MasterFile,
-    /// The first file with this identifier that is reached from the current dedicated file.
+    /// The first file with this identifier from the current DF on.
     Identifier(u16),
     /// The parent of the current dedicated file.
     Parent,
     /// The dedicated file with this name, 1 to 16 bytes.
     Name(&'a [u8]),
-    /// The file at the end of this path from the master file, each identifier that of a child.
+    /// The file at the end of this path from the master file. Each identifier names a child.
     PathFromMaster(FilePath<'a>),
-    /// The file at the end of this path from the current dedicated file.
+    /// The file at the end of this path from the current DF.
     PathFromCurrent(FilePath<'a>),
 }
 
-/// The ways to name a file, each a P1 of SELECT.
+/// The selection methods of SELECT, one for each P1.
 #[derive(Clone, Copy)]
 enum Way {
     ByIdentifier,
@@ -41,7 +41,7 @@ enum Way {
 }
 
 impl Way {
-    /// The way of a P1, if it is one.
+    /// Returns the selection method of a P1, if valid.
     fn of(p1: u8) -> Option<Way>
         ensures { Names result (is_way p1) (λ way. byte_of way ≡ p1) }
     {
@@ -56,7 +56,7 @@ impl Way {
     }
 }
 
-/// What P2 of SELECT wants to be answered, if it is one of the two that are known.
+/// Returns the response data that P2 of SELECT requests, if valid.
 fn returned_of(p2: u8) -> Option<Returned>
     ensures { Names result (is_returned p2) (λ returned. returned ≡ returned_by p2) }
 {
@@ -68,7 +68,7 @@ fn returned_of(p2: u8) -> Option<Returned>
 }
 
 impl<'a> Selector<'a> {
-    /// The file that the sent bytes name, if their number is right for the way.
+    /// Returns the file in the data field, if its length fits.
     fn of(way: Way, sent: &'a [u8]) -> Option<Selector<'a>>
         ensures file { Names result (names_file (byte_of way) (length sent.now)) (λ selector.
             selection_of selector ≡ named_file (byte_of way) sent.now) }
@@ -86,7 +86,7 @@ impl<'a> Selector<'a> {
         }
     }
 
-    /// The master file under no bytes, and a file by its identifier under two.
+    /// Returns the master file for no bytes, else by identifier.
     fn by_identifier(sent: &'a [u8]) -> Option<Selector<'a>>
         ensures file { Names result (names_file 0x00 (length sent.now)) (λ selector.
             selection_of selector ≡ named_file 0x00 sent.now) }
@@ -100,7 +100,10 @@ impl<'a> Selector<'a> {
     }
 }
 
-/// Reads P1, P2 and what follows the header of SELECT. Unknown P1 and P2 are 6A86, lengths that don't fit P1 are 6700.
+/// Parses SELECT after its instruction.
+///
+/// # Errors
+/// 6A86 if P1 or P2 is unknown; 6700 if the length doesn't fit P1.
 pub(crate) fn parse_select(operands: Operands<'_>) -> Parsed<'_>
     ensures { Parses (Some select_row) operands.entry result }
 {
