@@ -1,10 +1,10 @@
--- The bytes of tags.
+-- The tag bytes of file control parameters (ISO/IEC 7816-4, 7.4.3).
 use Rattle.std.specs.Prelude.{ℕ}
 use Rattle.fcp_template.specs.declared.tag.Tag.{Tag}
 use Rattle.fcp_template.specs.declared.tag.Tag.TheVariants.{FileDescriptor, FileIdentifier, Name, ShortFileIdentifier}
 use Rattle.fcp_template.specs.declared.tag.Tag.TheVariants.{DataBytes, LifeCycleStatus, CompactRule}
 
--- the tags that are read or told
+-- the tags of the parameters that the card reads or writes
 abbrev pub tag_byte : Tag → ℕ
 tag_byte FileDescriptor = 0x82
 tag_byte FileIdentifier = 0x83

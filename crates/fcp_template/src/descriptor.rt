@@ -1,11 +1,12 @@
-//! The file descriptor: of what kind a file is.
+//! The file descriptor, which gives the kind of a file.
 
 ghost use Rattle.std.specs.Prelude.{◌≡◌};
 ghost use Rattle.card_model.specs.TemplateGrammar.{plain_descriptor, structure_of, record_descriptor, descriptor_of};
 
 use card_model::{Descriptor, Structure};
 
-/// The bit of a descriptor byte that says that a file is shareable. CREATE FILE may set it or not; an answer sets it.
+/// The bit of a descriptor byte for a shareable file.
+/// CREATE FILE may set it or not; an answer sets it.
 const SHAREABLE: u8 = 0x40;
 
 /// The descriptor byte of a DF.
@@ -32,10 +33,10 @@ pub(crate) const SHAREABLE_LINEAR: u8 = LINEAR | SHAREABLE;
 /// The descriptor byte of a cyclic EF that is shareable.
 pub(crate) const SHAREABLE_CYCLIC: u8 = CYCLIC | SHAREABLE;
 
-/// The data coding byte that follows the descriptor byte in an answer. Of one that is read nothing is taken.
+/// The data coding byte after the descriptor byte in an answer. CREATE FILE ignores it.
 pub(crate) const DATA_CODING: u8 = 0x21;
 
-/// The descriptor that is the value of an object 82.
+/// Returns the descriptor in the value of an object 82.
 pub(crate) fn descriptor_of(value: &[u8]) -> Option<Descriptor>
     ensures { result ≡ descriptor_of value.now }
 {
@@ -49,7 +50,7 @@ pub(crate) fn descriptor_of(value: &[u8]) -> Option<Descriptor>
     }
 }
 
-/// The descriptor of a file without records, by its byte.
+/// Returns the descriptor of a file without records, from its byte.
 fn plain_descriptor(byte: u8) -> Option<Descriptor>
     ensures { result ≡ plain_descriptor byte }
 {
@@ -60,7 +61,7 @@ fn plain_descriptor(byte: u8) -> Option<Descriptor>
     }
 }
 
-/// The descriptor of a file of records, by its byte.
+/// Returns the descriptor of a record file, from its byte.
 fn record_descriptor(byte: u8, record_length: u16, existing: Option<u8>) -> Option<Descriptor>
     ensures { result ≡ record_descriptor (structure_of byte) record_length existing }
 {
@@ -72,7 +73,7 @@ fn record_descriptor(byte: u8, record_length: u16, existing: Option<u8>) -> Opti
     })
 }
 
-/// The structure of a file of records, by the byte of its descriptor.
+/// Returns the structure of a record file, from its descriptor byte.
 fn structure_of(byte: u8) -> Option<Structure>
     ensures { result ≡ structure_of byte }
 {

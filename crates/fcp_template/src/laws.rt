@@ -7,19 +7,19 @@ ghost use Rattle.card_model.specs.declared.fault.FcpFault.{FcpFault};
 ghost use Rattle.card_model.specs.TemplateGrammar.{FcpReads, DataObject, IsTemplate, fcp_read};
 ghost use Rattle.card_model.specs.Templates.{IsInFull, fcp_text};
 
-/// What is written of file control parameters in full is read again as the same parameters, but for those of the MF and
-/// of a terminated file, which no CREATE FILE can make.
+/// Full file control parameters are read as they were written.
+/// It excludes the MF and terminated files, which no CREATE FILE can make.
 pub fn template_read_again()
     ensures { (fcp : Fcp) → IsInFull fcp → fcp.life_cycle ≢ Terminated → fcp.identifier ≢ 0x3F00
         → FcpReads (fcp_text fcp) (Ok fcp) }
 {}
 
-/// Each text reads as one thing: the value or the fault that the function `fcp_read` of the definitions gives.
+/// A text reads as exactly one result, that of `fcp_read`.
 pub fn reading_is_a_function()
     ensures { (text : List ℕ) (read : Result Fcp FcpFault) → FcpReads text read ↔ (read ≡ fcp_read text) }
 {}
 
-/// A template reads as the same with its objects in any order.
+/// The order of its objects doesn't change what a template reads as.
 pub fn objects_in_any_order()
     ensures { (text other : List ℕ) (os ps : List DataObject) (read : Result Fcp FcpFault)
         → IsTemplate text os → IsTemplate other ps → IsPermutation os ps → FcpReads text read → FcpReads other read }

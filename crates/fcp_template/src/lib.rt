@@ -1,4 +1,4 @@
-//! Templates of file control parameters: what CREATE FILE sends and SELECT answers.
+//! Templates of file control parameters, as in CREATE FILE and the answer of SELECT.
 #![tactic(auto)]
 
 mod descriptor;

@@ -1,4 +1,4 @@
-//! Data objects, and the templates that they make.
+//! Data objects, and the templates that consist of them.
 
 ghost use Rattle.std.specs.Prelude.{◌≡◌, ℕ, List, [], ◌++◌, ◌≤◌, length, IfSome, IfNone};
 ghost use Rattle.card_model.specs.TemplateGrammar.{DataObject, object_text, objects_text, IsTemplate};
@@ -7,7 +7,7 @@ use crate::tag::TEMPLATE;
 use arrayvec::ArrayVec;
 use std::marker::Model;
 
-/// A data object of a template: a tag and a value, in BER-TLV with one byte each for tag and length.
+/// A BER-TLV data object, with one byte for tag and length each.
 #[derive(Drop)]
 pub(crate) struct Object<'a> {
     tag: u8,
@@ -23,14 +23,14 @@ impl<'a> Model for Object<'a> {
 }
 
 impl<'a> Object<'a> {
-    /// Its tag.
+    /// Returns its tag.
     pub(crate) fn tag(&self) -> u8
         ensures { result ≡ self.now.tag }
     {
         self.tag
     }
 
-    /// Its value, which may be empty.
+    /// Returns its value, which may be empty.
     pub(crate) fn value(&self) -> &'a [u8]
         ensures { result.now ≡ self.now.value }
     {
@@ -38,7 +38,7 @@ impl<'a> Object<'a> {
     }
 }
 
-// `ArrayVec` fills the places behind its last item with the default.
+// `ArrayVec` fills its unused places with the default.
 impl Default for Object<'_> {
     ghost is_default = { λ o. o ≡ record { tag = 0; value = [] } };
 
@@ -47,16 +47,16 @@ impl Default for Object<'_> {
     }
 }
 
-/// The most bytes of a template's objects: as many as a length byte without bit 8 tells.
+/// The most bytes of objects: a length byte has bit 8 clear.
 pub(crate) const BODY_LIMIT: usize = 127;
 
-/// The most objects of a template, since each has two bytes or more.
+/// The most objects of a template: each has at least two bytes.
 const MOST_OBJECTS: usize = BODY_LIMIT / 2;
 
 /// The objects of a template.
 pub(crate) type Objects<'a> = ArrayVec<Object<'a>, MOST_OBJECTS>;
 
-/// The objects of a text, where it is a template.
+/// Returns the objects of a text, if it is a template.
 pub(crate) fn objects_of(text: &[u8]) -> Option<Objects<'_>>
     ensures template { IfSome result (λ os. IsTemplate text.now os.items) }
     ensures none { IfNone result ((os : List DataObject) → IsTemplate text.now os → ⊥) }
@@ -70,7 +70,7 @@ pub(crate) fn objects_of(text: &[u8]) -> Option<Objects<'_>>
     split(body)
 }
 
-/// The objects that fill the bytes exactly.
+/// Returns the objects that fill the bytes exactly, if any do.
 fn split(bytes: &[u8]) -> Option<Objects<'_>>
     requires { length bytes.now ≤ 0x7F }
     ensures filled { IfSome result (λ os. bytes.now ≡ objects_text os.items) }
@@ -86,7 +86,7 @@ fn split(bytes: &[u8]) -> Option<Objects<'_>>
     Some(objects)
 }
 
-/// The object at the front, and what follows it.
+/// Returns the first object of the bytes, and the bytes after it.
 fn split_first(bytes: &[u8]) -> Option<(Object<'_>, &[u8])>
     ensures found { IfSome result (λ x. bytes.now ≡ object_text x.0 ++ x.1.now) }
     ensures none { IfNone result ((o : DataObject) (rest : List ℕ) → bytes.now ≡ object_text o ++ rest → ⊥) }

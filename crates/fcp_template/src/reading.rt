@@ -1,4 +1,4 @@
-//! Reading templates.
+//! Reads templates.
 
 ghost use Rattle.std.specs.Prelude.{◌≡◌, ◌≢◌, ◌%◌, ◌==◌, ◌&&◌, ◌||◌, Result, IfOk, IfSome, is_some, nat_le, not};
 ghost use Rattle.std.specs.Option.{option_copied};
@@ -23,23 +23,23 @@ use card_rules::limits::{MOST_BYTES, MOST_RECORD_BYTES, MOST_RECORDS, MOST_SHORT
 use card_rules::{Compact, LifeCycle};
 use card_state::{DfName, Fcp, FileKind, Records, ShortIdentifier};
 
-/// The file control parameters that a text spells, its objects in any order.
+/// Returns the file control parameters of a text.
+/// Its objects may have any order.
 ///
 /// # Errors
 ///
-/// The least fault that the text has: `Shape` where it is no template, `Missing` where an object that must be there
-/// isn't, `Twice` where a tag of the table comes again, and `Value` where a tag,
-/// a length or a value isn't of the table.
+/// The first of these faults. `Shape`: it is no template. `Missing`: a mandatory object is absent.
+/// `Twice`: a tag of the table occurs twice. `Value`: a tag, a length or a value isn't in the table.
 pub fn parse(text: &[u8]) -> Result<Fcp<'_>, FcpFault>
     ensures reads { FcpReads text.now result }
 
-    // What it tells is in its ranges.
+    // The parameters are in their ranges.
     ensures ranges { IfOk result IsCreatable }
 
-    // It reads as nothing else.
+    // The text reads as nothing else.
     ensures only { (other : Result Fcp FcpFault) → FcpReads text.now other → other ≡ result }
 
-    // The same, for definitions that compute it.
+    // The same, as a function of the definitions.
     ensures value { result ≡ fcp_read text.now }
 {
     match objects_of(text) {
@@ -48,7 +48,7 @@ pub fn parse(text: &[u8]) -> Result<Fcp<'_>, FcpFault>
     }
 }
 
-/// What a template of these objects reads as.
+/// Returns what a template of these objects reads as.
 fn meaning<'a>(objects: &[Object<'a>]) -> Result<Fcp<'a>, FcpFault>
     ensures value { result ≡ meaning objects.now }
     ensures ranges { IfOk result IsCreatable }
@@ -62,21 +62,21 @@ fn meaning<'a>(objects: &[Object<'a>]) -> Result<Fcp<'a>, FcpFault>
     fcp_of(objects).ok_or(FcpFault::Value)
 }
 
-/// Whether an object has this tag.
+/// Returns true if an object has this tag.
 fn has(objects: &[Object<'_>], tag: Tag) -> bool
     ensures { result ≡ has objects.now (tag_byte tag) }
 {
     objects.iter().any(|object| object.tag() == tag.byte())
 }
 
-/// How many objects have this tag.
+/// Returns the number of objects with this tag.
 fn count_of(objects: &[Object<'_>], tag: u8) -> usize
     ensures { result ≡ count_of objects.now tag }
 {
     objects.iter().filter(|object| object.tag() == tag).count()
 }
 
-/// The value of the first object that has this tag.
+/// Returns the value of the first object that has this tag.
 fn value_at<'a>(objects: &[Object<'a>], tag: Tag) -> Option<&'a [u8]>
     ensures { option_copied result ≡ value_at objects.now (tag_byte tag) }
 {
@@ -86,21 +86,21 @@ fn value_at<'a>(objects: &[Object<'a>], tag: Tag) -> Option<&'a [u8]>
         .map(|object| object.value())
 }
 
-/// Whether an object is a file descriptor that begins with a byte of a DF.
+/// Returns true for a file descriptor with a DF byte.
 fn is_df_descriptor(object: &Object<'_>) -> bool
     ensures { result ≡ is_df_descriptor object.now }
 {
     object.tag() == Tag::FileDescriptor.byte() && matches!(object.value(), [DF | SHAREABLE_DF, ..])
 }
 
-/// Whether an object is the file descriptor of a DF.
+/// Returns true if an object is the file descriptor of a DF.
 fn tells_of_df(objects: &[Object<'_>]) -> bool
     ensures { result ≡ tells_of_df objects.now }
 {
     objects.iter().any(|object| is_df_descriptor(object))
 }
 
-/// Whether an object that must be there is missing.
+/// Returns true if a mandatory object is missing.
 fn is_missing(objects: &[Object<'_>]) -> bool
     ensures { result ≡ is_missing objects.now }
 {
@@ -110,35 +110,35 @@ fn is_missing(objects: &[Object<'_>]) -> bool
         || !has(objects, Tag::DataBytes) && !tells_of_df(objects)
 }
 
-/// Whether a tag of the table comes twice.
+/// Returns true if a tag of the table occurs twice.
 fn is_twice(objects: &[Object<'_>]) -> bool
     ensures { result ≡ is_twice objects.now }
 {
     objects.iter().any(|object| comes_again(objects, object))
 }
 
-/// Whether the object has a tag of the table, and another object has it too.
+/// Returns true if another object has the same tag of the table.
 fn comes_again(objects: &[Object<'_>], object: &Object<'_>) -> bool
     ensures { result ≡ is_again objects.now object.now }
 {
     is_known(object) && count_of(objects, object.tag()) > 1
 }
 
-/// Whether the object has a tag of the table.
+/// Returns true if the object has a tag of the table.
 fn is_known(object: &Object<'_>) -> bool
     ensures { result ≡ is_tag object.now.tag }
 {
     is_tag(object.tag())
 }
 
-/// Whether an object has another tag.
+/// Returns true if an object has a tag outside the table.
 fn has_unknown(objects: &[Object<'_>]) -> bool
     ensures { result ≡ has_unknown objects.now }
 {
     objects.iter().any(|object| !is_known(object))
 }
 
-/// The parameters that the objects tell, where all have tags, lengths and values of the table.
+/// Returns the parameters of the objects, if all are valid.
 #[tactic(auto, unfolding(card_model::specs::TemplateGrammar::fcp_of))]
 fn fcp_of<'a>(objects: &[Object<'a>]) -> Option<Fcp<'a>>
     ensures value { result ≡ fcp_of objects.now }
@@ -162,14 +162,14 @@ fn fcp_of<'a>(objects: &[Object<'a>]) -> Option<Fcp<'a>>
     })
 }
 
-/// The descriptor in object 82.
+/// Returns the descriptor in object 82.
 fn descriptor_at(objects: &[Object<'_>]) -> Option<Descriptor>
     ensures { result ≡ and_then (value_at objects.now 0x82) descriptor_of }
 {
     descriptor_of(value_at(objects, Tag::FileDescriptor)?)
 }
 
-/// The identifier in object 83.
+/// Returns the identifier in object 83.
 fn identifier_at(objects: &[Object<'_>]) -> Option<u16>
     ensures value { result ≡ and_then (value_at objects.now 0x83) identifier_of }
     ensures below_mf { IfSome result (λ n. n ≢ 0x3F00) }
@@ -179,14 +179,14 @@ fn identifier_at(objects: &[Object<'_>]) -> Option<u16>
     identifier_of(value_at(objects, Tag::FileIdentifier)?)
 }
 
-/// The access rule in object 8C.
+/// Returns the access rule in object 8C.
 fn rule_at(objects: &[Object<'_>]) -> Option<Compact>
     ensures value { result ≡ and_then (value_at objects.now 0x8C) rule_of }
 {
     Compact::parse(value_at(objects, Tag::CompactRule)?)
 }
 
-/// The kind of a file, by its descriptor.
+/// Returns the kind of a file, from its descriptor and its objects.
 fn kind_of<'a>(descriptor: Descriptor, objects: &[Object<'a>]) -> Option<FileKind<'a>>
     ensures value { result ≡ kind_of descriptor objects.now }
     ensures ranges { IfSome result IsKind }
@@ -202,7 +202,8 @@ fn kind_of<'a>(descriptor: Descriptor, objects: &[Object<'a>]) -> Option<FileKin
     }
 }
 
-/// What makes a DF: a name, or none, and no object of an elementary file but a number of data bytes.
+/// Returns a DF, with its name if it has one.
+/// Of the objects of an elementary file, it may have the number of data bytes only.
 #[tactic(auto, unfolding(card_model::specs::TemplateGrammar::df_of))]
 fn df_of<'a>(objects: &[Object<'a>]) -> Option<FileKind<'a>>
     ensures value { result ≡ df_of objects.now }
@@ -215,7 +216,8 @@ fn df_of<'a>(objects: &[Object<'a>]) -> Option<FileKind<'a>>
     Some(FileKind::Df { name })
 }
 
-/// Whether there is an object that no DF has: a short identifier, or a number of data bytes of a wrong length.
+/// Returns true if an object can't belong to a DF.
+/// This is a short identifier, or a number of data bytes of a wrong length.
 fn has_no_place_in_a_df(objects: &[Object<'_>]) -> bool
     ensures { result ≡ (has objects.now 0x88 || has objects.now 0x80 && not (is_some (data_bytes objects.now))) }
 {
@@ -223,7 +225,7 @@ fn has_no_place_in_a_df(objects: &[Object<'_>]) -> bool
         || has(objects, Tag::DataBytes) && data_bytes(objects).is_none()
 }
 
-/// What makes a transparent file: a size, and no name.
+/// Returns a transparent file, from its size; it must have no name.
 #[tactic(auto, unfolding(card_model::specs::TemplateGrammar::transparent_of))]
 fn transparent_of<'a>(objects: &[Object<'a>]) -> Option<FileKind<'a>>
     ensures value { result ≡ transparent_of objects.now }
@@ -238,7 +240,8 @@ fn transparent_of<'a>(objects: &[Object<'a>]) -> Option<FileKind<'a>>
     }
 }
 
-/// What makes a file of records: a size that its records fill, and no name.
+/// Returns a record file whose records fill its size.
+/// It must have no name.
 #[tactic(auto, unfolding(card_model::specs::TemplateGrammar::record_file_of))]
 fn record_file_of<'a>(
     structure: Structure,
@@ -263,7 +266,8 @@ fn record_file_of<'a>(
     }
 }
 
-/// The identifier in object 83: two bytes, but for those of the MF and of the current DF, and FFFF.
+/// Returns the identifier in the value of object 83.
+/// It has two bytes, and isn't 3F00 (the MF), 3FFF (the current DF) or FFFF.
 fn identifier_of(value: &[u8]) -> Option<u16>
     ensures value { result ≡ identifier_of value.now }
     ensures below_mf { IfSome result (λ n. n ≢ 0x3F00) }
@@ -279,7 +283,7 @@ fn identifier_of(value: &[u8]) -> Option<u16>
     }
 }
 
-/// The name in object 84, of 1 to 16 bytes.
+/// Returns the name in object 84, 1 to 16 bytes.
 fn name_of<'a>(value: Option<&'a [u8]>) -> Option<Option<DfName<'a>>>
     ensures value { result ≡ name_of (option_copied value.entry) }
     ensures ranges { IfSome result IsName }
@@ -290,7 +294,8 @@ fn name_of<'a>(value: Option<&'a [u8]>) -> Option<Option<DfName<'a>>>
     }
 }
 
-/// The short identifier in object 88: 1 to 30, in the upper five bits of its byte.
+/// Returns the short identifier in object 88, if present.
+/// It is 1 to 30, in the upper five bits of its byte.
 fn short_of(value: Option<&[u8]>) -> Option<ShortIdentifier>
     ensures value { result ≡ short_of (option_copied value.entry) }
     ensures ranges { IfSome result IsShort }
@@ -310,14 +315,14 @@ fn short_of(value: Option<&[u8]>) -> Option<ShortIdentifier>
     }
 }
 
-/// The number in object 80.
+/// Returns the number of data bytes in object 80.
 fn data_bytes(objects: &[Object<'_>]) -> Option<u32>
     ensures { result ≡ data_bytes objects.now }
 {
     number_of(value_at(objects, Tag::DataBytes)?)
 }
 
-/// A number of two to four bytes, the most significant first.
+/// Returns a big-endian number of two to four bytes.
 fn number_of(value: &[u8]) -> Option<u32>
     ensures { result ≡ number_of value.now }
 {
@@ -329,7 +334,7 @@ fn number_of(value: &[u8]) -> Option<u32>
     }
 }
 
-/// The size of a file: 1 to 32,767 bytes.
+/// Returns the size of a file, 1 to 32,767 bytes.
 fn size_of(number: Option<u32>) -> Option<u16>
     ensures value { result ≡ size_of number }
     ensures ranges { IfSome result IsSize }
@@ -340,8 +345,8 @@ fn size_of(number: Option<u32>) -> Option<u16>
     }
 }
 
-/// The records of a file of this size, where they fill it: 1 to 254, of 1 to 255 bytes. As many exist as the
-/// descriptor says, or all.
+/// Returns the records of a file, if they fill its size.
+/// There are 1 to 254 records of 1 to 255 bytes. The descriptor gives how many exist, by default all.
 fn records_of(record_length: u16, existing: Option<u8>, size: u16) -> Option<Records>
     requires { IsSize size }
     ensures value { result ≡ records_of record_length existing size }
@@ -365,21 +370,23 @@ fn records_of(record_length: u16, existing: Option<u8>, size: u16) -> Option<Rec
     })
 }
 
-/// Whether records of this length, 1 to 255 bytes, fill a file of this size.
+/// Returns true if records of this length fill the size.
+/// A record has 1 to 255 bytes.
 fn is_filled(size: u16, record_length: u16) -> bool
     ensures { result ≡ (nat_le 1 record_length && nat_le record_length 255 && (size % record_length == 0)) }
 {
     (1..=MOST_RECORD_BYTES).contains(&record_length) && size % record_length == 0
 }
 
-/// Whether so many records can exist in a file with room for `capacity`, 1 to 254.
+/// Returns true if a file of `capacity` can have `number` records.
+/// The capacity is 1 to 254.
 fn can_exist(number: u16, capacity: u16) -> bool
     ensures { result ≡ (nat_le 1 capacity && nat_le capacity 254 && nat_le number capacity) }
 {
     (1..=MOST_RECORDS).contains(&capacity) && number <= capacity
 }
 
-/// The life cycle status in object 8A; a file without it is activated.
+/// Returns the life cycle status in object 8A, by default activated.
 fn life_cycle_of(value: Option<&[u8]>) -> Option<LifeCycle>
     ensures value { result ≡ life_cycle_of (option_copied value.entry) }
     ensures live { IfSome result (λ state. state ≢ Terminated) }

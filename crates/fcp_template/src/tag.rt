@@ -1,4 +1,4 @@
-//! The tags of a template.
+//! The tags of a template of file control parameters.
 
 ghost use Rattle.std.specs.Prelude.{◌≡◌};
 ghost use Rattle.fcp_template.specs.TagParts.{tag_byte};
@@ -7,7 +7,7 @@ ghost use Rattle.card_model.specs.TemplateGrammar.{is_tag};
 /// The tag of a template of file control parameters (ISO/IEC 7816-4, 7.4.3).
 pub(crate) const TEMPLATE: u8 = 0x62;
 
-/// The tags of file control parameters that are read or told (ISO/IEC 7816-4, 7.4.3).
+/// The tags that the card reads or writes (ISO/IEC 7816-4, 7.4.3).
 #[derive(Clone, Copy)]
 pub(crate) enum Tag {
     DataBytes,
@@ -19,8 +19,8 @@ pub(crate) enum Tag {
     CompactRule,
 }
 
-/// Whether a byte is a tag of file control parameters: one of `Tag`, or one whose value has no effect, which are the
-/// number of bytes with the overhead (81), what is proprietary (A5), and the status of PINs (C6).
+/// Returns true if a byte is a tag of file control parameters.
+/// Three of them have no effect: the size with overhead (81), proprietary data (A5) and the status of PINs (C6).
 pub(crate) const fn is_tag(byte: u8) -> bool
     ensures { result ≡ is_tag byte }
 {
@@ -28,7 +28,7 @@ pub(crate) const fn is_tag(byte: u8) -> bool
 }
 
 impl Tag {
-    /// The byte that it is in a text.
+    /// Returns the byte of the tag.
     pub(crate) const fn byte(self) -> u8
         ensures { result ≡ tag_byte self }
     {

@@ -1,4 +1,4 @@
-//! Writing templates.
+//! Writes templates.
 
 ghost use Rattle.std.specs.Prelude.{◌≡◌, ◌+◌, ◌≤◌, [], ◌∷◌, ◌++◌, length};
 ghost use Rattle.fcp_template.specs.TagParts.{tag_byte};
@@ -19,7 +19,7 @@ use card_state::{Fcp, FileKind, Records, ShortIdentifier};
 /// The bytes of a template's objects.
 type Body = ArrayVec<u8, BODY_LIMIT>;
 
-/// Writes the one spelling of file control parameters in an answer into an empty buffer.
+/// Writes file control parameters, as in an answer, into an empty buffer.
 pub fn write(fcp: &Fcp<'_>, out: &mut ArrayVec<u8, MOST_ANSWER_DATA>)
     requires empty { out.old.items ≡ [] }
     requires full { IsInFull fcp.now }
@@ -45,7 +45,7 @@ fn put_objects(fcp: &Fcp<'_>, body: &mut Body)
     put(body, Tag::CompactRule, fcp.rule.as_bytes());
 }
 
-/// Writes object 82 behind what is there.
+/// Appends object 82.
 fn put_descriptor(kind: &FileKind<'_>, body: &mut Body)
     requires room { length body.old.items + 7 ≤ 127 }
     ensures written { body.new.items ≡ body.old.items ++ object_text (data_object 0x82 (descriptor_value kind.now)) }
@@ -63,7 +63,7 @@ fn put_descriptor(kind: &FileKind<'_>, body: &mut Body)
     }
 }
 
-/// Writes object 82 of a file of records behind what is there.
+/// Appends object 82 of a record file.
 fn put_record_descriptor(byte: u8, records: &Records, body: &mut Body)
     requires room { length body.old.items + 7 ≤ 127 }
     ensures { body.new.items ≡ body.old.items ++ object_text
@@ -77,7 +77,7 @@ fn put_record_descriptor(byte: u8, records: &Records, body: &mut Body)
     );
 }
 
-/// Writes objects 84, 88 and 80 behind what is there.
+/// Appends objects 84, 88 and 80, as the kind has them.
 fn put_kind(kind: &FileKind<'_>, body: &mut Body)
     requires room { length body.old.items + 18 ≤ 127 }
     requires ranges { IsKind kind.now }
@@ -94,7 +94,7 @@ fn put_kind(kind: &FileKind<'_>, body: &mut Body)
     }
 }
 
-/// Writes objects 88 and 80 of an elementary file behind what is there.
+/// Appends objects 88 and 80 of an elementary file.
 fn put_short_and_size(short: ShortIdentifier, size: u16, body: &mut Body)
     requires room { length body.old.items + 7 ≤ 127 }
     requires ranges { IsShort short }
@@ -112,7 +112,7 @@ fn put_short_and_size(short: ShortIdentifier, size: u16, body: &mut Body)
     put(body, Tag::DataBytes, &two_bytes(size));
 }
 
-/// Writes an object behind what is there.
+/// Appends a data object.
 fn put(body: &mut Body, tag: Tag, value: &[u8])
     requires { length body.old.items + 2 + length value.now ≤ 127 }
     ensures written { body.new.items ≡ body.old.items ++ object_text (data_object (tag_byte tag) value.now) }
@@ -123,7 +123,7 @@ fn put(body: &mut Body, tag: Tag, value: &[u8])
     body.try_extend_from_slice(value).unwrap();
 }
 
-/// A number in two bytes, the most significant first.
+/// Returns a number in two bytes, big-endian.
 fn two_bytes(number: u16) -> [u8; 2]
     ensures { result ≡ two_bytes number }
 {
