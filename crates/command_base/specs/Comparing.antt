@@ -1,4 +1,4 @@
--- Which comparisons a request makes, and that each costs a lasting try (ISO/IEC 7816-4, clause 11,
+-- The comparisons of a request, and that each permanently uses up a try (ISO/IEC 7816-4, clause 11,
 -- basic security handling).
 use Rattle.std.specs.Prelude.{◌≡◌, ◌⊎◌, ◌<◌, ◌+◌, ◌-◌, ℕ, List, slice_set, Option, Some, None, Result, Ok, Err}
 use Rattle.card_rules.specs.declared.status.Sw.{Sw}
@@ -10,7 +10,7 @@ use Rattle.card_model.specs.Behaviours.{Attempt, pin_of}
 use Rattle.card_model.specs.Cards.{Card, Pin}
 use Rattle.card_model.specs.Steps.{attempt_of}
 
--- the counts of a board, of each secret: how often it was compared, and how often it was what was shown
+-- the counters of a board for each secret: how often it was compared, and how often it matched
 pub record Comparisons : Type 0 where
   pub compares : List ℕ
   pub matches : List ℕ
@@ -18,31 +18,31 @@ pub record Comparisons : Type 0 where
 abbrev pub comparisons : Facts → Comparisons
 comparisons facts = record { compares = facts.compares; matches = facts.matches }
 
--- nothing is compared
+-- no comparison is made
 abbrev pub ComparesNothing : Comparisons → Comparisons → Type 0
 ComparesNothing old new = new ≡ old
 
--- what is kept of a secret was shown, and that was counted
+-- the presented value is the stored secret, and the board counted the match
 pub record Matches (secret : ℕ) (shown : List ℕ) (was : Pin) (old new : Comparisons) : Type 0 where
   pub right : kept secret was ≡ shown
   pub compared : new.compares ≡ raised old.compares secret
   pub matched : new.matches ≡ raised old.matches secret
 
--- a match, after which all tries of the secret are there again
+-- a match that resets the tries of the secret to the maximum
 pub record FillsTries (secret : ℕ) (shown : List ℕ) (was now : Pin) (old new : Comparisons) : Type 0 where
   pub match_counted : Matches secret shown was old new
   pub full : tries_left secret now ≡ full_tries secret
 
--- a comparison, for which there was a try: it is gone, or all are there again after a match
+-- a comparison with a try left: it permanently uses up the try, or it matches and resets the tries
 pub record PaysForOne (secret : ℕ) (shown : List ℕ) (was now : Pin) (old new : Comparisons) : Type 0 where
   pub compared : new.compares ≡ raised old.compares secret
   pub left : 0 < tries_left secret was
   pub paid : (tries_left secret now + 1 ≡ tries_left secret was) ⊎ FillsTries secret shown was now old new
 
--- A comparison costs a lasting try, of a secret that was shown, whatever stopped the command. Its tries stay, or are
--- one fewer, or all of them after a match; at most one comparison was counted, of this secret alone, and it was paid
--- for; where no try was left, nothing was compared. The PIN changes but for these tries by a match alone, its
--- unblocking value never, its unblocking tries by no command that shows its value.
+-- The cost of presenting a secret, wherever the command stops. Its tries stay, decrease by one, or are reset by a
+-- match. At most one comparison is counted, of this secret only, and it is paid for. Without tries nothing is compared.
+-- Beyond these tries the PIN changes only after a match. Its unblocking value never changes, and its unblocking tries
+-- change by no command that presents the PIN's own value.
 pub record CostsATry (secret : ℕ) (shown : List ℕ) (was now : Pin) (old new : Comparisons) : Type 0 where
   pub tries : (tries_left secret now ≡ tries_left secret was) ⊎ (tries_left secret now + 1 ≡ tries_left secret was)
       ⊎ FillsTries secret shown was now old new
@@ -58,7 +58,7 @@ pub record ComparesAttempt (a : Attempt) (c d : Card) (old new : Comparisons) : 
   pub costs : CostsATry a.secret a.shown (pin_of c a.pin) (pin_of d a.pin) old new
   pub others : d.pins ≡ slice_set c.pins (a.pin - 1) (pin_of d a.pin)
 
--- a request that shows no secret makes no comparison
+-- a request that presents no secret makes no comparison
 abbrev pub ComparesShown : Option Attempt → Card → Comparisons → Card → Comparisons → Type 0
 ComparesShown None c old d new = ComparesNothing old new
 ComparesShown (Some a) c old d new = ComparesAttempt a c d old new
@@ -66,7 +66,7 @@ ComparesShown (Some a) c old d new = ComparesAttempt a c d old new
 abbrev pub ComparesBy : Request → Card → Comparisons → Card → Comparisons → Type 0
 ComparesBy request c old d new = ComparesShown (attempt_of request) c old d new
 
--- a command that its form refuses makes none
+-- a command that is no valid request makes no comparison
 abbrev pub ComparesAsked : Result Request Sw → Card → Comparisons → Card → Comparisons → Type 0
 ComparesAsked (Ok request) c old d new = ComparesBy request c old d new
 ComparesAsked (Err status) c old d new = ComparesNothing old new

@@ -20,12 +20,12 @@ abbrev pub CountsShown : Option Attempt → Card → Facts → Facts → Type 0
 CountsShown None c old new = Unit {0}
 CountsShown (Some a) c old new = CountsAttempt (is_right c a) a old new
 
--- nor has one that is refused
+-- a refused request has nothing to count
 abbrev pub CountsServed : Card → Session → Request → Facts → Facts → Type 0
 CountsServed c s request old new =
     refused_by (refusals_of c s request) ≡ None → CountsShown (attempt_of request) c old new
 
--- nor has a command that its form refuses, or that a card refuses whose use has ended
+-- an invalid command, or one to a terminated card, has nothing to count
 abbrev pub CountsAnswered : Result Request Sw → Card → Session → Facts → Facts → Type 0
 CountsAnswered (Ok request) c s old new = c.in_use ≡ true → CountsServed c s request old new
 CountsAnswered (Err status) c s old new = Unit {0}

@@ -1,4 +1,4 @@
--- What calls promise that serve a request in place. No clause of a card's calls names this.
+-- Postconditions of calls that serve a request in place. No clause of the card's calls names this.
 use Rattle.std.specs.Prelude.{◌≡◌, ℕ, List, Result, OnOk}
 use Rattle.card_rules.specs.declared.status.Sw.{Sw}
 use Rattle.undo_journal.specs.declared.error.StoreErr.{StoreErr}
@@ -8,7 +8,7 @@ use Rattle.command_base.specs.declared.current.Current.{Current}
 use Rattle.command_base.specs.Served.{Serves}
 use Rattle.command_base.specs.Working.{space_in}
 
--- A call that serves a request in place: where it ends, as much space is free as before.
+-- A call that serves a request in place: if it succeeds, the free space is unchanged.
 pub record ServesInPlace (request : Request) (old : Memory) (x : Current) (new : Memory) (y : Current) (text : List ℕ)
     (result : Result Sw StoreErr) : Type 0 where
   pub serves : Serves request old x new y text result

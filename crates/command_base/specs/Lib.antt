@@ -1,5 +1,5 @@
--- What is meant: the card and the session, what names reach, one step of the tree machine and its stages, the memory
--- that stands for a card, what a command that is carried out leaves. The laws stand apart.
+-- What the commands have in common: valid card images, recovery, the session as entry numbers, costs of a command,
+-- and the postconditions of a command. The laws are modules of their own.
 pub mod Spending
 pub mod Comparing
 pub mod Counting

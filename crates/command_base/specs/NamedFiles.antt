@@ -1,4 +1,4 @@
--- How the code asks whether the file that a command names refuses it. No clause of a card's calls names these.
+-- How the code checks the file that a command names. No clause of the card's calls names these definitions.
 use Rattle.std.specs.Prelude.{◌≡◌, ◌==◌, ℕ, Bool, not, if◌then◌else◌, ◌||◌, IsTrue, List, Option, Some, None}
 use Rattle.card_model.specs.declared.requests.Target.{Target}
 use Rattle.card_rules.specs.declared.status.Sw.{Sw}
@@ -17,29 +17,28 @@ use Rattle.card_model.specs.Reaching.{target_of}
 use Rattle.command_base.specs.Standing.{card_of}
 use Rattle.command_base.specs.Working.{IsElementary, session_of}
 
--- the structures that a command is for
+-- true if a file of this kind has a structure that the command accepts
 abbrev pub fits : Structure → Kind → Bool
 fits Bytes kind = is_transparent kind
 fits Records kind = has_records kind
 fits Linear kind = is_linear kind
 fits Cyclic kind = is_cyclic kind
 
--- and by the kind of an entry
+-- the same, for the kind of an entry
 abbrev pub fits_kind : Structure → ℕ → Bool
 fits_kind Bytes kind = kind == 2
 fits_kind Records kind = kind == 3 || kind == 4
 fits_kind Linear kind = kind == 3
 fits_kind Cyclic kind = kind == 4
 
--- the refusal of a command by its file: whether it is barred, of a structure that the command is for,
--- and allowed by its rule
+-- the refusal of a command by its file, from three findings: it is barred, its structure fits, its rule permits
 abbrev pub file_refusal : Bool → Bool → Bool → Option Sw
 file_refusal barred fit permitted =
     if barred then Some CONDITIONS_NOT_SATISFIED else
     if not fit then Some WRONG_STRUCTURE else
     if not permitted then Some ACCESS_DENIED else None
 
--- A file that a command on contents names, and that doesn't refuse it, has this entry.
+-- The entry of a file that a command on contents names, and that doesn't refuse the command.
 pub record IsNamed (m : List ℕ) (x : Current) (target : Target) (need : Need) (e : ℕ) (entry : Entry) : Type 0 where
   pub entry_is : entry ≡ entry_in (table m) e
   pub place : target_of (card_of m).tree (session_of (table m) x) target ≡ Some (path_of (table m) e)

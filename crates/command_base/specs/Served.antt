@@ -1,4 +1,4 @@
--- What a call that carries out a request leaves, at whatever exit. No clause of a card's calls names this.
+-- The state after a call that serves a request, at any exit. No clause of the card's calls names this.
 use Rattle.std.specs.Prelude.{◌≡◌, ◌⊎◌, ◌+◌, ◌≤◌, ℕ, false, List, length}
 use Rattle.std.specs.Prelude.{Result, IfOk, OnOk}
 use Rattle.std.specs.Result.{result_err}
@@ -21,9 +21,9 @@ use Rattle.command_base.specs.Standing.{IsCard}
 use Rattle.command_base.specs.Words.{StandsAsked, StandsServed}
 use Rattle.command_base.specs.Working.{card_in, session_in, table_in, IsKept}
 
--- What a call left of the memory and of the current files, with its answer: where it ended, the step of a card in use;
--- at whatever exit, the card before it or after one of its commits;
--- and where nothing lasting changes, only reads were made.
+-- The memory, the session and the answer after a call. If it succeeds, they are the model's step of a card in use.
+-- At any exit the card state is that before the call or that after one of its commits.
+-- A call that changes nothing permanent makes only reads.
 pub record Serves (request : Request) (old : Memory) (x : Current) (new : Memory) (y : Current) (text : List ℕ)
     (result : Result Sw StoreErr) : Type 0 where
   pub step : IfOk result (λ status. served (card_in old) (session_in old x) request
@@ -41,7 +41,7 @@ pub record Serves (request : Request) (old : Memory) (x : Current) (new : Memory
   pub places : OnOk result (moves_files request ≡ false → KeepsPlaces (table_in old) (table_in new))
   pub counted : OnOk result (CountsServed (card_in old) (session_in old x) request old.facts new.facts)
 
--- The same by the bytes of a command, of a card that may be in use or not.
+-- The same for the bytes of a command, and for a card that may be terminated.
 pub record CarriesOut (command : List ℕ) (old : Memory) (x : Current) (new : Memory) (y : Current) (text : List ℕ)
     (result : Result Sw StoreErr) : Type 0 where
   pub step : IfOk result (λ status. carried_out (card_in old) (session_in old x) command

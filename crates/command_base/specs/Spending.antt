@@ -1,4 +1,4 @@
--- How many device writes a command makes at most, by what it asks for.
+-- The most device writes of a command, by its request.
 use Rattle.std.specs.Prelude.{ℕ, ◌+◌, List, length, Option, Some, None, Result, Ok, Err}
 use Rattle.card_rules.specs.declared.status.Sw.{Sw}
 use Rattle.card_model.specs.CommandTable.{asked}
@@ -9,20 +9,20 @@ use Rattle.card_model.specs.Requests.{reset_retry_counter, change_requirement}
 use Rattle.undo_journal.specs.Spending.{transaction_writes}
 use Rattle.block_chain.specs.Changes.{touched_blocks, touched_words}
 
--- a record of at most 255 bytes touches 65 words, and one word of the entry; they lie in at most 7 runs
+-- a record of at most 255 bytes touches 65 words, and one word of the entry; they are in at most 7 runs
 abbrev pub record_writes : ℕ
 record_writes = transaction_writes 66 7
 
--- one word: the first of an entry, or that of the card's state
+-- one word: the first of an entry, or the card's state
 abbrev pub life_writes : ℕ
 life_writes = transaction_writes 1 1
 
--- CREATE FILE fills the blocks of the largest file, 547, one write each, and sets 11 words of its entry, which are one
--- run, the link of its last block, and the header's word of the first free block.
+-- CREATE FILE fills the blocks of the largest file, 547, with one write each. Its transaction sets 11 words of the
+-- entry (one run), the link of the last block, and the header's word for the first free block.
 abbrev pub creation_writes : ℕ
 creation_writes = 547 + transaction_writes 13 3
 
--- what is asked of a PIN alone writes nothing
+-- a query of the remaining tries writes nothing
 abbrev pub shown_writes : {T : Type 0} → Option T → ℕ → ℕ
 shown_writes None most = 0
 shown_writes (Some shown) most = most
@@ -46,7 +46,7 @@ most_writes (change_reference_data pin shown new) = 1 + transaction_writes 3 2
 most_writes (reset_retry_counter pin values) = shown_writes values (1 + transaction_writes 4 1)
 most_writes (change_requirement change pin shown) = 1 + transaction_writes 2 2
 
--- a command that its form refuses makes none
+-- a command that is no valid request makes no write
 abbrev pub writes_asked : Result Request Sw → ℕ
 writes_asked (Ok request) = most_writes request
 writes_asked (Err status) = 0

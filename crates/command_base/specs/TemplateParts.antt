@@ -1,4 +1,4 @@
--- What the code finds of a template in an entry. No public clause names these.
+-- The template of a file, from its entry. No public clause names these definitions.
 use Rattle.std.specs.Prelude.{◌≢◌, ◌==◌, ◌&&◌, ℕ, nat_le, if◌then◌else◌, List, [], length, Option, Some, None}
 use Rattle.file_tree.specs.declared.entry.Entry.{Entry}
 use Rattle.file_tree.specs.Entries.{life_told, name_of, rule_of}
@@ -13,12 +13,12 @@ use Rattle.card_state.specs.declared.fcp.ShortIdentifier.{ShortIdentifier}
 use Rattle.card_state.specs.declared.fcp.ShortIdentifier.TheVariants as shorts
 use Rattle.card_model.specs.Templates.{fcp_text}
 
--- a used entry, whose file a template can tell
+-- a used entry whose file has a template
 pub record IsToldEntry (entry : Entry) : Type 0 where
   pub used : entry.kind ≢ 0
   pub file : IsFileEntry entry
 
--- what a template tells of the file of an entry
+-- the parts of the template, from the entry of the file
 abbrev pub name_in_entry : Entry → Option (List ℕ)
 name_in_entry entry =
     if nat_le 1 (length (name_of entry)) && nat_le (length (name_of entry)) 16 then Some (name_of entry) else None
@@ -48,7 +48,7 @@ parameters_in entry = record {
   kind = kind_in_entry entry;
 }
 
--- the template of the file of an entry, and what SELECT finds of it
+-- the template of the file of an entry, and the response data of SELECT
 unfoldable pub template_in : Entry → List ℕ
 template_in entry = fcp_text (parameters_in entry)
 

@@ -1,5 +1,4 @@
--- What a card that works keeps of its memory and its session: which card and session these are, and the files that can
--- be current.
+-- The memory and the session of a working card: their values in the model, and the files that can be current.
 use Rattle.std.specs.Prelude.{◌≡◌, ◌≤◌, ℕ, Bool, not, List, length, map, option_map, IfSome}
 use Rattle.undo_journal.specs.Memory.{Memory, committed, IsReady}
 use Rattle.file_tree.specs.declared.entry.Entry.{Entry}
@@ -11,23 +10,23 @@ use Rattle.card_model.specs.Sessions.{Session, marked}
 use Rattle.pin_store.specs.Pages.{pins_of}
 use Rattle.command_base.specs.Standing.{card_of, IsCard}
 
--- an elementary file that is a child of a dedicated file
+-- an elementary file that is a child of the dedicated file
 pub record IsElementary (t : List Entry) (df e : ℕ) : Type 0 where
   pub child : IsChild t df e
   pub kind : 2 ≤ (entry_in t e).kind
 
--- the numbers of the current files are those of a dedicated file, and of an elementary file in it, if there is one; and
--- there is a mark for each PIN
+-- The current files are a dedicated file and, if present, an elementary file in it. The set of verified PINs has eight
+-- flags.
 pub record IsCurrent (t : List Entry) (x : Current) : Type 0 where
   pub df : (entry_in t x.df).kind ≡ 1
   pub ef : IfSome x.ef (IsElementary t x.df)
   pub marks : length x.verified ≡ 8
 
--- the PINs of a memory of format 2 that are disabled, each of PIN 1 to 8 marked
+-- the disabled PINs of a memory of format 2, as a flag for each of PIN 1 to 8
 abbrev pub disabled_in : List ℕ → List Bool
 disabled_in m = map (λ pin. not pin.enabled) (pins_of m)
 
--- the session that these numbers stand for
+-- the session of the model for these entry numbers
 abbrev pub session_of : List Entry → Current → Session
 session_of t x = record {
   current_df = path_of t x.df;
@@ -49,8 +48,7 @@ session_in m x = session_of (table_in m) x
 abbrev pub space_in : Memory → FreeSpace
 space_in m = card_space (card_in m)
 
--- What a card that works keeps of its memory and its current files: a store that is ready, the words of a card, and the
--- numbers of files that can be current.
+-- The invariant of a working card: a store that is ready, a valid card image, and current files that exist.
 pub record IsKept (m : Memory) (x : Current) : Type 0 where
   pub ready : IsReady m
   pub card : IsCard (committed m)

@@ -1,4 +1,4 @@
-//! What the rule of a file allows in a session: by the PINs that are verified in it, and those that are disabled.
+//! Access control: what the rule of a file allows in a session.
 ghost use Rattle.std.specs.Prelude.{◌≡◌, ◌<◌, ◌+◌};
 ghost use Rattle.card_rules.specs.Pins.{with_pin};
 ghost use Rattle.card_rules.specs.declared.pins.TheConstants.{PINS};
@@ -15,7 +15,7 @@ use file_tree::is_allowed_at;
 use pin_store::{PINS, is_enabled};
 use undo_journal::{Board, Store, StoreErr};
 
-/// The PINs that are disabled.
+/// Returns the disabled PINs.
 fn disabled_pins<B: Board>(store: &mut Store<B>) -> Result<PinSet, StoreErr>
     requires ready { IsReady store.old }
     ensures { Learns store.old store.new result (λ disabled. disabled ≡ disabled_in (committed store.old)) }
@@ -29,7 +29,7 @@ fn disabled_pins<B: Board>(store: &mut Store<B>) -> Result<PinSet, StoreErr>
     Ok(disabled)
 }
 
-/// Puts the PIN of a secret into a set.
+/// Adds the PIN of a secret to a set.
 fn insert(pins: &mut PinSet, secret: u8)
     requires { secret < PINS }
     ensures { pins.new ≡ with_pin pins.old (secret + 1) }
@@ -39,9 +39,9 @@ fn insert(pins: &mut PinSet, secret: u8)
     }
 }
 
-/// Whether the rule of a file allows what the bit stands for, in this session. The entry is at hand: no word of it is
-/// read. A PIN that is disabled refuses nothing: so the marks of the PINs are read only where the rule isn't met
-/// without them.
+/// Returns true if the file's rule allows `bit` in this session.
+/// It reads no word of the entry. It reads the marks of the PINs only if the verified PINs don't meet the rule,
+/// as a disabled PIN refuses nothing.
 pub fn allows<B: Board>(
     store: &mut Store<B>,
     current: &Current,

@@ -1,5 +1,4 @@
-//! The current files of a session (ISO/IEC 7816-4, 7.3.1), by the numbers of their entries,
-//! and the PINs that are verified in it.
+//! The current files and the verified PINs of a session (ISO/IEC 7816-4, 7.3.1).
 ghost use Rattle.std.specs.Prelude.{◌≡◌};
 ghost use Rattle.card_rules.specs.Pins.{IsPinNumber};
 ghost use Rattle.command_base.specs.CurrentFiles.{current_at, current_by, fresh_current, named_from, pointer_from};
@@ -10,18 +9,18 @@ use card_rules::{PinNumber, PinSet};
 use file_tree::{Entry, EntryHead};
 use pin_store::Outcome;
 
-/// The current dedicated file, the current elementary file in it, if there is one, and the PINs that are verified.
+/// The session: the current files, as entry numbers, and the verified PINs.
 #[derive(Clone, Copy)]
 pub struct Current {
     pub df: u8,
     pub ef: Option<u8>,
-    /// The number of the current record, if one is current.
+    /// The number of the current record, if any.
     pub pointer: Option<u8>,
-    /// The PINs that are verified.
+    /// The verified PINs.
     pub verified: PinSet,
 }
 
-/// Which value of a PIN is shown.
+/// Which value of a PIN is presented.
 #[derive(Clone, Copy)]
 pub enum Shown {
     /// The value of the PIN itself.
@@ -31,7 +30,7 @@ pub enum Shown {
 }
 
 impl Current {
-    /// The master file is current, and no PIN is verified, as after power-on.
+    /// Returns the session after power-on: master file current, no PIN verified.
     pub fn fresh() -> Current
         ensures { result ≡ fresh_current }
     {
@@ -43,14 +42,15 @@ impl Current {
         }
     }
 
-    /// The file of an entry has become current: a dedicated file alone, an elementary file with its parent.
+    /// Returns the session after the file of entry `e` becomes current.
+    /// A dedicated file has no current elementary file in it; an elementary file makes its parent current.
     pub fn at(self, e: u8, entry: &Entry) -> Current
         ensures { result ≡ current_at self e entry.now }
     {
         self.at_head(e, entry.head())
     }
 
-    /// The same, by the head of the entry.
+    /// Returns the same session, from the head of the entry.
     pub fn at_head(self, e: u8, head: EntryHead) -> Current
         ensures { result ≡ current_by self e head.kind head.parent }
     {
@@ -67,8 +67,8 @@ impl Current {
         }
     }
 
-    /// A value of a PIN was shown: the PIN is verified where it was right; where it was wrong, and the value of the PIN
-    /// itself, the PIN is taken out of the verified ones.
+    /// Returns the session after a value of a PIN was presented.
+    /// A right value verifies the PIN. A wrong value of the PIN itself removes it from the verified ones.
     pub fn after_attempt(self, pin: u8, shown: Shown, outcome: Outcome) -> Current
         requires { IsPinNumber pin }
         ensures { result ≡ tried_from self pin (unverifies shown) outcome }
@@ -82,7 +82,7 @@ impl Current {
         Current { verified, ..self }
     }
 
-    /// The elementary file that a binary command named is current: one that a short identifier names becomes so.
+    /// Returns the session after a binary command: the named file is current.
     pub fn naming(self, target: Target, e: u8) -> Current
         ensures { result ≡ named_from self target e }
     {
@@ -96,8 +96,8 @@ impl Current {
         }
     }
 
-    /// The record pointer that a command on records begins with: a file that a short identifier names becomes current
-    /// anew, and then its pointer is unset.
+    /// Returns the record pointer at the start of a command on records.
+    /// A short identifier makes its file current anew, with no current record.
     pub fn pointer_at(self, target: Target) -> Option<u8>
         ensures { result ≡ pointer_from self target }
     {
@@ -107,7 +107,7 @@ impl Current {
         }
     }
 
-    /// The elementary file that a command on records named is current, and the pointer stands so.
+    /// Returns the session after a command on records, with this record pointer.
     pub fn pointing(self, target: Target, e: u8, pointer: Option<u8>) -> Current
         ensures { result ≡ pointing_from self target e pointer }
     {

@@ -1,4 +1,4 @@
-//! The response data field of a command, and how much of it is given, by its Le (ISO/IEC 7816-4, 5.1).
+//! The response data field of a command, and how Le limits it (ISO/IEC 7816-4, 5.1).
 ghost use Rattle.std.specs.Prelude.{◌≡◌, ◌≤◌, [], length};
 ghost use Rattle.card_model.specs.Guards.{asks_less, given, right_length};
 
@@ -6,10 +6,10 @@ use apdu_core::{Answer, Sw};
 use arrayvec::ArrayVec;
 use card_rules::limits::MOST_ANSWER_DATA;
 
-/// The response data field: a template, the bytes of a record, the numbers of records, or what INCREASE answers.
+/// The response data of a command, at most 256 bytes.
 pub type ResponseData = ArrayVec<u8, MOST_ANSWER_DATA>;
 
-/// Whether Le asks for less than the data. Le 00 asks for all.
+/// Returns true if Le requests fewer bytes than the data. Le 00 requests all.
 pub fn asks_less(expected: Option<u8>, response: &ResponseData) -> bool
     ensures { result ≡ asks_less expected response.now.items }
 {
@@ -19,14 +19,15 @@ pub fn asks_less(expected: Option<u8>, response: &ResponseData) -> bool
     }
 }
 
-/// The status word that tells the length of the data, 6CXX; 256 is told as 00.
+/// Returns the status word 6CXX with the length of the data.
+/// It is 6C00 for 256 bytes.
 pub fn right_length(response: &ResponseData) -> Sw
     ensures { result ≡ right_length response.now.items }
 {
     Sw(0x6C00 + (response.len() % MOST_ANSWER_DATA) as u16)
 }
 
-/// Puts the data into an empty answer, if there is an Le.
+/// Writes the data into an empty answer, if Le is present.
 pub fn give(expected: Option<u8>, response: &ResponseData, answer: &mut Answer)
     requires { answer.old.items ≡ [] }
     ensures given { answer.new.items ≡ given expected response.now.items }

@@ -1,5 +1,5 @@
-//! The card as a machine: what it is, what each command makes of it and when it refuses, with the laws of both; and
-//! what the commands have in common: the session, the rule of a file, the file that is named, the length of an answer.
+//! What the commands have in common: the session, the rule of a file, the named file, and the length of an answer.
+//! The definitions say which memories are valid card images, and what a command may change and cost.
 #![tactic(auto)]
 
 mod access;

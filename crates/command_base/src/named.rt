@@ -1,5 +1,4 @@
-//! The elementary file whose contents a command is for (ISO/IEC 7816-4, 7.3.1),
-//! and what refuses the command by that file.
+//! The elementary file of a command on contents (ISO/IEC 7816-4, 7.3.1), and the refusals by that file.
 ghost use Rattle.std.specs.Prelude.{◌≡◌, Some, option_map, IfOk, IfSome};
 ghost use Rattle.std.specs.Result.{result_err};
 ghost use Rattle.undo_journal.specs.Calls.{Learns};
@@ -22,35 +21,35 @@ use card_rules::AccessBit;
 use file_tree::{Entry, EntryKind, find_short, is_barred_at, read_entry};
 use undo_journal::{Board, Store, StoreErr};
 
-/// The structures that a command is for.
+/// The structures that a command accepts.
 #[derive(Clone, Copy)]
 pub enum Structure {
-    /// Bytes.
+    /// A transparent file.
     Bytes,
-    /// Records, in whatever order.
+    /// A linear or a cyclic file.
     Records,
-    /// Records in the order of their numbers.
+    /// A linear file: its records are in the order of their numbers.
     Linear,
-    /// Records, the newest first.
+    /// A cyclic file: its newest record is the first.
     Cyclic,
 }
 
-/// What a command needs of the file whose contents it is for: a structure, and what the rule of the file must allow.
+/// What a command needs: a structure, and an operation.
 #[derive(Clone, Copy)]
 pub struct Need {
     pub structure: Structure,
     pub bit: AccessBit,
 }
 
-/// An elementary file: the number of its entry, and the entry.
+/// An elementary file: its entry and the number of the entry.
 #[derive(Clone, Copy)]
 pub struct Named {
     pub number: u8,
     pub entry: Entry,
 }
 
-/// The file that a command on contents names, or else the refusal: none is named; it is barred; its structure isn't one
-/// that the command is for; its rule doesn't allow the command.
+/// Returns the file that a command on contents names, or the refusal.
+/// The refusals in order: there is no such file; it is barred; its structure doesn't fit; its rule forbids the command.
 #[tactic(auto, using(undo_journal::specs::laws::Calls::reads_then))]
 pub fn find_file<B: Board>(
     store: &mut Store<B>,
@@ -74,7 +73,7 @@ pub fn find_file<B: Board>(
     Ok(file)
 }
 
-/// Refuses a command by the file that it names.
+/// Refuses a command if the file that it names requires so.
 #[tactic(auto, using(undo_journal::specs::laws::Calls::reads_then))]
 fn check_file<B: Board>(
     store: &mut Store<B>,
@@ -99,8 +98,7 @@ fn check_file<B: Board>(
     Ok(())
 }
 
-/// What is found of the file that a command is for: it is barred;
-/// it is of a structure that the command is for; its rule allows the command.
+/// The findings about a file that may refuse a command.
 #[derive(Clone, Copy)]
 pub struct Findings {
     pub barred: bool,
@@ -109,7 +107,7 @@ pub struct Findings {
 }
 
 impl Findings {
-    /// Refuses a command on such a file.
+    /// Returns the refusal of a command, if one is due.
     pub fn check(self) -> Result<(), Sw>
         ensures { result_err result ≡ file_refusal self.barred self.fits self.allowed }
     {
@@ -126,7 +124,7 @@ impl Findings {
 }
 
 impl Structure {
-    /// The file of this entry has this structure.
+    /// Returns true if the file of this entry has this structure.
     fn fits(self, entry: &Entry) -> bool
         ensures { result ≡ fits_kind self entry.now.kind }
     {
@@ -141,7 +139,7 @@ impl Structure {
     }
 }
 
-/// The entry of the elementary file that a command names.
+/// Returns the entry number of the elementary file that a command names.
 pub(crate) fn find_target<B: Board>(
     store: &mut Store<B>,
     current: &Current,
@@ -160,7 +158,7 @@ pub(crate) fn find_target<B: Board>(
     }
 }
 
-/// The status word where no elementary file is named.
+/// Returns the status word for a target that names no elementary file.
 pub(crate) fn missing(target: Target) -> Sw
     ensures { result ≡ missing_status target }
 {

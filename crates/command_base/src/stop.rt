@@ -8,10 +8,10 @@ use ef_body::BodyErr;
 use pin_store::PinErr;
 use undo_journal::StoreErr;
 
-/// Why a command stops before it is done. What a command looks for and does answers it, so that `?` hands it on.
+/// Why a command stops early. The steps of a command return it, so that `?` passes it on.
 #[derive(Clone, Copy)]
 pub enum Stop {
-    /// The command is refused, with this status word. Nothing was written.
+    /// The card refuses the command with this status word. Nothing was written.
     Refused(Sw),
     /// The store failed.
     Failed(StoreErr),
@@ -55,7 +55,7 @@ impl From<PinErr> for Stop {
     }
 }
 
-/// What the card answers to a command that ended so: a refusal is answered by its status word.
+/// Returns the answer: a refusal gives its status word.
 pub fn reply(ended: Result<Sw, Stop>) -> Result<Sw, StoreErr>
     ensures { result ≡ reply ended }
 {
