@@ -1,2 +1,2 @@
--- What a command on records has found, and what the code keeps of the contents of a file.
+-- Records and record files as the code finds them.
 pub mod RecordParts

@@ -1,4 +1,4 @@
--- What the code keeps of the contents of a file. No public clause names these.
+-- Record files as the code describes them (ISO/IEC 7816-4, 11.4). No public clause names these definitions.
 use Rattle.std.specs.Prelude.{◌≡◌, ◌⊎◌, ◌+◌, ◌*◌, ◌==◌, ◌&&◌, ℕ, Bool, true, false, not}
 use Rattle.std.specs.Prelude.{nat_le, if◌then◌else◌}
 use Rattle.std.specs.Prelude.{◌-◌, ◌++◌, ◌∷◌, slice_set, List, [], length, Option, None, Some}
@@ -26,11 +26,11 @@ use Rattle.command_base.specs.declared.named.Structure.{Structure}
 use Rattle.command_base.specs.declared.named.Structure.TheVariants.{Records, Linear}
 use Rattle.command_base.specs.NamedFiles.{IsNamed}
 
--- the address of the word of an entry that tells of its records
+-- the address of the word of an entry with its number of records
 abbrev pub told_address : ℕ → ℕ
 told_address e = PAGE_WORDS * (FIRST_ENTRY_PAGE + e) + RECORDS_WORD
 
--- the records that an entry tells of, as a ring: of a linear file record 1 lies in slot 0
+-- the records of an entry as a ring; record 1 of a linear file is in slot 0
 abbrev pub ring_in : ℕ → Entry → Ring
 ring_in e entry = record {
   chain = record { first = entry.first; last = entry.last };
@@ -44,39 +44,39 @@ ring_in e entry = record {
 abbrev pub record_file_in : ℕ → Entry → RecordFile
 record_file_in e entry = record { number = e; ring = ring_in e entry; wraps = entry.kind == 4 }
 
--- the number of the record that is chosen from a record pointer on
+-- the number of the record that the choice selects, with this record pointer
 abbrev pub chosen_in : RecordFile → Option ℕ → RecordChoice → ℕ
 chosen_in file pointer Next = next_record file.wraps file.ring.records pointer
 chosen_in file pointer Previous = previous_record file.wraps file.ring.records pointer
 chosen_in file pointer (At place) = place_number place pointer
 
--- the record whose place is taken, and the number of one that was added
+-- the number of the record that is overwritten, and the number of an added record
 abbrev pub number_replaced_in : RecordFile → Option ℕ → RecordChoice → ℕ
 number_replaced_in file pointer choice = if file.wraps then 1 else chosen_in file pointer choice
 
 abbrev pub number_added_in : RecordFile → ℕ
 number_added_in file = if file.wraps then 1 else file.ring.records + 1
 
--- there is a record of this number; there is no room for one more
+-- true if a record of this number exists; true if a file has no space for another record
 abbrev pub has_in : Ring → ℕ → Bool
 has_in ring number = nat_le 1 number && nat_le number ring.records
 
 abbrev pub is_full_in : RecordFile → Bool
 is_full_in file = not file.wraps && nat_le file.ring.capacity file.ring.records
 
--- what refuses bytes in the place of a record: there is none of this number, or it isn't as long
+-- the refusal of a replacement: no record of this number, or another length
 abbrev pub unreplaced : RecordFile → ℕ → List ℕ → Option Sw
 unreplaced file number bytes =
     if not (has_in file.ring number) then Some RECORD_NOT_FOUND else
     if not (length bytes == file.ring.record_length) then Some WRONG_LENGTH else None
 
--- and as one record more: there is no room, or the records aren't as long
+-- the refusal of an added record: no space, or another length
 abbrev pub unadded : RecordFile → List ℕ → Option Sw
 unadded file bytes =
     if is_full_in file then Some NO_ROOM else
     if not (length bytes == file.ring.record_length) then Some WRONG_LENGTH else None
 
--- records with one replaced, and with one more, where the last one is followed by the first, and where it isn't
+-- the records after a replacement, and after an addition; `wraps` is true for a cyclic file
 abbrev pub replaced_in : Bool → List (List ℕ) → ℕ → List ℕ → List (List ℕ)
 replaced_in wraps records number bytes =
     if wraps then front (length records) bytes records else slice_set records (number - 1) bytes
@@ -84,12 +84,12 @@ replaced_in wraps records number bytes =
 abbrev pub appended_in : Bool → ℕ → List (List ℕ) → List ℕ → List (List ℕ)
 appended_in wraps capacity records bytes = if wraps then front capacity bytes records else records ++ bytes ∷ []
 
--- a ring has these records, and all else stays: where the last one is followed by the first, the new one lies before it
+-- the ring has these records afterwards, and all else is unchanged; in a cyclic file the new record is the first
 abbrev pub RingBecomes : Bool → List ℕ → Ring → List (List ℕ) → List ℕ → Type 0
 RingBecomes true m ring records after = CyclicBecomes m ring records after
 RingBecomes false m ring records after = RecordsBecome m ring records after
 
--- whether room is in front of the first record, and the ring that it is in
+-- true if the free slot is in front of the first record; and the ring of the slot
 abbrev pub wraps_room : Room → Bool
 wraps_room (rooms.Behind slot) = false
 wraps_room (rooms.InFront ring) = true
@@ -98,13 +98,13 @@ abbrev pub ring_room : Room → Ring
 ring_room (rooms.Behind slot) = slot.ring
 ring_room (rooms.InFront ring) = ring
 
--- The file of records that a command names, as its entry tells of it.
+-- The record file that a command names, as its entry describes it.
 pub record IsRecordFile (m : List ℕ) (x : Current) (target : Target) (need : Need) (file : RecordFile) : Type 0 where
   pub named : IsNamed m x target need file.number (entry_in (table m) file.number)
   pub kind : ((entry_in (table m) file.number).kind ≡ 3) ⊎ ((entry_in (table m) file.number).kind ≡ 4)
   pub file_is : file ≡ record_file_in file.number (entry_in (table m) file.number)
 
--- what UPDATE RECORD needs of its file, by its choice
+-- what UPDATE RECORD needs of its file, by its choice of record
 abbrev pub structure_replaced : RecordChoice → Structure
 structure_replaced Next = Linear
 structure_replaced Previous = Records

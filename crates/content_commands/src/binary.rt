@@ -28,8 +28,8 @@ const UPDATING: Need = Need {
     bit: AccessBit::Update,
 };
 
-/// READ BINARY: the bytes from the place on go into `answer`, as many as Le asks for,
-/// and the status word is the result.
+/// READ BINARY: writes up to Le bytes into `answer`.
+/// Returns the status word.
 pub fn read_file<B: Board>(
     store: &mut Store<B>,
     current: &mut Current,
@@ -50,7 +50,7 @@ pub fn read_file<B: Board>(
     Ok(read_status(answer.len(), expected))
 }
 
-/// UPDATE BINARY: the bytes take the place of those from a place on, in one transaction, all or none.
+/// UPDATE BINARY: overwrites the bytes from the place on, in one transaction.
 pub fn update_file<B: Board>(
     store: &mut Store<B>,
     current: &mut Current,
@@ -70,7 +70,7 @@ pub fn update_file<B: Board>(
     Ok(Sw::DONE)
 }
 
-/// The body of a transparent file.
+/// Returns the body of a transparent file, from its entry.
 fn body_of(entry: &Entry) -> Transparent
     ensures { result
         ≡ record { chain = record { first = entry.now.first; last = entry.now.last }; size = entry.now.size } }
@@ -84,7 +84,7 @@ fn body_of(entry: &Entry) -> Transparent
     }
 }
 
-/// How many bytes are read at most, for an Le byte: as many as it says, 256 where it is 00.
+/// Returns the most bytes for an Le byte; 00 means 256.
 fn most_of(expected: u8) -> u16
     ensures { result ≡ (if expected == 0 then 256 else expected) }
 {
@@ -95,7 +95,8 @@ fn most_of(expected: u8) -> u16
     }
 }
 
-/// The status word of READ BINARY that read so many bytes, which tells where more were asked for.
+/// Returns the status word of READ BINARY after `count` bytes.
+/// It is 6282 if Le requested more.
 fn read_status(count: usize, expected: u8) -> Sw
     ensures { result ≡ end_status count expected }
 {

@@ -19,10 +19,11 @@ const INCREASING: Need = Need {
     bit: AccessBit::Update,
 };
 
-/// INCREASE: the sum of the newest record of the current cyclic file and the sent number is the new record 1, which is
-/// the current one then. The new record, and then what was sent, go into `answer`, and the status word is the result.
-/// It is refused by its file; the sent number is too long; there is no record; the sum is too long; Le asks for less
-/// than the answer.
+/// INCREASE: adds a number to the newest record.
+/// The file is the current cyclic one, and the new record becomes the current record. The sum and then the sent number
+/// go into `answer`. Returns the status word.
+/// The refusals in order: by the file; the number is too long; there is no record; the sum overflows the record;
+/// Le requests less than the answer.
 pub fn increase<B: Board>(
     store: &mut Store<B>,
     current: &mut Current,
@@ -52,7 +53,7 @@ pub fn increase<B: Board>(
     Ok(Sw::DONE)
 }
 
-/// What INCREASE answers: the new record, and then what was sent.
+/// Returns the answer of INCREASE: new record, sent number.
 fn answer_of(sum: &ResponseData, amount: &[u8]) -> ResponseData
     requires { length sum.now.items + length amount.now ≤ 256 }
     ensures { result.items ≡ sum.now.items ++ amount.now }
@@ -63,7 +64,8 @@ fn answer_of(sum: &ResponseData, amount: &[u8]) -> ResponseData
     response
 }
 
-/// More bytes than a record has, or an answer of more than 256 bytes.
+/// Returns true if the number or the answer is too long.
+/// The number may have the length of a record, and the answer 256 bytes.
 fn is_too_long(ring: Cyclic, amount: &[u8]) -> bool
     requires { length amount.now ≤ 255 }
     ensures { result ≡ (nat_lt ring.record_length (length amount.now)

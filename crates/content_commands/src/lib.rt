@@ -1,4 +1,4 @@
-//! The commands on what a file holds: bytes and records.
+//! The commands on the contents of files: bytes and records.
 #![tactic(auto)]
 
 mod binary;

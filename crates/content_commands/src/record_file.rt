@@ -1,4 +1,4 @@
-//! An elementary file of records, as its entry tells of it, and what a command finds of it before it writes.
+//! Record files, and the checks of a command before it writes a record.
 ghost use Rattle.std.specs.Prelude.{◌≡◌, ◌≤◌, ◌⊎◌, ◌==◌, if◌then◌else◌, length, None, Some, IfOk};
 ghost use Rattle.std.specs.Result.{result_err};
 ghost use Rattle.card_rules.specs.declared.status.TheConstants.Sw.{NO_ROOM};
@@ -22,8 +22,9 @@ use ef_body::{Cyclic, FreeSlot, RecordBody, RecordSlot};
 use file_tree::{Entry, EntryKind, FIRST_ENTRY_PAGE, RECORDS_WORD};
 use undo_journal::{Board, PAGE_WORDS, Store, StoreErr};
 
-/// An elementary file of records: the number of its entry, its records as they lie in a ring, and whether the last one
-/// is followed by the first, as in a cyclic file. In a linear one record 1 lies in slot 0.
+/// A record file: its entry number, its ring, and its kind.
+/// `wraps` is true for a cyclic file.
+/// Record 1 of a linear file is in slot 0.
 #[derive(Clone, Copy)]
 pub(crate) struct RecordFile {
     pub number: u8,
@@ -31,17 +32,17 @@ pub(crate) struct RecordFile {
     pub wraps: bool,
 }
 
-/// Where a record that is added goes.
+/// The place for an added record.
 #[derive(Clone, Copy)]
 pub(crate) enum Room {
-    /// Behind the last one, by the receipt that there is a slot.
+    /// After the last record, in a free slot.
     Behind(FreeSlot),
-    /// In front: where there is no slot more, the oldest one goes.
+    /// In front of the first record. In a full file it overwrites the oldest one.
     InFront(Cyclic),
 }
 
 impl RecordFile {
-    /// The file that the used entry of a file of records tells of.
+    /// Returns the record file of a used entry.
     pub fn of(number: u8, entry: &Entry) -> RecordFile
         requires number { number ≤ 63 }
         requires told { IsToldEntry entry.now }
@@ -66,7 +67,7 @@ impl RecordFile {
         }
     }
 
-    /// The number of the record that is chosen from a record pointer on. There may be none of that number.
+    /// Returns the number of the selected record, which may not exist.
     fn chosen(self, pointer: Option<u8>, choice: RecordChoice) -> u16
         ensures { result ≡ chosen_in self pointer choice }
     {
@@ -77,18 +78,18 @@ impl RecordFile {
         }
     }
 
-    /// Looks for the record that is chosen from a record pointer on.
+    /// Returns the selected record.
     ///
     /// # Errors
-    /// 6A83 exactly where there is no such record.
+    /// 6A83 if and only if the record doesn't exist.
     pub fn find_chosen(self, pointer: Option<u8>, choice: RecordChoice) -> Result<RecordSlot, Sw>
         ensures { FindsRecord self.ring (chosen_in self pointer choice) result }
     {
         self.ring.find(self.chosen(pointer, choice))
     }
 
-    /// The number of the record whose place is taken: of a cyclic file 1, the record in front of which the new one
-    /// comes.
+    /// Returns the number of the record to overwrite.
+    /// In a cyclic file it is 1: the new record goes in front of record 1.
     fn replaced(self, pointer: Option<u8>, choice: RecordChoice) -> u16
         ensures { result ≡ number_replaced_in self pointer choice }
     {
@@ -99,10 +100,10 @@ impl RecordFile {
         }
     }
 
-    /// Looks for the record that the bytes replace.
+    /// Returns the record that the bytes replace.
     ///
     /// # Errors
-    /// 6A83 exactly where there is no such record, and 6700 where there is one, and it isn't as long.
+    /// 6A83 if and only if the record doesn't exist; 6700 if it exists and has another length.
     pub fn find_replaced(
         self,
         pointer: Option<u8>,
@@ -120,7 +121,7 @@ impl RecordFile {
         Ok(slot)
     }
 
-    /// The number of a record that was added.
+    /// Returns the number that an added record gets.
     pub fn added(self) -> u8
         requires { self.ring.records ≤ 254 }
         ensures { result ≡ number_added_in self }
@@ -132,14 +133,14 @@ impl RecordFile {
         }
     }
 
-    /// Whether these are as many bytes as a record has.
+    /// Returns true if the bytes have the length of a record.
     fn takes(self, bytes: &[u8]) -> bool
         ensures { result ≡ (length bytes.now == self.ring.record_length) }
     {
         bytes.len() == usize::from(self.ring.record_length)
     }
 
-    /// The record pointer after the record of a number was replaced.
+    /// Returns the record pointer after the replacement of record `number`.
     pub fn pointer_replaced(
         self,
         pointer: Option<u8>,
@@ -156,7 +157,8 @@ impl RecordFile {
         }
     }
 
-    /// Replaces the record of a receipt, in one transaction; of a cyclic file the oldest, and the new one is record 1.
+    /// Replaces the record of a slot, in one transaction.
+    /// In a cyclic file it overwrites the oldest record, and the new one becomes record 1.
     pub fn replace<B: Board>(
         self,
         slot: RecordSlot,
@@ -177,11 +179,10 @@ impl RecordFile {
         }
     }
 
-    /// Looks for room for the bytes, as one record more.
+    /// Returns the place for the bytes as an added record.
     ///
     /// # Errors
-    /// 6A84 exactly where a linear file has as many records as there is room for, and 6700 where there is room, and its
-    /// records aren't as long.
+    /// 6A84 if and only if a linear file is full; 6700 if there is space, and the records have another length.
     pub fn room_for(self, bytes: &[u8]) -> Result<Room, Sw>
         ensures ring { IfOk result (λ room. ring_room room ≡ self.ring) }
         ensures wraps { IfOk result (λ room. wraps_room room ≡ self.wraps) }
@@ -194,10 +195,10 @@ impl RecordFile {
         Ok(room)
     }
 
-    /// Looks for room for one record more.
+    /// Returns the place for an added record.
     ///
     /// # Errors
-    /// 6A84 exactly where a linear file has as many records as there is room for.
+    /// 6A84 if and only if a linear file is full.
     fn find_room(self) -> Result<Room, Sw>
         ensures ring { IfOk result (λ room. ring_room room ≡ self.ring) }
         ensures wraps { IfOk result (λ room. wraps_room room ≡ self.wraps) }
@@ -212,7 +213,7 @@ impl RecordFile {
 }
 
 impl Room {
-    /// Adds a record, in one transaction: behind the last one, or in front.
+    /// Adds a record, in one transaction.
     pub fn fill<B: Board>(self, store: &mut Store<B>, bytes: &[u8]) -> Result<(), StoreErr>
         requires ready { IsReady store.old }
         requires body { IsCyclic (committed store.old) (ring_room self) }
@@ -228,7 +229,8 @@ impl Room {
     }
 }
 
-/// The record after the pointer, where it is unset the first; behind the last one of a cyclic file the first.
+/// Returns the record number after the pointer, or 1 without pointer.
+/// After the last record of a cyclic file it is 1.
 fn next_record(wraps: bool, last: u16, pointer: Option<u8>) -> u16
     ensures { result ≡ next_record wraps last pointer }
 {
@@ -239,8 +241,8 @@ fn next_record(wraps: bool, last: u16, pointer: Option<u8>) -> u16
     }
 }
 
-/// The record before the pointer, where it is unset the last; before the first one of a cyclic file the last. 0 is
-/// none.
+/// Returns the record number before the pointer, or the last without pointer.
+/// Before the first record of a cyclic file it is the last; 0 means none.
 fn previous_record(wraps: bool, last: u16, pointer: Option<u8>) -> u16
     ensures { result ≡ previous_record wraps last pointer }
 {
@@ -251,7 +253,7 @@ fn previous_record(wraps: bool, last: u16, pointer: Option<u8>) -> u16
     }
 }
 
-/// The number of a place; where the pointer is unset, it is at no record, 0.
+/// Returns the record number of a place; 0 without a current record.
 fn place_number(place: RecordPlace, pointer: Option<u8>) -> u16
     ensures { result ≡ place_number place pointer }
 {
@@ -261,7 +263,8 @@ fn place_number(place: RecordPlace, pointer: Option<u8>) -> u16
     }
 }
 
-/// The pointer after a record was read or replaced: the next and the previous record become the current one.
+/// Returns the record pointer after a record was read or replaced.
+/// Modes next and previous move it to that record.
 pub(crate) fn pointer_after(pointer: Option<u8>, choice: RecordChoice, number: u16) -> Option<u8>
     requires { number ≤ 255 }
     ensures { result ≡ pointer_after pointer choice number }

@@ -34,7 +34,8 @@ const APPENDING: Need = Need {
     bit: AccessBit::Append,
 };
 
-/// What UPDATE RECORD needs of its file: of a cyclic one it replaces the record before record 1 alone.
+/// Returns what UPDATE RECORD needs of its file.
+/// In a cyclic file only the mode previous is allowed.
 fn replacing(choice: RecordChoice) -> Need
     ensures { result ≡ need_replacing choice }
 {
@@ -48,7 +49,7 @@ fn replacing(choice: RecordChoice) -> Need
     }
 }
 
-/// The file that a command on records names, or else what refuses the command by its file.
+/// Returns the named record file, or the refusal by it.
 pub(crate) fn find_records<B: Board>(
     store: &mut Store<B>,
     current: &Current,
@@ -67,7 +68,8 @@ pub(crate) fn find_records<B: Board>(
     Ok(RecordFile::of(file.number, &file.entry))
 }
 
-/// READ RECORD: the record goes into `answer`, and the status word is the result. Le is 00 or the length of a record.
+/// READ RECORD: writes the record into `answer`.
+/// Le is 00 or the length of a record. Returns the status word.
 pub fn read_record<B: Board>(
     store: &mut Store<B>,
     current: &mut Current,
@@ -96,8 +98,8 @@ pub fn read_record<B: Board>(
     Ok(Sw::DONE)
 }
 
-/// UPDATE RECORD: the bytes take the place of a record, in one transaction. Of a cyclic file the oldest record alone
-/// can be replaced (mode previous), and the new one becomes record 1 and the current one.
+/// UPDATE RECORD: replaces a record, in one transaction.
+/// In a cyclic file only the oldest record can be replaced (mode previous). The new one becomes record 1 and current.
 pub fn update_record<B: Board>(
     store: &mut Store<B>,
     current: &mut Current,
@@ -120,8 +122,8 @@ pub fn update_record<B: Board>(
     Ok(Sw::DONE)
 }
 
-/// APPEND RECORD: the bytes are a new record, the last of a linear file, the first of a cyclic one, in one transaction.
-/// It becomes the current record.
+/// APPEND RECORD: adds a record, in one transaction.
+/// It becomes the last record of a linear file or the first of a cyclic one, and the current record.
 pub fn append_record<B: Board>(
     store: &mut Store<B>,
     current: &mut Current,
@@ -141,8 +143,8 @@ pub fn append_record<B: Board>(
     Ok(Sw::DONE)
 }
 
-/// SEARCH RECORD: the numbers of the records that hold the text go into `answer`, and the first of them becomes the
-/// current record. The status word is the result.
+/// SEARCH RECORD: writes the numbers of matching records into `answer`.
+/// The first of them becomes the current record. Returns the status word.
 pub fn search_record<B: Board>(
     store: &mut Store<B>,
     current: &mut Current,
@@ -174,21 +176,21 @@ pub fn search_record<B: Board>(
     Ok(status_of(&numbers))
 }
 
-/// Whether Le is neither 00 nor the length of a record.
+/// Returns true if Le is neither 00 nor the record length.
 fn is_other_length(expected: u8, bytes: &ResponseData) -> bool
     ensures { result ≡ (not (expected == 0) && not (expected == length bytes.now.items)) }
 {
     expected != 0 && usize::from(expected) != bytes.len()
 }
 
-/// The record pointer after a search that found these: at the first of them, or where it was.
+/// Returns the record pointer after a search: the first match, or unchanged.
 fn first_of(numbers: &ResponseData, pointer: Option<u8>) -> Option<u8>
     ensures { result ≡ pointer_found pointer numbers.now.items }
 {
     numbers.first().copied().or(pointer)
 }
 
-/// The status word of a search that found these.
+/// Returns the status word of a search with these matches.
 fn status_of(numbers: &ResponseData) -> Sw
     ensures { result ≡ search_status numbers.now.items }
 {
