@@ -1,5 +1,5 @@
--- What the code finds of a file that may be deleted, and of one that may be created.
--- No clause of a card's calls names this.
+-- The files that DELETE FILE may delete and CREATE FILE may create (ISO/IEC 7816-9).
+-- No clause of the card's calls names this.
 use Rattle.std.specs.Prelude.{◌≡◌, ◌<◌, ℕ, true, false, List, Ok, None, Some}
 use Rattle.card_state.specs.declared.fcp.Fcp.{Fcp}
 use Rattle.card_model.specs.TemplateGrammar.{fcp_read}
@@ -16,7 +16,7 @@ use Rattle.card_model.specs.Reaching.{subject_of}
 use Rattle.command_base.specs.Standing.{card_of}
 use Rattle.command_base.specs.Working.{session_of}
 
--- a file below the master file that DELETE FILE names, and that doesn't refuse it, has this entry
+-- the entry of a file, other than the master file, that DELETE FILE names and that doesn't refuse it
 pub record IsDeletable (m : List ℕ) (x : Current) (subject : Subject) (e : ℕ) (entry : Entry) : Type 0 where
   pub entry_is : entry ≡ entry_in (table m) e
   pub place : subject_of (card_of m).tree (session_of (table m) x) subject ≡ Some (path_of (table m) e)
@@ -24,7 +24,7 @@ pub record IsDeletable (m : List ℕ) (x : Current) (subject : Subject) (e : ℕ
   pub below : 0 < e
   pub unrefused : refused_by (delete_refusals (card_of m) (session_of (table m) x) subject) ≡ None
 
--- a file that a template tells of, and that the current dedicated file, which isn't barred, allows in it
+-- the file of a template, which the current dedicated file may contain, as it isn't barred and its rule permits
 pub record IsNewFile (m : List ℕ) (x : Current) (template : List ℕ) (fcp : Fcp) : Type 0 where
   pub told : fcp_read template ≡ Ok fcp
   pub creatable : IsCreatable fcp

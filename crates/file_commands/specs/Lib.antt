@@ -1,3 +1,3 @@
--- What a command on files has found.
+-- Files as the commands on files find them.
 pub mod LifeParts
 pub mod FileParts

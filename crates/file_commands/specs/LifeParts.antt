@@ -1,4 +1,4 @@
--- What the code makes of a change of a life cycle. No clause of a card's calls names these.
+-- Changes of a life cycle as the code computes them (ISO/IEC 7816-9). No clause of the card's calls names these.
 use Rattle.std.specs.Prelude.{◌≡◌, ◌==◌, ℕ, Bool, true, not, if◌then◌else◌, List, Option, Some, None, unwrap_or, Result}
 use Rattle.std.specs.Prelude.{Ok, Err}
 use Rattle.card_rules.specs.declared.life_cycle.LifeCycle.{LifeCycle}
@@ -20,21 +20,21 @@ use Rattle.card_model.specs.Behaviours.{refused_by}
 use Rattle.command_base.specs.Standing.{card_of}
 use Rattle.command_base.specs.Working.{session_of}
 
--- the entry of the file that a command is about where it names none
+-- the entry of the file that a command without data changes; None: no current elementary file
 abbrev pub current_changed : Current → LifeCycleChange → Option ℕ
 current_changed x Activate = Some (unwrap_or x.ef x.df)
 current_changed x Deactivate = Some (unwrap_or x.ef x.df)
 current_changed x TerminateDf = Some x.df
 current_changed x TerminateEf = x.ef
 
--- the kinds of entries that a command is for
+-- true if the command is for files of this kind
 abbrev pub is_for_kind : LifeCycleChange → ℕ → Bool
 is_for_kind Activate kind = true
 is_for_kind Deactivate kind = true
 is_for_kind TerminateDf kind = kind == 1
 is_for_kind TerminateEf kind = not (kind == 1)
 
--- the change, or what refuses it: no state after it; a file of another kind; a rule that doesn't allow it
+-- the change or its refusal: no state transition, the wrong kind of file, or a rule that forbids it
 abbrev pub changed_by : LifeCycleChange → ℕ → Entry → Option LifeCycle → Bool → Result Changed Sw
 changed_by change e entry None allowed = Err CONDITIONS_NOT_SATISFIED
 changed_by change e entry (Some life) allowed =
@@ -42,15 +42,14 @@ changed_by change e entry (Some life) allowed =
     if not allowed then Err ACCESS_DENIED else
     Ok (record { number = e; entry = entry; life = life })
 
--- the same of the file of an entry
+-- the same for the file of an entry
 abbrev pub change_at : List ℕ → Current → LifeCycleChange → ℕ → Result Changed Sw
 change_at m x change e =
     let path = path_of (table m) e in
     changed_by change e (entry_in (table m) e) (next_life (tree_of m) path (command_of change))
     (allowed (card_of m) (session_of (table m) x) path (change_bit change))
 
--- A file whose life cycle a command changes, and that doesn't refuse it, has this entry,
--- and this state after the change.
+-- The entry of a file whose life cycle a command changes without refusal, and its state after the change.
 pub record IsChanged (m : List ℕ) (x : Current) (change : LifeCycleChange) (subject : Subject)
     (changed : Changed) : Type 0 where
   pub entry_is : changed.entry ≡ entry_in (table m) changed.number

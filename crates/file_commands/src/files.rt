@@ -1,4 +1,4 @@
-//! Commands on files as such: CREATE FILE and DELETE FILE (ISO/IEC 7816-9).
+//! CREATE FILE and DELETE FILE (ISO/IEC 7816-9).
 ghost use Rattle.std.specs.Prelude.{◌≡◌, ◌||◌, [], true, option_map, Some, IfOk, IfSome, OnOk};
 ghost use Rattle.undo_journal.specs.Calls.{Learns};
 ghost use Rattle.undo_journal.specs.Memory.{committed};
@@ -26,9 +26,9 @@ use file_changes::{Creation, create, delete};
 use file_tree::{FreeSpace, Index, is_barred_at, read_entry, select};
 use undo_journal::{Board, Store, StoreErr};
 
-/// CREATE FILE: the file that the template tells stands in the current dedicated file then, and is current. Its blocks
-/// are filled first, where no file is; then one transaction adds it, all or nothing. What is free shrinks by what it
-/// takes. The status word is the result.
+/// CREATE FILE: adds a file to the current dedicated file.
+/// It first fills the file's blocks, outside any file. Then one transaction adds the file, which becomes current.
+/// The free space decreases by the file's size. Returns the status word.
 pub fn create_file<B: Board>(
     store: &mut Store<B>,
     current: &mut Current,
@@ -57,8 +57,9 @@ pub fn create_file<B: Board>(
     Ok(Sw::DONE)
 }
 
-/// The file that CREATE FILE is to create, as its template tells it, or else the refusal: the current dedicated file is
-/// barred; the template tells of no file; the rule of the current dedicated file doesn't allow a file of this kind.
+/// Returns the file that CREATE FILE creates, or its refusal.
+/// The refusals in order: the current dedicated file is barred; the template is invalid; the rule of the current
+/// dedicated file doesn't allow a file of this kind.
 fn find_new_file<'a, B: Board>(
     store: &mut Store<B>,
     current: &Current,
@@ -88,7 +89,7 @@ fn find_new_file<'a, B: Board>(
     Ok(fcp)
 }
 
-/// What the rule of a dedicated file must allow for a file of a kind to be created in it.
+/// Returns the operation that must be allowed for this creation.
 fn creation_bit(kind: &FileKind<'_>) -> AccessBit
     ensures { result ≡ creation_bit kind.now }
 {
@@ -99,8 +100,8 @@ fn creation_bit(kind: &FileKind<'_>) -> AccessBit
     }
 }
 
-/// DELETE FILE: the file goes with all files below it, in one transaction, all or none. Its parent becomes the current
-/// dedicated file, and what is free grows by what the files took. The status word is the result.
+/// DELETE FILE: deletes a file and all below it, in one transaction.
+/// Its parent becomes the current dedicated file, and the free space grows by the files' size. Returns the status word.
 pub fn delete_file<B: Board>(
     store: &mut Store<B>,
     current: &mut Current,
@@ -130,8 +131,9 @@ pub fn delete_file<B: Board>(
     Ok(Sw::DONE)
 }
 
-/// The file that DELETE FILE names, or else the refusal: there is none; it is the master file; a file above it is
-/// barred; neither its own rule nor that of its parent allows it.
+/// Returns the file that DELETE FILE names, or its refusal.
+/// The refusals in order: there is no such file; it is the master file; a file above it is barred; neither its own rule
+/// nor that of its parent allows it.
 #[tactic(auto, using(undo_journal::specs::laws::Calls::reads_then))]
 fn find_deletable<B: Board>(
     store: &mut Store<B>,
@@ -159,8 +161,8 @@ fn find_deletable<B: Board>(
     Ok(file)
 }
 
-/// Refuses DELETE FILE by a file and its parent: the parent, or a file above it, is barred;
-/// the rule of neither allows it.
+/// Refuses DELETE FILE by a barred parent, or by both rules.
+/// A file is barred if it, or a file above it, is deactivated or terminated.
 #[tactic(auto, using(undo_journal::specs::laws::Calls::reads_then))]
 fn check_deletion<B: Board>(
     store: &mut Store<B>,
@@ -194,7 +196,8 @@ fn check_deletion<B: Board>(
     Ok(())
 }
 
-/// The entry of the file that a command on files is about: its own, where it names none.
+/// Returns the entry of the file that a command on files names.
+/// Without a name it is `own`.
 #[tactic(auto, using(undo_journal::specs::laws::Calls::reads_then))]
 pub(crate) fn find_subject<B: Board>(
     store: &mut Store<B>,

@@ -1,4 +1,4 @@
-//! The commands on files as such: which file is current, which files there are, and their life cycles.
+//! The commands on files: selection, creation, deletion and life cycles.
 #![tactic(auto)]
 
 mod files;

@@ -1,4 +1,4 @@
-//! Commands on life cycles: ACTIVATE FILE, DEACTIVATE FILE, TERMINATE DF, TERMINATE EF and TERMINATE CARD USAGE
+//! The commands on life cycles: ACTIVATE FILE, DEACTIVATE FILE, TERMINATE DF, TERMINATE EF and TERMINATE CARD USAGE
 //! (ISO/IEC 7816-9).
 ghost use Rattle.std.specs.Prelude.{◌≡◌, [], Some, Ok, Err};
 ghost use Rattle.undo_journal.specs.Memory.{committed};
@@ -21,7 +21,7 @@ use file_changes::{next_life_cycle, set_life_cycle, terminate_card};
 use file_tree::{Entry, EntryKind, Index, read_entry};
 use undo_journal::{Board, Store};
 
-/// A file whose life cycle a command changes: the number of its entry, the entry, and the state after the change.
+/// A change of a file's life cycle: entry, and new state.
 #[derive(Clone, Copy)]
 pub(crate) struct Changed {
     pub number: u8,
@@ -29,9 +29,10 @@ pub(crate) struct Changed {
     pub life: LifeCycle,
 }
 
-/// ACTIVATE FILE, DEACTIVATE FILE, TERMINATE DF and TERMINATE EF: the file is in the state that the command brings it
-/// into, by one transaction, and it becomes current anew. Where it is in this state already nothing is written. The
-/// status word is the result.
+/// Changes a file's life cycle, and selects the file.
+/// It needs one transaction.
+/// The commands are ACTIVATE FILE, DEACTIVATE FILE, TERMINATE DF and TERMINATE EF. A file that is in the state already
+/// needs no write. Returns the status word.
 pub fn change_life_cycle<B: Board>(
     store: &mut Store<B>,
     index: &Index,
@@ -49,8 +50,8 @@ pub fn change_life_cycle<B: Board>(
     Ok(Sw::DONE)
 }
 
-/// TERMINATE CARD USAGE: the use of the card ends, by one transaction, where the rule of the master file allows it. The
-/// status word is the result.
+/// TERMINATE CARD USAGE: permanently terminates the card, in one transaction.
+/// The rule of the master file must allow it. Returns the status word.
 pub fn terminate_card_usage<B: Board>(store: &mut Store<B>, current: &Current) -> Result<Sw, Stop>
     requires kept { IsKept store.old current.now }
     ensures { Serves (terminating) store.old current.now store.new current.now [] (reply result) }
@@ -64,9 +65,9 @@ pub fn terminate_card_usage<B: Board>(store: &mut Store<B>, current: &Current) -
     Ok(Sw::DONE)
 }
 
-/// The file whose life cycle a command changes, or else the refusal: there is no such file; a file above it is
-/// deactivated or terminated, or its own state doesn't allow the change; it isn't of the kind that the command is for;
-/// its rule doesn't allow the change.
+/// Returns the file whose life cycle a command changes, or its refusal.
+/// The refusals in order: there is no such file; a file above it is deactivated or terminated, or its own state doesn't
+/// allow the change; it isn't of the command's kind; its rule doesn't allow the change.
 #[tactic(auto, using(undo_journal::specs::laws::Calls::reads_then))]
 fn find_change<B: Board>(
     store: &mut Store<B>,
@@ -89,8 +90,8 @@ fn find_change<B: Board>(
     read_change(store, current, change, number)
 }
 
-/// What a command on life cycles finds of the file of a used entry:
-/// the change, or the refusal by its life cycle, its kind or its rule.
+/// Returns the change of a used entry's file, or its refusal.
+/// The refusal is by its life cycle, its kind or its rule.
 #[tactic(auto, using(undo_journal::specs::laws::Calls::reads_then))]
 fn read_change<B: Board>(
     store: &mut Store<B>,
@@ -111,7 +112,8 @@ fn read_change<B: Board>(
     Ok(changed_by(change, number, entry, next, allowed)?)
 }
 
-/// The change, or what refuses it: no state after it; a file of another kind; a rule that doesn't allow it.
+/// Returns the change or its refusal.
+/// The refusals in order: no state transition, the wrong kind of file, a rule that forbids it.
 fn changed_by(
     change: LifeCycleChange,
     number: u8,
@@ -137,7 +139,7 @@ fn changed_by(
     })
 }
 
-/// The entry of the file that a command is about where it names none.
+/// Returns the entry of the file that a command without data changes.
 fn current_changed(current: &Current, change: LifeCycleChange) -> Option<u8>
     ensures { result ≡ current_changed current.now change }
 {
@@ -150,7 +152,7 @@ fn current_changed(current: &Current, change: LifeCycleChange) -> Option<u8>
     }
 }
 
-/// The status word where there is no file that a command is about.
+/// Returns the status word for a missing file.
 fn no_subject(subject: Subject) -> Sw
     ensures { result ≡ no_subject subject }
 {
@@ -160,7 +162,7 @@ fn no_subject(subject: Subject) -> Sw
     }
 }
 
-/// The row of the table of states that a command has, and what the file's rule must allow.
+/// Returns the command's row of states, and the required operation.
 fn row_of(change: LifeCycleChange) -> (LifeCycleCommand, AccessBit)
     ensures { result ≡ (command_of change, change_bit change) }
 {
@@ -173,8 +175,8 @@ fn row_of(change: LifeCycleChange) -> (LifeCycleCommand, AccessBit)
     }
 }
 
-/// A command is for the file of this entry: TERMINATE DF for dedicated files,
-/// TERMINATE EF for elementary files, the others for all.
+/// Returns true if the command is for files of this kind.
+/// TERMINATE DF is for dedicated files, TERMINATE EF for elementary files, the others for all files.
 fn is_for(change: LifeCycleChange, entry: &Entry) -> bool
     ensures { result ≡ is_for_kind change entry.now.kind }
 {

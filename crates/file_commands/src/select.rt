@@ -29,8 +29,8 @@ use undo_journal::{Board, Store, StoreErr};
 /// The most identifiers of a path.
 const PATH_ROOM: usize = 7;
 
-/// SELECT: the file that is reached becomes the current one, its template goes into `answer` where it is asked for, and
-/// the status word is the result. An Le that asks for less than the template is refused.
+/// SELECT: makes a file current, and returns its template on request.
+/// An Le below the length of the template is refused. Returns the status word.
 pub fn select_file<B: Board>(
     store: &mut Store<B>,
     index: &Index,
@@ -56,7 +56,7 @@ pub fn select_file<B: Board>(
     Ok(status_of(head.life_cycle()))
 }
 
-/// The entry of the file that SELECT names.
+/// Returns the entry of the file that SELECT names.
 fn find_selected<B: Board>(
     store: &mut Store<B>,
     index: &Index,
@@ -85,7 +85,7 @@ fn find_selected<B: Board>(
     }
 }
 
-/// The identifiers of a path, in their order.
+/// Returns the identifiers of a path, in order.
 fn identifiers_of(path: FilePath<'_>) -> ArrayVec<u16, PATH_ROOM>
     requires { IsFilePath path }
     ensures { result.items ≡ identifiers_in path.entry }
@@ -97,8 +97,8 @@ fn identifiers_of(path: FilePath<'_>) -> ArrayVec<u16, PATH_ROOM>
     all
 }
 
-/// The data that SELECT finds goes into `answer`: the template of a used entry's file, where it is asked for; the rest
-/// of the entry is read for it alone. The refusal, where Le asks for less.
+/// Writes the response data of SELECT into `answer`: the template on request.
+/// It reads the rest of the entry only for a template. An Le below the data's length is refused.
 fn give_data<B: Board>(
     store: &mut Store<B>,
     e: u8,
@@ -126,10 +126,11 @@ fn give_data<B: Board>(
     }
 }
 
-/// The template of the file of a used entry goes into `answer`. The refusal, where Le asks for less.
+/// Writes the template of a used entry's file into `answer`.
+/// An Le below its length is refused.
 ///
-/// A function pays for the room of its locals where it begins:
-/// in one of its own, a SELECT without a template doesn't pay for a template's.
+/// A function allocates its locals on entry.
+/// As a function of its own, a SELECT without template doesn't pay for the template's space.
 #[inline(never)]
 fn give_template(entry: &Entry, expected: Option<u8>, answer: &mut Answer) -> Result<(), Sw>
     requires told { IsToldEntry entry.now }
@@ -144,7 +145,7 @@ fn give_template(entry: &Entry, expected: Option<u8>, answer: &mut Answer) -> Re
     Ok(())
 }
 
-/// The status word of SELECT, which tells the life cycle of the file.
+/// Returns the status word of SELECT for a file in this state.
 fn status_of(life: LifeCycle) -> Sw
     ensures { result ≡ selection_status life }
 {

@@ -1,4 +1,4 @@
-//! The template that tells of a file (ISO/IEC 7816-4, 7.4.3), from the file's entry.
+//! The template of a file (ISO/IEC 7816-4, 7.4.3), from its entry.
 ghost use Rattle.std.specs.Prelude.{◌≡◌};
 ghost use Rattle.file_tree.specs.Table.{IsRecordBody};
 ghost use Rattle.command_base.specs.TemplateParts.{kind_in_entry, parameters_in, records_in_entry, short_in_entry};
@@ -10,7 +10,7 @@ use command_base::ResponseData;
 use fcp_template::write;
 use file_tree::{Entry, EntryKind};
 
-/// The template that tells of the file of a used entry.
+/// Returns the template of the file of a used entry.
 #[tactic(auto, unfolding(command_base::specs::TemplateParts::template_in))]
 pub(crate) fn template_of(entry: &Entry) -> ResponseData
     requires { IsToldEntry entry.now }
@@ -21,7 +21,7 @@ pub(crate) fn template_of(entry: &Entry) -> ResponseData
     template
 }
 
-/// The file control parameters of the file of a used entry.
+/// Returns the file control parameters of the file of a used entry.
 fn parameters_of(entry: &Entry) -> Fcp<'_>
     requires { IsToldEntry entry.now }
     ensures { result ≡ parameters_in entry.now }
@@ -34,7 +34,7 @@ fn parameters_of(entry: &Entry) -> Fcp<'_>
     }
 }
 
-/// The kind of the file of a used entry, and what files of this kind alone have.
+/// Returns the kind of a used entry's file.
 fn kind_of(entry: &Entry) -> FileKind<'_>
     requires { IsToldEntry entry.now }
     ensures { result ≡ kind_in_entry entry.now }
@@ -59,7 +59,7 @@ fn kind_of(entry: &Entry) -> FileKind<'_>
     }
 }
 
-/// The short identifier of the file of an entry, or that it has none.
+/// Returns the short identifier of an entry's file, if any.
 fn short_of(entry: &Entry) -> ShortIdentifier
     ensures { result ≡ short_in_entry entry.now }
 {
@@ -70,7 +70,8 @@ fn short_of(entry: &Entry) -> ShortIdentifier
     }
 }
 
-/// The records of the file of an entry of such a file: a record is at most 255 bytes, and at most 254 exist.
+/// Returns the records of a record file's entry.
+/// A record has at most 255 bytes, and at most 254 records exist.
 fn records_of(entry: &Entry) -> Records
     requires { IsRecordBody entry.now }
     ensures { result ≡ records_in_entry entry.now }
