@@ -1,4 +1,4 @@
--- What the code keeps of a command on a PIN. No public clause names these.
+-- The checks and the end of a PIN command (ISO/IEC 7816-4, 11.5). No public clause names these.
 use Rattle.std.specs.Prelude.{◌==◌, ℕ}
 use Rattle.std.specs.Prelude.{◌∷◌, List, Option}
 use Rattle.card_rules.specs.declared.status.Sw.{Sw}
@@ -12,7 +12,7 @@ use Rattle.card_model.specs.Behaviours.{Refusal, first_applying}
 use Rattle.card_model.specs.PinCommands.{in_any_case, tries_told, while_disabled, while_enabled}
 use Rattle.card_state.specs.Secrets.{Pin, tries_left}
 
--- what refuses a command that shows a secret of a PIN, by the PINs that it is for
+-- the refusals of a command that presents a secret, by the PINs that it is for
 abbrev pub use_refusals : Usable → Pin → List Refusal
 use_refusals WhileEnabled = while_enabled
 use_refusals WhileDisabled = while_disabled

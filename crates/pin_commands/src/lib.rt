@@ -1,4 +1,4 @@
-//! The commands on PINs: each is one step of the tree machine on the card that a memory holds.
+//! The commands on PINs. Each call is one step of the card model.
 #![tactic(auto)]
 
 mod pins;

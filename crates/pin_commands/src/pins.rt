@@ -1,5 +1,5 @@
-//! Commands on PINs: VERIFY, CHANGE REFERENCE DATA, RESET RETRY COUNTER, DISABLE and ENABLE VERIFICATION REQUIREMENT
-//! (ISO/IEC 7816-4, 11.5 and 11.6). A try is taken away, lastingly, before anything is compared.
+//! VERIFY, CHANGE REFERENCE DATA, RESET RETRY COUNTER, DISABLE and ENABLE VERIFICATION REQUIREMENT
+//! (ISO/IEC 7816-4, 11.5 and 11.6). Each permanently uses up a try before it compares anything.
 ghost use Rattle.std.specs.Prelude.{◌≡◌, ◌<◌, ◌+◌, [], Some, option_map, IsSome};
 ghost use Rattle.std.specs.Result.{result_err};
 ghost use Rattle.nvm_board.specs.declared.board.TheConstants.{SECRETS};
@@ -26,7 +26,7 @@ use pin_store::{
 };
 use undo_journal::{Board, Store, StoreErr};
 
-/// Which PINs a command that shows a secret is for: those that are enabled, those that are disabled, or all.
+/// The PINs that a command is for: enabled, disabled, or all.
 #[derive(Clone, Copy)]
 enum Usable {
     WhileEnabled,
@@ -35,7 +35,7 @@ enum Usable {
 }
 
 impl Usable {
-    /// Refuses the command by whether the PIN is enabled.
+    /// Refuses the command if the PIN is wrongly enabled or disabled.
     fn check(self, enabled: bool) -> Result<(), Sw>
         ensures { (pin : Pin) → pin.enabled ≡ enabled → result_err result ≡ first_applying (use_refusals self pin) }
     {
@@ -47,8 +47,8 @@ impl Usable {
     }
 }
 
-/// VERIFY: the PIN is verified where its value is shown. Without data the tries that are left are told.
-/// The status word is the result.
+/// VERIFY: verifies the PIN if its value is presented.
+/// Without data it returns the remaining tries. Returns the status word.
 pub fn verify<B: Board>(
     store: &mut Store<B>,
     current: &mut Current,
@@ -68,8 +68,8 @@ pub fn verify<B: Board>(
     Ok(conclude(current, pin, Shown::Value, outcome))
 }
 
-/// CHANGE REFERENCE DATA: a new value takes the place of the one that is shown, and the PIN is verified.
-/// The status word is the result.
+/// CHANGE REFERENCE DATA: replaces the presented value, and verifies the PIN.
+/// Returns the status word.
 pub fn change_reference_data<B: Board>(
     store: &mut Store<B>,
     current: &mut Current,
@@ -86,9 +86,9 @@ pub fn change_reference_data<B: Board>(
     Ok(conclude(current, pin, Shown::Value, outcome))
 }
 
-/// RESET RETRY COUNTER: where the unblocking value is shown, a new value takes the place of the old one, all tries are
-/// there again, and the PIN is verified. Without data the unblocking tries that are left are told.
-/// The status word is the result.
+/// RESET RETRY COUNTER: sets a new value and resets the tries.
+/// The unblocking value is presented.
+/// It also verifies the PIN. Without data it returns the remaining unblocking tries. Returns the status word.
 pub fn reset_retry_counter<B: Board>(
     store: &mut Store<B>,
     current: &mut Current,
@@ -108,8 +108,8 @@ pub fn reset_retry_counter<B: Board>(
     Ok(conclude(current, pin, Shown::UnblockingValue, outcome))
 }
 
-/// DISABLE and ENABLE VERIFICATION REQUIREMENT: where the value of the PIN is shown, its verification is no longer
-/// required, or is again, and the PIN is verified. The status word is the result.
+/// DISABLE or ENABLE VERIFICATION REQUIREMENT: changes the requirement, with the PIN's value.
+/// It also verifies the PIN. Returns the status word.
 pub fn change_requirement<B: Board>(
     store: &mut Store<B>,
     current: &mut Current,
@@ -126,7 +126,7 @@ pub fn change_requirement<B: Board>(
     Ok(conclude(current, pin, Shown::Value, outcome))
 }
 
-/// The PINs that a change of the requirement is for.
+/// Returns which PINs a change of the requirement is for.
 fn usable_by(change: RequirementChange) -> Usable
     ensures { use_refusals result ≡ unusable_by change }
 {
@@ -136,7 +136,7 @@ fn usable_by(change: RequirementChange) -> Usable
     }
 }
 
-/// Whether the PIN is enabled by a change of the requirement.
+/// Returns true if the change of the requirement enables the PIN.
 fn is_enabled_by(change: RequirementChange) -> bool
     ensures { result ≡ is_enabled_by change }
 {
@@ -146,7 +146,7 @@ fn is_enabled_by(change: RequirementChange) -> bool
     }
 }
 
-/// Tells the tries that are left of a secret.
+/// Returns the status word with the remaining tries of a secret.
 fn tell_tries<B: Board>(store: &mut Store<B>, secret: u8) -> Result<Sw, StoreErr>
     requires ready { IsReady store.old }
     requires secret { secret < SECRETS }
@@ -158,7 +158,8 @@ fn tell_tries<B: Board>(store: &mut Store<B>, secret: u8) -> Result<Sw, StoreErr
     Ok(tries_status(left))
 }
 
-/// Takes a try of a secret away, or tells what refuses that: none is left; the PIN is disabled, or enabled.
+/// Uses up a try of a secret, or returns the refusal.
+/// The refusals in order: no tries left; the PIN is disabled, or enabled.
 fn take_try<B: Board>(store: &mut Store<B>, secret: u8, usable: Usable) -> Result<Charged, Stop>
     requires ready { IsReady store.old }
     requires secret { secret < SECRETS }
@@ -174,7 +175,8 @@ fn take_try<B: Board>(store: &mut Store<B>, secret: u8, usable: Usable) -> Resul
     Ok(charge(store, secret)?)
 }
 
-/// What refuses that a secret is shown, before a try is taken away: none is left; the PIN is disabled, or enabled.
+/// Refuses the presentation of a secret before a try is used up.
+/// The refusals in order: no tries left; the PIN is disabled, or enabled.
 fn check_use<B: Board>(store: &mut Store<B>, secret: u8, usable: Usable) -> Result<(), Stop>
     requires ready { IsReady store.old }
     requires secret { secret < SECRETS }
@@ -189,15 +191,15 @@ fn check_use<B: Board>(store: &mut Store<B>, secret: u8, usable: Usable) -> Resu
     Ok(())
 }
 
-/// The status word that tells so many tries.
+/// Returns the status word with this number of remaining tries.
 fn tries_status(left: u8) -> Sw
     ensures { result ≡ tries_told left }
 {
     Sw(0x63C0 + u16::from(left))
 }
 
-/// Ends an attempt on a PIN: the session knows of it (`Current::after_attempt`), and the status word is the result,
-/// which tells the tries that are left where the value was wrong.
+/// Ends an attempt on a PIN: updates session, returns status word.
+/// After a wrong value the status word has the remaining tries.
 fn conclude(current: &mut Current, pin: u8, shown: Shown, outcome: Outcome) -> Sw
     requires { IsPinNumber pin }
     ensures session { current.new ≡ tried_from current.old pin (unverifies shown) outcome }
