@@ -1,4 +1,4 @@
--- The factory's memory, in both formats: the master file, one elementary file, eight PINs, and all other blocks free.
+-- The factory image in both formats: the master file, one elementary file, eight PINs, and all other blocks free.
 use Rattle.std.specs.Prelude.{◌≡◌, ◌<◌, ◌≤◌, ℕ, ◌+◌, ◌-◌, ◌==◌, ◌&&◌, nat_lt, nat_le, true, List, [], ◌∷◌, ◌++◌, length}
 use Rattle.std.specs.Prelude.{replicate}
 use Rattle.std.specs.Prelude.{if◌then◌else◌, None, Some, Result, Err, IfOk, IfErr}
@@ -22,11 +22,11 @@ use Rattle.card_model.specs.Cards.{card_space, transparent, dedicated, elementar
 use Rattle.command_base.specs.Finding.{Finds, found as found_card}
 use Rattle.command_base.specs.Standing.{StandsFor, board_blocks}
 
--- the words of a page that begins with these, and has one filler behind them
+-- the words of a page that begins with `words`; the filler fills the rest
 abbrev pub filled : List ℕ → ℕ → List ℕ
 filled words filler = words ++ replicate (PAGE_WORDS - length words) filler
 
--- the header: the mark, the first free block, a card in use, and of format 2 the page where the blocks end
+-- the header: the mark, the first free block, the state in use, and in format 2 the page where the blocks end
 abbrev pub factory_header : MemoryFormat → ℕ → List ℕ
 factory_header One end = filled (OLD_MARK ∷ (FIRST_BLOCK_PAGE + 1) ∷ []) 0
 factory_header Two end = filled (MARK ∷ (FIRST_BLOCK_PAGE + 1) ∷ 0 ∷ end ∷ []) 0
@@ -35,12 +35,12 @@ factory_header Two end = filled (MARK ∷ (FIRST_BLOCK_PAGE + 1) ∷ 0 ∷ end �
 abbrev pub factory_master : List ℕ
 factory_master = filled (0x01053F00 ∷ 0x00000005 ∷ 0x27180000 ∷ []) 0
 
--- entry 1: the transparent file 2FE2, activated, short identifier 2, rule 03 11 00, of 10 bytes in the first block
+-- entry 1: the transparent file 2FE2, activated, short identifier 2, rule 03 11 00, with 10 bytes in the first block
 abbrev pub factory_file : List ℕ
 factory_file = filled (0x02052FE2 ∷ 0x00020003 ∷ 0x03110000 ∷ 0 ∷ 0 ∷ 0 ∷ 0 ∷ 0 ∷ 0x000A0000 ∷ 0x00800080 ∷ []) 0
 
--- each PIN: 3 tries, 10 unblocking tries, the value 31 32 33 34 FF FF FF FF, the unblocking value 31 32 33 34 35 36 37
--- 38, and of format 2 its mark
+-- each PIN: 3 tries and 10 unblocking tries; the value 31 32 33 34 FF FF FF FF;
+-- the unblocking value 31 32 33 34 35 36 37 38; in format 2 its mark
 abbrev pub factory_pin_mark : MemoryFormat → ℕ
 factory_pin_mark One = 0
 factory_pin_mark Two = 1
@@ -49,15 +49,15 @@ abbrev pub factory_pin_page : MemoryFormat → List ℕ
 factory_pin_page format =
     filled (3 ∷ 10 ∷ 0x31323334 ∷ 0xFFFFFFFF ∷ 0x31323334 ∷ 0x35363738 ∷ factory_pin_mark format ∷ []) 0
 
--- the first block: the content of the file, 98 10 32 54 76 98 10 32 54 76
+-- the first block: the contents of the file, 98 10 32 54 76 98 10 32 54 76
 abbrev pub factory_block : List ℕ
 factory_block = filled (0 ∷ 0x98103254 ∷ 0x76981032 ∷ 0x5476FFFF ∷ []) 0xFFFFFFFF
 
--- a free block, linked to the next page; the last one is linked to none
+-- a free block, linked to the next page; the last one has no link
 abbrev pub factory_free_block : ℕ → ℕ → List ℕ
 factory_free_block end page = filled ((if page + 1 == end then 0 else page + 1) ∷ []) 0
 
--- the words of each page, where the blocks end at this one
+-- the words of each page, where the blocks end at page `end`
 abbrev pub factory_page : MemoryFormat → ℕ → ℕ → List ℕ
 factory_page format end page =
     if page == HEADER_PAGE then factory_header format end else
@@ -68,18 +68,18 @@ factory_page format end page =
     if page == FIRST_BLOCK_PAGE then factory_block else
     factory_free_block end page
 
--- The pages up to this one are the factory's, whose blocks end there, and those behind it are as they were.
+-- The pages before `end` are the factory's, with blocks that end there; the pages from `end` on are unchanged.
 pub record IsWritten (format : MemoryFormat) (end : ℕ) (m after : List ℕ) : Type 0 where
   pub size : length after ≡ length m
   pub pages : (page : ℕ) → page < end → page_words after page ≡ factory_page format end page
   pub behind : (page : ℕ) → end ≤ page → page_words after page ≡ page_words m page
 
--- the blocks of a memory end behind its last page, those of format 1 at page 1,024
+-- the page where the blocks end: after the last page of the memory, or page 1,024 in format 1
 abbrev pub factory_end : MemoryFormat → List ℕ → ℕ
 factory_end One m = OLD_END_PAGE
 factory_end Two m = pages_of m
 
--- each page up to there is the factory's; of format 1 nothing is said of what lies behind
+-- each page before the end is the factory's; in format 1 the pages from the end on are arbitrary
 abbrev pub IsFactory : MemoryFormat → List ℕ → Type 0
 IsFactory format m =
     (page : ℕ) → page < factory_end format m → page_words m page ≡ factory_page format (factory_end format m) page
@@ -98,7 +98,7 @@ factory_pin = record {
 abbrev pub master_of_factory : File
 master_of_factory = record { life = Activated; rule = 0x27 ∷ 0x18 ∷ 0x00 ∷ 0x00 ∷ 0x00 ∷ []; kind = dedicated None }
 
--- the content of the elementary file
+-- the contents of the elementary file
 abbrev pub factory_content : List ℕ
 factory_content = 0x98 ∷ 0x10 ∷ 0x32 ∷ 0x54 ∷ 0x76 ∷ 0x98 ∷ 0x10 ∷ 0x32 ∷ 0x54 ∷ 0x76 ∷ []
 
@@ -114,7 +114,7 @@ file_of_factory = record {
 abbrev pub factory_tree : Tree
 factory_tree = from_entries (([], master_of_factory) ∷ (0x2FE2 ∷ [], file_of_factory) ∷ [])
 
--- the factory's card, of so many blocks: in either format all those of its board
+-- the factory card with `n` blocks; in either format these are all blocks of its board
 abbrev pub factory_card : ℕ → Card
 factory_card n = record {
   tree = factory_tree;
@@ -123,12 +123,12 @@ factory_card n = record {
   blocks = n;
 }
 
--- all blocks are free but that of the elementary file, and all entries but two
+-- the free space: all blocks but that of the elementary file, and all entries but two
 abbrev pub factory_space : ℕ → FreeSpace
 factory_space n = record { blocks = n - 1; entries = 62 }
 
--- What the writing of the factory's memory to a board leaves, in a format: the board stands for the factory's card, and
--- a start finds it, by one device write a page; or the board comes back with what the device answered.
+-- The result of writing the factory image to a board: a valid card image of the factory card, with one device write a
+-- page. On an error the board is returned with the device's answer.
 pub record Formats {B : Type 0} (facts : B → Facts) (format : MemoryFormat) (board : B)
     (result : Result B (B × DeviceErr)) : Type 0 where
   pub factory : IfOk result (λ b. IsFactory format (facts b).words)

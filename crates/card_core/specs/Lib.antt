@@ -1,5 +1,5 @@
--- What is meant: what a start does, and each call of a started card; the factory's memory. What a card is, and what a
--- command makes of it, stands in command_base.
+-- Power-on, the calls of a powered card, and the factory image. The card itself is defined in card_state, and its
+-- commands in card_model and command_base.
 pub mod Factory
 pub mod Starting
 pub mod Running

@@ -1,4 +1,4 @@
--- A started card, what each of its calls does, and what a start does.
+-- A powered card: the effect of each of its calls, and of power-on.
 use Rattle.std.specs.Prelude.{◌≡◌, ◌⊎◌, ℕ, true, List, []}
 use Rattle.card_rules.specs.declared.status.TheConstants.Sw.{MEMORY_FAILURE}
 use Rattle.nvm_board.specs.Facts.{Facts, Steady, GoesDark, Fails}
@@ -16,22 +16,23 @@ use Rattle.card_model.specs.Steps.{carried_out}
 use Rattle.command_base.specs.Standing.{IsAnyCard}
 use Rattle.command_base.specs.Finding.{words_found, found, HasCard}
 
--- the board, the session, and what the card can still do; a card that doesn't work has a fresh session
+-- the board, the session, and the state of the card; a card that doesn't work has a fresh session
 pub record Running : Type 0 where
   pub facts : Facts
   pub session : Session
   pub state : CardState
 
--- the card that is found in its memory
+-- the card state after recovery of its memory
 abbrev pub card_found : Running → Card
 card_found r = found r.facts.words
 
--- the answer of a card whose memory failed
+-- the answer of a card after a memory failure
 abbrev pub memory_failure : List ℕ
 memory_failure = answer_bytes (only_status MEMORY_FAILURE)
 
--- The command is one step of the tree machine: card, session and answer are the step's, and the board had neither cut
--- nor fault. Where a secret was shown and not refused, its comparison was counted, behind a charge.
+-- The command is one step of the card model. Card state, session and answer are those of the step, and the board had no
+-- power loss and no fault. If the command presented a secret and wasn't refused, it made one comparison, after a
+-- charge.
 pub record Steps (old : Running) (command : List ℕ) (new : Running) (answer : List ℕ) : Type 0 where
   pub power : Steady old.facts new.facts
   pub state : new.state ≡ Working
@@ -47,22 +48,22 @@ pub record FailsIn (old new : Running) (answer : List ℕ) : Type 0 where
   pub session : new.session ≡ fresh_session
   pub answered : answer ≡ memory_failure
 
--- the board lost power, and nothing is answered
+-- the board lost power, and the card gives no answer
 pub record IsCutIn (old new : Running) (answer : List ℕ) : Type 0 where
   pub power : GoesDark old.facts new.facts
   pub state : new.state ≡ Dark
   pub session : new.session ≡ fresh_session
   pub answered : answer ≡ []
 
--- A start that succeeds: there is a card to be found, and the session is fresh.
+-- Power-on succeeds: there is a card state after recovery, and the session is fresh.
 pub record Starts (old : Facts) (new : Running) : Type 0 where
   pub has_card : HasCard old.words
   pub power : Steady old new.facts
   pub session : new.session ≡ fresh_session
   pub state : new.state ≡ Working
 
--- Why a start stops: power was lost in it, or was off; the device failed; or both held, and undo isn't defined, so that
--- nothing was written; or both held, and the undone words stand for no card.
+-- Why power-on stops. Power was lost, or was off; the device failed; undo isn't defined, and nothing was written; or
+-- the recovered words are no valid card image.
 abbrev pub StartStopsBy : StartFault → Facts → Facts → Type 0
 StartStopsBy PowerLost old new = GoesDark old new ⊎ ((old.dark ≡ true) × (new ≡ old))
 StartStopsBy Fault old new = Fails old new

@@ -1,4 +1,4 @@
--- The session that the model of a card shows.
+-- The session in the model of a card.
 use Rattle.std.specs.Prelude.{List}
 use Rattle.file_tree.specs.declared.entry.Entry.{Entry}
 use Rattle.card_core.specs.declared.state.CardState.{CardState}
@@ -7,7 +7,7 @@ use Rattle.command_base.specs.declared.current.Current.{Current}
 use Rattle.card_model.specs.Sessions.{Session, fresh_session}
 use Rattle.command_base.specs.Working.{session_of}
 
--- a card that doesn't work has no session: it is told as that of power-on
+-- the session of the model; that after power-on for a card that doesn't work
 abbrev pub session_while : CardState → List Entry → Current → Session
 session_while Working t x = session_of t x
 session_while Failed t x = fresh_session

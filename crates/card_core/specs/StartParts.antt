@@ -1,4 +1,4 @@
--- What a start finds of a memory, as the code tells it. No public clause names these.
+-- The checks of a memory at power-on, as the code makes them. No public clause names these definitions.
 use Rattle.std.specs.Prelude.{◌≡◌, ◌≤◌, ℕ}
 use Rattle.std.specs.Prelude.{List, Option, Some}
 use Rattle.std.specs.Prelude.{None}
@@ -16,7 +16,7 @@ use Rattle.card_core.specs.declared.check.Checked.{Checked}
 use Rattle.card_core.specs.declared.memory_format.MemoryFormat.{MemoryFormat}
 use Rattle.card_core.specs.declared.memory_format.MemoryFormat.TheVariants.{One, Two}
 
--- the words are those of a header, or of a card, of a format
+-- the words have a valid header of this format, or are a valid card image of it
 abbrev pub IsHeaderIn : MemoryFormat → List ℕ → Type 0
 IsHeaderIn One m = IsOldHeader m
 IsHeaderIn Two m = IsHeader m
@@ -25,32 +25,32 @@ abbrev pub IsCardIn : MemoryFormat → List ℕ → Type 0
 IsCardIn One m = IsOldCard m
 IsCardIn Two m = IsCard m
 
--- and these three words are those of one: its mark, where the blocks end, and the state
+-- these three words (mark, page where the blocks end, state) are a header of this format, or of none
 abbrev pub AreHeaderWords : ℕ → ℕ → ℕ → Option MemoryFormat → Type 0
 AreHeaderWords mark end state None =
     ((mark ≡ MARK) → (OLD_END_PAGE ≤ end) → (state ≤ 1) → ⊥) × ((mark ≡ OLD_MARK) → (state ≤ 1) → ⊥)
 AreHeaderWords mark end state (Some One) = (mark ≡ OLD_MARK) × (state ≤ 1)
 AreHeaderWords mark end state (Some Two) = (mark ≡ MARK) × (OLD_END_PAGE ≤ end) × (state ≤ 1)
 
--- the PINs are those of a memory of a format: of format 2 each has a mark
+-- the PINs are valid for this format: in format 2 each has a mark
 abbrev pub HoldsPins : MemoryFormat → List ℕ → Type 0
 HoldsPins One m = ArePinPages m
 HoldsPins Two m = ArePinPages m × AreMarks m
 
--- what a check of a header answers: its format, or None exactly where it is none
+-- the result of the header check: its format, or None if and only if it is invalid
 abbrev pub TellsHeader : List ℕ → Option MemoryFormat → Type 0
 TellsHeader m None = ¬ IsHeader m × ¬ IsOldHeader m
 TellsHeader m (Some format) = IsHeaderIn format m
 
--- what a check of a memory answers: its format, its free space as it is, and the index of its files, or None exactly
--- where it is no card's
+-- The result of the memory check: its format, its free space without migration, and the index of its files; or None if
+-- and only if it is no valid card image.
 abbrev pub TellsCard : List ℕ → Option Checked → Type 0
 TellsCard m None = ¬ IsAnyCard m
 TellsCard m (Some checked) = IsCardIn checked.format m × (checked.tree.free ≡ free_space (block_count m) (tree_of m))
     × IsIndex (table m) checked.tree.index
 
--- What is told of a memory that was made one of format 2 if it was a card's: the free space of the card, and where its
--- files are, or None where it was none's.
+-- The result for a memory that was migrated to format 2 if needed: the free space of the card and the index of its
+-- files; or None if it was no valid card image.
 abbrev pub TellsSurvey : List ℕ → List ℕ → Option Survey → Type 0
 TellsSurvey m after None = ¬ IsAnyCard m
 TellsSurvey m after (Some survey) =

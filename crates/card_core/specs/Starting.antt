@@ -11,20 +11,21 @@ use Rattle.migration.specs.Migrating.{migration_writes}
 use Rattle.command_base.specs.Finding.{words_found}
 use Rattle.command_base.specs.Standing.{IsOldCard}
 
--- what is found is of format 2
+-- the recovered words are of format 2
 abbrev pub IsNewFound : List ℕ → Type 0
 IsNewFound m = IsTrue (is_format_2 (words_found m))
 
--- the mark of what is found is as it was, or that of format 2
+-- the mark of the recovered words is unchanged, or that of format 2
 abbrev pub KeepsFormat : List ℕ → List ℕ → Type 0
 KeepsFormat old new =
     (word (words_found new) HEADER_PAGE MARK_WORD ≡ word (words_found old) HEADER_PAGE MARK_WORD) ⊎ IsNewFound new
 
--- what was not of format 2 has all pages of its board
+-- a memory that wasn't of format 2 now has all pages of its board
 abbrev pub TakesAllPages : List ℕ → List ℕ → Type 0
 TakesAllPages old new = is_format_2 (words_found old) ≡ false → end_page (words_found new) ≡ pages_of new
 
--- Where no pair of the journal counts, a start leaves the board as it is, unless there is a card of format 1.
+-- With an empty journal, power-on changes no word and no counter of writes or comparisons, unless the card image is of
+-- format 1.
 abbrev pub KeepsUnlessOld : Facts → Facts → Type 0
 KeepsUnlessOld old new = gate old.words ≡ 0 → ¬ IsOldCard (words_found old.words) → KeepsBoard old new
 

@@ -1,4 +1,4 @@
-//! Whether the words of a memory are those of a card, and in which format.
+//! Checks whether a memory is a valid card image, and in which format.
 ghost use Rattle.std.specs.Prelude.{◌≡◌, ◌<◌, ◌≤◌, ◌↔◌, IsTrue, MatchOption};
 ghost use Rattle.undo_journal.specs.Calls.{Learns};
 ghost use Rattle.undo_journal.specs.Memory.{committed, IsReady};
@@ -16,14 +16,14 @@ use file_tree::{
 use pin_store::{are_marks, are_pins};
 use undo_journal::{Board, PAGE_WORDS, Store, StoreErr};
 
-/// What a check finds of a card: the format of its memory, and its tree: what is free in it, and where each file is.
+/// The result of a check: format, free space, index of files.
 #[derive(Drop)]
 pub(crate) struct Checked {
     pub format: MemoryFormat,
     pub tree: Survey,
 }
 
-/// A word of the header.
+/// Returns a word of the header.
 pub(crate) fn header_word<B: Board>(store: &mut Store<B>, place: u16) -> Result<u32, StoreErr>
     requires ready { IsReady store.old }
     requires place { place < PAGE_WORDS }
@@ -32,7 +32,8 @@ pub(crate) fn header_word<B: Board>(store: &mut Store<B>, place: u16) -> Result<
     store.read(PAGE_WORDS * HEADER_PAGE + place)
 }
 
-/// The format that three words of a header tell: its mark, the page where the blocks end, and the state.
+/// Returns the format of a header, from three of its words.
+/// They are its mark, the page where the blocks end, and the state.
 fn format_of(mark: u32, end: u32, state: u32) -> Option<MemoryFormat>
     ensures { AreHeaderWords mark end state result }
 {
@@ -47,7 +48,7 @@ fn format_of(mark: u32, end: u32, state: u32) -> Option<MemoryFormat>
     }
 }
 
-/// The format that the header tells, if it is one.
+/// Returns the format of the header, if it is valid.
 #[tactic(auto, using(undo_journal::specs::laws::Calls::reads_then))]
 fn find_format<B: Board>(store: &mut Store<B>) -> Result<Option<MemoryFormat>, StoreErr>
     requires ready { IsReady store.old }
@@ -59,7 +60,7 @@ fn find_format<B: Board>(store: &mut Store<B>) -> Result<Option<MemoryFormat>, S
     Ok(format_of(mark, end, state))
 }
 
-/// Whether the PINs are those of a memory of this format.
+/// Returns true if the PINs are valid for this format.
 #[tactic(auto, using(undo_journal::specs::laws::Calls::reads_then))]
 fn has_pins<B: Board>(store: &mut Store<B>, format: MemoryFormat) -> Result<bool, StoreErr>
     requires ready { IsReady store.old }
@@ -74,8 +75,8 @@ fn has_pins<B: Board>(store: &mut Store<B>, format: MemoryFormat) -> Result<bool
     }
 }
 
-/// What the words tell of a card, if they are those of one:
-/// its header, its PINs, its files and their blocks are looked at.
+/// Checks header, PINs, files and blocks of a memory.
+/// Returns `None` if it is no valid card image.
 #[tactic(auto, using(undo_journal::specs::laws::Calls::reads_then))]
 pub(crate) fn find_card<B: Board>(store: &mut Store<B>) -> Result<Option<Checked>, StoreErr>
     requires ready { IsReady store.old }

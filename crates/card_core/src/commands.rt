@@ -1,4 +1,4 @@
-//! A command on a card: one step of the tree machine.
+//! Runs a command on a card, as one step of the card model.
 ghost use Rattle.std.specs.Prelude.{◌≡◌, [], OnOk};
 ghost use Rattle.apdu_core.specs.ParsedCommands.{IsInRange, request_of};
 ghost use Rattle.command_base.specs.Served.{CarriesOut, Serves};
@@ -22,8 +22,8 @@ use file_tree::STATE_WORD;
 use pin_commands::{change_reference_data, change_requirement, reset_retry_counter, verify};
 use undo_journal::{Board, StoreErr};
 
-/// Carries out the bytes of a command: the data goes into `answer`, free space and index are kept, and the status word
-/// is the result. A refusal is answered by its status word.
+/// Runs the bytes of a command, and writes its data into `answer`.
+/// It updates the free space and the index. Returns the status word, also for a refusal.
 pub(crate) fn carry_out<B: Board>(
     lent: &mut Lent<B>,
     command: &[u8],
@@ -39,8 +39,8 @@ pub(crate) fn carry_out<B: Board>(
     reply(obey(lent, command, answer))
 }
 
-/// Carries out the bytes of a command, or is stopped. What the form of the command calls for comes first, and then
-/// whether the use of the card has ended.
+/// Runs the bytes of a command, or stops.
+/// It checks the form of the command first, and then whether the card is terminated.
 fn obey<B: Board>(lent: &mut Lent<B>, command: &[u8], answer: &mut Answer) -> Result<Sw, Stop>
     requires whole { IsWhole lent.old }
     requires empty { answer.old.items ≡ [] }
@@ -57,7 +57,7 @@ fn obey<B: Board>(lent: &mut Lent<B>, command: &[u8], answer: &mut Answer) -> Re
     serve(lent, command, answer)
 }
 
-/// Carries out a command on a card that is in use. It is lent those parts of the card that it has a need of.
+/// Runs a parsed command on a card in use. Each command borrows only the parts that it needs.
 fn serve<B: Board>(
     lent: &mut Lent<B>,
     command: Command<'_>,

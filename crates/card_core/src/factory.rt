@@ -1,4 +1,4 @@
-//! The factory's memory in both formats, and its writing.
+//! Writes the factory image, in either format.
 ghost use Rattle.std.specs.Prelude.{◌≡◌, ◌+◌, ◌<◌, ◌≤◌, false, OnOk};
 ghost use Rattle.nvm_board.specs.Aims.{AimsOn};
 ghost use Rattle.nvm_board.specs.Facts.{Answered, pages_of};
@@ -34,14 +34,16 @@ const FILE_ENTRY: PageWords = [
     0x0205_2FE2, 0x0002_0003, 0x0311_0000, 0, 0, 0, 0, 0, 0x000A_0000, 0x0080_0080, 0, 0, 0, 0, 0, 0,
 ];
 
-/// The content of the elementary file.
+/// The contents of the elementary file.
 #[rattlefmt::skip]
 const FILE_BLOCK: PageWords = [
     0, 0x9810_3254, 0x7698_1032, 0x5476_FFFF, 0xFFFF_FFFF, 0xFFFF_FFFF, 0xFFFF_FFFF, 0xFFFF_FFFF,
     0xFFFF_FFFF, 0xFFFF_FFFF, 0xFFFF_FFFF, 0xFFFF_FFFF, 0xFFFF_FFFF, 0xFFFF_FFFF, 0xFFFF_FFFF, 0xFFFF_FFFF,
 ];
 
-/// The mark, the first free block, a card in use, and of format 2 the page where the blocks end.
+/// Returns the words of the header.
+/// They are the mark, the first free block, and the state in use.
+/// The page where the blocks end is part of format 2 only.
 #[rattlefmt::skip]
 fn header(format: MemoryFormat, end: u16) -> PageWords
     ensures { result ≡ factory_header format end }
@@ -56,7 +58,7 @@ fn header(format: MemoryFormat, end: u16) -> PageWords
     ]
 }
 
-/// The tries and the values of each PIN, and of format 2 its mark.
+/// Returns the page of each PIN, with its mark in format 2.
 #[rattlefmt::skip]
 fn pin_page(format: MemoryFormat) -> PageWords
     ensures { result ≡ factory_pin_page format }
@@ -71,7 +73,8 @@ fn pin_page(format: MemoryFormat) -> PageWords
     ]
 }
 
-/// The words of a page of the factory's memory, whose blocks end at this page.
+/// Returns the words of a page of the factory image.
+/// Its blocks end at `end`.
 fn factory_page(format: MemoryFormat, end: u16, page: u16) -> PageWords
     requires page { page < end }
     ensures words { result ≡ factory_page_of format end page }
@@ -93,7 +96,8 @@ fn factory_page(format: MemoryFormat, end: u16, page: u16) -> PageWords
     }
 }
 
-/// The words of a free block: the link to the next page, or 0 in the last.
+/// Returns a free block, linked to the next page.
+/// The last one has link 0.
 fn free_block(end: u16, page: u16) -> PageWords
     requires page { page < end }
     ensures words { result ≡ factory_free_block end page }
@@ -106,7 +110,7 @@ fn free_block(end: u16, page: u16) -> PageWords
     [next, 0, 0, 0, 0, 0, 0, 0, 0, 0, 0, 0, 0, 0, 0, 0]
 }
 
-/// Writes each page of the factory's memory, by one device write each, up to the page where its blocks end.
+/// Writes the factory image, with one device write a page.
 fn write_factory<B: Board>(board: &mut B, format: MemoryFormat, end: u16) -> Result<(), DeviceErr>
     requires least { LEAST_PAGES ≤ end }
     requires inside { end ≤ pages_of (B.facts board.old).words }
@@ -118,7 +122,7 @@ fn write_factory<B: Board>(board: &mut B, format: MemoryFormat, end: u16) -> Res
     write_pages(board, format, end)
 }
 
-/// Writes all pages behind the header.
+/// Writes all pages after the header.
 fn write_pages<B: Board>(board: &mut B, format: MemoryFormat, end: u16) -> Result<(), DeviceErr>
     requires lit { (B.facts board.old).dark ≡ false }
     requires least { LEAST_PAGES ≤ end }
@@ -138,7 +142,7 @@ fn write_pages<B: Board>(board: &mut B, format: MemoryFormat, end: u16) -> Resul
     Ok(())
 }
 
-/// Writes the factory's memory to a board, in a format.
+/// Writes the factory image to a board, in this format.
 fn format_as<B: Board>(mut board: B, format: MemoryFormat) -> Result<B, (B, DeviceErr)>
     ensures { Formats B.facts format board result }
 {
@@ -152,24 +156,25 @@ fn format_as<B: Board>(mut board: B, format: MemoryFormat) -> Result<B, (B, Devi
     }
 }
 
-/// Writes the factory's memory to a board, in format 2: its two files, its PINs, and all other blocks of the board
-/// free. Then all blocks but one and 62 entries are free.
+/// Writes the factory image to a board, in format 2.
+/// It has two files and the PINs. All blocks but one and 62 entries are free.
 ///
 /// # Errors
-/// What the device answers, with the board: power was off, or was lost; or it failed. The memory then stands for
-/// nothing that is promised.
+/// The device's answer, with the board: power was off, or was lost, or the device failed. The contents of the memory
+/// are then unspecified.
 pub fn format<B: Board>(board: B) -> Result<B, (B, DeviceErr)>
     ensures { Formats B.facts MemoryFormat.Two board result }
 {
     format_as(board, MemoryFormat::Two)
 }
 
-/// Writes the factory's memory to the first 1,024 pages of a board, in format 1, and leaves the pages behind them as
-/// they are. The card has all blocks of the board from its first start on.
+/// Writes the factory image to a board, in format 1.
+/// It uses the first 1,024 pages and leaves the others unchanged. After its first power-on the card has all blocks of
+/// the board.
 ///
 /// # Errors
-/// What the device answers, with the board: power was off, or was lost; or it failed. The memory then stands for
-/// nothing that is promised.
+/// The device's answer, with the board: power was off, or was lost, or the device failed. The contents of the memory
+/// are then unspecified.
 pub fn format_old<B: Board>(board: B) -> Result<B, (B, DeviceErr)>
     ensures { Formats B.facts MemoryFormat.One board result }
 {

@@ -1,23 +1,23 @@
-//! Why a card stops answering, and why it doesn't start.
+//! Why a card stops answering, and why power-on fails.
 ghost use Rattle.std.specs.Prelude.{◌≡◌};
 ghost use Rattle.card_core.specs.FaultParts.{fault_of_open};
 
 use undo_journal::OpenFault;
 
-/// Power was lost: the board is dark, and nothing is answered until the next start.
+/// Power was lost. The card gives no answer until the next power-on.
 #[derive(Clone, Copy, Debug, PartialEq, Eq)]
 pub struct PowerLost;
 
-/// Why a card didn't start.
+/// Why power-on failed.
 #[derive(Clone, Copy, Debug, PartialEq, Eq)]
 pub enum StartFault {
-    /// Power was lost in the start, or was off.
+    /// Power was off, or was lost during power-on.
     PowerLost,
     /// The device failed.
     Fault,
     /// The journal can't be undone. Nothing was written.
     BadJournal,
-    /// The memory, its journal undone, stands for no card.
+    /// The memory after recovery is no valid card image.
     Damaged,
 }
 

@@ -23,23 +23,23 @@ ghost use Rattle.card_model.specs.CommandTable.{asked};
 ghost use Rattle.card_model.specs.Sessions.{Session};
 ghost use Rattle.card_model.specs.Steps.{IsStage, commits_served, carried_out, alone_served, gated_served};
 
-/// One card at most is found in a memory, whatever its journal holds: what is found is a function of the words.
+/// Recovery gives at most one card state.
 pub fn one_card()
     ensures { (m : List ℕ) (c d : Card) → Finds m c → Finds m d → c ≡ d }
 {}
 
-/// Where no pair of the journal counts and the words are a card's, that card is found.
+/// With an empty journal, recovery gives the state of the words.
 pub fn standing_card_is_found()
     ensures { (m : List ℕ) (c : Card) → IsMemory m → StandsFor m c → Finds m c }
 {}
 
-/// The card that is found is proper: what it holds are bytes, each record has the record length of its file, and each
-/// length, number and short identifier is in its range.
+/// The card state after recovery is proper.
+/// Its contents are bytes, each record has its file's record length, and each number is in its range.
 pub fn found_is_proper()
     ensures { (m : List ℕ) → HasCard m → IsProper (found m) }
 {}
 
-/// A command of bytes leaves a proper card proper, whatever it does.
+/// A command of bytes keeps a proper card proper.
 pub fn step_keeps_proper()
     ensures { (c : Card) (s : Session) (command : List ℕ) → IsProper c → AreBytes command
         → IsProper (carried_out c s command).card }
@@ -66,14 +66,15 @@ pub fn steps_keep_blocks()
         → IsStage c s command d → d.blocks ≡ c.blocks }
 {}
 
-/// The answer of a proper card to a command of bytes is 2 to 258 bytes.
+/// A proper card's answer to a command has 2 to 258 bytes.
 pub fn answers_are_short()
     ensures { (c : Card) (s : Session) (command : List ℕ) → IsProper c → AreBytes command
         → IsAnswer (answer_bytes (carried_out c s command).response) }
 {}
 
-/// No command makes more than 700 device writes. UPDATE BINARY of n bytes touches at most n / 4 words, rounded up, and
-/// one more; for each eight of these it makes three at most, one more for each sixtieth byte, rounded up, and one.
+/// No command makes more than 700 device writes.
+/// UPDATE BINARY of n bytes touches at most n / 4 words, rounded up, plus one. It makes at most three writes for each
+/// eight of these words, one for each 60 bytes, rounded up, and one more.
 pub fn commands_write_little()
     ensures most { (command : List ℕ) → writes_of command ≤ COMMAND_WRITES }
     ensures number { COMMAND_WRITES ≡ 700 }
@@ -82,17 +83,17 @@ pub fn commands_write_little()
         → transaction_writes (touched_words offset n) (touched_blocks offset n) ≤ update_writes n }
 {}
 
-/// The commits of a request are those that words of their own make, one after another,
-/// and then those of which the gate is the word.
+/// A request's commits are those by words, then by the gate.
 pub fn commits_by_their_words()
     ensures { (c : Card) (s : Session) (request : Request)
         → alone_served c s request ++ gated_served c s request ≡ commits_served c s request }
 {}
 
-/// The numbers of the header and of the PINs, as a reader sees them: in page 0 the mark, "TSC1" of format 1 and "TSC2"
-/// of format 2, in word 0, the state in word 2, and the page where the blocks of format 2 end in word 3, those of
-/// format 1 end at page 1,024; and the pages of 8 PINs from page 65 on, whose mark in format 2 is word 6. Those of file
-/// entries and blocks are laws of file_tree and block_chain.
+/// Gives the layout of the header and of the PINs.
+/// Page 0 has the mark in word 0 ("TSC1" in format 1, "TSC2" in format 2), and the state in word 2. In format 2 the
+/// page where the blocks end is in word 3. In format 1 they end at page 1,024. The pages of the 8 PINs begin at page
+/// 65, and their mark in format 2 is word 6. The places of file entries and blocks are laws of file_tree and
+/// block_chain.
 pub fn layout()
     ensures mark { (OLD_MARK ≡ 0x54534331) × (MARK ≡ 0x54534332) }
     ensures header { (HEADER_PAGE ≡ 0) × (MARK_WORD ≡ 0) × (STATE_WORD ≡ 2) × (PAGES_WORD ≡ 3) }

@@ -1,5 +1,4 @@
-//! What the header holds. Where it lies, and what marks a format, is block_chain's and file_tree's, as are the places
-//! of blocks and of file entries; PINs are pin_store's, and the gate's page and the journal's pages are the store's.
+//! The values of the header's words. Their places and the mark of a format are in block_chain and file_tree.
 
-/// The state of a card that is in use, in the header's word of the state.
+/// The value of the header's state word for a card in use.
 pub(crate) const CARD_IN_USE: u32 = 0;

@@ -1,11 +1,11 @@
-//! The card as it is lent to what carries out a command.
+//! The parts of a card that its commands borrow.
 
 use command_base::Current;
 use file_tree::{FreeSpace, Index};
 use undo_journal::{Board, Store};
 
-/// The card as it is lent to what carries out a command: its memory, its current files, the counts of its free space,
-/// and where each of its files is. What these owe one another while the card works is one record (`IsWhole`).
+/// The parts of a card that its commands borrow.
+/// `IsWhole` is their common invariant while the card works.
 #[derive(Drop)]
 pub(crate) struct Lent<B: Board> {
     pub store: Store<B>,

@@ -1,4 +1,4 @@
-//! The card: what its memory stands for, its start, and its commands.
+//! The card: valid card images, power-on, and commands.
 #![tactic(auto)]
 
 mod check;

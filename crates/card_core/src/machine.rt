@@ -1,4 +1,4 @@
-//! A started card and its commands.
+//! A powered card and its commands.
 ghost use Rattle.std.specs.Prelude.{◌≡◌, ◌⊎◌, ◌≤◌, ◌+◌, true, false, [], length, IsOk, IsErr, OnOk};
 ghost use Rattle.std.specs.Prelude.{OnErr, IfOk, IfErr, IsErrOf, Ok, Err, MatchOption, MatchResult, ℕ, List};
 ghost use Rattle.nvm_board.specs.Aims.{due_of};
@@ -34,7 +34,7 @@ use file_tree::{FreeSpace, Survey};
 use std::marker::Model;
 use undo_journal::{Armed, Board, Faultless, Store, StoreErr};
 
-/// A started card: its memory, its session, and what it can still do.
+/// A powered card: its memory, its session, and its state.
 #[derive(Drop)]
 pub struct Card<B: Board> {
     lent: Lent<B>,
@@ -68,22 +68,22 @@ impl<B: Board> Model for Card<B> {
 }
 
 impl<B: Board> Card<B> {
-    /// Starts the card that the memory stands for, its journal undone, in a fresh session. A memory of format 1 becomes
-    /// one of format 2 that has all pages of its board. At every exit the card that is found is what it was, in the
-    /// format that it had or in format 2, so that a start may itself be cut any number of times; where no pair of the
-    /// journal counts, and there is no card of format 1, it changes no word and writes nothing.
+    /// Powers the card on: recovers the memory, and begins a fresh session.
+    /// A memory of format 1 is migrated to format 2 and gets all pages of its board. At every exit the card state after
+    /// recovery is what it was, in its former format or in format 2. So power-on can itself lose power any number of
+    /// times. With an empty journal and no card of format 1 it writes nothing.
     ///
     /// # Errors
-    /// Why the card doesn't start, with the board: power was off, or was lost; the device failed; the journal can't be
-    /// undone; or the memory, its journal undone, stands for no card.
+    /// Why power-on fails, with the board: power was off, or was lost; the device failed; the journal can't be undone;
+    /// or the recovered memory is no valid card image.
     pub fn start(board: B) -> Result<Card<B>, (B, StartFault)>
         ensures started { IfOk result (Starts (B.facts board)) }
         ensures stopped { IfErr result (λ e. StartStopsBy e.1 (B.facts board) (B.facts e.0)) }
         ensures has_card { IfOk result (λ c. HasCard c.facts.words) }
         ensures found { IfOk result (λ c. FindsAgain (B.facts board).words c.facts.words) }
         ensures found_err { IfErr result (λ e. FindsAgain (B.facts board).words (B.facts e.0).words) }
-        // The card is of format 2 then, and where it wasn't it has got all pages of the board; a start that stops
-        // leaves it in its format, or in format 2.
+        // The card is then of format 2; a card of format 1 has got all pages of the board.
+        // If power-on stops, the card is in its former format or in format 2.
         ensures format { IfOk result (λ c. IsNewFound c.facts.words) }
         ensures all_pages { IfOk result (λ c. TakesAllPages (B.facts board).words c.facts.words) }
         ensures format_err { IfErr result (λ e. KeepsFormat (B.facts board).words (B.facts e.0).words) }
@@ -117,7 +117,7 @@ impl<B: Board> Card<B> {
         }
     }
 
-    /// What the card can still do. A card that works has power, and one that is dark has none.
+    /// Returns the state of the card. A working card has power, a dark one has none.
     pub fn state(&self) -> CardState
         ensures state { result ≡ self.now.state }
         ensures lit { self.now.state ≡ CardState.Working → self.now.facts.dark ≡ false }
@@ -126,28 +126,29 @@ impl<B: Board> Card<B> {
         self.state
     }
 
-    /// The free space of the card, from counts that each command keeps: blocks and file entries.
-    /// It is told as long as the card works.
+    /// Returns the free space of the card: blocks and file entries.
+    /// Each command updates these counts. They are valid while the card works.
     pub fn free(&self) -> FreeSpace
         ensures { self.now.state ≡ CardState.Working → result ≡ card_space (card_found self.now) }
     {
         self.lent.free
     }
 
-    /// Carries out the bytes of a command (ISO/IEC 7816-4, clause 5), and puts its answer into the buffer, whatever
-    /// that held. A refusal is an answer too. A fault of the device is answered 6581, here and from then on,
-    /// until the next start.
+    /// Runs the bytes of a command, and writes its answer.
+    /// The command has the form of ISO/IEC 7816-4, clause 5.
+    /// The answer replaces the contents of the buffer. A refusal is an answer too. After a fault of the device the
+    /// answer is 6581, now and until the next power-on.
     ///
     /// # Errors
-    /// `PowerLost` where power is lost, or was lost in an earlier command: nothing is answered, until the next start.
+    /// `PowerLost` if power is lost, or was lost in an earlier command: there is no answer until the next power-on.
     pub fn command(&mut self, command: &[u8], answer: &mut Answer) -> Result<(), PowerLost>
-        // At every exit, cut or fault or neither, the card that is found is one of the command's stages.
+        // At every exit, also after power loss or a fault, the card state is one of the command's stages.
         ensures has_card { HasCard self.new.facts.words }
         ensures stage { IsStage (card_found self.old) self.old.session command.now (card_found self.new) }
-        // A command that changes nothing lasting leaves each word of the board, and each of its counts.
+        // A command that changes nothing permanent changes no word, and no counter of writes or comparisons.
         ensures idle { ChangesNothing (card_found self.old) self.old.session command.now
             → KeepsBoard self.old.facts self.new.facts }
-        // A command that is answered is one step, or 6581 after a fault; a guess in such a step was counted.
+        // An answered command is one step of the model, or 6581 after a fault. Such a step counts its PIN comparison.
         ensures done { OnOk result (self.old.state ≡ CardState.Working
             → Steps self.old command.now self.new answer.new.items ⊎ FailsIn self.old self.new answer.new.items) }
         ensures lost { OnErr result (self.old.state ≡ CardState.Working → IsCutIn self.old self.new answer.new.items) }
@@ -156,16 +157,16 @@ impl<B: Board> Card<B> {
         ensures dark { self.old.state ≡ CardState.Dark → IsErr result × (self.new ≡ self.old) × (answer.new.items
             ≡ []) }
         ensures unlit { OnErr result (self.new.facts.dark ≡ true) }
-        // While the gate is not 0 the card before the transaction is found; with it 0 that word decides, and for a
-        // charge and for what VERIFY renews the word of the tries.
+        // While the gate isn't 0, recovery gives the state before the transaction; writing 0 to it commits.
+        // The charge of a PIN, and the reset of its tries by VERIFY, commit by the word of tries.
         ensures stands { self.old.state ≡ CardState.Working
             → StandsAsked (card_found self.old) self.old.session (asked command.now) self.new.facts.words }
         ensures writes { self.new.facts.writes ≤ self.old.facts.writes + COMMAND_WRITES }
-        // No write is taken back, and a cut that is set falls into the write that it was set for.
+        // The write counter never decreases, and a set power cut falls into the write that it was set for.
         ensures advances { Advances self.old.facts self.new.facts }
-        // What the bytes ask for bounds the device writes: reads and refusals by form make none.
+        // The request bounds the device writes: reads and invalid commands make none.
         ensures counted { self.new.facts.writes ≤ self.old.facts.writes + writes_of command.now }
-        // Of UPDATE BINARY, by how many bytes it sends.
+        // The bound for UPDATE BINARY, by its number of bytes.
         ensures updated { (target : Target) (offset : ℕ) (bytes : List ℕ)
             → asked command.now ≡ Ok (update_binary target offset bytes)
             → self.new.facts.writes ≤ self.old.facts.writes + update_writes (length bytes) }
@@ -209,7 +210,7 @@ impl<B: Board> Card<B> {
 }
 
 impl<B: Faultless> Card<B> {
-    /// Tells that the board counts no fault, and that a cut is due where one is set.
+    /// Proves that the board has no fault, and set cuts are due.
     pub fn has_no_fault(&self)
         ensures faults { self.now.facts.faults ≡ 0 }
         ensures due { self.now.facts.due ≡ due_of self.now.facts.pending }
@@ -219,7 +220,7 @@ impl<B: Faultless> Card<B> {
 }
 
 impl<B: Armed> Card<B> {
-    /// Sets a cut to come at a later write (`Armed::arm`).
+    /// Sets a cut for a later write (`Armed::arm`).
     pub fn arm(&mut self, k: u32, mask: u16)
         requires { 1 ≤ k }
         ensures arms { Arms k mask self.old.facts self.new.facts }
@@ -229,7 +230,7 @@ impl<B: Armed> Card<B> {
     }
 }
 
-/// What a start finds of the card, or why the card doesn't start.
+/// Returns what power-on found of the card, or why power-on fails.
 fn survey_of(found: Result<Option<Survey>, StoreErr>) -> Result<Survey, StartFault>
     ensures { MatchResult found
         (λ card. MatchOption card (result ≡ Err StartFault.Damaged) (λ survey. result ≡ Ok survey))
@@ -243,7 +244,7 @@ fn survey_of(found: Result<Option<Survey>, StoreErr>) -> Result<Survey, StartFau
     }
 }
 
-/// Ends a command that was carried out: its answer, and what the card can still do.
+/// Ends a command: completes its answer, updates the state.
 fn end_command(
     carried: Result<Sw, StoreErr>,
     state: &mut CardState,

@@ -1,6 +1,6 @@
 //! The two formats of a memory.
 
-/// The format of a memory, as the mark of its header tells it. A start makes format 2 of format 1.
+/// The format of a memory, from the mark of its header. Power-on migrates format 1 to 2.
 #[derive(Clone, Copy, Debug, PartialEq, Eq)]
 pub enum MemoryFormat {
     /// Format 1: the blocks end at page 1,024.

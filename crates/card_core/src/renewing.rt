@@ -18,8 +18,8 @@ use file_tree::{FreeSpace, OLD_END_PAGE, Survey};
 use migration::migrate;
 use undo_journal::{Board, Store, StoreErr};
 
-/// What a start finds of the card that the memory stands for, made one of format 2 where it isn't, or None where it
-/// stands for none. At every exit it is the same card, in the format that its header tells.
+/// Checks the card image, and migrates it to format 2 if needed.
+/// Returns `None` if it is no valid card image. At every exit the card state is the same, in the format of its header.
 pub(crate) fn survey_card<B: Board>(store: &mut Store<B>) -> Result<Option<Survey>, StoreErr>
     requires ready { IsReady store.old }
     ensures any_exit { (committed store.new ≡ committed store.old)
@@ -43,7 +43,7 @@ pub(crate) fn survey_card<B: Board>(store: &mut Store<B>) -> Result<Option<Surve
             migrate(store)?;
             let FreeSpace { blocks, entries } = found.tree.free;
             Ok(Some(Survey {
-                // What is free grows by the blocks that the memory gains, one a page from page 1,024 on.
+                // The free space grows by the gained blocks, one a page from page 1,024 on.
                 free: FreeSpace {
                     blocks: blocks + (store.pages() - OLD_END_PAGE),
                     entries,
