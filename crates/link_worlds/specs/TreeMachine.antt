@@ -1,4 +1,4 @@
--- The tree machine as the machine of a world: a card, and the session that it is in.
+-- The card model as the machine of a world: a card and its session.
 use Rattle.card_model.specs.Cards.{Card, IsProper}
 use Rattle.card_model.specs.Sessions.{Session}
 use Rattle.card_model.specs.Steps.{answer_bytes, carried_out}
@@ -8,11 +8,11 @@ pub record Served : Type 0 where
   pub card : Card
   pub session : Session
 
--- the card is well formed, as the one that is found in a memory always is
+-- the card is well formed, as a card state after recovery always is
 abbrev pub IsProperState : Served → Type 0
 IsProperState s = IsProper s.card
 
--- each command is one step of the tree machine
+-- each command is one step of the card model
 abbrev pub tree_machine : Machine Served
 tree_machine = record {
   answer = λ s command. answer_bytes (carried_out s.card s.session command).response;

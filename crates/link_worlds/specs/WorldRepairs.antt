@@ -1,4 +1,4 @@
--- Bounded repair (ISO/IEC 7816-3, clause 11.6): a command for which the line failed at most once gets its answer.
+-- Bounded repair (ISO/IEC 7816-3, clause 11.6): a command with at most one line fault gets its answer.
 use Rattle.std.specs.Prelude.{◌≡◌, ◌+◌, ◌*◌, ◌/◌, ◌≤◌, ◌<◌, ℕ, true, false, if◌then◌else◌, List, [], ◌∷◌, length}
 use Rattle.t1_link.specs.ReaderTable.{is_busy}
 use Rattle.link_worlds.specs.Worlds.{Arrival, Done, Event, Failed, Machine, Report, Unknown, World, arrival, at_card}
@@ -6,7 +6,7 @@ use Rattle.link_worlds.specs.Worlds.{at_reader, garble, in_vain, lose, may_send}
 use Rattle.link_worlds.specs.Worlds.{nothing, pass, powered, send, world_step}
 use Rattle.link_worlds.specs.WorldLaw.{comes_of}
 
--- Since a command was last sent: how many blocks arrived as they were, and how many were lost or garbled.
+-- The blocks since a command was last sent: how many arrived intact, and how many were lost or garbled.
 pub record Counts : Type 0 where
   pub passes : ℕ
   pub faults : ℕ
@@ -17,37 +17,37 @@ passed c = record c { passes = c.passes + 1 }
 abbrev pub faulted : Counts → Counts
 faulted c = record c { faults = c.faults + 1 }
 
--- what an event counts for, where it fits
+-- the counts after an event that is possible
 abbrev pub counting : Counts → Event → Counts
 counting c (send command) = c
 counting c pass = passed c
 counting c lose = faulted c
 counting c (garble bytes) = faulted c
 
--- an event that doesn't fit counts for nothing
+-- an event that is impossible counts for nothing
 abbrev pub counted : Counts → Event → Arrival → Counts
 counted c event nothing = c
 counted c event (at_card bytes) = counting c event
 counted c event (at_reader bytes) = counting c event
 counted c event in_vain = counting c event
 
--- nothing was counted
+-- all counts are zero
 abbrev pub no_counts : Counts
 no_counts = record { passes = 0; faults = 0 }
 
--- a world, and these counts of it
+-- a world with its counts
 pub record Watched (M : Type 0) : Type 0 where
   pub world : World M
   pub counts : Counts
 
--- the counts after an event: they begin anew where a command is sent
+-- the counts after an event; a sent command resets them
 abbrev pub counts_after : {M : Type 0} → Watched M → Event → Counts
 counts_after v (send command) = if may_send v.world.reader command then no_counts else v.counts
 counts_after v pass = counted v.counts pass (arrival v.world.line pass)
 counts_after v lose = counted v.counts lose (arrival v.world.line lose)
 counts_after v (garble bytes) = counted v.counts (garble bytes) (arrival v.world.line (garble bytes))
 
--- a list of events, the first one first
+-- the world and counts after a list of events, in order
 unfoldable pub watch : {M : Type 0} → Machine M → Watched M → List Event → Watched M
 watch machine v [] = v
 watch machine v (event ∷ events) =
@@ -57,27 +57,27 @@ watch machine v (event ∷ events) =
 abbrev pub watched : {M : Type 0} → Machine M → M → List Event → Watched M
 watched machine start events = watch machine (record { world = powered start; counts = no_counts }) events
 
--- how many I-blocks a command and an answer take: of 254 bytes toward the card, of 32 toward the reader
+-- the number of I-blocks of a command and of an answer: 254 bytes toward the card, 32 toward the reader
 abbrev pub command_blocks : List ℕ → ℕ
 command_blocks bytes = (length bytes + 253) / 254
 
 abbrev pub answer_blocks : List ℕ → ℕ
 answer_blocks bytes = (length bytes + 31) / 32
 
--- the command sent last
+-- the last sent command
 abbrev pub newest : List (List ℕ) → List ℕ
 newest [] = []
 newest (command ∷ sent) = command
 
--- no report was Failed
+-- no report is Failed
 abbrev pub NoneFailed : List Report → Type 0
 NoneFailed [] = Unit {0}
 NoneFailed (Done answer ∷ reports) = NoneFailed reports
 NoneFailed (Unknown ∷ reports) = NoneFailed reports
 NoneFailed (Failed failure ∷ reports) = ⊥
 
--- Where at most one block was lost or garbled, and no earlier report was Failed, the report is Done. Where none was, it
--- came with the last arrival of twice as many as command and answer have blocks together, but two: each block but the
+-- If at most one block was lost or garbled, and no earlier report was Failed, the report is Done. Without any fault it
+-- takes twice the I-blocks of command and answer, less two, as each I-block but the last of either has an R-block.
 -- last one of either has an R-block back.
 abbrev pub Repaired : Counts → List (List ℕ) → List Report → Type 0
 Repaired c sent [] = Unit {0}
@@ -85,17 +85,17 @@ Repaired c sent (report ∷ earlier) = c.faults ≤ 1 → NoneFailed earlier
     → (answer : List ℕ) × (report ≡ Done answer)
     × (c.faults ≡ 0 → c.passes + 2 ≡ 2 * (command_blocks (newest sent) + answer_blocks answer))
 
--- What the counts say of a world.
+-- What the counts prove about a world.
 pub record BoundedRepair {M : Type 0} (machine : Machine M) (start : M) (events : List Event)
     (v : Watched M) : Type 0 where
   -- it is the world after these events
   pub same_world : v.world ≡ comes_of machine start events
-  -- when no command is in hand
+  -- if no command is in progress
   pub repaired : is_busy v.world.reader.phase ≡ false → Repaired v.counts v.world.sent v.world.reports
-  -- when one is: after 20 blocks that arrived as they were the report is there
+  -- if one is in progress: the report comes within 20 intact blocks
   pub in_time : is_busy v.world.reader.phase ≡ true → v.counts.faults ≡ 0 → v.counts.passes < 20
 
--- Bounded repair, for every list of events, from a state in which the invariant holds.
+-- Bounded repair, for every list of events, from a state that satisfies the invariant.
 abbrev pub RepairLaw : {M : Type 0} → Machine M → (M → Type 0) → Type 0
 RepairLaw {M} machine Invariant = (start : M) (events : List Event) → Invariant start
     → BoundedRepair machine start events (watched machine start events)

@@ -6,24 +6,25 @@ ghost use Rattle.link_worlds.specs.WorldLaw.{ResynchLaw, WorldLaw};
 ghost use Rattle.link_worlds.specs.WorldRepairs.{RepairLaw};
 ghost use Rattle.link_worlds.specs.Worlds.{Answers, Machine};
 
-/// The law of the world of both ends (ISO/IEC 7816-3, clause 11.6), for every proper card, every session that it begins
-/// in, and every list of events:
+/// States the law of the world of both ends.
+/// The source is ISO/IEC 7816-3, clause 11.6.
+/// It holds for every proper card, every initial session, and every list of events:
 ///
-/// - `law`: the commands carried out are the commands sent, in order, each at most once, with only such left out as
-///   were not reported Done; Done has the tree machine's answer at that point; no answer is reported as bad; once
-///   RESYNCH was requested, nothing but such requests is sent until the report.
-/// - `resynch`: the response to such a request ends the command as Unknown; where it doesn't come, the request is sent
-///   again, and after the third one the command has Failed.
-/// - `repair`: where at most one block was lost or garbled since a command was sent, and no report was Failed before,
-///   its report is Done; where none was, it comes after at most 20 blocks, and exactly as many as are said there.
+/// - `law`: the commands that ran are those sent, in order, each at most once; those left out weren't reported Done.
+///   Done has the model's answer at that point, and no answer is reported as bad. After a request for RESYNCH only such
+///   requests are sent until the report.
+/// - `resynch`: the response to such a request ends the command as Unknown. Without it the request is sent again, and
+///   after the third one the command has Failed.
+/// - `repair`: if at most one block was lost or garbled since the command was sent, and no report was Failed before,
+///   its report is Done. Without any fault it comes within 20 blocks, whose exact number `Repaired` gives.
 pub fn world()
     ensures law { WorldLaw tree_machine IsProperState }
     ensures resynch { ResynchLaw tree_machine IsProperState }
     ensures repair { RepairLaw tree_machine IsProperState }
 {}
 
-/// The same law for every machine that keeps an invariant, any test of its states, and answers each command by 2 to 258
-/// bytes where that holds, whatever type `M` the states have.
+/// States the same law for any machine with an invariant.
+/// Under its invariant the machine answers each command with 2 to 258 bytes. `M` is the type of its states.
 pub fn world_of_any_machine<M>()
     ensures law { (machine : Machine M) (holds : M → Bool) → Answers machine (λ m. IsTrue (holds m))
         → WorldLaw machine (λ m. IsTrue (holds m)) }
