@@ -1,4 +1,4 @@
--- The value of a bench, from its field.
+-- The state of a bench, from its field.
 use Rattle.std.specs.Prelude.{◌≡◌, ◌≢◌, length, true}
 use Rattle.nvm_board.specs.declared.board.TheConstants.{SECRETS}
 use Rattle.nvm_board.specs.Facts.{Facts}
@@ -12,12 +12,12 @@ abbrev pub power_state : {B : Type 0} → (B → Facts) → Power B → BenchSta
 power_state facts (Off board) = off (facts board)
 power_state facts (On powered) = on powered
 
--- each secret has its counts
+-- each secret has its counters
 pub record CountsEach (counts : Comparisons) : Type 0 where
   pub compares : length counts.compares ≡ SECRETS
   pub matches : length counts.matches ≡ SECRETS
 
--- a board with power off is dark; a card that lost power isn't kept, and of one that is, the board counts each secret
+-- with power off the board is dark; a powered card isn't dark, and its board counts each secret
 abbrev pub IsKept : {B : Type 0} → (B → Facts) → Power B → Type 0
 IsKept facts (Off board) = (facts board).dark ≡ true
 IsKept facts (On powered) = (powered.card.state ≢ Dark) × CountsEach (comparisons powered.card.facts)

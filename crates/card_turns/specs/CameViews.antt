@@ -1,9 +1,9 @@
--- What comes of a turn, or of a line.
+-- The result of a turn, or of a script line.
 use Rattle.std.specs.Prelude.{Bool, true, false}
 use Rattle.card_turns.specs.declared.came.Came.{Came}
 use Rattle.card_turns.specs.declared.came.Came.TheVariants.{Nothing, Atr, Mute, Dark, Lost, Answer, Block, Free}
 
--- whether a card started
+-- true if it is a successful power-on
 abbrev pub is_started : Came → Bool
 is_started Nothing = false
 is_started Atr = true

@@ -1,4 +1,4 @@
--- A card behind its end of the link: what it makes of each block.
+-- A card behind its end of the link: its reaction to each block.
 use Rattle.std.specs.Prelude.{◌≡◌, ℕ, List, []}
 use Rattle.nvm_board.specs.Facts.{Steady, GoesDark, Fails}
 use Rattle.t1_link.specs.CardTable.{Link, link_step, Taken, Reaction, replies, runs, answers, reply_bytes}
@@ -12,12 +12,12 @@ use Rattle.card_model.specs.Steps.{ChangesNothing, IsStage, Outcome, answer_byte
 use Rattle.command_base.specs.Words.{StandsAsked}
 use Rattle.card_core.specs.Running.{Running, card_found, memory_failure}
 
--- the card, and its end of the link
+-- the card and its end of the link
 pub record Powered : Type 0 where
   pub card : Running
   pub link : Link
 
--- the link after a reaction, the answer being put to a command that is to run, and the block that goes back
+-- the link after a reaction and the block to send, where the answer of a command comes from `answer_to`
 abbrev pub answering : Link → Reaction → (List ℕ → List ℕ) → Taken
 answering link (replies block) answer_to = record { link = link; reaction = replies block }
 answering link (runs command) answer_to = answers link (answer_to command)
@@ -31,12 +31,12 @@ session_by session (runs command) session_to = session_to command
 abbrev pub block_answered : Link → List ℕ → (List ℕ → List ℕ) → Taken
 block_answered link got answer_to = answering (link_step link got).link (link_step link got).reaction answer_to
 
--- whether a reaction is to run a command
+-- the reaction runs a command
 abbrev pub IsRun : Reaction → Type 0
 IsRun (replies block) = ⊥
 IsRun (runs command) = Unit {0}
 
--- what a card in this session makes of a command
+-- the model's outcome of a command on this card, in its session
 abbrev pub machine : Powered → List ℕ → Outcome
 machine old command = carried_out (card_found old.card) old.card.session command
 
@@ -45,37 +45,36 @@ abbrev pub card_by : Card → Reaction → (List ℕ → Card) → Card
 card_by card (replies block) card_to = card
 card_by card (runs command) card_to = card_to command
 
--- a card that is a stage of the command that a reaction runs, or the same card where none runs
+-- the card is a stage of the command that the reaction runs, or unchanged if none runs
 abbrev pub IsBlockStage : Powered → Reaction → Card → Type 0
 IsBlockStage old (replies block) card = card ≡ card_found old.card
 IsBlockStage old (runs command) card = IsStage (card_found old.card) old.card.session command card
 
--- which card is found after the command that a reaction runs, by the word that was written;
--- where none runs nothing is written
+-- the card state after recovery, during the command that the reaction runs; without a command nothing is written
 abbrev pub BlockStands : Powered → Reaction → List ℕ → Type 0
 BlockStands old (replies block) m = Unit {0}
 BlockStands old (runs command) m = StandsAsked (card_found old.card) old.card.session (asked command) m
 
--- a reaction runs no command, or one that changes nothing lasting
+-- the reaction runs no command, or one that changes nothing permanent
 abbrev pub BlockChangesNothing : Powered → Reaction → Type 0
 BlockChangesNothing old (replies block) = Unit {0}
 BlockChangesNothing old (runs command) = ChangesNothing (card_found old.card) old.card.session command
 
--- what a block compares: what the command that it runs calls for, and else nothing
+-- the comparisons of a block: those of the command that it runs, else none
 abbrev pub BlockCompares : Powered → Reaction → Powered → Type 0
 BlockCompares old (replies block) new = ComparesNothing (comparisons old.card.facts) (comparisons new.card.facts)
 BlockCompares old (runs command) new =
     ComparesAsked (asked command) (card_found old.card) (comparisons old.card.facts) (card_found new.card)
     (comparisons new.card.facts)
 
--- what a block that is answered counts: a guess in the command that it runs; of any other block nothing is said here
+-- a reply to a block counts the PIN comparison of the command that it runs; nothing is stated without a command
 abbrev pub BlockCounts : Powered → Reaction → Powered → Type 0
 BlockCounts old (replies block) new = Unit {0}
 BlockCounts old (runs command) new =
     CountsAnswered (asked command) (card_found old.card) old.card.session old.card.facts new.card.facts
 
--- The reply is the link's, over one step of the tree machine where a command is to run: card, session and link go on as
--- these do, and the board had neither cut nor fault. A guess that is answered was counted.
+-- The reply of the link, without power loss and fault of the board. If a command runs, card, session and answer are
+-- those of one step of the card model. An answered PIN command made one comparison.
 pub record Replies (old : Powered) (got : List ℕ) (new : Powered) (out : List ℕ) : Type 0 where
   pub power : Steady old.card.facts new.card.facts
   pub state : new.card.state ≡ Working
@@ -88,20 +87,20 @@ pub record Replies (old : Powered) (got : List ℕ) (new : Powered) (out : List 
       ≡ reply_bytes (block_answered old.link got (λ command. answer_bytes (machine old command).response)).reaction
   pub counted : BlockCounts old (link_step old.link got).reaction new
 
--- The reply of a card whose memory failed: each command is answered 6581.
+-- The reply of a card whose memory has failed: each command is answered with 6581.
 pub record RepliesFailure (old : Powered) (got : List ℕ) (new : Powered) (out : List ℕ) : Type 0 where
   pub state : new.card.state ≡ Failed
   pub link : new.link ≡ (block_answered old.link got (λ command. memory_failure)).link
   pub block : out ≡ reply_bytes (block_answered old.link got (λ command. memory_failure)).reaction
 
--- a command was to run, the board had a fault, and from here on the memory has failed
+-- a command ran, the board had a fault, and from now on the memory has failed
 pub record FailsAt (old : Powered) (got : List ℕ) (new : Powered) (out : List ℕ) : Type 0 where
   pub power : Fails old.card.facts new.card.facts
   pub run : IsRun (link_step old.link got).reaction
   pub session : new.card.session ≡ fresh_session
   pub reply : RepliesFailure old got new out
 
--- a command was to run, and the board lost power: nothing goes back
+-- a command ran, and the board lost power: there is no reply
 pub record IsCutAt (old : Powered) (got : List ℕ) (new : Powered) (out : List ℕ) : Type 0 where
   pub power : GoesDark old.card.facts new.card.facts
   pub run : IsRun (link_step old.link got).reaction

@@ -1,9 +1,9 @@
--- How far a board's counts are from their end, at which power is lost or a card stays mute.
+-- How far the counters of a board are from their limit, at which power is lost or power-on fails.
 use Rattle.std.specs.Prelude.{◌<◌, ◌+◌, ℕ, All}
 use Rattle.nvm_board.specs.declared.board.TheConstants.{COUNT_END}
 use Rattle.nvm_board.specs.Facts.{Facts}
 
--- after n steps more no count stands at its end
+-- after n more steps no counter is at its limit
 pub record HasLeft (n : ℕ) (f : Facts) : Type 0 where
   pub faults : f.faults + n < COUNT_END
   pub cuts : f.cuts + n < COUNT_END

@@ -1,4 +1,4 @@
--- What the bench promises of a turn, and of turns: the counts always; that it is the machine's where no fault came.
+-- Postconditions of one turn and of several turns at the bench.
 use Rattle.std.specs.Prelude.{◌≡◌, ℕ, List}
 use Rattle.nvm_board.specs.Aims.{due_of}
 use Rattle.command_base.specs.declared.spending.TheConstants.{COMMAND_WRITES}
@@ -11,19 +11,19 @@ use Rattle.card_turns.specs.BenchStates.{BenchState, bench_facts, BenchHasCard, 
 use Rattle.card_turns.specs.Guessing.{GuessesFew}
 use Rattle.card_turns.specs.Turns.{CountsLosses, OneTurn, Runs, Spends, TakesBlock, Wears, dark_of, darks, turn_writes}
 
--- no fault came from here to there, nor since power came on
+-- no fault between these two states, nor earlier since power-on
 pub record HasNoFault (old new : BenchState) : Type 0 where
   pub faults : (bench_facts new).faults ≡ (bench_facts old).faults
   pub well : IsWell old
 
--- A bench whose card is found, and never had a fault; a cut is due where one is set.
+-- A bench with a card state after recovery, and without any fault. A power cut is due if one is set.
 pub record IsGood (b : BenchState) : Type 0 where
   pub has_card : BenchHasCard b
   pub faults : (bench_facts b).faults ≡ 0
   pub due : (bench_facts b).due ≡ due_of (bench_facts b).pending
   pub well : IsWell b
 
--- What came of a turn is told so, and of it this holds. A block that came back stands in a buffer.
+-- The result of a turn, for which `Holds` is true. A returned block is in a buffer.
 abbrev pub TellsItem : Came → List ℕ → (Item → Type 0) → Type 0
 TellsItem came.Nothing block Holds = Holds Quiet
 TellsItem came.Atr block Holds = Holds Atr
@@ -34,7 +34,7 @@ TellsItem came.Answer block Holds = ⊥
 TellsItem came.Block block Holds = Holds (Reply block)
 TellsItem (came.Free free) block Holds = ⊥
 
--- A turn is played.
+-- One turn.
 pub record Plays (old : BenchState) (turn : Turn) (item : Item) (new : BenchState) : Type 0 where
   pub has_card : BenchHasCard old → BenchHasCard new
   pub counts : Spends (dark_of item) (bench_facts old) (bench_facts new)
@@ -43,7 +43,7 @@ pub record Plays (old : BenchState) (turn : Turn) (item : Item) (new : BenchStat
   pub one : BenchHasCard old → HasNoFault old new → OneTurn old turn item new
   pub wears : BenchHasCard old → HasNoFault old new → Wears (turn_writes old turn) (bench_facts old) (bench_facts new)
 
--- A block is played.
+-- One block.
 pub record PlaysBlock (old : BenchState) (got : List ℕ) (item : Item) (new : BenchState) : Type 0 where
   pub has_card : BenchHasCard old → BenchHasCard new
   pub counts : Spends (dark_of item) (bench_facts old) (bench_facts new)
@@ -52,7 +52,7 @@ pub record PlaysBlock (old : BenchState) (got : List ℕ) (item : Item) (new : B
   pub one : BenchHasCard old → HasNoFault old new → TakesBlock old got item new
   pub wears : HasNoFault old new → Wears COMMAND_WRITES (bench_facts old) (bench_facts new)
 
--- Turns are played.
+-- Several turns.
 pub record PlaysAll (old : BenchState) (turns : List Turn) (trace : List Item) (new : BenchState) : Type 0 where
   pub has_card : BenchHasCard old → BenchHasCard new
   pub counts : CountsLosses (darks trace) (bench_facts old) (bench_facts new)

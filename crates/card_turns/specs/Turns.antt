@@ -1,4 +1,4 @@
--- What each turn at a bench does, and what comes of it; and turns, one after another.
+-- The effect and the result of each turn at a bench, and of several turns.
 use Rattle.std.specs.Prelude.{◌≡◌, ◌⊎◌, ◌≤◌, ◌+◌, ℕ, if◌then◌else◌, List, [], ◌∷◌}
 use Rattle.nvm_board.specs.Aims.{KeepsAim}
 use Rattle.nvm_board.specs.Facts.{Facts, IsWorn, IsWornOut, RisesAt}
@@ -41,7 +41,7 @@ TurnsOn old Mute new = (new ≡ switched_off old) × IsWornOut (bench_facts new)
 TurnsOn old Dark new = IsOff new × LeavesCard old new × WritesNoMore (bench_facts old) (bench_facts new)
 TurnsOn old (Reply block) new = ⊥
 
--- Power off: nothing is said, and nothing else is done.
+-- Power off: no result, and no other change.
 abbrev pub TurnsOff : BenchState → Item → BenchState → Type 0
 TurnsOff old Atr new = ⊥
 TurnsOff old Quiet new = new ≡ switched_off old
@@ -49,7 +49,7 @@ TurnsOff old Mute new = ⊥
 TurnsOff old Dark new = ⊥
 TurnsOff old (Reply block) new = ⊥
 
--- A block with power off: the card doesn't answer, and nothing changes.
+-- A block with power off: the card gives no answer, and nothing changes.
 abbrev pub HearsNothing : BenchState → Item → BenchState → Type 0
 HearsNothing old Atr new = ⊥
 HearsNothing old Quiet new = ⊥
@@ -57,13 +57,13 @@ HearsNothing old Mute new = new ≡ old
 HearsNothing old Dark new = ⊥
 HearsNothing old (Reply block) new = ⊥
 
--- the card replies with this block, and goes on
+-- the card replies with this block, and stays powered
 abbrev pub GoesOnWith : Powered → List ℕ → BenchState → List ℕ → Type 0
 GoesOnWith old got (off facts) out = ⊥
 GoesOnWith old got (on new) out = Replies old got new out
 
--- Power was lost while a command ran: the card that is found is one of its stages;
--- which one, the word tells that was written.
+-- Power was lost while a command ran. The card state after recovery is one of its stages, and the words written so far
+-- determine which one.
 pub record IsCutOff (old : Powered) (got : List ℕ) (new : BenchState) : Type 0 where
   pub power : IsOff new
   pub run : IsRun (link_step old.link got).reaction
@@ -78,7 +78,7 @@ Hears old got Mute new = ⊥
 Hears old got Dark new = IsCutOff old got new
 Hears old got (Reply block) new = GoesOnWith old got new block
 
--- a block
+-- the reaction to a block
 abbrev pub TakesBlock : BenchState → List ℕ → Item → BenchState → Type 0
 TakesBlock (off facts) got item new = HearsNothing (off facts) item new
 TakesBlock (on powered) got item new = Hears powered got item new
@@ -89,7 +89,7 @@ OneTurn old turn.On item new = TurnsOn old item new
 OneTurn old turn.Off item new = TurnsOff old item new
 OneTurn old (turn.Block got) item new = TakesBlock old got.now item new
 
--- 1 where power was lost in a turn, else 0
+-- 1 if power was lost in a turn, else 0
 abbrev pub dark_of : Item → ℕ
 dark_of Atr = 0
 dark_of Quiet = 0
@@ -97,14 +97,14 @@ dark_of Mute = 0
 dark_of Dark = 1
 dark_of (Reply block) = 0
 
--- how often power was lost
+-- the number of power losses
 unfoldable pub darks : List Item → ℕ
 darks [] = 0
 darks (item ∷ items) = dark_of item + darks items
 
--- What a turn leaves of the board's counts, in which power was lost once (1) or not (0). Each loss is counted, and
--- takes one of the cuts that were due; or a count of the board stands at its end. No fault is forgotten, no write is
--- taken back, and a cut that is set falls into the write that it was set for.
+-- The counters of the board after a turn with one power loss (1) or none (0). Each loss is counted, and uses up one of
+-- the due cuts, unless a counter is at its limit. The counters of faults and writes never decrease, and a set power cut
+-- falls into the write that it was set for.
 pub record Spends (lost : ℕ) (old new : Facts) : Type 0 where
   pub cuts : new.cuts ≡ old.cuts + lost
   pub due : (old.due ≡ new.due + lost) ⊎ (IsWorn new × (new.due ≡ old.due))
@@ -112,8 +112,8 @@ pub record Spends (lost : ℕ) (old new : Facts) : Type 0 where
   pub more : old.writes ≤ new.writes
   pub cut : KeepsAim old new
 
--- What turns leave of them, in which power was lost so often: so many cuts more were counted, and no cut became due,
--- nor are more gone than power was lost.
+-- The counters of the board after turns with `lost` power losses. The counter of cuts rises by `lost`. No cut became
+-- due, and at most `lost` due cuts are used up. The counters of faults and writes never decrease.
 pub record CountsLosses (lost : ℕ) (old new : Facts) : Type 0 where
   pub cuts : new.cuts ≡ old.cuts + lost
   pub due : old.due ≤ new.due + lost
@@ -121,8 +121,8 @@ pub record CountsLosses (lost : ℕ) (old new : Facts) : Type 0 where
   pub faults : old.faults ≤ new.faults
   pub more : old.writes ≤ new.writes
 
--- how many device writes a turn makes at most: a start one for each pair of the journal, and one for the gate, and
--- where the memory isn't of format 2 those of the way to it, on whatever board
+-- The most device writes of a turn. Power-on makes one for each pair of the journal, and one for the gate.
+-- If the memory isn't of format 2, those of the migration follow, counted for the largest board.
 abbrev pub most_renewal : List ℕ → ℕ
 most_renewal m = if is_format_2 (words_found m) then 0 else migration_writes MOST_PAGES
 
@@ -131,14 +131,14 @@ turn_writes old turn.On = PAIRS + 1 + most_renewal (bench_facts old).words
 turn_writes old turn.Off = 0
 turn_writes old (turn.Block got) = COMMAND_WRITES
 
--- how many steps a turn takes of a count at most: 700,
--- and a start of a memory that isn't of format 2 those of the way to it
+-- The most steps of a counter in a turn: 700, and for power-on of a memory that isn't of format 2 those of the
+-- migration in addition.
 abbrev pub turn_steps : BenchState → Turn → ℕ
 turn_steps old turn.On = COMMAND_WRITES + most_renewal (bench_facts old).words
 turn_steps old turn.Off = COMMAND_WRITES
 turn_steps old (turn.Block got) = COMMAND_WRITES
 
--- What a turn without a fault takes of the board's other counts: so many device writes at most, and at most the
+-- The other counters of the board after a turn without a fault: at most `most` device writes, and at most one
 -- comparison of one secret, which may match.
 pub record Wears (most : ℕ) (old new : Facts) : Type 0 where
   pub faults : new.faults ≡ old.faults
@@ -147,19 +147,19 @@ pub record Wears (most : ℕ) (old new : Facts) : Type 0 where
   pub compares : RisesAt old.compares secret new.compares
   pub matches : RisesAt old.matches secret new.matches
 
--- A turn without a fault, with what it takes of the board's counts.
+-- One turn without a fault, with its use of the board's counters.
 pub record GoodTurn (old : BenchState) (turn : Turn) (item : Item) (new : BenchState) : Type 0 where
   pub one : OneTurn old turn item new
   pub counts : Spends (dark_of item) (bench_facts old) (bench_facts new)
   pub wears : Wears (turn_writes old turn) (bench_facts old) (bench_facts new)
 
--- A block without a fault, with what it takes of the board's counts.
+-- One block without a fault, with its use of the board's counters.
 pub record GoodBlock (old : BenchState) (got : List ℕ) (item : Item) (new : BenchState) : Type 0 where
   pub one : TakesBlock old got item new
   pub counts : Spends (dark_of item) (bench_facts old) (bench_facts new)
   pub wears : Wears COMMAND_WRITES (bench_facts old) (bench_facts new)
 
--- Turns, one after another, with what comes of each.
+-- Several turns in order, with the result of each.
 unfoldable pub Runs : BenchState → List Turn → List Item → BenchState → Type 0
 Runs old [] [] new = new ≡ old
 Runs old [] (item ∷ items) new = ⊥
@@ -167,7 +167,7 @@ Runs old (turn ∷ turns) [] new = ⊥
 Runs old (turn ∷ turns) (item ∷ items) new =
     (between : BenchState) × GoodTurn old turn item between × Runs between turns items new
 
--- how many steps turns take of a count at most, each by the memory before it
+-- the most steps of a counter in these turns, each by the memory before it
 unfoldable pub run_steps : (old : BenchState) (turns : List Turn) (trace : List Item) (new : BenchState)
     → Runs old turns trace new → ℕ
 unfolding Runs

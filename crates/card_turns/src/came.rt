@@ -1,33 +1,33 @@
-//! What comes of a line of a script, or of a turn at the bench.
+//! The result of a script line, or of a turn at the bench.
 ghost use Rattle.std.specs.Prelude.{◌≡◌};
 
 use card_core::FreeSpace;
 
-/// What comes of a line. Bytes of the card aren't in it: they stand where they came to.
+/// The result of a line. Blocks and answers are in buffers, not in this value.
 #[derive(Clone, Copy)]
 pub enum Came {
-    /// Nothing that is told.
+    /// No output.
     Nothing,
-    /// The answer to reset: the card started.
+    /// The answer to reset: the card booted.
     Atr,
-    /// The card doesn't answer: power is off, or it doesn't start.
+    /// No answer: power is off, or power-on fails.
     Mute,
     /// Power was lost, and is off.
     Dark,
     /// The link was lost.
     Lost,
-    /// The answer to a command, which the reader's end keeps.
+    /// The answer to a command, which the reader's end stores.
     Answer,
-    /// The block that the card's end sent, which stands in its buffer.
+    /// The block that the card's end sent, which is in its buffer.
     Block,
-    /// So much is free.
+    /// The free space.
     Free(FreeSpace),
 }
 
 impl Came {
     ghost use Rattle.card_turns.specs.CameViews.{is_started};
 
-    /// Whether a card started.
+    /// Returns true if it is a successful power-on.
     pub fn is_started(&self) -> bool
         ensures { result ≡ is_started self.now }
     {

@@ -1,13 +1,14 @@
-//! Laws of turns: each is a function whose contract is the law.
+//! Laws of turns: each function's contract is one law.
 
 ghost use Rattle.std.specs.Prelude.{◌≤◌, ◌+◌, ◌*◌, ℕ};
 ghost use Rattle.card_rules.specs.declared.pins.TheConstants.{PINS};
 ghost use Rattle.card_turns.specs.BenchStates.{BenchState, BenchHasCard};
 ghost use Rattle.card_turns.specs.Guessing.{GuessesFew, unblocking_guessed, value_guessed};
 
-/// What the guess law says in numbers, of a run that begins where a card is found: without a match, a PIN's value is
-/// compared at most 3 times in all, and its unblocking value at most 10 times, however long the run is and wherever it
-/// is cut; each match that gives the tries back allows 3 more, or 10.
+/// Gives the guess law in numbers.
+/// In a run without a match, a PIN's value is compared at most 3 times, and its unblocking value at most 10 times. The
+/// run begins with a valid card state. Neither its length nor power loss matters. Each match that resets the tries
+/// allows 3, or 10, more.
 pub fn guesses_are_few()
     ensures values { (old new : BenchState) (n more : ℕ) → GuessesFew old new → BenchHasCard old
         → 1 ≤ n → n ≤ PINS → (value_guessed new n).renewals ≤ (value_guessed old n).renewals + more
@@ -17,7 +18,7 @@ pub fn guesses_are_few()
         → (unblocking_guessed new n).compares ≤ (unblocking_guessed old n).compares + 10 * (1 + more) }
 {}
 
-/// The guess law of two runs, one after the other, is that of both together; and it holds of a run of no turn.
+/// The guess law composes over runs, and holds for an empty run.
 pub fn guesses_add_up()
     ensures none { (old : BenchState) → GuessesFew old old }
     ensures on { (old between new : BenchState) → GuessesFew old between → GuessesFew between new

@@ -1,4 +1,4 @@
-//! A bench that plays turns: power on, power off, and blocks straight to the card's end of the link.
+//! A bench that plays turns: power on, power off, and blocks to the card's end of the link.
 #![tactic(auto)]
 
 mod came;

@@ -1,4 +1,4 @@
-//! A bench that plays turns: power on, power off, and blocks straight to the card's end of the link.
+//! A bench that plays turns: power on, power off, and blocks to the card's end of the link.
 ghost use Rattle.std.specs.Prelude.{◌≡◌, ◌≤◌, ◌↔◌, ℕ, List, length, true, IsTrue};
 ghost use Rattle.nvm_board.specs.Aims.{due_of};
 ghost use Rattle.card_turns.specs.BenchStates.{off, bench_facts, BenchHasCard, IsOn, IsWell, TellsFree, IsArmed};
@@ -15,25 +15,25 @@ use nvm_board::{Armed, Faultless, Socket, has_no_fault};
 use std::marker::Model;
 use t1_link::BlockBytes;
 
-/// What is done at the bench.
+/// A turn at the bench.
 #[derive(Clone, Copy)]
 pub enum Turn<'a> {
-    /// Power goes off if it is on, and comes on.
+    /// Power off if it is on, and then power on.
     On,
-    /// Power goes off.
+    /// Power off.
     Off,
-    /// These bytes, of whatever kind, go to the card's end of the link.
+    /// Sends these bytes to the card's end of the link.
     Block(&'a [u8]),
 }
 
-/// What comes of a turn.
+/// The result of a turn.
 #[derive(Drop)]
 pub enum Item {
-    /// The card started, and gave its answer to reset.
+    /// The card booted, and gave its answer to reset.
     Atr,
-    /// Power is off, as was asked.
+    /// Power is off, as requested.
     Quiet,
-    /// The card doesn't answer: power is off, or it doesn't start.
+    /// No answer: power is off, or power-on fails.
     Mute,
     /// Power was lost, and is off.
     Dark,
@@ -42,7 +42,7 @@ pub enum Item {
 }
 
 impl Item {
-    /// Whether the same came of a turn.
+    /// Returns true if both results are the same.
     pub fn is_same(&self, other: &Item) -> bool
         ensures { IsTrue result ↔ (self.now ≡ other.now) }
     {
@@ -57,14 +57,14 @@ impl Item {
     }
 }
 
-/// The card's board with power off, or the card.
+/// The board with power off, or the powered card.
 #[derive(Drop)]
 enum Power<B: Socket> {
     Off(B),
     On(Powered<B>),
 }
 
-/// A bench with a card: its board, and with power on its session and its end of the link.
+/// A bench: its board, and with power on session and link.
 #[derive(Drop)]
 pub struct Bench<B: Socket> {
     power: Power<B>,
@@ -87,7 +87,7 @@ impl<B: Socket> Model for Bench<B> {
 }
 
 impl<B: Socket> Bench<B> {
-    /// The bench with this board, power off.
+    /// Returns a bench with this board, with power off.
     pub fn new(board: B) -> Bench<B>
         ensures { result ≡ off (record (B.facts board) { dark = true }) }
     {
@@ -98,7 +98,7 @@ impl<B: Socket> Bench<B> {
         }
     }
 
-    /// Plays turns, one after another. Item i of the trace becomes that of turn i, whatever stood there.
+    /// Plays turns in order. Item i of the trace becomes the result of turn i.
     pub fn play(&mut self, turns: &[Turn<'_>], trace: &mut [Item])
         requires { length turns.now ≡ length trace.old }
         // Whatever is cut, and whatever fails: where a card was found, one is found.
@@ -138,9 +138,8 @@ impl<B: Socket> Bench<B> {
         }
     }
 
-    /// Plays a turn: every one, of a list or of a line of a script. A block that comes back is put into the buffer,
-    /// whatever that held.
-    // (Put into its callers, as the two below are, so that a turn that is known there isn't chosen at run time.)
+    /// Plays a turn, and writes a returned block into the buffer.
+    // Inlined into its callers, like the two calls below, so that a known turn needs no branch at run time.
     #[inline(always)]
     fn turn(&mut self, turn: Turn<'_>, reply: &mut BlockBytes) -> Came
         ensures { TellsItem result reply.new (λ item. Plays self.old turn.entry item self.new) }
@@ -155,21 +154,21 @@ impl<B: Socket> Bench<B> {
         }
     }
 
-    /// Power off if it is on, and then a start. No block comes back.
+    /// Powers the card on, after power off if it is on. No block returns.
     fn turn_on(&mut self) -> Came
         ensures { (reply : List ℕ) → TellsItem result reply (λ item. Plays self.old Turn.On item self.new) }
     {
         replace_with(&mut self.power, (), Power::start)
     }
 
-    /// Power off.
+    /// Switches power off.
     fn turn_off(&mut self)
         ensures { Plays self.old Turn.Off Item.Quiet self.new }
     {
         replace_with(&mut self.power, (), Power::darken);
     }
 
-    /// A block straight to the card's end.
+    /// Sends a block to the card's end of the link.
     #[inline(always)]
     fn send(&mut self, block: &[u8], reply: &mut BlockBytes) -> Came
         ensures { TellsItem result reply.new (λ item. PlaysBlock self.old block.now item self.new) }
@@ -186,8 +185,8 @@ impl<B: Socket> Bench<B> {
         }
     }
 
-    /// The free space of the card, blocks and file entries, with power on.
-    /// It is told as long as the memory didn't fail.
+    /// Returns the free space of the card, with power on.
+    /// It is valid as long as the memory hasn't failed.
     pub fn free(&self) -> Option<FreeSpace>
         ensures { TellsFree self.now result }
     {
@@ -197,7 +196,7 @@ impl<B: Socket> Bench<B> {
         }
     }
 
-    /// Whether power is on.
+    /// Returns true if power is on.
     pub fn is_on(&self) -> bool
         ensures { IsTrue result ↔ IsOn self.now }
     {
@@ -224,7 +223,7 @@ impl<B: Socket> Bench<B> {
 }
 
 impl<B: Armed> Bench<B> {
-    /// Sets a cut to come at a later write (`Armed::arm`), with power on or off.
+    /// Sets a power cut for a later write (`Armed::arm`).
     pub fn arm(&mut self, k: u32, mask: u16)
         requires { 1 ≤ k }
         ensures { IsArmed k mask self.old self.new }
@@ -237,7 +236,7 @@ impl<B: Armed> Bench<B> {
 }
 
 impl<B: Armed + Faultless> Bench<B> {
-    /// Sets a cut to come at a later write, on a board without faults.
+    /// Sets a power cut for a later write, without faults.
     pub fn arm_well(&mut self, k: u32, mask: u16)
         requires { 1 ≤ k }
         ensures good { IsGood self.old → IsGood self.new }
@@ -269,7 +268,7 @@ impl<B: Socket + Faultless> Bench<B> {
         came
     }
 
-    /// Tells that the board counts no fault, and that a cut is due where one is set.
+    /// Proves that the board has no fault, and set cuts are due.
     fn has_no_fault(&self)
         ensures faults { (bench_facts self.now).faults ≡ 0 }
         ensures due { (bench_facts self.now).due ≡ due_of (bench_facts self.now).pending }
@@ -282,7 +281,7 @@ impl<B: Socket + Faultless> Bench<B> {
 }
 
 impl<B: Socket> Power<B> {
-    /// The board, with power off.
+    /// Returns the board, with power off.
     fn into_dark_board(self) -> B
         ensures { B.facts result ≡ record (bench_facts (power_state B.facts self)) { dark = true } }
     {
@@ -294,7 +293,7 @@ impl<B: Socket> Power<B> {
         board
     }
 
-    /// Power off.
+    /// Switches power off.
     fn darken(self, _: ()) -> (Power<B>, ())
         ensures off { power_state B.facts result.0
             ≡ off (record (bench_facts (power_state B.facts self)) { dark = true }) }
@@ -303,7 +302,7 @@ impl<B: Socket> Power<B> {
         (Power::Off(self.into_dark_board()), ())
     }
 
-    /// Power off if it is on, and then a start.
+    /// Powers the card on, after power off if it is on.
     fn start(self, _: ()) -> (Power<B>, Came)
         ensures plays { (reply : List ℕ) → TellsItem result.1 reply
             (λ item. Plays (power_state B.facts self) Turn.On item (power_state B.facts result.0)) }

@@ -19,12 +19,12 @@ use nvm_board::{Armed, Board, Faultless};
 use std::marker::Model;
 use t1_link::{Action, BlockBytes, CardEnd};
 
-/// A started card behind its end of the link.
+/// A powered card behind its end of the link.
 #[derive(Drop)]
 pub struct Powered<B: Board> {
     card: Card<B>,
     link: CardEnd,
-    /// Room for the answer of a command. What it holds between blocks tells nothing.
+    /// The buffer for the answer of a command. Its contents between blocks have no meaning.
     answer: Answer,
 }
 
@@ -48,8 +48,7 @@ impl<B: Board> Model for Powered<B> {
 }
 
 impl<B: Board> Powered<B> {
-    /// Starts the card that the memory stands for, with its link as after power-on. The board comes back where the card
-    /// doesn't start.
+    /// Powers the card on, with a fresh link.
     ///
     /// # Errors
     ///
@@ -62,7 +61,7 @@ impl<B: Board> Powered<B> {
         ensures stopped { IfErr result (λ e. StartStopsBy e.1 (B.facts board) (B.facts e.0)) }
         ensures found { IfOk result (λ p. FindsAgain (B.facts board).words p.card.facts.words) }
         ensures found_err { IfErr result (λ e. FindsAgain (B.facts board).words (B.facts e.0).words) }
-        // The card is of format 2 then, with all pages of the board where it wasn't before.
+        // The card is then of format 2; a card of format 1 has got all pages of the board.
         ensures format { IfOk result (λ p. IsNewFound p.card.facts.words) }
         ensures all_pages { IfOk result (λ p. TakesAllPages (B.facts board).words p.card.facts.words) }
         ensures format_err { IfErr result (λ e. KeepsFormat (B.facts board).words (B.facts e.0).words) }
@@ -90,14 +89,14 @@ impl<B: Board> Powered<B> {
         })
     }
 
-    /// Takes a block, of whatever bytes, and puts the reply into the buffer, whatever that held.
+    /// Takes a block of any bytes, and writes the reply.
     ///
     /// # Errors
     ///
-    /// `PowerLost` where power was lost while the block's command ran, or before: then nothing goes back.
+    /// `PowerLost` if power was lost while the block's command ran, or before: then there is no reply.
     pub fn block(&mut self, got: &[u8], out: &mut BlockBytes) -> Result<(), PowerLost>
-        // At every exit, cut or fault or neither, the card that is found is one of the stages of the command that ran,
-        // or what it was where none ran.
+        // At every exit, also after power loss or a fault, the card state is a stage of the command that ran.
+        // It is unchanged if no command ran.
         ensures has_card { HasCard self.new.card.facts.words }
         ensures stage { IsBlockStage self.old (link_step self.old.link got.now).reaction (card_found self.new.card) }
         ensures stands { self.old.card.state ≡ CardState.Working
@@ -109,15 +108,15 @@ impl<B: Board> Powered<B> {
             → IsOk result × (self.new.card ≡ self.old.card) × RepliesFailure self.old got.now self.new out.new }
         ensures dark { self.old.card.state ≡ CardState.Dark → IsErr result × (self.new ≡ self.old) × (out.new ≡ []) }
         ensures unlit { OnErr result (self.new.card.facts.dark ≡ true) }
-        // Where no command runs, the card is what it was; and one that changes nothing lasting leaves each word of the
-        // board, and each of its counts.
+        // Without a command the card is unchanged.
+        // A command that changes nothing permanent changes no word, and no counter of writes or comparisons.
         ensures unrun { IsRun (link_step self.old.link got.now).reaction ⊎ (self.new.card ≡ self.old.card) }
         ensures idle { BlockChangesNothing self.old (link_step self.old.link got.now).reaction
             → KeepsBoard self.old.card.facts self.new.card.facts }
         ensures writes { self.new.card.facts.writes ≤ self.old.card.facts.writes + COMMAND_WRITES }
-        // No write is taken back, and a cut that is set falls into the write that it was set for.
+        // The write counter never decreases, and a set power cut falls into the write that it was set for.
         ensures advances { Advances self.old.card.facts self.new.card.facts }
-        // A comparison costs a lasting try, and none is made but by a command on PINs that carries data.
+        // A comparison permanently uses up a try. Only commands on PINs with data make one.
         ensures compares { BlockCompares self.old (link_step self.old.link got.now).reaction self.new }
     {
         out.clear();
@@ -134,7 +133,7 @@ impl<B: Board> Powered<B> {
         }
     }
 
-    /// The free space of the card: blocks and file entries. It is told as long as the card works.
+    /// Returns the free space of the card: blocks and file entries. It is valid while the card works.
     pub fn free(&self) -> FreeSpace
         ensures { self.now.card.state ≡ CardState.Working → result ≡ card_space (card_found self.now.card) }
     {
@@ -162,7 +161,7 @@ impl<B: Board> Powered<B> {
 }
 
 impl<B: Armed> Powered<B> {
-    /// Sets a cut to come at a later write (`Armed::arm`).
+    /// Sets a power cut for a later write (`Armed::arm`).
     pub fn arm(&mut self, k: u32, mask: u16)
         requires { 1 ≤ k }
         ensures arms { Arms k mask self.old.card.facts self.new.card.facts }
@@ -173,7 +172,7 @@ impl<B: Armed> Powered<B> {
 }
 
 impl<B: Faultless> Powered<B> {
-    /// Tells that the board counts no fault, and that a cut is due where one is set.
+    /// Proves that the board has no fault, and set cuts are due.
     pub fn has_no_fault(&self)
         ensures faults { self.now.card.facts.faults ≡ 0 }
         ensures due { self.now.card.facts.due ≡ due_of self.now.card.facts.pending }
