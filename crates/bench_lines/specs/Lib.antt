@@ -1,5 +1,4 @@
--- What is meant: what each line of a script asks for and how it is spelled, and which texts are scripts. The laws stand
--- apart.
+-- Scripts: the order of each line, its spelling, and which texts are scripts. The laws are modules of their own.
 pub mod Orders
 pub mod OrderViews
 pub mod Spellings

@@ -1,4 +1,4 @@
--- What an `Order` asks for, with the bytes that its line gave.
+-- The order of a parsed line, with its bytes.
 use Rattle.std.specs.Prelude.{ℕ, Bool, true, false, List, Option, Some, None}
 use Rattle.bench_lines.specs.declared.order.Order as told
 use Rattle.bench_lines.specs.declared.order.Order.TheVariants as kind
@@ -15,12 +15,12 @@ order_with (kind.Cut number mask) given = Cut number mask
 order_with (kind.Lose number) given = Lose number
 order_with (kind.Garble number) given = Garble number
 
--- what is asked for, if anything is
+-- the order, if the line has one
 abbrev pub asked_with : Option told.Order → List ℕ → Option Order
 asked_with None given = None
 asked_with (Some order) given = Some (order_with order given)
 
--- the bytes that were given, if they were
+-- the bytes, if `given` is true
 abbrev pub given_if : Bool → List ℕ → Option (List ℕ)
 given_if true given = Some given
 given_if false given = None

@@ -1,4 +1,4 @@
--- The lines of a script, and what each asks for.
+-- The script language: the order of each line.
 use Rattle.std.specs.Prelude.{ℕ, ◌+◌, ◌-◌, ◌*◌, ◌≤◌, ◌==◌, ◌&&◌, ◌||◌, nat_le, nat_lt, nat_eq, Bool, List, [], ◌∷◌}
 use Rattle.std.specs.Prelude.{length, drop, take}
 use Rattle.std.specs.Prelude.{codes, slice_index, Option, Some, None, Result, Ok, Err, option_map, if◌then◌else◌}
@@ -10,8 +10,8 @@ use Rattle.hex.specs.Hex.{decode_of}
 use Rattle.hex.specs.declared.error.FromHexError.{FromHexError}
 use Rattle.bench_lines.specs.declared.order.TheConstants.{LINE_LIMIT, COMMAND_LIMIT, BLOCK_LIMIT, NUMBER_DIGITS}
 
--- What a line asks for: nothing; power on; power off; what is free; a command; a block; that a device write is cut,
--- with these words of it new; or that a block is lost, or garbled.
+-- The order of a line: nothing; power on; power off; print the free space; send a command; send a block; cut a device
+-- write, with these words of it new; or lose, or garble, a block.
 pub data Order : Type 0 where
   Nothing : Order
   On : Order
@@ -23,31 +23,31 @@ pub data Order : Type 0 where
   Lose : ℕ → Order
   Garble : ℕ → Order
 
--- some bytes, where they are 1 to a limit
+-- these bytes, if there are 1 to `limit`
 abbrev pub within_limit : ℕ → Result (List ℕ) FromHexError → Option (List ℕ)
 within_limit limit (Ok bytes) = if nat_le 1 (length bytes) && nat_le (length bytes) limit then Some bytes else None
 within_limit limit (Err error) = None
 
--- the bytes that hexadecimal digits of either case spell, where these are 1 to a limit
+-- the bytes that hexadecimal digits of either case spell, if there are 1 to `limit`
 abbrev pub bytes_in : List ℕ → ℕ → Option (List ℕ)
 bytes_in digits limit = within_limit limit (decode_of digits)
 
--- whether digits are 1 to 6 decimal ones
+-- true if these are 1 to 6 decimal digits
 abbrev pub is_decimal : List ℕ → Bool
 is_decimal digits = (nat_le 1 (length digits) && nat_le (length digits) NUMBER_DIGITS) && list_all is_ascii_digit digits
 
--- the number that 1 to 6 decimal digits spell, where it is at least 1
+-- the number that 1 to 6 decimal digits spell, if it is at least 1
 abbrev pub number_in : List ℕ → Option ℕ
 number_in digits = if is_decimal digits
     && nat_le 1 (digits_value 10 digits) then Some (digits_value 10 digits) else None
 
--- the number of 16 bits that four hexadecimal digits of either case spell
+-- the 16-bit number that four hexadecimal digits of either case spell
 abbrev pub mask_by : Result (List ℕ) FromHexError → Option ℕ
 mask_by (Ok (high ∷ low ∷ [])) = Some (256 * high + low)
 mask_by (Ok bytes) = None
 mask_by (Err error) = None
 
--- a cut: a number, a space (32), and four hexadecimal digits
+-- the arguments of a cut: a number, a space (32), and four hexadecimal digits
 abbrev pub cut_by : Option ℕ → Option ℕ → Option Order
 cut_by (Some number) (Some mask) = Some (Cut number mask)
 cut_by number mask = None
@@ -59,11 +59,12 @@ cut_in words =
     then cut_by (number_in (take digits words)) (mask_by (decode_of (drop (digits + 1) words)))
     else None
 
--- whether a line begins with a word
+-- true if a line begins with a word
 abbrev pub begins : List ℕ → List ℕ → Bool
 begins line word = pointwise nat_eq (take (length word) line) word
 
--- What a line asks for. A line has at most 1,024 bytes. An empty line and one that begins with # (35) ask for nothing.
+-- The order of a line; None: a bad line. A line has at most 1,024 bytes. An empty line and one that begins with # (35)
+-- order nothing.
 unfoldable pub order_of : List ℕ → Option Order
 order_of line =
     if nat_lt LINE_LIMIT (length line) then None else
@@ -78,7 +79,7 @@ order_of line =
     if begins line (codes "garble ") then option_map Garble (number_in (drop 7 line)) else
     None
 
--- a command is 1 to 261 bytes, a block 1 to 300, and a number 1 to 999,999
+-- a command has 1 to 261 bytes, a block 1 to 300, and a number is 1 to 999,999
 abbrev pub IsSized : Order → Type 0
 IsSized Nothing = Unit {0}
 IsSized On = Unit {0}

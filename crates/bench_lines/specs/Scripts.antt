@@ -1,5 +1,5 @@
--- A script is lines (std's `lines`: each ends with a line feed, which the last may lack; one carriage return before a
--- line feed is dropped), each of which asks for something, and at most 16,777,216 bytes in all.
+-- Scripts: lines with a valid order each, of at most 16,777,216 bytes in all. Lines are those of std's `lines`: each
+-- ends with a line feed, optional for the last, and one carriage return before a line feed is dropped.
 use Rattle.std.specs.Prelude.{◌≡◌, ◌⊎◌, ℕ, ◌+◌, ◌<◌, ◌≤◌, ◌==◌, true, false, List, [], ◌∷◌, ◌++◌, length, All, Option}
 use Rattle.std.specs.Prelude.{Some, None, OnSome, is_some}
 use Rattle.std.specs.List.{list_all}
@@ -13,16 +13,16 @@ use Rattle.bench_lines.specs.declared.reading.Part.TheVariants.{End, Begun, Line
 use Rattle.bench_lines.specs.declared.order.TheConstants.{LINE_LIMIT}
 use Rattle.bench_lines.specs.Orders.{order_of}
 
--- lines that ask for something
+-- each of these lines has an order
 abbrev pub AreOrders : List (List ℕ) → Type 0
 AreOrders ls = list_all (λ line. is_some (order_of line)) ls ≡ true
 
--- a script that can be run to its end
+-- a script that can run to its end
 pub record IsScript (script : List ℕ) : Type 0 where
   pub orders : AreOrders (lines script)
   pub size : length script ≤ SCRIPT_LIMIT
 
--- the bytes that were looked at end a line, with a line feed or with the script
+-- the bytes read so far end a line, with a line feed or with the script
 abbrev pub EndsLine : List ℕ → List ℕ → Type 0
 EndsLine seen rest = ((front : List ℕ) × (seen ≡ front ++ 10 ∷ [])) ⊎ (rest ≡ [])
 
@@ -30,14 +30,13 @@ EndsLine seen rest = ((front : List ℕ) × (seen ≡ front ++ 10 ∷ [])) ⊎ (
 abbrev pub IsTooLong : List ℕ → Type 0
 IsTooLong bytes = LINE_LIMIT < length (strip_carriage_return bytes)
 
--- Of the bytes that were looked at these lines are good, and the next one is bad: it ends there and asks for nothing
--- that is known, or what stands there of it is too long.
+-- The bytes read so far contain these good lines and then a bad one, which ends there and has no order, or is too long.
 abbrev pub ShowsBad : List ℕ → List ℕ → List (List ℕ) → Type 0
 ShowsBad seen rest before = (bad : List ℕ) × (lines seen ≡ before ++ bad ∷ [])
     × ((EndsLine seen rest × (order_of bad ≡ None)) ⊎ IsTooLong bad)
 
--- Line n, counted from 1, is the first that asks for nothing that is known, or is too long; and the first 16,777,216
--- bytes of the script show it.
+-- Line n, counted from 1, is the first without a valid order, or the first that is too long. The first 16,777,216 bytes
+-- of the script show it.
 pub record FailsAtLine (script : List ℕ) (n : ℕ) : Type 0 where
   pub before : List (List ℕ)
   pub line : List ℕ
@@ -52,47 +51,47 @@ pub record FailsAtLine (script : List ℕ) (n : ℕ) : Type 0 where
   pub shows : ShowsBad seen rest before
   pub within : length seen ≤ SCRIPT_LIMIT
 
--- Of a script and what is left of it, where its bytes are known.
+-- A statement about a script and its unread rest, if its bytes are known.
 abbrev pub WhereKnown : Option (List ℕ) → Option (List ℕ) → (List ℕ → List ℕ → Type 0) → Type 0
 WhereKnown None left holds = Unit {0}
 WhereKnown (Some script) None holds = ⊥
 WhereKnown (Some script) (Some left) holds = holds script left
 
--- bytes with no line feed among them
+-- bytes without a line feed
 abbrev pub IsInLine : List ℕ → Type 0
 IsInLine bytes = All (λ b. (b == 10) ≡ false) bytes
 
--- a line that was read: up to a line feed, less one carriage return before it; or the rest, which has none
+-- a line that was read: up to a line feed, without one carriage return before it; or the rest, which has no line feed
 abbrev pub TakesLine : Option (List ℕ) → Option (List ℕ) → List ℕ → LineEnd → Type 0
 TakesLine old new line LineFeed = (bytes : List ℕ) × Consumes old new (bytes ++ 10 ∷ []) × IsInLine bytes
     × (line ≡ strip_carriage_return bytes)
 TakesLine old new line EndOfScript = Consumes old new line × OnSome old (IsAtEnd new) × IsInLine line
 
--- as many bytes were counted as were taken
+-- the counter grew by the number of bytes read
 abbrev pub CountsTaken : Option (List ℕ) → Option (List ℕ) → ℕ → ℕ → Type 0
 CountsTaken None new before after = Unit {0}
 CountsTaken (Some xs) None before after = ⊥
 CountsTaken (Some xs) (Some ys) before after = length xs + before ≡ length ys + after
 
--- too many bytes for a line were taken and counted, with no line feed among them
+-- too many bytes for a line were read and counted, without a line feed
 abbrev pub TakesTooMuch : Option (List ℕ) → Option (List ℕ) → ℕ → ℕ → Type 0
 TakesTooMuch old new before after =
     (bytes : List ℕ) × Consumes old new bytes × IsInLine bytes × IsTooLong bytes × CountsTaken old new before after
 
--- bytes of a line were taken and counted, with no line feed among them, and not too many
+-- bytes of a line were read and counted, without a line feed, and not too many
 abbrev pub TakesInto : Option (List ℕ) → Option (List ℕ) → ℕ → ℕ → Type 0
 TakesInto old new before after =
     (bytes : List ℕ) × Consumes old new bytes × IsInLine bytes × (IsTooLong bytes → ⊥)
     × CountsTaken old new before after
 
--- how many bytes a part of a line has
+-- the number of bytes of a part of a line
 abbrev pub size_of : Part → ℕ
 size_of End = 0
 size_of (Begun size) = size
 size_of (FedPart size) = size
 
--- a part of a line was taken, and the line is longer by it: nothing at the end; bytes with no line feed among them; or
--- bytes up to the first line feed, which is not kept
+-- a part of a line was read and appended to the line: nothing at the end; bytes without a line feed; or
+-- bytes up to the first line feed, which isn't appended
 abbrev pub TakesPart : Option (List ℕ) → Option (List ℕ) → List ℕ → List ℕ → Part → Type 0
 TakesPart old new before after End = Consumes old new [] × OnSome old (IsAtEnd new) × (after ≡ before)
 TakesPart old new before after (Begun size) =

@@ -1,4 +1,4 @@
--- How each order of a script is spelled.
+-- The spelling of each order as a line.
 use Rattle.std.specs.Prelude.{◌<◌, ◌/◌, ◌%◌, ◌≡◌, ℕ, List, [], ◌∷◌, ◌++◌, codes, Some}
 use Rattle.std.specs.Fmt.{decimal}
 use Rattle.card_model.specs.Requests.{AreBytes}
@@ -7,8 +7,8 @@ use Rattle.bench_lines.specs.Orders.{Order}
 use Rattle.bench_lines.specs.Orders.{Nothing, On, Off, Free, Apdu, Block, Cut, Lose, Garble}
 use Rattle.bench_lines.specs.Orders.{IsSized, order_of}
 
--- The line that asks for it, with these sixteen digits. Two digits spell a byte, and four the 16 bits of a mask; a
--- number stands in decimal digits, and a space (32) parts it from the mask.
+-- The line of an order, with these sixteen digits. Two digits spell a byte, and four the 16 bits of a mask. Numbers are
+-- decimal, and a space (32) separates a number from the mask.
 abbrev pub spelling : List ℕ → Order → List ℕ
 spelling digits Nothing = []
 spelling digits On = codes "on"
@@ -21,7 +21,7 @@ spelling digits (Cut number mask) = codes "cut " ++ decimal number ++ 32
 spelling digits (Lose number) = codes "lose " ++ decimal number
 spelling digits (Garble number) = codes "garble " ++ decimal number
 
--- its bytes are bytes, and its mask has 16 bits
+-- its bytes are 0 to 255, and its mask has 16 bits
 abbrev pub IsOfBytes : Order → Type 0
 IsOfBytes Nothing = Unit {0}
 IsOfBytes On = Unit {0}
@@ -33,6 +33,6 @@ IsOfBytes (Cut number mask) = mask < 65536
 IsOfBytes (Lose number) = Unit {0}
 IsOfBytes (Garble number) = Unit {0}
 
--- The line that spells an order asks for it, for every order in its range.
+-- The spelling of each order in its range parses as that order.
 abbrev pub SpellingLaw : List ℕ → Type 0
 SpellingLaw digits = (order : Order) → IsSized order → IsOfBytes order → order_of (spelling digits order) ≡ Some order

@@ -1,5 +1,4 @@
-//! The lines of a script as text: how they are read, one by one, and what each asks for. Nothing here knows of a card
-//! or a bench.
+//! The text of a script: reads it line by line, and parses each line. It depends on no card and no bench.
 #![tactic(auto)]
 
 pub mod laws;

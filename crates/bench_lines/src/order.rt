@@ -1,4 +1,4 @@
-//! What a line of a script asks for.
+//! Parses the order of a script line.
 ghost use Rattle.std.specs.Prelude.{◌≡◌, ◌≤◌, ℕ, List, [], length, true};
 ghost use Rattle.std.specs.List.{list_all};
 ghost use Rattle.std.specs.Str.Parse.{digits_value};
@@ -13,17 +13,17 @@ use t1_link::LONGEST_COMMAND;
 /// The most bytes of a line, without its end.
 pub(crate) const LINE_LIMIT: usize = 1024;
 
-/// The most bytes of a command that a line gives.
+/// The most bytes of a command in a line.
 pub const COMMAND_LIMIT: usize = LONGEST_COMMAND;
 
-/// The most bytes of a block line.
+/// The most bytes of a block in a line.
 const BLOCK_LIMIT: usize = 300;
 
 /// The most digits of a number.
 const NUMBER_DIGITS: usize = 6;
 
-/// The bytes that a line gives: a list of at most 300 bytes. `Order::parse` puts those of a command or a block there.
-// What stands in the array behind them tells nothing.
+/// The bytes of a line, at most 300, written by `Order::parse`.
+// The array's bytes after `size` have no meaning.
 #[derive(Drop)]
 pub struct GivenBytes {
     bytes: [u8; BLOCK_LIMIT],
@@ -42,7 +42,7 @@ impl Model for GivenBytes {
 }
 
 impl GivenBytes {
-    /// No bytes.
+    /// Returns an empty list.
     pub fn new() -> GivenBytes
         ensures { result ≡ [] }
     {
@@ -52,20 +52,20 @@ impl GivenBytes {
         }
     }
 
-    /// The bytes.
+    /// Returns the bytes.
     pub fn as_slice(&self) -> &[u8]
         ensures { result.now ≡ self.now }
     {
         &self.bytes[..self.size]
     }
 
-    /// Takes the bytes that hexadecimal digits spell, where they are 1 to `limit`.
+    /// Stores 1 to `limit` bytes that hexadecimal digits spell.
     fn decode(&mut self, digits: &[u8], limit: usize) -> bool
         requires { limit ≤ BLOCK_LIMIT }
         ensures { given_if result self.new ≡ bytes_in digits.now limit }
     {
         let size = digits.len() / 2;
-        // Two comparisons, since what `contains` tells of a range has to be proved end by end.
+        // Two comparisons, as `contains` of a range would need a proof for each end.
         if size == 0 || size > limit {
             return false;
         }
@@ -77,34 +77,36 @@ impl GivenBytes {
     }
 }
 
-/// What a line of a script asks for. The bytes that it gives aren't in it: they stand in a buffer.
+/// The order of a script line. Its bytes aren't in it, but in a buffer.
 #[derive(Clone, Copy)]
 pub enum Order {
     /// Nothing: an empty line or a comment.
     Nothing,
-    /// Power off if it is on, and then a start.
+    /// Power off if it is on, and then power on.
     On,
     /// Power off.
     Off,
-    /// What is free.
+    /// Prints the free space.
     Free,
-    /// A command, 1 to 261 bytes, through both ends of the link.
+    /// Sends a command of 1 to 261 bytes through both ends.
     Apdu,
-    /// A block, 1 to 300 bytes, straight to the card's end.
+    /// Sends a block of 1 to 300 bytes to the card's end.
     Block,
-    /// The device write with this number from now, 1 to 999,999, is cut, with these words of it new.
+    /// Cuts the device write with this number from now, 1 to 999,999.
+    /// The mask says which of its words are new.
     Cut { number: u32, mask: u16 },
-    /// The block with this number from now, 1 to 999,999, is lost.
+    /// Loses the block with this number from now, 1 to 999,999.
     Lose(u32),
-    /// The block with this number from now, 1 to 999,999, is garbled.
+    /// Garbles the block with this number from now, 1 to 999,999.
     Garble(u32),
 }
 
 impl Order {
     ghost use Rattle.bench_lines.specs.Orders.{order_of};
 
-    /// What a line, without its end, asks for: None where that is nothing that is known, or the line has more than
-    /// 1,024 bytes. The bytes of a command or a block go to the buffer; what it held before is gone then.
+    /// Parses a line, without its end. Returns `None` for a bad line.
+    /// A line is bad if it has no valid order, or more than 1,024 bytes. The bytes of a command or a block replace
+    /// the contents of the buffer.
     #[tactic(auto, unfolding(crate::specs::Orders::order_of))]
     pub fn parse(line: &[u8], given: &mut GivenBytes) -> Option<Order>
         ensures { asked_with result given.new ≡ order_of line.now }
@@ -135,7 +137,8 @@ impl Order {
     }
 }
 
-/// The number that decimal digits spell, where they are 1 to 6 and it is at least 1.
+/// Returns the number that 1 to 6 decimal digits spell.
+/// It is at least 1.
 fn number_of(digits: &[u8]) -> Option<u32>
     ensures { result ≡ number_in digits.now }
 {
@@ -146,7 +149,7 @@ fn number_of(digits: &[u8]) -> Option<u32>
     if number == 0 { None } else { Some(number) }
 }
 
-/// A cut: a number, a space, and four hexadecimal digits.
+/// Returns a cut: a number, a space, and four hexadecimal digits.
 fn cut_of(words: &[u8]) -> Option<Order>
     ensures { (given : List ℕ) → asked_with result given ≡ cut_in words.now }
 {
@@ -162,7 +165,7 @@ fn cut_of(words: &[u8]) -> Option<Order>
     }
 }
 
-/// The number that four hexadecimal digits spell.
+/// Returns the number that four hexadecimal digits spell.
 fn mask_of(digits: &[u8; 4]) -> Option<u16>
     ensures { result ≡ mask_by (decode_of digits.now) }
 {
@@ -173,14 +176,14 @@ fn mask_of(digits: &[u8; 4]) -> Option<u16>
     }
 }
 
-/// Whether each of these is a decimal digit.
+/// Returns true if each of these is a decimal digit.
 fn are_decimal(digits: &[u8]) -> bool
     ensures { result ≡ list_all is_ascii_digit digits.now }
 {
     digits.iter().all(|digit| digit.is_ascii_digit())
 }
 
-/// The number that at most 6 decimal digits spell.
+/// Returns the number that at most 6 decimal digits spell.
 fn value_of(digits: &[u8]) -> u32
     requires decimal { list_all is_ascii_digit digits.now ≡ true }
     requires size { length digits.now ≤ NUMBER_DIGITS }

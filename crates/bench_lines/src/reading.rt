@@ -1,4 +1,4 @@
-//! The lines of a script, read from the reader's own buffer.
+//! Reads the lines of a script from the reader's own buffer.
 ghost use Rattle.std.specs.Prelude.{◌≡◌, ◌≢◌, ◌⊎◌, ◌↔◌, ◌+◌, ◌<◌, ◌≤◌};
 ghost use Rattle.std.specs.Prelude.{length, slice_index, take, [], IsTrue, IfOk, IfErr, OnErr, OnOk, Err};
 ghost use Rattle.std.specs.Io.KnownBytes.{Keeps};
@@ -15,10 +15,11 @@ use std::io::BufRead;
 /// The most bytes of a script.
 pub const SCRIPT_LIMIT: u32 = 16_777_216;
 
-/// Room for a line, the carriage return at its end, and a byte that makes it too long.
+/// The space for a line, a carriage return, and another byte.
+/// The last byte makes the line too long.
 const LINE_ROOM: usize = LINE_LIMIT + 2;
 
-/// Room for a line, which is read into it without its line feed and a carriage return before it.
+/// A line, without its line feed and carriage return.
 pub type LineBytes = ArrayVec<u8, LINE_ROOM>;
 
 /// How a line ended.
@@ -30,30 +31,31 @@ pub enum LineEnd {
     EndOfScript,
 }
 
-/// Why a line was not read.
+/// Why a line couldn't be read.
 #[derive(Clone, Copy)]
 pub enum LineFault {
     /// The reader failed.
     Read,
-    /// The script goes on past its most bytes.
+    /// The script is longer than the most bytes allowed.
     TooMuch,
-    /// The line is too long, whether or not its end has come.
+    /// The line is too long, whether or not its end was read.
     TooLong,
 }
 
-/// What the reader's buffer gave of a line.
+/// The part of a line in the reader's buffer.
 #[derive(Clone, Copy)]
 enum Part {
     /// Nothing: the script is at its end.
     End,
-    /// So many bytes, with no line feed among them.
+    /// This number of bytes, without a line feed.
     Begun(usize),
-    /// So many bytes, of which the last is a line feed, and no other one.
+    /// This number of bytes, with a line feed at the end only.
     LineFeed(usize),
 }
 
-/// Takes what the reader's buffer holds of a line, at most so many bytes, and appends it, without its line feed. It is
-/// a fault to be at the most already, and not at the end.
+/// Appends the line's part in the reader's buffer, without line feed.
+/// It takes at most `most` bytes.
+/// If `most` is 0, it fails unless the script is at its end.
 fn read_part<R: BufRead>(
     reader: &mut R,
     most: usize,
@@ -63,7 +65,7 @@ fn read_part<R: BufRead>(
     ensures part { IfOk result
         (TakesPart (R.remaining reader.old) (R.remaining reader.new) line.old.items line.new.items) }
     ensures size { IfOk result (λ part. size_of part ≤ most) }
-    // It fails with the reader, or where it may take nothing of what there is; and nothing is taken then.
+    // It fails with the reader, or if it may read no more bytes and some remain; then it has read nothing.
     ensures failed { IfErr result (λ e. e ≢ LineFault.TooLong) }
     ensures past { result ≡ Err LineFault.TooMuch → (most ≡ 0)
         × WhereKnown (R.remaining reader.old) (R.remaining reader.new) (λ script left. left ≢ []) }
@@ -91,7 +93,8 @@ fn read_part<R: BufRead>(
     Ok(Part::Begun(size))
 }
 
-/// How many bytes go before the first line feed, or all.
+/// Returns the number of bytes before the first line feed.
+/// Without a line feed it is the number of all bytes.
 fn size_in_line(bytes: &[u8]) -> usize
     ensures within { result ≤ length bytes.now }
     ensures before { IsInLine (take result bytes.now) }
@@ -103,15 +106,14 @@ fn size_in_line(bytes: &[u8]) -> usize
     }
 }
 
-/// Reads the next line into the buffer, in place of what it held, and counts the bytes that were taken of the script,
-/// at most 16,777,216 in all. The last line may lack its line feed; behind it, and in an empty script, an empty line is
-/// read.
+/// Reads the next line into the buffer, and counts its bytes.
+/// A script has at most 16,777,216 bytes. The last line may lack its line feed. After it, and in an empty script, an
+/// empty line is read.
 ///
 /// # Errors
 ///
-/// `Read` where the reader fails; `TooMuch` where all the bytes that a script may have were taken, and more are there;
-/// `TooLong` where more than 1,024 bytes were taken and none of them ends the line, a carriage return aside. The bytes
-/// that were taken till then are counted.
+/// `Read` if the reader fails; `TooMuch` if the script is longer than allowed; `TooLong` if more than 1,024 bytes
+/// were read without the end of a line, not counting a carriage return. The bytes read so far are counted.
 pub fn read_line<R: BufRead>(
     reader: &mut R,
     taken: &mut u32,
@@ -130,7 +132,7 @@ pub fn read_line<R: BufRead>(
     ensures taken { taken.new ≤ SCRIPT_LIMIT }
 {
     line.clear();
-    // Each turn takes a byte at least.
+    // Each iteration reads at least one byte.
     for _ in 0..=LINE_ROOM {
         let most = (LINE_ROOM - line.len()).min((SCRIPT_LIMIT - *taken) as usize);
         match read_part(reader, most, line) {
@@ -150,7 +152,8 @@ pub fn read_line<R: BufRead>(
     Err(LineFault::TooLong)
 }
 
-/// Whether a begun line is too long: only a carriage return may follow 1,024 bytes, since a line feed may follow that.
+/// Returns true if the part of a line is too long.
+/// After 1,024 bytes only a carriage return may follow, as a line feed may follow that.
 fn is_too_long(line: &[u8]) -> bool
     ensures long { IsTrue result ↔ IsTooLong line.now }
     ensures short { IsTrue result ⊎ (length line.now ≤ LINE_LIMIT + 1) }
@@ -163,7 +166,7 @@ fn is_too_long(line: &[u8]) -> bool
     }
 }
 
-/// Drops the carriage return at the end of a line, if there is one.
+/// Drops a carriage return at the end of a line.
 fn drop_carriage_return(line: &mut LineBytes)
     ensures { line.new.items ≡ strip_carriage_return line.old.items }
 {
