@@ -1,4 +1,4 @@
--- What the fields of a `Desk` stand for.
+-- The state of a `Desk`, from its fields.
 use Rattle.std.specs.Prelude.{ℕ, Bool, true, false, List, Option, None, Some}
 use Rattle.t1_link.specs.ReaderTable.{Reader}
 use Rattle.card_turns.specs.declared.came.Came.{Came}
@@ -7,7 +7,7 @@ use Rattle.card_bench.specs.Exchanges.{Desk}
 use Rattle.card_bench.specs.Printouts.{Print, prints_atr, prints_bytes, prints_dark, prints_free, prints_lost}
 use Rattle.card_bench.specs.Printouts.{prints_mute, prints_nothing}
 
--- the desk, and what its last line prints
+-- the desk, and the output of its last line
 pub record DeskState : Type 0 where
   pub desk : Desk
   pub prints : Print
@@ -17,7 +17,7 @@ abbrev pub reader_there : Bool → Reader → Option Reader
 reader_there false reader = None
 reader_there true reader = Some reader
 
--- what is printed of what came, with the answer to the last command, and the block that came back last
+-- the output of a result, with the answer to the last command and the last returned block
 abbrev pub print_of : Came → List ℕ → List ℕ → Print
 print_of Nothing answer block = prints_nothing
 print_of Atr answer block = prints_atr

@@ -1,4 +1,4 @@
--- How a script's run ends, and what is written by then.
+-- How the run of a script ends, and what it has written by then.
 use Rattle.std.specs.Prelude.{◌≡◌, ◌≢◌, ◌⊎◌, ◌≤◌, ℕ, List, [], ◌∷◌, ◌++◌, length, take, Option, IfSome}
 use Rattle.std.specs.Io.KnownBytes.{Appends}
 use Rattle.std.specs.Str.Lines.{lines}
@@ -9,22 +9,22 @@ use Rattle.card_bench.specs.Exchanges.{Desk}
 use Rattle.card_bench.specs.Prints.{IsFirstDesk, LinesPrint, PrintsLines}
 use Rattle.bench_lines.specs.Scripts.{EndsLine, FailsAtLine, IsInLine, IsScript, IsTooLong, WhereKnown}
 
--- A writer holds what these lines print, behind what it held.
+-- The writer contains the output of these lines, appended to its former contents.
 abbrev pub HasWritten : Option (List ℕ) → List (List ℕ) → Option (List ℕ) → Type 0
 HasWritten old some new = (out : List ℕ) × LinesPrint some out × Appends old new out
 
--- a script that was run to its end
+-- a script that ran to its end
 pub record IsRunToEnd (script : List ℕ) (old new : Option (List ℕ)) : Type 0 where
   pub good : IsScript script
   pub written : HasWritten old (lines script) new
 
--- a script that was run to the line before a bad one
+-- a script that ran up to a bad line
 pub record IsRunToLine (number : ℕ) (script : List ℕ) (old new : Option (List ℕ)) : Type 0 where
   pub fails : FailsAtLine script number
   pub written : HasWritten old fails.before new
 
--- A script of which no more is read, by the fault of the reader or since it goes on past its size: within a line, of
--- which neither the end nor too many bytes were taken. The lines before it, each with its line feed, were carried out.
+-- A script that couldn't be read further, as the reader failed or the script is too long. The run stopped within a
+-- line, before its end and before it was too long. The complete lines before it ran.
 pub record IsReadInto (script left : List ℕ) (old new : Option (List ℕ)) : Type 0 where
   pub front : List ℕ
   pub begun : List ℕ
@@ -35,8 +35,8 @@ pub record IsReadInto (script left : List ℕ) (old new : Option (List ℕ)) : T
   pub within : length (front ++ begun) ≤ SCRIPT_LIMIT
   pub written : HasWritten old (lines front) new
 
--- A script that was run to a line whose text the writer didn't take, or not all of it. That line prints something, and
--- is the last that was read; what the lines before it print is written whole.
+-- A script that ran to a line whose output the writer didn't take completely. This line has output, and is the last
+-- that was read. The output of the lines before it is complete.
 pub record IsRunInto (script left : List ℕ) (old new : Option (List ℕ)) : Type 0 where
   pub front : List ℕ
   pub parts : script ≡ front ++ left
@@ -57,8 +57,8 @@ pub record IsRunInto (script left : List ℕ) (old new : Option (List ℕ)) : Ty
   pub size : ℕ
   pub begun : Appends old new (out ++ take size text)
 
--- Where the script's bytes are known: a bad line is the first one, and the lines before it were carried out. A reader
--- that fails does so within a line, and a writer in the text of a line.
+-- The end of a run by its fault, if the script's bytes are known. A bad line is the first one, and the lines before it
+-- ran. A failing reader stops within a line, and a failing writer within the output of a line.
 abbrev pub RunStopsBy : RunFault → Option (List ℕ) → Option (List ℕ) → Option (List ℕ) → Option (List ℕ) → Type 0
 RunStopsBy (BadLine number) script left old new = IfSome script (λ bytes. IsRunToLine number bytes old new)
 RunStopsBy Read script left old new = WhereKnown script left (λ bytes rest. IsReadInto bytes rest old new)

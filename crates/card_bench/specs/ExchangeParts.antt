@@ -1,4 +1,4 @@
--- What the values of an exchange stand for: blocks stand in buffers, and the answer in the reader's end.
+-- The values of an exchange, from the code's values: blocks are in buffers, and the answer is in the reader's end.
 use Rattle.std.specs.Prelude.{List, ℕ, Result, Ok, Err}
 use Rattle.core.specs.declared.ops.ControlFlow.{ControlFlow}
 use Rattle.core.specs.declared.ops.ControlFlow.TheVariants.{Continue, Break}
@@ -13,28 +13,28 @@ use Rattle.card_bench.specs.declared.exchange.Ends.{Ends as BenchEnds}
 use Rattle.card_bench.specs.Exchanges.{Ended, Ends, NextBlock, answered, link_lost, power_lost, set_back}
 use Rattle.card_bench.specs.Exchanges.{toward_card, toward_reader}
 
--- both ends, and the line
+-- both ends and the line
 abbrev pub ends_of : {B : Type 0} → BenchEnds B → Ends
 ends_of ends = record { bench = ends.bench; reader = ends.reader; line = ends.line }
 
--- the block that goes on the line next
+-- the next block on the line
 abbrev pub next_block : Toward → Blocks → NextBlock
 next_block Card blocks = toward_card blocks.toward_card
 next_block Reader blocks = toward_reader blocks.toward_reader
 
--- how an exchange ends, with the answer that the reader's end keeps
+-- how an exchange ends, with the answer that the reader's end stores
 abbrev pub ended_of : Ending → List ℕ → Ended
 ended_of Answered answer = answered answer
 ended_of SetBack answer = set_back
 ended_of Lost answer = link_lost
 ended_of Dark answer = power_lost
 
--- what follows
+-- the next block, or the end of the exchange
 abbrev pub follows_of : ControlFlow Ending Toward → Blocks → List ℕ → Result NextBlock Ended
 follows_of (Continue toward) blocks answer = Ok (next_block toward blocks)
 follows_of (Break ending) blocks answer = Err (ended_of ending answer)
 
--- what the reader's end's word comes to: its block goes to the card, or the exchange ends
+-- the step after the reader's end returned: its block goes to the card, or the exchange ends
 abbrev pub flow_of : Next → ControlFlow Ending Toward
 flow_of Send = Continue Card
 flow_of Done = Break Answered

@@ -1,5 +1,5 @@
--- An exchange as a run of the world of both ends: the machine is the card at the bench, and each block that goes on the
--- line has the fate that the pending faults say.
+-- An exchange as a run of the world of both ends. The machine is the card at the bench, and the pending faults decide
+-- the fate of each block on the line.
 use Rattle.std.specs.Prelude.{◌≡◌, ◌⊎◌, ◌≤◌, ◌+◌, ℕ, zero, suc, true, List, [], ◌∷◌, ◌++◌, if◌then◌else◌}
 use Rattle.t1_link.specs.declared.reader_end.Failure.{Failure}
 use Rattle.t1_link.specs.Blocks.{frame}
@@ -24,7 +24,7 @@ use Rattle.link_worlds.specs.Worlds.{at_card, garble, is_command, lose, pass, qu
 use Rattle.link_worlds.specs.Worlds.{send, toward_card, toward_reader, world_step}
 use Rattle.link_worlds.specs.WorldLaw.{comes_of, is_under_way}
 
--- the state of a card at the bench: the card that is found in its memory, and its session
+-- the state of a card at the bench: its card state after recovery, and its session
 abbrev pub state_served : Powered → Served
 state_served powered = record { card = card_found powered.card; session = powered.card.session }
 
@@ -34,7 +34,7 @@ pub record AreOfWorld (powered : Powered) (reader : Reader) (w : World Served) :
   pub link_is : powered.link ≡ w.card
   pub card_is : state_served powered ≡ w.machine
 
--- With power on the ends at the bench are those of this world.
+-- With power on, the ends at the bench are those of this world.
 abbrev pub StandIn : BenchState → Reader → World Served → Type 0
 StandIn (off facts) reader w = ⊥
 StandIn (on powered) reader w = AreOfWorld powered reader w
@@ -45,22 +45,22 @@ bytes_of_line quiet = []
 bytes_of_line (toward_card b) = frame b
 bytes_of_line (toward_reader b) = frame b
 
--- what becomes of a block: it is lost where that is due, garbled where only that is due, and else it arrives as it is
+-- the fate of a block: lost if a loss is due, else garbled if that is due, else it arrives intact
 abbrev pub fate : Line → List ℕ → Event
 fate pending block =
     if is_due pending.lose 0 then lose else
     if is_due pending.garble 0 then garble (last_bit_turned block) else
     pass
 
--- what becomes of so many blocks, one after another, from this world on
+-- the fates of `blocks` blocks in order, from this world on
 unfoldable pub fates : Line → ℕ → World Served → List Event
 fates pending zero w = []
 fates pending (suc blocks) w =
     fate pending (bytes_of_line w.line)
     ∷ fates (line_after 1 pending) blocks (world_step tree_machine w (fate pending (bytes_of_line w.line)))
 
--- The course of an exchange in the world: the command, how many blocks may go on the line, the faults that are pending
--- on it, the reports of earlier commands, and the world after each number of blocks.
+-- The course of an exchange in the world: the command, the most blocks on the line, the pending faults, the reports of
+-- earlier commands, and the world after each number of blocks.
 pub record Course : Type 0 where
   pub command : List ℕ
   pub limit : ℕ
@@ -78,8 +78,8 @@ pub record IsUnreported (earlier : List Report) (w : World Served) : Type 0 wher
   pub reports : w.reports ≡ earlier
   pub line : is_under_way w.line ≡ true
 
--- The block under way came to the card's end, the command was to run there, and power was lost: the card that is found
--- is one of its stages; which one, the word tells that was written.
+-- Power was lost while the card ran the command, after the block under way arrived at its end. The card state after
+-- recovery is one of the command's stages, and the words written so far determine which one.
 pub record ExchangeIsCut (command : List ℕ) (came : Arrival) (w : World Served) (new : BenchState) : Type 0 where
   pub power : IsOff new
   pub got : List ℕ
@@ -88,14 +88,14 @@ pub record ExchangeIsCut (command : List ℕ) (came : Arrival) (w : World Served
   pub stage : IsStage w.machine.card w.machine.session command (bench_card new)
   pub word : StandsAsked w.machine.card w.machine.session (asked command) (bench_facts new).words
 
--- what comes of the block that goes on the line after so many
+-- the arrival of the next block after `blocks` blocks
 abbrev pub arrival_after : Course → ℕ → Arrival
 arrival_after course blocks =
     arrival (course.after blocks).line
     (fate (line_after blocks course.pending) (bytes_of_line (course.after blocks).line))
 
--- How an exchange ended when so many blocks had gone on the line: with a report; without one, as no more blocks may go
--- on the line; or with the last of them, by which power was lost.
+-- How an exchange ended after `blocks` blocks on the line: with a report; without one at the limit of blocks; or with
+-- power loss at the last of them.
 abbrev pub EndsSo : Ended → Course → ℕ → Ends → Type 0
 EndsSo (answered answer) course blocks new =
     StandIn new.bench new.reader (course.after blocks) × IsReported (Done answer) course.earlier (course.after blocks)
@@ -116,13 +116,13 @@ pub record GoesAs (course : Course) (new : Ends) (ending : Ended) : Type 0 where
   pub line : new.line ≡ line_after blocks course.pending
   pub ended : EndsSo ending course blocks new
 
--- the events of an exchange up to a number of blocks: in a world the command is sent, and the blocks go on the line
+-- the events of an exchange up to a number of blocks: the command is sent, then each block meets its fate
 abbrev pub exchange_events : World Served → List ℕ → Line → ℕ → List Event
 exchange_events w command pending blocks = send command
     ∷ fates pending blocks (world_step tree_machine w (send command))
 
--- The course of the exchange of a command, from the world that came of some events since power-on: it is a run of the
--- world, and its events follow those.
+-- The course of an exchange from the world that some events since power-on produced. It is a run of the world, whose
+-- events follow those.
 abbrev pub course_of : Served → List Event → List ℕ → Line → Course
 course_of start events command pending =
     let w = comes_of tree_machine start events in
@@ -134,7 +134,7 @@ course_of start events command pending =
       after = λ blocks. comes_of tree_machine start (events ++ exchange_events w command pending blocks);
     }
 
--- Each exchange takes that course, where nothing was under way before.
+-- Each exchange takes that course, if no block was under way before.
 abbrev pub ExchangeLaw : Type 0
 ExchangeLaw = (start : Served) (events : List Event) (old new : Ends) (command : List ℕ) (ending : Ended)
     → IsProperState start → StandIn old.bench old.reader (comes_of tree_machine start events)

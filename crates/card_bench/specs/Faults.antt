@@ -1,4 +1,4 @@
--- The exit status of each fault; 0 is the end of the script.
+-- The exit status of each fault; 0 means success.
 use Rattle.std.specs.Prelude.{ℕ}
 use Rattle.card_bench.specs.declared.fault.RunFault.{RunFault}
 use Rattle.card_bench.specs.declared.fault.RunFault.TheVariants.{BadLine, Read, Write, Memory}

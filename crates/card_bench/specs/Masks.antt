@@ -1,4 +1,4 @@
--- By which masks a torn write of so many words is tried: no word new, all, and each single one.
+-- The masks of a torn write: no word new, all words new, and each single word new.
 use Rattle.std.specs.Prelude.{◌+◌, ◌-◌, ◌^◌, ℕ, zero, suc, nat_lt, if◌then◌else◌}
 
 abbrev pub mask_count_of : ℕ → ℕ
@@ -9,6 +9,6 @@ mask_of words zero = 0
 mask_of words (suc zero) = 2 ^ words - 1
 mask_of words (suc (suc bit)) = 2 ^ bit
 
--- for how many words a torn write is tried, by what the board tells of it: a write has one at least
+-- the number of words to try for a torn write, from the number that the board reports: at least one
 abbrev pub words_tried : ℕ → ℕ
 words_tried told = if nat_lt told 1 then 1 else told

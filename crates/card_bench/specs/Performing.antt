@@ -1,4 +1,4 @@
--- What each line of a script does to the desk, and what it prints.
+-- The effect of each script line on the desk, and its output.
 use Rattle.std.specs.Prelude.{◌≡◌, ◌-◌, ℕ, List, Option, None, Some}
 use Rattle.t1_link.specs.ReaderTable.{Reader, fresh_reader}
 use Rattle.bench_lines.specs.Orders.{Order, Nothing, On, Off, Free, Apdu, Block, Cut, Lose, Garble}
@@ -14,7 +14,7 @@ use Rattle.card_turns.specs.Turns.{GoodBlock, GoodTurn}
 use Rattle.card_turns.specs.declared.playing.Turn.TheVariants as turn
 use Rattle.card_turns.specs.declared.playing.Item.TheVariants as item
 
--- what is printed of a turn
+-- the output of a turn
 abbrev pub shown : Item → Print
 shown item.Atr = prints_atr
 shown item.Quiet = prints_nothing
@@ -22,7 +22,7 @@ shown item.Mute = prints_mute
 shown item.Dark = prints_dark
 shown (item.Reply block) = prints_bytes block
 
--- the reader's end after a turn: a fresh one, where the card started
+-- the reader's end after a turn: a fresh one after a successful power-on, else none
 abbrev pub reader_after : Item → Option Reader
 reader_after item.Atr = Some fresh_reader
 reader_after item.Quiet = None
@@ -30,8 +30,8 @@ reader_after item.Mute = None
 reader_after item.Dark = None
 reader_after (item.Reply block) = None
 
--- A turn at the desk, and what is printed of it. Only a card that started has a reader's end before it, a fresh one:
--- after any other turn no command is sent any more. What is pending on the line stays.
+-- A turn at the desk, and its output. Only a successful power-on gives a reader's end, a fresh one. After any other
+-- turn no command can be sent. The pending faults of the line stay.
 pub record TakesTurn (taken : Turn) (old new : Desk) (prints : Print) : Type 0 where
   pub came : Item
   pub turn : GoodTurn old.bench taken came new.bench
@@ -39,14 +39,14 @@ pub record TakesTurn (taken : Turn) (old new : Desk) (prints : Print) : Type 0 w
   pub line : new.line ≡ old.line
   pub printed : prints ≡ shown came
 
--- Power off prints nothing. No command is sent any more.
+-- Power off, without output. No further command can be sent.
 pub record PerformsOff (old new : Desk) (prints : Print) : Type 0 where
   pub turn : GoodTurn old.bench turn.Off item.Quiet new.bench
   pub reader : new.reader ≡ None
   pub line : new.line ≡ old.line
   pub printed : prints ≡ prints_nothing
 
--- A block straight to the card's end: the reader's end doesn't know of it, so that no command is sent any more.
+-- A block to the card's end. As the reader's end doesn't know of it, no further command can be sent.
 pub record PerformsBlock (old : Desk) (block : List ℕ) (new : Desk) (prints : Print) : Type 0 where
   pub came : Item
   pub turn : GoodBlock old.bench block came new.bench
@@ -54,24 +54,24 @@ pub record PerformsBlock (old : Desk) (block : List ℕ) (new : Desk) (prints : 
   pub line : new.line ≡ old.line
   pub printed : prints ≡ shown came
 
--- A cut is set to come. It prints nothing.
+-- A power cut is set, without output.
 pub record PerformsCut (number mask : ℕ) (old new : Desk) (prints : Print) : Type 0 where
   pub armed : IsArmed number mask old.bench new.bench
   pub reader : new.reader ≡ old.reader
   pub line : new.line ≡ old.line
   pub printed : prints ≡ prints_nothing
 
--- what is printed of the free space: that of the card that is found; with power off the card doesn't answer
+-- the output of the free space: that of the card state after recovery, or no answer with power off
 abbrev pub free_shown : BenchState → Print
 free_shown (off facts) = prints_mute
 free_shown (on powered) = prints_free (card_space (card_found powered.card))
 
--- A command: with power off the card doesn't answer; with power on it goes through both ends of the link.
+-- A command: no answer with power off, else it goes through both ends of the link.
 abbrev pub PerformsCommand : BenchState → Desk → List ℕ → Desk → Print → Type 0
 PerformsCommand (off facts) old command new prints = (new ≡ old) × (prints ≡ prints_mute)
 PerformsCommand (on powered) old command new prints = Commands old old.reader command new prints
 
--- A line is carried out.
+-- A script line runs.
 abbrev pub Performs : Order → Desk → Desk → Print → Type 0
 Performs Nothing old new prints = (new ≡ old) × (prints ≡ prints_nothing)
 Performs On old new prints = TakesTurn turn.On old new prints

@@ -1,11 +1,11 @@
--- What a line of a script prints.
+-- The output of a script line.
 use Rattle.std.specs.Prelude.{ℕ, List, [], ◌∷◌, ◌++◌, codes}
 use Rattle.std.specs.Fmt.{decimal}
 use Rattle.hex.specs.Hex.{encode_upper}
 use Rattle.card_state.specs.declared.space.FreeSpace.{FreeSpace}
 
--- nothing; the answer to reset; that the card doesn't answer; that power was lost; that the link was;
--- bytes of the card; or what is free
+-- nothing; the answer to reset; no answer (`mute`); power loss (`dark`); link loss (`lost`);
+-- bytes of the card; or the free space
 pub data Print : Type 0 where
   prints_nothing : Print
   prints_atr : Print
@@ -19,8 +19,8 @@ pub data Print : Type 0 where
 abbrev pub ended_line : List ℕ → List ℕ
 ended_line text = text ++ 10 ∷ []
 
--- The text that is printed. Bytes are spelled in hexadecimal digits of upper case, numbers in decimal digits; a space
--- (32) parts blocks from entries.
+-- The text of an output. Bytes are in uppercase hexadecimal digits, numbers in decimal digits, and a space (32)
+-- separates blocks from entries.
 abbrev pub text_of : Print → List ℕ
 text_of prints_nothing = []
 text_of prints_atr = ended_line (codes "atr 3B808131FE458B")

@@ -1,4 +1,4 @@
--- What a script prints, line by line.
+-- The output of a script, line by line.
 use Rattle.std.specs.Prelude.{◌≡◌, ◌≤◌, ℕ, List, [], ◌∷◌, ◌++◌, None, Some, replicate}
 use Rattle.nvm_board.specs.declared.board.TheConstants.{LEAST_PAGES, SECRETS}
 use Rattle.nvm_board.specs.Facts.{Facts}
@@ -11,8 +11,8 @@ use Rattle.card_bench.specs.Performing.{Performs}
 use Rattle.card_turns.specs.Plays.{IsGood}
 use Rattle.card_bench.specs.Printouts.{Print, text_of}
 
--- Lines, one after another: what each asks for is carried out, and its text follows the text of those before it. Behind
--- each of them a card is found in the bench's memory, which never had a fault.
+-- Lines that run in order, and their concatenated output. After each of them the bench's memory has a card state after
+-- recovery, and it never had a fault.
 unfoldable pub PrintsLines : Desk → List (List ℕ) → Desk → List ℕ → Type 0
 PrintsLines old [] new out = (new ≡ old) × (out ≡ [])
 PrintsLines old (line ∷ others) new out =
@@ -20,8 +20,8 @@ PrintsLines old (line ∷ others) new out =
     × (order_of line ≡ Some order) × Performs order old between prints × IsGood between.bench
     × PrintsLines between others new rest × (out ≡ text_of prints ++ rest)
 
--- The counts of a new board of 1,024 pages on which a card was written: at most one device write a page, and nothing
--- else was counted, nor is a cut to come.
+-- The counters of a new board of 1,024 pages with a card image: at most one device write a page, all others zero, and
+-- no pending cut.
 pub record IsJustWritten (f : Facts) : Type 0 where
   pub due : f.due ≡ 0
   pub cuts : f.cuts ≡ 0
@@ -29,7 +29,7 @@ pub record IsJustWritten (f : Facts) : Type 0 where
   pub compares : f.compares ≡ replicate SECRETS 0
   pub matches : f.matches ≡ replicate SECRETS 0
 
--- The desk at first: the factory's card on a new board of 896 blocks, power off, and nothing pending on the line.
+-- The first desk: the factory card on a new board of 896 blocks, power off, and no pending faults on the line.
 pub record IsFirstDesk (d : Desk) : Type 0 where
   pub power : IsOff d.bench
   pub good : IsGood d.bench
@@ -38,7 +38,7 @@ pub record IsFirstDesk (d : Desk) : Type 0 where
   pub reader : d.reader ≡ None
   pub line : d.line ≡ record { lose = None; garble = None }
 
--- what lines print
+-- the output of these lines
 pub record LinesPrint (some : List (List ℕ)) (out : List ℕ) : Type 0 where
   pub first : Desk
   pub last : Desk

@@ -1,4 +1,4 @@
--- From a power-on to the next the commands of a script are exchanges in one world.
+-- Between two power-ons the commands of a script are exchanges in one world.
 use Rattle.std.specs.Prelude.{◌≡◌, ℕ, List, [], ◌++◌, Some}
 use Rattle.t1_link.specs.ReaderTable.{Reader}
 use Rattle.card_model.specs.Sessions.{fresh_session}
@@ -16,16 +16,15 @@ use Rattle.link_worlds.specs.TreeMachine.{IsProperState, Served, tree_machine}
 use Rattle.link_worlds.specs.Worlds.{Event, quiet}
 use Rattle.link_worlds.specs.WorldLaw.{comes_of}
 
--- The desk is in the world that came of these events since power-on: a command may be sent, both ends and the card are
--- those of that world, and nothing is under way.
+-- The desk is in the world after these events since power-on: a command may be sent, both ends and the card are those
+-- of that world, and nothing is under way.
 pub record IsInWorld (start : Served) (events : List Event) (d : Desk) : Type 0 where
   pub reader : Reader
   pub may_send : d.reader ≡ Some reader
   pub stands : StandIn d.bench reader (comes_of tree_machine start events)
   pub calm : (comes_of tree_machine start events).line ≡ quiet
 
--- A command is an exchange in that world; where another one may be sent after it,
--- the desk is in the world that came of the exchange.
+-- A command is an exchange in that world. If another command may follow, the desk is in the world after the exchange.
 pub record CommandInWorld (command : List ℕ) (start : Served) (events : List Event) (old new : Desk)
     (prints : Print) : Type 0 where
   pub reader : Reader
@@ -38,7 +37,7 @@ pub record CommandInWorld (command : List ℕ) (start : Served) (events : List E
       → (blocks : ℕ)
       × IsInWorld start (events ++ exchange_events (comes_of tree_machine start events) command old.line blocks) new
 
--- A line in a world. Power on, power off, and a block straight to the card's end leave it.
+-- A line in a world. Power on, power off, and a block to the card's end leave the world.
 abbrev pub LineInWorld : Order → Served → List Event → Desk → Desk → Print → Type 0
 LineInWorld Nothing start events old new prints = IsInWorld start events new
 LineInWorld On start events old new prints = Unit {0}
@@ -50,18 +49,18 @@ LineInWorld (Cut number mask) start events old new prints = IsInWorld start even
 LineInWorld (Lose number) start events old new prints = IsInWorld start events new
 LineInWorld (Garble number) start events old new prints = IsInWorld start events new
 
--- the desk is in a new world, of the card that is found, in a fresh session
+-- the desk is in a new world, of the card state after recovery, in a fresh session
 pub record IsInNewWorld (d : Desk) : Type 0 where
   pub start : Served
   pub proper : IsProperState start
   pub fresh : start.session ≡ fresh_session
   pub in_world : IsInWorld start [] d
 
--- A card that starts begins a world.
+-- A successful power-on begins a world.
 abbrev pub PowerOnLaw : Type 0
 PowerOnLaw = (old new : Desk) → BenchHasCard new.bench → Performs On old new prints_atr → IsInNewWorld new
 
--- The lines after it go on in that world.
+-- The lines after it continue that world.
 abbrev pub LineLaw : Type 0
 LineLaw = (start : Served) (events : List Event) (order : Order) (old new : Desk) (prints : Print)
     → IsProperState start → IsInWorld start events old → IsSized order → IsOfBytes order → Performs order old new prints

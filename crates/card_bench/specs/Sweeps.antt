@@ -1,4 +1,4 @@
--- What the runs of a sweep give.
+-- The runs of a sweep, and the finding of each.
 use Rattle.std.specs.Prelude.{◌≡◌, ◌⊎◌, ◌≤◌, ◌≢◌, ℕ, zero, suc, true, List, None, is_some}
 use Rattle.nvm_board.specs.Facts.{Facts}
 use Rattle.card_state.specs.declared.space.FreeSpace.{FreeSpace}
@@ -20,17 +20,17 @@ use Rattle.card_bench.specs.Tallies.{Finding}
 abbrev pub off_with : Facts → BenchState
 off_with facts = off (record facts { dark = true })
 
--- the board that is taken from a bench
+-- the board taken from a bench
 abbrev pub left_by : BenchState → Facts
 left_by b = record (bench_facts b) { dark = true }
 
--- the free space that a run shows: that of the card that is found; none where power is off
+-- the free space that a run reports: that of the card state after recovery; zero with power off
 abbrev pub free_of : BenchState → FreeSpace
 free_of (off facts) = record { blocks = 0; entries = 0 }
 free_of (on powered) = card_space (card_found powered.card)
 
--- The command is cut at this write, by this mask: the preparation is played on the board, the cut is set, and power is
--- lost while the command runs. No cut is to come any more.
+-- The command is cut at this write, with this mask: the preparation runs on the board, the cut is set, and power is
+-- lost while the command runs. No cut is pending afterwards.
 pub record CutsCommand (number mask : ℕ) (board : Facts) (prepare : List Turn) (command : List ℕ)
     (left : Facts) : Type 0 where
   pub trace : List Item
@@ -46,7 +46,7 @@ pub record CutsCommand (number mask : ℕ) (board : Facts) (prepare : List Turn)
   pub fired : left.pending ≡ None
   pub has_card : HasCard left.words
 
--- A start is cut at this write, by this mask.
+-- A power-on is cut at this write, with this mask.
 pub record CutsStart (number mask : ℕ) (board left : Facts) : Type 0 where
   pub armed : BenchState
   pub last : BenchState
@@ -58,7 +58,7 @@ pub record CutsStart (number mask : ℕ) (board left : Facts) : Type 0 where
   pub fired : left.pending ≡ None
   pub has_card : HasCard left.words
 
--- A start makes fewer writes: a cut that is set to come at this one doesn't come in it.
+-- Power-on makes fewer writes, so that a cut set for this one doesn't happen in it.
 pub record SparesStart (number mask : ℕ) (board : Facts) : Type 0 where
   pub item : Item
   pub armed : BenchState
@@ -69,13 +69,13 @@ pub record SparesStart (number mask : ℕ) (board : Facts) : Type 0 where
   pub start : GoodTurn armed turn.On item last
   pub spared : (item ≢ Dark) ⊎ (is_some (bench_facts last).pending ≡ true)
 
--- so many starts are cut, one after another, each at some write
+-- `n` power-ons are cut in order, each at some write
 unfoldable pub CutsStarts : ℕ → Facts → Facts → Type 0
 CutsStarts zero board left = left ≡ board
 CutsStarts (suc n) board left =
     (number mask : ℕ) × (between : Facts) × CutsStart number mask board between × CutsStarts n between left
 
--- A run's end: a start that isn't cut, the free space, and the probe.
+-- The end of a run: an uncut power-on, the free space, and the probe.
 pub record EndsIn (board : Facts) (probe : List Turn) (given : Finding) : Type 0 where
   pub item : Item
   pub started : BenchState
@@ -84,7 +84,7 @@ pub record EndsIn (board : Facts) (probe : List Turn) (given : Finding) : Type 0
   pub free : given.free ≡ free_of started
   pub probed : Runs started probe given.trace last
 
--- What comes behind a cut: starts are cut, until so many were or one makes no write, and then the run ends.
+-- After a cut, up to `depth` power-ons are cut, or until one makes no write. Then the run ends.
 pub record EndsBehindStarts (depth : ℕ) (board : Facts) (probe : List Turn) (given : Finding) : Type 0 where
   pub starts : ℕ
   pub few : starts ≤ depth
@@ -93,7 +93,7 @@ pub record EndsBehindStarts (depth : ℕ) (board : Facts) (probe : List Turn) (g
   pub done : (starts ≡ depth) ⊎ SparesStart 1 0 left
   pub end : EndsIn left probe given
 
--- A run of a sweep gives this.
+-- A run of a sweep has this finding.
 pub record GivenByRun (board : Facts) (prepare : List Turn) (command : List ℕ) (probe : List Turn) (depth : ℕ)
     (given : Finding) : Type 0 where
   pub number : ℕ
@@ -102,7 +102,7 @@ pub record GivenByRun (board : Facts) (prepare : List Turn) (command : List ℕ)
   pub cut : CutsCommand number mask board prepare command left
   pub rest : EndsBehindStarts depth left probe given
 
--- a card that is a stage of this command, which a bench is given as a block
+-- the card is a stage of this command, which the bench takes as a block
 abbrev pub IsStageOf : BenchState → List ℕ → Card → Type 0
 IsStageOf (off facts) command card = ⊥
 IsStageOf (on powered) command card = IsBlockStage powered (link_step powered.link command).reaction card

@@ -1,4 +1,4 @@
--- All runs of a sweep, in their order: what each gives.
+-- All runs of a sweep, in order, and the finding of each.
 use Rattle.std.specs.Prelude.{◌≡◌, ◌⊎◌, ◌≤◌, ◌≢◌, ◌<◌, ◌+◌, ◌-◌, ◌/◌, ◌%◌, ◌^◌, ℕ, zero, suc, true, List, [], ◌∷◌}
 use Rattle.std.specs.Prelude.{◌++◌, is_some}
 use Rattle.nvm_board.specs.declared.cut_board.CutBoard.{CutBoard}
@@ -14,7 +14,7 @@ use Rattle.card_bench.specs.Masks.{mask_of, mask_count_of, words_tried}
 use Rattle.card_bench.specs.Sweeps.{CutsCommand, CutsStart, SparesStart, EndsIn, off_with}
 use Rattle.card_bench.specs.Tallies.{Finding}
 
--- The command makes fewer writes: a cut that is set to come at this one doesn't come in it.
+-- The command makes fewer writes, so that a cut set for this one doesn't happen in it.
 pub record SparesCommand (number mask : ℕ) (board : Facts) (prepare : List Turn) (command : List ℕ) : Type 0 where
   pub trace : List Item
   pub item : Item
@@ -28,40 +28,39 @@ pub record SparesCommand (number mask : ℕ) (board : Facts) (prepare : List Tur
   pub sent : GoodBlock armed command item last
   pub spared : (item ≢ Dark) ⊎ (is_some (bench_facts last).pending ≡ true)
 
--- so many parts, one behind the other
+-- the concatenated findings of `n` parts, in order
 unfoldable pub InTurn : (ℕ → List Finding → Type 0) → ℕ → List Finding → Type 0
 InTurn Part zero all = all ≡ []
 InTurn Part (suc n) all = (before part : List Finding) × InTurn Part n before × Part n part × (all ≡ before ++ part)
 
--- One run: a look at this board.
+-- One run: power-on and the probe on this board.
 pub record IsOneLook (probe : List Turn) (board : Facts) (all : List Finding) : Type 0 where
   pub given : Finding
   pub end : EndsIn board probe given
   pub one : all ≡ given ∷ []
 
--- Cut number i of a start, counted from 0: each write comes twice, with its word old and with it new.
--- Then what comes behind it.
+-- The runs after cut number i of a power-on, counted from 0. Each write comes twice, with its word old and with it new.
 pub record AreBehindCut (Behind : Facts → List Finding → Type 0) (board : Facts) (i : ℕ)
     (all : List Finding) : Type 0 where
   pub left : Facts
   pub cut : CutsStart (i / 2 + 1) (i % 2) board left
   pub behind : Behind left all
 
--- A start is cut at each of its writes. (There are at most 2,147,483,648 of them.)
+-- Power-on is cut at each of its writes. (There are at most 2,147,483,648 of them.)
 pub record AreBehindStart (Behind : Facts → List Finding → Type 0) (board : Facts) (all : List Finding) : Type 0 where
   pub cuts : ℕ
   pub some : 1 ≤ cuts
   pub each : InTurn (AreBehindCut Behind board) cuts all
   pub done : SparesStart (cuts / 2 + 1) (cuts % 2) board ⊎ (cuts ≡ 2 ^ 32 - 1)
 
--- All runs behind a cut: starts are cut until so many were, or one makes no write.
+-- All runs after a cut: power-ons are cut until the depth is reached, or one makes no write.
 unfoldable pub AreAllBehind : ℕ → List Turn → Facts → List Finding → Type 0
 AreAllBehind zero probe board all = IsOneLook probe board all
 AreAllBehind (suc depth) probe board all =
     (SparesStart 1 0 board × IsOneLook probe board all) ⊎ AreBehindStart (AreAllBehind depth probe) board all
 
--- The command is cut at this write by mask number i, counted from 0. Then what comes behind it. The board that the
--- first mask leaves tells how many words its torn write had, and so by which masks that write is tried.
+-- The runs after a cut of the command at this write with mask number i, counted from 0. The board after the first mask
+-- reports the number of words of its torn write, which gives the masks to try.
 pub record AreOfMask (board : Facts) (prepare : List Turn) (command : List ℕ) (probe : List Turn)
     (depth number words i : ℕ) (all : List Finding) : Type 0 where
   pub left : CutBoard
@@ -69,7 +68,7 @@ pub record AreOfMask (board : Facts) (prepare : List Turn) (command : List ℕ) 
   pub words_told : i ≡ 0 → words ≡ words_tried (last_torn left)
   pub behind : AreAllBehind depth probe (cut_facts left) all
 
--- The command is cut at this write by each mask, for as many words as the board tells.
+-- The command is cut at this write with each mask, for the number of words that the board reports.
 pub record AreOfWrite (board : Facts) (prepare : List Turn) (command : List ℕ) (probe : List Turn) (depth number : ℕ)
     (all : List Finding) : Type 0 where
   pub words : ℕ
@@ -77,7 +76,7 @@ pub record AreOfWrite (board : Facts) (prepare : List Turn) (command : List ℕ)
   pub fit : words ≤ 16
   pub each : InTurn (AreOfMask board prepare command probe depth number words) (mask_count_of words) all
 
--- The command doesn't make this write: a cut by one of the masks doesn't come in it, and none is tried behind it.
+-- The command doesn't make this write: a cut with one of the masks doesn't happen, and no further mask is tried.
 pub record AreOfLastWrite (board : Facts) (prepare : List Turn) (command : List ℕ) (probe : List Turn)
     (depth number : ℕ) (all : List Finding) : Type 0 where
   pub words : ℕ

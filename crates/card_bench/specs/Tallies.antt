@@ -1,11 +1,11 @@
--- Results of runs, each with how many runs gave it.
+-- Findings of runs, and the number of runs with each.
 use Rattle.std.specs.Prelude.{◌≡◌, ◌≢◌, ◌≤◌, ◌+◌, ◌⊎◌, ℕ, List, [], ◌∷◌, ◌++◌, Some, map, sum_by, slice_get, slice_set}
 use Rattle.std.specs.Prelude.{All, AllPairs}
 use Rattle.card_state.specs.declared.space.FreeSpace.{FreeSpace}
 use Rattle.card_turns.specs.declared.playing.Item.{Item}
 use Rattle.card_bench.specs.declared.tally.Seen.{Seen}
 
--- what a run gives: what came of the probe, and the free space before it
+-- the finding of a run: the trace of the probe, and the free space before it
 pub record Finding : Type 0 where
   pub trace : List Item
   pub free : FreeSpace
@@ -13,38 +13,38 @@ pub record Finding : Type 0 where
 abbrev pub finding : Seen → Finding
 finding seen = record { trace = seen.trace.items; free = seen.free }
 
--- so many runs gave it
+-- the number of runs with this finding
 abbrev pub count_of : Seen → ℕ
 count_of seen = seen.count
 
 abbrev pub findings : List Seen → List Finding
 findings seen = map finding seen
 
--- No two of them are the same, each was given by a run, and so many runs were counted.
+-- All findings are different, each has at least one run, and their counts add up to `runs`.
 pub record IsTally (runs : ℕ) (seen : List Seen) : Type 0 where
   pub sum : sum_by count_of seen ≡ runs
   pub given : All (λ s. 1 ≤ s.count) seen
   pub different : AllPairs (λ a b. a ≢ b) (findings seen)
 
--- Findings were added behind the others, each of which is one of these.
+-- Findings were appended, each of which is one of these.
 pub record Adds (Is : Finding → Type 0) (old new : List Finding) : Type 0 where
   pub more : List Finding
   pub all : new ≡ old ++ more
   pub each : All Is more
 
--- this finding stands at this place
+-- this finding is at this index
 pub record IsAt (place : ℕ) (given : Finding) (seen : List Seen) : Type 0 where
   pub here : Seen
   pub there : slice_get seen place ≡ Some here
   pub same : finding here ≡ given
 
--- A run gave what was seen before, and is counted with it.
+-- A run had a known finding, whose count rises by one.
 pub record CountsAgain (given : Finding) (old new : List Seen) : Type 0 where
   pub place : ℕ
   pub at : IsAt place given old
   pub set : new ≡ slice_set old place (record at.here { count = at.here.count + 1 })
 
--- A run gave what wasn't seen before: it stands behind the others.
+-- A run had a new finding, which is appended.
 pub record CountsFirst (given : Finding) (old new : List Seen) : Type 0 where
   pub first : Seen
   pub same : finding first ≡ given
@@ -52,16 +52,16 @@ pub record CountsFirst (given : Finding) (old new : List Seen) : Type 0 where
   pub others : All (λ s. finding s ≢ given) old
   pub pushed : new ≡ old ++ first ∷ []
 
--- A run that gave this is counted.
+-- A run with this finding is counted.
 abbrev pub CountsOne : Finding → List Seen → List Seen → Type 0
 CountsOne given old new = CountsAgain given old new ⊎ CountsFirst given old new
 
--- runs that gave these are counted, one after another
+-- runs with these findings are counted, in order
 unfoldable pub CountsEach : List Finding → List Seen → List Seen → Type 0
 CountsEach [] old new = new ≡ old
 CountsEach (given ∷ rest) old new = (between : List Seen) × CountsOne given old between × CountsEach rest between new
 
--- Runs were counted: all of these, in their order.
+-- Runs were counted: all of these, in order.
 pub record Counts (Are : List Finding → Type 0) (old new : List Seen) : Type 0 where
   pub runs : List Finding
   pub are : Are runs

@@ -1,4 +1,4 @@
-//! The desk: a bench, the reader's end of the link, and the line between the two ends.
+//! The desk of a script: a bench, the reader's end of the link, and the line between the ends.
 ghost use Rattle.std.specs.Prelude.{◌≡◌, ◌≢◌, ◌≤◌, ℕ, List, None, length, take, true, IfErr, OnErr, OnOk};
 ghost use Rattle.std.specs.Io.KnownBytes.{Appends};
 ghost use Rattle.bench_lines.specs.declared.order.TheConstants.{COMMAND_LIMIT};
@@ -23,13 +23,13 @@ use std::io::Write;
 use std::marker::Model;
 use t1_link::{BlockBytes, ReaderEnd};
 
-/// A bench, the reader's end, and the line. What is pending on the line outlives power.
+/// A bench, the reader's end, and the line. Pending faults of the line survive a power-off.
 #[derive(Drop)]
 pub(crate) struct Desk<B: Socket> {
     ends: Ends<B>,
-    /// Whether a command may be sent: no more where the two ends may have parted.
+    /// True while the two ends are in step, so that commands go.
     in_step: bool,
-    /// What came of the last line.
+    /// The result of the last line.
     came: Came,
 }
 
@@ -53,7 +53,7 @@ impl<B: Socket> Model for Desk<B> {
 }
 
 impl<B: Socket> Desk<B> {
-    /// The desk with this board, power off, and a line on which every block arrives as it is.
+    /// Returns a desk with this board, power off, and a perfect line.
     pub(crate) fn new(board: B) -> Desk<B>
         ensures bench { result.desk.bench ≡ off (record (B.facts board) { dark = true }) }
         ensures reader { result.desk.reader ≡ None }
@@ -74,11 +74,11 @@ impl<B: Socket> Desk<B> {
         }
     }
 
-    /// Prints what came of the last line, and flushes it. Where that is nothing, the writer isn't asked.
+    /// Prints the result of the last line, and flushes. Without output it doesn't use the writer.
     ///
     /// # Errors
     ///
-    /// `Write` where the writer fails, or takes nothing.
+    /// `Write` if the writer fails, or takes nothing.
     pub(crate) fn print<W: Write>(
         &self,
         writer: &mut W,
@@ -105,7 +105,7 @@ impl<B: Socket> Desk<B> {
 }
 
 impl<B: Armed + Faultless> Desk<B> {
-    /// Does what a line asks for, with the bytes that it gave. What comes of it can then be printed.
+    /// Runs the order of a line, with its bytes. `print` prints the result.
     #[tactic(auto, using(crate::proofs::DeskTurns::off_taken, crate::proofs::DeskTurns::block_taken))]
     pub(crate) fn perform(&mut self, order: Order, given: &[u8])
         requires sized { IsSized (order_with order given.now) }
@@ -127,8 +127,8 @@ impl<B: Armed + Faultless> Desk<B> {
         }
     }
 
-    /// A turn at the bench. Only a card that starts has a fresh reader's end before it; after any other turn no command
-    /// is sent any more.
+    /// Plays a turn at the bench.
+    /// A successful power-on gives a fresh reader's end. After any other turn no command can be sent.
     fn turn(&mut self, turn: Turn<'_>)
         requires good { IsGood self.old.desk.bench }
         ensures good { IsGood self.new.desk.bench }
@@ -142,7 +142,7 @@ impl<B: Armed + Faultless> Desk<B> {
         self.ends.reader.reset();
     }
 
-    /// The free space, which is told of every card that works, and on a board without faults each card does.
+    /// Reports the free space, valid while the board has no fault.
     fn tell_free(&mut self)
         requires good { IsGood self.old.desk.bench }
         ensures same { self.new.desk ≡ self.old.desk }
@@ -154,7 +154,8 @@ impl<B: Armed + Faultless> Desk<B> {
         }
     }
 
-    /// A command through both ends of the link, where power is on and the reader's end is there.
+    /// Sends a command through both ends of the link.
+    /// Power must be on, and the ends must be in step.
     fn command(&mut self, command: &[u8])
         requires some { 1 ≤ length command.now }
         requires size { length command.now ≤ COMMAND_LIMIT }
@@ -179,7 +180,7 @@ impl<B: Armed + Faultless> Desk<B> {
     }
 }
 
-/// What comes of a command, by how its exchange ended.
+/// Returns the result of a command, from the end of its exchange.
 fn came_of(ending: Ending) -> Came
     ensures { (answer reply : List ℕ) → print_of result answer reply ≡ printed_by (ended_of ending answer) }
 {

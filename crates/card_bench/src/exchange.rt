@@ -1,4 +1,4 @@
-//! A command through both ends of the link.
+//! Exchanges a command and its answer through both ends of the link.
 ghost use Rattle.std.specs.Prelude.{◌≡◌, ◌≢◌, ◌≤◌, length, IfErr, OnOk};
 ghost use Rattle.t1_link.specs.declared.reader_end.Phase.TheVariants.{Busy};
 ghost use Rattle.t1_link.specs.ReaderTable.{reader_sends, reader_step, reader_times_out};
@@ -14,10 +14,10 @@ use nvm_board::{Faultless, Socket};
 use std::ops::ControlFlow;
 use t1_link::{BlockBytes, Next, ReaderEnd};
 
-/// The most blocks that a command puts on the line, in both directions together.
+/// The most blocks of a command, in both directions together.
 pub(crate) const LINE_BLOCKS: u16 = 1000;
 
-/// The end that the block under way goes to.
+/// The destination of the block under way.
 #[derive(Clone, Copy)]
 pub(crate) enum Toward {
     Card,
@@ -31,11 +31,11 @@ pub(crate) struct Blocks {
     pub toward_reader: BlockBytes,
 }
 
-/// Both ends of the link at the bench, the line between them, and the blocks under way.
+/// Both ends of the link, the line, and the blocks under way.
 #[derive(Drop)]
 pub(crate) struct Ends<B: Socket> {
     pub bench: Bench<B>,
-    /// It keeps the answer to the last command that has one.
+    /// Stores the answer to the last command that has one.
     pub reader: ReaderEnd,
     pub line: Line,
     pub blocks: Blocks,
@@ -44,17 +44,18 @@ pub(crate) struct Ends<B: Socket> {
 /// How an exchange ended.
 #[derive(Clone, Copy)]
 pub(crate) enum Ending {
-    /// With the answer that the reader's end keeps.
+    /// With the answer that the reader's end stores.
     Answered,
-    /// The link was set back, and it isn't known whether the command was carried out.
+    /// By a RESYNCH: it is unknown whether the command ran.
     SetBack,
-    /// The reader's end gave the link up, or too many blocks were put on the line.
+    /// The reader's end gave up, or the limit of blocks was reached.
     Lost,
     /// Power was lost.
     Dark,
 }
 
-/// Sends a command, and passes blocks between the two ends, at most 1,000, until the reader's end has its answer.
+/// Sends a command, and passes blocks until the exchange ends.
+/// At most 1,000 blocks pass.
 pub(crate) fn exchange<B: Socket + Faultless>(ends: &mut Ends<B>, command: &[u8]) -> Ending
     requires idle { ends.old.reader.phase ≢ Busy }
     requires some { 1 ≤ length command.now }
@@ -72,7 +73,7 @@ pub(crate) fn exchange<B: Socket + Faultless>(ends: &mut Ends<B>, command: &[u8]
     }
 }
 
-/// Passes blocks between the two ends until the exchange ends, at most 1,000.
+/// Passes at most `limit` blocks, until the exchange ends.
 fn pass_blocks<B: Socket + Faultless>(ends: &mut Ends<B>, first: Toward, limit: u16) -> Ending
     requires busy { ends.old.reader.phase ≡ Busy }
     requires good { IsGood ends.old.bench }
@@ -92,8 +93,8 @@ fn pass_blocks<B: Socket + Faultless>(ends: &mut Ends<B>, first: Toward, limit: 
     Ending::Lost
 }
 
-/// Puts a block on the line, and tells which end the next one goes to, or how the exchange ended. Where the block
-/// doesn't arrive, the reader's end waits in vain.
+/// Passes a block, and returns the next destination or the end.
+/// If the block doesn't arrive, the reader's end times out.
 fn pass<B: Socket + Faultless>(ends: &mut Ends<B>, toward: Toward) -> ControlFlow<Ending, Toward>
     requires busy { ends.old.reader.phase ≡ Busy }
     requires good { IsGood ends.old.bench }
@@ -129,7 +130,7 @@ fn pass<B: Socket + Faultless>(ends: &mut Ends<B>, toward: Toward) -> ControlFlo
     }
 }
 
-/// The reader's end is given a command.
+/// Gives a command to the reader's end.
 fn begin(reader: &mut ReaderEnd, blocks: &mut Blocks, command: &[u8]) -> ControlFlow<Ending, Toward>
     requires idle { reader.old.phase ≢ Busy }
     requires some { 1 ≤ length command.now }
@@ -142,7 +143,7 @@ fn begin(reader: &mut ReaderEnd, blocks: &mut Blocks, command: &[u8]) -> Control
     saying(reader.send(command, &mut blocks.toward_card))
 }
 
-/// The reader's end waits in vain.
+/// Lets the reader's end time out.
 fn wait(reader: &mut ReaderEnd, blocks: &mut Blocks) -> ControlFlow<Ending, Toward>
     requires { reader.old.phase ≡ Busy }
     ensures turns { ReaderTurns (reader_times_out reader.old) reader.new
@@ -153,7 +154,7 @@ fn wait(reader: &mut ReaderEnd, blocks: &mut Blocks) -> ControlFlow<Ending, Towa
     saying(reader.timed_out(&mut blocks.toward_card))
 }
 
-/// The reader's end hears the block that came to it.
+/// Gives the received block to the reader's end.
 fn hear(reader: &mut ReaderEnd, blocks: &mut Blocks) -> ControlFlow<Ending, Toward>
     requires { reader.old.phase ≡ Busy }
     ensures turns { ReaderTurns (reader_step reader.old blocks.old.toward_reader) reader.new
@@ -164,7 +165,7 @@ fn hear(reader: &mut ReaderEnd, blocks: &mut Blocks) -> ControlFlow<Ending, Towa
     saying(reader.got(&blocks.toward_reader, &mut blocks.toward_card))
 }
 
-/// What follows from what the reader's end says.
+/// Returns the step after the reader's end returned `next`.
 fn saying(next: Next) -> ControlFlow<Ending, Toward>
     ensures { result ≡ flow_of next }
 {

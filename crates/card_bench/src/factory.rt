@@ -1,4 +1,4 @@
-//! The factory's card on a new board.
+//! The factory card on a new board.
 ghost use Rattle.std.specs.Prelude.{◌≡◌, None, IfOk};
 ghost use Rattle.nvm_board.specs.Cut.{cut_facts};
 ghost use Rattle.card_core.specs.Factory.{factory_card};
@@ -9,8 +9,9 @@ use card_core::format;
 use nvm_board::CutBoard;
 use std::alloc::{AllocError, Global};
 
-/// A new board of 1,024 pages with the factory's card, in format 2.
-/// It has counted the writes of its making alone, and no cut is to come.
+/// Returns a new board with the factory card.
+/// It has 1,024 pages and format 2.
+/// Only the writes of its making are counted, and no cut is pending.
 ///
 /// # Errors
 /// There is too little memory for the words.
@@ -19,7 +20,7 @@ pub fn factory_board(alloc: Global) -> Result<CutBoard, AllocError>
     ensures counts { IfOk result (λ board. IsJustWritten (cut_facts board)) }
     ensures uncut { IfOk result (λ board. (cut_facts board).pending ≡ None) }
 {
-    // No cut is to come on a new board, so it takes all that is written.
+    // A new board has no pending cut, so it takes all writes.
     match format(CutBoard::new(alloc)?) {
         Ok(board) => Ok(board),
         Err(_) => unreachable!(),

@@ -1,10 +1,10 @@
-//! Why a script was not run to its end, and the exit status that tells it.
+//! Why a script didn't run to its end, and the exit status for it.
 use thiserror::Error;
 
-/// Why a script was not run to its end. What was written before it stands.
+/// Why a script didn't run to its end. Output written before it stays.
 #[derive(Debug, Drop, Error)]
 pub enum RunFault {
-    /// This line, counted from 1, is no line of a script. Nothing after it is run.
+    /// This line, counted from 1, is invalid. No line after it runs.
     #[error("error line {0}")]
     BadLine(u32),
     /// The script could not be read, or has more than 16,777,216 bytes.
@@ -22,7 +22,7 @@ impl RunFault {
     ghost use Rattle.std.specs.Prelude.{◌≡◌};
     ghost use Rattle.card_bench.specs.Faults.{status_of};
 
-    /// The exit status that tells it: 2 to 5.
+    /// Returns the exit status of the fault: 2 to 5.
     pub fn status(&self) -> u8
         ensures { result ≡ status_of self.now }
     {

@@ -1,4 +1,4 @@
-//! Laws of the definitions: each is a function whose contract is the law.
+//! Laws of the definitions: each function's contract is one law.
 
 ghost use Rattle.std.specs.Prelude.{◌≡◌, ◌≢◌, ◌⊎◌, ◌≤◌, ◌+◌, ◌-◌, ◌*◌, ℕ, List, length, true, Ok, Err, None};
 ghost use Rattle.t1_link.specs.Blocks.{Block as BlockValue, heard};
@@ -31,9 +31,8 @@ ghost use Rattle.file_tree.specs.Formats.{is_format_2};
 ghost use Rattle.command_base.specs.Finding.{words_found};
 ghost use Rattle.link_worlds.specs.Worlds.{are_bytes, may_arrive};
 
-/// What the faults that are pending on a line do to a block depends on how many blocks went before it, and on nothing
-/// else: after some blocks the line is such that the next ones fare as they would have fared,
-/// counted from where it was.
+/// Only the number of earlier blocks decides which block a fault hits.
+/// After some blocks, the line treats the next ones as the former line would have done, counted from there.
 pub fn faults_fall_due_in_turn()
     ensures later { (first second : ℕ) (line : Line)
         → line_after second (line_after first line) ≡ line_after (first + second) line }
@@ -41,7 +40,8 @@ pub fn faults_fall_due_in_turn()
         → arriving (line_after first line) before block ≡ arriving line (first + before) block }
 {}
 
-/// A block that is garbled is heard as a redundancy error; it is what the world's line may make of a block.
+/// A garbled block is received as a redundancy error.
+/// The world's line allows this.
 pub fn garbled_block_is_no_block()
     ensures fault { (bytes : List ℕ) (b : BlockValue) → heard bytes ≡ Ok b
         → heard (last_bit_turned bytes) ≡ Err WrongCheck }
@@ -49,28 +49,30 @@ pub fn garbled_block_is_no_block()
         → are_bytes bytes ≡ true → heard bytes ≡ Ok b → may_arrive (last_bit_turned bytes) ≡ true }
 {}
 
-/// An exchange is a run of the world: from a world in which nothing is under way, and whose ends and machine are those
-/// at the bench, the events of an exchange are that the command is sent, and then for each block that goes on the line,
-/// at most 1,000, what the pending faults make of it: it is lost, it is garbled, or it passes. How the exchange ended
-/// shows in the world that came of these events, and its ends and machine are again those at the bench; where power was
-/// lost, the block under way came to the card's end, which was to run that very command, and the card that is found is
-/// one of its stages.
+/// An exchange is a run of the world of both ends.
+/// It begins in a world in which nothing is under way, and whose ends and machine are those at the bench. Its events
+/// are the command and then, for at most 1,000 blocks, the effect of the pending faults: the block is lost, garbled, or
+/// passes. The world after these events shows how the exchange ended, and its ends and machine are again those at the
+/// bench. After power loss, the block under way made the card's end run that very command. The card state after
+/// recovery is then one of its stages.
 pub fn exchange_is_a_run_of_the_world()
     ensures { ExchangeLaw }
 {}
 
-/// The commands of a script are exchanges in one world from a power-on to the next: a card that starts begins a world,
-/// with the card that is found and a fresh session; each command is an exchange in it, and the lines between leave it
-/// as it is, until power goes on or off, a block goes straight to the card's end, or no command may be sent any more.
+/// The commands of a script after a power-on are exchanges in one world.
+/// A successful power-on begins a world with the card state after recovery and a fresh session. Each command is an
+/// exchange in it, and other lines don't change it. It ends with power on or off, a block to the card's end, or an
+/// exchange after which no command may be sent.
 pub fn script_goes_on_in_a_world()
     ensures begins { PowerOnLaw }
     ensures goes_on { LineLaw }
 {}
 
-/// A board's counts last. A turn takes at most 700 steps of each, and only a start of a memory that isn't of format 2
-/// yet more, at most 3,787; turns what each of them takes. Where so many are left, no power-on is mute, and power is
-/// lost, in a turn or in a block, only where a cut was due. In a script, whose board is new, 700,000 are left behind
-/// every line; where so many are left, no cut is set any more behind a line that prints dark.
+/// A board's counters last.
+/// A turn raises each by at most 700, and only power-on of a memory that isn't of format 2 by more, at most 3,787.
+/// Turns raise them by the sum. With that much left, power-on always gives an answer to reset unless power is lost, and
+/// power is lost only at a due cut. In a script, whose board is new, 700,000 are left after every line. With that much
+/// left, no cut is pending after a line that prints `dark`.
 pub fn counts_last()
     ensures starts { (old new : BenchState) (item : Item) → GoodTurn old On item new → HasLeft 700 (bench_facts old)
         → item ≢ Mute }
@@ -94,8 +96,8 @@ pub fn counts_last()
         → HasLeft 700000 (bench_facts old.bench) → (bench_facts old.bench).due ≡ (bench_facts new.bench).due + 1 }
 {}
 
-/// What a run of a sweep shows is shown of a card that is a stage of the command that was cut,
-/// however many starts were cut behind it.
+/// Each finding of a sweep shows a stage of the command.
+/// The number of cut power-ons after it doesn't matter.
 pub fn swept_cards_are_stages()
     ensures { (board : Facts) (prepare : List Turn) (command : List ℕ) (probe : List Turn) (depth : ℕ) (given : Finding)
         → (s : GivenByRun board prepare command probe depth given)

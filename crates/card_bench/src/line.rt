@@ -1,20 +1,20 @@
-//! The line between the two ends, on which a block may be lost or garbled.
+//! The line between the two ends, which may lose or garble a block.
 ghost use Rattle.std.specs.Prelude.{◌≡◌, ◌≤◌, ◌-◌, false, None, Some, if◌then◌else◌};
 ghost use Rattle.card_bench.specs.Lines.{arriving, is_due, line_after, pending_after};
 
 use t1_link::BlockBytes;
 
-/// A line, and the faults that are pending on it.
+/// A line, and its pending faults.
 #[derive(Clone, Copy)]
 pub(crate) struct Line {
-    /// How many blocks go before the one that is lost.
+    /// The number of blocks before the one to lose.
     lose: Option<u32>,
-    /// How many blocks go before the one that is garbled.
+    /// The number of blocks before the one to garble.
     garble: Option<u32>,
 }
 
 impl Line {
-    /// A line on which every block arrives as it is.
+    /// Returns a line without pending faults.
     pub fn new() -> Line
         ensures { result ≡ record { lose = None; garble = None } }
     {
@@ -24,7 +24,7 @@ impl Line {
         }
     }
 
-    /// The block with this number from now, counted from 1, is lost, and no other one.
+    /// Sets the block to lose: number 1 is the next one. It replaces an earlier setting.
     pub fn lose(&mut self, number: u32)
         requires { 1 ≤ number }
         ensures { self.new ≡ record self.old { lose = Some (number - 1) } }
@@ -32,7 +32,7 @@ impl Line {
         self.lose = Some(number - 1);
     }
 
-    /// The block with this number from now, counted from 1, is garbled, and no other one.
+    /// Sets the block to garble: number 1 is the next one. It replaces an earlier setting.
     pub fn garble(&mut self, number: u32)
         requires { 1 ≤ number }
         ensures { self.new ≡ record self.old { garble = Some (number - 1) } }
@@ -40,7 +40,8 @@ impl Line {
         self.garble = Some(number - 1);
     }
 
-    /// Puts the block in a buffer on the line, and tells whether it arrives: as it then stands in the buffer.
+    /// Passes the block in the buffer; returns true if it arrives.
+    /// The buffer then contains the block as it arrives.
     pub fn put(&mut self, block: &mut BlockBytes) -> bool
         ensures after { self.new ≡ line_after 1 self.old }
         ensures arrives { (if result then Some block.new else None) ≡ arriving self.old 0 block.old }
@@ -58,7 +59,9 @@ impl Line {
     }
 }
 
-/// Whether a fault falls due with the next block; then it is spent, and else it is nearer by that block.
+/// Returns true if the fault hits the next block.
+/// It clears the fault then.
+/// Otherwise the fault comes nearer by one block.
 fn falls_due(pending: &mut Option<u32>) -> bool
     ensures due { result ≡ is_due pending.old 0 }
     ensures after { pending.new ≡ pending_after 1 pending.old }

@@ -1,8 +1,9 @@
-//! By which masks a torn write is tried.
+//! The masks with which a torn write is tried.
 ghost use Rattle.std.specs.Prelude.{◌≡◌, ◌≤◌, ◌<◌, ◌+◌, ◌-◌, ◌^◌, ℕ};
 ghost use Rattle.card_bench.specs.Masks.{mask_count_of, words_tried};
 
-/// For how many words a torn write is tried, by how many the board tells. No write has none.
+/// Returns the number of words to try, at least 1.
+/// `told` is the number that the board reports.
 pub(crate) fn words_to_try(told: u8) -> u8
     requires { told ≤ 16 }
     ensures tried { result ≡ words_tried told }
@@ -12,8 +13,8 @@ pub(crate) fn words_to_try(told: u8) -> u8
     if told == 0 { 1 } else { told }
 }
 
-/// How many masks are tried on a torn write of so many words: on one word none new and all new, and on more words each
-/// single word new besides.
+/// Returns the number of masks for a torn write of `words` words.
+/// One word has two masks: none new, and all new. More words also have a mask for each single new word.
 pub(crate) fn mask_count(words: u8) -> u8
     requires { words ≤ 16 }
     ensures { result ≡ mask_count_of words }
@@ -21,7 +22,7 @@ pub(crate) fn mask_count(words: u8) -> u8
     if words < 2 { words + 1 } else { words + 2 }
 }
 
-/// These masks: none new, all new, and each single word new, from bit 0 up.
+/// Returns mask `i`: none new, all new, then each single word.
 pub(crate) fn mask_at(words: u8, i: u8) -> u16
     requires words { words ≤ 16 }
     requires place { i < mask_count_of words }

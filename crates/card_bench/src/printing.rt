@@ -1,4 +1,4 @@
-//! How what a line prints is written.
+//! Writes the output of script lines.
 ghost use Rattle.std.specs.Prelude.{◌≡◌, ◌≤◌, ℕ, length, take, IfErr, OnErr, OnOk};
 ghost use Rattle.std.specs.Io.KnownBytes.{Appends};
 ghost use Rattle.card_bench.specs.Printouts.{prints_bytes, prints_free, text_of};
@@ -16,16 +16,18 @@ pub(crate) const ATR: &[u8] = b"atr 3B808131FE458B\n";
 /// The hexadecimal digits.
 const DIGITS: &[u8; 16] = b"0123456789ABCDEF";
 
-/// The most bytes that the card sends at once: an answer's, and a block has no more.
+/// The most bytes that the card sends at once.
+/// They are those of an answer, as a block has no more.
 const BYTES_ROOM: usize = LONGEST_ANSWER;
 
-/// Room for a printed line: two digits a byte, what stands before them, and the line feed.
+/// The space for a printed line.
+/// It has a prefix, two digits a byte, and the line feed.
 const PRINTED_ROOM: usize = 2 + 2 * BYTES_ROOM + 1;
 
-/// Room for the text of bytes. What it holds between lines tells nothing.
+/// The buffer for the text of bytes. Its contents between lines have no meaning.
 pub(crate) type PrintedText = ArrayVec<u8, PRINTED_ROOM>;
 
-/// Writes bytes of the card as hexadecimal digits.
+/// Writes bytes of the card as a line of hexadecimal digits.
 pub(crate) fn print_bytes<W: Write>(
     writer: &mut W,
     bytes: &[u8],
@@ -42,8 +44,8 @@ pub(crate) fn print_bytes<W: Write>(
     write_line(writer, text)
 }
 
-/// Writes what is free.
-// (Kept out of its caller, so that lines that print something else don't pay for its room for numbers.)
+/// Writes the free space as a line.
+// Not inlined, so that other lines don't pay for its buffer of numbers.
 #[inline(never)]
 pub(crate) fn print_free<W: Write>(
     writer: &mut W,
@@ -59,7 +61,7 @@ pub(crate) fn print_free<W: Write>(
     write_line(writer, text)
 }
 
-/// Spells bytes as the text that is printed of them.
+/// Formats bytes of the card as a line.
 fn spell(bytes: &[u8], line: &mut PrintedText)
     requires { length bytes.now ≤ BYTES_ROOM }
     ensures { line.new.items ≡ text_of (prints_bytes bytes.now) }
@@ -74,7 +76,7 @@ fn spell(bytes: &[u8], line: &mut PrintedText)
     line.push(b'\n');
 }
 
-/// Tells what is free, as the text that is printed of it.
+/// Formats the free space as a line.
 fn tell(free: FreeSpace, line: &mut PrintedText)
     ensures { line.new.items ≡ text_of (prints_free free) }
 {
@@ -90,7 +92,7 @@ fn tell(free: FreeSpace, line: &mut PrintedText)
     line.push(b'\n');
 }
 
-/// Writes a whole line, and flushes it.
+/// Writes a whole line, and flushes.
 pub(crate) fn write_line<W: Write>(writer: &mut W, line: &[u8]) -> Result<(), RunFault>
     ensures wrote { OnOk result (Appends (W.contents writer.old) (W.contents writer.new) line.now) }
     ensures began { OnErr result

@@ -1,4 +1,4 @@
-//! A script, run from its first line to its last.
+//! Runs a script, from its first line to its last.
 ghost use Rattle.std.specs.Prelude.{◌≡◌, ◌≢◌, Err, IfSome, IfErr, OnOk};
 ghost use Rattle.card_bench.specs.Endings.{IsRunToEnd, RunStopsBy};
 ghost use Rattle.card_bench.specs.Prints.{IsFirstDesk};
@@ -12,25 +12,26 @@ use nvm_board::CutBoard;
 use std::alloc::Global;
 use std::io::{BufRead, Write};
 
-/// Runs a script on the factory's card, power off at first. What a line prints is written, and flushed, before the next
-/// line is read. All memory is taken before the first byte is read.
+/// Runs a script on the factory card, with power off at first.
+/// It writes and flushes the output of a line before it reads the next one. It allocates all memory before it reads the
+/// first byte.
 ///
 /// # Errors
 ///
-/// `Memory` before anything is read; `BadLine` at the first line that asks for nothing that is known, or is too long,
-/// behind what the lines before it print; `Read` where the reader fails, or the script has more than 16,777,216 bytes;
-/// `Write` where the writer fails, or takes nothing.
+/// `Memory` before anything is read; `BadLine` at the first line that is invalid or too long, after the output of the
+/// lines before it; `Read` if the reader fails, or the script has more than 16,777,216 bytes; `Write` if the writer
+/// fails, or takes nothing.
 pub fn run<R: BufRead, W: Write>(
     alloc: Global,
     reader: &mut R,
     writer: &mut W,
 ) -> Result<(), RunFault>
-    // At the end of the script each of its lines was one, and the writer holds what they print.
+    // At the end of the script, each of its lines is valid, and the writer contains their output.
     ensures done { OnOk result (IfSome (R.remaining reader.old)
         (λ script. IsRunToEnd script (W.contents writer.old) (W.contents writer.new))) }
 
-    // A bad line is the first one, and the writer holds what the lines before it print. Read comes within a line, of
-    // which neither the end nor too many bytes were taken, and Write in the text of the last line that was read.
+    // A bad line is the first one, and the writer contains the output of the lines before it. `Read` occurs within a
+    // line, before its end and before it is too long. `Write` occurs in the output of the last line that was read.
     ensures stopped { IfErr result (λ fault.
         RunStopsBy fault (R.remaining reader.old) (R.remaining reader.new)
         (W.contents writer.old) (W.contents writer.new)) }
@@ -46,7 +47,7 @@ pub fn run<R: BufRead, W: Write>(
     run_lines(&mut desk, reader, writer)
 }
 
-/// Runs a script's lines on the first desk.
+/// Runs the lines of a script on the first desk.
 fn run_lines<R: BufRead, W: Write>(
     desk: &mut Desk<CutBoard>,
     reader: &mut R,
@@ -64,7 +65,7 @@ fn run_lines<R: BufRead, W: Write>(
     let mut given = GivenBytes::new();
     let mut text = PrintedText::new();
     let mut taken = 0;
-    // A script of so many bytes has no more lines, and one without a line feed at its end.
+    // A script has at most as many lines as bytes, and one more without a line feed.
     for number in 1..=SCRIPT_LIMIT + 1 {
         let end = match read_line(reader, &mut taken, &mut line) {
             Ok(end) => end,

@@ -1,4 +1,4 @@
-//! A command cut at each of its writes, and the starts after it cut too.
+//! Cuts a command at each of its writes, and the power-ons after it too.
 ghost use Rattle.std.specs.Prelude.{◌≡◌, ◌⊎◌, ◌≤◌, ◌<◌, ◌^◌, ◌-◌, ◌+◌, [], sum_by, All, AllPairs, ◌≢◌, None, IfOk};
 ghost use Rattle.std.specs.Prelude.{IfErr, OnOk, IfSome, IfNone, is_some, true, false, IsSome};
 ghost use Rattle.nvm_board.specs.Cut.{cut_facts};
@@ -22,8 +22,9 @@ use nvm_board::CutBoard;
 use std::alloc::{AllocError, Global};
 use t1_link::BlockBytes;
 
-/// What a sweep tries: a command, behind a preparation, on copies of a board; then starts that are cut too, at most so
-/// many; and then the probe.
+/// The plan of a sweep: preparation, command, and probe.
+/// Each run uses a copy of the board.
+/// Between command and probe up to `depth` power-ons are cut.
 #[derive(Clone, Copy)]
 struct Plan<'a> {
     alloc: Global,
@@ -34,7 +35,7 @@ struct Plan<'a> {
     depth: u8,
 }
 
-/// Why a sweep comes to its end before all is tried.
+/// Why a sweep stops early.
 #[derive(Clone, Copy)]
 enum Stop {
     /// There is too little memory.
@@ -51,8 +52,10 @@ impl From<AllocError> for Stop {
     }
 }
 
-/// Tries a command on copies of a board, cut at each of its writes, and the starts after it cut too, until so many of
-/// them were cut or one makes no write. Each run ends with a start that isn't cut, and the probe.
+/// Runs a command, cut at each of its writes.
+/// Each run uses a copy of the board.
+/// Up to `depth` power-ons after it are cut too, until one makes no write. Each run ends with an uncut power-on and the
+/// probe.
 ///
 /// # Errors
 /// There is too little memory.
@@ -69,7 +72,7 @@ pub fn sweep(
     ensures different { IfOk result (λ s. AllPairs (λ a b. a ≢ b) (findings s.seen.items)) }
     ensures runs { IfOk result (λ s. HasCard (cut_facts board.now).words
         → All (GivenByRun (cut_facts board.now) prepare.now command.now probe.now depth) (findings s.seen.items)) }
-    // Nothing is left out: what was seen is the tally of all runs that there are, in their order.
+    // Nothing is left out: the tally counts all possible runs, in order.
     ensures complete { IfOk result (λ s. HasCard (cut_facts board.now).words → s.runs < 2 ^ 32 - 1
         → Counts (AreAllRuns (cut_facts board.now) prepare.now command.now probe.now depth) [] s.seen.items) }
 {
@@ -88,7 +91,7 @@ pub fn sweep(
     }
 }
 
-/// Cuts the command at each of its writes, and goes on from there.
+/// Cuts the command at each of its writes, and continues from there.
 fn cut_command(plan: Plan<'_>, sweep: &mut Sweep) -> Result<(), Stop>
     ensures { Sweeps (board_of plan.entry).words (IsGiven plan.entry) (λ _. AreAll plan.entry)
         sweep.old sweep.new result }
@@ -101,7 +104,8 @@ fn cut_command(plan: Plan<'_>, sweep: &mut Sweep) -> Result<(), Stop>
     Ok(())
 }
 
-/// Cuts the command at one of its writes, by each mask, and goes on from there. Whether it makes that write.
+/// Cuts the command at write `k` with each mask, and continues.
+/// Returns true if the command makes that write.
 fn cut_write(plan: Plan<'_>, k: u32, sweep: &mut Sweep) -> Result<bool, Stop>
     requires { 1 ≤ k }
     ensures { Sweeps (board_of plan.entry).words (IsGiven plan.entry) (AreAtWrite plan.entry k)
@@ -121,7 +125,8 @@ fn cut_write(plan: Plan<'_>, k: u32, sweep: &mut Sweep) -> Result<bool, Stop>
     Ok(true)
 }
 
-/// The board after the command, cut at one of its writes; none where it makes fewer writes.
+/// Returns the board after the command was cut at write `k`.
+/// Returns `None` if the command makes fewer writes.
 fn command_cut(plan: Plan<'_>, k: u32, mask: u16) -> Result<Option<CutBoard>, AllocError>
     requires { 1 ≤ k }
     ensures cut { IfOk result (λ cut. IfSome cut (λ left. HasCard (board_of plan.entry).words
@@ -137,7 +142,7 @@ fn command_cut(plan: Plan<'_>, k: u32, mask: u16) -> Result<Option<CutBoard>, Al
     Ok(cut_board(matches!(came, Came::Dark), bench.into_board()))
 }
 
-/// The board, if power was lost and no cut is to come any more.
+/// Returns the board if power was lost and no cut is pending.
 fn cut_board(is_dark: bool, board: CutBoard) -> Option<CutBoard>
     ensures cut { IfSome result (λ left. (left ≡ board) × (is_dark ≡ true) × ((cut_facts left).pending ≡ None)) }
     ensures spared { IfNone result ((is_dark ≡ false) ⊎ (is_some (cut_facts board).pending ≡ true)) }
@@ -149,7 +154,8 @@ fn cut_board(is_dark: bool, board: CutBoard) -> Option<CutBoard>
     }
 }
 
-/// Cuts starts, until so many of them were cut or one makes no write, and looks at the card then.
+/// Cuts up to `depth` power-ons, then runs the probe.
+/// It cuts no more after a power-on without writes.
 fn cut_starts(
     alloc: Global,
     board: &CutBoard,
@@ -164,7 +170,7 @@ fn cut_starts(
         return look(alloc, board, probe, sweep);
     }
     for i in 0..u32::MAX {
-        // (each write by the masks 0 and 1)
+        // Each write is tried with masks 0 and 1.
         let Some(cut) = start_cut(alloc, board, i / 2 + 1, (i % 2) as u16)? else {
             return if i == 0 {
                 look(alloc, board, probe, sweep)
@@ -177,7 +183,8 @@ fn cut_starts(
     Ok(())
 }
 
-/// The board after a start, cut at one of its writes; none where it makes fewer writes.
+/// Returns the board after a power-on that was cut at write `k`.
+/// Returns `None` if power-on makes fewer writes.
 fn start_cut(
     alloc: Global,
     board: &CutBoard,
@@ -197,7 +204,7 @@ fn start_cut(
     Ok(cut_board(matches!(came, Came::Dark), bench.into_board()))
 }
 
-/// Looks at the card by a start that isn't cut and the probe, and counts the run.
+/// Counts one run: an uncut power-on, and the probe.
 fn look(alloc: Global, board: &CutBoard, probe: &[Turn<'_>], sweep: &mut Sweep) -> Result<(), Stop>
     ensures { Sweeps (cut_facts board.now).words (EndsIn (cut_facts board.now) probe.now)
         (λ _. IsOneLook probe.now (cut_facts board.now)) sweep.old sweep.new result }
@@ -214,7 +221,7 @@ fn look(alloc: Global, board: &CutBoard, probe: &[Turn<'_>], sweep: &mut Sweep) 
     Ok(())
 }
 
-/// Plays turns: what comes of each.
+/// Plays turns, and returns the result of each.
 fn played(
     alloc: Global,
     bench: &mut Bench<CutBoard>,
@@ -228,7 +235,7 @@ fn played(
     Ok(trace)
 }
 
-/// The free space; none where power is off.
+/// Returns the free space; zero with power off.
 fn free_space_of(bench: &Bench<CutBoard>) -> FreeSpace
     ensures { IsWell bench.now → result ≡ free_of bench.now }
 {

@@ -1,4 +1,4 @@
-//! The results of runs, each with how many runs gave it.
+//! Counts the runs of a sweep by their findings.
 ghost use Rattle.std.specs.Prelude.{◌≡◌, ◌≢◌, false, ◌≤◌, ◌<◌, ◌+◌, ◌-◌, ◌↔◌, ◌^◌, ◌∷◌, [], length, sum_by, All};
 ghost use Rattle.std.specs.Prelude.{AllPairs, IsTrue, IfOk, OnOk, IfSome, IfNone, Some};
 ghost use Rattle.std.specs.Prelude.{slice_get, slice_set, map, Contains};
@@ -8,26 +8,26 @@ use card_core::FreeSpace;
 use card_turns::Item;
 use std::alloc::{AllocError, Global};
 
-/// What comes of each of a list of turns.
+/// The result of each of a list of turns.
 pub type Trace = Vec<Item>;
 
-/// A result of a run, and how many runs gave it.
+/// A finding, and the number of runs with it.
 #[derive(Drop)]
 pub struct Seen {
-    /// What came of the probe.
+    /// The trace of the probe.
     pub trace: Trace,
-    /// The free space before the probe; none where the card didn't start.
+    /// The free space before the probe; zero if power-on failed.
     pub free: FreeSpace,
-    /// How many runs gave them.
+    /// The number of runs with this finding.
     pub count: u32,
 }
 
-/// What was seen in the runs of a sweep.
+/// The tally of a sweep.
 #[derive(Drop)]
 pub struct Sweep {
-    /// How many runs there were.
+    /// The number of runs.
     pub runs: u32,
-    /// The different results, in the order of their first appearance.
+    /// The different findings, in the order of their first run.
     pub seen: Vec<Seen>,
     ghost sum: { sum_by count_of seen.items ≡ runs },
     ghost given: { All (λ s. 1 ≤ s.count) seen.items },
@@ -35,7 +35,7 @@ pub struct Sweep {
 }
 
 impl Sweep {
-    /// No run yet.
+    /// Returns an empty tally.
     pub(crate) fn new(alloc: Global) -> Sweep
         ensures { result.seen.items ≡ [] }
     {
@@ -45,7 +45,7 @@ impl Sweep {
         }
     }
 
-    /// Whether no further run can be counted.
+    /// Returns true if no further run can be counted.
     pub(crate) fn is_full(&self) -> bool
         ensures full { IsTrue result ↔ (self.now.runs ≡ 2 ^ 32 - 1) }
         ensures spare { result ≡ false → self.now.runs < 2 ^ 32 - 1 }
@@ -53,7 +53,7 @@ impl Sweep {
         self.runs == u32::MAX
     }
 
-    /// Counts a run with this result.
+    /// Counts a run with this finding.
     pub(crate) fn count(&mut self, trace: Trace, free: FreeSpace) -> Result<(), AllocError>
         requires { self.old.runs < 2 ^ 32 - 1 }
         ensures adds { Adds (λ f. f ≡ record { trace = trace.items; free = free })
@@ -75,7 +75,7 @@ impl Sweep {
         Ok(())
     }
 
-    /// Counts a run more with the result at this place.
+    /// Counts another run with the finding at this index.
     fn count_again(&mut self, place: usize)
         requires place { place < length self.old.seen.items }
         requires spare { self.old.runs < 2 ^ 32 - 1 }
@@ -88,7 +88,7 @@ impl Sweep {
         self.runs += 1;
     }
 
-    /// Where this result stands.
+    /// Returns the index of this finding.
     fn place_of(&self, trace: &[Item], free: FreeSpace) -> Option<usize>
         ensures found { IfSome result (λ i. i < length self.now.seen.items) }
         ensures same { IfSome result (λ i. IsAt i (record { trace = trace.now; free = free }) self.now.seen.items) }
@@ -105,7 +105,7 @@ impl Sweep {
 }
 
 impl Seen {
-    /// Whether it is this result.
+    /// Returns true if it is this finding.
     fn is_same(&self, trace: &[Item], free: FreeSpace) -> bool
         ensures { IsTrue result ↔ (finding self.now ≡ record { trace = trace.now; free = free }) }
     {
@@ -113,7 +113,7 @@ impl Seen {
     }
 }
 
-/// Whether two traces are the same.
+/// Returns true if two traces are the same.
 fn is_same_trace(left: &[Item], right: &[Item]) -> bool
     ensures { IsTrue result ↔ (left.now ≡ right.now) }
 {
@@ -128,7 +128,7 @@ fn is_same_trace(left: &[Item], right: &[Item]) -> bool
     true
 }
 
-/// A trace of so many turns, before they are played.
+/// Returns a trace for this number of turns, before they are played.
 pub(crate) fn blank_trace(alloc: Global, turns: usize) -> Result<Trace, AllocError>
     ensures { IfOk result (λ trace. length trace.items ≡ turns) }
 {
