@@ -1,4 +1,4 @@
-//! The bench as a program: a script on standard input, what it prints on standard output.
+//! The bench as a program: runs a script from standard input, and prints its output.
 #![tactic(auto)]
 
 ghost use Rattle.std.specs.Prelude.{◌≡◌};
@@ -8,18 +8,18 @@ use card_bench::{RunFault, run};
 use std::io::{self, BufReader};
 use std::process::ExitCode;
 
-/// Tells a bad line on standard error, and gives the exit status of any fault.
+/// Reports a bad line on standard error, and returns the exit status.
 fn report(rt: &impl Eprint, fault: &RunFault) -> u8
     ensures { result ≡ status_of fault.now }
 {
     if let RunFault::BadLine(_) = fault {
-        // The status tells of the fault, whether or not standard error takes the line.
+        // The exit status reports the fault even if standard error fails.
         let _ = rt.eprintln(fault);
     }
     fault.status()
 }
 
-/// Runs the script on standard input. The exit status tells how it ended.
+/// Runs the script from standard input. The exit status is 0, or that of the fault.
 fn main(rt: HostRuntime) -> ExitCode {
     let Ok(mut reader) = BufReader::new(rt.alloc(), rt.reader()) else {
         return ExitCode::from(RunFault::Memory.status());
