@@ -1,4 +1,4 @@
--- What is printed of a sweep of a command of the factory's card: its counts.
+-- The output for a sweep of a command of the factory card: its counts.
 use Rattle.std.specs.Prelude.{◌≡◌, ◌<◌, ◌-◌, ◌^◌, ℕ, List, [], ◌∷◌, ◌++◌, None, flat_map}
 use Rattle.std.specs.Fmt.{decimal}
 use Rattle.nvm_board.specs.Facts.{Facts}
@@ -9,12 +9,12 @@ use Rattle.card_bench.specs.SweptRuns.{AreAllRuns}
 use Rattle.card_bench.specs.Tallies.{Counts, IsTally}
 use Rattle.sweep_cli.specs.declared.cases.Case.{Case}
 
--- how many runs there were and a colon (58), and behind a space (32) each how many gave each result
+-- the number of runs and a colon (58), then for each finding a space (32) and the number of runs with it
 abbrev pub counts_text : ℕ → List Seen → List ℕ
 counts_text runs seen = decimal runs ++ 58 ∷ flat_map (λ s. 32 ∷ decimal s.count) seen ++ 10 ∷ []
 
--- The counts of a sweep on a board with the factory's card. What was seen is the tally of all runs that there are, in
--- their order, unless their count came to its end.
+-- The counts of a sweep on a board with the factory card. The findings are the tally of all possible runs, in order,
+-- unless the counter of runs reached its limit.
 pub record IsCountOf (case : Case) (text : List ℕ) : Type 0 where
   pub board : Facts
   pub card : Finds board.words (factory_card 896)

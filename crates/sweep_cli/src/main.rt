@@ -1,5 +1,5 @@
-//! Two commands of the factory's card, cut at each of their device writes: how many runs there were, and how many gave
-//! each result. `tools/test-growths` runs it with each growth of its memory refused in turn.
+//! Sweeps two commands of the factory card, and prints the number of runs with each finding.
+//! `tools/test-growths` runs it with each growth of its memory refused in turn.
 #![tactic(auto)]
 
 ghost use Rattle.std.specs.Prelude.{◌≡◌, ◌++◌, ℕ, List, Err, IfOk, OnOk};
@@ -16,7 +16,7 @@ use std::alloc::{AllocError, Global};
 use std::io::{self, Write};
 use std::process::ExitCode;
 
-/// The counts of a sweep as text, on a line of their own.
+/// Returns the counts of a sweep as a line of text.
 fn counts(alloc: Global, runs: u32, seen: &[Seen]) -> Result<Vec<u8>, AllocError>
     ensures { IfOk result (λ text. text.items ≡ counts_text runs seen.now) }
 {
@@ -31,7 +31,7 @@ fn counts(alloc: Global, runs: u32, seen: &[Seen]) -> Result<Vec<u8>, AllocError
     Ok(text)
 }
 
-/// Sweeps a command of the factory's card, and tells the counts.
+/// Sweeps a command of the factory card, and returns its counts.
 ///
 /// # Errors
 /// There is too little memory.
@@ -50,10 +50,10 @@ fn swept(alloc: Global, case: &Case) -> Result<Vec<u8>, AllocError>
     counts(alloc, tally.runs, &tally.seen)
 }
 
-/// Sweeps two commands, and then writes what came of them.
+/// Sweeps two commands, and then writes their counts.
 ///
 /// # Errors
-/// `Memory` before anything is written, `Write` where the writer fails.
+/// `Memory` before anything is written, `Write` if the writer fails.
 fn report<W: Write>(
     alloc: Global,
     first: &Case,
@@ -73,7 +73,7 @@ fn report<W: Write>(
     }
 }
 
-/// What comes of two commands, one behind the other.
+/// Returns the counts of both commands, one after the other.
 fn both(alloc: Global, first: &Case, second: &Case) -> Result<Vec<u8>, AllocError>
     ensures { IfOk result (λ text. (one two : List ℕ) × IsCountOf first.now one × IsCountOf second.now two
         × (text.items ≡ one ++ two)) }
@@ -84,8 +84,8 @@ fn both(alloc: Global, first: &Case, second: &Case) -> Result<Vec<u8>, AllocErro
     Ok(text)
 }
 
-/// Sweeps, and prints what came. The exit status is 5 where there is too little memory,
-/// and 4 where it can't be printed.
+/// Sweeps two commands, and prints their counts.
+/// The exit status is 5 if there is too little memory, and 4 if the output can't be written.
 fn main(rt: HostRuntime) -> ExitCode {
     match report(
         rt.alloc(),
