@@ -12,10 +12,12 @@ use std::process::Abort;
 use std::test::Fail;
 use undo_journal::{Store, StoreErr, Txn};
 
-// Words 5, 2048, 2052, 3000 and 3007 after the change. Before it all are 0.
+// Words 5, 2048, 2052, 3000 and 3007 after the change. All are 0 before it.
 const AFTER: [u32; 5] = [3, 2, 9, 1, 8];
 
-/// Fourteen sets, of which two are of one word: 5, 2048 to 2050, 2052 and 3000 to 3002 fill a batch; 3003 to 3007 wait.
+/// Sets fourteen words, two of them equal.
+/// Eight of them fill a batch.
+/// Words 5, 2048 to 2050, 2052 and 3000 to 3002 are in the batch; 3003 to 3007 wait.
 fn set_words<B: Board>(txn: &mut Txn<'_, B>) -> Result<(), StoreErr>
     requires ready { IsOpen (memory_of txn.old) }
     requires room { 14 ≤ room (memory_of txn.old) }
@@ -27,9 +29,9 @@ fn set_words<B: Board>(txn: &mut Txn<'_, B>) -> Result<(), StoreErr>
     txn.set_run(3000, &[1, 2, 3, 4, 5, 6, 7, 8])
 }
 
-// What becomes of the sets, and how many device writes they then make: the pairs of a batch, the gate and its four
-// runs; the pairs of the other five words, the gate and their run; the commit. Taken back, it is the eight pairs of the
-// batch, and the gate.
+// The end of a change, and its device writes. A commit writes the pairs of the batch, the gate and four runs; the pairs
+// of the other five words, the gate and their run; and the gate again. A rollback writes the eight words of the batch
+// and the gate.
 const ENDS: &[(End, u32)] = &[(End::Commits, 6 + 3 + 1), (End::Abandons, 6 + 8 + 1)];
 
 fn change<B: Board>(store: &mut Store<B>, end: End) -> Result<(), StoreErr>
@@ -40,7 +42,7 @@ fn change<B: Board>(store: &mut Store<B>, end: End) -> Result<(), StoreErr>
     end.of(txn, set)
 }
 
-/// The five words.
+/// Returns the five words.
 fn found<B: Board>(store: &mut Store<B>) -> Result<[u32; 5], StoreErr>
     requires { IsReady store.old }
     ensures { OnOk result (IsReady store.new) }
@@ -84,7 +86,8 @@ fn cut_at(alloc: Global, end: End, cuts: Cuts) -> Result<(bool, [u32; 5]), Fail>
     Ok((is_cut, found(&mut store)?))
 }
 
-/// Words after a change that is cut: those after it exactly where the last write of a commit was made.
+/// Returns the expected words after a cut.
+/// They are the new ones if and only if the last write of a commit was made.
 fn words_after(end: End, writes: u32, write: u32, mask: u16) -> [u32; 5] {
     match end {
         End::Commits if write > writes || write == writes && mask & 1 == 1 => AFTER,

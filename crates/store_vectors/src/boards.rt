@@ -1,15 +1,15 @@
-//! Boards: an armed write is torn by its mask, an arm outlives power, secrets are compared.
+//! Boards: a mask tears the armed write, an armed cut survives a power-off, and secrets are compared.
 
 use nvm_board::{Armed, Board, CutBoard, DeviceErr, FaultBoard, RamBoard, Socket};
 use std::alloc::Global;
 use std::test::Fail;
 
-/// Whether these are words 2, 3 and 4 of page 3.
+/// Returns true for words 2, 3 and 4 of page 3.
 fn holds(board: &mut CutBoard, [second, third, fourth]: [u32; 3]) -> bool {
     board.read(50) == Ok(second) && board.read(51) == Ok(third) && board.read(52) == Ok(fourth)
 }
 
-// Masks, and words 4, 5, 6 torn by 7, 8, 9.
+// Masks, and words 4, 5, 6 torn by a write of 7, 8, 9.
 const MASKS: &[(u16, [u32; 3])] = &[
     (0x0000, [4, 5, 6]),
     (0x0007, [7, 8, 9]),
@@ -17,7 +17,8 @@ const MASKS: &[(u16, [u32; 3])] = &[
     (0xFFFA, [4, 8, 6]),
 ];
 
-/// Whether a board answers nothing without power, and with it has these words and is written as before.
+/// Returns true if a board needs power, and then works.
+/// It then has these words.
 fn comes_back(board: &mut CutBoard, want: [u32; 3]) -> bool {
     board.read(50) == Err(DeviceErr::PowerLost)
         && board.write(3, 2, &[1]) == Err(DeviceErr::PowerLost)
@@ -28,10 +29,10 @@ fn comes_back(board: &mut CutBoard, want: [u32; 3]) -> bool {
         && holds(board, [1, 2, 3])
 }
 
-/// A board whose third write was armed, and torn by this mask.
+/// Returns a board with its third write torn with this mask.
 fn torn_by(alloc: Global, mask: u16) -> Result<CutBoard, Fail> {
     let mut board = CutBoard::new(alloc)?;
-    // The second arm takes the place of the first.
+    // The second arm replaces the first.
     board.arm(1, 0x0000);
     board.arm(3, mask);
     board.write(3, 2, &[1, 2, 3])?;
@@ -51,7 +52,8 @@ fn tears_the_armed_write_by_its_mask(rt: HostRuntime) -> Result<(), Fail> {
     Ok(())
 }
 
-/// A board with its last word written, that is armed and without power.
+/// Returns a board without power, with a cut armed.
+/// Its last word is written.
 fn armed_without_power(alloc: Global) -> Result<CutBoard, Fail> {
     let mut board = CutBoard::new(alloc)?;
     board.write(1023, 15, &[0xFFFF_FFFF])?;
@@ -60,7 +62,8 @@ fn armed_without_power(alloc: Global) -> Result<CutBoard, Fail> {
     Ok(board)
 }
 
-/// Whether power comes back with the last word as it was, and the first of two words is written then.
+/// Returns true if a cut stays armed over a power-off.
+/// The last word is intact, and the first of two words is then written.
 fn keeps_its_arm(board: &mut CutBoard) -> bool {
     board.read(0) == Err(DeviceErr::PowerLost)
         && board.light().is_ok()
@@ -80,19 +83,20 @@ fn keeps_an_arm_and_its_words_over_power_off(rt: HostRuntime) -> Result<(), Fail
 
 const SECRET: [u8; 8] = [1, 2, 3, 4, 5, 6, 7, 8];
 
-/// Whether all bytes of a secret are compared, the first and the last.
+/// Returns true if all bytes of a secret are compared.
+/// The first and the last byte show it.
 fn compares_all(board: &mut RamBoard) -> bool {
     board.compare(15, &SECRET, &SECRET) == Ok(true)
         && board.compare(15, &SECRET, &[1, 2, 3, 4, 5, 6, 7, 9]) == Ok(false)
         && board.compare(0, &SECRET, &[0, 2, 3, 4, 5, 6, 7, 8]) == Ok(false)
 }
 
-/// Whether the words of a fresh board are 0, and those of a page that is written are not.
+/// Returns true if only a written page has words other than 0.
 fn is_written(board: &mut RamBoard) -> bool {
     board.read(0) == Ok(0) && board.write(7, 0, &[1; 16]) == Ok(()) && board.read(127) == Ok(1)
 }
 
-/// Whether a board compares with power alone.
+/// Returns true if a board compares only with power.
 fn needs_power(board: &mut RamBoard) -> bool {
     board.power_off();
     board.compare(15, &[0; 8], &[0; 8]) == Err(DeviceErr::PowerLost)

@@ -1,12 +1,12 @@
-//! How the changes that tests cut end, and which words a cut device write makes.
+//! The ends of changes that tests cut, and the masks of a cut device write.
 
 use nvm_board::Board;
 use undo_journal::{StoreErr, Txn};
 
-/// Of a device write that is cut: no word is new, all are, the first alone, and the second alone.
+/// Masks of a cut write: no word, all, first only, second only.
 pub const MASKS: &[u16] = &[0x0000, 0xFFFF, 0x0001, 0x0002];
 
-/// What becomes of the sets of a change.
+/// The end of a change.
 #[derive(Clone, Copy)]
 pub enum End {
     Commits,
@@ -14,7 +14,7 @@ pub enum End {
 }
 
 impl End {
-    /// Ends a change whose sets were answered so: only where they were made it commits.
+    /// Ends a change: commits only if its sets succeeded.
     pub fn of<B: Board>(self, txn: Txn<'_, B>, set: Result<(), StoreErr>) -> Result<(), StoreErr> {
         match (set, self) {
             (Ok(()), End::Commits) => txn.commit(),

@@ -1,4 +1,4 @@
-//! What tests of the store, and of all above it, begin with: boards whose words are given, and stores of them.
+//! Boards and stores with given words, for the tests of the store and of the layers above.
 ghost use Rattle.std.specs.Prelude.{IfOk};
 ghost use Rattle.undo_journal.specs.Memory.{IsReady};
 
@@ -6,7 +6,7 @@ use nvm_board::Board;
 use std::test::Fail;
 use undo_journal::Store;
 
-/// A board with words at these addresses, those of them that it has.
+/// Returns a board with these words, except those past its end.
 pub fn with_words<B: Board + Drop>(mut board: B, words: &[(u16, u32)]) -> Result<B, Fail> {
     for &(at, word) in words {
         let page = at / 16;
@@ -17,7 +17,7 @@ pub fn with_words<B: Board + Drop>(mut board: B, words: &[(u16, u32)]) -> Result
     Ok(board)
 }
 
-/// A store of a board that can be opened.
+/// Opens the store of a board.
 pub fn opened<B: Board + Drop>(board: B) -> Result<Store<B>, Fail>
     ensures { IfOk result IsReady }
 {

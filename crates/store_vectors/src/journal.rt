@@ -1,5 +1,5 @@
-//! The store: words before or after a cut at each write, of a change and of the openings after it; errors. Which
-//! journals are bad stands in `card_vectors`.
+//! The store: the words after a cut at each write, of a change and of the recovery after it; and errors.
+//! `card_vectors` tests which journals are bad.
 ghost use Rattle.std.specs.Prelude.{◌≤◌, OnOk};
 ghost use Rattle.undo_journal.specs.Memory.{room, IsOpen, IsReady};
 ghost use Rattle.undo_journal.specs.Lent.{memory_of};
@@ -12,13 +12,12 @@ use std::process::Abort;
 use std::test::Fail;
 use undo_journal::{OpenFault, Store, StoreErr, Txn};
 
-// Words 5, 2048 and 2049, one before the journal and two after it: before the change, and after it.
+// Words 5, 2048 and 2049, one before the journal and two after it: before and after the change.
 const BEFORE: [u32; 3] = [50, 60, 61];
 
 const AFTER: [u32; 3] = [3, 2, 4];
 
-// The words as they are before. The first pair of the journal, which doesn't count, is an old one:
-// it names no word of the data.
+// The words before the change. The first pair of the journal is old and doesn't count: it names no data word.
 const WORDS: &[(u16, u32)] = &[
     (5, 50),
     (1184, 0xFFFF_FFFF),
@@ -27,7 +26,7 @@ const WORDS: &[(u16, u32)] = &[
     (2049, 61),
 ];
 
-/// The three words.
+/// Returns the three words.
 fn found<B: Board>(store: &mut Store<B>) -> Result<[u32; 3], StoreErr>
     requires { IsReady store.old }
     ensures { OnOk result (IsReady store.new) }
@@ -39,7 +38,7 @@ fn found<B: Board>(store: &mut Store<B>) -> Result<[u32; 3], StoreErr>
     ])
 }
 
-/// Four sets, of which two are of one word, so that three wait. A read before them makes no device write.
+/// Sets four words, two of them equal, so that three wait. The read before makes no write.
 fn set_words<B: Board>(txn: &mut Txn<'_, B>) -> Result<(), StoreErr>
     requires ready { IsOpen (memory_of txn.old) }
     requires room { 4 ≤ room (memory_of txn.old) }
@@ -58,21 +57,21 @@ fn change<B: Board>(store: &mut Store<B>, end: End) -> Result<(), StoreErr>
     end.of(txn, set)
 }
 
-// A cut at a device write, counted from 1, with those words new whose bit of the mask is set.
+// A cut at a device write, counted from 1. The words whose bit of the mask is set are new.
 #[derive(Clone, Copy)]
 struct Cut {
     write: u32,
     mask: u16,
 }
 
-/// The words that a board is found with when it has power again.
+/// Returns the words of a board after recovery.
 fn found_again(mut board: CutBoard) -> Result<[u32; 3], Fail> {
     board.light()?;
     let mut store = opened(board)?;
     Ok(found(&mut store)?)
 }
 
-/// A board on which a change is cut.
+/// Returns a board after a cut change.
 fn changed(alloc: Global, end: End, cut: Cut) -> Result<CutBoard, Fail>
     requires { 1 ≤ cut.write }
 {
@@ -82,7 +81,9 @@ fn changed(alloc: Global, end: End, cut: Cut) -> Result<CutBoard, Fail>
     Ok(store.into_board())
 }
 
-/// The words after a change that is cut, and whose next opening is cut at a write, or not where it makes fewer.
+/// Returns the words after a cut change and a cut recovery.
+/// The recovery is cut at write `next`.
+/// The recovery isn't cut if it makes fewer writes.
 fn words_after(alloc: Global, end: End, cut: Cut, next: u32) -> Result<[u32; 3], Fail>
     requires change { 1 ≤ cut.write }
     requires opening { 1 ≤ next }
@@ -96,8 +97,8 @@ fn words_after(alloc: Global, end: End, cut: Cut, next: u32) -> Result<[u32; 3],
     }
 }
 
-/// The pairs, the gate, word 5, words 2048 and 2049, and the gate again: the words are those after the change exactly
-/// where this fifth write was made.
+/// Returns true if a cut leaves the words after the change.
+/// The writes are the pairs, the gate, word 5, words 2048 and 2049, and the gate. The fifth decides.
 fn is_after(end: End, cut: Cut) -> bool {
     match end {
         End::Commits => cut.write > 5 || cut.write == 5 && cut.mask & 1 == 1,
@@ -105,11 +106,10 @@ fn is_after(end: End, cut: Cut) -> bool {
     }
 }
 
-// What becomes of the sets, and how many device writes they then make: a commit writes them, in five; nothing is to be
-// taken back.
+// The end of a change, and its device writes: a commit makes five; without a write nothing has to be rolled back.
 const ENDS: &[(End, u32)] = &[(End::Commits, 5), (End::Abandons, 0)];
 
-/// A change is cut, and the next opening isn't or is.
+/// Checks a cut change, with a recovery that is cut or not.
 fn check_cut<R: Abort + AllocGlobal>(rt: &R, end: End, cut: Cut) -> Result<(), Fail>
     requires { 1 ≤ cut.write }
 {
@@ -133,7 +133,7 @@ fn finds_before_or_after_each_cut(rt: HostRuntime) -> Result<(), Fail> {
     Ok(())
 }
 
-// Two pairs that name one word: the first of them counts.
+// Two pairs that name one word. The first of them counts.
 const TWICE: &[(u16, u32)] = &[
     (1168, 2),
     (1184, 2049),
@@ -150,7 +150,7 @@ fn takes_back_the_first_pair_of_a_word(rt: HostRuntime) -> Result<(), Fail> {
     Ok(())
 }
 
-/// Words that are written alone and in a run, of which one that is cut leaves some.
+/// Writes single words and a run without undo. A cut leaves some of them written.
 fn write_without_undo<B: Board>(store: &mut Store<B>) -> Result<(), StoreErr>
     requires { IsReady store.old }
 {
@@ -159,7 +159,7 @@ fn write_without_undo<B: Board>(store: &mut Store<B>) -> Result<(), StoreErr>
     store.write_plain(128, 0, &[1, 2])
 }
 
-/// Whether a store without power answers so, whatever is asked.
+/// Returns true if a store answers every call with power loss.
 fn stays_dark<B: Board>(store: &mut Store<B>) -> bool
     requires { IsReady store.old }
 {
@@ -168,7 +168,7 @@ fn stays_dark<B: Board>(store: &mut Store<B>) -> bool
     let committed = txn.commit();
     let compared = store.compare(0, &[1; 8], &[1; 8]);
     let answers = [committed, store.begin().abandon(), store.begin().commit()];
-    // A set that waits asks nothing of the board.
+    // A set that waits makes no call of the board.
     set == Ok(())
         && answers == [Err(StoreErr::PowerLost); 3]
         && compared == Err(StoreErr::PowerLost)
@@ -194,14 +194,14 @@ fn answers_the_same_error_until_it_is_opened_again(rt: HostRuntime) -> Result<()
     Ok(())
 }
 
-/// The three words of a board as they stand, whatever its journal holds.
+/// Returns the three words of a board, without recovery.
 fn standing(board: &mut CutBoard) -> Result<[u32; 3], Fail> {
     board.light()?;
     Ok([board.read(5)?, board.read(2048)?, board.read(2049)?])
 }
 
-// The words where the change is cut at device write 1, 2 and so on, of which no word is new: of the pairs, the gate,
-// word 5 as it was set last, words 2048 and 2049, and the gate.
+// The words if the change is cut at device write 1, 2 and so on, with no word new. The writes are those of the pairs,
+// the gate, word 5 as it was set last, words 2048 and 2049, and the gate.
 const SET: &[[u32; 3]] = &[
     [50, 60, 61],
     [50, 60, 61],
@@ -220,8 +220,8 @@ fn words_come_in_the_order_of_their_addresses(rt: HostRuntime) -> Result<(), Fai
     Ok(())
 }
 
-// The words where the opening after a commit whose gate stayed old is cut at device write 1, 2 and so on: the earlier
-// words come back from the last pair to the first. The fourth write is the gate.
+// The words if the recovery after an uncommitted change is cut at device write 1, 2 and so on. It restores the words
+// from the last pair to the first. The fourth write is the gate.
 const ROLLED_BACK: &[[u32; 3]] = &[[3, 2, 4], [3, 2, 61], [3, 60, 61], [50, 60, 61]];
 
 #[test]
@@ -239,7 +239,8 @@ fn pairs_come_back_from_the_last(rt: HostRuntime) -> Result<(), Fail> {
     Ok(())
 }
 
-/// How many pages the store of a board has whose journal has a pair of a word on page 1,024, if it opens.
+/// Returns the pages of a store, if it opens.
+/// Its journal names a word of page 1,024.
 fn opens_with_a_pair_past_1024_pages(alloc: Global, pages: u16) -> Result<Option<u16>, Fail> {
     if !(1024..=4096).contains(&pages) {
         return Err(Fail::from("no board"));

@@ -1,5 +1,5 @@
-//! Tests of the board and the store, by words that were worked out by hand: what a cut at each write leaves. Boards and
-//! stores to begin with are public, for the tests of the layers above.
+//! Tests of the board and the store, with words worked out by hand, after a cut at each write.
+//! The fixtures are public, for the tests of the layers above.
 #![tactic(auto)]
 
 #[cfg(test)]
