@@ -1,9 +1,10 @@
-//! The bytes of short commands (ISO/IEC 7816-4, clause 5) that no script can say,
-//! or whose values no answer shows. All else stands in rows.
+//! The bytes of short commands (ISO/IEC 7816-4, clause 5) that no script can send, or whose values no answer shows.
+//! The rows test all others.
 
 use apdu_core::{BinaryPlace, Command, Returned, Selector, Sw, Target};
 
-/// Whether this is SELECT of 2FE2 without data in return, by an Le of 5.
+/// Returns true if this is SELECT of 2FE2 with Le 5.
+/// It returns no data.
 fn has_le(bytes: &[u8]) -> bool {
     matches!(
         Command::parse(bytes),
@@ -15,7 +16,8 @@ fn has_le(bytes: &[u8]) -> bool {
     )
 }
 
-/// What is read of an UPDATE BINARY of 255 bytes at the last offset: whether it is that, or else of a wrong length.
+/// Parses an UPDATE BINARY of 255 bytes at the last offset.
+/// Returns true if it is that command, and false if its length is wrong.
 fn reads_longest(bytes: &[u8]) -> Option<bool> {
     match Command::parse(bytes) {
         Ok(
@@ -32,8 +34,9 @@ fn reads_longest(bytes: &[u8]) -> Option<bool> {
     }
 }
 
-/// Whether it is read where all its bytes come, and is of a wrong length where none, no whole header, or one too few
-/// does, with an Le, and with two bytes more than Lc says.
+/// Returns true if a command is parsed in its full length only.
+/// It has a wrong length without a byte, without a whole header, with a byte less, or with Le. The same holds for two
+/// bytes more than Lc says.
 fn is_read_whole(bytes: &[u8; 262]) -> bool {
     reads_longest(&bytes[..260]) == Some(true)
         && reads_longest(&[]) == Some(false)

@@ -1,4 +1,4 @@
-//! Tests of the forms of the standard, by bytes from it: access rules, commands, texts of file control parameters.
+//! Tests with bytes from the standard: access rules, commands, and texts of file control parameters.
 #![tactic(auto)]
 
 #[cfg(test)]

@@ -1,5 +1,4 @@
-//! Access rules in the compact format (ISO/IEC 7816-4):
-//! what a rule allows, in states of a file that no command meets too.
+//! Access rules in the compact format (ISO/IEC 7816-4), also in states of a file that no command meets.
 
 use card_rules::AccessBit::{Activate, CreateDf, DeleteChild, DeleteSelf, Terminate};
 use card_rules::LifeCycle::{Activated, Creation, Deactivated, Initialisation};
@@ -16,8 +15,8 @@ fn set_of(pins: &[u8]) -> PinSet {
     set
 }
 
-// What the rule of the factory card's master file allows, with these PINs verified and these disabled: bit 6 asks for
-// PIN 8, bits 3 to 1 are always allowed, all else never.
+// What the rule of the factory card's master file allows, for these verified and disabled PINs. Bit 6 requires PIN 8,
+// bits 3 to 1 are always allowed, all others never.
 const ASKED: &[(AccessBit, LifeCycle, &[u8], &[u8], bool)] = &[
     (Terminate, Activated, &[], &[], false),
     (
@@ -50,7 +49,7 @@ fn asks_a_rule(rt: HostRuntime) -> Result<(), Fail> {
     Ok(())
 }
 
-/// Whether this is the mode of the bits 7 and 1.
+/// Returns true for the mode of bits 7 and 1.
 fn deletes_and_reads(mode: AccessMode) -> bool {
     mode == AccessMode::DELETE_SELF | AccessMode::READ
         && mode.has(AccessBit::Read)

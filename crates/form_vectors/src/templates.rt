@@ -1,11 +1,10 @@
-//! Texts of file control parameters (ISO/IEC 7816-4, tag 62), as CREATE FILE sends them.
-//! What SELECT answers stands in rows.
+//! Texts of file control parameters (ISO/IEC 7816-4, tag 62), as in CREATE FILE. The rows test the answers of SELECT.
 
 use card_model::FcpFault;
 use fcp_template::parse;
 use std::test::Fail;
 
-// Texts of each kind of file, and texts that CREATE FILE refuses, each with the least of its faults.
+// Texts of each kind of file, and texts that CREATE FILE refuses, each with its first fault.
 const TEXTS: &[(&str, Option<FcpFault>)] = &[
     ("62178202412183026F018801088002000A8A01058C03030000", None),
     ("62178202412183026F02880118800201008A01058C03030000", None),
@@ -25,7 +24,7 @@ const TEXTS: &[(&str, Option<FcpFault>)] = &[
     ("620000", SHAPE),
     ("62178202412183026F018801088002000A8A01058C030300", SHAPE),
     ("6200", Some(FcpFault::Missing)),
-    // The state comes twice; also an object without effect.
+    // The state occurs twice; so does an object without effect.
     (
         "62198202412183026F0788008002000A8A01058A01058C03030000",
         TWICE,
