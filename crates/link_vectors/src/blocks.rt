@@ -1,15 +1,15 @@
-//! Blocks of every length and kind to both ends of the block protocol T=1 (ISO/IEC 7816-3, third edition, clause 11).
-//! What an end answers is told by the table of its reactions, which stands here once more, as plain code.
+//! Blocks of every length and kind to both ends of T=1 (ISO/IEC 7816-3, third edition, clause 11). The expected
+//! reactions are those of the tables, written here again as plain code.
 
 use std::process::Abort;
 use t1_link::{Action, AnswerBytes, BlockBytes, CardEnd, Failure, Next, ReaderEnd};
 
-/// What bytes are as a block. Of several faults the first counts.
+/// What bytes mean as a block. The first of several faults counts.
 #[derive(Clone, Copy)]
 enum Heard {
     WrongLength,
     WrongCheck,
-    /// Another node address, a control byte of no kind, or a length or value that its kind doesn't have.
+    /// Another node address, an unknown control byte, or a wrong field.
     Unknown,
     Information { number: u8, more: bool },
     ReceiveReady { number: u8 },
@@ -19,7 +19,7 @@ enum Heard {
     IfsResponse,
 }
 
-/// The exclusive-or of all bytes.
+/// Returns the exclusive-or of all bytes.
 fn exclusive_or(bytes: &[u8]) -> u8 {
     let mut check = 0;
     for byte in bytes {
@@ -28,7 +28,7 @@ fn exclusive_or(bytes: &[u8]) -> u8 {
     check
 }
 
-/// What these bytes are.
+/// Returns what these bytes mean.
 fn block_heard(block: &[u8]) -> Heard {
     let [node, control, size, rest @ ..] = block else {
         return Heard::WrongLength;
@@ -44,7 +44,7 @@ fn block_heard(block: &[u8]) -> Heard {
     }
 }
 
-/// The kind of a block with this control byte and this many bytes, which the rest begins with.
+/// Returns the kind of a block from control byte and field.
 fn kind_of(control: u8, size: u8, rest: &[u8]) -> Heard {
     match (control, size, rest) {
         (0x00 | 0x20 | 0x40 | 0x60, _, _) => Heard::Information {
@@ -61,7 +61,7 @@ fn kind_of(control: u8, size: u8, rest: &[u8]) -> Heard {
     }
 }
 
-/// An I-block that an end sent.
+/// An I-block that an end has sent.
 #[derive(Clone, Copy)]
 struct Sent {
     number: u8,
@@ -69,7 +69,7 @@ struct Sent {
     field: &'static [u8],
 }
 
-/// A block that an end is to send: its control byte, and the bytes that it carries.
+/// A block to send: its control byte, and its information field.
 #[derive(Clone, Copy)]
 struct Wanted {
     control: u8,
@@ -77,7 +77,7 @@ struct Wanted {
 }
 
 impl Sent {
-    /// The block, once more.
+    /// Returns the block again.
     fn block(self) -> Wanted {
         Wanted {
             control: if self.number == 0 { 0x00 } else { 0x40 }
@@ -87,19 +87,19 @@ impl Sent {
     }
 }
 
-/// The numbers of I-blocks are 0 and 1 in turn.
+/// Returns the other number: I-blocks have the numbers 0 and 1 alternately.
 fn other(number: u8) -> u8 {
     if number == 0 { 1 } else { 0 }
 }
 
-// What R-blocks tell of the block that they answer: no error, a wrong exclusive-or, any other error.
+// The error in an R-block: none, a wrong exclusive-or, any other.
 const NO_ERROR: u8 = 0;
 
 const REDUNDANCY: u8 = 1;
 
 const OTHER_ERROR: u8 = 2;
 
-/// An R-block that expects this number.
+/// Returns an R-block that expects this number.
 fn receive_ready(number: u8, error: u8) -> Wanted {
     Wanted {
         control: if number == 0 { 0x80 } else { 0x90 } | error,
@@ -112,19 +112,19 @@ const ANSWER: &[u8] = b"ABCDEFGHIJKLMNOPQRSTUVWXYZabcdefghijklmnopqrstuvwxyz0123
 /// The state of the card's end.
 #[derive(Clone, Copy)]
 struct CardTable {
-    /// The number of the next I-block that it sends, and of the one that it expects.
+    /// The numbers of the next I-block and of the expected one.
     next: u8,
     expected: u8,
-    /// The size of information field that the reader takes.
+    /// The information field size that the reader takes.
     size: u8,
     last: Option<Sent>,
-    /// What of the answer isn't sent.
+    /// The rest of the answer to send.
     rest: &'static [u8],
-    /// How many bytes of a command came.
+    /// The number of stored bytes of a command.
     kept: usize,
 }
 
-/// What the card's end does with a block.
+/// The reaction of the card's end to a block.
 #[derive(Clone, Copy)]
 enum CardDoes {
     Sends(Wanted),
@@ -142,7 +142,7 @@ const CARD_FRESH: CardTable = CardTable {
 };
 
 impl CardTable {
-    /// A block comes, with so many bytes.
+    /// Takes a block with `field` bytes of information.
     fn takes(&mut self, heard: Heard, field: usize) -> CardDoes {
         match heard {
             Heard::WrongLength | Heard::Unknown => self.asks(OTHER_ERROR),
@@ -164,12 +164,12 @@ impl CardTable {
         }
     }
 
-    /// An R-block with the number that is expected.
+    /// Replies with an R-block that has the expected number.
     fn asks(&self, error: u8) -> CardDoes {
         CardDoes::Sends(receive_ready(self.expected, error))
     }
 
-    /// An R-block: the last I-block is sent again, or the next one, or nothing is left to send.
+    /// Takes an R-block: repeats, continues or acknowledges.
     fn takes_receive_ready(&mut self, number: u8) -> CardDoes {
         match self.last {
             Some(last) if last.number == number => CardDoes::Sends(last.block()),
@@ -178,7 +178,8 @@ impl CardTable {
         }
     }
 
-    /// An I-block: a part of a command, or its end, unless an answer is on its way or the number is another.
+    /// Takes an I-block: a part of a command, or its end.
+    /// It is refused while an answer is under way, or if it has another number.
     fn takes_information(&mut self, number: u8, more: bool, field: usize) -> CardDoes {
         if self.last.is_some_and(|last| last.more) || number != self.expected {
             return self.asks(OTHER_ERROR);
@@ -192,14 +193,14 @@ impl CardTable {
         }
     }
 
-    /// The command was run: the first I-block of its answer.
+    /// Sends the first I-block of the answer.
     fn answers(&mut self) -> Wanted {
         self.kept = 0;
         self.rest = ANSWER;
         self.sends_next()
     }
 
-    /// The next I-block of the answer, of as many bytes as the reader takes.
+    /// Sends the next I-block of the answer, of the reader's size.
     fn sends_next(&mut self) -> Wanted {
         let (field, rest) = self
             .rest
@@ -216,7 +217,7 @@ impl CardTable {
     }
 }
 
-/// Whether bytes are this block.
+/// Returns true if bytes are this block.
 fn is_block(bytes: &[u8], wanted: Wanted) -> bool {
     match bytes {
         [0x00, control, size, rest @ ..] => {
@@ -239,7 +240,7 @@ struct Card {
 }
 
 impl Card {
-    /// The end after power-on.
+    /// Returns the end after power-on.
     fn new() -> Card {
         Card {
             end: CardEnd::new(),
@@ -248,7 +249,7 @@ impl Card {
         }
     }
 
-    /// Whether a block is answered as the table says.
+    /// Returns true if the end reacts as the table says.
     fn is_right(&mut self, block: &[u8]) -> bool {
         if self.end.waiting() {
             return false;
@@ -276,7 +277,7 @@ impl Card {
             && (self.table.kept > 262 || command.ends_with(field))
     }
 
-    /// Whether the first block of the answer is right.
+    /// Returns true if the first block of the answer is right.
     fn is_answered(&mut self) -> bool {
         let mut answer = AnswerBytes::new();
         if !self.end.waiting() || answer.try_extend_from_slice(ANSWER).is_err() {
@@ -293,34 +294,34 @@ const COMMAND: &[u8] = b"\
     abcdefghijklmnopqrstuvwxyz0123456789ACDEFGHIJKLMNOPQRSTUVWXYZabcdefghijklmnopqrstuvwxyz\
     0123456789ABDEFGHIJKLMNOPQRSTUVWXYZabcdefghijklmnopqrstuvwxyz0123456789ABCEFGHIJKLMNOPQ";
 
-/// The state of the reader's end that has a command in hand.
+/// The state of the reader's end with a command in progress.
 #[derive(Clone, Copy)]
 struct ReaderTable {
-    /// The number of the next I-block that it sends, and of the one that it expects.
+    /// The numbers of the next I-block and of the expected one.
     next: u8,
     expected: u8,
     tries: u8,
-    /// How often RESYNCH was requested.
+    /// The number of RESYNCH requests.
     requests: u8,
     last: Sent,
-    /// What of the command isn't sent.
+    /// The rest of the command to send.
     rest: &'static [u8],
-    /// How many bytes of the answer came.
+    /// The number of received bytes of the answer.
     came: usize,
 }
 
-/// What the reader's end says to a block.
+/// The reaction of the reader's end to a block.
 #[derive(Clone, Copy)]
 enum ReaderSays {
     Sends(Wanted),
-    /// The command was answered, with so many bytes.
+    /// The command was answered with this number of bytes.
     Done(usize),
     Unknown,
     Failed(Failure),
 }
 
 impl ReaderTable {
-    /// After power-on and this command.
+    /// Returns the state after power-on and this command.
     fn new(command: &'static [u8]) -> ReaderTable {
         let mut table = ReaderTable {
             next: 0,
@@ -339,7 +340,7 @@ impl ReaderTable {
         table
     }
 
-    /// The next I-block of the command, of 254 bytes.
+    /// Sends the next I-block of the command, of 254 bytes.
     fn sends_next(&mut self) -> ReaderSays {
         let (field, rest) = self.rest.split_at(self.rest.len().min(254));
         self.last = Sent {
@@ -353,7 +354,7 @@ impl ReaderTable {
         ReaderSays::Sends(self.last.block())
     }
 
-    /// A block comes, with so many bytes.
+    /// Takes a block with `field` bytes of information.
     fn gets(&mut self, heard: Heard, field: usize) -> ReaderSays {
         if self.requests > 0 {
             return self.gets_after_request(heard);
@@ -366,7 +367,8 @@ impl ReaderTable {
         }
     }
 
-    /// What comes after a request for RESYNCH: it is answered, or requested again, three times in all.
+    /// Takes a block after a RESYNCH request.
+    /// The request is repeated up to three times.
     fn gets_after_request(&mut self, heard: Heard) -> ReaderSays {
         match heard {
             Heard::ResynchResponse => ReaderSays::Unknown,
@@ -375,7 +377,7 @@ impl ReaderTable {
         }
     }
 
-    /// A request for RESYNCH.
+    /// Requests RESYNCH.
     fn requests_resynch(&mut self) -> ReaderSays {
         self.requests = self.requests.saturating_add(1);
         ReaderSays::Sends(Wanted {
@@ -384,7 +386,7 @@ impl ReaderTable {
         })
     }
 
-    /// A block is sent as a try, of which there are three.
+    /// Sends a block as one of three tries.
     fn tries(&mut self, wanted: Wanted) -> ReaderSays {
         if self.tries >= 3 {
             return self.requests_resynch();
@@ -393,12 +395,12 @@ impl ReaderTable {
         ReaderSays::Sends(wanted)
     }
 
-    /// An R-block with the number that is expected, as a try.
+    /// Sends an R-block with the expected number, as a try.
     fn asks(&mut self, error: u8) -> ReaderSays {
         self.tries(receive_ready(self.expected, error))
     }
 
-    /// An R-block: the last I-block is sent again, or the next one, or the answer is asked for.
+    /// Takes an R-block: repeats, continues or asks for the answer.
     fn gets_receive_ready(&mut self, number: u8) -> ReaderSays {
         if number == self.last.number {
             self.tries(self.last.block())
@@ -409,7 +411,8 @@ impl ReaderTable {
         }
     }
 
-    /// An I-block: a part of the answer, or its end, unless the command isn't sent whole or the number is another.
+    /// Takes an I-block: a part of the answer, or its end.
+    /// It is refused before the whole command is sent, or if it has another number.
     fn gets_information(&mut self, number: u8, more: bool, field: usize) -> ReaderSays {
         if self.last.more || number != self.expected {
             return self.asks(OTHER_ERROR);
@@ -427,7 +430,7 @@ impl ReaderTable {
     }
 }
 
-/// The bytes that a block carries, where it is one.
+/// Returns the information field of a block, if it is one.
 fn field_of(block: &[u8]) -> &[u8] {
     block.get(3..block.len().saturating_sub(1)).unwrap_or(&[])
 }
@@ -441,7 +444,8 @@ struct Reader {
 }
 
 impl Reader {
-    /// The end after power-on and this command, of 1 to 261 bytes.
+    /// Returns the end after power-on and this command.
+    /// The command has 1 to 261 bytes.
     fn new(command: &'static [u8]) -> Option<Reader> {
         if command.is_empty() || command.len() > 261 {
             return None;
@@ -456,7 +460,7 @@ impl Reader {
         })
     }
 
-    /// Whether a block has the end say what the table says.
+    /// Returns true if the end reacts as the table says.
     fn is_right(&mut self, block: &[u8]) -> bool {
         if !self.end.busy() {
             return false;
@@ -479,7 +483,7 @@ impl Reader {
     }
 }
 
-// READ BINARY of a byte of 2FE2 in an I-block, and R-blocks that expect number 0 and 1.
+// READ BINARY of a byte of 2FE2 in an I-block, and R-blocks that expect numbers 0 and 1.
 const READ: &[u8] = b"\x00\x00\x05\x00\xB0\x82\x00\x01\x36";
 
 const READ_AGAIN: &[u8] = b"\x00\x40\x05\x00\xB0\x82\x00\x01\x76";
@@ -491,7 +495,7 @@ const READY_1: &[u8] = b"\x00\x90\x00\x90";
 // Too few bytes for a block.
 const NO_BLOCK: &[u8] = b"";
 
-// The reader takes 254 bytes.
+// The reader takes 254 bytes per information field.
 const LARGEST_SIZE: &[u8] = b"\x00\xC1\x01\xFE\x3E";
 
 // An I-block of 254 bytes, with number 0, that more blocks follow, and what it carries.
@@ -508,28 +512,28 @@ const LONGEST_FIELD: &[u8] = b"\
     uvwxyz0123456789ABDEFGHIJKLMNOPQRSTUVWXYZabcdefghijklmnopqrstuvwxyz0123456789ABCEFGH\
     IJ";
 
-// Blocks that come after power-on, in each of the states of the card's end.
+// Blocks after power-on, for each of the states of the card's end.
 const CARD_STATES: &[&[&[u8]]] = &[
     &[],
-    // The first of three blocks of an answer was sent; all were; another was sent in one block.
+    // The first of three blocks of an answer was sent; all were; an answer of one block was sent.
     &[READ],
     &[READ, READY_1, READY_0],
     &[LARGEST_SIZE, READ],
-    // A command was begun. Two were answered.
+    // A command has begun. Two commands were answered.
     &[LONGEST_BEGIN],
     &[LARGEST_SIZE, READ, READ_AGAIN],
 ];
 
-// How many bytes a command has, and blocks that come after it, in each of the states of the reader's end.
+// The length of a command, and blocks after it, for each of the states of the reader's end.
 const READER_STATES: &[(usize, &[&[u8]])] = &[
     (5, &[]),
     // The first block of a long command was sent, and the second.
     (261, &[]),
     (261, &[READY_1]),
-    // An answer was begun.
+    // An answer has begun.
     (5, &[LONGEST_BEGIN]),
     (261, &[READY_1, LONGEST_BEGIN]),
-    // Three tries were needed, and one and three requests for RESYNCH.
+    // After three tries; after one RESYNCH request; after three requests.
     (5, &[NO_BLOCK, NO_BLOCK, NO_BLOCK]),
     (5, &[NO_BLOCK, NO_BLOCK, NO_BLOCK, NO_BLOCK]),
     (
@@ -538,7 +542,7 @@ const READER_STATES: &[(usize, &[&[u8]])] = &[
     ),
 ];
 
-/// The card's end after power-on and these blocks, if it took each as the table says.
+/// Returns the card's end after these blocks, if each reaction was right.
 fn card_after(before: &[&[u8]]) -> Option<Card> {
     let mut card = Card::new();
     for block in before {
@@ -549,7 +553,7 @@ fn card_after(before: &[&[u8]]) -> Option<Card> {
     Some(card)
 }
 
-/// The reader's end after power-on, a command of this size and these blocks, if it took each as the table says.
+/// Returns the reader's end after these blocks, if right throughout.
 fn reader_after(size: usize, before: &[&[u8]]) -> Option<Reader> {
     let mut reader = Reader::new(COMMAND.get(..size)?)?;
     for block in before {
@@ -560,20 +564,23 @@ fn reader_after(size: usize, before: &[&[u8]]) -> Option<Reader> {
     Some(reader)
 }
 
-/// Whether both ends take a block as their tables say, after power-on and a short command.
+/// Returns true if both ends react rightly after power-on.
+/// The reader's end has a short command in progress.
 fn is_right_at_first(block: &[u8]) -> bool {
     Card::new().is_right(block)
         && reader_after(5, &[]).is_some_and(|mut reader| reader.is_right(block))
 }
 
-/// Whether the card's end does after other blocks, and then takes R-blocks so, which show its state.
+/// Returns true if the card's end reacts rightly.
+/// The R-blocks show its state.
 fn is_right_card(before: &[&[u8]], block: &[u8]) -> bool {
     card_after(before).is_some_and(|mut card| {
         card.is_right(block) && card.is_right(READY_0) && card.is_right(READY_1)
     })
 }
 
-/// Whether the reader's end does, unless it has no command in hand any more.
+/// Returns true if the reader's end reacts rightly.
+/// It may also have no command in progress.
 fn is_right_reader(size: usize, before: &[&[u8]], block: &[u8]) -> bool {
     reader_after(size, before).is_some_and(|mut reader| {
         reader.is_right(block)
@@ -582,21 +589,21 @@ fn is_right_reader(size: usize, before: &[&[u8]], block: &[u8]) -> bool {
     })
 }
 
-/// Whether the card's end takes a block as its table says in each state.
+/// Returns true if the card's end reacts rightly in each state.
 fn is_right_to_card(block: &[u8]) -> bool {
     CARD_STATES
         .iter()
         .all(|before| is_right_card(before, block))
 }
 
-/// Whether the reader's end does.
+/// Returns true if the reader's end reacts rightly in each state.
 fn is_right_to_reader(block: &[u8]) -> bool {
     READER_STATES
         .iter()
         .all(|(size, before)| is_right_reader(*size, before, block))
 }
 
-/// Which ends take a block, and in which of their states.
+/// The ends that take a block, and in which states.
 #[derive(Clone, Copy)]
 enum Taken {
     ByBothAtFirst,
@@ -605,7 +612,7 @@ enum Taken {
 }
 
 impl Taken {
-    /// Whether they take it as their tables say.
+    /// Returns true if they react as their tables say.
     fn is_right(self, block: &[u8]) -> bool {
         match self {
             Taken::ByBothAtFirst => is_right_at_first(block),
@@ -615,7 +622,7 @@ impl Taken {
     }
 }
 
-/// A block, and the same with another check byte, is taken rightly.
+/// Checks a block, and the same with another check byte.
 fn check_block<R: Abort>(rt: &R, block: &mut [u8], taken: Taken) {
     let check = exclusive_or(block);
     for spoils in [check, 0x01] {
@@ -626,7 +633,7 @@ fn check_block<R: Abort>(rt: &R, block: &mut [u8], taken: Taken) {
     }
 }
 
-/// A block with this control byte and this length byte.
+/// Returns a block with this control byte and this length byte.
 fn bytes_of(control: u8, size: u8) -> [u8; 300] {
     let mut bytes = [0x5A; 300];
     bytes[0] = 0x00;
@@ -635,7 +642,8 @@ fn bytes_of(control: u8, size: u8) -> [u8; 300] {
     bytes
 }
 
-/// Blocks of so many bytes, with each control byte and with these length bytes.
+/// Checks blocks of this length, with each control byte.
+/// `sizes` are their length bytes.
 fn check_length<R: Abort>(rt: &R, length: usize, sizes: &[u8], taken: Taken) {
     for control in 0x00..=0xFF {
         for &size in sizes {
@@ -645,7 +653,7 @@ fn check_length<R: Abort>(rt: &R, length: usize, sizes: &[u8], taken: Taken) {
     }
 }
 
-/// Each control byte, with lengths that are right and wrong.
+/// Each control byte occurs, with right and wrong lengths.
 #[test]
 fn blocks_of_all_lengths_are_taken(rt: HostRuntime) {
     for length in 0..=300 {
@@ -653,7 +661,7 @@ fn blocks_of_all_lengths_are_taken(rt: HostRuntime) {
     }
 }
 
-// Blocks that carry no byte, one, two and the most, and their length bytes.
+// Blocks with no byte, one, two and the most, and their length bytes.
 const LENGTHS: &[(usize, u8)] = &[(4, 0x00), (5, 0x01), (6, 0x02), (258, 0xFE)];
 
 #[test]
@@ -665,7 +673,7 @@ fn blocks_are_taken_in_each_state(rt: HostRuntime) {
     }
 }
 
-/// The size that an S-block tells is 01 to FE.
+/// The valid sizes in an S-block are 01 to FE.
 #[test]
 fn sizes_of_all_values_are_taken(rt: HostRuntime) {
     for size in 0x00..=0xFF {

@@ -1,9 +1,9 @@
-//! Blocks that tests send.
+//! Blocks for tests.
 
 use std::alloc::Global;
 use std::test::Fail;
 
-/// A block that carries these bytes.
+/// Returns a block with these bytes as information field.
 pub fn framed(alloc: Global, control: u8, digits: &str) -> Result<Vec<u8>, Fail> {
     let bytes = hex::decode(alloc, digits)?;
     let mut block = Vec::from_array(alloc, [0x00, control])?;

@@ -1,5 +1,5 @@
-//! Tests of the block protocol T=1: blocks of every length and kind to both ends. Blocks to send are public, for the
-//! tests of the layers above.
+//! Tests of the block protocol T=1, with blocks of every length and kind to both ends.
+//! The fixtures are public, for the tests of the layers above.
 #![tactic(auto)]
 
 #[cfg(test)]

@@ -1,10 +1,10 @@
-//! The reader's end of the block protocol T=1 (ISO/IEC 7816-3, third edition, clause 11). What the card's end answers
-//! stands in rows, and what both say to every kind of block in `blocks`.
+//! The reader's end of T=1 (ISO/IEC 7816-3, third edition, clause 11). The rows test the card's end, and `blocks` tests
+//! both ends with every kind of block.
 
 use std::process::Abort;
 use t1_link::{BlockBytes, Failure, Next, ReaderEnd};
 
-/// What the reader's end is told: to send a command, that a block came, or that none came in time.
+/// An event at the reader's end.
 #[derive(Clone, Copy, Debug)]
 enum Event {
     Send(&'static [u8]),
@@ -12,7 +12,7 @@ enum Event {
     TimedOut,
 }
 
-/// What it says: a block to be sent, an answer, or that there is none.
+/// The reaction of the reader's end: block, answer, or none.
 #[derive(Clone, Copy)]
 enum Says {
     Block(&'static [u8]),
@@ -39,7 +39,8 @@ fn tell(rt: &impl Abort, reader: &mut ReaderEnd, event: Event, out: &mut BlockBy
     }
 }
 
-/// Whether the end says this, and has a command in hand exactly where it says a block.
+/// Returns true if this is the reaction.
+/// A command is in progress if and only if it is a block.
 fn is_said(next: Next, reader: &ReaderEnd, block: &BlockBytes, says: Says) -> bool {
     match (next, says) {
         (Next::Send, Says::Block(bytes)) => reader.busy() && block.as_slice() == bytes,
@@ -51,24 +52,24 @@ fn is_said(next: Next, reader: &ReaderEnd, block: &BlockBytes, says: Says) -> bo
     }
 }
 
-/// What the end is told, and what it says.
+/// An event at the reader's end, and its reaction.
 type Row = (Event, Says);
 
-// The end is to send a command, and says its block.
+// A command to send, and its first block.
 macro_rules! sends {
     ($command:expr, $block:expr) => {
         (Event::Send($command), Says::Block($block))
     };
 }
 
-// It gets a block, and says the next one.
+// A received block, and the next one to send.
 macro_rules! goes_on {
     ($block:expr, $next:expr) => {
         (Event::Got($block), Says::Block($next))
     };
 }
 
-// It gets the last block of an answer, and says the answer.
+// The last block of an answer, and the answer.
 macro_rules! answers {
     ($block:expr, $answer:expr) => {
         (Event::Got($block), Says::Answer($answer))
@@ -80,12 +81,12 @@ const SELECT: Row = sends!(
     b"\x00\x00\x07\x00\xA4\x00\x0C\x02\x3F\x00\x92"
 );
 
-// Three blocks are sent again, and the fourth want sends RESYNCH.
+// Three blocks are sent again, and the fourth timeout causes RESYNCH.
 const TIME_OUT: Row = (Event::TimedOut, Says::Block(b"\x00\x82\x00\x82"));
 
 const RESYNCH: Row = (Event::TimedOut, Says::Block(b"\x00\xC0\x00\xC0"));
 
-// Each list begins after power-on.
+// Each list starts after power-on.
 const EXCHANGES: &[&[Row]] = &[
     &[
         SELECT,
@@ -96,7 +97,7 @@ const EXCHANGES: &[&[Row]] = &[
         ),
         answers!(b"\x00\x40\x03\x98\x90\x00\x4B", b"\x98\x90\x00"),
     ],
-    // A block that is spoiled, a block of another number, and an R-block that asks for the command again.
+    // A garbled block, a block with another number, and an R-block that requests the command again.
     &[
         SELECT,
         goes_on!(b"\x00\x00\x02\x90\x00\x93", b"\x00\x81\x00\x81"),
@@ -107,7 +108,7 @@ const EXCHANGES: &[&[Row]] = &[
         ),
         answers!(b"\x00\x00\x02\x90\x00\x92", b"\x90\x00"),
     ],
-    // RESYNCH that is answered: whether the command was carried out isn't known, and numbers begin anew.
+    // An answered RESYNCH: it is unknown whether the command ran, and numbers start anew.
     &[
         SELECT,
         TIME_OUT,
@@ -117,7 +118,7 @@ const EXCHANGES: &[&[Row]] = &[
         (Event::Got(b"\x00\xE0\x00\xE0"), Says::Unknown),
         SELECT,
     ],
-    // RESYNCH that isn't, three times.
+    // An unanswered RESYNCH, three times.
     &[
         SELECT,
         TIME_OUT,
@@ -146,7 +147,7 @@ const EXCHANGES: &[&[Row]] = &[
     ],
 ];
 
-/// The end is told this, and says that.
+/// Checks the reaction to an event.
 fn check(rt: &impl Abort, reader: &mut ReaderEnd, row: Row) {
     let (event, says) = row;
     let mut block = BlockBytes::new();
@@ -164,7 +165,7 @@ fn reader_end_has_its_commands_answered(rt: HostRuntime) {
     }
 }
 
-/// The longest command goes in two blocks.
+/// The longest command takes two blocks.
 #[test]
 fn longest_command_goes_in_a_chain(rt: HostRuntime) {
     let mut reader = ReaderEnd::new();
