@@ -1,4 +1,4 @@
-//! The factory's memory, memories that start and that don't, and boards without power.
+//! The factory image, memories that boot and others that don't, and boards without power.
 
 use crate::fixtures::{formatted, formatted_old};
 use card_core::{Card, FreeSpace, StartFault, format};
@@ -7,8 +7,8 @@ use std::alloc::Global;
 use std::test::Fail;
 use store_vectors::fixtures::with_words;
 
-// What `format` writes: the mark, the first free block, the card state and the page where the blocks end; the first
-// words of both files; the tries and the mark of PIN 1; the end of the file's chain and its first bytes;
+// The words that `format` writes: the mark, the first free block, the card state and the page where the blocks end; the
+// first words of both files; the tries and the mark of PIN 1; the end of the file's chain and its first bytes;
 // the free chain and its end.
 const FACTORY: &[(u16, u32)] = &[
     (0, 0x5453_4332),
@@ -28,7 +28,7 @@ const FACTORY: &[(u16, u32)] = &[
     (16_368, 0),
 ];
 
-// What is other on a board of 1,030 pages, and in format 1.
+// The different words on a board of 1,030 pages, and in format 1.
 const LARGER: &[(u16, u32)] = &[(3, 1030), (16_368, 1024), (16_464, 0)];
 
 const OLD: &[(u16, u32)] = &[
@@ -39,7 +39,7 @@ const OLD: &[(u16, u32)] = &[
     (16_464, 0),
 ];
 
-/// The first of these words that a board doesn't have.
+/// Returns the first of these words that a board doesn't have.
 fn other_word(mut board: RamBoard, words: &[(u16, u32)]) -> Option<u16> {
     for &(at, want) in words {
         if at / 16 >= board.pages() || board.read(at) != Ok(want) {
@@ -60,7 +60,7 @@ fn formats_the_factory_memory(rt: HostRuntime) -> Result<(), Fail> {
     Ok(())
 }
 
-/// How a card starts on a board.
+/// Returns why power-on fails on a board, if it does.
 fn fault_of<B: Board + Drop>(board: B) -> Option<StartFault> {
     match Card::start(board) {
         Ok(_) => None,
@@ -68,7 +68,7 @@ fn fault_of<B: Board + Drop>(board: B) -> Option<StartFault> {
     }
 }
 
-/// How a card starts where these words of the factory's memory are others.
+/// Returns why power-on fails on a factory image with these words changed.
 fn start_with(alloc: Global, words: &[(u16, u32)]) -> Result<Option<StartFault>, Fail> {
     let board = formatted(RamBoard::new(alloc)?)?;
     Ok(fault_of(with_words(board, words)?))
@@ -78,13 +78,13 @@ const DAMAGED: Option<StartFault> = Some(StartFault::Damaged);
 
 const BAD_JOURNAL: Option<StartFault> = Some(StartFault::BadJournal);
 
-// Changes of the factory's memory, and how the card then starts.
+// Changes of the factory image, and the result of power-on.
 const MEMORIES: &[(&[(u16, u32)], Option<StartFault>)] = &[
     // The mark; the file's parent; the tries of PIN 1 and the unblocking tries of PIN 8; the link of the file's block.
     (&[(0, 0x5453_4330)], DAMAGED),
-    // The mark of format 1, in which neither the page where the blocks end is looked at nor the mark of a PIN.
+    // The mark of format 1, which ignores the page where the blocks end and the mark of a PIN.
     (&[(0, 0x5453_4331), (3, 7), (1046, 7)], None),
-    // The page where the blocks end: before page 1,024, behind the board, and none; the mark of a PIN.
+    // The page where the blocks end: before page 1,024, past the board, and none; the mark of a PIN.
     (&[(3, 1023)], DAMAGED),
     (&[(3, 1025)], DAMAGED),
     (&[(3, 0xFFFF_FFFF)], DAMAGED),
@@ -96,53 +96,52 @@ const MEMORIES: &[(&[(u16, u32)], Option<StartFault>)] = &[
     (&[(1040, 4)], DAMAGED),
     (&[(1153, 11)], DAMAGED),
     (&[(2048, 128)], DAMAGED),
-    // The master file's rule lacks a condition; the file has no bytes, and more than its block.
+    // The master file's rule lacks a condition; the file has no bytes, or more than its block.
     (&[(19, 0x0100_0000)], DAMAGED),
     (&[(40, 0x0000_0000)], DAMAGED),
     (&[(40, 0x003D_0000)], DAMAGED),
-    // A life cycle state that is none.
+    // An invalid life cycle status.
     (&[(32, 0x0202_2FE2)], DAMAGED),
-    // A third file that says nothing else, in the first free entry and in the last.
+    // A third file with no other words, in the first free entry and in the last.
     (&[(48, 0x0205_6F01)], DAMAGED),
     (&[(1024, 0x0205_6F01)], DAMAGED),
-    // The state of the card is 1, terminated, or none.
+    // The state of the card: 1 (terminated), and an invalid one.
     (&[(2, 1)], None),
     (&[(2, 2)], DAMAGED),
-    // The free chain: none, though blocks are in no file; it ends early; it is a ring;
-    // it goes on into the file's block.
+    // The free chain: none, though blocks are in no file; it ends early; it is a ring; it runs into the file's block.
     (&[(1, 0)], DAMAGED),
     (&[(2064, 0)], DAMAGED),
     (&[(16_368, 129)], DAMAGED),
     (&[(16_368, 128)], DAMAGED),
-    // The file's chain goes on into the free chain; a block links past the last page, and before the first block.
+    // The file's chain runs into the free chain; a block links past the last page, and before the first block.
     (&[(2048, 129)], DAMAGED),
     (&[(2064, 1024)], DAMAGED),
     (&[(2064, 127)], DAMAGED),
-    // One pair counts, and takes the mark away.
+    // One pair counts, and removes the mark.
     (&[(1168, 1)], DAMAGED),
     // A pair too many; pairs that name the gate, the end of the journal, and no word.
     (&[(1168, 433)], BAD_JOURNAL),
     (&[(1168, 1), (1184, 1168)], BAD_JOURNAL),
     (&[(1168, 1), (1184, 2047)], BAD_JOURNAL),
     (&[(1168, 1), (1184, 16384)], BAD_JOURNAL),
-    // The same pair, which doesn't count; one that names the last word.
+    // The same pair, which doesn't count; a pair that names the last word.
     (&[(1184, 16384)], None),
     (&[(1168, 1), (1184, 16383)], None),
-    // What isn't looked at: the rest of the header, of the gate, of a free entry, of the file's entry, of a PIN's page.
+    // Ignored words: the rest of the header, of the gate, of a free entry, of the file's entry, of a PIN's page.
     (&[(4, 0xFFFF_FFFF), (1169, 0xFFFF_FFFF)], None),
     (&[(49, 0xFFFF_FFFF), (43, 0xFFFF_FFFF)], None),
     (&[(1159, 0xFFFF_FFFF), (36, 0xFFFF_FFFF)], None),
-    // The bytes behind a rule, the size of the master file.
+    // The bytes after a rule, the size of the master file.
     (
         &[(19, 0x00FF_FFFF), (34, 0x0311_00FF), (24, 0xFFFF_FFFF)],
         None,
     ),
     // A PIN without tries, and another value of it.
     (&[(1040, 0), (1042, 0x3030_3030)], None),
-    // The size and the content of the file.
+    // The size and the contents of the file.
     (&[(40, 0x0001_0000)], None),
     (&[(40, 0x003C_0000), (2063, 0)], None),
-    // A word was set twice, and the cut came before the commit: the first pair has the word that was there.
+    // A word was set twice, and power was lost before the commit: the first pair has the original word.
     (
         &[
             (1168, 2),
@@ -165,8 +164,9 @@ fn starts_what_stands_for_a_card(rt: HostRuntime) -> Result<(), Fail> {
     Ok(())
 }
 
-/// The words of the header and of the mark of PIN 8 after a start of the factory's memory of format 1,
-/// and what is free.
+/// Returns words and the free space after a migration.
+/// The words are those of the header, and the mark of PIN 8.
+/// The memory is a factory image of format 1.
 fn after_start(alloc: Global, pages: u16) -> Result<Option<([u32; 4], FreeSpace)>, Fail> {
     let board = formatted_old(RamBoard::with_pages(alloc, pages.clamp(1024, 4096))?)?;
     let Ok(card) = Card::start(board) else {
@@ -201,7 +201,7 @@ fn a_start_makes_format_2(rt: HostRuntime) -> Result<(), Fail> {
     Ok(())
 }
 
-/// Whether a card isn't started without power, and then is with it.
+/// Returns true if a card boots with power only.
 fn starts_by_power(mut board: RamBoard) -> bool {
     board.power_off();
     let Err((mut board, StartFault::PowerLost)) = Card::start(board) else {
@@ -210,7 +210,7 @@ fn starts_by_power(mut board: RamBoard) -> bool {
     board.light().is_ok() && fault_of(board).is_none()
 }
 
-/// Whether the factory's memory isn't written where power is lost.
+/// Returns true if writing a factory image stops at power loss.
 fn stops_by_power(mut board: CutBoard) -> bool {
     board.arm(5, 0x0001);
     matches!(format(board), Err((_, DeviceErr::PowerLost)))

@@ -1,4 +1,4 @@
-//! The factory's memory, with which tests of cards begin.
+//! Factory images, for tests of cards.
 ghost use Rattle.std.specs.Prelude.{IfOk};
 ghost use Rattle.card_core.specs.Factory.{IsFactory};
 ghost use Rattle.card_core.specs.declared.memory_format.MemoryFormat.TheVariants.{One, Two};
@@ -7,7 +7,7 @@ use card_core::{format, format_old};
 use nvm_board::Board;
 use std::test::Fail;
 
-/// A board with the factory's memory, in format 2.
+/// Returns a board with the factory image, in format 2.
 pub fn formatted<B: Board + Drop>(board: B) -> Result<B, Fail>
     ensures { IfOk result (λ b. IsFactory Two (B.facts b).words) }
 {
@@ -17,7 +17,7 @@ pub fn formatted<B: Board + Drop>(board: B) -> Result<B, Fail>
     }
 }
 
-/// A board with the factory's memory in format 1.
+/// Returns a board with the factory image, in format 1.
 pub fn formatted_old<B: Board + Drop>(board: B) -> Result<B, Fail>
     ensures { IfOk result (λ b. IsFactory One (B.facts b).words) }
 {

@@ -1,6 +1,6 @@
-//! Tests of the card on boards without a link: the factory's memory, memories of which words are changed, starts that
-//! fail. The factory's memory is public, for the tests of the bench, and so is the plain check of a memory, for those
-//! of the migration.
+//! Tests of the card on boards without a link: the factory image, memories with changed words, and failing power-ons.
+//! The fixtures are public, for the tests of the bench, and so is the plain check of a memory, for those of the
+//! migration.
 #![tactic(auto)]
 
 #[cfg(test)]

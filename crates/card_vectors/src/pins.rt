@@ -1,4 +1,4 @@
-//! PINs: the receipt of a charge. What commands on PINs answer stands in rows, what a cut leaves in `script_vectors`.
+//! The receipt of a PIN's charge. The rows test the commands on PINs, and `script_vectors` power loss in them.
 ghost use Rattle.std.specs.Prelude.{◌<◌};
 ghost use Rattle.undo_journal.specs.Memory.{IsReady};
 
@@ -12,7 +12,8 @@ use undo_journal::{Store, StoreErr};
 // The value of each of the factory's PINs.
 const VALUE: [u8; 8] = [0x31, 0x32, 0x33, 0x34, 0xFF, 0xFF, 0xFF, 0xFF];
 
-/// Which secret the receipt of a charge tells, and how it is spent, where there are PINs and a try is left.
+/// Returns the secret of a charge's receipt, and its outcome.
+/// It is `None` without PINs or tries.
 fn spends<B: Board>(store: &mut Store<B>, secret: u8) -> Option<(u8, Result<Outcome, StoreErr>)>
     requires ready { IsReady store.old }
     requires secret { secret < 8 }

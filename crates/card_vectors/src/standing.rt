@@ -1,9 +1,9 @@
-//! When a memory stands for a card, as a plain check of its words: undo, and the eight rules that docs/MEMORY.md has.
-//! Nothing of the crates that it is compared with is used here.
+//! Checks valid card images in plain code: recovery, and the eight rules of docs/MEMORY.md.
+//! It uses nothing of the crates that it is compared with.
 
 use std::alloc::{AllocError, Global};
 
-/// How a card is to start.
+/// The expected result of power-on.
 #[derive(Clone, Copy, Debug, PartialEq, Eq)]
 pub enum Start {
     Starts,
@@ -17,7 +17,7 @@ pub const GATE: usize = 1168;
 /// The address of the first pair.
 const JOURNAL: usize = 1184;
 
-/// How a card is to start on these words.
+/// Returns the expected result of power-on for these words.
 pub fn start_of(alloc: Global, words: &[u32]) -> Result<Start, AllocError> {
     let gate = word(words, GATE);
     if gate > 432 || !are_pairs(words, gate) {
@@ -32,7 +32,7 @@ pub fn start_of(alloc: Global, words: &[u32]) -> Result<Start, AllocError> {
     Ok(standing(&undone))
 }
 
-/// How a card is to start on words without a pair that counts.
+/// Returns the expected result of power-on for words with an empty journal.
 fn standing(words: &[u32]) -> Start {
     if has_header(words) && are_entries(words) && are_chains(words) && are_pins(words) {
         Start::Starts
@@ -41,30 +41,31 @@ fn standing(words: &[u32]) -> Start {
     }
 }
 
-/// The word at an address; behind the last one all are 0.
+/// Returns the word at an address, or 0 past the end.
 pub fn word(words: &[u32], at: usize) -> u32 {
     words.get(at).copied().unwrap_or(0)
 }
 
-/// Changes the word at an address, where there is one.
+/// Changes the word at an address, if it exists.
 pub fn put(words: &mut [u32], at: usize, word: u32) {
     if let Some(place) = words.get_mut(at) {
         *place = word;
     }
 }
 
-/// The upper and the lower half of a word.
+/// Returns the upper and the lower half of a word.
 fn halves(word: u32) -> [u16; 2] {
     [(word >> 16) as u16, (word & 0xFFFF) as u16]
 }
 
-/// The two words of a pair: an address, and the word that stood there earlier.
+/// Returns the two words of a pair: address, and former word.
 fn pair(words: &[u32], number: u32) -> (u32, u32) {
     let at = JOURNAL + 2 * (number as usize % 432);
     (word(words, at), word(words, at + 1))
 }
 
-/// Whether each pair names a word, and none of those of the gate and the journal, pages 73 to 127.
+/// Returns true if each pair names a word outside the journal.
+/// Gate and journal are pages 73 to 127.
 fn are_pairs(words: &[u32], gate: u32) -> bool {
     for number in 0..gate {
         let (address, _) = pair(words, number);
@@ -75,8 +76,8 @@ fn are_pairs(words: &[u32], gate: u32) -> bool {
     true
 }
 
-/// Puts the earlier words back, and lets no pair count.
-/// Of the pairs that name one word the first counts, so it comes last.
+/// Restores the former words, and empties the journal.
+/// The first of the pairs for one word counts, so it comes last.
 pub fn undo(words: &mut [u32]) {
     let gate = word(words, GATE).min(432);
     for number in (0..gate).rev() {
@@ -86,12 +87,13 @@ pub fn undo(words: &mut [u32]) {
     put(words, GATE, 0);
 }
 
-/// The mark of format 2.
+/// Returns true if the mark is that of format 2.
 fn is_new(words: &[u32]) -> bool {
     word(words, 0) == 0x5453_4332
 }
 
-/// The page where the blocks end: of format 2 as the header says, of format 1 page 1,024.
+/// Returns the page where the blocks end.
+/// It is in the header in format 2, and 1,024 in format 1.
 fn end_page(words: &[u32]) -> usize {
     if is_new(words) {
         word(words, 3) as usize
@@ -100,7 +102,8 @@ fn end_page(words: &[u32]) -> usize {
     }
 }
 
-/// A mark, where the blocks end, and the card state.
+/// Returns true if the header is valid.
+/// It has the mark, the end of the blocks, and the state.
 fn has_header(words: &[u32]) -> bool {
     (is_new(words) || word(words, 0) == 0x5453_4331)
         && 1024 <= end_page(words)
@@ -108,7 +111,8 @@ fn has_header(words: &[u32]) -> bool {
         && word(words, 2) <= 1
 }
 
-/// Tries are at most 3, unblocking tries at most 10; and in format 2 the mark is 1, enabled, or 0, disabled.
+/// Returns true if tries, unblocking tries and marks are valid.
+/// There are at most 3 tries and 10 unblocking tries. A mark is 1 (enabled) or 0 (disabled).
 fn are_pins(words: &[u32]) -> bool {
     for page in 65..=72 {
         if word(words, 16 * page) > 3 || word(words, 16 * page + 1) > 10 {
@@ -121,12 +125,12 @@ fn are_pins(words: &[u32]) -> bool {
     true
 }
 
-/// A word of an entry: those of entry 0 stand in page 1.
+/// Returns a word of an entry. Entry 0 is page 1.
 fn entry_word(words: &[u32], entry: usize, place: usize) -> u32 {
     word(words, 16 * (entry % 64 + 1) + place % 16)
 }
 
-/// The bytes of a word of an entry.
+/// Returns the bytes of a word of an entry.
 fn entry_bytes(words: &[u32], entry: usize, place: usize) -> [u8; 4] {
     entry_word(words, entry, place).to_be_bytes()
 }
@@ -137,37 +141,37 @@ const TRANSPARENT: u8 = 2;
 
 const LINEAR: u8 = 3;
 
-/// The kind of an entry's file, 0 where there is none.
+/// Returns the kind of a file, or 0 for a free entry.
 fn kind(words: &[u32], entry: usize) -> u8 {
     entry_bytes(words, entry, 0)[0]
 }
 
-/// The identifier.
+/// Returns the identifier.
 fn identifier(words: &[u32], entry: usize) -> u16 {
     halves(entry_word(words, entry, 0))[1]
 }
 
-/// The entry of the parent.
+/// Returns the entry of the parent.
 fn parent(words: &[u32], entry: usize) -> usize {
     usize::from(entry_bytes(words, entry, 1)[0])
 }
 
-/// The short identifier, 0 where there is none.
+/// Returns the short identifier, or 0 for none.
 fn short_identifier(words: &[u32], entry: usize) -> u8 {
     entry_bytes(words, entry, 1)[1]
 }
 
-/// How many bytes the name has.
+/// Returns the length of the name in bytes.
 fn name_length(words: &[u32], entry: usize) -> u8 {
     entry_bytes(words, entry, 1)[2]
 }
 
-/// A byte of a name.
+/// Returns a byte of a name.
 fn name_byte(words: &[u32], entry: usize, at: u8) -> u8 {
     entry_bytes(words, entry, 4 + usize::from(at / 4))[usize::from(at % 4)]
 }
 
-/// Entry 0 is the master file, and each entry obeys the rules.
+/// Returns true if all entries are valid, and 0 the MF.
 fn are_entries(words: &[u32]) -> bool {
     let is_master = kind(words, 0) == DEDICATED
         && identifier(words, 0) == 0x3F00
@@ -175,7 +179,8 @@ fn are_entries(words: &[u32]) -> bool {
     is_master && (0..64).all(|entry| is_entry(words, entry))
 }
 
-/// An entry is free, or its file is of one of the kinds, in one of the states, and beside the files before it.
+/// Returns true if an entry is free, or its file is valid.
+/// A valid file has one of the kinds and states, and fits with the files before it.
 fn is_entry(words: &[u32], entry: usize) -> bool {
     match entry_bytes(words, entry, 0) {
         [0, ..] => entry_word(words, entry, 0) == 0,
@@ -189,8 +194,9 @@ fn is_entry(words: &[u32], entry: usize) -> bool {
     }
 }
 
-/// The parent is a dedicated file, and by at most 7 steps entry 0 is reached, whose identifier and two more no other
-/// has.
+/// Returns true if an entry is below entry 0, in DFs.
+/// It is at most 7 levels below.
+/// No other file has the identifier of entry 0 or one of two reserved ones.
 fn is_child(words: &[u32], entry: usize) -> bool {
     let mut at = entry;
     for _ in 0..7 {
@@ -202,7 +208,9 @@ fn is_child(words: &[u32], entry: usize) -> bool {
     at == 0 && (entry == 0 || !matches!(identifier(words, entry), 0x3F00 | 0x3FFF | 0xFFFF))
 }
 
-/// Short identifiers are 0 to 30, that of a dedicated file 0; names have up to 16 bytes, and none in any other file.
+/// Returns true if short identifier and name have valid sizes.
+/// Short identifiers are 0 to 30, and 0 for a dedicated file. Names have up to 16 bytes, and only dedicated files have
+/// one.
 fn has_sizes(words: &[u32], entry: usize) -> bool {
     let is_dedicated = kind(words, entry) == DEDICATED;
     let most_short = if is_dedicated { 0 } else { 30 };
@@ -210,12 +218,13 @@ fn has_sizes(words: &[u32], entry: usize) -> bool {
     short_identifier(words, entry) <= most_short && name_length(words, entry) <= most_name
 }
 
-/// A byte of a rule.
+/// Returns a byte of a rule.
 fn rule_byte(words: &[u32], entry: usize, at: u8) -> u8 {
     entry_bytes(words, entry, 2 + usize::from(at / 4))[usize::from(at % 4)]
 }
 
-/// An access mode byte without bit 8, and a condition for each bit: always, never, or a PIN.
+/// Returns true if a rule is valid.
+/// It is an access mode byte without bit 8, and a condition for each bit: always, never, or a PIN.
 fn is_rule(words: &[u32], entry: usize) -> bool {
     let length = entry_bytes(words, entry, 1)[3];
     let mode = rule_byte(words, entry, 0);
@@ -224,12 +233,13 @@ fn is_rule(words: &[u32], entry: usize) -> bool {
         && (1..length).all(|at| is_condition(rule_byte(words, entry, at)))
 }
 
-/// Whether a byte is a condition.
+/// Returns true if a byte is a valid condition.
 fn is_condition(byte: u8) -> bool {
     matches!(byte, 0x00 | 0xFF | 0x11..=0x18 | 0x91..=0x98)
 }
 
-/// The children of one file have different identifiers and short identifiers; names differ over the card.
+/// Returns true if two files differ in identifiers and names.
+/// Children of one file have different identifiers and short identifiers, and all names on the card are different.
 fn differ(words: &[u32], one: usize, other: usize) -> bool {
     if kind(words, one) == 0 {
         return true;
@@ -247,14 +257,15 @@ fn differ(words: &[u32], one: usize, other: usize) -> bool {
                 && (short == 0 || short != short_identifier(words, other)))
 }
 
-/// Which blocks are in a chain.
+/// The blocks that occur in a chain.
 #[derive(Drop)]
 struct Blocks {
     taken: [bool; 4096],
     count: usize,
 }
 
-/// The free chain and those of the files, in which each block is once.
+/// Returns true if each block is exactly once in a chain.
+/// The chains are the free chain and those of files.
 fn are_chains(words: &[u32]) -> bool {
     let mut blocks = Blocks {
         taken: [false; 4096],
@@ -272,8 +283,8 @@ fn are_chains(words: &[u32]) -> bool {
 }
 
 impl Blocks {
-    /// The last block of a chain that begins so, or 0 where it has none; if it ends, and each of its blocks was in
-    /// none yet.
+    /// Returns the last block of a chain, or 0 for none.
+    /// Returns `None` unless the chain ends, and none of its blocks is in another chain.
     fn takes(&mut self, words: &[u32], first: u32) -> Option<u32> {
         let mut last = 0;
         let mut next = first;
@@ -294,7 +305,8 @@ impl Blocks {
     }
 }
 
-/// A body's sizes are right, and its chain has as many blocks as they need and ends with the one that is named.
+/// Returns true if a body's sizes fit its chain.
+/// The entry also names the right last block.
 fn has_body(words: &[u32], entry: usize, blocks: &mut Blocks) -> bool {
     let [size, record_length] = halves(entry_word(words, entry, 8));
     let [first, last] = halves(entry_word(words, entry, 9));
@@ -311,8 +323,8 @@ fn has_body(words: &[u32], entry: usize, blocks: &mut Blocks) -> bool {
         && blocks.count.checked_sub(before) == Some(usize::from(size).div_ceil(60))
 }
 
-/// The size is that of whole records, of 1 to 254 at most, of which some exist; where records begin in the file's
-/// ring.
+/// Returns true if the size fits 1 to 254 whole records.
+/// The number of existing records, and the slot of the first record in the file's ring, are also valid.
 fn are_records(words: &[u32], entry: usize) -> bool {
     let [size, length] = halves(entry_word(words, entry, 8));
     let [number, start] = halves(entry_word(words, entry, 10));

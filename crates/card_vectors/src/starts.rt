@@ -1,5 +1,5 @@
-//! Starts that fail: at a journal that can't be undone, whose memory is left as it is,
-//! and at each call of the device in turn.
+//! Failing power-ons: with a journal that can't be undone, whose memory stays unchanged, and with a failure of each
+//! device call in turn.
 
 use crate::fixtures::{formatted, formatted_old};
 use card_core::{Card, StartFault};
@@ -8,14 +8,15 @@ use std::alloc::Global;
 use std::test::Fail;
 use store_vectors::fixtures::with_words;
 
-// Changes of the factory's memory: a pair too many; a pair that counts and names the gate, and one that names no word.
+// Changes of the factory image: a pair too many; a counting pair that names the gate; one that names no word.
 const BAD_JOURNALS: &[&[(u16, u32)]] = &[
     &[(1168, 433)],
     &[(1168, 1), (1184, 1168)],
     &[(1168, 1), (1184, 16_384)],
 ];
 
-/// Whether a card isn't started for its journal, and nothing was written, which would have met the cut.
+/// Returns true if power-on fails by its journal without a write.
+/// A write would meet the armed cut.
 fn is_left(board: CutBoard) -> bool {
     let mut board = board;
     board.arm(1, 0x0000);
@@ -35,7 +36,9 @@ fn bad_journal_is_left(rt: HostRuntime) -> Result<(), Fail> {
     Ok(())
 }
 
-/// How many calls of a start can fail, each in turn: the start then fails, and the next one begins as it did.
+/// Returns the number of device calls in a power-on.
+/// Each of them fails in turn.
+/// Power-on then fails, and the next one begins in the same state.
 fn failed_starts(board: FaultBoard) -> Option<u32> {
     let mut board = board;
     for call in 1..=3_000 {
@@ -52,8 +55,8 @@ fn failed_starts(board: FaultBoard) -> Option<u32> {
 #[test]
 fn a_failed_call_stops_a_start(rt: HostRuntime) -> Result<(), Fail> {
     let board = formatted(FaultBoard::on_calls(rt.alloc())?)?;
-    // It reads the gate, four words of the header, two of them twice, the first word of each entry, eleven of the two
-    // that a file has, three of each PIN, and the link of each block.
+    // Power-on reads the gate, four words of the header (two of them twice), and the first word of each entry. Then it
+    // reads eleven words of each of the two files, three of each PIN, and the link of each block.
     assert!(rt; failed_starts(board) == Some(1 + 6 + 64 + 11 * 2 + 3 * 8 + 896));
     Ok(())
 }

@@ -1,4 +1,4 @@
-//! Memories of which a word was changed: each is refused, or started, as the rules say (`standing`).
+//! Memories with one changed word: power-on fails or succeeds as the rules say (`standing`).
 
 use crate::fixtures::formatted;
 use crate::standing::{GATE as GATE_ADDRESS, Start, start_of};
@@ -9,8 +9,8 @@ use std::process::Abort;
 use std::test::Fail;
 use store_vectors::fixtures::with_words;
 
-// What a card has more than the factory's: a named directory with a transparent file of three blocks, a linear file
-// and a directory, which is in the last entry; and a deactivated cyclic file.
+// The files in addition to the factory's: a named directory with a transparent file of three blocks, a linear file and
+// a directory, which is in the last entry; and a deactivated cyclic file.
 const FILES: &[(u16, u32)] = &[
     (1, 135),
     // DF 7F10, in the master file.
@@ -28,7 +28,7 @@ const FILES: &[(u16, u32)] = &[
     (2064, 131),
     (2096, 130),
     (2080, 0),
-    // Linear EF 6F02 of three records of 20 bytes, with room for four.
+    // Linear EF 6F02 of three records of 20 bytes, with space for four.
     (80, 0x0305_6F02),
     (81, 0x0202_0004),
     (82, 0x0700_0000),
@@ -36,7 +36,7 @@ const FILES: &[(u16, u32)] = &[
     (89, 0x0084_0085),
     (90, 0x0003_0000),
     (2128, 0),
-    // Cyclic EF 6F03 of two records of three bytes, with room for three, in the master file.
+    // Cyclic EF 6F03 of two records of three bytes, with space for three, in the master file.
     (112, 0x0404_6F03),
     (113, 0x0003_0003),
     (114, 0x0300_0000),
@@ -50,7 +50,8 @@ const FILES: &[(u16, u32)] = &[
     (1026, 0x0700_0000),
 ];
 
-/// A row of pages, and in how many of the first words of each one is changed: up to the last that a start looks at.
+/// A range of pages, and how many words of each change.
+/// These are all that power-on reads.
 #[derive(Clone, Copy)]
 struct Part {
     first: u16,
@@ -94,8 +95,9 @@ const LINKS: Part = Part {
     words: 1,
 };
 
-// How often a card starts, is Damaged, and is BadJournal, where one word of a part is 0, has all bits set, or has one
-// bit turned: of the factory's memory, and of one with a file of each kind.
+// The numbers of power-ons that succeed, are Damaged, and are BadJournal, after changes of one word of a part.
+// The word is 0, or has all bits set or one bit inverted. The numbers are for the factory image, and for one with a
+// file of each kind.
 const CHANGED: &[(Part, [u32; 3], [u32; 3])] = &[
     (HEADER, [2, 134, 0], [2, 134, 0]),
     (ENTRIES, [21_625, 2_311, 0], [21_123, 2_813, 0]),
@@ -104,23 +106,24 @@ const CHANGED: &[(Part, [u32; 3], [u32; 3])] = &[
     (LINKS, [2, 30_462, 0], [5, 30_459, 0]),
 ];
 
-/// Addresses, and the words that are to stand there.
+/// Addresses, and their new words.
 type Changes = Vec<(u16, u32)>;
 
 /// A memory: a board, and its words.
 #[derive(Drop)]
 struct Memory {
-    /// It is there, but while a card starts on it.
+    /// The board, except while a card boots on it.
     board: Option<CutBoard>,
     words: Vec<u32>,
 }
 
-/// The address of a word.
+/// Returns the address of a word.
 fn address(page: u16, place: u16) -> u16 {
     page.saturating_mul(16).saturating_add(place)
 }
 
-/// A word after one of 34 changes: one bit turned, all clear, or all set.
+/// Returns a word after one of 34 changes.
+/// One bit is inverted, or all are clear, or all set.
 fn changed(word: u32, change: u32) -> u32 {
     match change {
         32 => 0x0000_0000,
@@ -129,7 +132,7 @@ fn changed(word: u32, change: u32) -> u32 {
     }
 }
 
-/// Counts a start among those that ended so.
+/// Counts a power-on by its result.
 fn count(counts: &mut [u32; 3], start: Start) {
     match start {
         Start::Starts => counts[0] = counts[0].saturating_add(1),
@@ -138,7 +141,7 @@ fn count(counts: &mut [u32; 3], start: Start) {
     }
 }
 
-/// A board after a start, and how the card started.
+/// Returns a board after power-on, and the result.
 fn started(board: CutBoard) -> Result<(CutBoard, Start), Fail> {
     match Card::start(board) {
         Ok(card) => Ok((card.into_board(), Start::Starts)),
@@ -149,7 +152,7 @@ fn started(board: CutBoard) -> Result<(CutBoard, Start), Fail> {
 }
 
 impl Memory {
-    /// The factory's memory with some words changed.
+    /// Returns the factory image with some words changed.
     fn new(alloc: Global, changes: &[(u16, u32)]) -> Result<Memory, Fail> {
         let mut board = with_words(formatted(CutBoard::new(alloc)?)?, changes)?;
         let mut words = Vec::new(alloc);
@@ -162,7 +165,7 @@ impl Memory {
         })
     }
 
-    /// The word at an address.
+    /// Returns the word at an address.
     fn word(&self, at: u16) -> u32 {
         self.words.get(usize::from(at)).copied().unwrap_or(0)
     }
@@ -180,7 +183,7 @@ impl Memory {
         Ok(())
     }
 
-    /// How a card starts. A start that undoes a journal writes, so it gets a copy.
+    /// Returns the result of power-on. Recovery writes, so that a journal needs a copy.
     fn card_start(&mut self, alloc: Global) -> Result<Start, Fail> {
         let Some(board) = self.board.take() else {
             return Err(Fail::from("no board"));
@@ -195,7 +198,8 @@ impl Memory {
         Ok(start)
     }
 
-    /// How a card starts with some words changed, which is as the rules say.
+    /// Returns the result of power-on, after a check by the rules.
+    /// Some words are changed before it.
     fn start_with<R: Abort + AllocGlobal>(
         &mut self,
         rt: &R,
@@ -208,7 +212,8 @@ impl Memory {
         Ok(start)
     }
 
-    /// Counts how it starts where a word is 0, has all bits set, or one bit turned.
+    /// Counts the results of power-on for changes of a word.
+    /// It is 0, or has all bits set, or one bit inverted.
     fn change_word<R: Abort + AllocGlobal>(
         &mut self,
         rt: &R,
@@ -222,7 +227,7 @@ impl Memory {
         self.put(&[(at, word)])
     }
 
-    /// Counts that of all words of a part that a start looks at.
+    /// Counts the results for all words of a part that power-on reads.
     fn change_part<R: Abort + AllocGlobal>(
         &mut self,
         rt: &R,
@@ -237,7 +242,8 @@ impl Memory {
         Ok(counts)
     }
 
-    /// The words of a page from this place on, as they are, or as this one.
+    /// Returns the words of a page from this place on.
+    /// They are unchanged or replaced by `word`.
     fn others(&self, alloc: Global, at: (u16, u16), word: Option<u32>) -> Result<Changes, Fail> {
         let (page, first) = at;
         let mut changes = Vec::new(alloc);
@@ -248,7 +254,8 @@ impl Memory {
         Ok(changes)
     }
 
-    /// It starts where the other words of a page of a part are all 0, or have all bits set.
+    /// Checks that power-on ignores the other words of a part's pages.
+    /// They are all 0, or have all bits set.
     fn change_others<R: Abort + AllocGlobal>(&mut self, rt: &R, part: &Part) -> Result<(), Fail> {
         for page in part.first..=part.last {
             let at = (page, part.words);
