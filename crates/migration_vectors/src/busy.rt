@@ -1,5 +1,5 @@
-//! A memory of format 1 that was worked out word by word: 57 files, whose chains and the free one go to and fro, PINs
-//! with tries gone, and a transaction under way.
+//! A memory of format 1 worked out word by word: 57 files with interleaved chains, PINs with used tries, and an open
+//! transaction.
 
 use crate::files::{File, Kind, Records, file_of};
 use crate::generator::Generator;
@@ -7,24 +7,24 @@ use card_vectors::standing::{GATE, put, word};
 use std::alloc::Global;
 use std::test::Fail;
 
-/// A command, and what the card is to answer.
+/// A command, and the expected answer.
 #[derive(Drop)]
 pub(crate) struct Exchange {
     pub command: Vec<u8>,
     pub answer: Vec<u8>,
 }
 
-/// The memory.
+/// The memory, and what the card answers.
 #[derive(Drop)]
 pub(crate) struct Busy {
     pub words: Vec<u32>,
-    /// What the card answers.
+    /// The expected answers of the card.
     pub exchanges: Vec<Exchange>,
-    /// The blocks that no file has.
+    /// The free blocks.
     pub free: Vec<u16>,
 }
 
-/// The blocks of format 1, in an order that looks random.
+/// Returns the blocks of format 1, in a pseudorandom order.
 fn shuffled_blocks(alloc: Global, generator: &mut Generator) -> Result<Vec<u16>, Fail> {
     let mut blocks = Vec::new(alloc);
     for page in 128..1024 {
@@ -39,7 +39,7 @@ fn shuffled_blocks(alloc: Global, generator: &mut Generator) -> Result<Vec<u16>,
     Ok(blocks)
 }
 
-/// Changes a row of words.
+/// Writes consecutive words.
 fn put_run(words: &mut [u32], at: usize, run: &[u32]) {
     let mut place = at;
     for &word in run {
@@ -48,7 +48,7 @@ fn put_run(words: &mut [u32], at: usize, run: &[u32]) {
     }
 }
 
-/// Changes a byte of the content of a block.
+/// Writes a byte of the contents of a block.
 fn put_byte(words: &mut [u32], page: u16, at: u16, byte: u8) {
     let place = 16 * usize::from(page) + 1 + usize::from(at / 4);
     let mut bytes = word(words, place).to_be_bytes();
@@ -56,7 +56,7 @@ fn put_byte(words: &mut [u32], page: u16, at: u16, byte: u8) {
     put(words, place, u32::from_be_bytes(bytes));
 }
 
-/// Links blocks to a chain.
+/// Links blocks into a chain.
 fn link(words: &mut [u32], blocks: &[u16]) {
     let mut before = None;
     for &page in blocks {
@@ -71,7 +71,8 @@ fn link(words: &mut [u32], blocks: &[u16]) {
 }
 
 impl Busy {
-    /// The memory, of so many pages, with a card in use and no pair that counts. What isn't looked at is all ones.
+    /// Returns the memory with this number of pages.
+    /// Its card is in use, and its journal is empty. All words that are ignored are all ones.
     pub(crate) fn new(alloc: Global, pages: u16) -> Result<Busy, Fail> {
         let mut generator = Generator::new(20_261_125);
         let mut words = Vec::new(alloc);
@@ -109,7 +110,8 @@ impl Busy {
         }
     }
 
-    /// Writes the content of a file to free blocks: the first and the last of them.
+    /// Writes the contents of a file to free blocks.
+    /// Returns the first and the last block.
     fn put_body(&mut self, alloc: Global, file: &File) -> Result<[u16; 2], Fail> {
         let size = file.records.size;
         let blocks = self.take(alloc, size.div_ceil(60))?;
@@ -123,7 +125,7 @@ impl Busy {
         Ok([first, last])
     }
 
-    /// Takes so many free blocks.
+    /// Takes this number of free blocks.
     fn take(&mut self, alloc: Global, count: u16) -> Result<Vec<u16>, Fail> {
         let mut blocks = Vec::new(alloc);
         for _ in 0..count {
@@ -135,7 +137,7 @@ impl Busy {
         Ok(blocks)
     }
 
-    /// The tries of a PIN, which not all have; and what queries of them answer.
+    /// Writes a PIN's tries, and expects the answers of its queries.
     fn put_pin(&mut self, alloc: Global, pin: u8) -> Result<(), Fail> {
         let [tries, more] = [pin % 4, pin % 8 + 2];
         let words = [
@@ -153,7 +155,7 @@ impl Busy {
         self.expect(query, Vec::new(alloc), [0x63, 0xC0 | more])
     }
 
-    /// The header, the gate, and the free chain.
+    /// Writes the header, the gate, and the free chain.
     fn put_rest(&mut self) {
         link(&mut self.words, &self.free);
         let free = self.free.first().copied().unwrap_or(0);
@@ -161,7 +163,7 @@ impl Busy {
         put(&mut self.words, GATE, 0);
     }
 
-    /// A command is to be answered with these bytes and this status.
+    /// Expects this answer and status for a command.
     fn expect(
         &mut self,
         command: Vec<u8>,
@@ -175,7 +177,7 @@ impl Busy {
         }
     }
 
-    /// What SELECT of a file is to answer, and what is read of it.
+    /// Expects the answers of SELECT and of the reads of a file.
     fn expect_file(&mut self, alloc: Global, file: &File) -> Result<(), Fail> {
         self.expect(file.selection(alloc)?, file.template(alloc)?, [0x90, 0x00])?;
         match file.kind {
@@ -185,7 +187,7 @@ impl Busy {
         }
     }
 
-    /// What READ BINARY is to answer, 250 bytes at a time.
+    /// Expects the answers of READ BINARY, 250 bytes at a time.
     fn expect_bytes(&mut self, alloc: Global, file: &File) -> Result<(), Fail> {
         let size = file.records.size;
         for part in 0..(size / 250).saturating_add(1) {
@@ -203,7 +205,7 @@ impl Busy {
         Ok(())
     }
 
-    /// What READ RECORD is to answer, of each record, and of one more.
+    /// Expects the answers of READ RECORD, up to one record more.
     fn expect_records(&mut self, alloc: Global, file: &File) -> Result<(), Fail> {
         let Records { length, number, .. } = file.records;
         for record in 1..=number {
@@ -215,7 +217,8 @@ impl Busy {
         self.expect(command, Vec::new(alloc), [0x6A, 0x83])
     }
 
-    /// Sets a word in a transaction: the pair has the word as it is, and the gate counts the pair.
+    /// Sets a word in a transaction.
+    /// Its pair has the former word, and the gate counts it.
     fn set(&mut self, at: u16, new: u32) {
         let place = usize::from(at);
         let gate = word(&self.words, GATE) & 0xFF;
@@ -225,9 +228,9 @@ impl Busy {
         put(&mut self.words, place, new);
     }
 
-    /// Begins a transaction, and leaves it under way: the head of the free chain, a file in a free entry, the link of
-    /// the block that was last in the free chain, twice, and a word of it; the state of the card;
-    /// and tries that were gone.
+    /// Begins a transaction, and leaves it open.
+    /// It sets the head of the free chain, a file in a free entry, the state of the card, and used tries. It also sets
+    /// the link (twice) and a word of the last block of the free chain.
     pub(crate) fn begin(&mut self) {
         let page = self.free.last().copied().unwrap_or(0);
         let last = page.saturating_mul(16);

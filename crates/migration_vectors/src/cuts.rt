@@ -1,5 +1,5 @@
-//! A factory card of format 1: how many writes its first start makes, and what each of them leaves that is cut, and
-//! each of the start behind it.
+//! A factory card of format 1: the writes of its first power-on, and the result after a cut at each of them and at each
+//! of the power-on after it.
 ghost use Rattle.std.specs.Prelude.{◌≤◌};
 
 use crate::ends::{Ends, words_of};
@@ -10,7 +10,7 @@ use std::alloc::Global;
 use std::process::Abort;
 use std::test::Fail;
 
-// Pages of a board, writes of the first start, and blocks that are free behind it.
+// Pages of a board, writes of the first power-on, and free blocks after it.
 const SIZES: &[(u16, u32, u16)] = &[(1024, 15, 895), (1030, 21, 901), (4096, 3087, 3967)];
 
 #[test]
@@ -33,11 +33,13 @@ fn first_start_writes_the_links_and_fifteen_more(rt: HostRuntime) -> Result<(), 
     Ok(())
 }
 
-/// The first start on 1,030 pages: six links; the pairs of eight marks, the gate, the marks; the pairs of three words
-/// of the header, the gate, these words in two runs; and the gate.
+/// The writes of the first power-on on 1,030 pages.
+/// They are six links; the pairs of eight marks, the gate, the marks; the pairs of three words of the header, the gate,
+/// these words in two runs; and the gate.
 const WRITES: u32 = 21;
 
-/// How many writes the rollback behind so many of them makes: a write for each pair that counts, and the gate.
+/// Returns the writes of the rollback after this number of writes.
+/// It makes one for each pair that counts, and one for the gate.
 fn rollback_writes(made: u32) -> u32
     ensures { result ≤ 12 }
 {
@@ -49,7 +51,8 @@ fn rollback_writes(made: u32) -> u32
     }
 }
 
-/// The masks by which a write of so many words is cut: no word is new, all are, and each one alone.
+/// Returns the masks for a cut write.
+/// No word is new, all are, or a single one.
 fn masks(alloc: Global, words: u8) -> Result<Vec<u16>, Fail> {
     let mut masks = Vec::from_array(alloc, [0x0000, 0xFFFF])?;
     if words > 1 {
@@ -60,7 +63,7 @@ fn masks(alloc: Global, words: u8) -> Result<Vec<u16>, Fail> {
     Ok(masks)
 }
 
-/// A card of format 1, what its migration may leave, and how many cuts were tried.
+/// A card of format 1, possible results, and number of cuts.
 #[derive(Drop)]
 struct Trial {
     board: CutBoard,
@@ -70,7 +73,7 @@ struct Trial {
 }
 
 impl Trial {
-    /// The factory's card on 1,030 pages.
+    /// Returns the factory card on 1,030 pages.
     fn new(alloc: Global) -> Result<Trial, Fail> {
         let mut board = old_board(alloc, 1030)?;
         let ends = Ends::of(alloc, &words_of(alloc, &mut board)?, 1030)?;
@@ -82,7 +85,7 @@ impl Trial {
         })
     }
 
-    /// Cuts a write of the first start by each mask.
+    /// Cuts a write of the first power-on with each mask.
     fn cut_write<R: Abort + AllocGlobal>(&mut self, rt: &R, write: u32) -> Result<(), Fail>
         requires { 1 ≤ write }
     {
@@ -96,7 +99,8 @@ impl Trial {
         Ok(())
     }
 
-    /// A first start was cut, behind so many writes: what is found then, and after each cut of the start behind it.
+    /// Checks the memory after a cut first power-on.
+    /// The next power-on is also cut at each of its writes.
     fn check_first<R: Abort + AllocGlobal>(
         &mut self,
         rt: &R,
@@ -116,7 +120,8 @@ impl Trial {
         Ok(())
     }
 
-    /// What is found, undone, is the memory as it was, or the new one, and a start that isn't cut finds the card.
+    /// Checks that recovery gives the former or the new memory.
+    /// The card then boots.
     fn check_found<R: Abort + AllocGlobal>(
         &self,
         rt: &R,
@@ -138,7 +143,8 @@ impl Trial {
     }
 }
 
-/// 31 cuts leave no pair that counts, 26 leave eight, 8 leave eleven, and one is behind the last write.
+/// Of the cuts, 31 leave no counting pair, 26 eight, 8 eleven.
+/// One is past the last write.
 #[test]
 fn each_write_of_two_starts_is_cut(rt: HostRuntime) -> Result<(), Fail> {
     let mut trial = Trial::new(rt.alloc())?;

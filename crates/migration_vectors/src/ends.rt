@@ -1,4 +1,4 @@
-//! What a migration may leave: the words before it, or those after it, as plain code.
+//! The possible results of a migration in plain code: the words before it, and those after it.
 
 use card_core::MemoryFormat;
 use card_vectors::standing::{put, undo, word};
@@ -9,7 +9,7 @@ use std::test::Fail;
 /// The mark of format 2.
 const MARK: u32 = 0x5453_4332;
 
-/// The words of a board.
+/// Returns the words of a board.
 pub(crate) fn words_of(alloc: Global, board: &mut CutBoard) -> Result<Vec<u32>, Fail> {
     let mut words = Vec::new(alloc);
     for at in 0..=u16::MAX {
@@ -21,7 +21,7 @@ pub(crate) fn words_of(alloc: Global, board: &mut CutBoard) -> Result<Vec<u32>, 
     Ok(words)
 }
 
-/// Writes words to a board from its first word on, as many as it has.
+/// Writes words to a board, as many as it has.
 pub(crate) fn with_all_words(mut board: CutBoard, words: &[u32]) -> Result<CutBoard, Fail> {
     let mut at: u16 = 0;
     for &word in words {
@@ -33,7 +33,7 @@ pub(crate) fn with_all_words(mut board: CutBoard, words: &[u32]) -> Result<CutBo
     Ok(board)
 }
 
-/// The words before the migration of a memory and after it, both undone.
+/// The recovered words before and after the migration of a memory.
 #[derive(Drop)]
 pub(crate) struct Ends {
     before: Vec<u32>,
@@ -41,7 +41,8 @@ pub(crate) struct Ends {
 }
 
 impl Ends {
-    /// Those of a memory of format 1 whose words are undone, on a board of so many pages.
+    /// Returns the results for a recovered memory of format 1.
+    /// The board has `pages` pages.
     pub(crate) fn of(alloc: Global, words: &[u32], pages: u16) -> Result<Ends, Fail> {
         let mut before = Vec::new(alloc);
         before.extend_from_slice(words)?;
@@ -51,7 +52,7 @@ impl Ends {
         Ok(Ends { before, after })
     }
 
-    /// In which format a board's memory is, undone, if its words are those of one of the two ends.
+    /// Returns the format of a recovered memory, if as expected.
     pub(crate) fn found(
         &self,
         alloc: Global,
@@ -66,8 +67,8 @@ impl Ends {
     }
 }
 
-/// Makes format 2 of words of format 1: the links of the new blocks, their head,
-/// the page where the blocks end, the marks.
+/// Migrates words of format 1 to format 2.
+/// It sets the links of the new blocks, their head, the page where the blocks end, and the marks.
 fn rename(words: &mut [u32], pages: u16) {
     let free = word(words, 1);
     for page in 1024..pages {
@@ -86,14 +87,15 @@ fn rename(words: &mut [u32], pages: u16) {
     mark_pins(words);
 }
 
-/// Gives each PIN its mark.
+/// Writes the mark of each PIN.
 fn mark_pins(words: &mut [u32]) {
     for pin in 0..8 {
         put(words, 16 * (65 + pin) + 6, 1);
     }
 }
 
-/// Whether words are the same up to this one, those of the journal left aside.
+/// Returns true if the words before `end` are equal.
+/// The journal doesn't matter, but the lengths must be equal.
 fn are_same(words: &[u32], want: &[u32], end: usize) -> bool {
     for at in 0..end {
         let is_journal = 1184 <= at && at < 2048;

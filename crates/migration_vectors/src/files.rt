@@ -1,11 +1,11 @@
-//! The files of a card whose memory is worked out word by word: one for each entry but seven, of every kind.
+//! The files of a card worked out word by word: one for each entry but seven, of every kind.
 ghost use Rattle.std.specs.Prelude.{◌≤◌, ◌<◌};
 
 use crate::generator::Generator;
 use std::alloc::Global;
 use std::test::Fail;
 
-/// What a file is.
+/// The kind of a file.
 #[derive(Clone, Copy)]
 pub(crate) enum Kind {
     Directory,
@@ -21,12 +21,14 @@ pub(crate) struct File {
     pub entry: u8,
     /// The entry of its parent.
     pub parent: u8,
-    /// 0: none.
+    /// 0 means none.
     pub short: u8,
     pub records: Records,
 }
 
-/// The size of an elementary file, and its records; of a transparent one they are 0, of a directory all.
+/// The size of an elementary file, and its records.
+/// The numbers of records are 0 for a transparent file.
+/// All are 0 for a directory.
 #[derive(Clone, Copy)]
 pub(crate) struct Records {
     pub size: u16,
@@ -42,8 +44,9 @@ const NONE: Records = Records {
     start: 0,
 };
 
-/// The file of an entry, if it has one. Entry 0 is the master file, the entries 1 to 3 are directories, each below the
-/// one before; the files of the others are spread over these four.
+/// Returns the file of an entry, if it has one.
+/// Entry 0 is the master file. Entries 1 to 3 are directories, each in the one before. The others are spread over these
+/// four.
 pub(crate) fn file_of(generator: &mut Generator, entry: u8) -> Option<File> {
     let kind = match entry {
         0..=3 => Kind::Directory,
@@ -69,7 +72,7 @@ pub(crate) fn file_of(generator: &mut Generator, entry: u8) -> Option<File> {
     })
 }
 
-/// Sizes that look random.
+/// Returns pseudorandom sizes.
 fn records_of(generator: &mut Generator, kind: Kind) -> Records {
     let length = 1 + generator.below(60);
     let capacity = 1 + generator.below(15);
@@ -95,12 +98,12 @@ fn records_of(generator: &mut Generator, kind: Kind) -> Records {
 }
 
 impl File {
-    /// Whether it is the master file.
+    /// Returns true if it is the master file.
     fn is_master(&self) -> bool {
         self.entry == 0
     }
 
-    /// The identifier.
+    /// Returns the identifier.
     pub(crate) fn identifier(&self) -> u16 {
         match self.kind {
             Kind::Directory if self.is_master() => 0x3F00,
@@ -109,8 +112,8 @@ impl File {
         }
     }
 
-    /// The two words of its entry that tell its kind and its parent, and the first word of its rule. Directories but
-    /// the master file have names of four bytes.
+    /// Returns the first two words of an entry, and its rule's.
+    /// Directories except the master file have names of four bytes.
     fn head(&self) -> [u32; 3] {
         let first = 0x0005_0000 | u32::from(self.identifier());
         let second = u32::from(self.parent) << 24 | u32::from(self.short) << 16;
@@ -123,7 +126,8 @@ impl File {
         }
     }
 
-    /// The words of its entry, whose chain begins and ends so.
+    /// Returns the words of its entry, for this chain.
+    /// The chain is given by its first and last block.
     pub(crate) fn words(&self, first: u16, last: u16) -> [u32; 11] {
         let [kind, parent, rule] = self.head();
         let Records {
@@ -139,7 +143,7 @@ impl File {
         [kind, parent, rule, 0, name, 0, 0, 0, sizes, chain, ring]
     }
 
-    /// SELECT by the path from the master file, with its template.
+    /// Returns SELECT by the path from the master file, with its template.
     pub(crate) fn selection(&self, alloc: Global) -> Result<Vec<u8>, Fail> {
         if self.is_master() {
             return Ok(Vec::from_array(alloc, [0x00, 0xA4, 0x00, 0x04, 0x02, 0x3F, 0x00, 0x00])?);
@@ -154,7 +158,7 @@ impl File {
         Ok(command)
     }
 
-    /// Its template.
+    /// Returns its template.
     pub(crate) fn template(&self, alloc: Global) -> Result<Vec<u8>, Fail> {
         let mut objects = Vec::new(alloc);
         let [first, second] = self.identifier().to_be_bytes();
@@ -174,7 +178,7 @@ impl File {
         Ok(template)
     }
 
-    /// The object 82 of its template.
+    /// Writes object 82 of its template.
     fn describe(&self, objects: &mut Vec<u8>) -> Result<(), Fail> {
         let Records { length, number, .. } = self.records;
         match self.kind {
@@ -190,7 +194,7 @@ impl File {
         Ok(())
     }
 
-    /// The objects 84, 88 and 80 of its template, as far as it has them.
+    /// Writes objects 84, 88 and 80 of its template, if any.
     fn name(&self, objects: &mut Vec<u8>) -> Result<(), Fail> {
         let [high, low] = self.records.size.to_be_bytes();
         match (self.kind, self.short) {
@@ -212,13 +216,13 @@ impl File {
         Ok(())
     }
 
-    /// A byte of its content.
+    /// Returns a byte of its contents.
     pub(crate) fn byte(&self, at: u16) -> u8 {
         let byte = u32::from(self.entry) * 37 + u32::from(at) * 11;
         (byte % 251) as u8
     }
 
-    /// So many bytes of its content.
+    /// Returns `count` bytes of its contents.
     pub(crate) fn content(&self, alloc: Global, begin: u16, count: u16) -> Result<Vec<u8>, Fail> {
         let mut bytes = Vec::new(alloc);
         for i in 0..count {
@@ -227,7 +231,7 @@ impl File {
         Ok(bytes)
     }
 
-    /// Where a record begins, counted from 1.
+    /// Returns where a record begins, counted from 1.
     pub(crate) fn record_at(&self, record: u8) -> u16 {
         let Records {
             size,

@@ -1,4 +1,4 @@
-//! Cards of 4,096 pages that are filled with files until no room is left, and emptied again.
+//! Cards of 4,096 pages, filled with files until no space is left, and emptied again.
 
 use crate::starts::{DONE, answers, is_factory_card, makes_writes, new_board, old_board, started};
 use card_core::{Card, FreeSpace};
@@ -8,19 +8,19 @@ use std::test::Fail;
 
 const NO_ROOM: &[u8] = &[0x6A, 0x84];
 
-/// A card, and the space that is to be left on it.
+/// A card, and its expected free space.
 #[derive(Drop)]
 struct Filling {
     card: Card<CutBoard>,
     left: FreeSpace,
 }
 
-/// The two bytes of the identifier of a file.
+/// Returns the two bytes of the identifier of a file.
 fn identifier(number: u16) -> [u8; 2] {
     (0x6F00 | number).to_be_bytes()
 }
 
-/// CREATE FILE of a transparent file of so many bytes.
+/// Returns CREATE FILE of a transparent file of this size.
 fn creation(number: u16, size: u16) -> [u8; 29] {
     let [first, second] = identifier(number);
     let [high, low] = size.to_be_bytes();
@@ -30,14 +30,14 @@ fn creation(number: u16, size: u16) -> [u8; 29] {
     ]
 }
 
-/// DELETE FILE.
+/// Returns DELETE FILE of a file.
 fn deletion(number: u16) -> [u8; 7] {
     let [first, second] = identifier(number);
     [0x00, 0xE4, 0x00, 0x00, 0x02, first, second]
 }
 
 impl Filling {
-    /// The factory's card.
+    /// Returns the factory card.
     fn new(board: CutBoard) -> Result<Filling, Fail> {
         let left = FreeSpace {
             blocks: 3967,
@@ -49,26 +49,27 @@ impl Filling {
         })
     }
 
-    /// Whether a file of so many bytes is created, and costs a block for each 60 of them or rest.
+    /// Returns true if a file of this size is created.
+    /// It costs a block for each 60 bytes, rounded up.
     fn creates(&mut self, number: u16, size: u16) -> bool {
         self.left.blocks = self.left.blocks.saturating_sub(size.div_ceil(60));
         self.left.entries = self.left.entries.saturating_sub(1);
         answers(&mut self.card, &creation(number, size), DONE) && self.card.free() == self.left
     }
 
-    /// Whether there is no room for a file of so many bytes.
+    /// Returns true if no file of this size fits.
     fn refuses(&mut self, size: u16) -> bool {
         answers(&mut self.card, &creation(0, size), NO_ROOM) && self.card.free() == self.left
     }
 
-    /// Whether a file of so many bytes is deleted, and gives its blocks back.
+    /// Returns true if deleting a file frees its blocks.
     fn deletes(&mut self, number: u16, size: u16) -> bool {
         self.left.blocks = self.left.blocks.saturating_add(size.div_ceil(60));
         self.left.entries = self.left.entries.saturating_add(1);
         answers(&mut self.card, &deletion(number), DONE) && self.card.free() == self.left
     }
 
-    /// Creates files of such sizes, each of which leaves no room for the one that is named beside it.
+    /// Creates files of these sizes. After each no file of the second size fits.
     fn fill<R: Abort>(&mut self, rt: &R, sizes: &[(u16, u16)]) {
         let mut number = 1;
         for &(size, refused) in sizes {
@@ -81,7 +82,7 @@ impl Filling {
         }
     }
 
-    /// Deletes those of the files whose number is odd, or those whose number is even.
+    /// Deletes the files with odd numbers, or those with even numbers.
     fn empty<R: Abort>(&mut self, rt: &R, sizes: &[(u16, u16)], odd: u16) {
         let mut number = 1;
         for &(size, _) in sizes {
@@ -93,7 +94,7 @@ impl Filling {
         }
     }
 
-    /// Fills the card, starts it anew, and empties it.
+    /// Fills the card, powers it on again, and empties it.
     fn check<R: Abort + AllocGlobal>(mut self, rt: &R, sizes: &[(u16, u16)]) -> Result<(), Fail> {
         self.fill(rt, sizes);
         assert!(rt; self.left.blocks == 0);
@@ -110,7 +111,7 @@ impl Filling {
     }
 }
 
-// The largest files, of 547 blocks each; then 138 blocks are left.
+// The largest files, of 547 blocks each; 138 blocks are left.
 const LARGEST: &[(u16, u16)] = &[
     (32_767, 0),
     (32_767, 0),
@@ -128,7 +129,8 @@ fn the_largest_files_fill_a_card(rt: HostRuntime) -> Result<(), Fail> {
     Filling::new(old_board(rt.alloc(), 4096)?)?.check(&rt, LARGEST)
 }
 
-/// 61 files of 64 blocks, and one of 63, with which blocks and entries end.
+/// 61 files of 64 blocks and one of 63 use everything.
+/// No block and no entry is free then.
 #[test]
 fn files_take_all_blocks_and_entries(rt: HostRuntime) -> Result<(), Fail> {
     let mut sizes = Vec::new(rt.alloc());

@@ -1,4 +1,4 @@
-//! Numbers that look random, and are the same in each run.
+//! Pseudorandom numbers, the same in each run.
 ghost use Rattle.std.specs.Prelude.{◌<◌, ◌≤◌};
 
 /// A linear congruential generator of 64 bits.
@@ -8,12 +8,12 @@ pub(crate) struct Generator {
 }
 
 impl Generator {
-    /// The generator that begins with this state.
+    /// Returns the generator with this initial state.
     pub(crate) fn new(seed: u64) -> Generator {
         Generator { state: seed }
     }
 
-    /// The next number of 16 bits, the upper ones of the state.
+    /// Returns the next 16-bit number: the upper bits of the state.
     pub(crate) fn next_number(&mut self) -> u16 {
         self.state = self
             .state
@@ -22,7 +22,7 @@ impl Generator {
         (self.state >> 48) as u16
     }
 
-    /// The next number below a bound.
+    /// Returns the next number below a bound.
     pub(crate) fn below(&mut self, bound: u16) -> u16
         requires { 1 ≤ bound }
         ensures { result < bound }

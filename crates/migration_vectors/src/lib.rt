@@ -1,6 +1,5 @@
-//! Tests of the way of a card from format 1 to format 2, and of cards of more than 1,024 pages: starts that are cut at
-//! each of their writes and at random, and what is found then,
-//! by words and answers that were worked out by hand or by plain code.
+//! Tests of the migration from format 1 to format 2, and of cards of more than 1,024 pages. Power-ons are cut at each
+//! of their writes and at random. Expected words and answers were worked out by hand or by plain code.
 #![tactic(auto)]
 
 #[cfg(test)]

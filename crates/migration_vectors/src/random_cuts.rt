@@ -1,4 +1,4 @@
-//! A card with many files, whose migration is cut at random, and the starts behind it, until one is done.
+//! A card with many files, whose migration is cut at random, and so are the power-ons after it, until one completes.
 
 use crate::busy::{Busy, Exchange};
 use crate::ends::{Ends, with_all_words, words_of};
@@ -10,7 +10,8 @@ use nvm_board::CutBoard;
 use std::process::Abort;
 use std::test::Fail;
 
-/// A card of format 1 on 1,030 pages, and what its migration is to keep.
+/// A card of format 1, and what its migration must preserve.
+/// The board has 1,030 pages.
 #[derive(Drop)]
 struct Trial {
     board: CutBoard,
@@ -20,7 +21,8 @@ struct Trial {
 }
 
 impl Trial {
-    /// The card with many files, a transaction of which is under way. Format 1 has 896 blocks, and this board six more.
+    /// Returns the card with many files, with an open transaction.
+    /// Format 1 has 896 blocks, and this board has six more.
     fn new<R: Abort + AllocGlobal>(rt: &R, state: u32) -> Result<Trial, Fail> {
         let alloc = rt.alloc();
         let mut busy = Busy::new(alloc, 1030)?;
@@ -46,8 +48,8 @@ impl Trial {
         })
     }
 
-    /// Cuts starts until one is done, and counts them. In between the words are, undone,
-    /// as before or as after the migration.
+    /// Cuts power-ons until one completes, and counts them.
+    /// In between, the recovered words are those before or those after the migration.
     fn migrate<R: Abort + AllocGlobal>(
         &self,
         rt: &R,
@@ -72,7 +74,9 @@ impl Trial {
         Err(Fail::from("no start was done"))
     }
 
-    /// The card is the same, in a memory of format 2, and no later start writes. It may be asked for all its files.
+    /// Checks that the card is the same, in format 2.
+    /// Another power-on writes nothing.
+    /// Optionally it reads all its files.
     fn check_card<R: Abort + AllocGlobal>(
         &self,
         rt: &R,
@@ -90,7 +94,7 @@ impl Trial {
         Ok(())
     }
 
-    /// It answers as it is to.
+    /// Checks the answers of the card.
     fn check_answers<R: Abort>(&self, rt: &R, card: &mut Card<CutBoard>) {
         for exchange in &self.exchanges {
             let command = exchange.command.as_slice();
@@ -102,10 +106,10 @@ impl Trial {
     }
 }
 
-/// How often the card is brought to format 2.
+/// The number of migrations.
 const TRIALS: u32 = 1000;
 
-/// As all words are looked at each time, the card is asked for its files in each tenth trial alone.
+/// Each trial checks all words, so only each tenth reads the files.
 #[test]
 fn many_files_stay_under_random_cuts(rt: HostRuntime) -> Result<(), Fail> {
     let trial = Trial::new(&rt, 0)?;
@@ -119,7 +123,7 @@ fn many_files_stay_under_random_cuts(rt: HostRuntime) -> Result<(), Fail> {
     Ok(())
 }
 
-/// A card whose use has ended answers SELECT so.
+/// A terminated card answers SELECT so.
 const ENDED: &[u8] = &[0x69, 0x85];
 
 #[test]

@@ -1,5 +1,5 @@
-//! Memories of both formats that start as they are, and such as don't start:
-//! no start here writes a word, but where it rolls back.
+//! Memories of both formats that boot unchanged, and others that don't boot.
+//! No power-on here writes a word, except to roll back.
 
 use crate::ends::{with_all_words, words_of};
 use crate::starts::{is_factory_card, makes_writes, new_board, old_board, started};
@@ -9,7 +9,7 @@ use std::alloc::Global;
 use std::test::Fail;
 use store_vectors::fixtures::with_words;
 
-/// Why a card isn't started, if a start writes nothing, and it is so.
+/// Returns why power-on fails, if it fails and writes nothing.
 fn refusal(board: CutBoard) -> Option<StartFault> {
     let mut board = board;
     board.arm(1, 0x0000);
@@ -34,7 +34,7 @@ fn another_mark_is_damaged(rt: HostRuntime) -> Result<(), Fail> {
     Ok(())
 }
 
-/// A memory of which one pair counts, that names this address.
+/// Returns a memory with one counting pair, for this address.
 fn with_pair(board: CutBoard, address: u16) -> Result<CutBoard, Fail> {
     with_words(
         board,
@@ -42,7 +42,7 @@ fn with_pair(board: CutBoard, address: u16) -> Result<CutBoard, Fail> {
     )
 }
 
-// Pages of a board, and the first address behind its last word.
+// Pages of a board, and the first address past its last word.
 const BEHIND: &[(u16, u16)] = &[(1024, 16_384), (1030, 16_480), (4095, 65_520)];
 
 #[test]
@@ -69,14 +69,15 @@ fn pair_behind_page_1023_is_good_on_more_pages(rt: HostRuntime) -> Result<(), Fa
             "format 1, {address}"
         );
     }
-    // The link of the first block of those that the board has more, as it was.
+    // The link of the first additional block, unchanged.
     let board = with_pair(new_board(rt.alloc(), 1030)?, 16_384)?;
     let board = with_words(board, &[(16_384, 7)])?;
     assert!(rt; makes_writes(rt.alloc(), &board, 2)? && is_factory_card(&mut started(board)?, 901));
     Ok(())
 }
 
-/// The factory's memory of format 2 for so many pages, on a board with more of them, whose words are all ones.
+/// Returns a factory image of format 2 on a larger board.
+/// The other words of the board are all ones.
 fn on_more_pages(alloc: Global, pages: u16, more: u16) -> Result<CutBoard, Fail> {
     let words = words_of(alloc, &mut new_board(alloc, pages)?)?;
     let mut board = CutBoard::with_pages(alloc, more.clamp(1024, 4096))?;
@@ -88,7 +89,7 @@ fn on_more_pages(alloc: Global, pages: u16, more: u16) -> Result<CutBoard, Fail>
     with_all_words(board, &words)
 }
 
-// Pages for which a memory was made, pages that its board has, and blocks that are free.
+// Pages of a memory, pages of its board, and free blocks.
 const SMALLER: &[(u16, u16, u16)] = &[
     (1024, 1030, 895),
     (1030, 1031, 901),
@@ -111,8 +112,8 @@ fn smaller_memory_of_format_2_stays_so(rt: HostRuntime) -> Result<(), Fail> {
     Ok(())
 }
 
-// Where the blocks end, of a memory of format 2 on 1,030 pages: behind the board, also where the free chain goes on;
-// before page 1,024, where the chain ends there too; nowhere.
+// The end of the blocks of a memory of format 2 on 1,030 pages: past the board, also with a free chain that goes on;
+// before page 1,024, with a chain that ends there too; nowhere.
 const OTHER_ENDS: &[&[(u16, u32)]] = &[
     &[(3, 1031)],
     &[(3, 1031), (16_464, 1030)],

@@ -1,4 +1,4 @@
-//! Starts that may be cut, how many writes they make, and what a started card answers.
+//! Power-ons that may be cut, the number of their writes, and the answers of a powered card.
 ghost use Rattle.std.specs.Prelude.{◌≤◌};
 
 use card_core::{Answer, Card, FreeSpace, StartFault};
@@ -11,33 +11,34 @@ const SELECT: &[u8] = &[0x00, 0xA4, 0x00, 0x0C, 0x02, 0x2F, 0xE2];
 
 const READ: &[u8] = &[0x00, 0xB0, 0x00, 0x00, 0x0A];
 
-// The content of 2FE2, and 9000.
+// The contents of 2FE2, and 9000.
 const CONTENT: &[u8] = &[
     0x98, 0x10, 0x32, 0x54, 0x76, 0x98, 0x10, 0x32, 0x54, 0x76, 0x90, 0x00,
 ];
 
 pub(crate) const DONE: &[u8] = &[0x90, 0x00];
 
-/// How a start ended that may have been cut.
+/// The end of a power-on that may have been cut.
 #[derive(Drop)]
 pub(crate) enum Ending {
-    /// No write of it was the one to be cut.
+    /// It makes fewer writes than the one to cut.
     Whole(Card<CutBoard>),
-    /// It was cut, and there is power again.
+    /// It was cut, and power is back.
     Cut(CutBoard),
 }
 
-/// The factory's memory in format 2, on so many pages.
+/// Returns the factory image in format 2, on this many pages.
 pub(crate) fn new_board(alloc: Global, pages: u16) -> Result<CutBoard, Fail> {
     formatted(CutBoard::with_pages(alloc, pages.clamp(1024, 4096))?)
 }
 
-/// The factory's memory in format 1, on the first pages of so many.
+/// Returns the factory image in format 1, on this many pages.
 pub(crate) fn old_board(alloc: Global, pages: u16) -> Result<CutBoard, Fail> {
     formatted_old(CutBoard::with_pages(alloc, pages.clamp(1024, 4096))?)
 }
 
-/// Starts a card, cut at this write of the start by this mask if it makes so many.
+/// Powers a card on, with a cut at this write.
+/// The cut is only there if power-on makes the write.
 pub(crate) fn start_cut(mut board: CutBoard, write: u32, mask: u16) -> Result<Ending, Fail>
     requires { 1 ≤ write }
 {
@@ -52,7 +53,7 @@ pub(crate) fn start_cut(mut board: CutBoard, write: u32, mask: u16) -> Result<En
     }
 }
 
-/// The board after a start that is cut at this write.
+/// Returns the board after a power-on that is cut at this write.
 pub(crate) fn cut_board(board: CutBoard, write: u32, mask: u16) -> Result<CutBoard, Fail>
     requires { 1 ≤ write }
 {
@@ -62,7 +63,7 @@ pub(crate) fn cut_board(board: CutBoard, write: u32, mask: u16) -> Result<CutBoa
     }
 }
 
-/// The card that a board starts.
+/// Returns the card after power-on.
 pub(crate) fn started(board: CutBoard) -> Result<Card<CutBoard>, Fail> {
     match Card::start(board) {
         Ok(card) => Ok(card),
@@ -70,7 +71,7 @@ pub(crate) fn started(board: CutBoard) -> Result<Card<CutBoard>, Fail> {
     }
 }
 
-/// Whether a start makes so many writes: it is cut at the last one, and not at one more.
+/// Returns true if power-on makes exactly this number of writes.
 pub(crate) fn makes_writes(alloc: Global, board: &CutBoard, writes: u32) -> Result<bool, Fail> {
     let Ending::Whole(_) = start_cut(board.copy(alloc)?, writes.saturating_add(1), 0x0000)? else {
         return Ok(false);
@@ -84,13 +85,13 @@ pub(crate) fn makes_writes(alloc: Global, board: &CutBoard, writes: u32) -> Resu
     ))
 }
 
-/// Whether a card answers a command so.
+/// Returns true if a card gives this answer to a command.
 pub(crate) fn answers(card: &mut Card<CutBoard>, command: &[u8], want: &[u8]) -> bool {
     let mut answer = Answer::new();
     card.command(command, &mut answer).is_ok() && answer.as_slice() == want
 }
 
-/// Whether a card is the factory's, with so many free blocks.
+/// Returns true for the factory card with this many free blocks.
 pub(crate) fn is_factory_card(card: &mut Card<CutBoard>, blocks: u16) -> bool {
     let free = FreeSpace {
         blocks,
