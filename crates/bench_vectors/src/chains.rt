@@ -1,5 +1,5 @@
-//! Commands that come in two to four blocks: power is cut under the last of them, or goes off before it, or RESYNCH
-//! comes.
+//! Commands in chains of two to four blocks. Power is cut during the last block, or goes off before it, or RESYNCH
+//! comes before it.
 
 use crate::replies::is_reply;
 use card_bench::{Bench, Item, Turn};
@@ -10,7 +10,7 @@ use std::alloc::Global;
 use std::process::Abort;
 use std::test::Fail;
 
-// The CREATE of a file of ten bytes with the short identifier 1, and READ BINARY of its first four.
+// CREATE FILE of a file of ten bytes with short identifier 1, and READ BINARY of its first four.
 const CREATE: &str = "00E000001962178202412183026F018801088002000A8A01058C03030000";
 
 const READ: &str = "00B0810004";
@@ -19,8 +19,8 @@ const OLD_BYTES: &str = "FFFFFFFF9000";
 
 const NEW_BYTES: &str = "010203049000";
 
-/// UPDATE BINARY of these bytes, in blocks; and the reply to the last block where it comes first after power-on or
-/// RESYNCH: another number is expected, or it is a command by itself, of a class that isn't known.
+/// UPDATE BINARY in blocks, and the reply to its last block alone.
+/// After power-on or RESYNCH either another number is expected, or it is a command by itself with an unknown class.
 struct Chain {
     parts: &'static [&'static str],
     control: u8,
@@ -45,7 +45,7 @@ const CHAINS: &[Chain] = &[
     },
 ];
 
-/// A card with the file, power off.
+/// Returns a board with the file, with power off.
 fn created(alloc: Global) -> Result<CutBoard, Fail> {
     let mut bench = Bench::new(formatted(CutBoard::new(alloc)?)?);
     let block = framed(alloc, 0x00, CREATE)?;
@@ -57,19 +57,19 @@ fn created(alloc: Global) -> Result<CutBoard, Fail> {
     }
 }
 
-/// What comes of one turn.
+/// Returns the result of one turn.
 fn played(bench: &mut Bench<CutBoard>, turn: Turn<'_>) -> [Item; 1] {
     let mut trace = [Item::Quiet];
     bench.play(&[turn], &mut trace);
     trace
 }
 
-/// Whether the card starts.
+/// Returns true if the card boots.
 fn starts(bench: &mut Bench<CutBoard>) -> bool {
     matches!(played(bench, Turn::On), [Item::Atr])
 }
 
-/// Whether a block is answered by this one.
+/// Returns true if the reply to a block is this one.
 fn replies(
     alloc: Global,
     bench: &mut Bench<CutBoard>,
@@ -83,7 +83,8 @@ fn replies(
 }
 
 impl Chain {
-    /// The control byte of the last block: blocks have the numbers 0 and 1 in turn.
+    /// Returns the control byte of the last block.
+    /// Numbers 0 and 1 alternate.
     fn last_control(&self) -> u8 {
         if self.parts.len() % 2 == 0 {
             0x40
@@ -92,12 +93,13 @@ impl Chain {
         }
     }
 
-    /// The bytes of the last block.
+    /// Returns the bytes of the last block.
     fn last_part(&self) -> &'static str {
         self.parts.last().copied().unwrap_or("")
     }
 
-    /// Whether each block but the last is answered by an R-block that expects the next one.
+    /// Returns true if each block but the last is acknowledged.
+    /// The R-block expects the next one.
     fn begins(&self, alloc: Global, bench: &mut Bench<CutBoard>) -> Result<bool, Fail> {
         let first = self.parts.len().saturating_sub(1);
         for (i, part) in self.parts.iter().take(first).enumerate() {
@@ -113,8 +115,8 @@ impl Chain {
         Ok(true)
     }
 
-    /// Whether the last block, alone, is answered so that nothing of those before it is left, and the file is as it
-    /// was.
+    /// Returns true if the last block alone gets `reply`.
+    /// The file is then unchanged.
     fn is_forgotten(&self, alloc: Global, bench: &mut Bench<CutBoard>) -> Result<bool, Fail> {
         let block = (self.last_control(), self.last_part());
         Ok(
@@ -125,16 +127,18 @@ impl Chain {
     }
 }
 
-/// What comes of a command of which a write is to be cut.
+/// The result of a command with a cut write.
 #[derive(Clone, Copy)]
 enum Came {
-    /// Power was lost under the last block, and the next start found the new bytes, or the old ones.
+    /// Power was lost during the last block.
+    /// Recovery gave the new bytes or the old ones.
     Cut { is_new: bool },
     Answered,
     Else,
 }
 
-/// Whether the card answers nothing without power, and then starts with the new bytes, or the old ones.
+/// Returns whether recovery gave the new bytes or the old ones.
+/// Before power-on the card gives no answer.
 fn found(alloc: Global, bench: &mut Bench<CutBoard>) -> Result<Came, Fail> {
     let is_mute = matches!(
         played(bench, Turn::Block(&[0x00, 0x80, 0x00, 0x80])),
@@ -151,7 +155,8 @@ fn found(alloc: Global, bench: &mut Bench<CutBoard>) -> Result<Came, Fail> {
     }
 }
 
-/// What comes of a chain of which this write is to be cut. It isn't under a block before the last.
+/// Returns the result of a chain with a cut write.
+/// The write is in its last block.
 fn cut_at(
     alloc: Global,
     board: CutBoard,
@@ -175,7 +180,8 @@ fn cut_at(
     }
 }
 
-/// A chain is cut at each of its writes. The old bytes are there until the last one is made.
+/// Checks a chain with a cut at each of its writes.
+/// The old bytes are there until the last write.
 fn check_cuts<R: Abort + AllocGlobal>(
     rt: &R,
     board: &CutBoard,
@@ -209,7 +215,7 @@ fn chains_are_cut_in_their_last_block(rt: HostRuntime) -> Result<(), Fail> {
     Ok(())
 }
 
-/// Whether a chain is forgotten that ends by power-off, or by RESYNCH.
+/// Returns true if a chain is forgotten after power-off, or after RESYNCH.
 fn is_left_off(alloc: Global, board: CutBoard, chain: &Chain) -> Result<bool, Fail> {
     let mut bench = Bench::new(board);
     let ends_by_power = starts(&mut bench)
@@ -235,7 +241,7 @@ fn chains_are_forgotten_before_their_last_block(rt: HostRuntime) -> Result<(), F
     Ok(())
 }
 
-/// A command of more bytes than any has is 6700, however many they are.
+/// A command with too many bytes gets 6700.
 #[test]
 fn longest_chains_are_refused(rt: HostRuntime) -> Result<(), Fail> {
     let mut bench = Bench::new(created(rt.alloc())?);

@@ -1,5 +1,5 @@
-//! Boards that fail once, at a call or at a write, in a command: it is answered 6581, and what the next start finds is
-//! as before the command or as after it.
+//! Boards that fail once, at a call or at a write, during a command. The answer is 6581, and recovery gives the state
+//! before the command or after it.
 
 use crate::replies::is_reply;
 use card_bench::{Bench, Item, Turn};
@@ -10,10 +10,11 @@ use std::alloc::Global;
 use std::process::Abort;
 use std::test::Fail;
 
-// A command and its answer, in hexadecimal digits.
+// A command and its answer, as hexadecimal digits.
 type Exchange = (&'static str, &'static str);
 
-/// A card on a bench, and the control byte of the next block. Each command and each answer goes in one.
+/// A card on a bench, and the next block's control byte.
+/// Commands and answers fit into one block.
 #[derive(Drop)]
 struct Desk {
     bench: Bench<FaultBoard>,
@@ -28,7 +29,7 @@ impl Desk {
         }
     }
 
-    /// Whether the card starts when power goes off and on.
+    /// Returns true if the card boots after power off and on.
     fn starts(&mut self) -> bool {
         let mut trace = [Item::Mute, Item::Mute];
         self.bench.play(&[Turn::Off, Turn::On], &mut trace);
@@ -36,7 +37,7 @@ impl Desk {
         matches!(trace, [Item::Quiet, Item::Atr])
     }
 
-    /// What comes of a command.
+    /// Sends a command, and returns the result.
     fn sends(&mut self, alloc: Global, command: &str) -> Result<[Item; 1], Fail> {
         let block = framed(alloc, self.control, command)?;
         let mut trace = [Item::Mute];
@@ -45,13 +46,13 @@ impl Desk {
         Ok(trace)
     }
 
-    /// Whether a command is answered so.
+    /// Returns true if a command gets this answer.
     fn answers(&mut self, alloc: Global, (command, answer): Exchange) -> Result<bool, Fail> {
         let wanted = framed(alloc, self.control, answer)?;
         Ok(is_reply(&self.sends(alloc, command)?, &wanted))
     }
 
-    /// Whether each of some commands is.
+    /// Returns true if each of these commands gets its answer.
     fn answers_all(&mut self, alloc: Global, exchanges: &[Exchange]) -> Result<bool, Fail> {
         for &exchange in exchanges {
             if !self.answers(alloc, exchange)? {
@@ -61,13 +62,13 @@ impl Desk {
         Ok(true)
     }
 
-    /// Whether the card starts, and then does.
+    /// Returns true if the card boots and gives these answers.
     fn starts_and_answers(&mut self, alloc: Global, exchanges: &[Exchange]) -> Result<bool, Fail> {
         Ok(self.starts() && self.answers_all(alloc, exchanges)?)
     }
 }
 
-// The CREATE of a file 6F01 of ten bytes.
+// CREATE FILE of a file 6F01 of ten bytes.
 const CREATE: Exchange = (
     "00E000001962178202412183026F018801088002000A8A01058C03030000",
     "9000",
@@ -90,8 +91,8 @@ const OLD_BYTES: &[Exchange] = &[SELECT, ("00B0000004", "FFFFFFFF9000")];
 
 const NEW_BYTES: &[Exchange] = &[SELECT, ("00B0000004", "010203049000")];
 
-// A fault at a write: what is sent before it, the write and which of its words are new, what is sent from then on, and
-// what the next start finds.
+// A fault at a write: the commands before it, the write and its mask of new words, the commands from then on, and those
+// after the next power-on.
 struct FailedWrite {
     before: &'static [Exchange],
     write: u32,
@@ -123,7 +124,7 @@ const FAILED_WRITES: &[FailedWrite] = &[
         failed: FAILED_UPDATE,
         after: NEW_BYTES,
     },
-    // VERIFY of another value: its one write is the try that is taken.
+    // VERIFY with another value: its one write uses up the try.
     FailedWrite {
         before: &[],
         write: 1,
@@ -140,12 +141,12 @@ const FAILED_WRITES: &[FailedWrite] = &[
     },
 ];
 
-// A command that fails, and another one: nothing is done until the next start.
+// A command that fails, and another one: neither runs before the next power-on.
 const FAILED_UPDATE: &[Exchange] = &[("00D600000401020304", "6581"), ("00B0000004", "6581")];
 
 const FAILED_VERIFY: &[Exchange] = &[(WRONG, "6581"), ("00200001", "6581")];
 
-/// Whether a write fails, and the next start finds what it is to find.
+/// Returns true if a write fails as the row says.
 fn fails_so(alloc: Global, board: FaultBoard, row: &FailedWrite) -> Result<bool, Fail> {
     let mut desk = Desk::new(board);
     let is_ready = desk.starts_and_answers(alloc, row.before)?;
@@ -168,8 +169,8 @@ fn a_failed_write_is_answered_6581(rt: HostRuntime) -> Result<(), Fail> {
     Ok(())
 }
 
-// A command of which a call fails: what is sent before it, in an earlier session and in its own; it, and its answer
-// where no call fails; and how the next start looks at the card, with the answers of each card that may be found.
+// A command with a failing call: the commands before it, in an earlier session and in its own; the command, and its
+// answer without a fault; and the commands after the next power-on, with the answers of each possible card state.
 struct FailedCommand {
     made: &'static [Exchange],
     before: &'static [Exchange],
@@ -307,7 +308,7 @@ const PINS: &[FailedCommand] = &[
         command: ("00200001", "63C3"),
         found: &[&[("00200001", "63C3")]],
     },
-    // VERIFY of another value: a try may be gone. Of the value: one may, or all are there.
+    // VERIFY with another value: a try may be used up. With the value: one may be, or the tries are reset.
     FailedCommand {
         made: &[],
         before: &[],
@@ -415,7 +416,7 @@ const PINS: &[FailedCommand] = &[
     },
 ];
 
-// The CREATE of a cyclic file 6F03 of three records of three bytes, and the command that puts its first record.
+// CREATE FILE of a cyclic file 6F03 of three records of three bytes, and the command that writes its first record.
 const CREATE_CYCLIC: Exchange = (
     "00E000001A621882044621000383026F038800800200098A01058C03030000",
     "9000",
@@ -545,7 +546,7 @@ const RECORDS: &[FailedCommand] = &[
     },
 ];
 
-/// Whether the next start finds one of these cards.
+/// Returns true if recovery gave one of these card states.
 fn finds(alloc: Global, board: FaultBoard, found: &[&[Exchange]]) -> Result<bool, Fail> {
     let mut desk = Desk::new(board);
     for exchanges in found {
@@ -556,8 +557,9 @@ fn finds(alloc: Global, board: FaultBoard, found: &[&[Exchange]]) -> Result<bool
     Ok(false)
 }
 
-/// Whether a call, or a write, fails in a command, after so many that don't: it is then answered 6581 and leaves one of
-/// the cards. Else it makes no more of them, and is answered. None where it is otherwise.
+/// Returns whether a call, or a write, failed in a command.
+/// After a fault the answer is 6581 and one of the card states remains. A command that makes fewer calls gets its
+/// answer. Returns `None` in any other case.
 fn fails_after(
     alloc: Global,
     board: FaultBoard,
@@ -597,7 +599,7 @@ fn calls_of(
     Ok(None)
 }
 
-/// A card on which these commands were answered, with power off.
+/// Returns a board after these commands got their answers, with power off.
 fn made(alloc: Global, board: FaultBoard, exchanges: &[Exchange]) -> Result<FaultBoard, Fail> {
     let mut desk = Desk::new(formatted(board)?);
     if !desk.starts_and_answers(alloc, exchanges)? {
@@ -606,7 +608,8 @@ fn made(alloc: Global, board: FaultBoard, exchanges: &[Exchange]) -> Result<Faul
     Ok(desk.bench.into_board())
 }
 
-/// A command fails at its calls, of which it makes one at least.
+/// Checks a command with a fault at its calls.
+/// It makes at least one.
 fn check_calls<R: Abort + AllocGlobal>(rt: &R, row: &FailedCommand) -> Result<(), Fail> {
     let board = made(rt.alloc(), FaultBoard::on_calls(rt.alloc())?, row.made)?;
     let calls = calls_of(rt.alloc(), &board, row, 0x0000)?;
@@ -614,7 +617,8 @@ fn check_calls<R: Abort + AllocGlobal>(rt: &R, row: &FailedCommand) -> Result<()
     Ok(())
 }
 
-/// And at its writes, if it makes any, whose first word is then old or new.
+/// Checks a command with a fault at its writes.
+/// Their first word is old or new.
 fn check_writes<R: Abort + AllocGlobal>(rt: &R, row: &FailedCommand) -> Result<(), Fail> {
     let board = made(rt.alloc(), FaultBoard::on_writes(rt.alloc())?, row.made)?;
     for mask in [0x0000, 0x0001] {

@@ -1,5 +1,5 @@
-//! Tests of what a bench plays, by blocks that were worked out by hand: turns of every kind, commands in chains that
-//! are cut, commands of which a call of the device fails.
+//! Tests of the turns of a bench, with blocks worked out by hand: turns of every kind, cut commands in chains, and
+//! commands with a failing device call.
 #![tactic(auto)]
 
 #[cfg(test)]

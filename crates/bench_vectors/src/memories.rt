@@ -1,4 +1,4 @@
-//! A memory whose journal can be undone is undone by a start.
+//! Power-on undoes a journal.
 
 use card_bench::{Bench, Item, Turn};
 use card_vectors::fixtures::formatted;
@@ -6,8 +6,7 @@ use nvm_board::CutBoard;
 use std::test::Fail;
 use store_vectors::fixtures::with_words;
 
-// Two pairs that count name the first word of the file, which was written since. The first of them has the word that
-// was there.
+// Two counting pairs for the first word of the file, which was written since. The first of them has the original word.
 const SET_TWICE: &[(u16, u32)] = &[
     (1168, 2),
     (1184, 2049),
@@ -22,7 +21,7 @@ const READ: &[u8] = &[0x00, 0x00, 0x05, 0x00, 0xB0, 0x82, 0x00, 0x04, 0x33];
 
 const FOUR_BYTES: &[u8] = &[0x00, 0x00, 0x06, 0x98, 0x10, 0x32, 0x54, 0x90, 0x00, 0x78];
 
-/// What a card sends to the one block after it started.
+/// Returns true if the first block after power-on reads the original word.
 fn is_read_after_start(board: CutBoard) -> bool {
     let mut bench = Bench::new(board);
     let mut trace = [Item::Mute, Item::Mute];

@@ -1,4 +1,4 @@
-//! Turns that a bench plays by blocks from outside.
+//! Turns of a bench with external blocks.
 
 use card_bench::{Bench, Item, Turn};
 use card_vectors::fixtures::formatted;
@@ -21,7 +21,7 @@ const TURNS: [Turn<'static>; 12] = [
     Turn::Block(SELECT_FIVE),
 ];
 
-/// What a turn is to end in.
+/// The expected result of a turn.
 enum Wanted {
     Mute,
     Atr,
@@ -29,7 +29,7 @@ enum Wanted {
     Reply(&'static [u8]),
 }
 
-// What each turn ends in.
+// The expected result of each turn.
 const WANTED: &[(usize, Wanted)] = &[
     (0, Wanted::Mute),
     (1, Wanted::Atr),
@@ -55,7 +55,7 @@ const BAD_LENGTH: &[u8] = &[
 
 const RESYNCH: &[u8] = &[0x00, 0xC0, 0x00, 0xC0];
 
-// SELECT of the master file, whose template is the answer, in one block.
+// SELECT of the master file, whose answer is the template, in one block.
 const SELECT: &[u8] = &[
     0x00, 0x00, 0x08, 0x00, 0xA4, 0x00, 0x04, 0x02, 0x3F, 0x00, 0x00, 0x95,
 ];
@@ -74,7 +74,7 @@ const TEMPLATE: &[u8] = &[
     0x8C, 0x05, 0x27, 0x18, 0x00, 0x00, 0x00, 0x90, 0x00, 0xA9,
 ];
 
-/// Whether an item is what is wanted.
+/// Returns true if an item is the expected one.
 fn is_so(item: Option<&Item>, wanted: &Wanted) -> bool {
     match (item, wanted) {
         (Some(Item::Reply(reply)), Wanted::Reply(bytes)) => reply.as_slice() == *bytes,

@@ -1,8 +1,8 @@
-//! What a turn of a bench comes to.
+//! Checks the result of a turn.
 
 use card_bench::Item;
 
-/// Whether the card's end sent this block.
+/// Returns true if the card's end sent this block.
 pub fn is_reply(trace: &[Item; 1], wanted: &[u8]) -> bool {
     match trace {
         [Item::Reply(block)] => block.as_slice() == wanted,
