@@ -1,4 +1,4 @@
-//! Tests of the sweep of a command, by runs that were counted by hand.
+//! Tests of the sweep of a command, with runs counted by hand.
 #![tactic(auto)]
 
 #[cfg(test)]

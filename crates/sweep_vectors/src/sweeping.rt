@@ -1,5 +1,5 @@
-//! Commands that are cut at each of their device writes, with the starts behind them: how many runs there are, and how
-//! many of them gave each result.
+//! Commands that are cut at each of their device writes, with the power-ons after them: the number of runs with each
+//! finding.
 
 ghost use Rattle.std.specs.Prelude.{◌≡◌, None, IfOk};
 ghost use Rattle.nvm_board.specs.Cut.{cut_facts};
@@ -12,18 +12,18 @@ use std::alloc::{AllocError, Global};
 use std::process::Abort;
 use std::test::Fail;
 
-/// A command that is swept. Commands and answers are hexadecimal digits.
+/// A command to sweep. Commands and answers are hexadecimal digits.
 #[derive(Clone, Copy)]
 struct Case {
-    /// The commands between a power-on and it.
+    /// The commands between power-on and the command.
     prepare: &'static [&'static str],
     command: &'static str,
-    /// The commands behind the start that isn't cut.
+    /// The commands after the uncut power-on.
     probe: &'static [&'static str],
 }
 
 impl Case {
-    /// A command, the commands before it, and those behind it.
+    /// Returns a case: a command, and those before and after it.
     fn new(
         prepare: &'static [&'static str],
         command: &'static str,
@@ -37,10 +37,11 @@ impl Case {
     }
 }
 
-/// A result: the free blocks and entries, the answers of the probe, and how many runs gave it.
+/// A finding and the number of runs with it.
+/// It has the free blocks and entries, and the answers of the probe.
 type Given = (u16, u16, &'static [&'static str], u32);
 
-// A file 6F01 of ten bytes; a directory; rings and lists of records; files whose states may be set.
+// A file 6F01 of ten bytes; a directory; cyclic and linear files; files with a rule for life cycles.
 const FILE: &str = "00E000001962178202412183026F018801088002000A8A01058C03030000";
 
 const DIRECTORY: &str = "00E000001362118202782183027F108A01058C0407000000";
@@ -101,7 +102,7 @@ const RIGHT_AT_LAST: Case = Case {
     probe: TRIES,
 };
 
-/// A board with the factory's memory, and no cut to come.
+/// Returns a board with the factory image, and no pending cut.
 fn uncut_board(alloc: Global) -> Result<CutBoard, Fail>
     ensures { IfOk result (λ b. (cut_facts b).pending ≡ None) }
 {
@@ -112,7 +113,7 @@ fn uncut_board(alloc: Global) -> Result<CutBoard, Fail>
     Ok(board)
 }
 
-/// Commands as blocks, numbered in turn.
+/// Returns commands as blocks, with alternating numbers.
 fn blocks_of(alloc: Global, commands: &[&str]) -> Result<Vec<Vec<u8>>, Fail> {
     let mut blocks = Vec::new(alloc);
     let mut control = 0x00;
@@ -123,7 +124,7 @@ fn blocks_of(alloc: Global, commands: &[&str]) -> Result<Vec<Vec<u8>>, Fail> {
     Ok(blocks)
 }
 
-/// The turns that send blocks, behind a power-on where one is asked for.
+/// Returns the turns for these blocks, after a power-on if `is_on`.
 fn turns_of<'a>(alloc: Global, is_on: bool, blocks: &'a [Vec<u8>]) -> Result<Vec<Turn<'a>>, Fail> {
     let mut turns = Vec::new(alloc);
     if is_on {
@@ -135,7 +136,7 @@ fn turns_of<'a>(alloc: Global, is_on: bool, blocks: &'a [Vec<u8>]) -> Result<Vec
     Ok(turns)
 }
 
-/// The sweep of a command on the factory's card.
+/// Returns the sweep of a command on the factory card.
 fn swept(alloc: Global, case: &Case, depth: u8) -> Result<Result<Sweep, AllocError>, Fail> {
     let board = uncut_board(alloc)?;
     let before = blocks_of(alloc, case.prepare)?;
@@ -147,7 +148,7 @@ fn swept(alloc: Global, case: &Case, depth: u8) -> Result<Result<Sweep, AllocErr
     Ok(sweep(alloc, &board, &prepare, &command, &probe, depth))
 }
 
-/// Whether the replies to a probe carry these answers.
+/// Returns true if the replies to a probe contain these answers.
 fn replies_so(alloc: Global, trace: &[Item], answers: &[&str]) -> Result<bool, Fail> {
     let wanted = blocks_of(alloc, answers)?;
     for i in 0..trace.len() {
@@ -159,7 +160,7 @@ fn replies_so(alloc: Global, trace: &[Item], answers: &[&str]) -> Result<bool, F
     Ok(trace.len() == answers.len())
 }
 
-/// Whether a result is this one.
+/// Returns true if a finding is this one.
 fn is_given(alloc: Global, seen: &Seen, given: &Given) -> Result<bool, Fail> {
     let &(blocks, entries, answers, count) = given;
     let is_counted = seen.count == count
@@ -168,7 +169,7 @@ fn is_given(alloc: Global, seen: &Seen, given: &Given) -> Result<bool, Fail> {
     Ok(is_counted && replies_so(alloc, &seen.trace, answers)?)
 }
 
-/// Whether a sweep gave these results and no others, in this order.
+/// Returns true if a sweep has exactly these findings, in this order.
 fn gives(alloc: Global, sweep: &Sweep, given: &[Given]) -> Result<bool, Fail> {
     for i in 0..sweep.seen.len() {
         match given.get(i) {
@@ -179,7 +180,7 @@ fn gives(alloc: Global, sweep: &Sweep, given: &[Given]) -> Result<bool, Fail> {
     Ok(sweep.seen.len() == given.len())
 }
 
-/// A command's sweep has so many runs, and these results.
+/// Checks the number of runs of a sweep, and its findings.
 fn check<R: Abort + AllocGlobal>(
     rt: &R,
     case: &Case,
@@ -207,12 +208,12 @@ fn check_once<R: Abort + AllocGlobal>(
     check(rt, case, 0, runs, &[old, new])
 }
 
-/// The old bytes so often, and the new ones once.
+/// Returns two findings: old bytes in `old` runs, new in one.
 fn old_or_new(old: u32) -> [Given; 2] {
     [(894, 61, OLD_BYTES, old), (894, 61, NEW_WORD, 1)]
 }
 
-/// The writes are pairs, gate, word, gate: two words, and one each.
+/// The writes are pairs (two words), gate, word, and gate.
 #[test]
 fn one_word_is_old_or_new(rt: HostRuntime) -> Result<(), Fail> {
     check(&rt, &ONE_WORD, 0, 10, &old_or_new(9))?;
@@ -220,7 +221,7 @@ fn one_word_is_old_or_new(rt: HostRuntime) -> Result<(), Fail> {
     check(&rt, &ONE_WORD, 3, 166, &old_or_new(165))
 }
 
-/// The writes are pairs, gate, words, gate: four words, one, two, and one.
+/// The writes are pairs (four words), gate, words (two), and gate.
 #[test]
 fn two_words_are_old_or_new(rt: HostRuntime) -> Result<(), Fail> {
     check(
@@ -243,7 +244,7 @@ fn two_words_are_old_or_new_three_deep(rt: HostRuntime) -> Result<(), Fail> {
     )
 }
 
-/// A wrong value costs a try, by one write.
+/// A wrong value uses up a try, with one write.
 #[test]
 fn wrong_value_costs_a_try(rt: HostRuntime) -> Result<(), Fail> {
     check(
@@ -255,7 +256,8 @@ fn wrong_value_costs_a_try(rt: HostRuntime) -> Result<(), Fail> {
     )
 }
 
-/// The right one too, until all tries are given back by the second write.
+/// A right value also uses up a try.
+/// The second write resets the tries.
 #[test]
 fn right_value_costs_a_try_until_the_last_write(rt: HostRuntime) -> Result<(), Fail> {
     check(
