@@ -1,4 +1,4 @@
-//! Scripts whose one command is cut at each of its device writes: what is found after the next start.
+//! Scripts with one command that is cut at each of its device writes, and the state after the next power-on.
 
 use crate::scripts::outcome_of;
 use std::alloc::Global;
@@ -7,24 +7,26 @@ use std::test::Fail;
 
 /// A command that is cut at each of its device writes.
 struct Torn {
-    /// The lines before it, and its own.
+    /// The lines before it, and the line of the command.
     prepare: &'static str,
     command: &'static str,
-    /// How many device writes it makes. The last one decides.
+    /// The number of its device writes. The last one decides.
     writes: u32,
-    /// What it answers where it isn't cut.
+    /// The answer without a cut.
     answer: &'static str,
-    /// Whether each write is torn by each single word, or by few masks.
+    /// True if each write is torn with each single word.
+    /// Otherwise it is torn with few masks.
     has_all_masks: bool,
-    /// Whether starts that are cut come between the cut and the next start.
+    /// True if cut power-ons come between the cut and the next power-on.
     has_torn_starts: bool,
-    /// The next start, and how the card is looked at.
+    /// The next power-on, and the lines that show the state.
     look: &'static str,
-    /// What is found as long as the first write isn't made, then the last one, and at the end.
+    /// The outputs of `look`, by the cut write.
+    /// They are those before the first write, before the last one, and at the end.
     found: [&'static str; 3],
 }
 
-// Which words of a torn write are new: none, all, or a single one; and whether the first is.
+// The new words of a torn write: none, all, or a single one; and whether the first is new.
 const MASKS: &[(&str, bool)] = &[
     ("0000", false),
     ("FFFF", true),
@@ -54,7 +56,7 @@ const FEW_MASKS: &[(&str, bool)] = &[
     ("4000", false),
 ];
 
-// None, and starts of which one of the first writes is cut too.
+// No power-on, and power-ons with a cut at one of the first writes.
 const STARTS: &[&str] = &[
     "",
     "cut 1 0000\non\n",
@@ -67,7 +69,7 @@ const STARTS: &[&str] = &[
     "cut 4 0001\non\n",
 ];
 
-// Three answers: the tries of PIN 1, those of its unblocking value, and what a VERIFY of another value answers.
+// Three answers: the tries of PIN 1, those of its unblocking value, and the answer to VERIFY with another value.
 const TRIES: &str =
     "on\ncut 999999 0000\napdu 00200001\napdu 002C0001\napdu 002000010835363738FFFFFFFF\n";
 
@@ -79,7 +81,7 @@ const UNBLOCKING_CHARGED: &str = "< 63C3\n< 63C9\n< 63C2\n";
 
 const CHANGED: &str = "< 63C3\n< 63CA\n< 9000\n";
 
-// A command that shows a secret to PIN 1 of the factory card.
+// A command with a secret of PIN 1 of the factory card.
 macro_rules! on_pin {
     ($command:expr, $writes:expr, $answer:expr, $charged:expr, $done:expr) => {
         Torn {
@@ -96,8 +98,8 @@ macro_rules! on_pin {
 }
 
 const SPACES: &[Torn] = &[
-    // DELETE FILE of the factory's file: the pairs of a word of its entry, of its chain and of the header, the gate,
-    // each of these words, since none lies beside another, and the commit.
+    // DELETE FILE of the factory's file: the pairs of a word of its entry, of its chain and of the header; the gate;
+    // each of these words, as none is next to another; and the commit.
     Torn {
         prepare: "on\n",
         command: "apdu 00E40000022FE2\n",
@@ -108,8 +110,8 @@ const SPACES: &[Torn] = &[
         look: "on\nfree\n",
         found: ["free 895 62\n", "free 895 62\n", "free 896 63\n"],
     },
-    // And of a dedicated file with two files and a dedicated file in it:
-    // words of four entries, of two chains, and of the header.
+    // DELETE FILE of a dedicated file with two files and a dedicated file in it: words of four entries, of two chains,
+    // and of the header.
     Torn {
         prepare: "on\napdu 00E000001362118202782183027F108A01058C0407000000\n\
             apdu 00E000001962178202412183026F018801088002000A8A01058C03030000\n\
@@ -124,7 +126,7 @@ const SPACES: &[Torn] = &[
         look: "on\nfree\n",
         found: ["free 892 58\n", "free 892 58\n", "free 895 62\n"],
     },
-    // CREATE FILE of a file of two blocks: they are filled; then the pairs of eight words, the gate, the header's word,
+    // CREATE FILE of a file of two blocks. They are filled; then the pairs of eight words, the gate, the header's word,
     // six of the entry, and a link; then the pairs of five, the gate, and the other five of the entry; and the commit.
     Torn {
         prepare: "on\n",
@@ -139,8 +141,8 @@ const SPACES: &[Torn] = &[
 ];
 
 const UPDATES: &[Torn] = &[
-    // UPDATE BINARY of eight bytes from byte 1 on, which lie in three words:
-    // their pairs, the gate, the words, and the commit.
+    // UPDATE BINARY of eight bytes from byte 1 on, which are in three words: their pairs, the gate, the words, and the
+    // commit.
     Torn {
         prepare: "on\napdu 00E000001962178202412183026F018801088002000A8A01058C03030000\n",
         command: "apdu 00D68101080102030405060708\n",
@@ -155,8 +157,8 @@ const UPDATES: &[Torn] = &[
             "< FF0102030405060708FF9000\n",
         ],
     },
-    // UPDATE RECORD of a cyclic file, whose slot 1 touches two words;
-    // one word of the entry is set too, and written first.
+    // UPDATE RECORD of a cyclic file, whose slot 1 touches two words. One word of the entry is set too, and written
+    // first.
     Torn {
         prepare: "on\napdu 00E000001A621882044621000383026F038800800200098A01058C03030000\n\
             apdu 00DC000303010203\n",
@@ -175,8 +177,8 @@ const UPDATES: &[Torn] = &[
 ];
 
 const COMPARISONS: &[Torn] = &[
-    // VERIFY, wrong and right; CHANGE REFERENCE DATA, whose tries and value are two runs, and RESET RETRY COUNTER,
-    // which sets one: the first write decides that a try is gone.
+    // VERIFY, wrong and right; CHANGE REFERENCE DATA, whose tries and value are two runs; and RESET RETRY COUNTER,
+    // which sets one run. The first write uses up the try.
     on_pin!(
         "apdu 002000010835363738FFFFFFFF\n",
         1,
@@ -207,7 +209,7 @@ const COMPARISONS: &[Torn] = &[
     ),
 ];
 
-/// What such a command says that is cut at a write, counted from 1, and what is then found.
+/// Returns the expected outputs of a cut command and of `look`.
 fn wanted_of(torn: &Torn, write: u32, is_new: bool) -> (&'static str, &'static str) {
     let [before, charged, after] = torn.found;
     if write > torn.writes {
@@ -221,7 +223,8 @@ fn wanted_of(torn: &Torn, write: u32, is_new: bool) -> (&'static str, &'static s
     }
 }
 
-/// What is printed where a command is cut, and then perhaps a start.
+/// Returns the output of a script with a cut command.
+/// A power-on may be cut after it.
 fn printed_by(alloc: Global, torn: &Torn, cut: &str, start: &str) -> Result<Vec<u8>, Fail> {
     let Torn {
         prepare,
@@ -236,7 +239,8 @@ fn printed_by(alloc: Global, torn: &Torn, cut: &str, start: &str) -> Result<Vec<
     }
 }
 
-/// Whether a text ends by what a command says, unless a cut start follows, by power-on, and by what is found.
+/// Returns true if the output ends with these three parts.
+/// They are the output of the command unless a cut power-on follows, that of power-on, and that of `look`.
 fn ends_by(printed: &[u8], start: &str, (says, found): (&str, &str)) -> bool {
     let Some(rest) = printed.strip_suffix(found.as_bytes()) else {
         return false;
@@ -247,7 +251,7 @@ fn ends_by(printed: &[u8], start: &str, (says, found): (&str, &str)) -> bool {
     }
 }
 
-/// Whatever start comes after a cut, the same is found.
+/// Checks that any power-on after a cut leads to the same state.
 fn check_starts<R: Abort + AllocGlobal>(
     rt: &R,
     torn: &Torn,
@@ -266,7 +270,7 @@ fn check_starts<R: Abort + AllocGlobal>(
     Ok(())
 }
 
-/// A command is cut at a write, by each of its masks.
+/// Checks a command with a cut at a write, with each mask.
 fn check_masks<R: Abort + AllocGlobal>(rt: &R, torn: &Torn, write: u32) -> Result<(), Fail> {
     let masks = if torn.has_all_masks { MASKS } else { FEW_MASKS };
     for &(mask, is_new) in masks {
@@ -276,7 +280,7 @@ fn check_masks<R: Abort + AllocGlobal>(rt: &R, torn: &Torn, write: u32) -> Resul
     Ok(())
 }
 
-/// A command is cut at each of its writes, and past them.
+/// Checks a command with a cut at each write, and past them.
 fn check_writes<R: Abort + AllocGlobal>(rt: &R, torn: &Torn) -> Result<(), Fail> {
     for write in 1..=torn.writes.saturating_add(1) {
         check_masks(rt, torn, write)?;
@@ -284,7 +288,7 @@ fn check_writes<R: Abort + AllocGlobal>(rt: &R, torn: &Torn) -> Result<(), Fail>
     Ok(())
 }
 
-/// What is free is as before the command, or as after it.
+/// The free space is that before the command, or that after it.
 #[test]
 fn files_come_and_go_whole(rt: HostRuntime) -> Result<(), Fail> {
     for torn in SPACES {
@@ -301,7 +305,7 @@ fn contents_are_those_before_or_after(rt: HostRuntime) -> Result<(), Fail> {
     Ok(())
 }
 
-/// The PIN is as before the command, as after its charge, or as after the command.
+/// The PIN is as before, as charged, or as after the command.
 #[test]
 fn a_try_is_taken_at_each_cut(rt: HostRuntime) -> Result<(), Fail> {
     for torn in COMPARISONS {

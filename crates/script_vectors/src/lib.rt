@@ -1,5 +1,5 @@
-//! Tests of the run of a script, by text that was worked out by hand: ends of scripts, commands that are cut at each
-//! write, readers and writers that fail.
+//! Tests of script runs, with text worked out by hand: ends of scripts, commands cut at each write, and failing readers
+//! and writers.
 #![tactic(auto)]
 
 #[cfg(test)]

@@ -1,5 +1,4 @@
-//! Lines of scripts at the limit of their length, readers that never end or fail once, and writers that take little or
-//! fail once.
+//! Lines at the length limit, readers that never end or fail once, and writers that take little or fail once.
 
 use crate::scripts::{ends_so, outcome_of, status_of};
 use card_bench::run;
@@ -8,8 +7,9 @@ use std::io::{self, BufRead, Error, ErrorKind, Read, Write};
 use std::process::Abort;
 use std::test::Fail;
 
-/// A script of parts: the first, then a line again and again, for so many bytes in all, and then a tail again and
-/// again. It fails where the part is empty.
+/// A script of parts: one first, one repeated, and a tail.
+/// The second is repeated up to a size, and the tail without end.
+/// It fails where the part is empty.
 #[derive(Drop)]
 struct Parts<'a> {
     rest: &'a [u8],
@@ -19,7 +19,7 @@ struct Parts<'a> {
     whole: usize,
 }
 
-/// Only its buffer is looked at.
+/// The run reads only its buffer.
 impl Read for Parts<'_> {
     fn read(&mut self, _: &mut [u8]) -> io::Result<usize> {
         Err(Error::from(ErrorKind::Unsupported))
@@ -48,7 +48,8 @@ impl BufRead for Parts<'_> {
     }
 }
 
-/// Whether a script that fails at its end is read up to there, and prints and ends so.
+/// Returns true if a script with a failure ends so.
+/// The failure is at its end, and `printed` is its output.
 fn fails_so(alloc: Global, script: &[u8], printed: &str, wanted: u8) -> bool {
     let mut reader = Parts {
         rest: script,
@@ -60,14 +61,14 @@ fn fails_so(alloc: Global, script: &[u8], printed: &str, wanted: u8) -> bool {
     ends_so(alloc, &mut reader, printed, wanted) && reader.rest.is_empty()
 }
 
-/// A comment of this many bytes, and what ends it.
+/// Returns a comment of this many bytes, with this end.
 fn comment(alloc: Global, size: usize, end: &str) -> Result<Vec<u8>, Fail> {
     let mut script = vec![in alloc; b'#'; size]?;
     script.extend_from_slice(end.as_bytes())?;
     Ok(script)
 }
 
-// Sizes of comments, what ends them, and the status of a run where the script ends there, and where its reader fails.
+// Sizes of comments, their ends, and the status of a run if the script ends there, and if its reader fails there.
 const COMMENTS: &[(usize, &str, u8, u8)] = &[
     (1024, "\n", 0, 3),
     (1024, "\r\n", 0, 3),
@@ -78,9 +79,9 @@ const COMMENTS: &[(usize, &str, u8, u8)] = &[
     (1024, "\r", 2, 3),
 ];
 
-/// A line has at most 1,024 bytes, without its line feed and a carriage return before it. A begun line that is too long
-/// is a bad one before its end has come: the reader isn't asked for more. One whose 1,025th byte is a carriage return
-/// may still turn out good.
+/// A line has at most 1,024 bytes without its end.
+/// A line that is too long is bad before its end is read: the reader isn't asked for more. A line whose 1,025th byte is
+/// a carriage return can still be valid.
 #[test]
 fn long_lines(rt: HostRuntime) -> Result<(), Fail> {
     for &(size, end, ended, failed) in COMMENTS {
@@ -94,7 +95,7 @@ fn long_lines(rt: HostRuntime) -> Result<(), Fail> {
     Ok(())
 }
 
-/// What was written before the reader fails stands.
+/// Output before the reader fails stays.
 #[test]
 fn failing_reader(rt: HostRuntime) {
     let begun = "on\napdu 00A4000C02".as_bytes();
@@ -102,7 +103,7 @@ fn failing_reader(rt: HostRuntime) {
     assert!(rt; is_bad && fails_so(rt.alloc(), begun, "atr 3B808131FE458B\n", 3));
 }
 
-// A script, and what each of its lines prints.
+// A script, and the output of each of its lines.
 const LINES: &[(&str, &str)] = &[
     ("on\n", "atr 3B808131FE458B\n"),
     ("# Select the master file.\n", ""),
@@ -111,7 +112,8 @@ const LINES: &[(&str, &str)] = &[
     ("off", ""),
 ];
 
-/// The script, and what it prints where so many bytes of it are read: what its whole lines do.
+/// Returns the script, and the output for its first `read` bytes.
+/// This is the output of the whole lines in them.
 fn script_and_text(alloc: Global, read: usize) -> Result<(String, String), Fail> {
     let mut script = String::new(alloc);
     let mut text = String::new(alloc);
@@ -124,7 +126,7 @@ fn script_and_text(alloc: Global, read: usize) -> Result<(String, String), Fail>
     Ok((script, text))
 }
 
-/// A script that is given in pieces. One read of it fails, and what follows would not.
+/// A script in pieces. One of its reads fails, and later ones wouldn't.
 #[derive(Drop)]
 struct Broken<'a> {
     rest: &'a [u8],
@@ -134,7 +136,7 @@ struct Broken<'a> {
     fails_at: usize,
 }
 
-/// Only its buffer is looked at.
+/// The run reads only its buffer.
 impl Read for Broken<'_> {
     fn read(&mut self, _: &mut [u8]) -> io::Result<usize> {
         Err(Error::from(ErrorKind::Unsupported))
@@ -156,8 +158,8 @@ impl BufRead for Broken<'_> {
     }
 }
 
-/// The status of a run of which a read fails, if what is printed is what the lines before it print, and nothing is read
-/// after it.
+/// Returns the status of a run with a failing read.
+/// It is `None` unless the output is that of the lines before it, and no read follows.
 fn broken_at(alloc: Global, piece: usize, fails_at: usize) -> Result<Option<u8>, Fail> {
     let (script, _) = script_and_text(alloc, 0)?;
     let mut reader = Broken {
@@ -173,8 +175,8 @@ fn broken_at(alloc: Global, piece: usize, fails_at: usize) -> Result<Option<u8>,
     Ok(if is_right { Some(status) } else { None })
 }
 
-/// The read at which a run isn't stopped any more, of those that each fail in turn;
-/// it then is at the end of the script.
+/// Returns the number of the first read whose failure stops no run.
+/// All earlier ones failed in turn, and this one is past the end of the script.
 fn reads_of(alloc: Global, piece: usize) -> Result<Option<usize>, Fail> {
     for fails_at in 1..=200 {
         match broken_at(alloc, piece, fails_at)? {
@@ -186,11 +188,12 @@ fn reads_of(alloc: Global, piece: usize) -> Result<Option<usize>, Fail> {
     Ok(None)
 }
 
-/// A run ends with the first read that fails, whichever it is, also one that another read might mend.
+/// Any failing read ends a run.
+/// A later read would succeed.
 #[test]
 fn each_read_fails_in_turn(rt: HostRuntime) -> Result<(), Fail> {
     let (script, _) = script_and_text(rt.alloc(), 0)?;
-    // A read gives a byte each, and one more the end.
+    // Each read gives a byte, and one more finds the end.
     assert!(rt; reads_of(rt.alloc(), 1)? == Some(script.len() + 2));
     for piece in 2..=30 {
         let reads = reads_of(rt.alloc(), piece)?;
@@ -202,10 +205,11 @@ fn each_read_fails_in_turn(rt: HostRuntime) -> Result<(), Fail> {
     Ok(())
 }
 
-// After how many bytes the tail comes, and the status of the run.
+// The number of bytes before the tail, and the status of the run.
 const ENDLESS: &[(usize, u8)] = &[(usize::MAX, 3), (16_776_000, 2)];
 
-/// Whether so much of a script that never ends is read, and its run has this status.
+/// Returns true if an endless script is read so far.
+/// Its run has this status.
 fn is_endless(alloc: Global, [line, tail]: [&[u8]; 2], whole: usize, wanted: u8) -> bool {
     let mut reader = Parts {
         rest: line,
@@ -217,8 +221,9 @@ fn is_endless(alloc: Global, [line, tail]: [&[u8]; 2], whole: usize, wanted: u8)
     ends_so(alloc, &mut reader, "", wanted) && reader.given == 16_777_216
 }
 
-/// Past 16,777,216 bytes a script is a read fault, after good lines;
-/// but a begun line that is too long by then is a bad one.
+/// A script past 16,777,216 bytes is a read fault.
+/// Its lines must be valid.
+/// A line that is too long by then is a bad line.
 #[test]
 fn endless_scripts(rt: HostRuntime) {
     let mut line = [b'#'; 1000];
@@ -233,21 +238,23 @@ fn endless_scripts(rt: HostRuntime) {
     }
 }
 
-/// What a writer fails to do.
+/// The failing call of a writer.
 #[derive(Clone, Copy)]
 enum Failing {
     Nothing,
-    /// It takes nothing.
+    /// A write takes nothing.
     Takes,
     Writes,
     Flushes,
 }
 
-/// A writer that takes some bytes at a time, and at one of its calls takes nothing or fails. What follows would not.
+/// A writer that takes some bytes at a time, and fails once.
+/// It fails at one call, or takes nothing there.
+/// Later ones wouldn't fail.
 #[derive(Drop)]
 struct Narrow {
     printed: Vec<u8>,
-    /// How many bytes were there when it was flushed last.
+    /// The number of bytes at its last flush.
     flushed: usize,
     piece: usize,
     writes: usize,
@@ -285,7 +292,7 @@ impl Write for Narrow {
     }
 }
 
-/// A writer to which the script was run, and the status of the run.
+/// Returns a writer after the run of the script, and the status.
 fn written_to(
     alloc: Global,
     piece: usize,
@@ -305,7 +312,8 @@ fn written_to(
     Ok((writer, status))
 }
 
-/// A writer that takes a few bytes at a time gets the same text, and all of it is flushed.
+/// A writer that takes few bytes at a time gets the text.
+/// All of it is flushed.
 #[test]
 fn narrow_writers(rt: HostRuntime) -> Result<(), Fail> {
     let (_, text) = script_and_text(rt.alloc(), usize::MAX)?;
@@ -320,7 +328,8 @@ fn narrow_writers(rt: HostRuntime) -> Result<(), Fail> {
     Ok(())
 }
 
-/// A run ends with the write that fails so, whichever it is: the bytes before it stand, and no more come.
+/// Checks that any failing write ends a run.
+/// Earlier bytes stay, and no more follow.
 fn check_writes<R: Abort + AllocGlobal>(rt: &R, failing: Failing) -> Result<(), Fail> {
     let (_, text) = script_and_text(rt.alloc(), usize::MAX)?;
     for fails_at in 1..=text.len() {
@@ -343,10 +352,11 @@ fn each_write_fails_in_turn(rt: HostRuntime) -> Result<(), Fail> {
     check_writes(&rt, Failing::Writes)
 }
 
-// How many bytes are there when each line that prints something is flushed.
+// The number of bytes when each line with output is flushed.
 const FLUSHED: &[usize] = &[19, 26, 38];
 
-/// And with the first flush that fails, whichever it is: the line that wasn't flushed stands, and no more comes.
+/// Any failing flush ends a run.
+/// The line of the flush stays, and no more output follows.
 #[test]
 fn each_flush_fails_in_turn(rt: HostRuntime) -> Result<(), Fail> {
     for (i, size) in FLUSHED.iter().enumerate() {

@@ -1,10 +1,10 @@
-//! Scripts that end without a line feed or by a bad line. What good lines print stands in rows.
+//! Scripts that end without a line feed or at a bad line. The rows test the output of valid lines.
 
 use card_bench::{RunFault, run};
 use std::alloc::Global;
 use std::io::BufRead;
 
-/// The exit status of a run.
+/// Returns the exit status of a run.
 pub fn status_of(ended: Result<(), RunFault>) -> u8 {
     match ended {
         Ok(()) => 0,
@@ -12,14 +12,14 @@ pub fn status_of(ended: Result<(), RunFault>) -> u8 {
     }
 }
 
-/// What a script of any reader prints, and the status of its run.
+/// Returns the output and the status of a script's run.
 pub fn outcome_of(alloc: Global, reader: &mut impl BufRead) -> (Vec<u8>, u8) {
     let mut printed = Vec::new(alloc);
     let status = status_of(run(alloc, reader, &mut printed));
     (printed, status)
 }
 
-/// Whether a script prints this, and its run has this status.
+/// Returns true if a script has this output and status.
 pub fn ends_so(alloc: Global, reader: &mut impl BufRead, printed: &str, wanted: u8) -> bool {
     let (came, status) = outcome_of(alloc, reader);
     status == wanted && came.as_slice() == printed.as_bytes()
@@ -27,7 +27,7 @@ pub fn ends_so(alloc: Global, reader: &mut impl BufRead, printed: &str, wanted: 
 
 const ATR: &str = "atr 3B808131FE458B\n";
 
-// Scripts that end without a line feed, or by a bad line; what was printed before it stands.
+// Scripts that end without a line feed, or at a bad line; the output before it stays.
 const ENDS: &[(&str, &str, u8)] = &[
     ("", "", 0),
     ("on", ATR, 0),
