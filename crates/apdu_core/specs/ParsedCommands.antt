@@ -71,5 +71,5 @@ IsSelector selector = IsSizedName (selection_of selector)
 -- The ranges of the fields of a request: one record for each kind of request.
 
 -- a parsed command
-abbrev pub IsInRange : Command → Type 0
-IsInRange command = (fields_of (request_of command)).in_range
+abbrev pub IsCommandInRange : Command → Type 0
+IsCommandInRange command = (fields_of (request_of command)).in_range

@@ -4,9 +4,9 @@ use Rattle.apdu_core.specs.declared.select.Way.{Way}
 use Rattle.apdu_core.specs.declared.select.Way.TheVariants.{ByIdentifier, ToParent, ByName}
 use Rattle.apdu_core.specs.declared.select.Way.TheVariants.{DownFromMaster, DownFromCurrent}
 
-abbrev pub byte_of : Way → ℕ
-byte_of ByIdentifier = 0x00
-byte_of ToParent = 0x03
-byte_of ByName = 0x04
-byte_of DownFromMaster = 0x08
-byte_of DownFromCurrent = 0x09
+abbrev pub way_byte : Way → ℕ
+way_byte ByIdentifier = 0x00
+way_byte ToParent = 0x03
+way_byte ByName = 0x04
+way_byte DownFromMaster = 0x08
+way_byte DownFromCurrent = 0x09

@@ -2,7 +2,7 @@
 ghost use Rattle.std.specs.Prelude.{◌≡◌, ◌==◌, ◌||◌, ◌&&◌, not, Some, is_some, length};
 ghost use Rattle.card_rules.specs.declared.status.TheConstants.Sw.{WRONG_LENGTH};
 ghost use Rattle.card_model.specs.CommandTable.{create_file_row, delete_file_row, subject_named};
-ghost use Rattle.apdu_core.specs.Parsing.{Parses, Reads};
+ghost use Rattle.apdu_core.specs.Parsing.{Parses, ReadsWhere};
 
 use crate::commands::{Command, Parsed};
 use crate::form::{CommandBody, Operands};
@@ -16,7 +16,7 @@ use card_rules::Sw;
 /// # Errors
 /// 6700 unless the data field has 0 or 2 bytes and Le is absent.
 pub(crate) fn subject_of(body: CommandBody<'_>) -> Result<Subject, Sw>
-    ensures { Reads result (((length body.entry.sent.now == 0) || (length body.entry.sent.now == 2))
+    ensures { ReadsWhere result (((length body.entry.sent.now == 0) || (length body.entry.sent.now == 2))
         && not (is_some body.entry.expected))
         (λ subject. subject ≡ subject_named body.entry.sent.now) WRONG_LENGTH }
 {

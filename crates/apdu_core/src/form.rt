@@ -2,7 +2,7 @@
 ghost use Rattle.std.specs.Prelude.{◌≡◌, ◌≢◌, ◌≤◌, ◌∷◌, ◌&&◌, ◌==◌, [], nat_le, not, length, is_some, Some};
 ghost use Rattle.card_rules.specs.declared.status.TheConstants.Sw.{WRONG_LENGTH, WRONG_PARAMETERS};
 ghost use Rattle.card_model.specs.CommandTable.{is_no_parameter};
-ghost use Rattle.apdu_core.specs.Parsing.{Reads, ReadsBody};
+ghost use Rattle.apdu_core.specs.Parsing.{ReadsWhere, ReadsBody};
 
 use card_rules::Sw;
 
@@ -20,7 +20,7 @@ impl Operands<'_> {
     /// # Errors
     /// 6A86 if they aren't.
     pub fn no_parameters(self) -> Result<(), Sw>
-        ensures { Reads result (is_no_parameter self.entry.p1 self.entry.p2) (λ _. Unit {0}) WRONG_PARAMETERS }
+        ensures { ReadsWhere result (is_no_parameter self.entry.p1 self.entry.p2) (λ _. Unit {0}) WRONG_PARAMETERS }
     {
         if self.p1 != 0x00 || self.p2 != 0x00 {
             return Err(Sw::WRONG_PARAMETERS);
@@ -43,7 +43,7 @@ impl<'a> CommandBody<'a> {
     /// 6700 if the data field is empty.
     pub fn text(self) -> Result<&'a [u8], Sw>
         requires { length self.sent.now ≤ 255 }
-        ensures { Reads result (nat_le 1 (length self.entry.sent.now) && nat_le (length self.entry.sent.now) 255)
+        ensures { ReadsWhere result (nat_le 1 (length self.entry.sent.now) && nat_le (length self.entry.sent.now) 255)
             (λ text. text.now ≡ self.entry.sent.now) WRONG_LENGTH }
     {
         if self.sent.is_empty() {
@@ -58,7 +58,7 @@ impl<'a> CommandBody<'a> {
     /// 6700 if the data field is empty, or Le is present.
     pub fn text_alone(self) -> Result<&'a [u8], Sw>
         requires { length self.sent.now ≤ 255 }
-        ensures { Reads result (nat_le 1 (length self.entry.sent.now) && nat_le (length self.entry.sent.now) 255
+        ensures { ReadsWhere result (nat_le 1 (length self.entry.sent.now) && nat_le (length self.entry.sent.now) 255
             && not (is_some self.entry.expected)) (λ text. text.now ≡ self.entry.sent.now) WRONG_LENGTH }
     {
         if self.expected.is_some() {
@@ -72,7 +72,7 @@ impl<'a> CommandBody<'a> {
     /// # Errors
     /// 6700 if Le is absent, or the data field isn't empty.
     pub fn le_alone(self) -> Result<u8, Sw>
-        ensures { Reads result ((length self.entry.sent.now == 0) && is_some self.entry.expected)
+        ensures { ReadsWhere result ((length self.entry.sent.now == 0) && is_some self.entry.expected)
             (λ le. self.entry.expected ≡ Some le) WRONG_LENGTH }
     {
         match self.expected {

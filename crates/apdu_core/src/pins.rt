@@ -3,7 +3,7 @@ ghost use Rattle.std.specs.Prelude.{◌≡◌, ◌==◌, Some, length, take, dro
 ghost use Rattle.card_rules.specs.declared.status.TheConstants.Sw.{WRONG_PARAMETERS};
 ghost use Rattle.card_model.specs.CommandTable.{verify_row, change_reference_data_row, reset_retry_counter_row, is_pin};
 ghost use Rattle.card_model.specs.CommandTable.{requirement_row};
-ghost use Rattle.apdu_core.specs.Parsing.{Parses, Names, Reads};
+ghost use Rattle.apdu_core.specs.Parsing.{Parses, NamesWhere, ReadsWhere};
 
 use crate::commands::{Command, Parsed};
 use crate::form::{CommandBody, Operands};
@@ -20,7 +20,7 @@ pub struct Replacement<'a> {
 impl<'a> Replacement<'a> {
     /// Returns the two values of these bytes, if they are 16.
     fn of(sent: &'a [u8]) -> Option<Replacement<'a>>
-        ensures { Names result (length sent.now == 16) (λ values.
+        ensures { NamesWhere result (length sent.now == 16) (λ values.
             (values.shown.now ≡ take 8 sent.now) × (values.new.now ≡ drop 8 sent.now)) }
     {
         let (shown, rest) = sent.split_first_chunk::<8>()?;
@@ -34,7 +34,7 @@ impl<'a> Replacement<'a> {
 /// # Errors
 /// 6A86 if they name none: P1 isn't 00, or P2 isn't 01 to 08.
 fn pin_named(p1: u8, p2: u8) -> Result<u8, Sw>
-    ensures { Reads result (is_pin p1 p2) (λ pin. pin ≡ p2) WRONG_PARAMETERS }
+    ensures { ReadsWhere result (is_pin p1 p2) (λ pin. pin ≡ p2) WRONG_PARAMETERS }
 {
     if p1 == 0x00 && (1..=PINS).contains(&p2) {
         Ok(p2)

@@ -1,6 +1,6 @@
 //! Commands on records (ISO/IEC 7816-4, 11.4), and INCREASE (ETSI TS 102 221, 11.1.8).
 ghost use Rattle.std.specs.Prelude.{◌≡◌, ◌&&◌, Some, IfSome};
-ghost use Rattle.apdu_core.specs.Parsing.{Parses, Names};
+ghost use Rattle.apdu_core.specs.Parsing.{Parses, NamesWhere};
 ghost use Rattle.card_model.specs.Requests.{IsTarget, IsRecordPlace, IsRecordChoice};
 ghost use Rattle.card_model.specs.CommandTable.{read_record_row, update_record_row, append_record_row};
 ghost use Rattle.card_model.specs.CommandTable.{search_record_row, increase_row, is_record_file, record_file};
@@ -20,7 +20,7 @@ struct RecordName {
 
 /// Returns the file in bits 8 to 4 of P2.
 fn file_of(p2: u8) -> Option<Target>
-    ensures file { Names result (is_record_file p2) (λ target. target ≡ record_file p2) }
+    ensures file { NamesWhere result (is_record_file p2) (λ target. target ≡ record_file p2) }
     ensures ranges { IfSome result IsTarget }
 {
     match p2 / 8 {
@@ -43,7 +43,7 @@ fn place_of(p1: u8) -> RecordPlace
 
 /// Returns the record of P1 and the mode in P2, if valid.
 fn choice_of(p1: u8, p2: u8) -> Option<RecordChoice>
-    ensures choice { Names result (is_choice p1 p2) (λ choice. choice ≡ record_choice p1 p2) }
+    ensures choice { NamesWhere result (is_choice p1 p2) (λ choice. choice ≡ record_choice p1 p2) }
     ensures ranges { IfSome result IsRecordChoice }
 {
     match p2 % 8 {
@@ -56,7 +56,7 @@ fn choice_of(p1: u8, p2: u8) -> Option<RecordChoice>
 
 /// Returns the search direction of the mode in P2, if valid.
 fn direction_of(p2: u8) -> Option<Direction>
-    ensures { Names result (is_direction p2) (λ way. way ≡ direction p2) }
+    ensures { NamesWhere result (is_direction p2) (λ way. way ≡ direction p2) }
 {
     match p2 % 8 {
         4 => Some(Direction::Forward),
@@ -68,7 +68,7 @@ fn direction_of(p2: u8) -> Option<Direction>
 impl RecordName {
     /// Returns the record in P1 and P2 of READ or UPDATE RECORD.
     fn of(p1: u8, p2: u8) -> Option<RecordName>
-        ensures record_name { Names result (is_record_file p2 && is_choice p1 p2) (λ name.
+        ensures record_name { NamesWhere result (is_record_file p2 && is_choice p1 p2) (λ name.
             (name.target ≡ record_file p2) × (name.choice ≡ record_choice p1 p2)) }
         ensures ranges { IfSome result (λ name. IsTarget name.target × IsRecordChoice name.choice) }
     {

@@ -2,8 +2,8 @@
 ghost use Rattle.std.specs.Prelude.{◌≡◌, Some, IfSome, length};
 ghost use Rattle.apdu_core.specs.ParsedCommands.{selection_of, IsSelector};
 ghost use Rattle.card_model.specs.CommandTable.{select_row, is_way, is_returned, returned_by, names_file, named_file};
-ghost use Rattle.apdu_core.specs.Parsing.{Parses, Names};
-ghost use Rattle.apdu_core.specs.WayParts.{byte_of};
+ghost use Rattle.apdu_core.specs.Parsing.{Parses, NamesWhere};
+ghost use Rattle.apdu_core.specs.WayParts.{way_byte};
 
 use crate::commands::{Command, Parsed};
 use crate::form::{CommandBody, Operands};
@@ -43,7 +43,7 @@ enum Way {
 impl Way {
     /// Returns the selection method of a P1, if valid.
     fn of(p1: u8) -> Option<Way>
-        ensures { Names result (is_way p1) (λ way. byte_of way ≡ p1) }
+        ensures { NamesWhere result (is_way p1) (λ way. way_byte way ≡ p1) }
     {
         match p1 {
             0x00 => Some(Way::ByIdentifier),
@@ -58,7 +58,7 @@ impl Way {
 
 /// Returns the response data that P2 of SELECT requests, if valid.
 fn returned_of(p2: u8) -> Option<Returned>
-    ensures { Names result (is_returned p2) (λ returned. returned ≡ returned_by p2) }
+    ensures { NamesWhere result (is_returned p2) (λ returned. returned ≡ returned_by p2) }
 {
     match p2 {
         0x04 => Some(Returned::Template),
@@ -70,8 +70,8 @@ fn returned_of(p2: u8) -> Option<Returned>
 impl<'a> Selector<'a> {
     /// Returns the file in the data field, if its length fits.
     fn of(way: Way, sent: &'a [u8]) -> Option<Selector<'a>>
-        ensures file { Names result (names_file (byte_of way) (length sent.now)) (λ selector.
-            selection_of selector ≡ named_file (byte_of way) sent.now) }
+        ensures file { NamesWhere result (names_file (way_byte way) (length sent.now)) (λ selector.
+            selection_of selector ≡ named_file (way_byte way) sent.now) }
         ensures ranges { IfSome result IsSelector }
     {
         match way {
@@ -88,7 +88,7 @@ impl<'a> Selector<'a> {
 
     /// Returns the master file for no bytes, else by identifier.
     fn by_identifier(sent: &'a [u8]) -> Option<Selector<'a>>
-        ensures file { Names result (names_file 0x00 (length sent.now)) (λ selector.
+        ensures file { NamesWhere result (names_file 0x00 (length sent.now)) (λ selector.
             selection_of selector ≡ named_file 0x00 sent.now) }
         ensures ranges { IfSome result IsSelector }
     {

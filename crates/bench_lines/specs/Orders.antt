@@ -60,8 +60,8 @@ cut_in words =
     else None
 
 -- true if a line begins with a word
-abbrev pub begins : List ℕ → List ℕ → Bool
-begins line word = pointwise nat_eq (take (length word) line) word
+abbrev pub begins_with : List ℕ → List ℕ → Bool
+begins_with line word = pointwise nat_eq (take (length word) line) word
 
 -- The order of a line; None: a bad line. A line has at most 1,024 bytes. An empty line and one that begins with # (35)
 -- order nothing.
@@ -72,21 +72,21 @@ order_of line =
     if pointwise nat_eq line (codes "on") then Some On else
     if pointwise nat_eq line (codes "off") then Some Off else
     if pointwise nat_eq line (codes "free") then Some Free else
-    if begins line (codes "apdu ") then option_map Apdu (bytes_in (drop 5 line) COMMAND_LIMIT) else
-    if begins line (codes "block ") then option_map Block (bytes_in (drop 6 line) BLOCK_LIMIT) else
-    if begins line (codes "cut ") then cut_in (drop 4 line) else
-    if begins line (codes "lose ") then option_map Lose (number_in (drop 5 line)) else
-    if begins line (codes "garble ") then option_map Garble (number_in (drop 7 line)) else
+    if begins_with line (codes "apdu ") then option_map Apdu (bytes_in (drop 5 line) COMMAND_LIMIT) else
+    if begins_with line (codes "block ") then option_map Block (bytes_in (drop 6 line) BLOCK_LIMIT) else
+    if begins_with line (codes "cut ") then cut_in (drop 4 line) else
+    if begins_with line (codes "lose ") then option_map Lose (number_in (drop 5 line)) else
+    if begins_with line (codes "garble ") then option_map Garble (number_in (drop 7 line)) else
     None
 
 -- a command has 1 to 261 bytes, a block 1 to 300, and a number is 1 to 999,999
-abbrev pub IsSized : Order → Type 0
-IsSized Nothing = Unit {0}
-IsSized On = Unit {0}
-IsSized Off = Unit {0}
-IsSized Free = Unit {0}
-IsSized (Apdu bytes) = (1 ≤ length bytes) × (length bytes ≤ COMMAND_LIMIT)
-IsSized (Block bytes) = (1 ≤ length bytes) × (length bytes ≤ BLOCK_LIMIT)
-IsSized (Cut number mask) = (1 ≤ number) × (number ≤ 999999)
-IsSized (Lose number) = (1 ≤ number) × (number ≤ 999999)
-IsSized (Garble number) = (1 ≤ number) × (number ≤ 999999)
+abbrev pub IsOrderSized : Order → Type 0
+IsOrderSized Nothing = Unit {0}
+IsOrderSized On = Unit {0}
+IsOrderSized Off = Unit {0}
+IsOrderSized Free = Unit {0}
+IsOrderSized (Apdu bytes) = (1 ≤ length bytes) × (length bytes ≤ COMMAND_LIMIT)
+IsOrderSized (Block bytes) = (1 ≤ length bytes) × (length bytes ≤ BLOCK_LIMIT)
+IsOrderSized (Cut number mask) = (1 ≤ number) × (number ≤ 999999)
+IsOrderSized (Lose number) = (1 ≤ number) × (number ≤ 999999)
+IsOrderSized (Garble number) = (1 ≤ number) × (number ≤ 999999)

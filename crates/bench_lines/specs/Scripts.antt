@@ -85,10 +85,10 @@ TakesInto old new before after =
     × CountsTaken old new before after
 
 -- the number of bytes of a part of a line
-abbrev pub size_of : Part → ℕ
-size_of End = 0
-size_of (Begun size) = size
-size_of (FedPart size) = size
+abbrev pub part_size : Part → ℕ
+part_size End = 0
+part_size (Begun size) = size
+part_size (FedPart size) = size
 
 -- a part of a line was read and appended to the line: nothing at the end; bytes without a line feed; or
 -- bytes up to the first line feed, which isn't appended

@@ -5,7 +5,7 @@ use Rattle.card_model.specs.Requests.{AreBytes}
 use Rattle.hex.specs.Hex.{encode_with}
 use Rattle.bench_lines.specs.Orders.{Order}
 use Rattle.bench_lines.specs.Orders.{Nothing, On, Off, Free, Apdu, Block, Cut, Lose, Garble}
-use Rattle.bench_lines.specs.Orders.{IsSized, order_of}
+use Rattle.bench_lines.specs.Orders.{IsOrderSized, order_of}
 
 -- The line of an order, with these sixteen digits. Two digits spell a byte, and four the 16 bits of a mask. Numbers are
 -- decimal, and a space (32) separates a number from the mask.
@@ -22,17 +22,18 @@ spelling digits (Lose number) = codes "lose " ++ decimal number
 spelling digits (Garble number) = codes "garble " ++ decimal number
 
 -- its bytes are 0 to 255, and its mask has 16 bits
-abbrev pub IsOfBytes : Order → Type 0
-IsOfBytes Nothing = Unit {0}
-IsOfBytes On = Unit {0}
-IsOfBytes Off = Unit {0}
-IsOfBytes Free = Unit {0}
-IsOfBytes (Apdu command) = AreBytes command
-IsOfBytes (Block block) = AreBytes block
-IsOfBytes (Cut number mask) = mask < 65536
-IsOfBytes (Lose number) = Unit {0}
-IsOfBytes (Garble number) = Unit {0}
+abbrev pub IsOrderOfBytes : Order → Type 0
+IsOrderOfBytes Nothing = Unit {0}
+IsOrderOfBytes On = Unit {0}
+IsOrderOfBytes Off = Unit {0}
+IsOrderOfBytes Free = Unit {0}
+IsOrderOfBytes (Apdu command) = AreBytes command
+IsOrderOfBytes (Block block) = AreBytes block
+IsOrderOfBytes (Cut number mask) = mask < 65536
+IsOrderOfBytes (Lose number) = Unit {0}
+IsOrderOfBytes (Garble number) = Unit {0}
 
 -- The spelling of each order in its range parses as that order.
 abbrev pub SpellingLaw : List ℕ → Type 0
-SpellingLaw digits = (order : Order) → IsSized order → IsOfBytes order → order_of (spelling digits order) ≡ Some order
+SpellingLaw digits = (order : Order) → IsOrderSized order → IsOrderOfBytes order
+    → order_of (spelling digits order) ≡ Some order

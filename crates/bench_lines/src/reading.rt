@@ -4,7 +4,7 @@ ghost use Rattle.std.specs.Prelude.{length, slice_index, take, [], IsTrue, IfOk,
 ghost use Rattle.std.specs.Io.KnownBytes.{Keeps};
 ghost use Rattle.std.specs.Str.Lines.{strip_carriage_return};
 ghost use Rattle.bench_lines.specs.Scripts.{CountsTaken, IsInLine, IsTooLong, TakesInto, TakesLine, TakesPart};
-ghost use Rattle.bench_lines.specs.Scripts.{TakesTooMuch, WhereKnown, size_of};
+ghost use Rattle.bench_lines.specs.Scripts.{TakesTooMuch, WhereKnown, part_size};
 ghost use Rattle.bench_lines.specs.declared.order.TheConstants.{LINE_LIMIT};
 ghost use Rattle.bench_lines.specs.declared.reading.TheConstants.{SCRIPT_LIMIT};
 
@@ -64,7 +64,7 @@ fn read_part<R: BufRead>(
     requires { length line.old.items + most ≤ LINE_ROOM }
     ensures part { IfOk result
         (TakesPart (R.remaining reader.old) (R.remaining reader.new) line.old.items line.new.items) }
-    ensures size { IfOk result (λ part. size_of part ≤ most) }
+    ensures size { IfOk result (λ part. part_size part ≤ most) }
     // It fails with the reader, or if it may read no more bytes and some remain; then it has read nothing.
     ensures failed { IfErr result (λ e. e ≢ LineFault.TooLong) }
     ensures past { result ≡ Err LineFault.TooMuch → (most ≡ 0)

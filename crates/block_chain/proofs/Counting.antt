@@ -8,15 +8,15 @@ use Rattle.std.proofs.lemmas.List.{nil_from_length}
 use Rattle.nvm_board.specs.Facts.{address}
 use Rattle.undo_journal.specs.declared.batch.TheConstants.{BATCH}
 use Rattle.undo_journal.specs.declared.batch.Waiting.{Waiting}
-use Rattle.undo_journal.specs.Batches.{batch_writes, joined, look_up}
-use Rattle.undo_journal.specs.Calls.{OnlyReads}
+use Rattle.undo_journal.specs.Batches.{batch_writes, with_set, look_up}
+use Rattle.undo_journal.specs.StoreCalls.{OnlyReads}
 use Rattle.undo_journal.specs.Memory.{Memory, IsIdle, Joins, commit_writes, spent, taken}
 use Rattle.undo_journal.specs.laws.Joining.{commit_of_some, joins-first, joins-goes_on, joins-begins, joins-takes}
 use Rattle.undo_journal.specs.laws.Told.{idle_waits}
 use Rattle.undo_journal.specs.laws.Waits.{AreAscending, ascending-joined, look_up-joined, look_up-other}
-use Rattle.block_chain.specs.Changes.{touched_words}
+use Rattle.block_chain.specs.ChainChanges.{touched_words}
 use Rattle.block_chain.specs.Counts.{NoneTwice}
-use Rattle.block_chain.specs.Parts.{JoinsAt}
+use Rattle.block_chain.specs.ChainParts.{JoinsAt}
 use Rattle.block_chain.specs.Writes.{begins_run, put_writes, run_count, word_writes}
 use Rattle.block_chain.specs.declared.layout.TheConstants.{BLOCK_WORDS}
 use Rattle.block_chain.specs.laws.Overwriting.{touched}
@@ -123,7 +123,7 @@ module _ (ps : List ℕ) (first k : ℕ) (old now : Memory) (so_far : IsCounted 
         ]
   ]
 
-  behind-next : AreBehind ps first (k + 1) (joined set now.waiting)
+  behind-next : AreBehind ps first (k + 1) (with_set set now.waiting)
   behind-next = record {
     ascending = ascending-joined set now.waiting 0 so_far.behind.ascending (omega arith);
     later = λ j le lt.
@@ -136,7 +136,7 @@ module _ (ps : List ℕ) (first k : ℕ) (old now : Memory) (so_far : IsCounted 
     last = λ some.
         let here : set.at ≡ word_address ps (k + 1 - 1) =
         is ∙ ap (λ (j : ℕ). word_address ps j) (let z : k ≡ k + 1 - 1 = omega arith in z) in
-        subst (λ (a : ℕ). IsSome (look_up a (joined set now.waiting))) here
+        subst (λ (a : ℕ). IsSome (look_up a (with_set set now.waiting))) here
         (ap (λ (o : Option ℕ). is_some o) (look_up-joined set now.waiting));
   }
 

@@ -7,9 +7,9 @@ use Rattle.nvm_board.specs.declared.board.TheConstants.{MOST_PAGES}
 use Rattle.nvm_board.specs.Torn.{Torn}
 use Rattle.nvm_board.specs.laws.Torn.{IsMixture-Torn}
 use Rattle.block_chain.specs.declared.layout.TheConstants.{BLOCK_WORDS}
-use Rattle.block_chain.specs.Words.{link, IsBlock}
+use Rattle.block_chain.specs.BlockWords.{link, IsBlock}
 use Rattle.block_chain.specs.Chains.{HasFree, free_chain}
-use Rattle.block_chain.specs.Changes.{OnlyContent}
+use Rattle.block_chain.specs.ChainChanges.{OnlyContent}
 use Rattle.block_chain.specs.laws.Chains.{block_same, leads_block, leads_next, leads_small}
 use Rattle.block_chain.specs.laws.Filling.{fill_more}
 

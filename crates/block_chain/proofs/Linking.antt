@@ -5,8 +5,8 @@ use Rattle.std.proofs.Math.ListN.{length-set}
 use Rattle.std.proofs.lemmas.Bool.{cases_lt}
 use Rattle.nvm_board.specs.Facts.{address, IsMemory, pages_of}
 use Rattle.nvm_board.specs.laws.Sizes.{page_within}
-use Rattle.block_chain.specs.Words.{link}
-use Rattle.block_chain.specs.Changes.{LinksAlone}
+use Rattle.block_chain.specs.BlockWords.{link}
+use Rattle.block_chain.specs.ChainChanges.{LinksAlone}
 use Rattle.block_chain.specs.laws.Words.{word-set_other, word-set_same}
 
 -- none is linked yet

@@ -6,10 +6,10 @@ use Rattle.nvm_board.specs.declared.board.TheConstants.{MOST_PAGES}
 use Rattle.std.proofs.Math.ListN.{length-set}
 use Rattle.nvm_board.specs.Facts.{address, IsMemory}
 use Rattle.block_chain.specs.declared.layout.TheConstants.{BLOCK_BYTES, BLOCK_WORDS, FILE_BYTES}
-use Rattle.block_chain.specs.Words.{link, IsBlock}
+use Rattle.block_chain.specs.BlockWords.{link, IsBlock}
 use Rattle.block_chain.specs.Chains.{IsChain}
-use Rattle.block_chain.specs.Changes.{touched_words, Overwrites}
-use Rattle.block_chain.specs.Parts.{PutsWord}
+use Rattle.block_chain.specs.ChainChanges.{touched_words, Overwrites}
+use Rattle.block_chain.specs.ChainParts.{PutsWord}
 use Rattle.block_chain.specs.laws.Bytes.{leads_blocks}
 use Rattle.block_chain.specs.laws.Chains.{block_same, leads_block, leads_next, leads_small}
 use Rattle.block_chain.specs.laws.Overwriting.{IsPut, put_all, put_none, put_step, touched}

@@ -5,11 +5,11 @@ use Rattle.std.specs.Prelude.{if◌then◌else◌}
 use Rattle.std.proofs.lemmas.Bool.Decides.{eqb_tells}
 use Rattle.nvm_board.specs.Facts.{address}
 use Rattle.nvm_board.specs.declared.board.TheConstants.{PAGE_WORDS}
-use Rattle.undo_journal.specs.Memory.{Memory, InRuns, GoesOn, EndsAt}
-use Rattle.undo_journal.specs.Calls.{OnlyReads}
+use Rattle.undo_journal.specs.Memory.{Memory, InRuns, ContinuesRun, EndsAt}
+use Rattle.undo_journal.specs.StoreCalls.{OnlyReads}
 use Rattle.undo_journal.specs.laws.Calls.{runs_then, runs_weaker, reads_runs, ends_kept}
 use Rattle.block_chain.specs.declared.layout.TheConstants.{BLOCK_WORDS}
-use Rattle.block_chain.specs.Changes.{touched_blocks}
+use Rattle.block_chain.specs.ChainChanges.{touched_blocks}
 
 -- The sets of the words of a chain from the one numbered `start` to the one before word k lie in as many runs as
 -- blocks; the block of word k is this page.
@@ -43,7 +43,7 @@ module _ (offset count k page : ℕ) (first now : Memory) (so_far : AreRunsSoFar
 -- One word more is put, at this address.
 module _ (start k page at : ℕ) (first now : Memory) (so_far : AreRunsSoFar start k page first now)
     (is : at ≡ address page (1 + k % BLOCK_WORDS)) (after : Memory) (one : InRuns 1 now after)
-    (goes : GoesOn now at → InRuns 0 now after) (le : start ≤ k) where
+    (goes : ContinuesRun now at → InRuns 0 now after) (le : start ≤ k) where
   pub run_put : InRuns ((k + 15) / BLOCK_WORDS - start / BLOCK_WORDS) first after
   run_put = elim so_far [
     | none_yet e runs ↦

@@ -7,9 +7,9 @@ use Rattle.std.proofs.lemmas.List.{append-nil, length-take-le, length-drop}
 use Rattle.std.proofs.lemmas.Grind.{same_number_lists}
 use Rattle.nvm_board.specs.Facts.{IsMemory}
 use Rattle.block_chain.specs.declared.layout.TheConstants.{BLOCK_BYTES, BLOCK_WORDS}
-use Rattle.block_chain.specs.Words.{link, word, word_bytes}
+use Rattle.block_chain.specs.BlockWords.{link, word, word_bytes}
 use Rattle.block_chain.specs.Chains.{Leads, bytes_of}
-use Rattle.block_chain.specs.Changes.{AppendsSome}
+use Rattle.block_chain.specs.ChainChanges.{AppendsSome}
 use Rattle.block_chain.specs.laws.Bytes.{content_word, leads_blocks, length-bytes_of, bytes_run, more_bytes}
 use Rattle.block_chain.specs.laws.Chains.{IsAt, at_block}
 

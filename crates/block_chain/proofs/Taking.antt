@@ -5,9 +5,9 @@ use Rattle.std.proofs.lemmas.List.{take_more}
 use Rattle.std.proofs.Math.ListN.{length-set}
 use Rattle.nvm_board.specs.Facts.{address, IsMemory}
 use Rattle.block_chain.specs.Chains.{Leads, free_chain, HasFree}
-use Rattle.block_chain.specs.Changes.{Takes}
+use Rattle.block_chain.specs.ChainChanges.{Takes}
 use Rattle.block_chain.specs.Counts.{count, NoneTwice, IsNotIn}
-use Rattle.block_chain.specs.Words.{link, IsBlock}
+use Rattle.block_chain.specs.BlockWords.{link, IsBlock}
 use Rattle.block_chain.specs.declared.chain.Chain.{Chain}
 use Rattle.block_chain.specs.declared.layout.TheConstants.{FREE_HEAD, HEADER_PAGE}
 use Rattle.block_chain.specs.laws.Chains.{leads_cut, leads_block}

@@ -4,7 +4,7 @@ use Rattle.std.specs.Prelude.{List, [], ◌∷◌, ◌++◌, length, slice_index
 use Rattle.std.specs.List.{flat_map}
 use Rattle.block_chain.specs.declared.layout.TheConstants.{FREE_HEAD, MOST_BLOCKS}
 use Rattle.block_chain.specs.declared.chain.Chain.{Chain}
-use Rattle.block_chain.specs.Words.{link, block_bytes, IsBlock}
+use Rattle.block_chain.specs.BlockWords.{link, block_bytes, IsBlock}
 use Rattle.block_chain.specs.Counts.{NoneTwice}
 
 -- The links lead from page `from` over these blocks to page `to`.

@@ -38,9 +38,9 @@ pub record AreLaid (n : ℕ) (m : List ℕ) (es : List Extent) : Type 0 where
   pub whole : length (free_chain m ++ laid_out m es) ≡ n
 
 -- The result of a check of the layout: the number of free blocks, or None exactly if the blocks aren't laid out so.
-abbrev pub TellsFree : ℕ → List ℕ → List Extent → Option ℕ → Type 0
-TellsFree n m es None = AreLaid n m es → ⊥
-TellsFree n m es (Some free) = AreLaid n m es × (free ≡ length (free_chain m))
+abbrev pub TellsFreeBlocks : ℕ → List ℕ → List Extent → Option ℕ → Type 0
+TellsFreeBlocks n m es None = AreLaid n m es → ⊥
+TellsFreeBlocks n m es (Some free) = AreLaid n m es × (free ≡ length (free_chain m))
 
 -- The chains of extents.
 abbrev pub chains_of : List Extent → List Chain

@@ -4,7 +4,7 @@
 use Rattle.std.specs.Prelude.{◌==◌, ◌+◌, ◌-◌, ◌*◌, ◌/◌, ◌%◌, ◌||◌, ℕ, zero, suc, if◌then◌else◌}
 use Rattle.undo_journal.specs.declared.batch.TheConstants.{BATCH}
 use Rattle.block_chain.specs.declared.layout.TheConstants.{BLOCK_WORDS, WORD_BYTES}
-use Rattle.block_chain.specs.Changes.{touched_words}
+use Rattle.block_chain.specs.ChainChanges.{touched_words}
 
 -- 1 if word k of a chain begins a run, else 0. It does so at the begin of a block, and at the begin of a batch of the
 -- words from `first` on.

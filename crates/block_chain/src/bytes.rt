@@ -3,15 +3,14 @@ ghost use Rattle.std.specs.Prelude.{◌≡◌, ◌↔◌, ◌+◌, ◌-◌, ◌*
 ghost use Rattle.std.specs.Prelude.{slice_index, ◌%◌, ◌==◌, if◌then◌else◌, IsTrue};
 ghost use Rattle.undo_journal.specs.Undo.{IsDataAddress};
 ghost use Rattle.std.specs.Result.{result_err};
-ghost use Rattle.block_chain.specs.Changes.{touched_blocks, touched_words};
-ghost use Rattle.undo_journal.specs.Memory.{committed, current, room, CountsCommit, EndsAt, GoesOn, InRuns};
+ghost use Rattle.block_chain.specs.ChainChanges.{touched_blocks, touched_words, OnlyContent, Overwrites};
+ghost use Rattle.undo_journal.specs.Memory.{committed, current, room, CountsCommit, EndsAt, ContinuesRun, InRuns};
 ghost use Rattle.undo_journal.specs.Memory.{IsOpen, IsReady};
 ghost use Rattle.block_chain.specs.declared.layout.TheConstants.{BLOCK_BYTES, BLOCK_WORDS, FILE_BYTES};
-ghost use Rattle.undo_journal.specs.Calls.{Changes, ReadsIn, SetsIn};
+ghost use Rattle.undo_journal.specs.StoreCalls.{Changes, ReadsIn, SetsIn};
 ghost use Rattle.block_chain.specs.Chains.{free_chain, bytes_of, IsChain, chain_of, HasFree};
-ghost use Rattle.block_chain.specs.Changes.{OnlyContent, Overwrites};
-ghost use Rattle.block_chain.specs.Parts.{byte_over, JoinsAt, PutsWord};
-ghost use Rattle.block_chain.specs.Words.{link, word_bytes, IsBlock};
+ghost use Rattle.block_chain.specs.ChainParts.{byte_over, JoinsAt, PutsWord};
+ghost use Rattle.block_chain.specs.BlockWords.{link, word_bytes, IsBlock};
 ghost use Rattle.block_chain.specs.Writes.{put_writes};
 ghost use Rattle.nvm_board.specs.Facts.{address};
 ghost use Rattle.nvm_board.specs.declared.board.TheConstants.{MOST_PAGES};
@@ -109,7 +108,7 @@ fn put_word<B: Board>(
     ensures done { OnOk result (PutsWord (current (memory_of txn.old)) page k offset bytes.now
         (current (memory_of txn.new))) }
     ensures store { SetsIn 1 txn.old txn.new (result_err result) }
-    ensures goes_on { GoesOn (memory_of txn.old) (address page (1 + k % BLOCK_WORDS))
+    ensures goes_on { ContinuesRun (memory_of txn.old) (address page (1 + k % BLOCK_WORDS))
         → InRuns 0 (memory_of txn.old) (memory_of txn.new) }
     ensures next { OnOk result (EndsAt (memory_of txn.new) (address page (1 + k % BLOCK_WORDS))) }
     ensures joins { OnOk result (JoinsAt (address page (1 + k % BLOCK_WORDS)) (memory_of txn.old) (memory_of txn.new)) }

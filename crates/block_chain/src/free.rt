@@ -3,10 +3,10 @@ ghost use Rattle.std.specs.Prelude.{◌≡◌, ◌+◌, ◌*◌, ◌<◌, ◌≤
 ghost use Rattle.std.specs.Result.{result_err};
 ghost use Rattle.undo_journal.specs.Memory.{committed, current, room, IsReady, IsOpen};
 ghost use Rattle.undo_journal.specs.Lent.{memory_of};
-ghost use Rattle.undo_journal.specs.Calls.{Reads, ReadsIn, SetsIn};
+ghost use Rattle.undo_journal.specs.StoreCalls.{Reads, ReadsIn, SetsIn};
 ghost use Rattle.block_chain.specs.Chains.{free_chain, HasFree, AreApart};
-ghost use Rattle.block_chain.specs.Changes.{Takes, GivesBack};
-ghost use Rattle.block_chain.specs.Parts.{IsFirstFree, first_of, joined};
+ghost use Rattle.block_chain.specs.ChainChanges.{Takes, GivesBack};
+ghost use Rattle.block_chain.specs.ChainParts.{IsFirstFree, first_block, joined_chains};
 
 use crate::chain::Chain;
 use crate::layout::FREE_HEAD;
@@ -114,8 +114,8 @@ fn join<B: Board>(txn: &mut Txn<'_, B>, chains: &[Chain]) -> Result<u16, StoreEr
     requires free { HasFree (current (memory_of txn.old)) }
     requires apart { AreApart (current (memory_of txn.old)) chains.now }
     requires room { length chains.now ≤ room (memory_of txn.old) }
-    ensures page { IfOk result (λ page. page ≡ first_of (current (memory_of txn.old)) chains.now) }
-    ensures done { OnOk result (current (memory_of txn.new) ≡ joined (current (memory_of txn.old)) chains.now) }
+    ensures page { IfOk result (λ page. page ≡ first_block (current (memory_of txn.old)) chains.now) }
+    ensures done { OnOk result (current (memory_of txn.new) ≡ joined_chains (current (memory_of txn.old)) chains.now) }
     ensures store { SetsIn (length chains.now) txn.old txn.new (result_err result) }
 {
     let mut page = head(txn)?;

@@ -1,11 +1,11 @@
 //! Laws of the definitions, as contracts of functions that do nothing.
 ghost use Rattle.undo_journal.specs.Spending.{transaction_writes};
-ghost use Rattle.block_chain.specs.Changes.{touched_blocks, touched_words};
+ghost use Rattle.block_chain.specs.ChainChanges.{touched_blocks, touched_words};
 ghost use Rattle.std.specs.Prelude.{◌≡◌, ◌+◌, ◌*◌, ◌≤◌, ◌<◌, ◌↔◌, ℕ, List, length, slice_index};
 ghost use Rattle.block_chain.specs.declared.layout.TheConstants.{MOST_BLOCKS, BLOCK_BYTES, BLOCK_WORDS, FREE_HEAD};
 ghost use Rattle.nvm_board.specs.Facts.{IsMemory};
 ghost use Rattle.block_chain.specs.Layout.{IsOf};
-ghost use Rattle.block_chain.specs.Words.{IsBlock, block_bytes, link};
+ghost use Rattle.block_chain.specs.BlockWords.{IsBlock, block_bytes, link};
 ghost use Rattle.block_chain.specs.Writes.{put_writes};
 
 /// Proves where blocks lie. They are the pages from 128 on. Word 0 of a block is its link; its other 15 words have 60

@@ -3,9 +3,9 @@ ghost use Rattle.std.specs.Prelude.{◌≡◌, ◌==◌, ◌+◌, ◌-◌, ◌<�
 ghost use Rattle.std.specs.Result.{result_err};
 ghost use Rattle.nvm_board.specs.Facts.{pages_of};
 ghost use Rattle.undo_journal.specs.Memory.{committed, IsReady};
-ghost use Rattle.undo_journal.specs.Calls.{Changes};
+ghost use Rattle.undo_journal.specs.StoreCalls.{Changes};
 ghost use Rattle.block_chain.specs.declared.layout.TheConstants.{FIRST_BLOCK_PAGE};
-ghost use Rattle.block_chain.specs.Changes.{LinksAlone, LinksFirst, AreLinked};
+ghost use Rattle.block_chain.specs.ChainChanges.{LinksAlone, LinksFirst, AreLinked};
 
 use undo_journal::{Board, Store, StoreErr};
 

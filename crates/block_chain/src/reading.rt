@@ -5,11 +5,11 @@ ghost use Rattle.std.specs.Result.{result_err};
 ghost use Rattle.arrayvec.specs.ArrayVec.{array_vec_len};
 ghost use Rattle.nvm_board.specs.declared.board.TheConstants.{MOST_PAGES};
 ghost use Rattle.undo_journal.specs.Memory.{committed, IsReady};
-ghost use Rattle.undo_journal.specs.Calls.{Reads};
+ghost use Rattle.undo_journal.specs.StoreCalls.{Reads};
 ghost use Rattle.block_chain.specs.declared.layout.TheConstants.{BLOCK_BYTES, BLOCK_WORDS, FILE_BYTES};
-ghost use Rattle.block_chain.specs.Words.{link, word, word_bytes, IsBlock};
+ghost use Rattle.block_chain.specs.BlockWords.{link, word, word_bytes, IsBlock};
 ghost use Rattle.block_chain.specs.Chains.{Leads, chain, chain_bytes, chain_of};
-ghost use Rattle.block_chain.specs.Changes.{AppendsSome};
+ghost use Rattle.block_chain.specs.ChainChanges.{AppendsSome};
 
 use crate::chain::Chain;
 use crate::layout::{BLOCK_BYTES, BLOCK_WORDS, WORD_BYTES};

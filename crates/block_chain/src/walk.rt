@@ -4,10 +4,10 @@ ghost use Rattle.std.specs.Prelude.{false, length, slice_set};
 ghost use Rattle.std.specs.Result.{result_err};
 ghost use Rattle.nvm_board.specs.declared.board.TheConstants.{MOST_PAGES};
 ghost use Rattle.undo_journal.specs.Memory.{committed, IsReady};
-ghost use Rattle.undo_journal.specs.Calls.{Reads};
+ghost use Rattle.undo_journal.specs.StoreCalls.{Reads};
 ghost use Rattle.block_chain.specs.Chains.{chain};
-ghost use Rattle.block_chain.specs.Layout.{TellsFree};
-ghost use Rattle.block_chain.specs.Parts.{marked, AreBlank, AreMarks, IsFresh, IsWalked};
+ghost use Rattle.block_chain.specs.Layout.{TellsFreeBlocks};
+ghost use Rattle.block_chain.specs.ChainParts.{times_marked, AreBlank, AreBlockMarks, IsUnmarkedChain, IsWalked};
 ghost use Rattle.nvm_board.specs.Facts.{pages_of};
 ghost use Rattle.block_chain.specs.declared.layout.TheConstants.{FIRST_BLOCK_PAGE};
 
@@ -29,8 +29,8 @@ pub(crate) struct Walked {
 fn mark(page: u32, end: u16, seen: &mut [u8]) -> bool
     requires some { FIRST_BLOCK_PAGE ≤ end }
     requires most { end ≤ MOST_PAGES }
-    requires marks { AreMarks end seen.old }
-    ensures new { IsTrue result ↔ (((FIRST_BLOCK_PAGE ≤ page) × (page < end)) × (marked seen.old page ≡ 0)) }
+    requires marks { AreBlockMarks end seen.old }
+    ensures new { IsTrue result ↔ (((FIRST_BLOCK_PAGE ≤ page) × (page < end)) × (times_marked seen.old page ≡ 0)) }
     ensures marks { IsTrue result → seen.new ≡ slice_set seen.old (page - FIRST_BLOCK_PAGE) 1 }
     ensures kept { result ≡ false → seen.new ≡ seen.old }
 {
@@ -59,10 +59,10 @@ fn walk_over<B: Board>(
     requires ready { IsReady store.old }
     requires some { FIRST_BLOCK_PAGE ≤ end }
     requires inside { end ≤ pages_of (committed store.old) }
-    requires marks { AreMarks end seen.old }
+    requires marks { AreBlockMarks end seen.old }
     ensures walked { IfOk result (λ walked. IfSome walked (λ w. IsWalked
         end (committed store.old) first seen.old w seen.new)) }
-    ensures stale { IfOk result (λ walked. walked ≡ None → ¬ IsFresh end (committed store.old) seen.old first) }
+    ensures stale { IfOk result (λ walked. walked ≡ None → ¬ IsUnmarkedChain end (committed store.old) seen.old first) }
     ensures store { Reads store.old store.new (result_err result) }
 {
     let mut page = first;
@@ -96,7 +96,7 @@ pub fn lay<B: Board>(
 ) -> Result<Option<u16>, StoreErr>
     requires ready { IsReady store.old }
     requires inside { FIRST_BLOCK_PAGE + count ≤ pages_of (committed store.old) }
-    ensures found { IfOk result (λ free. TellsFree count (committed store.old) extents.now free) }
+    ensures found { IfOk result (λ free. TellsFreeBlocks count (committed store.old) extents.now free) }
     ensures store { Reads store.old store.new (result_err result) }
 {
     if count <= FEW_BLOCKS {
@@ -117,7 +117,7 @@ fn lay_many<B: Board>(
 ) -> Result<Option<u16>, StoreErr>
     requires ready { IsReady store.old }
     requires inside { FIRST_BLOCK_PAGE + count ≤ pages_of (committed store.old) }
-    ensures found { IfOk result (λ free. TellsFree count (committed store.old) extents.now free) }
+    ensures found { IfOk result (λ free. TellsFreeBlocks count (committed store.old) extents.now free) }
     ensures store { Reads store.old store.new (result_err result) }
 {
     let mut seen = [0; MOST_BLOCKS as usize];
@@ -136,7 +136,7 @@ fn lay_marked<B: Board>(
     requires inside { FIRST_BLOCK_PAGE + count ≤ pages_of (committed store.old) }
     requires room { count ≤ length seen.old }
     requires blank { AreBlank seen.old }
-    ensures found { IfOk result (λ free. TellsFree count (committed store.old) extents.now free) }
+    ensures found { IfOk result (λ free. TellsFreeBlocks count (committed store.old) extents.now free) }
     ensures store { Reads store.old store.new (result_err result) }
 {
     let end = FIRST_BLOCK_PAGE + count;

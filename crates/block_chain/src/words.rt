@@ -4,9 +4,9 @@ ghost use Rattle.std.specs.Result.{result_err};
 ghost use Rattle.nvm_board.specs.declared.board.TheConstants.{MOST_PAGES};
 ghost use Rattle.undo_journal.specs.Memory.{committed, current, IsReady, IsOpen};
 ghost use Rattle.undo_journal.specs.Lent.{memory_of};
-ghost use Rattle.undo_journal.specs.Calls.{Reads, ReadsIn};
+ghost use Rattle.undo_journal.specs.StoreCalls.{Reads, ReadsIn};
 ghost use Rattle.block_chain.specs.Chains.{Leads, chain};
-ghost use Rattle.block_chain.specs.Words.{link, IsBlock};
+ghost use Rattle.block_chain.specs.BlockWords.{link, IsBlock};
 ghost use Rattle.block_chain.specs.declared.layout.TheConstants.{FREE_HEAD};
 
 use crate::layout::FREE_HEAD;

@@ -6,7 +6,7 @@ use Rattle.std.proofs.Common.{arith, ap, ap₂, sym, subst, ◌∙◌}
 use Rattle.std.proofs.lemmas.Bool.{and_from, and_parts, ltb-true, ltb-false, lt-ltb, le-ltb, ne_eqb, eq-eqb, eqb-true}
 use Rattle.std.proofs.lemmas.Nat.{xor_lt}
 use Rattle.t1_link.specs.declared.block.Fault.TheVariants.{WrongCheck}
-use Rattle.t1_link.specs.Blocks.{Block, IsSpellable, exclusive_or, frame, front, heard}
+use Rattle.t1_link.specs.Blocks.{Block, IsSpellable, exclusive_or, frame, checked_bytes, heard}
 use Rattle.t1_link.specs.BlockLaws.{frame-heard, heard-other_check}
 use Rattle.card_bench.specs.declared.line.Line.{Line}
 use Rattle.t1_link.specs.Garbled.{last_bit_turned}
@@ -99,8 +99,9 @@ bit-turned n same =
 
 -- a block that is garbled is no block any more
 garbled-frame : (b : Block) → IsSpellable b → heard (last_bit_turned (frame b)) ≡ Err WrongCheck
-garbled-frame b spellable = ap heard (last_bit_turned-last (front b) (exclusive_or (front b)))
-    ∙ heard-other_check b (bit_xor (exclusive_or (front b)) 1) spellable (bit-turned (exclusive_or (front b)))
+garbled-frame b spellable = ap heard (last_bit_turned-last (checked_bytes b) (exclusive_or (checked_bytes b)))
+    ∙ heard-other_check b (bit_xor (exclusive_or (checked_bytes b)) 1) spellable (bit-turned (exclusive_or
+    (checked_bytes b)))
 
 pub heard-garbled : (bytes : List ℕ) (b : Block) → heard bytes ≡ Ok b → heard (last_bit_turned bytes) ≡ Err WrongCheck
 heard-garbled bytes b e =

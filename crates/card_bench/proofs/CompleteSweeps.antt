@@ -11,7 +11,7 @@ use Rattle.card_bench.specs.Masks.{mask_of, mask_count_of, words_tried}
 use Rattle.card_bench.specs.Sweeps.{CutsCommand, CutsStart, SparesStart, EndsIn}
 use Rattle.card_bench.specs.SweptRuns.{InTurn, IsOneLook, AreBehindCut, AreAllBehind, SparesCommand, AreOfMask}
 use Rattle.card_bench.specs.SweptRuns.{AreOfWrite, AreOfLastWrite, AreAllRuns}
-use Rattle.card_bench.specs.Tallies.{Finding, CountsOne, CountsEach, Counts}
+use Rattle.card_bench.specs.Tallies.{Finding, CountsOne, CountsEach, CountsRuns}
 
 -- runs that are counted, and then others
 pub counts-each-on : (xs ys : List Finding) (old between new : List Seen) → CountsEach xs old between
@@ -22,33 +22,34 @@ counts-each-on (x ∷ xs) ys old between new some rest =
     (some.0, some.1, counts-each-on xs ys some.0 between new some.2 rest)
 
 -- no part yet
-pub counts-none : (Part : ℕ → List Finding → Type 0) (seen : List Seen) → Counts (InTurn Part 0) seen seen
+pub counts-none : (Part : ℕ → List Finding → Type 0) (seen : List Seen) → CountsRuns (InTurn Part 0) seen seen
 unfolding InTurn CountsEach
 counts-none Part seen = record { runs = []; are = refl; each = refl }
 
 -- a part more
 pub counts-next : (Part : ℕ → List Finding → Type 0) (n : ℕ) (old between new : List Seen)
-    → Counts (InTurn Part n) old between → Counts (Part n) between new → Counts (InTurn Part (n + 1)) old new
+    → CountsRuns (InTurn Part n) old between → CountsRuns (Part n) between new
+    → CountsRuns (InTurn Part (n + 1)) old new
 unfolding InTurn
 counts-next Part n old between new some next =
-    let more : Counts (InTurn Part (suc n)) old new = record {
+    let more : CountsRuns (InTurn Part (suc n)) old new = record {
       runs = some.runs ++ next.runs;
       are = (some.runs, next.runs, some.are, next.are, refl);
       each = counts-each-on some.runs next.runs old between new some.each next.each;
     } in
     let one : suc n ≡ n + 1 = omega arith in
-    subst (λ (m : ℕ). Counts (InTurn Part m) old new) one more
+    subst (λ (m : ℕ). CountsRuns (InTurn Part m) old new) one more
 
 -- what they are, said otherwise
 pub counts-weaker : (Are Also : List Finding → Type 0) (old new : List Seen)
-    → ((all : List Finding) → Are all → Also all) → Counts Are old new → Counts Also old new
+    → ((all : List Finding) → Are all → Also all) → CountsRuns Are old new → CountsRuns Also old new
 counts-weaker Are Also old new weaker some =
     record { runs = some.runs; are = weaker some.runs some.are; each = some.each }
 
 -- some, and then the last ones
 pub counts-both : (Are Last Also : List Finding → Type 0) (old between new : List Seen)
     → ((before last : List Finding) → Are before → Last last → Also (before ++ last))
-    → Counts Are old between → Counts Last between new → Counts Also old new
+    → CountsRuns Are old between → CountsRuns Last between new → CountsRuns Also old new
 counts-both Are Last Also old between new both some last = record {
   runs = some.runs ++ last.runs;
   are = both some.runs last.runs some.are last.are;
@@ -57,7 +58,7 @@ counts-both Are Last Also old between new both some last = record {
 
 -- one run
 pub counts-one : (probe : List Turn) (board : Facts) (given : Finding) (old new : List Seen) → EndsIn board probe given
-    → CountsOne given old new → Counts (IsOneLook probe board) old new
+    → CountsOne given old new → CountsRuns (IsOneLook probe board) old new
 unfolding CountsEach
 counts-one probe board given old new end one =
     record { runs = given ∷ []; are = record { given = given; end = end; one = refl }; each = (new, one, refl) }
@@ -94,9 +95,9 @@ are-behind-cuts depth cuts probe board all more some done each =
 
 -- a start is cut once more
 pub counts-cut : (depth i : ℕ) (probe : List Turn) (board left : Facts) (old between new : List Seen)
-    → Counts (InTurn (AreBehindCut (AreAllBehind depth probe) board) i) old between
-    → CutsStart (i / 2 + 1) (i % 2) board left → Counts (AreAllBehind depth probe left) between new
-    → Counts (InTurn (AreBehindCut (AreAllBehind depth probe) board) (i + 1)) old new
+    → CountsRuns (InTurn (AreBehindCut (AreAllBehind depth probe) board) i) old between
+    → CutsStart (i / 2 + 1) (i % 2) board left → CountsRuns (AreAllBehind depth probe left) between new
+    → CountsRuns (InTurn (AreBehindCut (AreAllBehind depth probe) board) (i + 1)) old new
 counts-cut depth i probe board left old between new some cut behind =
     counts-next (AreBehindCut (AreAllBehind depth probe) board) i old between new some
     (counts-weaker (AreAllBehind depth probe left) (AreBehindCut (AreAllBehind depth probe) board i) between new
@@ -105,10 +106,10 @@ counts-cut depth i probe board left old between new some cut behind =
 -- the command is cut at a write by one mask more
 pub counts-mask : (depth number words i : ℕ) (board : Facts) (left : CutBoard) (prepare : List Turn) (command : List ℕ)
     (probe : List Turn) (old between new : List Seen) → (i ≡ 0 → words ≡ words_tried (last_torn left))
-    → Counts (InTurn (AreOfMask board prepare command probe depth number words) i) old between
+    → CountsRuns (InTurn (AreOfMask board prepare command probe depth number words) i) old between
     → CutsCommand number (mask_of words i) board prepare command (cut_facts left)
-    → Counts (AreAllBehind depth probe (cut_facts left)) between new
-    → Counts (InTurn (AreOfMask board prepare command probe depth number words) (i + 1)) old new
+    → CountsRuns (AreAllBehind depth probe (cut_facts left)) between new
+    → CountsRuns (InTurn (AreOfMask board prepare command probe depth number words) (i + 1)) old new
 counts-mask depth number words i board left prepare command probe old between new told some cut behind =
     counts-next (AreOfMask board prepare command probe depth number words) i old between new some
     (counts-weaker (AreAllBehind depth probe (cut_facts left)) (AreOfMask board prepare command probe depth number
@@ -124,8 +125,8 @@ mask-is words (suc (suc bit)) mask none all single = single bit (omega arith)
 -- the next start makes no write, and none was cut
 pub counts-whole : (depth i : ℕ) (Part : ℕ → List Finding → Type 0) (probe : List Turn)
     (board : Facts) (old between new : List Seen) → 0 < depth → i ≡ 0 → SparesStart (i / 2 + 1) (i % 2) board
-    → Counts (InTurn Part i) old between
-    → Counts (IsOneLook probe board) between new → Counts (AreAllBehind depth probe board) old new
+    → CountsRuns (InTurn Part i) old between
+    → CountsRuns (IsOneLook probe board) between new → CountsRuns (AreAllBehind depth probe board) old new
 unfolding InTurn
 counts-whole depth i Part probe board old between new more first whole none look =
     let number : i / 2 + 1 ≡ 1 = omega (arith, first) in
@@ -141,8 +142,8 @@ counts-whole depth i Part probe board old between new more first whole none look
 -- the next start was cut at each of its writes
 pub counts-swept : (depth i : ℕ) (probe : List Turn) (board : Facts) (old new : List Seen) → 0 < depth → 1 ≤ i
     → (SparesStart (i / 2 + 1) (i % 2) board ⊎ (i ≡ 2 ^ 32 - 1))
-    → Counts (InTurn (AreBehindCut (AreAllBehind (depth - 1) probe) board) i) old new
-    → Counts (AreAllBehind depth probe board) old new
+    → CountsRuns (InTurn (AreBehindCut (AreAllBehind (depth - 1) probe) board) i) old new
+    → CountsRuns (AreAllBehind depth probe board) old new
 counts-swept depth i probe board old new more some done each =
     counts-weaker (InTurn (AreBehindCut (AreAllBehind (depth - 1) probe) board) i) (AreAllBehind depth probe board) old
     new (λ all parts. are-behind-cuts depth i probe board all more some done parts) each
@@ -150,8 +151,8 @@ counts-swept depth i probe board old new more some done each =
 -- the command is cut at a write by each mask
 pub counts-write : (depth number words i : ℕ) (board : Facts) (prepare : List Turn) (command : List ℕ)
     (probe : List Turn) (old new : List Seen) → 1 ≤ words → words ≤ 16 → i ≡ mask_count_of words
-    → Counts (InTurn (AreOfMask board prepare command probe depth number words) i) old new
-    → Counts (AreOfWrite board prepare command probe depth number) old new
+    → CountsRuns (InTurn (AreOfMask board prepare command probe depth number words) i) old new
+    → CountsRuns (AreOfWrite board prepare command probe depth number) old new
 counts-write depth number words i board prepare command probe old new some fit end each =
     counts-weaker (InTurn (AreOfMask board prepare command probe depth number words) i)
     (AreOfWrite board prepare command probe depth number) old new
@@ -166,9 +167,9 @@ counts-write depth number words i board prepare command probe old new some fit e
 -- the command doesn't make this write
 pub counts-last : (depth number words i : ℕ) (board : Facts) (prepare : List Turn) (command : List ℕ)
     (probe : List Turn) (old new : List Seen) → i < mask_count_of words
-    → Counts (InTurn (AreOfMask board prepare command probe depth number words) i) old new
+    → CountsRuns (InTurn (AreOfMask board prepare command probe depth number words) i) old new
     → SparesCommand number (mask_of words i) board prepare command
-    → Counts (AreOfLastWrite board prepare command probe depth number) old new
+    → CountsRuns (AreOfLastWrite board prepare command probe depth number) old new
 counts-last depth number words i board prepare command probe old new few each spared =
     counts-weaker (InTurn (AreOfMask board prepare command probe depth number words) i)
     (AreOfLastWrite board prepare command probe depth number) old new
@@ -176,9 +177,10 @@ counts-last depth number words i board prepare command probe old new few each sp
 
 -- all writes of the command, and the one that it doesn't make
 pub counts-command : (depth writes : ℕ) (board : Facts) (prepare : List Turn) (command : List ℕ) (probe : List Turn)
-    (old between new : List Seen) → Counts (InTurn (λ n. AreOfWrite board prepare command probe depth (n + 1)) writes)
-    old between → Counts (AreOfLastWrite board prepare command probe depth (writes + 1)) between new
-    → Counts (AreAllRuns board prepare command probe depth) old new
+    (old between new : List Seen) → CountsRuns (InTurn (λ n. AreOfWrite board prepare command probe depth
+    (n + 1)) writes)
+    old between → CountsRuns (AreOfLastWrite board prepare command probe depth (writes + 1)) between new
+    → CountsRuns (AreAllRuns board prepare command probe depth) old new
 counts-command depth writes board prepare command probe old between new each last =
     counts-both (InTurn (λ n. AreOfWrite board prepare command probe depth (n + 1)) writes)
     (AreOfLastWrite board prepare command probe depth (writes + 1)) (AreAllRuns board prepare command probe depth) old
@@ -194,8 +196,8 @@ counts-command depth writes board prepare command probe old between new each las
 -- and where all numbers are used up
 pub counts-command-full : (depth writes : ℕ) (board : Facts) (prepare : List Turn) (command : List ℕ)
     (probe : List Turn) (old new : List Seen) → writes ≡ 2 ^ 32 - 1
-    → Counts (InTurn (λ n. AreOfWrite board prepare command probe depth (n + 1)) writes) old new
-    → Counts (AreAllRuns board prepare command probe depth) old new
+    → CountsRuns (InTurn (λ n. AreOfWrite board prepare command probe depth (n + 1)) writes) old new
+    → CountsRuns (AreAllRuns board prepare command probe depth) old new
 counts-command-full depth writes board prepare command probe old new full each =
     counts-weaker (InTurn (λ n. AreOfWrite board prepare command probe depth (n + 1)) writes)
     (AreAllRuns board prepare command probe depth) old new

@@ -2,7 +2,7 @@
 use Rattle.std.specs.Prelude.{◌≡◌, ◌≤◌, ◌+◌, ◌*◌, ℕ, zero, suc, List, Option, None, Some, Result, Ok, Err, refl}
 use Rattle.std.proofs.Common.{arith, ap, inl, inr, ◌∙◌}
 use Rattle.t1_link.specs.ReaderTable.{Reader, reader_sends}
-use Rattle.t1_link.specs.ReaderTable.{Outcome, fails, gives, sends, unknown}
+use Rattle.t1_link.specs.ReaderTable.{CommandReport, fails, gives, sends, unknown}
 use Rattle.command_base.specs.declared.spending.TheConstants.{COMMAND_WRITES}
 use Rattle.nvm_board.specs.declared.board.Arm.{Arm}
 use Rattle.nvm_board.specs.Aims.{due_of}
@@ -34,7 +34,7 @@ lost_in (Err link_lost) = 0
 lost_in (Err power_lost) = 1
 
 -- what the reader's end says loses none
-none-lost : (o : Outcome) → lost_in (following o) ≡ 0
+none-lost : (o : CommandReport) → lost_in (following o) ≡ 0
 none-lost (sends block) = refl
 none-lost (gives answer) = refl
 none-lost unknown = refl

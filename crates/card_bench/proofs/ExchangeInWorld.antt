@@ -14,7 +14,8 @@ use Rattle.card_bench.specs.ExchangeWorlds.{Course, EndsSo, ExchangeLaw, GoesAs,
 use Rattle.card_bench.specs.ExchangeWorlds.{exchange_events, fate, fates}
 use Rattle.card_bench.specs.Lines.{line_after}
 use Rattle.link_worlds.specs.TreeMachine.{IsProperState, Served, tree_machine}
-use Rattle.link_worlds.specs.Worlds.{Event, Report, World, arrival, giving, is_command, may_send, powered, send, turning}
+use Rattle.link_worlds.specs.Worlds.{Event, Report, World, arrival, giving, is_command, may_send, powered, send}
+use Rattle.link_worlds.specs.Worlds.{turning}
 use Rattle.link_worlds.specs.Worlds.{world, world_step}
 use Rattle.link_worlds.specs.WorldLaw.{comes_of, is_under_way}
 use Rattle.link_worlds.specs.WorldRepairs.{counts_after, newest, watched}

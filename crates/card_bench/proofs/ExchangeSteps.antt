@@ -7,13 +7,13 @@ use Rattle.t1_link.specs.declared.block.Fault.TheVariants.{WrongCheck}
 use Rattle.t1_link.specs.Blocks.{Block, frame}
 use Rattle.t1_link.specs.BlockLaws.{heard-frame}
 use Rattle.t1_link.specs.CardTable.{Link, Reaction, Taken, answers, reply_bytes, card_takes, link_step, replies, runs}
-use Rattle.t1_link.specs.ReaderTable.{Outcome, Reader, Turned, fails, gives, reader_step, reader_times_out}
+use Rattle.t1_link.specs.ReaderTable.{CommandReport, Reader, Turned, fails, gives, reader_step, reader_times_out}
 use Rattle.t1_link.specs.ReaderTable.{sends, unknown}
 use Rattle.card_model.specs.Cards.{Card}
 use Rattle.card_core.specs.Running.{card_found}
 use Rattle.card_model.specs.CommandTable.{asked}
 use Rattle.card_model.specs.Steps.{IsStage, answer_bytes}
-use Rattle.command_base.specs.Words.{StandsAsked}
+use Rattle.command_base.specs.CommitWords.{StandsAsked}
 use Rattle.card_bench.specs.Exchanges.{Ended}
 use Rattle.card_bench.specs.Exchanges.{answered, set_back, link_lost, power_lost}
 use Rattle.card_bench.specs.declared.line.Line.{Line}
@@ -135,13 +135,13 @@ stepped-is w pending = step-fated w (is_due pending.lose 0) (is_due pending.garb
     (last_bit_turned (bytes_of_line w.line))
 
 -- the reader's end turned
-pub shows-noted : (w : World Served) (o : Outcome) → ShowsIn (following o) w.sent w.reports (noted w o)
+pub shows-noted : (w : World Served) (o : CommandReport) → ShowsIn (following o) w.sent w.reports (noted w o)
 shows-noted w (sends b) = record { reports = refl; sent_is = refl; way_is = (b, refl, refl) }
 shows-noted w (gives answer) = record { reports = refl; line = refl }
 shows-noted w unknown = record { reports = refl; line = refl }
 shows-noted w (fails failure) = (failure, record { reports = refl; line = refl })
 
-stands-noted : (p : Powered) (w : World Served) (o : Outcome) → p.link ≡ w.card → state_served p ≡ w.machine
+stands-noted : (p : Powered) (w : World Served) (o : CommandReport) → p.link ≡ w.card → state_served p ≡ w.machine
     → AreOfWorld p w.reader (noted w o)
 stands-noted p w (sends b) link card = record { reader_is = refl; link_is = link; card_is = card }
 stands-noted p w (gives answer) link card = record { reader_is = refl; link_is = link; card_is = card }
@@ -157,7 +157,7 @@ pub same-reader : (bench : BenchState) (reader : Reader) (w : World Served) → 
 same-reader (off facts) reader w s = absurd s
 same-reader (on p) reader w s = s.reader_is
 
-leads-noted : (w : World Served) (came : Arrival) (bench : BenchState) (line : Line) (r : Reader) (o : Outcome)
+leads-noted : (w : World Served) (came : Arrival) (bench : BenchState) (line : Line) (r : Reader) (o : CommandReport)
     → after_arrival tree_machine w came ≡ noted (record w { reader = r }) o
     → StandIn bench r (noted (record w { reader = r }) o)
     → LeadsTo (following o) w came (record { bench = bench; reader = r; line = line })

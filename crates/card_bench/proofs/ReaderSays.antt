@@ -9,14 +9,15 @@ use Rattle.t1_link.specs.declared.reader_end.Failure.TheVariants.{LinkLost}
 use Rattle.t1_link.specs.declared.reader_end.Phase.{Phase}
 use Rattle.t1_link.specs.declared.reader_end.Phase.TheVariants.{Busy}
 use Rattle.t1_link.specs.ReaderFields.{HasAnswer, IsSend, left_in, next_of}
-use Rattle.t1_link.specs.ReaderTable.{Outcome, Reader, Turned, advancing, asking, failing, fails, gives}
+use Rattle.t1_link.specs.ReaderTable.{CommandReport, Reader, Turned, advancing, asking, failing, fails, gives}
 use Rattle.t1_link.specs.ReaderTable.{is_dead, reader_sends}
 use Rattle.t1_link.specs.ReaderTable.{reader_times_out, requesting, requesting_again, sends, unknown}
 use Rattle.card_bench.specs.declared.exchange.Blocks.{Blocks}
 use Rattle.card_bench.specs.Exchanges.{following, toward_card}
 use Rattle.card_bench.specs.ExchangeParts.{flow_of, follows_of}
 
-pub follows-so : (o : Outcome) (next : Next) (blocks : Blocks) (held : List ℕ) (reader : Reader) → next ≡ next_of o
+pub follows-so : (o : CommandReport) (next : Next) (blocks : Blocks) (held : List ℕ) (reader : Reader)
+    → next ≡ next_of o
     → blocks.toward_card ≡ left_in o held → HasAnswer o reader
     → follows_of (flow_of next) blocks reader.answer ≡ following o
 follows-so (sends b) next blocks held reader said block kept =

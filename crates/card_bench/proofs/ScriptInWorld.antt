@@ -16,11 +16,11 @@ use Rattle.card_turns.specs.declared.playing.Turn.TheVariants as turn
 use Rattle.card_turns.specs.BenchStates.{BenchHasCard, BenchState, IsFresh, off, on, IsArmed}
 use Rattle.card_bench.specs.Exchanges.{Commands, Desk, GoesOn, left_by}
 use Rattle.card_bench.specs.ExchangeWorlds.{GoesAs, StandIn, course_of, exchange_events, state_served}
-use Rattle.bench_lines.specs.Orders.{IsSized}
+use Rattle.bench_lines.specs.Orders.{IsOrderSized}
 use Rattle.card_bench.specs.Performing.{Performs, PerformsCommand, reader_after, shown}
 use Rattle.card_bench.specs.Printouts.{Print, prints_atr}
 use Rattle.card_bench.specs.ScriptWorlds.{CommandInWorld, IsInNewWorld, IsInWorld, LineInWorld, PowerOnLaw, LineLaw}
-use Rattle.bench_lines.specs.Spellings.{IsOfBytes}
+use Rattle.bench_lines.specs.Spellings.{IsOrderOfBytes}
 use Rattle.link_worlds.specs.TreeMachine.{IsProperState, Served, tree_machine}
 use Rattle.card_turns.specs.Turns.{GoodTurn}
 use Rattle.link_worlds.specs.Worlds.{Event, World, are_bytes, is_command, world}
@@ -97,8 +97,8 @@ module _ (start : Served) (events : List Event) (proper : IsProperState start) w
       commands-in command old new prints sound there
       (subst (λ (r : Option Reader). Commands old r command new prints) there.may_send performs)
 
-  line-in : (order : Order) (old new : Desk) (prints : Print) → IsInWorld start events old → IsSized order
-      → IsOfBytes order → Performs order old new prints → LineInWorld order start events old new prints
+  line-in : (order : Order) (old new : Desk) (prints : Print) → IsInWorld start events old → IsOrderSized order
+      → IsOrderOfBytes order → Performs order old new prints → LineInWorld order start events old new prints
   line-in Nothing old new prints there sized bytes performs = same-desk start events old new performs.0 there
   line-in On old new prints there sized bytes performs = tt
   line-in Off old new prints there sized bytes performs = tt

@@ -16,7 +16,7 @@ use Rattle.bench_lines.specs.Scripts.{AreOrders, CountsTaken, FailsAtLine, IsInL
 use Rattle.bench_lines.specs.Scripts.{WhereKnown}
 use Rattle.bench_lines.specs.laws.TextLines.{IsLong, lines-last, lines-line, lines-long, order_of-empty, order_of-long}
 use Rattle.bench_lines.specs.laws.TextLines.{order_of-none, orders-more, strip-within}
-use Rattle.card_bench.specs.Endings.{HasWritten, IsReadInto, IsRunInto, IsRunToEnd, IsRunToLine}
+use Rattle.card_bench.specs.ScriptEndings.{HasWritten, IsReadInto, IsRunInto, IsRunToEnd, IsRunToLine}
 use Rattle.card_bench.specs.Exchanges.{Desk}
 use Rattle.card_bench.specs.Performing.{Performs}
 use Rattle.card_turns.specs.Plays.{IsGood}

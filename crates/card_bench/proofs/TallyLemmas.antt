@@ -6,7 +6,7 @@ use Rattle.std.proofs.lemmas.List.Elements.{All-append, All-map, All-push, All-s
 use Rattle.std.proofs.lemmas.List.Quantifiers.{all_pairs_push}
 use Rattle.std.proofs.lemmas.List.Sums.{sum_by-append, sum_by-cons, sum_by-set}
 use Rattle.card_bench.specs.declared.tally.Seen.{Seen}
-use Rattle.card_bench.specs.Tallies.{Finding, finding, findings, count_of, Adds, IsTally}
+use Rattle.card_bench.specs.Tallies.{Finding, finding, findings, times_seen, Adds, IsTally}
 
 -- a result that is put in the place of the same one
 pub findings-set : (seen : List Seen) (i : ℕ) (s d : Seen) → finding s ≡ finding (get_or seen i d)
@@ -46,7 +46,7 @@ tally-push runs seen s once tally new =
     all_pairs_push (λ a b. a ≢ b) (findings seen) (finding s) tally.different (λ k d lt. others k d lt) in
     let P : List Finding → Type 0 = λ l. AllPairs (λ a b. a ≢ b) l in
     record {
-      sum = omega (arith, sum_by-append count_of seen (s ∷ []), sum_by-cons count_of s [], once, tally.sum);
+      sum = omega (arith, sum_by-append times_seen seen (s ∷ []), sum_by-cons times_seen s [], once, tally.sum);
       given = All-push (λ x. 1 ≤ x.count) seen s tally.given (omega (arith, once));
       different = subst P (sym (map-append finding seen (s ∷ []))) apart;
     }
@@ -58,7 +58,7 @@ pub tally-again : (runs : ℕ) (seen : List Seen) (i : ℕ) (s d : Seen) → i <
 tally-again runs seen i s d lt same more tally =
     let P : List Finding → Type 0 = λ l. AllPairs (λ a b. a ≢ b) l in
     record {
-      sum = omega (arith, sum_by-set count_of seen i s d lt, more, tally.sum);
+      sum = omega (arith, sum_by-set times_seen seen i s d lt, more, tally.sum);
       given = All-set (λ x. 1 ≤ x.count) seen i s (omega (arith, more)) tally.given;
       different = subst P (sym (findings-set seen i s d same)) tally.different;
     }

@@ -9,7 +9,7 @@ use Rattle.t1_link.specs.ReaderTable.{Reader}
 use Rattle.card_core.specs.Running.{card_found}
 use Rattle.card_model.specs.CommandTable.{asked}
 use Rattle.card_model.specs.Steps.{IsStage}
-use Rattle.command_base.specs.Words.{StandsAsked}
+use Rattle.command_base.specs.CommitWords.{StandsAsked}
 use Rattle.card_bench.specs.Exchanges.{Ended}
 use Rattle.card_bench.specs.Exchanges.{answered, set_back, link_lost, power_lost}
 use Rattle.card_bench.specs.declared.exchange.TheConstants.{LINE_BLOCKS}

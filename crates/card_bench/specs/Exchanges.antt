@@ -1,7 +1,7 @@
 -- An exchange: a command through both ends of the link, over a lossy line, with a card at the bench.
 use Rattle.std.specs.Prelude.{◌≡◌, ◌⊎◌, ℕ, zero, suc, List, Option, None, Some, Result, Ok, Err}
 use Rattle.t1_link.specs.Blocks.{frame}
-use Rattle.t1_link.specs.ReaderTable.{Outcome, Reader, Turned, fails, gives, reader_sends, reader_step}
+use Rattle.t1_link.specs.ReaderTable.{CommandReport, Reader, Turned, fails, gives, reader_sends, reader_step}
 use Rattle.t1_link.specs.ReaderTable.{reader_times_out, sends, unknown}
 use Rattle.card_bench.specs.declared.exchange.TheConstants.{LINE_BLOCKS}
 use Rattle.card_turns.specs.declared.playing.Item.TheVariants as item
@@ -32,7 +32,7 @@ GoesOn link_lost = ⊥
 GoesOn power_lost = ⊥
 
 -- the next step after the reader's end returned: the next block, or the end of the exchange
-abbrev pub following : Outcome → Result NextBlock Ended
+abbrev pub following : CommandReport → Result NextBlock Ended
 following (sends block) = Ok (toward_card (frame block))
 following (gives answer) = Err (answered answer)
 following unknown = Err set_back

@@ -1,7 +1,6 @@
 pub mod Faults
 pub mod Prints
 pub mod DeskParts
-pub mod Endings
 pub mod Exchanges
 pub mod ExchangeWorlds
 pub mod Lines
@@ -14,3 +13,4 @@ pub mod Sweeps
 pub mod SweptRuns
 pub mod Tallies
 pub mod PlanParts
+pub mod ScriptEndings

@@ -9,15 +9,15 @@ use Rattle.card_bench.specs.declared.sweeping.Stop.TheVariants.{Full}
 use Rattle.card_bench.specs.declared.tally.Sweep.{Sweep}
 use Rattle.card_bench.specs.Sweeps.{GivenByRun}
 use Rattle.card_bench.specs.SweptRuns.{AreAllRuns, AreOfLastWrite, AreOfWrite}
-use Rattle.card_bench.specs.Tallies.{Finding, findings, Adds, Counts}
+use Rattle.card_bench.specs.Tallies.{Finding, findings, Adds, CountsRuns}
 
 -- the board at the start of each run
 abbrev pub board_of : Plan → Facts
 board_of plan = cut_facts plan.board.now
 
 -- one of its runs has this finding
-abbrev pub IsGiven : Plan → Finding → Type 0
-IsGiven plan given =
+abbrev pub IsGivenBy : Plan → Finding → Type 0
+IsGivenBy plan given =
     GivenByRun (board_of plan) plan.prepare.now plan.command.now plan.probe.now plan.depth given
 
 -- all its runs have these findings
@@ -36,5 +36,5 @@ AreAtWrite plan k false all =
 pub record Sweeps {T : Type 0} (words : List ℕ) (Is : Finding → Type 0) (Are : T → List Finding → Type 0)
     (old new : Sweep) (result : Result T Stop) : Type 0 where
   pub given : HasCard words → Adds Is (findings old.seen.items) (findings new.seen.items)
-  pub complete : IfOk result (λ x. HasCard words → Counts (Are x) old.seen.items new.seen.items)
+  pub complete : IfOk result (λ x. HasCard words → CountsRuns (Are x) old.seen.items new.seen.items)
   pub full : IfErr result (λ stop. stop ≡ Full → new.runs ≡ 2 ^ 32 - 1)

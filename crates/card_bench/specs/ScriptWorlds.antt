@@ -8,10 +8,10 @@ use Rattle.bench_lines.specs.Orders.{Nothing, On, Off, Free, Apdu, Block, Cut, L
 use Rattle.card_turns.specs.BenchStates.{BenchHasCard}
 use Rattle.card_bench.specs.Exchanges.{Desk, GoesOn, left_by, printed_by}
 use Rattle.card_bench.specs.ExchangeWorlds.{GoesAs, StandIn, course_of, exchange_events}
-use Rattle.bench_lines.specs.Orders.{IsSized}
+use Rattle.bench_lines.specs.Orders.{IsOrderSized}
 use Rattle.card_bench.specs.Performing.{Performs}
 use Rattle.card_bench.specs.Printouts.{Print, prints_atr}
-use Rattle.bench_lines.specs.Spellings.{IsOfBytes}
+use Rattle.bench_lines.specs.Spellings.{IsOrderOfBytes}
 use Rattle.link_worlds.specs.TreeMachine.{IsProperState, Served, tree_machine}
 use Rattle.link_worlds.specs.Worlds.{Event, quiet}
 use Rattle.link_worlds.specs.WorldLaw.{comes_of}
@@ -63,5 +63,6 @@ PowerOnLaw = (old new : Desk) → BenchHasCard new.bench → Performs On old new
 -- The lines after it continue that world.
 abbrev pub LineLaw : Type 0
 LineLaw = (start : Served) (events : List Event) (order : Order) (old new : Desk) (prints : Print)
-    → IsProperState start → IsInWorld start events old → IsSized order → IsOfBytes order → Performs order old new prints
+    → IsProperState start → IsInWorld start events old → IsOrderSized order → IsOrderOfBytes order
+    → Performs order old new prints
     → LineInWorld order start events old new prints

@@ -21,8 +21,8 @@ abbrev pub off_with : Facts → BenchState
 off_with facts = off (record facts { dark = true })
 
 -- the board taken from a bench
-abbrev pub left_by : BenchState → Facts
-left_by b = record (bench_facts b) { dark = true }
+abbrev pub board_left : BenchState → Facts
+board_left b = record (bench_facts b) { dark = true }
 
 -- the free space that a run reports: that of the card state after recovery; zero with power off
 abbrev pub free_of : BenchState → FreeSpace
@@ -42,7 +42,7 @@ pub record CutsCommand (number mask : ℕ) (board : Facts) (prepare : List Turn)
   pub good : IsGood armed
   pub good_left : IsGood last
   pub cut : GoodBlock armed command Dark last
-  pub left_is : left ≡ left_by last
+  pub left_is : left ≡ board_left last
   pub fired : left.pending ≡ None
   pub has_card : HasCard left.words
 
@@ -54,7 +54,7 @@ pub record CutsStart (number mask : ℕ) (board left : Facts) : Type 0 where
   pub good : IsGood armed
   pub good_left : IsGood last
   pub cut : GoodTurn armed turn.On Dark last
-  pub left_is : left ≡ left_by last
+  pub left_is : left ≡ board_left last
   pub fired : left.pending ≡ None
   pub has_card : HasCard left.words
 

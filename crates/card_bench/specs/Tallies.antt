@@ -14,15 +14,15 @@ abbrev pub finding : Seen → Finding
 finding seen = record { trace = seen.trace.items; free = seen.free }
 
 -- the number of runs with this finding
-abbrev pub count_of : Seen → ℕ
-count_of seen = seen.count
+abbrev pub times_seen : Seen → ℕ
+times_seen seen = seen.count
 
 abbrev pub findings : List Seen → List Finding
 findings seen = map finding seen
 
 -- All findings are different, each has at least one run, and their counts add up to `runs`.
 pub record IsTally (runs : ℕ) (seen : List Seen) : Type 0 where
-  pub sum : sum_by count_of seen ≡ runs
+  pub sum : sum_by times_seen seen ≡ runs
   pub given : All (λ s. 1 ≤ s.count) seen
   pub different : AllPairs (λ a b. a ≢ b) (findings seen)
 
@@ -62,7 +62,7 @@ CountsEach [] old new = new ≡ old
 CountsEach (given ∷ rest) old new = (between : List Seen) × CountsOne given old between × CountsEach rest between new
 
 -- Runs were counted: all of these, in order.
-pub record Counts (Are : List Finding → Type 0) (old new : List Seen) : Type 0 where
+pub record CountsRuns (Are : List Finding → Type 0) (old new : List Seen) : Type 0 where
   pub runs : List Finding
   pub are : Are runs
   pub each : CountsEach runs old new

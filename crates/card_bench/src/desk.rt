@@ -7,7 +7,7 @@ ghost use Rattle.card_bench.specs.DeskParts.{print_of};
 ghost use Rattle.card_bench.specs.Exchanges.{printed_by};
 ghost use Rattle.card_bench.specs.ExchangeParts.{ended_of};
 ghost use Rattle.bench_lines.specs.OrderViews.{order_with};
-ghost use Rattle.bench_lines.specs.Orders.{IsSized};
+ghost use Rattle.bench_lines.specs.Orders.{IsOrderSized};
 ghost use Rattle.card_bench.specs.Performing.{Performs, PerformsCommand, TakesTurn, free_shown};
 ghost use Rattle.card_turns.specs.Plays.{IsGood};
 ghost use Rattle.card_bench.specs.Printouts.{prints_nothing, text_of};
@@ -108,7 +108,7 @@ impl<B: Armed + Faultless> Desk<B> {
     /// Runs the order of a line, with its bytes. `print` prints the result.
     #[tactic(auto, using(crate::proofs::DeskTurns::off_taken, crate::proofs::DeskTurns::block_taken))]
     pub(crate) fn perform(&mut self, order: Order, given: &[u8])
-        requires sized { IsSized (order_with order given.now) }
+        requires sized { IsOrderSized (order_with order given.now) }
         requires good { IsGood self.old.desk.bench }
         ensures good { IsGood self.new.desk.bench }
         ensures performs { Performs (order_with order given.now) self.old.desk self.new.desk self.new.prints }

@@ -104,9 +104,10 @@ pub fn swept_cards_are_stages()
         → IsStageOf s.cut.armed command (bench_card s.rest.end.started) }
 {}
 
-/// A sweep spares what makes fewer writes, and nothing else: a start that is spared at a write makes fewer, as many as
-/// the memory before it asks for, and so does a command that is spared. The counts of the board have to be far from
-/// their end.
+/// A start that a sweep spares at a write makes fewer writes: as many as the memory before it asks for.
+///
+/// Of a command this says less: some end that its block may have comes before that write. Tests show how many writes a
+/// command makes. The counts of the board have to be far from their end.
 pub fn spared_runs_make_fewer_writes()
     ensures start { (number mask : ℕ) (board : Facts) → SparesStart number mask board → HasLeft 3787 board
         → power_on_writes board ≤ number - 1 }

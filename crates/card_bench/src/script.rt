@@ -1,6 +1,6 @@
 //! Runs a script, from its first line to its last.
 ghost use Rattle.std.specs.Prelude.{◌≡◌, ◌≢◌, Err, IfSome, IfErr, OnOk};
-ghost use Rattle.card_bench.specs.Endings.{IsRunToEnd, RunStopsBy};
+ghost use Rattle.card_bench.specs.ScriptEndings.{IsRunToEnd, RunStopsBy};
 ghost use Rattle.card_bench.specs.Prints.{IsFirstDesk};
 
 use crate::desk::Desk;

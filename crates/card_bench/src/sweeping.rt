@@ -7,9 +7,9 @@ ghost use Rattle.command_base.specs.Finding.{HasCard};
 ghost use Rattle.card_turns.specs.Plays.{IsGood};
 ghost use Rattle.card_turns.specs.BenchStates.{IsWell, bench_facts};
 ghost use Rattle.card_turns.specs.Turns.{Runs};
-ghost use Rattle.card_bench.specs.Tallies.{findings, count_of, Counts};
+ghost use Rattle.card_bench.specs.Tallies.{findings, times_seen, CountsRuns};
 ghost use Rattle.card_bench.specs.declared.sweeping.Stop.TheVariants.{Memory};
-ghost use Rattle.card_bench.specs.PlanParts.{board_of, AreAll, AreAtWrite, IsGiven, Sweeps};
+ghost use Rattle.card_bench.specs.PlanParts.{board_of, AreAll, AreAtWrite, IsGivenBy, Sweeps};
 ghost use Rattle.card_bench.specs.SweptRuns.{SparesCommand, IsOneLook, AreAllBehind, AreAllRuns};
 ghost use Rattle.card_bench.specs.Sweeps.{CutsCommand, CutsStart, SparesStart, EndsIn, EndsBehindStarts};
 ghost use Rattle.card_bench.specs.Sweeps.{GivenByRun, free_of};
@@ -68,13 +68,13 @@ pub fn sweep(
     depth: u8,
 ) -> Result<Sweep, AllocError>
     requires { (cut_facts board.now).pending ≡ None }
-    ensures sum { IfOk result (λ s. sum_by count_of s.seen.items ≡ s.runs) }
+    ensures sum { IfOk result (λ s. sum_by times_seen s.seen.items ≡ s.runs) }
     ensures different { IfOk result (λ s. AllPairs (λ a b. a ≢ b) (findings s.seen.items)) }
     ensures runs { IfOk result (λ s. HasCard (cut_facts board.now).words
         → All (GivenByRun (cut_facts board.now) prepare.now command.now probe.now depth) (findings s.seen.items)) }
     // Nothing is left out: the tally counts all possible runs, in order.
     ensures complete { IfOk result (λ s. HasCard (cut_facts board.now).words → s.runs < 2 ^ 32 - 1
-        → Counts (AreAllRuns (cut_facts board.now) prepare.now command.now probe.now depth) [] s.seen.items) }
+        → CountsRuns (AreAllRuns (cut_facts board.now) prepare.now command.now probe.now depth) [] s.seen.items) }
 {
     let mut sweep = Sweep::new(alloc);
     let plan = Plan {
@@ -93,7 +93,7 @@ pub fn sweep(
 
 /// Cuts the command at each of its writes, and continues from there.
 fn cut_command(plan: Plan<'_>, sweep: &mut Sweep) -> Result<(), Stop>
-    ensures { Sweeps (board_of plan.entry).words (IsGiven plan.entry) (λ _. AreAll plan.entry)
+    ensures { Sweeps (board_of plan.entry).words (IsGivenBy plan.entry) (λ _. AreAll plan.entry)
         sweep.old sweep.new result }
 {
     for whole in 0..u32::MAX {
@@ -108,7 +108,7 @@ fn cut_command(plan: Plan<'_>, sweep: &mut Sweep) -> Result<(), Stop>
 /// Returns true if the command makes that write.
 fn cut_write(plan: Plan<'_>, k: u32, sweep: &mut Sweep) -> Result<bool, Stop>
     requires { 1 ≤ k }
-    ensures { Sweeps (board_of plan.entry).words (IsGiven plan.entry) (AreAtWrite plan.entry k)
+    ensures { Sweeps (board_of plan.entry).words (IsGivenBy plan.entry) (AreAtWrite plan.entry k)
         sweep.old sweep.new result }
 {
     let Some(torn) = command_cut(plan, k, 0)? else {

@@ -2,7 +2,7 @@
 ghost use Rattle.std.specs.Prelude.{◌≡◌, ◌≢◌, false, ◌≤◌, ◌<◌, ◌+◌, ◌-◌, ◌↔◌, ◌^◌, ◌∷◌, [], length, sum_by, All};
 ghost use Rattle.std.specs.Prelude.{AllPairs, IsTrue, IfOk, OnOk, IfSome, IfNone, Some};
 ghost use Rattle.std.specs.Prelude.{slice_get, slice_set, map, Contains};
-ghost use Rattle.card_bench.specs.Tallies.{Finding, finding, findings, count_of, Adds, IsAt, CountsOne};
+ghost use Rattle.card_bench.specs.Tallies.{Finding, finding, findings, times_seen, Adds, IsAt, CountsOne};
 
 use card_core::FreeSpace;
 use card_turns::Item;
@@ -29,7 +29,7 @@ pub struct Sweep {
     pub runs: u32,
     /// The different findings, in the order of their first run.
     pub seen: Vec<Seen>,
-    ghost sum: { sum_by count_of seen.items ≡ runs },
+    ghost sum: { sum_by times_seen seen.items ≡ runs },
     ghost given: { All (λ s. 1 ≤ s.count) seen.items },
     ghost different: { AllPairs (λ a b. a ≢ b) (findings seen.items) },
 }

@@ -7,7 +7,7 @@ use Rattle.std.specs.Result.{result_err}
 use Rattle.card_rules.specs.declared.status.Sw.{Sw}
 use Rattle.card_rules.specs.declared.status.TheConstants.Sw.{CONDITIONS_NOT_SATISFIED}
 use Rattle.undo_journal.specs.declared.error.StoreErr.{StoreErr}
-use Rattle.undo_journal.specs.Calls.{OnlyReads}
+use Rattle.undo_journal.specs.StoreCalls.{OnlyReads}
 use Rattle.undo_journal.specs.Undo.{gate}
 use Rattle.undo_journal.specs.laws.Calls.{advances_kept, advances_then, reads_then}
 use Rattle.undo_journal.specs.laws.Exits.{on_then}
@@ -15,7 +15,7 @@ use Rattle.undo_journal.specs.laws.Memory.{reports_then}
 use Rattle.undo_journal.specs.Memory.{Memory, committed, IsReady}
 use Rattle.undo_journal.specs.Spending.{KeepsBoard}
 use Rattle.nvm_board.specs.Facts.{Facts, raised}
-use Rattle.block_chain.specs.Words.{word}
+use Rattle.block_chain.specs.BlockWords.{word}
 use Rattle.std.proofs.lemmas.Result.{on_ok_weaker}
 use Rattle.file_tree.specs.Indexes.{KeepsPlaces}
 use Rattle.file_tree.specs.Table.{table}
@@ -32,9 +32,9 @@ use Rattle.command_base.specs.Counting.{CountsAnswered, CountsServed, CountsShow
 use Rattle.card_model.specs.Behaviours.{Attempt, is_right, refused, outcome}
 use Rattle.command_base.specs.Served.{CarriesOut, Serves}
 use Rattle.card_model.specs.Sessions.{Session}
-use Rattle.command_base.specs.Spending.{writes_asked}
+use Rattle.command_base.specs.CommandWrites.{writes_asked}
 use Rattle.command_base.specs.Standing.{IsCard, card_of}
-use Rattle.command_base.specs.Words.{StandsAsked, StandsByWord, StandsServed}
+use Rattle.command_base.specs.CommitWords.{StandsAsked, StandsByWord, StandsServed}
 use Rattle.command_base.specs.Working.{card_in, session_in, session_of, IsKept}
 use Rattle.card_model.specs.laws.StageLaws.{doing_lasts, stage_doing, stage_first}
 use Rattle.command_base.specs.laws.Readings.{kept_still}

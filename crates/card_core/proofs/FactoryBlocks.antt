@@ -11,7 +11,7 @@ use Rattle.nvm_board.specs.Facts.{pages_of}
 use Rattle.nvm_board.specs.declared.board.TheConstants.{LEAST_PAGES, MOST_PAGES}
 use Rattle.block_chain.specs.declared.layout.TheConstants.{FIRST_BLOCK_PAGE, FREE_HEAD, MOST_BLOCKS}
 use Rattle.block_chain.specs.declared.chain.Extent.{Extent}
-use Rattle.block_chain.specs.Words.{link}
+use Rattle.block_chain.specs.BlockWords.{link}
 use Rattle.block_chain.specs.Counts.{count}
 use Rattle.block_chain.specs.Chains.{Leads, chain, free_chain}
 use Rattle.block_chain.specs.Layout.{AreLaid, IsExtent, laid_out}

@@ -7,12 +7,12 @@ use Rattle.nvm_board.specs.Facts.{IsMemory, pages_of}
 use Rattle.undo_journal.specs.Undo.{gate, undo, pairs, pairs_from, earlier, Pair, IsOutside, IsDataAddress}
 use Rattle.undo_journal.specs.declared.layout.TheConstants.{GATE}
 use Rattle.undo_journal.specs.UndoLaws.{length-undo, length-data_words, undo-at, data_words-outside}
-use Rattle.block_chain.specs.Words.{word}
+use Rattle.block_chain.specs.BlockWords.{word}
 use Rattle.block_chain.specs.declared.layout.TheConstants.{HEADER_PAGE}
 use Rattle.file_tree.specs.Formats.{SameFormat}
 use Rattle.file_tree.specs.Trees.{tree_of, TreeStands}
 use Rattle.file_tree.specs.declared.layout.TheConstants.{MARK_WORD, PAGES_WORD, STATE_WORD}
-use Rattle.file_tree.specs.Changes.{KeepsTree}
+use Rattle.file_tree.specs.TreeChanges.{KeepsTree}
 use Rattle.file_tree.specs.laws.Footprints.{tree_kept}
 use Rattle.card_model.specs.Cards.{Card}
 use Rattle.pin_store.specs.Pages.{pin_page, KeepsPins}

@@ -12,7 +12,7 @@ use Rattle.nvm_board.specs.laws.Sizes.{pages_same}
 use Rattle.nvm_board.specs.declared.board.TheConstants.{LEAST_PAGES, MOST_PAGES}
 use Rattle.undo_journal.specs.Undo.{gate}
 use Rattle.block_chain.specs.declared.chain.Extent.{Extent}
-use Rattle.block_chain.specs.Words.{word, link, word_bytes, page_words}
+use Rattle.block_chain.specs.BlockWords.{word, link, word_bytes, page_words}
 use Rattle.block_chain.specs.Chains.{free_chain, bytes_of}
 use Rattle.block_chain.specs.Layout.{AreLaid}
 use Rattle.block_chain.specs.laws.Words.{index-page_words}

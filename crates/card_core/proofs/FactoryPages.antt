@@ -8,7 +8,7 @@ use Rattle.std.proofs.lemmas.Grind.{same_number_lists}
 use Rattle.nvm_board.specs.Facts.{address}
 use Rattle.nvm_board.specs.Torn.{written}
 use Rattle.nvm_board.specs.laws.Torn.{length-written, written-elsewhere, written-inside}
-use Rattle.block_chain.specs.Words.{page_words}
+use Rattle.block_chain.specs.BlockWords.{page_words}
 use Rattle.block_chain.specs.laws.Words.{index-page_words, length-page_words}
 use Rattle.card_core.specs.declared.memory_format.MemoryFormat.{MemoryFormat}
 use Rattle.card_core.specs.declared.memory_format.MemoryFormat.TheVariants.{One, Two}

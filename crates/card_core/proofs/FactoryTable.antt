@@ -5,7 +5,7 @@ use Rattle.file_tree.specs.laws.Costs.{sum-cons}
 use Rattle.std.proofs.Common.{cond, ◌==◌, slice_index_or, All, ap, ap₂, subst, arith, inl, inr, lit<, lit≤}
 use Rattle.std.specs.List.{range_with_len, filter_map, count_by}
 use Rattle.block_chain.specs.declared.chain.Extent.{Extent}
-use Rattle.block_chain.specs.Words.{page_words}
+use Rattle.block_chain.specs.BlockWords.{page_words}
 use Rattle.file_tree.specs.declared.entry.Entry.{Entry}
 use Rattle.file_tree.specs.Entries.{free_entry, entry_of, name_of, extent_of}
 use Rattle.file_tree.specs.Table.{table, entry_in, ancestor, path_in, path_of, extents, free_entries}

@@ -16,7 +16,8 @@ use Rattle.card_model.specs.declared.requests.Subject.TheVariants as subjects
 use Rattle.card_model.specs.declared.requests.Target.{Target}
 use Rattle.card_model.specs.declared.requests.Target.TheVariants.{Current, Short}
 use Rattle.card_model.specs.Guards.{missing}
-use Rattle.card_model.specs.CommandTable.{Body, Row, asked, asked_by_body, asked_by_row, body_of, is_class, row_of}
+use Rattle.card_model.specs.CommandTable.{SentBody, Row, asked, asked_by_body, asked_by_row, sent_body, is_class}
+use Rattle.card_model.specs.CommandTable.{row_of}
 use Rattle.card_model.specs.LifeCycleCommands.{no_subject}
 use Rattle.card_model.specs.PinCommands.{attempted, attempted_as, changing, marking, resetting, verifying, no_pin}
 use Rattle.card_model.specs.PinCommands.{pin_of, tries_told, unblocking_of, unusable_by, value_of}
@@ -200,7 +201,7 @@ step-other c s request few =
 abbrev ErrsOther : Result Request Sw → Type 0
 ErrsOther wanted = IfErr wanted IsOther
 
-body-other : (row : Row) (p1 p2 : ℕ) (body : Option Body) → ErrsOther (asked_by_body row p1 p2 body)
+body-other : (row : Row) (p1 p2 : ℕ) (body : Option SentBody) → ErrsOther (asked_by_body row p1 p2 body)
 body-other row p1 p2 None = other _ refl
 body-other row p1 p2 (Some body) =
     either-if ErrsOther (row.lengths p1 p2 (length body.sent) (is_some body.expected)) (Ok (row.meaning p1 p2 body))
@@ -209,8 +210,8 @@ body-other row p1 p2 (Some body) =
 row-other : (row : Option Row) (p1 p2 : ℕ) (bytes : List ℕ) → ErrsOther (asked_by_row row p1 p2 bytes)
 row-other None p1 p2 bytes = other _ refl
 row-other (Some row) p1 p2 bytes =
-    either-if ErrsOther (row.parameters p1 p2) (asked_by_body row p1 p2 (body_of bytes)) (Err WRONG_PARAMETERS)
-    (body-other row p1 p2 (body_of bytes)) (other _ refl)
+    either-if ErrsOther (row.parameters p1 p2) (asked_by_body row p1 p2 (sent_body bytes)) (Err WRONG_PARAMETERS)
+    (body-other row p1 p2 (sent_body bytes)) (other _ refl)
 
 asked-other : (command : List ℕ) → ErrsOther (asked command)
 asked-other [] = other _ refl

@@ -9,7 +9,7 @@ use Rattle.undo_journal.specs.Spending.{WritesAtMost, start_writes}
 use Rattle.undo_journal.specs.Undo.{undo, IsSound}
 use Rattle.undo_journal.specs.UndoLaws.{length-undo, length-data_words}
 use Rattle.undo_journal.specs.laws.Memory.{writes_then}
-use Rattle.block_chain.specs.Words.{word}
+use Rattle.block_chain.specs.BlockWords.{word}
 use Rattle.block_chain.specs.declared.layout.TheConstants.{HEADER_PAGE}
 use Rattle.file_tree.specs.Formats.{block_count, is_format_2}
 use Rattle.file_tree.specs.declared.layout.TheConstants.{MARK_WORD, OLD_END_PAGE}

@@ -11,7 +11,7 @@ use Rattle.undo_journal.specs.declared.error.StoreErr.TheVariants.{PowerLost, Fa
 use Rattle.undo_journal.specs.declared.error.OpenFault.{OpenFault}
 use Rattle.undo_journal.specs.declared.error.OpenFault.TheVariants as opening
 use Rattle.undo_journal.specs.Memory.{committed, FailsBy as StoreFailsBy, IsReady, Memory, OpensNot, Reports}
-use Rattle.undo_journal.specs.Calls.{Changes, UnlessFailed}
+use Rattle.undo_journal.specs.StoreCalls.{Changes, UnlessFailed}
 use Rattle.undo_journal.specs.Undo.{IsSound}
 use Rattle.file_tree.specs.Indexes.{IsIndex}
 use Rattle.file_tree.specs.declared.tree.Survey.{Survey}

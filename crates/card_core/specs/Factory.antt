@@ -9,7 +9,7 @@ use Rattle.nvm_board.specs.Facts.{Answered, Facts, Steady, pages_of}
 use Rattle.undo_journal.specs.Spending.{WritesAtMost}
 use Rattle.card_rules.specs.declared.life_cycle.LifeCycle.TheVariants.{Activated}
 use Rattle.block_chain.specs.declared.layout.TheConstants.{FIRST_BLOCK_PAGE}
-use Rattle.block_chain.specs.Words.{page_words}
+use Rattle.block_chain.specs.BlockWords.{page_words}
 use Rattle.file_tree.specs.declared.layout.TheConstants.{FIRST_ENTRY_PAGE}
 use Rattle.card_state.specs.declared.space.FreeSpace.{FreeSpace}
 use Rattle.pin_store.specs.declared.layout.TheConstants.{FIRST_PIN_PAGE}

@@ -6,7 +6,7 @@ use Rattle.command_base.specs.Working.{space_in, table_in, IsKept}
 
 -- The invariant of the borrowed parts: a valid memory and session, the counts of its free space, and the index of its
 -- files.
-pub record IsWhole {B : Type 0} (lent : Lent B) : Type 0 where
+pub record IsWholeCard {B : Type 0} (lent : Lent B) : Type 0 where
   pub kept : IsKept lent.store lent.current
   pub space : lent.free ≡ space_in lent.store
   pub index : IsIndex (table_in lent.store) lent.index

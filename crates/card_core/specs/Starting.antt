@@ -1,9 +1,9 @@
--- What a start makes of the format of a memory, and how many device writes it makes.
+-- What a start makes of the format of a memory, and how many device writes a start makes that is done.
 use Rattle.std.specs.Prelude.{◌≡◌, ◌⊎◌, ◌+◌, ◌≤◌, ℕ, false, if◌then◌else◌, IsTrue, List}
 use Rattle.nvm_board.specs.Facts.{Facts, pages_of}
 use Rattle.undo_journal.specs.Spending.{start_writes, KeepsBoard}
 use Rattle.undo_journal.specs.Undo.{gate}
-use Rattle.block_chain.specs.Words.{word}
+use Rattle.block_chain.specs.BlockWords.{word}
 use Rattle.block_chain.specs.declared.layout.TheConstants.{HEADER_PAGE}
 use Rattle.file_tree.specs.Formats.{end_page, is_format_2}
 use Rattle.file_tree.specs.declared.layout.TheConstants.{MARK_WORD}
@@ -37,7 +37,8 @@ KeepsFoundUnlessOld old new = ¬ IsOldCard (words_found old) → words_found new
 abbrev pub renewal_writes : List ℕ → ℕ
 renewal_writes m = if is_format_2 (words_found m) then 0 else migration_writes (pages_of m)
 
--- device writes of a start: those of the rollback, and those of the way to format 2
+-- device writes of a start that is done: those of the rollback, and of the way to format 2; one that stops makes no
+-- more
 abbrev pub power_on_writes : Facts → ℕ
 power_on_writes facts = start_writes facts + renewal_writes facts.words
 

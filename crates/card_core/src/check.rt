@@ -1,8 +1,8 @@
 //! Checks whether a memory is a valid card image, and in which format.
 ghost use Rattle.std.specs.Prelude.{◌≡◌, ◌<◌, ◌≤◌, ◌↔◌, IsTrue, MatchOption};
-ghost use Rattle.undo_journal.specs.Calls.{Learns};
+ghost use Rattle.undo_journal.specs.StoreCalls.{Learns};
 ghost use Rattle.undo_journal.specs.Memory.{committed, IsReady};
-ghost use Rattle.block_chain.specs.Words.{word};
+ghost use Rattle.block_chain.specs.BlockWords.{word};
 ghost use Rattle.block_chain.specs.declared.layout.TheConstants.{HEADER_PAGE};
 ghost use Rattle.nvm_board.specs.declared.board.TheConstants.{PAGE_WORDS};
 ghost use Rattle.card_core.specs.StartParts.{AreHeaderWords, HoldsPins, TellsCard, TellsHeader};

@@ -1,9 +1,9 @@
 //! Runs a command on a card, as one step of the card model.
 ghost use Rattle.std.specs.Prelude.{◌≡◌, [], OnOk};
-ghost use Rattle.apdu_core.specs.ParsedCommands.{IsInRange, request_of};
+ghost use Rattle.apdu_core.specs.ParsedCommands.{IsCommandInRange, request_of};
 ghost use Rattle.command_base.specs.Served.{CarriesOut, Serves};
 ghost use Rattle.command_base.specs.Stops.{reply};
-ghost use Rattle.card_core.specs.Lending.{IsWhole};
+ghost use Rattle.card_core.specs.Lending.{IsWholeCard};
 ghost use Rattle.command_base.specs.Working.{space_in, table_in};
 ghost use Rattle.file_tree.specs.Indexes.{IsIndex};
 
@@ -29,7 +29,7 @@ pub(crate) fn carry_out<B: Board>(
     command: &[u8],
     answer: &mut Answer,
 ) -> Result<Sw, StoreErr>
-    requires whole { IsWhole lent.old }
+    requires whole { IsWholeCard lent.old }
     requires empty { answer.old.items ≡ [] }
     ensures carries { CarriesOut command.now lent.old.store lent.old.current lent.new.store lent.new.current
         answer.new.items result }
@@ -42,7 +42,7 @@ pub(crate) fn carry_out<B: Board>(
 /// Runs the bytes of a command, or stops.
 /// It checks the form of the command first, and then whether the card is terminated.
 fn obey<B: Board>(lent: &mut Lent<B>, command: &[u8], answer: &mut Answer) -> Result<Sw, Stop>
-    requires whole { IsWhole lent.old }
+    requires whole { IsWholeCard lent.old }
     requires empty { answer.old.items ≡ [] }
     ensures carries { CarriesOut command.now lent.old.store lent.old.current lent.new.store lent.new.current
         answer.new.items (reply result) }
@@ -63,9 +63,9 @@ fn serve<B: Board>(
     command: Command<'_>,
     answer: &mut Answer,
 ) -> Result<Sw, Stop>
-    requires whole { IsWhole lent.old }
+    requires whole { IsWholeCard lent.old }
     requires empty { answer.old.items ≡ [] }
-    requires in_range { IsInRange command }
+    requires in_range { IsCommandInRange command }
     ensures serves { Serves (request_of command.entry) lent.old.store lent.old.current lent.new.store lent.new.current
         answer.new.items (reply result) }
     ensures space { OnOk (reply result) (lent.new.free ≡ space_in lent.new.store) }

@@ -4,7 +4,7 @@ ghost use Rattle.nvm_board.specs.Aims.{AimsOn};
 ghost use Rattle.nvm_board.specs.Facts.{Answered, pages_of};
 ghost use Rattle.nvm_board.specs.declared.board.TheConstants.{LEAST_PAGES};
 ghost use Rattle.block_chain.specs.declared.layout.TheConstants.{HEADER_PAGE};
-ghost use Rattle.block_chain.specs.Words.{page_words};
+ghost use Rattle.block_chain.specs.BlockWords.{page_words};
 ghost use Rattle.file_tree.specs.declared.layout.TheConstants.{OLD_END_PAGE};
 ghost use Rattle.undo_journal.specs.Spending.{WritesAtMost};
 ghost use Rattle.card_core.specs.declared.memory_format.MemoryFormat.TheVariants as MemoryFormat;

@@ -1,10 +1,10 @@
 //! Laws of the definitions, as contracts of functions that do nothing.
 ghost use Rattle.std.specs.Prelude.{◌≡◌, ◌≢◌, ◌⊎◌, ◌≤◌, ◌+◌, ◌/◌, ◌++◌, ℕ, List, length};
 ghost use Rattle.undo_journal.specs.Spending.{transaction_writes};
-ghost use Rattle.block_chain.specs.Changes.{touched_blocks, touched_words};
-ghost use Rattle.ef_body.specs.Changes.{update_writes};
+ghost use Rattle.block_chain.specs.ChainChanges.{touched_blocks, touched_words};
+ghost use Rattle.ef_body.specs.BodyChanges.{update_writes};
 ghost use Rattle.command_base.specs.declared.spending.TheConstants.{COMMAND_WRITES};
-ghost use Rattle.command_base.specs.Spending.{writes_of};
+ghost use Rattle.command_base.specs.CommandWrites.{writes_of};
 ghost use Rattle.block_chain.specs.declared.layout.TheConstants.{HEADER_PAGE};
 ghost use Rattle.file_tree.specs.declared.layout.TheConstants.{MARK, MARK_WORD, OLD_END_PAGE, OLD_MARK};
 ghost use Rattle.file_tree.specs.declared.layout.TheConstants.{PAGES_WORD, STATE_WORD};
@@ -45,8 +45,8 @@ pub fn step_keeps_proper()
         → IsProper (carried_out c s command).card }
 {}
 
-/// A command that answers another status than 9000 and the warnings 6282, 6283 and 6285 leaves the card and the session
-/// as they were, but for a value of a PIN that was shown wrong: then a try is gone.
+/// A command that answers another status than 9000 and the warnings 6282, 6283 and 6285 leaves card and session as
+/// before, unless it showed a wrong value of a PIN: then 63CX says how many tries are left.
 pub fn refusals_leave_all()
     ensures { (c : Card) (s : Session) (command : List ℕ) → LeavesAll c s (carried_out c s command)
         ⊎ IsSuccess (carried_out c s command).response.status

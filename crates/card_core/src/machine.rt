@@ -2,12 +2,12 @@
 ghost use Rattle.std.specs.Prelude.{◌≡◌, ◌⊎◌, ◌≤◌, ◌+◌, true, false, [], length, IsOk, IsErr, OnOk};
 ghost use Rattle.std.specs.Prelude.{OnErr, IfOk, IfErr, IsErrOf, Ok, Err, MatchOption, MatchResult, ℕ, List};
 ghost use Rattle.nvm_board.specs.Aims.{due_of};
-ghost use Rattle.nvm_board.specs.Calls.{Arms};
+ghost use Rattle.nvm_board.specs.BoardCalls.{Arms};
 ghost use Rattle.undo_journal.specs.declared.error.StoreErr.TheVariants as StoreErr;
 ghost use Rattle.card_core.specs.declared.faults.StartFault.TheVariants as StartFault;
 ghost use Rattle.card_core.specs.FaultParts.{fault_of_store};
 ghost use Rattle.undo_journal.specs.Spending.{Advances, WritesAtMost, KeepsBoard};
-ghost use Rattle.ef_body.specs.Changes.{update_writes};
+ghost use Rattle.ef_body.specs.BodyChanges.{update_writes};
 ghost use Rattle.card_model.specs.CommandTable.{asked};
 ghost use Rattle.card_model.specs.Requests.{update_binary};
 ghost use Rattle.card_model.specs.declared.requests.Target.{Target};
@@ -17,9 +17,9 @@ ghost use Rattle.command_base.specs.Finding.{HasCard, FindsAgain};
 ghost use Rattle.card_core.specs.Starting.{IsNewFound, KeepsFormat, KeepsFoundUnlessOld, KeepsUnlessOld};
 ghost use Rattle.card_core.specs.Starting.{RenamesLast, TakesAllPages, power_on_writes};
 ghost use Rattle.card_core.specs.Running.{Starts, StartStopsBy, Steps, FailsIn, IsCutIn, card_found, memory_failure};
-ghost use Rattle.command_base.specs.Spending.{writes_of};
+ghost use Rattle.command_base.specs.CommandWrites.{writes_of};
 ghost use Rattle.card_model.specs.Steps.{IsStage, ChangesNothing};
-ghost use Rattle.command_base.specs.Words.{StandsAsked};
+ghost use Rattle.command_base.specs.CommitWords.{StandsAsked};
 ghost use Rattle.card_model.specs.Behaviours.{answer_bytes};
 ghost use Rattle.command_base.specs.declared.spending.TheConstants.{COMMAND_WRITES};
 
@@ -53,7 +53,7 @@ impl<B: Board> Model for Card<B> {
     ghost use Rattle.std.specs.Prelude.{◌≡◌, true};
     ghost use Rattle.command_base.specs.Finding.{HasCard};
     ghost use Rattle.card_core.specs.declared.state.CardState.TheVariants.{Working, Dark};
-    ghost use Rattle.card_core.specs.Lending.{IsWhole};
+    ghost use Rattle.card_core.specs.Lending.{IsWholeCard};
     ghost use Rattle.card_core.specs.ShownSessions.{session_while};
     ghost use Rattle.command_base.specs.Working.{table_in};
 
@@ -63,7 +63,7 @@ impl<B: Board> Model for Card<B> {
       state = c.state;
     } };
 
-    ghost invariant = { λ c. HasCard c.lent.store.facts.words × (c.state ≡ Working → IsWhole c.lent)
+    ghost invariant = { λ c. HasCard c.lent.store.facts.words × (c.state ≡ Working → IsWholeCard c.lent)
         × (c.state ≡ Dark → c.lent.store.facts.dark ≡ true) };
 }
 

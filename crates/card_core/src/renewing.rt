@@ -1,11 +1,11 @@
 //! What a start finds of a card, whose memory becomes one of format 2 if it isn't yet.
 ghost use Rattle.std.specs.Prelude.{◌≡◌, ◌⊎◌, ◌+◌, ◌≤◌, IfOk, IsSome, if◌then◌else◌};
-ghost use Rattle.block_chain.specs.Words.{word};
+ghost use Rattle.block_chain.specs.BlockWords.{word};
 ghost use Rattle.block_chain.specs.declared.layout.TheConstants.{HEADER_PAGE};
 ghost use Rattle.file_tree.specs.declared.layout.TheConstants.{MARK_WORD};
 ghost use Rattle.std.specs.Result.{result_err};
 ghost use Rattle.nvm_board.specs.Facts.{pages_of};
-ghost use Rattle.undo_journal.specs.Calls.{Changes, OnlyReads};
+ghost use Rattle.undo_journal.specs.StoreCalls.{Changes, OnlyReads};
 ghost use Rattle.undo_journal.specs.Memory.{committed, IsReady};
 ghost use Rattle.file_tree.specs.Formats.{is_format_2};
 ghost use Rattle.migration.specs.Migrating.{Migrates, migration_writes};

@@ -5,13 +5,13 @@ use Rattle.card_rules.specs.declared.status.Sw.{Sw}
 use Rattle.card_rules.specs.declared.status.TheConstants.Sw.{DONE, END_REACHED, NO_ROOM, WRONG_OFFSET}
 use Rattle.card_model.specs.declared.requests.Target.{Target}
 use Rattle.card_model.specs.Behaviours.{Behaviour, changes, looks, Outcome, Refusal, Refusals, Response, only_status}
-use Rattle.card_model.specs.Cards.{Card, is_transparent, bytes_of, overwrite, with_content}
+use Rattle.card_model.specs.Cards.{Card, is_transparent, file_bytes, overwrite, with_content}
 use Rattle.card_model.specs.Guards.{file_refusals, naming, target_kind, target_path, with_limits}
 use Rattle.card_model.specs.Sessions.{Session}
 
 -- The bytes of the target.
 abbrev pub target_bytes : Card → Session → Target → List ℕ
-target_bytes c s target = bytes_of (target_kind c s target)
+target_bytes c s target = file_bytes (target_kind c s target)
 
 -- Two refusals: an offset at or past the end of the bytes, and data that would extend past the end.
 abbrev pub is_past : Card → Session → Target → ℕ → Refusal

@@ -7,7 +7,7 @@ use Rattle.card_model.specs.Requests.{AreBytes}
 use Rattle.card_state.specs.Secrets.{HasFewTries}
 pub use Rattle.card_state.specs.FileTrees.{Body, transparent, linear, cyclic, Kind, dedicated, elementary, File, Path}
 pub use Rattle.card_state.specs.FileTrees.{Tree, master_file, parent, identifier, no_file, exists, file_at}
-pub use Rattle.card_state.specs.FileTrees.{is_dedicated, is_transparent, bytes_of, with_bytes, overwrite, short_of}
+pub use Rattle.card_state.specs.FileTrees.{is_dedicated, is_transparent, file_bytes, with_bytes, overwrite, short_of}
 pub use Rattle.card_state.specs.Secrets.{Pin}
 
 -- The card (ISO/IEC 7816-4, clause 7; ETSI TS 102 221, clause 8).

@@ -33,15 +33,15 @@ use Rattle.card_model.specs.declared.requests.Subject.TheVariants as subject
 -- The body of a short command, after its four header bytes (ISO/IEC 7816-4, 5.2).
 
 -- The data of a command, and its Le byte if it has one.
-pub record Body : Type 0 where
+pub record SentBody : Type 0 where
   pub sent : List ℕ
   pub expected : Option ℕ
 
 -- The four forms: nothing; Le; Lc and Lc bytes; Lc, Lc bytes and Le. Lc is not 0. Any other body is malformed.
-abbrev pub body_of : List ℕ → Option Body
-body_of [] = Some (record { sent = []; expected = None })
-body_of (le ∷ []) = Some (record { sent = []; expected = Some le })
-body_of (lc ∷ byte ∷ bytes) =
+abbrev pub sent_body : List ℕ → Option SentBody
+sent_body [] = Some (record { sent = []; expected = None })
+sent_body (le ∷ []) = Some (record { sent = []; expected = Some le })
+sent_body (lc ∷ byte ∷ bytes) =
     if lc == 0 then None else
     if length (byte ∷ bytes) == lc then Some (record { sent = byte ∷ bytes; expected = None }) else
     if length (byte ∷ bytes) == lc + 1 then Some (record {
@@ -62,7 +62,7 @@ pub record Row : Type 0 where
   -- True if this number of data bytes is allowed under P1 and P2. The last argument is true if there is an Le.
   pub lengths : ℕ → ℕ → ℕ → Bool → Bool
   -- The request, by P1, P2 and the body.
-  pub meaning : ℕ → ℕ → Body → Request
+  pub meaning : ℕ → ℕ → SentBody → Request
 
 -- The row of SELECT (ISO/IEC 7816-4, 11.2.2).
 
@@ -387,7 +387,7 @@ abbrev pub is_class : ℕ → Bool
 is_class class = (class == 0x00) || (class == 0x80)
 
 -- The request that a well-formed body makes, provided that its lengths are allowed.
-abbrev pub asked_by_body : Row → ℕ → ℕ → Option Body → Result Request Sw
+abbrev pub asked_by_body : Row → ℕ → ℕ → Option SentBody → Result Request Sw
 asked_by_body row p1 p2 None = Err WRONG_LENGTH
 asked_by_body row p1 p2 (Some body) =
     if row.lengths p1 p2 (length body.sent) (is_some body.expected)
@@ -397,7 +397,7 @@ asked_by_body row p1 p2 (Some body) =
 abbrev pub asked_by_row : Option Row → ℕ → ℕ → List ℕ → Result Request Sw
 asked_by_row None p1 p2 bytes = Err UNKNOWN_INSTRUCTION
 asked_by_row (Some row) p1 p2 bytes =
-    if row.parameters p1 p2 then asked_by_body row p1 p2 (body_of bytes) else Err WRONG_PARAMETERS
+    if row.parameters p1 p2 then asked_by_body row p1 p2 (sent_body bytes) else Err WRONG_PARAMETERS
 
 -- The request that the bytes of a command make, or the status word that refuses them.
 abbrev pub asked : List ℕ → Result Request Sw

@@ -13,7 +13,7 @@ use Rattle.card_model.specs.declared.requests.RecordPlace.{RecordPlace}
 use Rattle.card_model.specs.declared.requests.RecordPlace.TheVariants.{CurrentRecord, Number}
 use Rattle.card_model.specs.declared.requests.RecordChoice.{RecordChoice}
 use Rattle.card_model.specs.declared.requests.RecordChoice.TheVariants.{Next, Previous, At}
-use Rattle.card_state.specs.RecordLists.{front, has_record, record_of, found, spelled, raised_number}
+use Rattle.card_state.specs.RecordLists.{front, has_record, record_of, records_found, spelled, raised_number}
 use Rattle.card_model.specs.Behaviours.{Behaviour, changes, looks, Outcome, Refusal, Refusals, only_status}
 use Rattle.card_model.specs.Cards.{Card, Kind, Path, linear, cyclic, elementary, file_at}
 use Rattle.card_model.specs.Guards.{file_refusals, naming, target_kind, target_path, with_limits, given, length_refusal}
@@ -219,7 +219,7 @@ on_append_record target bytes =
 -- SEARCH RECORD: from the named record up to the last, or down to the first.
 abbrev pub matches : Card → Session → Target → RecordPlace → Direction → List ℕ → List ℕ
 matches c s target first direction text =
-    found direction (place_number first (pointer_at s target)) text (records_of (target_kind c s target))
+    records_found direction (place_number first (pointer_at s target)) text (records_of (target_kind c s target))
 
 abbrev pub search_refusals : Card → Session → Target → RecordPlace → Direction → List ℕ → Option ℕ → Refusals
 search_refusals c s target first direction text expected =

@@ -49,8 +49,8 @@ select_refusals c s selection returned expected = record no_refusals {
 }
 
 -- The effect of SELECT: the file becomes current.
-abbrev pub selected : Card → Session → Selection → Returned → Option ℕ → Outcome
-selected c s selection returned expected =
+abbrev pub file_selected : Card → Session → Selection → Returned → Option ℕ → Outcome
+file_selected c s selection returned expected =
     let path = selected_path c s selection in
     let file = file_at c.tree path in
     record {
@@ -64,4 +64,5 @@ selected c s selection returned expected =
 
 abbrev pub on_select : Selection → Returned → Option ℕ → Behaviour
 on_select selection returned expected =
-    looks (λ c s. select_refusals c s selection returned expected) (λ c s. selected c s selection returned expected)
+    looks (λ c s. select_refusals c s selection returned expected)
+    (λ c s. file_selected c s selection returned expected)

@@ -88,25 +88,25 @@ identifier_of (high ∷ low ∷ []) =
 identifier_of _ = None
 
 -- Object 84, DF name, 1 to 16 bytes; it may be absent.
-abbrev pub name_of : Option (List ℕ) → Option (Option (List ℕ))
-name_of None = Some None
-name_of (Some name) = if nat_le 1 (length name) && nat_le (length name) 16 then Some (Some name) else None
+abbrev pub name_read : Option (List ℕ) → Option (Option (List ℕ))
+name_read None = Some None
+name_read (Some name) = if nat_le 1 (length name) && nat_le (length name) 16 then Some (Some name) else None
 
 -- Object 88, short EF identifier. Length 0 means none. Length 1 has the number, 1 to 30, in bits 8 to 4; bits 3 to 1
 -- are clear.
-abbrev pub short_of : Option (List ℕ) → Option ShortIdentifier
-short_of None = Some Absent
-short_of (Some []) = Some Empty
-short_of (Some (byte ∷ [])) =
+abbrev pub short_read : Option (List ℕ) → Option ShortIdentifier
+short_read None = Some Absent
+short_read (Some []) = Some Empty
+short_read (Some (byte ∷ [])) =
     if (byte % 8 == 0) && nat_le 1 (byte / 8) && nat_le (byte / 8) 30 then Some (Given (byte / 8)) else None
-short_of (Some _) = None
+short_read (Some _) = None
 
 -- Object 80: a number in 2 to 4 bytes.
-abbrev pub number_of : List ℕ → Option ℕ
-number_of (a ∷ b ∷ []) = Some (0x100 * a + b)
-number_of (a ∷ b ∷ c ∷ []) = Some (0x10000 * a + 0x100 * b + c)
-number_of (a ∷ b ∷ c ∷ d ∷ []) = Some (0x1000000 * a + 0x10000 * b + 0x100 * c + d)
-number_of _ = None
+abbrev pub number_read : List ℕ → Option ℕ
+number_read (a ∷ b ∷ []) = Some (0x100 * a + b)
+number_read (a ∷ b ∷ c ∷ []) = Some (0x10000 * a + 0x100 * b + c)
+number_read (a ∷ b ∷ c ∷ d ∷ []) = Some (0x1000000 * a + 0x10000 * b + 0x100 * c + d)
+number_read _ = None
 
 -- Object 80 of an EF, its size in bytes: 1 to 32,767.
 abbrev pub size_of : Option ℕ → Option ℕ
@@ -114,8 +114,8 @@ size_of None = None
 size_of (Some size) = if nat_le 1 size && nat_le size 32767 then Some size else None
 
 -- The records of a record EF: 1 to 254 records of 1 to 255 bytes fill the size, and no more exist.
-abbrev pub records_of : ℕ → Option ℕ → ℕ → Option Records
-records_of record_length existing size =
+abbrev pub records_read : ℕ → Option ℕ → ℕ → Option Records
+records_read record_length existing size =
     let capacity = size / record_length in
     let number = unwrap_or existing capacity in
     if nat_le 1 record_length && nat_le record_length 255 && (size % record_length == 0)
@@ -133,8 +133,8 @@ life_cycle_of (Some (byte ∷ [])) =
 life_cycle_of (Some _) = None
 
 -- Object 8C, the access rule in compact format.
-abbrev pub rule_of : List ℕ → Option (List ℕ)
-rule_of bytes = if is_rule bytes then Some bytes else None
+abbrev pub rule_read : List ℕ → Option (List ℕ)
+rule_read bytes = if is_rule bytes then Some bytes else None
 
 -- The meaning of a text: file control parameters, or the least of its faults.
 
@@ -153,7 +153,7 @@ value_at os tag = option_map (λ o. o.value) (find (λ o. o.tag == tag) os)
 
 -- The number in the first object 80.
 abbrev pub data_bytes : List DataObject → Option ℕ
-data_bytes os = value_at os 0x80 >>= number_of
+data_bytes os = value_at os 0x80 >>= number_read
 
 -- True if the object is the file descriptor of a DF.
 abbrev pub is_df_descriptor : DataObject → Bool
@@ -189,13 +189,13 @@ has_unknown os = list_any (λ o. not (is_tag o.tag)) os
 -- A DF must not have 88. Its 80 must have the right length, and has no effect.
 unfoldable pub df_of : List DataObject → Option FileKind
 df_of os = do
-  name ← name_of (value_at os 0x84)
+  name ← name_read (value_at os 0x84)
   if has os 0x88 || has os 0x80 && not (is_some (data_bytes os)) then None else Some (kinds.Df name)
 
 -- An EF must not have 84.
 unfoldable pub transparent_of : List DataObject → Option FileKind
 transparent_of os = do
-  short ← short_of (value_at os 0x88)
+  short ← short_read (value_at os 0x88)
   size ← size_of (data_bytes os)
   if has os 0x84 then None else Some (kinds.Transparent short size)
 
@@ -205,25 +205,25 @@ structured Cyclic short records = kinds.Cyclic short records
 
 unfoldable pub record_file_of : Structure → ℕ → Option ℕ → List DataObject → Option FileKind
 record_file_of structure record_length existing os = do
-  short ← short_of (value_at os 0x88)
+  short ← short_read (value_at os 0x88)
   size ← size_of (data_bytes os)
-  records ← records_of record_length existing size
+  records ← records_read record_length existing size
   if has os 0x84 then None else Some (structured structure short records)
 
 -- The kind of file that the descriptor and the other objects describe.
-abbrev pub kind_of : Descriptor → List DataObject → Option FileKind
-kind_of descriptors.Df os = df_of os
-kind_of descriptors.Transparent os = transparent_of os
-kind_of (descriptors.Records structure record_length existing) os = record_file_of structure record_length existing os
+abbrev pub kind_read : Descriptor → List DataObject → Option FileKind
+kind_read descriptors.Df os = df_of os
+kind_read descriptors.Transparent os = transparent_of os
+kind_read (descriptors.Records structure record_length existing) os = record_file_of structure record_length existing os
 
 -- The file control parameters, provided that all objects have tags, lengths and values of the table.
 unfoldable pub fcp_of : List DataObject → Option Fcp
 fcp_of os = do
   descriptor ← value_at os 0x82 >>= descriptor_of
   identifier ← value_at os 0x83 >>= identifier_of
-  kind ← kind_of descriptor os
+  kind ← kind_read descriptor os
   life_cycle ← life_cycle_of (value_at os 0x8A)
-  rule ← value_at os 0x8C >>= rule_of
+  rule ← value_at os 0x8C >>= rule_read
   if has_unknown os then None else Some (record
       { identifier = identifier; life_cycle = life_cycle; rule = rule; kind = kind })
 

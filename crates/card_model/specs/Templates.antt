@@ -29,8 +29,8 @@ pub record IsInFull (fcp : Fcp) : Type 0 where
   pub short : IsShortSaid fcp.kind
 
 -- A number in two bytes.
-abbrev pub two_bytes : ℕ → List ℕ
-two_bytes n = n / 256 ∷ n % 256 ∷ []
+abbrev pub in_two_bytes : ℕ → List ℕ
+in_two_bytes n = n / 256 ∷ n % 256 ∷ []
 
 abbrev pub data_object : ℕ → List ℕ → DataObject
 data_object tag value = record { tag = tag; value = value }
@@ -40,8 +40,8 @@ data_object tag value = record { tag = tag; value = value }
 abbrev pub descriptor_value : FileKind → List ℕ
 descriptor_value (Df name) = 0x78 ∷ 0x21 ∷ []
 descriptor_value (Transparent short size) = 0x41 ∷ 0x21 ∷ []
-descriptor_value (Linear short records) = 0x42 ∷ 0x21 ∷ two_bytes records.record_length ++ records.existing ∷ []
-descriptor_value (Cyclic short records) = 0x46 ∷ 0x21 ∷ two_bytes records.record_length ++ records.existing ∷ []
+descriptor_value (Linear short records) = 0x42 ∷ 0x21 ∷ in_two_bytes records.record_length ++ records.existing ∷ []
+descriptor_value (Cyclic short records) = 0x46 ∷ 0x21 ∷ in_two_bytes records.record_length ++ records.existing ∷ []
 
 -- The value of object 88, empty for an EF without a short identifier.
 abbrev pub short_value : ShortIdentifier → List ℕ
@@ -52,16 +52,18 @@ short_value _ = []
 abbrev pub kind_objects : FileKind → List DataObject
 kind_objects (Df None) = []
 kind_objects (Df (Some name)) = data_object 0x84 name ∷ []
-kind_objects (Transparent short size) = data_object 0x88 (short_value short) ∷ data_object 0x80 (two_bytes size) ∷ []
-kind_objects (Linear short records) = data_object 0x88 (short_value short) ∷ data_object 0x80 (two_bytes records.size) ∷
+kind_objects (Transparent short size) = data_object 0x88 (short_value short) ∷ data_object 0x80 (in_two_bytes size) ∷ []
+kind_objects (Linear short records) = data_object 0x88 (short_value short)
+    ∷ data_object 0x80 (in_two_bytes records.size) ∷
     []
-kind_objects (Cyclic short records) = data_object 0x88 (short_value short) ∷ data_object 0x80 (two_bytes records.size) ∷
+kind_objects (Cyclic short records) = data_object 0x88 (short_value short)
+    ∷ data_object 0x80 (in_two_bytes records.size) ∷
     []
 
 -- The objects of an answer, in the order 82, 83, 84, 88, 80, 8A, 8C.
 abbrev pub fcp_objects : Fcp → List DataObject
 fcp_objects fcp =
-    data_object 0x82 (descriptor_value fcp.kind) ∷ data_object 0x83 (two_bytes fcp.identifier) ∷ []
+    data_object 0x82 (descriptor_value fcp.kind) ∷ data_object 0x83 (in_two_bytes fcp.identifier) ∷ []
     ++ kind_objects fcp.kind
     ++ data_object 0x8A (life_cycle_byte fcp.life_cycle ∷ []) ∷ data_object 0x8C fcp.rule ∷ []
 

@@ -47,9 +47,9 @@ pub record IsSize (size : ℕ) : Type 0 where
   pub most : size ≤ 32767
 
 -- A name has 1 to 16 bytes.
-abbrev pub IsName : Option (List ℕ) → Type 0
-IsName None = ⊤
-IsName (Some name) = (1 ≤ length name) × (length name ≤ 16)
+abbrev pub IsDfName : Option (List ℕ) → Type 0
+IsDfName None = ⊤
+IsDfName (Some name) = (1 ≤ length name) × (length name ≤ 16)
 
 -- The size is a whole number of records, at most 254, each of 1 to 255 bytes. No more records exist than that.
 pub record IsRecords (records : Records) : Type 0 where
@@ -61,7 +61,7 @@ pub record IsRecords (records : Records) : Type 0 where
   pub existing : records.existing ≤ records.size / records.record_length
 
 abbrev pub IsKind : FileKind → Type 0
-IsKind (Df name) = IsName name
+IsKind (Df name) = IsDfName name
 IsKind (Transparent short size) = IsShort short × IsSize size
 IsKind (Linear short records) = IsShort short × IsRecords records
 IsKind (Cyclic short records) = IsShort short × IsRecords records

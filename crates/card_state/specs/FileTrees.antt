@@ -81,11 +81,11 @@ is_transparent (elementary short (linear record_length capacity records)) = fals
 is_transparent (elementary short (cyclic record_length capacity records)) = false
 
 -- The bytes of a transparent EF, none for any other file.
-abbrev pub bytes_of : Kind → List ℕ
-bytes_of (dedicated name) = []
-bytes_of (elementary short (transparent bytes)) = bytes
-bytes_of (elementary short (linear record_length capacity records)) = []
-bytes_of (elementary short (cyclic record_length capacity records)) = []
+abbrev pub file_bytes : Kind → List ℕ
+file_bytes (dedicated name) = []
+file_bytes (elementary short (transparent bytes)) = bytes
+file_bytes (elementary short (linear record_length capacity records)) = []
+file_bytes (elementary short (cyclic record_length capacity records)) = []
 
 -- A transparent EF with these bytes. Any other file is unchanged.
 abbrev pub with_bytes : Kind → List ℕ → Kind

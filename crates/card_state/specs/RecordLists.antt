@@ -50,6 +50,6 @@ numbers_on Forward first last = range_with_len first (last + 1 - first)
 numbers_on Backward first last = reverse (range_with_len 1 first)
 
 -- The numbers of the records that contain the string, in search order. The search doesn't wrap around.
-abbrev pub found : Direction → ℕ → List ℕ → List (List ℕ) → List ℕ
-found direction first text records =
+abbrev pub records_found : Direction → ℕ → List ℕ → List (List ℕ) → List ℕ
+records_found direction first text records =
     filter (λ number. stands_in text (record_of records number)) (numbers_on direction first (length records))

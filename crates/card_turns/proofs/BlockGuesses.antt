@@ -18,7 +18,7 @@ use Rattle.command_base.specs.Standing.{card_of, card_pins}
 use Rattle.command_base.specs.laws.FoundLaws.{found_is_proper}
 use Rattle.card_model.specs.laws.ProperLaws.{at-or, either-if}
 use Rattle.command_base.specs.laws.ShownLaws.{ComparesOrStays, compares-or-stays}
-use Rattle.card_turns.specs.BenchViews.{CountsEach}
+use Rattle.card_turns.specs.BenchViews.{HasEachCount}
 use Rattle.card_turns.specs.CardBlocks.{BlockCompares, IsBlockStage, Powered}
 use Rattle.card_turns.proofs.GuessesPaid.{ArePaid, attempt-paid, nothing-paid}
 
@@ -39,7 +39,7 @@ few-tries d n proper =
 raised-length : (counts : List ℕ) (secret : ℕ) → length (raised counts secret) ≡ length counts
 raised-length counts secret = length-set counts secret (slice_index counts secret + 1)
 
-module _ (c d : Card) (old new : Comparisons) (counts : CountsEach old) where
+module _ (c d : Card) (old new : Comparisons) (counts : HasEachCount old) where
   -- what a command compared is paid for
   compared-pays : ComparesOrStays c d old new → length c.pins ≡ PINS → IsProper d → ArePaid c d old new
   compared-pays (inl stays) eight proper = nothing-paid c d old new stays.1 stays.0
@@ -47,8 +47,8 @@ module _ (c d : Card) (old new : Comparisons) (counts : CountsEach old) where
       attempt-paid c d shown.0 old new shown.2 shown.1 counts (few-tries d shown.0.pin proper) eight
 
   -- and each secret still has its counts
-  compared-counts : ComparesOrStays c d old new → CountsEach new
-  compared-counts (inl stays) = subst CountsEach (sym stays.0) counts
+  compared-counts : ComparesOrStays c d old new → HasEachCount new
+  compared-counts (inl stays) = subst HasEachCount (sym stays.0) counts
   compared-counts (inr shown) =
       let costs = shown.2.costs in
       record {
@@ -75,7 +75,7 @@ block-compares old new (runs command) stage compares =
 
 -- a block, whatever comes of it
 module _ (old new : Powered) (reaction : Reaction) (stage : IsBlockStage old reaction (card_found new.card))
-    (compares : BlockCompares old reaction new) (counts : CountsEach (comparisons old.card.facts)) where
+    (compares : BlockCompares old reaction new) (counts : HasEachCount (comparisons old.card.facts)) where
   pub block-pays : HasCard new.card.facts.words
       → ArePaid (card_found old.card) (card_found new.card) (comparisons old.card.facts) (comparisons new.card.facts)
   block-pays there =
@@ -83,7 +83,7 @@ module _ (old new : Powered) (reaction : Reaction) (stage : IsBlockStage old rea
       (comparisons new.card.facts) counts (block-compares old new reaction stage compares)
       (eight-pins old.card.facts.words) (found_is_proper new.card.facts.words there)
 
-  pub block-counts : CountsEach (comparisons new.card.facts)
+  pub block-counts : HasEachCount (comparisons new.card.facts)
   block-counts =
       compared-counts (card_found old.card) (card_found new.card) (comparisons old.card.facts)
       (comparisons new.card.facts) counts (block-compares old new reaction stage compares)

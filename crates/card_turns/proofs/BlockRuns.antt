@@ -1,21 +1,22 @@
 -- A block in which a whole command came: what the card makes of the command is what it makes of the block.
 use Rattle.std.specs.Prelude.{◌≡◌, ◌⊎◌, ℕ, List, [], Option, Some, unwrap_or}
 use Rattle.std.proofs.Common.{ap, inl, inr, refl, subst, sym, ◌∙◌}
-use Rattle.t1_link.specs.CardTable.{Reaction, answers, reply_bytes, command_of, link_step, replies, runs}
+use Rattle.t1_link.specs.CardTable.{Reaction, answers, reply_bytes, waiting_command, link_step, replies, runs}
 use Rattle.card_core.specs.Running.{FailsIn, IsCutIn, Steps, card_found, memory_failure}
 use Rattle.card_model.specs.Steps.{answer_bytes}
 use Rattle.card_turns.specs.CardBlocks.{BlockCounts, FailsAt, IsCutAt, IsRun, Powered, Replies, answering}
 use Rattle.card_turns.specs.CardBlocks.{card_by, machine, session_by}
 
 -- a fact of the reaction that runs a command, where that command waits
-pub of-run : (P : Reaction → Type 0) (reaction : Reaction) (bytes : List ℕ) → command_of reaction ≡ Some bytes
+pub of-run : (P : Reaction → Type 0) (reaction : Reaction) (bytes : List ℕ) → waiting_command reaction ≡ Some bytes
     → P (runs bytes) → P reaction
 of-run P (replies block) bytes waits holds = absurd cc
 of-run P (runs command) bytes waits holds =
     subst (λ (l : List ℕ). P (runs l)) (sym (ap (λ (o : Option (List ℕ)). unwrap_or o []) waits)) holds
 
 -- power was lost in the command
-pub cut-at : (p new : Powered) (got bytes answer out : List ℕ) → command_of (link_step p.link got).reaction ≡ Some bytes
+pub cut-at : (p new : Powered) (got bytes answer out : List ℕ)
+    → waiting_command (link_step p.link got).reaction ≡ Some bytes
     → out ≡ reply_bytes (link_step p.link got).reaction → IsCutIn p.card new.card answer → IsCutAt p got new out
 cut-at p new got bytes answer out waits block cut = record {
   power = cut.power;
@@ -26,7 +27,7 @@ cut-at p new got bytes answer out waits block cut = record {
 }
 
 module _ (p new : Powered) (got bytes answer out : List ℕ) where
-  module _ (waits : command_of (link_step p.link got).reaction ≡ Some bytes)
+  module _ (waits : waiting_command (link_step p.link got).reaction ≡ Some bytes)
       (link : new.link ≡ (answers (link_step p.link got).link answer).link)
       (block : out ≡ reply_bytes (answers (link_step p.link got).link answer).reaction) where
     -- the link goes on with the answer to the command, which is that of the card

@@ -15,7 +15,7 @@ use Rattle.command_base.specs.Comparing.{Comparisons, comparisons, ComparesAttem
 use Rattle.card_model.specs.PinCommands.{Attempt, no_pin, pin_of}
 use Rattle.command_base.specs.laws.ShownLaws.{IsOfItsPin}
 use Rattle.card_turns.specs.BenchStates.{BenchState, bench_card, bench_facts}
-use Rattle.card_turns.specs.BenchViews.{CountsEach}
+use Rattle.card_turns.specs.BenchViews.{HasEachCount}
 use Rattle.card_turns.specs.Guessing.{GuessesFew}
 
 -- the guess law of one PIN, by its two secrets
@@ -76,7 +76,8 @@ raised-beside counts secret other differ = get_or-set_other counts secret other 
 
 -- A secret is shown, and its comparison costs a try.
 module _ (secret : ℕ) (shown : List ℕ) (was now : Pin) (old new : Comparisons) where
-  module _ (costs : CostsATry secret shown was now old new) (counts : CountsEach old) (within : secret < SECRETS) where
+  module _ (costs : CostsATry secret shown was now old new) (counts : HasEachCount old)
+      (within : secret < SECRETS) where
     -- another one isn't counted
     beside : (other : ℕ) → other ≢ secret → Uncounted other old new
     beside other differ = record {
@@ -201,7 +202,7 @@ module _ (c d : Card) (a : Attempt) (old new : Comparisons) (pays : ComparesAtte
       nothing-paid c d old new
       (pays.others ∙ ap (λ (p : Pin). slice_set c.pins place p) stays.0 ∙ set-get_or c.pins place no_pin) stays.1
 
-  module _ (counts : CountsEach old) (few : HasFewTries (pin_of d a.pin)) (within : place < PINS) where
+  module _ (counts : HasEachCount old) (few : HasFewTries (pin_of d a.pin)) (within : place < PINS) where
     -- a board counts its secret
     small : a.secret < SECRETS
     small = elim of [
@@ -256,7 +257,7 @@ module _ (c d : Card) (a : Attempt) (old new : Comparisons) (pays : ComparesAtte
     }
 
   -- whatever number the command has for its PIN
-  pub attempt-paid : CountsEach old → HasFewTries (pin_of d a.pin) → length c.pins ≡ PINS → ArePaid c d old new
+  pub attempt-paid : HasEachCount old → HasFewTries (pin_of d a.pin) → length c.pins ≡ PINS → ArePaid c d old new
   attempt-paid counts few eight = elim (cases_lt place PINS) [
     | inl within ↦ each-paid counts few within
     | inr past ↦ let beyond : length c.pins ≤ place = omega (arith, past, eight) in no-such-pin beyond

@@ -15,7 +15,7 @@ use Rattle.command_base.specs.laws.ShownLaws.{ComparesOrStays}
 use Rattle.card_turns.specs.declared.playing.Item.TheVariants.{Dark, Mute}
 use Rattle.card_turns.specs.BenchStates.{BenchState, off, on, bench_facts}
 use Rattle.card_turns.specs.CardBlocks.{Powered, BlockStands, IsCutAt, IsBlockStage}
-use Rattle.card_turns.specs.Plays.{HasNoFault, Plays, PlaysAll, PlaysBlock}
+use Rattle.card_turns.specs.Plays.{BringsNoFault, Plays, PlaysAll, PlaysBlock}
 use Rattle.card_turns.specs.Turns.{CountsLosses, GoodTurn, Runs, Spends, dark_of, darks}
 use Rattle.card_turns.proofs.FewGuesses.{pays-nothing, pays-on}
 use Rattle.card_turns.proofs.GuessesPaid.{ArePaid, paid-few}
@@ -83,9 +83,9 @@ pub plays_more : (old between new : BenchState) (turns : List Turn) (trace : Lis
     → PlaysAll old turns trace between → Plays between turn item new
     → PlaysAll old (turns ++ turn ∷ []) (trace ++ item ∷ []) new
 plays_more old between new turns trace turn item all more =
-    let first : HasNoFault old new → HasNoFault old between =
+    let first : BringsNoFault old new → BringsNoFault old between =
     λ good. record { faults = omega (arith, good.faults, all.counts.faults, more.counts.faults); well = good.well } in
-    let second : HasNoFault old new → HasNoFault between new = λ good. record {
+    let second : BringsNoFault old new → BringsNoFault between new = λ good. record {
       faults = omega (arith, good.faults, all.counts.faults, more.counts.faults);
       well = all.well (first good);
     } in

@@ -10,7 +10,7 @@ use Rattle.card_turns.specs.declared.playing.Item.TheVariants as item
 use Rattle.card_turns.specs.declared.playing.Turn.{Turn}
 use Rattle.card_turns.specs.declared.playing.Turn.TheVariants as turn
 use Rattle.card_turns.specs.BenchStates.{BenchState, off, on, bench_facts, IsOn}
-use Rattle.card_turns.specs.Plays.{HasNoFault, IsGood, Plays, PlaysBlock, TellsItem}
+use Rattle.card_turns.specs.Plays.{BringsNoFault, IsGood, Plays, PlaysBlock, TellsItem}
 use Rattle.card_turns.specs.Turns.{GoodBlock, GoodTurn, TakesBlock}
 
 -- what holds of the item holds of it in other words
@@ -56,7 +56,7 @@ good-block old new got i good = record { one = good.one; counts = good.counts; w
 -- a turn on a board that counts no fault
 module _ (told : Came) (block : List ℕ) (old new : BenchState) (t : Turn) (faults : (bench_facts new).faults ≡ 0)
     (due : (bench_facts new).due ≡ due_of (bench_facts new).pending) (good : IsGood old) where
-  none : HasNoFault old new
+  none : BringsNoFault old new
   none = record { faults = faults ∙ sym good.faults; well = good.well }
 
   stays-good : (i : Item) → Plays old t i new → IsGood new

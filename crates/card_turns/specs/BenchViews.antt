@@ -13,11 +13,11 @@ power_state facts (Off board) = off (facts board)
 power_state facts (On powered) = on powered
 
 -- each secret has its counters
-pub record CountsEach (counts : Comparisons) : Type 0 where
+pub record HasEachCount (counts : Comparisons) : Type 0 where
   pub compares : length counts.compares ≡ SECRETS
   pub matches : length counts.matches ≡ SECRETS
 
 -- with power off the board is dark; a powered card isn't dark, and its board counts each secret
-abbrev pub IsKept : {B : Type 0} → (B → Facts) → Power B → Type 0
-IsKept facts (Off board) = (facts board).dark ≡ true
-IsKept facts (On powered) = (powered.card.state ≢ Dark) × CountsEach (comparisons powered.card.facts)
+abbrev pub IsPowerKept : {B : Type 0} → (B → Facts) → Power B → Type 0
+IsPowerKept facts (Off board) = (facts board).dark ≡ true
+IsPowerKept facts (On powered) = (powered.card.state ≢ Dark) × HasEachCount (comparisons powered.card.facts)

@@ -9,7 +9,7 @@ use Rattle.card_core.specs.declared.state.CardState.TheVariants.{Working, Failed
 use Rattle.card_model.specs.Cards.{Card}
 use Rattle.card_model.specs.Sessions.{Session, fresh_session}
 use Rattle.card_model.specs.Steps.{ChangesNothing, IsStage, Outcome, answer_bytes, carried_out}
-use Rattle.command_base.specs.Words.{StandsAsked}
+use Rattle.command_base.specs.CommitWords.{StandsAsked}
 use Rattle.card_core.specs.Running.{Running, card_found, memory_failure}
 
 -- the card and its end of the link

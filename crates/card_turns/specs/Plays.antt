@@ -12,7 +12,7 @@ use Rattle.card_turns.specs.Guessing.{GuessesFew}
 use Rattle.card_turns.specs.Turns.{CountsLosses, OneTurn, Runs, Spends, TakesBlock, Wears, dark_of, darks, turn_writes}
 
 -- no fault between these two states, nor earlier since power-on
-pub record HasNoFault (old new : BenchState) : Type 0 where
+pub record BringsNoFault (old new : BenchState) : Type 0 where
   pub faults : (bench_facts new).faults ≡ (bench_facts old).faults
   pub well : IsWell old
 
@@ -38,24 +38,25 @@ TellsItem (came.Free free) block Holds = ⊥
 pub record Plays (old : BenchState) (turn : Turn) (item : Item) (new : BenchState) : Type 0 where
   pub has_card : BenchHasCard old → BenchHasCard new
   pub counts : Spends (dark_of item) (bench_facts old) (bench_facts new)
-  pub well : HasNoFault old new → IsWell new
+  pub well : BringsNoFault old new → IsWell new
   pub guesses : GuessesFew old new
-  pub one : BenchHasCard old → HasNoFault old new → OneTurn old turn item new
-  pub wears : BenchHasCard old → HasNoFault old new → Wears (turn_writes old turn) (bench_facts old) (bench_facts new)
+  pub one : BenchHasCard old → BringsNoFault old new → OneTurn old turn item new
+  pub wears : BenchHasCard old → BringsNoFault old new
+      → Wears (turn_writes old turn) (bench_facts old) (bench_facts new)
 
 -- One block.
 pub record PlaysBlock (old : BenchState) (got : List ℕ) (item : Item) (new : BenchState) : Type 0 where
   pub has_card : BenchHasCard old → BenchHasCard new
   pub counts : Spends (dark_of item) (bench_facts old) (bench_facts new)
-  pub well : HasNoFault old new → IsWell new
+  pub well : BringsNoFault old new → IsWell new
   pub guesses : GuessesFew old new
-  pub one : BenchHasCard old → HasNoFault old new → TakesBlock old got item new
-  pub wears : HasNoFault old new → Wears COMMAND_WRITES (bench_facts old) (bench_facts new)
+  pub one : BenchHasCard old → BringsNoFault old new → TakesBlock old got item new
+  pub wears : BringsNoFault old new → Wears COMMAND_WRITES (bench_facts old) (bench_facts new)
 
 -- Several turns.
 pub record PlaysAll (old : BenchState) (turns : List Turn) (trace : List Item) (new : BenchState) : Type 0 where
   pub has_card : BenchHasCard old → BenchHasCard new
   pub counts : CountsLosses (darks trace) (bench_facts old) (bench_facts new)
-  pub well : HasNoFault old new → IsWell new
+  pub well : BringsNoFault old new → IsWell new
   pub guesses : GuessesFew old new
-  pub runs : BenchHasCard old → HasNoFault old new → Runs old turns trace new
+  pub runs : BenchHasCard old → BringsNoFault old new → Runs old turns trace new

@@ -21,7 +21,7 @@ use Rattle.card_turns.specs.CardBlocks.{Powered, Replies, IsRun, BlockStands, Is
 abbrev pub WritesAsAsked : Facts → Facts → Type 0
 WritesAsAsked old new = new.writes ≡ old.writes + power_on_writes old
 
--- or not all of them
+-- At most as many, if power was lost.
 abbrev pub WritesNoMore : Facts → Facts → Type 0
 WritesNoMore old new = new.writes ≤ old.writes + power_on_writes old
 
@@ -32,7 +32,7 @@ pub record LeavesCard (old new : BenchState) : Type 0 where
   pub matches : (bench_facts new).matches ≡ (bench_facts old).matches
 
 -- Power on: the card starts, in a fresh session, with a fresh link, by as many device writes as the memory asks for; or
--- power is lost in one of them, or before; or, where a count of the board stands at its end, the card stays mute, and
+-- power is lost, after at most as many; or, where a count of the board stands at its end, the card stays mute, and
 -- nothing is done but that power went off.
 abbrev pub TurnsOn : BenchState → Item → BenchState → Type 0
 TurnsOn old Atr new = IsFresh new × LeavesCard old new × WritesAsAsked (bench_facts old) (bench_facts new)

@@ -2,9 +2,9 @@
 ghost use Rattle.std.specs.Prelude.{◌≡◌, ◌≤◌, ◌↔◌, ℕ, List, length, true, IsTrue};
 ghost use Rattle.nvm_board.specs.Aims.{due_of};
 ghost use Rattle.card_turns.specs.BenchStates.{off, bench_facts, BenchHasCard, IsOn, IsWell, TellsFree, IsArmed};
-ghost use Rattle.card_turns.specs.BenchViews.{power_state, IsKept};
+ghost use Rattle.card_turns.specs.BenchViews.{power_state, IsPowerKept};
 ghost use Rattle.card_turns.specs.Guessing.{GuessesFew};
-ghost use Rattle.card_turns.specs.Plays.{Plays, PlaysBlock, HasNoFault, IsGood, TellsItem};
+ghost use Rattle.card_turns.specs.Plays.{Plays, PlaysBlock, BringsNoFault, IsGood, TellsItem};
 ghost use Rattle.card_turns.specs.Turns.{CountsLosses, GoodTurn, Runs, darks};
 
 use crate::came::Came;
@@ -79,11 +79,11 @@ impl<B: Socket> Model for Bench<B> {
 
     ghost coded = { Prim.hlevel (codes, session_code) };
 
-    ghost use Rattle.card_turns.specs.BenchViews.{power_state, IsKept};
+    ghost use Rattle.card_turns.specs.BenchViews.{power_state, IsPowerKept};
 
     ghost view = { λ b. power_state B.facts b.power };
 
-    ghost invariant = { λ b. IsKept B.facts b.power };
+    ghost invariant = { λ b. IsPowerKept B.facts b.power };
 }
 
 impl<B: Socket> Bench<B> {
@@ -114,8 +114,8 @@ impl<B: Socket> Bench<B> {
 
         // The headline: over a card, and with no fault of the device in the run, nor before it since power came on, the
         // trace is the tree machine's, from the card that was found to the one that is found.
-        ensures well { HasNoFault self.old self.new → IsWell self.new }
-        ensures runs { BenchHasCard self.old → HasNoFault self.old self.new
+        ensures well { BringsNoFault self.old self.new → IsWell self.new }
+        ensures runs { BenchHasCard self.old → BringsNoFault self.old self.new
             → Runs self.old turns.now trace.new self.new }
     {
         for i in 0..turns.len() {
@@ -297,7 +297,7 @@ impl<B: Socket> Power<B> {
     fn darken(self, _: ()) -> (Power<B>, ())
         ensures off { power_state B.facts result.0
             ≡ off (record (bench_facts (power_state B.facts self)) { dark = true }) }
-        ensures kept { IsKept B.facts result.0 }
+        ensures kept { IsPowerKept B.facts result.0 }
     {
         (Power::Off(self.into_dark_board()), ())
     }
@@ -306,7 +306,7 @@ impl<B: Socket> Power<B> {
     fn start(self, _: ()) -> (Power<B>, Came)
         ensures plays { (reply : List ℕ) → TellsItem result.1 reply
             (λ item. Plays (power_state B.facts self) Turn.On item (power_state B.facts result.0)) }
-        ensures kept { IsKept B.facts result.0 }
+        ensures kept { IsPowerKept B.facts result.0 }
     {
         let mut board = self.into_dark_board();
         let Ok(()) = board.light() else {

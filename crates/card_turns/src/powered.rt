@@ -2,7 +2,7 @@
 ghost use Rattle.std.specs.Prelude.{◌≡◌, ◌≢◌, ◌⊎◌, ◌+◌, ◌≤◌, true, [], IsOk, IsErr, OnOk, OnErr};
 ghost use Rattle.std.specs.Prelude.{IfOk, IfErr};
 ghost use Rattle.nvm_board.specs.Aims.{due_of};
-ghost use Rattle.nvm_board.specs.Calls.{Arms};
+ghost use Rattle.nvm_board.specs.BoardCalls.{Arms};
 ghost use Rattle.undo_journal.specs.Spending.{Advances, KeepsBoard, WritesAtMost};
 ghost use Rattle.command_base.specs.declared.spending.TheConstants.{COMMAND_WRITES};
 ghost use Rattle.command_base.specs.Finding.{HasCard, FindsAgain};

@@ -61,7 +61,8 @@ fn a_failed_call_stops_a_start(rt: HostRuntime) -> Result<(), Fail> {
     Ok(())
 }
 
-/// How many calls, or writes, of the start that makes format 2 fail in turn, where each gives a fault, and the next start
+/// How many calls, or writes, of the start that makes format 2 fail in turn, where each gives a fault, and the next
+/// start
 /// is done and finds the card.
 fn failed_migrations(alloc: Global, board: &FaultBoard, mask: u16) -> Result<Option<u32>, Fail> {
     for call in 1..=6_000 {

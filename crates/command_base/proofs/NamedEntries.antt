@@ -6,7 +6,7 @@ use Rattle.nvm_board.specs.Facts.{IsMemory}
 use Rattle.card_model.specs.declared.requests.Target.{Target}
 use Rattle.file_tree.specs.declared.entry.Entry.{Entry}
 use Rattle.card_state.specs.FileTrees.{Kind, transparent, linear, cyclic, dedicated, elementary}
-use Rattle.file_tree.specs.Entries.{file_of, capacity_of, linear_records, cyclic_records, name_of}
+use Rattle.file_tree.specs.Entries.{file_of, entry_capacity, linear_records, cyclic_records, name_of}
 use Rattle.card_state.specs.FileLives.{is_barred}
 use Rattle.file_tree.specs.Table.{table, entry_in, path_of}
 use Rattle.file_tree.specs.Trees.{content, file_in}
@@ -60,8 +60,8 @@ module _ (m : List ℕ) (e : ℕ) where
       if k == 1 then dedicated (if x.name_length == 0 then None else Some (name_of x))
       else elementary short
       (if k == 2 then transparent (take x.size (content m x)) else
-      if k == 3 then linear x.record_length (capacity_of x) (linear_records x (content m x)) else
-      cyclic x.record_length (capacity_of x) (cyclic_records x (content m x)))
+      if k == 3 then linear x.record_length (entry_capacity x) (linear_records x (content m x)) else
+      cyclic x.record_length (entry_capacity x) (cyclic_records x (content m x)))
 
   -- whether the file of an entry has a structure
   pub fits-is : (s : Structure) → 2 ≤ x.kind → x.kind ≤ 4 → fits s (file_in m e).kind ≡ fits_kind s x.kind
@@ -73,12 +73,12 @@ module _ (m : List ℕ) (e : ℕ) where
       (λ (no_bytes : x.kind ≢ 2). ⊎_elim
       (λ (in_order : x.kind ≡ 3).
       ap (λ (k : ℕ). fits s (kind_by k)) in_order
-      ∙ of-linear s short x.record_length (capacity_of x) (linear_records x (content m x))
+      ∙ of-linear s short x.record_length (entry_capacity x) (linear_records x (content m x))
       ∙ sym (ap (fits_kind s) in_order))
       (λ (not_in_order : x.kind ≢ 3).
       let newest_first : x.kind ≡ 4 = omega (arith, high, low, no_bytes, not_in_order) in
       ap (λ (k : ℕ). fits s (kind_by k)) newest_first
-      ∙ of-cyclic s short x.record_length (capacity_of x) (cyclic_records x (content m x))
+      ∙ of-cyclic s short x.record_length (entry_capacity x) (cyclic_records x (content m x))
       ∙ sym (ap (fits_kind s) newest_first))
       (cases_eq x.kind 3))
       (cases_eq x.kind 2)

@@ -4,7 +4,7 @@ use Rattle.std.specs.Prelude.{Result, IfOk, OnOk}
 use Rattle.std.specs.Result.{result_err}
 use Rattle.card_rules.specs.declared.status.Sw.{Sw}
 use Rattle.undo_journal.specs.declared.error.StoreErr.{StoreErr}
-use Rattle.undo_journal.specs.Calls.{OnlyReads}
+use Rattle.undo_journal.specs.StoreCalls.{OnlyReads}
 use Rattle.undo_journal.specs.Spending.{Advances}
 use Rattle.undo_journal.specs.Undo.{gate}
 use Rattle.undo_journal.specs.Memory.{Memory, committed, Reports}
@@ -15,10 +15,10 @@ use Rattle.command_base.specs.declared.current.Current.{Current}
 use Rattle.command_base.specs.Comparing.{comparisons, ComparesAsked, ComparesBy}
 use Rattle.command_base.specs.Counting.{CountsAnswered, CountsServed}
 use Rattle.card_model.specs.Behaviours.{outcome}
-use Rattle.command_base.specs.Spending.{most_writes, writes_of}
+use Rattle.command_base.specs.CommandWrites.{most_writes, writes_of}
 use Rattle.card_model.specs.Steps.{commits, ChangesNothing, IsStage, carried_out, served, IsDoing, moves_files}
 use Rattle.command_base.specs.Standing.{IsCard}
-use Rattle.command_base.specs.Words.{StandsAsked, StandsServed}
+use Rattle.command_base.specs.CommitWords.{StandsAsked, StandsServed}
 use Rattle.command_base.specs.Working.{card_in, session_in, table_in, IsKept}
 
 -- The memory, the session and the answer after a call. If it succeeds, they are the model's step of a card in use.

@@ -4,7 +4,7 @@
 use Rattle.std.specs.Prelude.{◌≡◌, ◌⊎◌, ℕ, ◌≤◌, ◌-◌, ◌==◌, if◌then◌else◌, List}
 use Rattle.nvm_board.specs.Facts.{pages_of}
 use Rattle.undo_journal.specs.Undo.{gate}
-use Rattle.block_chain.specs.Words.{word}
+use Rattle.block_chain.specs.BlockWords.{word}
 use Rattle.file_tree.specs.Formats.{block_count, is_format_2}
 use Rattle.file_tree.specs.Trees.{tree_of, TreeStands}
 use Rattle.pin_store.specs.Pages.{pins_of, unmarked_pins_of, AreMarks, ArePinPages}

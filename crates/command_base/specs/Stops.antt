@@ -4,7 +4,7 @@ use Rattle.std.specs.Prelude.{◌≡◌, Option, Some, None, Result, Ok, Err}
 use Rattle.card_rules.specs.declared.status.Sw.{Sw}
 use Rattle.card_rules.specs.declared.status.TheConstants.Sw.{METHOD_BLOCKED}
 use Rattle.undo_journal.specs.declared.error.StoreErr.{StoreErr}
-use Rattle.undo_journal.specs.Calls.{Reads}
+use Rattle.undo_journal.specs.StoreCalls.{Reads}
 use Rattle.undo_journal.specs.Memory.{Memory}
 use Rattle.ef_body.specs.declared.error.BodyErr.{BodyErr}
 use Rattle.ef_body.specs.declared.error.BodyErr.TheVariants as body

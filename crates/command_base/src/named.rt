@@ -1,7 +1,7 @@
 //! The elementary file of a command on contents (ISO/IEC 7816-4, 7.3.1), and the refusals by that file.
 ghost use Rattle.std.specs.Prelude.{◌≡◌, Some, option_map, IfOk, IfSome};
 ghost use Rattle.std.specs.Result.{result_err};
-ghost use Rattle.undo_journal.specs.Calls.{Learns};
+ghost use Rattle.undo_journal.specs.StoreCalls.{Learns};
 ghost use Rattle.undo_journal.specs.Memory.{committed};
 ghost use Rattle.card_model.specs.Requests.{IsTarget};
 ghost use Rattle.card_state.specs.FileLives.{is_barred};

@@ -8,14 +8,14 @@ use Rattle.card_rules.specs.declared.access_mode.AccessBit.TheVariants.{Append}
 use Rattle.card_rules.specs.declared.status.Sw.{Sw}
 use Rattle.card_rules.specs.declared.status.TheConstants.Sw.{DONE, NO_ROOM}
 use Rattle.undo_journal.specs.declared.error.StoreErr.{StoreErr}
-use Rattle.undo_journal.specs.Calls.{Changes, OnlyReads}
+use Rattle.undo_journal.specs.StoreCalls.{Changes, OnlyReads}
 use Rattle.undo_journal.specs.Commits.{CommitsByGate}
 use Rattle.undo_journal.specs.Memory.{Memory, committed, IsReady}
 use Rattle.card_model.specs.Requests.{append_record}
 use Rattle.card_model.specs.declared.requests.Target.{Target}
 use Rattle.ef_body.specs.declared.cyclic.Cyclic.{Cyclic as Ring}
 use Rattle.ef_body.specs.declared.layout.TheConstants.{RECORD_WRITES}
-use Rattle.ef_body.specs.Bodies.{cyclic_records, IsCyclic}
+use Rattle.ef_body.specs.Bodies.{cyclic_body_records, IsCyclic}
 use Rattle.command_base.specs.declared.current.Current.{Current}
 use Rattle.command_base.specs.declared.named.Need.{Need}
 use Rattle.command_base.specs.declared.named.Structure.TheVariants.{Records}
@@ -77,7 +77,7 @@ module _ (old mid new : Memory) (ready : IsReady old) (words : IsCard (committed
     appended-few = count-few m file.ring stands
 
     abbrev records : List (List ℕ)
-    records = appended_in file.wraps file.ring.capacity (cyclic_records m file.ring) bytes
+    records = appended_in file.wraps file.ring.capacity (cyclic_body_records m file.ring) bytes
 
     abbrev need : Need
     need = record { structure = Records; bit = Append }
@@ -93,7 +93,7 @@ module _ (old mid new : Memory) (ready : IsReady old) (words : IsCard (committed
     }
 
     abbrev put : List (List ℕ)
-    put = appended_in (wraps_room room) (ring_room room).capacity (cyclic_records (committed mid) (ring_room room))
+    put = appended_in (wraps_room room) (ring_room room).capacity (cyclic_body_records (committed mid) (ring_room room))
         bytes
 
     put-are : put ≡ records
@@ -101,7 +101,7 @@ module _ (old mid new : Memory) (ready : IsReady old) (words : IsCard (committed
         let wraps = found.wraps_is in
         let ring = found.ring_is in
         let words_same = same in
-        λ i. appended_in (wraps i) (ring i).capacity (cyclic_records (words_same i) (ring i)) bytes
+        λ i. appended_in (wraps i) (ring i).capacity (cyclic_body_records (words_same i) (ring i)) bytes
 
     module _ (any_exit : (committed new ≡ committed mid) ⊎ RingBecomes (wraps_room room) (committed mid)
         (ring_room room) put (committed new)) (by_gate : CommitsByGate mid new) (told : Option StoreErr)

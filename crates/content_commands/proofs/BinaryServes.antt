@@ -10,7 +10,7 @@ use Rattle.card_rules.specs.declared.status.TheConstants.Sw.{DONE}
 use Rattle.card_rules.specs.declared.access_mode.AccessBit.{AccessBit}
 use Rattle.card_rules.specs.declared.access_mode.AccessBit.TheVariants.{Read, Update}
 use Rattle.undo_journal.specs.declared.error.StoreErr.{StoreErr}
-use Rattle.undo_journal.specs.Calls.{OnlyReads}
+use Rattle.undo_journal.specs.StoreCalls.{OnlyReads}
 use Rattle.undo_journal.specs.Commits.{CommitsByGate}
 use Rattle.undo_journal.specs.Memory.{Memory, committed, IsReady, Reports}
 use Rattle.undo_journal.specs.Spending.{WritesAtMost}
@@ -19,19 +19,19 @@ use Rattle.card_model.specs.declared.requests.Target.{Target}
 use Rattle.card_model.specs.declared.requests.Target.TheVariants.{Current, Short}
 use Rattle.card_model.specs.Requests.{Request, read_binary, update_binary}
 use Rattle.block_chain.specs.Chains.{bytes_of}
-use Rattle.block_chain.specs.Changes.{AppendsSome}
+use Rattle.block_chain.specs.ChainChanges.{AppendsSome}
 use Rattle.ef_body.specs.declared.transparent.Transparent.{Transparent}
 use Rattle.ef_body.specs.Bodies.{transparent_bytes, IsTransparent}
-use Rattle.ef_body.specs.Changes.{TransparentBecomes}
-use Rattle.ef_body.specs.Refusals.{failure, Decides, IfRefused, overlong, past_end}
+use Rattle.ef_body.specs.BodyChanges.{TransparentBecomes}
+use Rattle.ef_body.specs.Refusals.{why_failed, Decides, WhereRefused, overlong, past_end}
 use Rattle.ef_body.specs.declared.error.BodyErr.{BodyErr}
 use Rattle.ef_body.specs.declared.error.BodyErr.TheVariants as body_err
 use Rattle.std.specs.Result.{IsErrAnd}
 use Rattle.command_base.specs.declared.stop.Stop.{Stop}
 use Rattle.command_base.specs.Stops.{reply, stop_of_body}
 use Rattle.file_tree.specs.declared.entry.Entry.{Entry}
-use Rattle.card_state.specs.FileTrees.{Kind, Tree, File, file_at, overwrite, with_bytes, bytes_of as bytes_in}
-use Rattle.file_tree.specs.Changes.{Rewrites}
+use Rattle.card_state.specs.FileTrees.{Kind, Tree, File, file_at, overwrite, with_bytes, file_bytes as bytes_in}
+use Rattle.file_tree.specs.TreeChanges.{Rewrites}
 use Rattle.file_tree.specs.Entries.{free_entry}
 use Rattle.command_base.specs.laws.CardLaws.{card_space_is}
 use Rattle.file_tree.specs.Table.{table, entry_in, path_of, free_entries}
@@ -54,7 +54,7 @@ use Rattle.card_model.specs.Sessions.{marked}
 use Rattle.command_base.specs.laws.FoundLaws.{same-of}
 use Rattle.card_model.specs.Steps.{IsDoing, served}
 use Rattle.command_base.specs.Served.{Serves}
-use Rattle.command_base.specs.Spending.{most_writes}
+use Rattle.command_base.specs.CommandWrites.{most_writes}
 use Rattle.command_base.specs.Standing.{card_of, IsCard}
 use Rattle.command_base.specs.Working.{card_in, session_in, session_of, space_in, table_in, IsCurrent, IsElementary}
 use Rattle.command_base.specs.CurrentFiles.{named_from}
@@ -312,16 +312,17 @@ module _ (old mid : Memory) (ready : IsReady old) (words : IsCard (committed old
       → (committed new ≡ committed mid)
       ⊎ TransparentBecomes (committed mid) body (overwrite held_now offset bytes) (committed new)
       → CommitsByGate mid new → Reports mid new → WritesAtMost (most_writes request) mid.facts new.facts
-      → (error : BodyErr) → Decides (overlong held_now offset bytes) (Some error) → IfRefused (Some error) (new ≡ mid)
-      → new.failed ≡ failure (Some error) → (r : Result Sw Stop) → IsErrAnd r (λ f. f ≡ stop_of_body error)
+      → (error : BodyErr) → Decides (overlong held_now offset bytes) (Some error)
+      → WhereRefused (Some error) (new ≡ mid)
+      → new.failed ≡ why_failed (Some error) → (r : Result Sw Stop) → IsErrAnd r (λ f. f ≡ stop_of_body error)
       → Serves request old x new x [] (reply r)
   found-stopped current ready_mid new any_exit by_gate reports spends error due kept failed r is =
       subst (λ (s : Result Sw Stop). Serves request old x new x [] (reply s)) (sym (err-is r (stop_of_body error) is))
       (by error due kept failed)
     where
       by : (error : BodyErr)
-          → Decides (overlong held_now offset bytes) (Some error) → IfRefused (Some error) (new ≡ mid)
-          → new.failed ≡ failure (Some error) → Serves request old x new x [] (reply (Err (stop_of_body error)))
+          → Decides (overlong held_now offset bytes) (Some error) → WhereRefused (Some error) (new ≡ mid)
+          → new.failed ≡ why_failed (Some error) → Serves request old x new x [] (reply (Err (stop_of_body error)))
       by (body_err.Refused status) due kept failed =
           subst (λ (n : Memory). Serves request old x n x [] (Ok status)) (sym kept)
           (declined request old x mid (λ _. tt) words status reads ready_mid current (found-update-past status due))

@@ -2,7 +2,7 @@
 use Rattle.std.proofs.Common.{◌≡◌, ℕ, List, [], Result}
 use Rattle.std.specs.Result.{IsErrAnd}
 use Rattle.card_rules.specs.declared.status.Sw.{Sw}
-use Rattle.undo_journal.specs.Calls.{Reads}
+use Rattle.undo_journal.specs.StoreCalls.{Reads}
 use Rattle.undo_journal.specs.Memory.{Memory, committed}
 use Rattle.card_model.specs.Requests.{Request}
 use Rattle.command_base.specs.declared.current.Current.{Current}

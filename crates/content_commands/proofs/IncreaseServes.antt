@@ -7,7 +7,7 @@ use Rattle.card_rules.specs.declared.access_mode.AccessBit.TheVariants.{Update}
 use Rattle.card_rules.specs.declared.status.Sw.{Sw}
 use Rattle.card_rules.specs.declared.status.TheConstants.Sw.{DONE}
 use Rattle.undo_journal.specs.declared.error.StoreErr.{StoreErr}
-use Rattle.undo_journal.specs.Calls.{Changes, OnlyReads, Reads}
+use Rattle.undo_journal.specs.StoreCalls.{Changes, OnlyReads, Reads}
 use Rattle.undo_journal.specs.Commits.{CommitsByGate}
 use Rattle.undo_journal.specs.Memory.{Memory, committed, IsReady}
 use Rattle.undo_journal.specs.laws.Calls.{reads_then}
@@ -16,9 +16,9 @@ use Rattle.card_model.specs.declared.requests.Target.TheVariants as target
 use Rattle.ef_body.specs.declared.cyclic.Cyclic.{Cyclic as Ring}
 use Rattle.ef_body.specs.declared.slot.RecordSlot.{RecordSlot}
 use Rattle.ef_body.specs.declared.layout.TheConstants.{RECORD_WRITES}
-use Rattle.ef_body.specs.Bodies.{cyclic_records, IsCyclic}
-use Rattle.ef_body.specs.Changes.{CyclicBecomes}
-use Rattle.ef_body.specs.Calls.{ReceivesSum}
+use Rattle.ef_body.specs.Bodies.{cyclic_body_records, IsCyclic}
+use Rattle.ef_body.specs.BodyChanges.{CyclicBecomes}
+use Rattle.ef_body.specs.BodyCalls.{ReceivesSum}
 use Rattle.card_state.specs.RecordLists.{spelled, front, raised_number}
 use Rattle.ef_body.specs.Refusals.{unraised}
 use Rattle.command_base.specs.declared.current.Current.{Current}
@@ -67,15 +67,16 @@ pub record IsRaised (old mid : Memory) (x : Current) (sent : List ℕ) (file : R
   pub named : IsRecordFile (committed old) x target.Current need file
   pub short : too_long file.ring.record_length (length sent) ≡ false
   pub ring_is : newest.ring ≡ file.ring
-  pub raises : unraised file.ring.record_length (cyclic_records (committed old) file.ring) sent ≡ None
-  pub sum_is : sum ≡ spelled file.ring.record_length (raised_number (cyclic_records (committed old) file.ring) sent)
+  pub raises : unraised file.ring.record_length (cyclic_body_records (committed old) file.ring) sent ≡ None
+  pub sum_is : sum ≡ spelled file.ring.record_length (raised_number (cyclic_body_records
+      (committed old) file.ring) sent)
 
 -- so it is, by what was read of the file, and then of its record 1
 pub is-raised : {old looked mid : Memory} {x : Current} {file : RecordFile} {newest : RecordSlot} {sum : List ℕ}
     (sent : List ℕ) → OnlyReads old looked → IsRecordFile (committed old) x target.Current need file
     → too_long file.ring.record_length (length sent) ≡ false
     → OnlyReads looked mid → (newest.ring ≡ file.ring) × (newest.number ≡ 1)
-    → ReceivesSum file.ring.record_length (cyclic_records (committed looked) file.ring) sent sum (Ok newest)
+    → ReceivesSum file.ring.record_length (cyclic_body_records (committed looked) file.ring) sent sum (Ok newest)
     → IsRaised old mid x sent file newest sum
 is-raised {old} {looked} {mid} {x} {file} {newest} {sum} sent first named short rest found receives =
     let same = first.keeps.committed_words in
@@ -84,10 +85,10 @@ is-raised {old} {looked} {mid} {x} {file} {newest} {sum} sent first named short 
       named = named;
       short = short;
       ring_is = found.0;
-      raises = ap (λ (l : List ℕ). unraised file.ring.record_length (cyclic_records l file.ring) sent) (sym same)
+      raises = ap (λ (l : List ℕ). unraised file.ring.record_length (cyclic_body_records l file.ring) sent) (sym same)
           ∙ receives.refusal;
       sum_is = receives.bytes ∙ ap (λ (l : List ℕ).
-          spelled file.ring.record_length (raised_number (cyclic_records l file.ring) sent)) same;
+          spelled file.ring.record_length (raised_number (cyclic_body_records l file.ring) sent)) same;
     }
 
 module _ {old mid : Memory} {x : Current} (kept : IsKept old x) {sent : List ℕ} {file : RecordFile}
@@ -125,7 +126,7 @@ module _ {old mid : Memory} {x : Current} (kept : IsKept old x) {sent : List ℕ
   wraps = sym (ap (λ (f : RecordFile). f.wraps) found.named.file_is ∙ found.named.named.structure)
 
   abbrev held : List (List ℕ)
-  held = cyclic_records m file.ring
+  held = cyclic_body_records m file.ring
 
   abbrev new_record : List ℕ
   new_record = spelled file.ring.record_length (raised_number held sent)
@@ -161,16 +162,16 @@ module _ {old mid : Memory} {x : Current} (kept : IsKept old x) {sent : List ℕ
 
       abbrev put : List (List ℕ)
       put =
-          front (length (cyclic_records (committed mid) newest.ring)) bytes
-          (cyclic_records (committed mid) newest.ring)
+          front (length (cyclic_body_records (committed mid) newest.ring)) bytes
+          (cyclic_body_records (committed mid) newest.ring)
 
       put-are : put ≡ records
       put-are =
           let ring = found.ring_is in
           let words_same = same in
           let new_is = bytes_are ∙ found.sum_is in
-          λ i. front (length (cyclic_records (words_same i) (ring i))) (new_is i)
-          (cyclic_records (words_same i) (ring i))
+          λ i. front (length (cyclic_body_records (words_same i) (ring i))) (new_is i)
+          (cyclic_body_records (words_same i) (ring i))
 
       module _ (new : Memory)
           (any_exit : (committed new ≡ committed mid) ⊎ CyclicBecomes (committed mid) newest.ring put (committed new))

@@ -4,17 +4,17 @@ use Rattle.std.proofs.Common.{List, [], ◌∷◌, ◌-◌, length, length-appen
 use Rattle.std.proofs.Common.{Some, None, if◌then◌else◌, sym, ◌∙◌, ap, arith, ⊎_elim}
 use Rattle.std.proofs.lemmas.Bool.{le-leb, leb-false}
 use Rattle.nvm_board.specs.Facts.{IsMemory}
-use Rattle.block_chain.specs.Words.{page_words}
+use Rattle.block_chain.specs.BlockWords.{page_words}
 use Rattle.block_chain.specs.laws.Words.{index-page_words}
 use Rattle.block_chain.specs.Chains.{chain_bytes}
 use Rattle.ef_body.specs.declared.cyclic.Cyclic.{Cyclic as Ring}
 use Rattle.ef_body.specs.declared.slot.RecordSlot.{RecordSlot}
-use Rattle.ef_body.specs.Bodies.{cyclic_records, number_told, start_told, IsCyclic}
-use Rattle.ef_body.specs.Records.{in_order, newest_first}
+use Rattle.ef_body.specs.Bodies.{cyclic_body_records, number_told, start_told, IsCyclic}
+use Rattle.ef_body.specs.Records.{linear_order, newest_first}
 use Rattle.ef_body.specs.laws.Lists.{in_order-ring, length-newest_first}
 use Rattle.file_tree.specs.declared.entry.Entry.{Entry}
 use Rattle.card_state.specs.FileTrees.{Body, Kind, transparent, linear, cyclic, dedicated, elementary}
-use Rattle.file_tree.specs.Entries.{file_of, free_entry, capacity_of, name_of}
+use Rattle.file_tree.specs.Entries.{file_of, free_entry, entry_capacity, name_of}
 use Rattle.file_tree.specs.Entries.{linear_records as linear_of, cyclic_records as cyclic_of}
 use Rattle.file_tree.specs.Table.{table, entry_in, IsRecordBody, IsUsed}
 use Rattle.file_tree.specs.Trees.{content, file_in}
@@ -30,7 +30,7 @@ use Rattle.command_base.specs.laws.Contents.{chain-is, content-is, fits-chain}
 -- what a file of records and the kind that it is have in common
 pub record Agree (m : List ℕ) (kind : Kind) (file : RecordFile) : Type 0 where
   pub order : is_cyclic kind ≡ file.wraps
-  pub records : records_of kind ≡ cyclic_records m file.ring
+  pub records : records_of kind ≡ cyclic_body_records m file.ring
   pub length_is : record_length kind ≡ file.ring.record_length
   pub capacity : capacity_in kind ≡ file.ring.capacity
   pub full : (is_linear kind && nat_le (capacity_in kind) (length (records_of kind))) ≡ is_full_in file
@@ -38,7 +38,7 @@ pub record Agree (m : List ℕ) (kind : Kind) (file : RecordFile) : Type 0 where
   pub stands : IsCyclic m file.ring
 
 -- how many records a ring has, and at most 254
-pub count-at : (m : List ℕ) (ring : Ring) → IsCyclic m ring → length (cyclic_records m ring) ≡ ring.records
+pub count-at : (m : List ℕ) (ring : Ring) → IsCyclic m ring → length (cyclic_body_records m ring) ≡ ring.records
 count-at m ring is =
     let few = is.slots.few in
     let number = is.number in
@@ -117,7 +117,7 @@ module _ (m : List ℕ) (sized : IsMemory m) (words : IsCard m) (e : ℕ) (used 
         }
 
     abbrev records : List (List ℕ)
-    records = cyclic_records m (ring_in e x)
+    records = cyclic_body_records m (ring_in e x)
 
     -- the kind of its file, by the kind of the entry
     abbrev kind_by : ℕ → Body → Kind
@@ -128,15 +128,15 @@ module _ (m : List ℕ) (sized : IsMemory m) (words : IsCard m) (e : ℕ) (used 
     abbrev body_by : ℕ → List ℕ → Body
     body_by k bytes =
         if k == 2 then transparent (take x.size bytes) else
-        if k == 3 then linear x.record_length (capacity_of x) (linear_of x bytes) else
-        cyclic x.record_length (capacity_of x) (cyclic_of x bytes)
+        if k == 3 then linear x.record_length (entry_capacity x) (linear_of x bytes) else
+        cyclic x.record_length (entry_capacity x) (cyclic_of x bytes)
 
     by-entry : (k : ℕ) → x.kind ≡ k → (file_in m e).kind ≡ kind_by k (body_by k (content m x))
     unfolding file_of
     by-entry k is = ap (λ (j : ℕ). kind_by j (body_by j (content m x))) is
 
     linear-records : x.kind ≡ 3 → linear_of x (content m x) ≡ records
-    unfolding in_order
+    unfolding linear_order
     linear-records three =
         let ring = ring_in e x in
         let bytes = content-is m e sized words below high in
@@ -146,7 +146,7 @@ module _ (m : List ℕ) (sized : IsMemory m) (words : IsCard m) (e : ℕ) (used 
         let zero : start_told m ring.told_at ≡ 0 = omega (arith, start, straight) in
         let most = rules.records in
         let few : number_told m ring.told_at ≤ ring.capacity = omega (arith, number, most) in
-        (λ i. in_order x.record_length (bytes i) (number i))
+        (λ i. linear_order x.record_length (bytes i) (number i))
         ∙ sym (in_order-ring ring.record_length ring.capacity (chain_bytes m ring.chain) (number_told m ring.told_at)
         few)
         ∙ ap (λ (s : ℕ). newest_first ring.record_length ring.capacity (chain_bytes m ring.chain) s (number_told m
@@ -158,31 +158,31 @@ module _ (m : List ℕ) (sized : IsMemory m) (words : IsCard m) (e : ℕ) (used 
         let bytes = content-is m e sized words below high in
         let number = told-is.0 in
         let start = told-is.1 in
-        λ i. newest_first x.record_length (capacity_of x) (bytes i) (start i) (number i)
+        λ i. newest_first x.record_length (entry_capacity x) (bytes i) (start i) (number i)
 
     pub kind-told : (file_in m e).kind ≡ elementary (if x.short == 0 then None else Some x.short)
-        (body_with (x.kind == 4) x.record_length (capacity_of x) records)
+        (body_with (x.kind == 4) x.record_length (entry_capacity x) records)
     kind-told = ⊎_elim
         (λ (three : x.kind ≡ 3).
-        by-entry 3 three ∙ ap (λ (rs : List (List ℕ)). kind_by 3 (linear x.record_length (capacity_of x) rs))
+        by-entry 3 three ∙ ap (λ (rs : List (List ℕ)). kind_by 3 (linear x.record_length (entry_capacity x) rs))
         (linear-records three)
-        ∙ ap (λ (k : ℕ). kind_by 3 (body_with (k == 4) x.record_length (capacity_of x) records)) (sym three))
+        ∙ ap (λ (k : ℕ). kind_by 3 (body_with (k == 4) x.record_length (entry_capacity x) records)) (sym three))
         (λ (four : x.kind ≡ 4).
-        by-entry 4 four ∙ ap (λ (rs : List (List ℕ)). kind_by 4 (cyclic x.record_length (capacity_of x) rs))
+        by-entry 4 four ∙ ap (λ (rs : List (List ℕ)). kind_by 4 (cyclic x.record_length (entry_capacity x) rs))
         ring-records
-        ∙ ap (λ (k : ℕ). kind_by 4 (body_with (k == 4) x.record_length (capacity_of x) records)) (sym four))
+        ∙ ap (λ (k : ℕ). kind_by 4 (body_with (k == 4) x.record_length (entry_capacity x) records)) (sym four))
         of_records
 
     abbrev kind_with : Bool → Kind
     kind_with wraps = elementary (if x.short == 0 then None else Some x.short)
-        (body_with wraps x.record_length (capacity_of x) records)
+        (body_with wraps x.record_length (entry_capacity x) records)
 
     -- what is said of a kind with these records, by the order of records
     by-order : (wraps : Bool) → (is_cyclic (kind_with wraps) ≡ wraps) × (records_of (kind_with wraps) ≡ records)
-        × (record_length (kind_with wraps) ≡ x.record_length) × (capacity_in (kind_with wraps) ≡ capacity_of x)
+        × (record_length (kind_with wraps) ≡ x.record_length) × (capacity_in (kind_with wraps) ≡ entry_capacity x)
         × (is_linear (kind_with wraps) ≡ not wraps)
-    by-order true = (λ i. true, λ i. records, λ i. x.record_length, λ i. capacity_of x, λ i. false)
-    by-order false = (λ i. false, λ i. records, λ i. x.record_length, λ i. capacity_of x, λ i. true)
+    by-order true = (λ i. true, λ i. records, λ i. x.record_length, λ i. entry_capacity x, λ i. false)
+    by-order false = (λ i. false, λ i. records, λ i. x.record_length, λ i. entry_capacity x, λ i. true)
 
     pub file-agrees : Agree m (file_in m e).kind (record_file_in e x)
     file-agrees =
@@ -213,26 +213,26 @@ slot-few m slot is =
 
 -- as many records as there is room for
 pub replaced-fits : (m : List ℕ) (ring : Ring) → IsCyclic m ring → (wraps : Bool) (n : ℕ) (bytes : List ℕ)
-    → length (replaced_in wraps (cyclic_records m ring) n bytes) ≤ ring.capacity
+    → length (replaced_in wraps (cyclic_body_records m ring) n bytes) ≤ ring.capacity
 replaced-fits m ring is true n bytes =
     let count = count-at m ring is in
     let number = is.number in
-    let some = length-take (length (cyclic_records m ring)) (bytes ∷ cyclic_records m ring) in
+    let some = length-take (length (cyclic_body_records m ring)) (bytes ∷ cyclic_body_records m ring) in
     omega (arith, count, number, some)
 replaced-fits m ring is false n bytes =
     let count = count-at m ring is in
     let number = is.number in
-    let same = length-set (cyclic_records m ring) (n - 1) bytes in
+    let same = length-set (cyclic_body_records m ring) (n - 1) bytes in
     omega (arith, count, number, same)
 
 pub appended-fits : (m : List ℕ) (ring : Ring) → IsCyclic m ring → (wraps : Bool)
     → (not wraps && nat_le ring.capacity ring.records) ≡ false → (bytes : List ℕ)
-    → length (appended_in wraps ring.capacity (cyclic_records m ring) bytes) ≤ ring.capacity
+    → length (appended_in wraps ring.capacity (cyclic_body_records m ring) bytes) ≤ ring.capacity
 appended-fits m ring is true room bytes =
-    let some = length-take ring.capacity (bytes ∷ cyclic_records m ring) in
+    let some = length-take ring.capacity (bytes ∷ cyclic_body_records m ring) in
     omega (arith, some)
 appended-fits m ring is false room bytes =
     let count = count-at m ring is in
     let less = leb-false ring.capacity ring.records room in
-    let more = length-append (cyclic_records m ring) (bytes ∷ []) in
+    let more = length-append (cyclic_body_records m ring) (bytes ∷ []) in
     omega (arith, count, less, more)

@@ -10,19 +10,19 @@ use Rattle.nvm_board.specs.Facts.{address}
 use Rattle.nvm_board.specs.Facts.{IsMemory}
 use Rattle.block_chain.specs.Chains.{chain, chain_bytes, chain_of}
 use Rattle.nvm_board.specs.laws.Sizes.{memory_same}
-use Rattle.block_chain.specs.Changes.{OnlyContent}
+use Rattle.block_chain.specs.ChainChanges.{OnlyContent}
 use Rattle.block_chain.specs.Counts.{count, IsNotIn}
 use Rattle.block_chain.specs.Layout.{blocks_of}
 use Rattle.block_chain.specs.laws.Bytes.{blocks_same, AreBlocks, leads_blocks}
 use Rattle.block_chain.specs.laws.Footprints.{not_among}
 use Rattle.ef_body.specs.declared.cyclic.Cyclic.{Cyclic as Ring}
-use Rattle.ef_body.specs.Bodies.{cyclic_records, number_told, start_told, IsCyclic}
-use Rattle.ef_body.specs.Changes.{OnlyBody}
+use Rattle.ef_body.specs.Bodies.{cyclic_body_records, number_told, start_told, IsCyclic}
+use Rattle.ef_body.specs.BodyChanges.{OnlyBody}
 use Rattle.ef_body.specs.laws.Lists.{length-newest_first}
 use Rattle.file_tree.specs.declared.entry.Entry.{Entry}
 use Rattle.card_state.specs.FileTrees.{Kind, File, Tree, elementary, file_at}
-use Rattle.file_tree.specs.Changes.{KeepsRest}
-use Rattle.file_tree.specs.Entries.{capacity_of, extent_told, file_of, free_entry, high, low}
+use Rattle.file_tree.specs.TreeChanges.{KeepsRest}
+use Rattle.file_tree.specs.Entries.{entry_capacity, extent_told, file_of, free_entry, high, low}
 use Rattle.card_model.specs.Cards.{card_space}
 use Rattle.command_base.specs.laws.CardLaws.{card_space_is}
 use Rattle.file_tree.specs.Table.{table, entry_in, free_entries, path_of, IsEntry, IsUsed}
@@ -66,8 +66,8 @@ file-retold x number start bytes old = refl
 module _ (m after : List ℕ) (e : ℕ) (sized : IsMemory m) (words : IsCard m) (used : IsUsed (table m) e)
     (of_records : ((entry_in (table m) e).kind ≡ 3) ⊎ ((entry_in (table m) e).kind ≡ 4))
     (only : OnlyBody m (chain m (entry_in (table m) e).first) (told_address e) after)
-    (number : number_told after (told_address e) ≤ capacity_of (entry_in (table m) e))
-    (start : start_told after (told_address e) < capacity_of (entry_in (table m) e))
+    (number : number_told after (told_address e) ≤ entry_capacity (entry_in (table m) e))
+    (start : start_told after (told_address e) < entry_capacity (entry_in (table m) e))
     (first : (entry_in (table m) e).kind ≡ 3 → start_told after (told_address e) ≡ 0) where
   abbrev x : Entry
   x = entry_in (table m) e
@@ -252,7 +252,7 @@ module _ (m after : List ℕ) (e : ℕ) (sized : IsMemory m) (words : IsCard m) 
 
 -- What becomes of a ring, whether its last record is followed by the first or not.
 record Becomes (m : List ℕ) (ring : Ring) (wraps : Bool) (records : List (List ℕ)) (after : List ℕ) : Type 0 where
-  becomes : cyclic_records after ring ≡ records
+  becomes : cyclic_body_records after ring ≡ records
   begins : start_told after ring.told_at < ring.capacity
   straight : wraps ≡ false → start_told after ring.told_at ≡ ring.start
   only : OnlyBody m (chain_of m ring.chain) ring.told_at after
@@ -293,7 +293,7 @@ module _ (m after : List ℕ) (e : ℕ) (sized : IsMemory m) (words : IsCard m) 
 
   abbrev kind_of : List ℕ → Entry → Kind
   kind_of l y = elementary (if y.short == 0 then None else Some y.short)
-      (body_with (y.kind == 4) y.record_length (capacity_of y) (cyclic_records l (ring_in e y)))
+      (body_with (y.kind == 4) y.record_length (entry_capacity y) (cyclic_body_records l (ring_in e y)))
 
   ring-become : length records ≤ ring.capacity → Becomes m ring (entry_m.kind == 4) records after → Records m e
       records after
@@ -301,8 +301,8 @@ module _ (m after : List ℕ) (e : ℕ) (sized : IsMemory m) (words : IsCard m) 
       let count = length-newest_first ring.record_length ring.capacity (chain_bytes after ring.chain)
       (start_told after ring.told_at) (number_told after ring.told_at) in
       let all = ap (λ (rs : List (List ℕ)). length rs) made.becomes in
-      let number : number_told after (told_address e) ≤ capacity_of entry_m = omega (arith, count, all, few) in
-      let start : start_told after (told_address e) < capacity_of entry_m = made.begins in
+      let number : number_told after (told_address e) ≤ entry_capacity entry_m = omega (arith, count, all, few) in
+      let start : start_told after (told_address e) < entry_capacity entry_m = made.begins in
       let first : entry_m.kind ≡ 3 → start_told after (told_address e) ≡ 0 =
       λ three. made.straight (ap (λ (k : ℕ). k == 4) three) ∙ (rules m sized words e used of_records).linear three in
       let stands = card-stands m after e sized words used of_records made.only number start first in
@@ -318,8 +318,9 @@ module _ (m after : List ℕ) (e : ℕ) (sized : IsMemory m) (words : IsCard m) 
       kind-told after sized_after stands e used_after of_after
       ∙ ap (kind_of after) own
       ∙ ap (λ (rs : List (List ℕ)). elementary short
-      (body_with (entry_m.kind == 4) entry_m.record_length (capacity_of entry_m) rs)) made.becomes
-      ∙ with-body short (entry_m.kind == 4) entry_m.record_length (capacity_of entry_m) (cyclic_records m ring) records
+      (body_with (entry_m.kind == 4) entry_m.record_length (entry_capacity entry_m) rs)) made.becomes
+      ∙ with-body short (entry_m.kind == 4) entry_m.record_length (entry_capacity entry_m)
+      (cyclic_body_records m ring) records
       ∙ sym (ap (λ (k : Kind). with_records k records) (kind-told m sized words e used of_records)) in
       record {
         stands = stands;

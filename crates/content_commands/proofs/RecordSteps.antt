@@ -13,15 +13,15 @@ use Rattle.card_model.specs.declared.requests.RecordChoice.{RecordChoice}
 use Rattle.card_model.specs.declared.requests.RecordChoice.TheVariants.{Next, Previous, At}
 use Rattle.card_model.specs.declared.requests.RecordPlace.{RecordPlace}
 use Rattle.card_model.specs.Requests.{Request, read_record, search_record}
-use Rattle.undo_journal.specs.Calls.{OnlyReads}
+use Rattle.undo_journal.specs.StoreCalls.{OnlyReads}
 use Rattle.undo_journal.specs.Memory.{Memory, committed, IsReady}
 use Rattle.command_base.specs.Served.{Serves}
 use Rattle.command_base.specs.Working.{card_in, session_in, table_in, session_of, IsCurrent}
 use Rattle.command_base.specs.CurrentFiles.{pointer_from, pointing_from}
 use Rattle.ef_body.specs.declared.cyclic.Cyclic.{Cyclic as Ring}
 use Rattle.ef_body.specs.declared.slot.RecordSlot.{RecordSlot}
-use Rattle.ef_body.specs.Bodies.{cyclic_records, IsCyclic}
-use Rattle.card_state.specs.RecordLists.{has_record, record_of, found as found_in}
+use Rattle.ef_body.specs.Bodies.{cyclic_body_records, IsCyclic}
+use Rattle.card_state.specs.RecordLists.{has_record, record_of, records_found as found_in}
 use Rattle.ef_body.specs.Refusals.{missing_record}
 use Rattle.file_tree.specs.Table.{table, path_of, IsUsed}
 use Rattle.file_tree.specs.Trees.{file_in}
@@ -196,7 +196,7 @@ module _ (m : List ℕ) (sized : IsMemory m) (words : IsCard m) (x : CurrentFile
       number = chosen_in file (pointer_from x target) choice
 
       abbrev text : List ℕ
-      text = record_of (cyclic_records m file.ring) number
+      text = record_of (cyclic_body_records m file.ring) number
 
       -- Le is neither 00 nor a record's length
       abbrev is_other : List ℕ → Bool
@@ -247,7 +247,7 @@ module _ (m : List ℕ) (sized : IsMemory m) (words : IsCard m) (x : CurrentFile
       start = place_number first (pointer_from x target)
 
       abbrev numbers : List ℕ
-      numbers = found_in direction start sought (cyclic_records m file.ring)
+      numbers = found_in direction start sought (cyclic_body_records m file.ring)
 
       abbrev search_verdict : Bool → List ℕ → Option Sw
       search_verdict has ns =

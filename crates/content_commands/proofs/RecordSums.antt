@@ -8,7 +8,7 @@ use Rattle.card_rules.specs.declared.status.Sw.{Sw}
 use Rattle.card_rules.specs.declared.status.TheConstants.Sw.{DONE, MAXIMUM_REACHED, RECORD_NOT_FOUND, WRONG_LENGTH}
 use Rattle.card_model.specs.Requests.{increase}
 use Rattle.card_model.specs.declared.requests.Target.TheVariants as target
-use Rattle.ef_body.specs.Bodies.{cyclic_records}
+use Rattle.ef_body.specs.Bodies.{cyclic_body_records}
 use Rattle.card_state.specs.RecordLists.{spelled, front, has_record, raised_number}
 use Rattle.ef_body.specs.Refusals.{unraised}
 use Rattle.file_tree.specs.Table.{table}
@@ -87,7 +87,7 @@ module _ (m : List ℕ) (sized : IsMemory m) (words : IsCard m) (x : Current) (n
   kind = target_kind c s target.Current
 
   abbrev records : List (List ℕ)
-  records = cyclic_records m file.ring
+  records = cyclic_body_records m file.ring
 
   abbrev pub new_record : List ℕ
   new_record = spelled file.ring.record_length (raised_number records sent)

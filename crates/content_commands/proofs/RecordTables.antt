@@ -8,13 +8,13 @@ use Rattle.std.proofs.lemmas.Bool.{cases_eq, cases_lt}
 use Rattle.nvm_board.specs.Facts.{address}
 use Rattle.nvm_board.specs.Facts.{IsMemory}
 use Rattle.block_chain.specs.declared.chain.Extent.{Extent}
-use Rattle.block_chain.specs.Words.{page_words, word_bytes}
+use Rattle.block_chain.specs.BlockWords.{page_words, word_bytes}
 use Rattle.block_chain.specs.declared.layout.TheConstants.{HEADER_PAGE}
 use Rattle.file_tree.specs.Formats.{block_count, SameFormat}
 use Rattle.file_tree.specs.declared.layout.TheConstants.{MARK_WORD, PAGES_WORD}
 use Rattle.file_tree.specs.laws.Formats.{laid_as}
 use Rattle.block_chain.specs.Chains.{bytes_of, free_chain}
-use Rattle.block_chain.specs.Changes.{KeepsBlocks}
+use Rattle.block_chain.specs.ChainChanges.{KeepsBlocks}
 use Rattle.block_chain.specs.Layout.{IsOf, AreLaid, SameBytes}
 use Rattle.block_chain.specs.laws.Footprints.{laid_elsewhere, page_words_same, set_elsewhere}
 use Rattle.block_chain.specs.laws.Words.{index-page_words}

@@ -9,7 +9,7 @@ use Rattle.card_rules.specs.declared.access_mode.AccessBit.TheVariants.{Append, 
 use Rattle.card_rules.specs.declared.status.Sw.{Sw}
 use Rattle.card_rules.specs.declared.status.TheConstants.Sw.{DONE, NO_ROOM, RECORD_NOT_FOUND, WRONG_LENGTH}
 use Rattle.undo_journal.specs.declared.error.StoreErr.{StoreErr}
-use Rattle.undo_journal.specs.Calls.{Changes, OnlyReads}
+use Rattle.undo_journal.specs.StoreCalls.{Changes, OnlyReads}
 use Rattle.undo_journal.specs.Commits.{CommitsByGate}
 use Rattle.undo_journal.specs.Memory.{Memory, committed, IsReady}
 use Rattle.undo_journal.specs.laws.Told.{changes_after}
@@ -18,7 +18,7 @@ use Rattle.card_model.specs.declared.requests.Target.{Target}
 use Rattle.card_model.specs.declared.requests.RecordChoice.{RecordChoice}
 use Rattle.card_model.specs.declared.requests.RecordChoice.TheVariants.{Next, Previous, At}
 use Rattle.ef_body.specs.declared.cyclic.Cyclic.{Cyclic as Ring}
-use Rattle.ef_body.specs.Bodies.{cyclic_records}
+use Rattle.ef_body.specs.Bodies.{cyclic_body_records}
 use Rattle.card_state.specs.RecordLists.{has_record}
 use Rattle.ef_body.specs.declared.layout.TheConstants.{RECORD_WRITES}
 use Rattle.file_tree.specs.Table.{table, entry_in}
@@ -36,8 +36,7 @@ use Rattle.card_model.specs.RecordCommands.{no_record_length, pointer_after, poi
 use Rattle.card_model.specs.RecordCommands.{replaces, target_number, updated_records, with_records_at}
 use Rattle.command_base.specs.Served.{Serves}
 use Rattle.card_model.specs.Sessions.{Session}
-use Rattle.command_base.specs.Spending.{most_writes}
-use Rattle.command_base.specs.Spending.{record_writes}
+use Rattle.command_base.specs.CommandWrites.{most_writes, record_writes}
 use Rattle.command_base.specs.Standing.{card_of, IsCard}
 use Rattle.content_commands.specs.RecordParts.{appended_in, has_in, number_added_in}
 use Rattle.command_base.specs.Working.{card_in, session_in, session_of, space_in, table_in, IsCurrent}
@@ -254,7 +253,7 @@ module _ (m : List ℕ) (sized : IsMemory m) (words : IsCard m) (x : Current) (t
   kind = target_kind cm sm target
 
   abbrev held : List (List ℕ)
-  held = cyclic_records m file.ring
+  held = cyclic_body_records m file.ring
 
   agrees : Agree m kind file
   agrees = agree m sized words x target need file found

@@ -8,7 +8,7 @@ use Rattle.card_rules.specs.declared.access_mode.AccessBit.TheVariants.{Update}
 use Rattle.card_rules.specs.declared.status.Sw.{Sw}
 use Rattle.card_rules.specs.declared.status.TheConstants.Sw.{DONE, RECORD_NOT_FOUND}
 use Rattle.undo_journal.specs.declared.error.StoreErr.{StoreErr}
-use Rattle.undo_journal.specs.Calls.{Changes, OnlyReads}
+use Rattle.undo_journal.specs.StoreCalls.{Changes, OnlyReads}
 use Rattle.undo_journal.specs.Commits.{CommitsByGate}
 use Rattle.undo_journal.specs.Memory.{Memory, committed, IsReady}
 use Rattle.card_model.specs.Requests.{update_record}
@@ -17,7 +17,7 @@ use Rattle.card_model.specs.declared.requests.RecordChoice.{RecordChoice}
 use Rattle.ef_body.specs.declared.cyclic.Cyclic.{Cyclic as Ring}
 use Rattle.ef_body.specs.declared.slot.RecordSlot.{RecordSlot}
 use Rattle.ef_body.specs.declared.layout.TheConstants.{RECORD_WRITES}
-use Rattle.ef_body.specs.Bodies.{cyclic_records, IsCyclic}
+use Rattle.ef_body.specs.Bodies.{cyclic_body_records, IsCyclic}
 use Rattle.file_tree.specs.Table.{table}
 use Rattle.command_base.specs.declared.current.Current.{Current}
 use Rattle.command_base.specs.declared.named.Need.{Need}
@@ -33,7 +33,8 @@ use Rattle.command_base.specs.CurrentFiles.{pointer_from, pointing_from}
 use Rattle.content_commands.specs.RecordParts.{need_replacing, RingBecomes}
 use Rattle.content_commands.proofs.RecordBodies.{replaced-fits, slot-few}
 use Rattle.content_commands.proofs.RecordWrites.{PutsRecords, records-made, records-space, records-torn}
-use Rattle.content_commands.proofs.RecordWrites.{replaces-is, update-commits, update-decided, update-effect, verdict-free}
+use Rattle.content_commands.proofs.RecordWrites.{replaces-is, update-commits, update-decided, update-effect}
+use Rattle.content_commands.proofs.RecordWrites.{verdict-free}
 use Rattle.content_commands.proofs.RecordSteps.{agree}
 
 -- a record that UPDATE RECORD replaces: it is there, and nothing refuses the bytes in its place
@@ -92,7 +93,7 @@ module _ (old mid new : Memory) (ready : IsReady old) (words : IsCard (committed
     replaced-few = let few = slot-few m slot stands in omega (arith, few)
 
     abbrev records : List (List ℕ)
-    records = replaced_in file.wraps (cyclic_records m file.ring) k bytes
+    records = replaced_in file.wraps (cyclic_body_records m file.ring) k bytes
 
     free : refused_by (file_refusals (card_of m) (session_of (table m) x) target (replaces choice) Update) ≡ None
     free = sym (replaces-is (card_of m) (session_of (table m) x) target choice) ∙ found.named.named.unrefused
@@ -108,10 +109,10 @@ module _ (old mid new : Memory) (ready : IsReady old) (words : IsCard (committed
     }
 
     abbrev put : List (List ℕ)
-    put = replaced_in file.wraps (cyclic_records (committed mid) slot.ring) slot.number bytes
+    put = replaced_in file.wraps (cyclic_body_records (committed mid) slot.ring) slot.number bytes
 
     put-are : put ≡ records
-    put-are = λ i. replaced_in file.wraps (cyclic_records (same i) (found.ring_is i)) (found.number_is i) bytes
+    put-are = λ i. replaced_in file.wraps (cyclic_body_records (same i) (found.ring_is i)) (found.number_is i) bytes
 
     module _ (any_exit : (committed new ≡ committed mid) ⊎ RingBecomes file.wraps (committed mid) slot.ring put
         (committed new)) (by_gate : CommitsByGate mid new) (told : Option StoreErr)

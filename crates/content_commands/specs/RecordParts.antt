@@ -7,13 +7,13 @@ use Rattle.card_rules.specs.declared.status.Sw.{Sw}
 use Rattle.card_rules.specs.declared.status.TheConstants.Sw.{NO_ROOM, RECORD_NOT_FOUND, WRONG_LENGTH}
 use Rattle.card_model.specs.declared.requests.Target.{Target}
 use Rattle.file_tree.specs.declared.entry.Entry.{Entry}
-use Rattle.file_tree.specs.Entries.{capacity_of}
+use Rattle.file_tree.specs.Entries.{entry_capacity}
 use Rattle.file_tree.specs.declared.layout.TheConstants.{FIRST_ENTRY_PAGE, RECORDS_WORD}
 use Rattle.nvm_board.specs.declared.board.TheConstants.{PAGE_WORDS}
 use Rattle.card_model.specs.declared.requests.RecordChoice.{RecordChoice}
 use Rattle.card_model.specs.declared.requests.RecordChoice.TheVariants.{Next, Previous, At}
 use Rattle.ef_body.specs.declared.cyclic.Cyclic.{Cyclic as Ring}
-use Rattle.ef_body.specs.Changes.{CyclicBecomes, RecordsBecome}
+use Rattle.ef_body.specs.BodyChanges.{CyclicBecomes, RecordsBecome}
 use Rattle.card_state.specs.RecordLists.{front}
 use Rattle.content_commands.specs.declared.record_file.RecordFile.{RecordFile}
 use Rattle.content_commands.specs.declared.record_file.Room.{Room}
@@ -35,7 +35,7 @@ abbrev pub ring_in : ℕ → Entry → Ring
 ring_in e entry = record {
   chain = record { first = entry.first; last = entry.last };
   record_length = entry.record_length;
-  capacity = capacity_of entry;
+  capacity = entry_capacity entry;
   records = entry.records;
   start = entry.start;
   told_at = told_address e;

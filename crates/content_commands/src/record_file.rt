@@ -4,8 +4,8 @@ ghost use Rattle.std.specs.Result.{result_err};
 ghost use Rattle.card_rules.specs.declared.status.TheConstants.Sw.{NO_ROOM};
 ghost use Rattle.undo_journal.specs.Memory.{committed, IsReady};
 ghost use Rattle.ef_body.specs.declared.layout.TheConstants.{RECORD_WRITES};
-ghost use Rattle.ef_body.specs.Bodies.{cyclic_records, IsCyclic};
-ghost use Rattle.ef_body.specs.Calls.{Commits, FindsRecord};
+ghost use Rattle.ef_body.specs.Bodies.{cyclic_body_records, IsCyclic};
+ghost use Rattle.ef_body.specs.BodyCalls.{Commits, FindsRecord};
 ghost use Rattle.file_tree.specs.declared.kinds.EntryKind.TheVariants as kinds;
 ghost use Rattle.file_tree.specs.Kinds.{kind_byte};
 ghost use Rattle.card_model.specs.RecordCommands.{next_record, place_number, pointer_after, previous_record};
@@ -169,7 +169,7 @@ impl RecordFile {
         requires body { IsCyclic (committed store.old) slot.ring }
         requires size { length bytes.now ≡ slot.ring.record_length }
         ensures { Commits (RingBecomes self.wraps (committed store.old) slot.ring (replaced_in
-            self.wraps (cyclic_records (committed store.old) slot.ring) slot.number bytes.now))
+            self.wraps (cyclic_body_records (committed store.old) slot.ring) slot.number bytes.now))
             RECORD_WRITES store.old store.new result }
     {
         if self.wraps {
@@ -219,7 +219,7 @@ impl Room {
         requires body { IsCyclic (committed store.old) (ring_room self) }
         requires size { length bytes.now ≡ (ring_room self).record_length }
         ensures { Commits (RingBecomes (wraps_room self) (committed store.old) (ring_room self) (appended_in
-            (wraps_room self) (ring_room self).capacity (cyclic_records (committed store.old) (ring_room self))
+            (wraps_room self) (ring_room self).capacity (cyclic_body_records (committed store.old) (ring_room self))
             bytes.now)) RECORD_WRITES store.old store.new result }
     {
         match self {

@@ -5,17 +5,18 @@ use Rattle.std.specs.Prelude.{◌≡◌, ◌<◌, ◌≤◌, ◌+◌, ◌-◌, �
 use Rattle.std.specs.Prelude.{slice_set, take, drop}
 use Rattle.nvm_board.specs.Facts.{IsMemory}
 use Rattle.block_chain.specs.Chains.{chain_of, chain_bytes, bytes_of}
-use Rattle.block_chain.specs.Changes.{Overwrites}
+use Rattle.block_chain.specs.ChainChanges.{Overwrites}
 use Rattle.card_state.specs.FileTrees.{overwrite}
 use Rattle.block_chain.specs.laws.Bytes.{leads_blocks, length-bytes_of}
 use Rattle.ef_body.specs.declared.linear.Linear.{Linear}
 use Rattle.ef_body.specs.declared.cyclic.Cyclic.{Cyclic}
 use Rattle.ef_body.specs.declared.slot.RecordSlot.{RecordSlot}
-use Rattle.ef_body.specs.Records.{slot, newest_first}
+use Rattle.ef_body.specs.Records.{slot_record, newest_first}
 use Rattle.card_state.specs.RecordLists.{front, record_of}
-use Rattle.ef_body.specs.Bodies.{counts_word, number_told, start_told, linear_records, cyclic_records, IsLinear}
+use Rattle.ef_body.specs.Bodies.{counts_word, number_told, start_told, linear_body_records, cyclic_body_records}
+use Rattle.ef_body.specs.Bodies.{IsLinear}
 use Rattle.ef_body.specs.Bodies.{IsCyclic, LieIn}
-use Rattle.ef_body.specs.Changes.{LinearBecomes, CyclicBecomes, RecordsBecome, PutsRecord}
+use Rattle.ef_body.specs.BodyChanges.{LinearBecomes, CyclicBecomes, RecordsBecome, PutsRecord}
 use Rattle.ef_body.specs.laws.Lists.{slot_before, slot_before-small}
 use Rattle.ef_body.specs.laws.Lists.{newest_first-front, newest_first-put, newest_first-back, length-newest_first}
 use Rattle.ef_body.specs.laws.Lists.{at-newest_first, in_order-ring}
@@ -55,8 +56,8 @@ linear_becomes m after body records few ring =
 
 -- a linear body, and the ring that is taken for it
 module _ (m : List ℕ) (body : Linear) (ring : Cyclic) (same : ring ≡ ring_of body) (is : IsLinear m body) where
-  taken_records : cyclic_records m ring ≡ linear_records m body
-  taken_records = ap (cyclic_records m) same ∙ ring_records m body is
+  taken_records : cyclic_body_records m ring ≡ linear_body_records m body
+  taken_records = ap (cyclic_body_records m) same ∙ ring_records m body is
 
   taken_becomes : (after : List ℕ) (records : List (List ℕ)) → length records ≤ body.capacity
       → RecordsBecome m ring records after → LinearBecomes m body records after
@@ -65,33 +66,34 @@ module _ (m : List ℕ) (body : Linear) (ring : Cyclic) (same : ring ≡ ring_of
 
   -- with a record in place of another, and with one behind the last one
   pub taken_put : (after : List ℕ) (n number : ℕ) (bytes : List ℕ) → n ≡ number
-      → RecordsBecome m ring (slice_set (cyclic_records m ring) (n - 1) bytes) after
-      → LinearBecomes m body (slice_set (linear_records m body) (number - 1) bytes) after
+      → RecordsBecome m ring (slice_set (cyclic_body_records m ring) (n - 1) bytes) after
+      → LinearBecomes m body (slice_set (linear_body_records m body) (number - 1) bytes) after
   taken_put after n number bytes at becomes =
-      let long = length-set (linear_records m body) (number - 1) bytes in
+      let long = length-set (linear_body_records m body) (number - 1) bytes in
       let many = length-linear m body is in
       let most = is.number in
-      taken_becomes after (slice_set (linear_records m body) (number - 1) bytes) (omega (arith, long, many, most))
+      taken_becomes after (slice_set (linear_body_records m body) (number - 1) bytes) (omega (arith, long, many, most))
       (subst (λ (l : List (List ℕ)). RecordsBecome m ring l after)
       (ap₂ (λ (l : List (List ℕ)) (k : ℕ). slice_set l (k - 1) bytes) taken_records at) becomes)
 
   pub taken_added : (after : List ℕ) (bytes : List ℕ) → ring.records < ring.capacity
-      → RecordsBecome m ring (cyclic_records m ring ++ bytes ∷ []) after
-      → LinearBecomes m body (linear_records m body ++ bytes ∷ []) after
+      → RecordsBecome m ring (cyclic_body_records m ring ++ bytes ∷ []) after
+      → LinearBecomes m body (linear_body_records m body ++ bytes ∷ []) after
   taken_added after bytes room becomes =
-      let long = length-append (linear_records m body) (bytes ∷ []) in
+      let long = length-append (linear_body_records m body) (bytes ∷ []) in
       let many = length-linear m body is in
       let records : ring.records ≡ body.records = ap (λ (r : Cyclic). r.records) same in
       let capacity : ring.capacity ≡ body.capacity = ap (λ (r : Cyclic). r.capacity) same in
-      taken_becomes after (linear_records m body ++ bytes ∷ []) (omega (arith, long, many, room, records, capacity))
+      taken_becomes after (linear_body_records m body ++ bytes
+      ∷ []) (omega (arith, long, many, room, records, capacity))
       (subst (λ (l : List (List ℕ)). RecordsBecome m ring (l ++ bytes ∷ []) after) taken_records becomes)
 
 -- a record that is put into a slot lies in the blocks
 pub slot_lies : (m : List ℕ) (ring : Cyclic) (bytes : List ℕ) → IsCyclic m ring → length bytes ≡ ring.record_length
-    → (slot offset : ℕ) → slot < ring.capacity → offset ≡ slot * ring.record_length
+    → (slot_record offset : ℕ) → slot_record < ring.capacity → offset ≡ slot_record * ring.record_length
     → LieIn m ring.chain offset (length bytes)
-slot_lies m ring bytes is long slot offset within at =
-    let inside = slot-within ring.record_length slot ring.capacity within in
+slot_lies m ring bytes is long slot_record offset within at =
+    let inside = slot-within ring.record_length slot_record ring.capacity within in
     let fits = is.slots.fits in
     let small = is.slots.small in
     record {
@@ -103,10 +105,11 @@ slot_lies m ring bytes is long slot offset within at =
 -- a record in place of another
 pub ring_put : (m after : List ℕ) (ring : Cyclic) (number : ℕ) (bytes : List ℕ) → IsMemory m → IsCyclic m ring
     → length bytes ≡ ring.record_length → 1 ≤ number → number ≤ ring.records
-    → (slot offset : ℕ) → slot ≡ (ring.start + number - 1) % ring.capacity → offset ≡ slot * ring.record_length
+    → (slot_record offset : ℕ) → slot_record ≡ (ring.start + number - 1) % ring.capacity
+    → offset ≡ slot_record * ring.record_length
     → Overwrites m (chain_of m ring.chain) offset bytes after
-    → RecordsBecome m ring (slice_set (cyclic_records m ring) (number - 1) bytes) after
-ring_put m after ring number bytes sized is long some most slot offset lies at over =
+    → RecordsBecome m ring (slice_set (cyclic_body_records m ring) (number - 1) bytes) after
+ring_put m after ring number bytes sized is long some most slot_record offset lies at over =
     let size = ring.record_length in
     let bs = chain_bytes m ring.chain in
     let few = is.slots.few in
@@ -142,11 +145,11 @@ ring_put m after ring number bytes sized is long some most slot offset lies at o
 -- a record behind the last one
 pub ring_added : (m after : List ℕ) (ring : Cyclic) (bytes : List ℕ) → IsMemory m → IsCyclic m ring
     → length bytes ≡ ring.record_length → ring.records < ring.capacity
-    → (slot offset told : ℕ) → slot ≡ (ring.start + (ring.records + 1) - 1) % ring.capacity
-    → offset ≡ slot * ring.record_length → told ≡ counts_word (ring.records + 1) ring.start
+    → (slot_record offset told : ℕ) → slot_record ≡ (ring.start + (ring.records + 1) - 1) % ring.capacity
+    → offset ≡ slot_record * ring.record_length → told ≡ counts_word (ring.records + 1) ring.start
     → PutsRecord m ring.chain offset bytes ring.told_at told after
-    → RecordsBecome m ring (cyclic_records m ring ++ bytes ∷ []) after
-ring_added m after ring bytes sized is long room slot offset told lies at tells puts =
+    → RecordsBecome m ring (cyclic_body_records m ring ++ bytes ∷ []) after
+ring_added m after ring bytes sized is long room slot_record offset told lies at tells puts =
     let size = ring.record_length in
     let bs = chain_bytes m ring.chain in
     let few = is.slots.few in
@@ -172,17 +175,18 @@ ring_added m after ring bytes sized is long room slot offset told lies at tells 
 -- a record before the others
 pub cyclic_front : (m after : List ℕ) (body : Cyclic) (bytes : List ℕ) (n : ℕ) → IsMemory m → IsCyclic m body
     → length bytes ≡ body.record_length → 1 ≤ n → n ≤ body.capacity → n ≤ body.records + 1
-    → (slot offset told : ℕ) → slot ≡ slot_before body.start body.capacity → offset ≡ slot * body.record_length
-    → told ≡ counts_word n slot → PutsRecord m body.chain offset bytes body.told_at told after
-    → CyclicBecomes m body (front n bytes (cyclic_records m body)) after
-cyclic_front m after body bytes n sized is long some most more slot offset told before at tells puts =
+    → (slot_record offset told : ℕ) → slot_record ≡ slot_before body.start body.capacity
+    → offset ≡ slot_record * body.record_length
+    → told ≡ counts_word n slot_record → PutsRecord m body.chain offset bytes body.told_at told after
+    → CyclicBecomes m body (front n bytes (cyclic_body_records m body)) after
+cyclic_front m after body bytes n sized is long some most more slot_record offset told before at tells puts =
     let size = body.record_length in
     let bs = chain_bytes m body.chain in
     let low = slot_before-small body.start body.capacity is.start in
     let few = is.slots.few in
-    let small : slot < 0x10000 = omega (arith, few, low, before) in
-    let number = told_number after body.told_at n slot (puts.tells ∙ tells) small in
-    let first = told_start after body.told_at n slot (puts.tells ∙ tells) small ∙ before in
+    let small : slot_record < 0x10000 = omega (arith, few, low, before) in
+    let number = told_number after body.told_at n slot_record (puts.tells ∙ tells) small in
+    let first = told_start after body.told_at n slot_record (puts.tells ∙ tells) small ∙ before in
     let all = ring_fits m body sized is in
     record {
       becomes = ap (λ (l : List ℕ). newest_first size body.capacity l (start_told after body.told_at)
@@ -204,7 +208,7 @@ slot_small m body is a = let some = is.slots.room in mod-lt a (let room : 0 < bo
 
 -- the bytes of the slot in which a record lies
 pub record_read : (m : List ℕ) (body : Cyclic) (number : ℕ) → IsCyclic m body → 1 ≤ number → number ≤ body.records
-    → record_of (cyclic_records m body) number
+    → record_of (cyclic_body_records m body) number
     ≡ take body.record_length (drop ((body.start + number - 1) % body.capacity * body.record_length)
     (chain_bytes m body.chain))
 record_read m body number is some most =
@@ -214,33 +218,36 @@ record_read m body number is some most =
     let lt : number - 1 < body.records = omega (arith, some, most) in
     ap (λ (l : List (List ℕ)). record_of l number) (cyclic_is m body is)
     ∙ at-newest_first size body.capacity bs body.start body.records (number - 1) [] lt
-    ∙ ap (λ (i : ℕ). slot size bs (i % body.capacity)) place
+    ∙ ap (λ (i : ℕ). slot_record size bs (i % body.capacity)) place
     ∙ slot-take size bs ((body.start + number - 1) % body.capacity)
 
 -- the bytes that are read at that offset
 pub record_at : (m : List ℕ) (body : Cyclic) (number : ℕ) → IsCyclic m body → 1 ≤ number → number ≤ body.records
-    → (slot offset : ℕ) → slot ≡ (body.start + number - 1) % body.capacity → offset ≡ slot * body.record_length
-    → take body.record_length (drop offset (chain_bytes m body.chain)) ≡ record_of (cyclic_records m body) number
-record_at m body number is some most slot offset lies at =
+    → (slot_record offset : ℕ) → slot_record ≡ (body.start + number - 1) % body.capacity
+    → offset ≡ slot_record * body.record_length
+    → take body.record_length (drop offset (chain_bytes m body.chain)) ≡ record_of (cyclic_body_records m body) number
+record_at m body number is some most slot_record offset lies at =
     ap (λ (o : ℕ). take body.record_length (drop o (chain_bytes m body.chain)))
     (at ∙ ap (λ (s : ℕ). s * body.record_length) lies)
     ∙ sym (record_read m body number is some most)
 
 -- what a receipt tells of the body that gave it
-module _ (body : Cyclic) (number : ℕ) (slot : RecordSlot) (at : (slot.ring ≡ body) × (slot.number ≡ number)) where
+module _ (body : Cyclic) (number : ℕ) (slot_record : RecordSlot) (at : (slot_record.ring ≡ body)
+    × (slot_record.number ≡ number)) where
   pub received_last : number ≤ body.records
   received_last =
-      let most = slot.to_last in
-      let records : slot.ring.records ≡ body.records = ap (λ (r : Cyclic). r.records) at.0 in
+      let most = slot_record.to_last in
+      let records : slot_record.ring.records ≡ body.records = ap (λ (r : Cyclic). r.records) at.0 in
       omega (arith, most, records, at.1)
 
   pub received_record : (m : List ℕ)
-      → record_of (cyclic_records m slot.ring) slot.number ≡ record_of (cyclic_records m body) number
-  received_record m = ap₂ (λ (r : Cyclic) (n : ℕ). record_of (cyclic_records m r) n) at.0 at.1
+      → record_of (cyclic_body_records m slot_record.ring) slot_record.number
+      ≡ record_of (cyclic_body_records m body) number
+  received_record m = ap₂ (λ (r : Cyclic) (n : ℕ). record_of (cyclic_body_records m r) n) at.0 at.1
 
 -- a record has the length of a slot
 pub length-record : (m : List ℕ) (body : Cyclic) (number : ℕ) → IsMemory m → IsCyclic m body → 1 ≤ number
-    → number ≤ body.records → length (record_of (cyclic_records m body) number) ≡ body.record_length
+    → number ≤ body.records → length (record_of (cyclic_body_records m body) number) ≡ body.record_length
 length-record m body number sized is some most =
     let size = body.record_length in
     let place = (body.start + number - 1) % body.capacity in

@@ -11,15 +11,15 @@ use Rattle.std.specs.Prelude.{Option, Some, None, IsTrue, if◌then◌else◌, n
 use Rattle.card_rules.specs.declared.status.Sw.{Sw}
 use Rattle.card_rules.specs.declared.status.TheConstants.Sw.{WRONG_OFFSET, NO_ROOM}
 use Rattle.block_chain.specs.Chains.{chain_of, chain_bytes, bytes_of}
-use Rattle.block_chain.specs.Changes.{AppendsSome, Overwrites}
+use Rattle.block_chain.specs.ChainChanges.{AppendsSome, Overwrites}
 use Rattle.card_state.specs.FileTrees.{overwrite}
-use Rattle.block_chain.specs.Parts.{byte_over}
+use Rattle.block_chain.specs.ChainParts.{byte_over}
 use Rattle.block_chain.specs.laws.Bytes.{leads_blocks, length-bytes_of}
 use Rattle.block_chain.specs.laws.Overwriting.{index-overwrite, length-overwrite}
 use Rattle.ef_body.specs.declared.transparent.Transparent.{Transparent}
 use Rattle.ef_body.specs.Bodies.{transparent_bytes, IsTransparent}
 use Rattle.ef_body.specs.Refusals.{past_end, overlong}
-use Rattle.ef_body.specs.Changes.{TransparentBecomes}
+use Rattle.ef_body.specs.BodyChanges.{TransparentBecomes}
 use Rattle.ef_body.proofs.Putting.{chain_kept}
 use Rattle.ef_body.proofs.Refusing.{not_so}
 

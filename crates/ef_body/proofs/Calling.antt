@@ -6,12 +6,12 @@ use Rattle.std.specs.Prelude.{◌≡◌, ◌≤◌, ℕ, List, [], Option, Some,
 use Rattle.std.specs.Result.{result_err}
 use Rattle.card_rules.specs.declared.status.Sw.{Sw}
 use Rattle.undo_journal.specs.declared.error.StoreErr.{StoreErr}
-use Rattle.undo_journal.specs.Calls.{Reads, Changes}
+use Rattle.undo_journal.specs.StoreCalls.{Reads, Changes}
 use Rattle.undo_journal.specs.Memory.{Memory, committed, IsReady}
 use Rattle.undo_journal.specs.laws.Told.{changes_within, reads_change, reads_none}
 use Rattle.ef_body.specs.declared.error.BodyErr.{BodyErr}
 use Rattle.ef_body.specs.declared.error.BodyErr.TheVariants.{Refused, Store}
-use Rattle.ef_body.specs.Calls.{Commits, CommitsUnlessRefused, ReadsInto, ReadsUnlessRefused}
+use Rattle.ef_body.specs.BodyCalls.{Commits, CommitsUnlessRefused, ReadsInto, ReadsUnlessRefused}
 use Rattle.ef_body.proofs.Refusing.{store_decides, store_done, store_refuses, store_told}
 
 -- what is committed is something else too

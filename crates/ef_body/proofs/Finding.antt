@@ -10,8 +10,8 @@ use Rattle.std.specs.Prelude.{drop}
 use Rattle.std.specs.Prelude.{slice_index, nat_eq}
 use Rattle.std.specs.List.{filter, range_with_len, starts_with}
 use Rattle.card_rules.specs.declared.direction.Direction.{Direction}
-use Rattle.card_state.specs.RecordLists.{stands_in, numbers_on, found, record_of}
-use Rattle.block_chain.specs.Changes.{AppendsSome}
+use Rattle.card_state.specs.RecordLists.{stands_in, numbers_on, records_found, record_of}
+use Rattle.block_chain.specs.ChainChanges.{AppendsSome}
 
 -- a text stands where it begins at some place
 pub stands_at : (text bytes : List ℕ) (at : ℕ) → at < length bytes → starts_with nat_eq (drop at bytes) text ≡ true
@@ -61,7 +61,7 @@ filter-some test numbers step =
 pub found_some : (direction : Direction) (first last step : ℕ) (text : List ℕ) (records : List (List ℕ))
     (numbers : List ℕ) → length records ≡ last
     → numbers ≡ filter (λ (n : ℕ). stands_in text (record_of records n)) (take step (numbers_on direction first last))
-    → AppendsSome [] (found direction first text records) numbers
+    → AppendsSome [] (records_found direction first text records) numbers
 found_some direction first last step text records numbers many so_far =
     let test : ℕ → Bool = λ n. stands_in text (record_of records n) in
     record {

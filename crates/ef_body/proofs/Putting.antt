@@ -9,19 +9,19 @@ use Rattle.nvm_board.specs.declared.board.TheConstants.{PAGE_WORDS}
 use Rattle.undo_journal.specs.declared.layout.TheConstants.{GATE}
 use Rattle.block_chain.specs.declared.chain.Chain.{Chain}
 use Rattle.block_chain.specs.declared.layout.TheConstants.{FIRST_BLOCK_PAGE, MOST_BLOCKS, BLOCK_WORDS}
-use Rattle.block_chain.specs.Words.{word}
+use Rattle.block_chain.specs.BlockWords.{word}
 use Rattle.block_chain.specs.Counts.{count, IsNotIn}
 use Rattle.block_chain.specs.Chains.{chain_of, bytes_of, IsChain}
 use Rattle.undo_journal.specs.Spending.{transaction_writes}
 use Rattle.ef_body.specs.declared.layout.TheConstants.{UPDATE_WRITES}
-use Rattle.block_chain.specs.Changes.{Overwrites, touched_words, touched_blocks}
+use Rattle.block_chain.specs.ChainChanges.{Overwrites, touched_words, touched_blocks}
 use Rattle.block_chain.specs.laws.Bytes.{blocks_same, leads_blocks, block_in}
 use Rattle.block_chain.specs.laws.Chains.{leads_same, pages_are}
 use Rattle.block_chain.specs.laws.Footprints.{bytes_same, not_among}
 use Rattle.block_chain.specs.laws.Laying.{leads_count, pages_most}
 use Rattle.block_chain.specs.Writes.{put_writes}
 use Rattle.block_chain.specs.laws.Writes.{put_writes_most}
-use Rattle.ef_body.specs.Changes.{PutsRecord, update_writes}
+use Rattle.ef_body.specs.BodyChanges.{PutsRecord, update_writes}
 
 module _ (m mid : List ℕ) (c : Chain) (offset : ℕ) (bytes : List ℕ) (sized : IsMemory m)
     (is : IsChain m c.first (chain_of m c)) (over : Overwrites m (chain_of m c) offset bytes mid) where

@@ -10,7 +10,7 @@ use Rattle.undo_journal.specs.laws.Told.{told_is}
 use Rattle.ef_body.specs.declared.error.BodyErr.{BodyErr}
 use Rattle.ef_body.specs.declared.error.BodyErr.TheVariants.{Refused, Store}
 use Rattle.card_state.specs.RecordLists.{has_record}
-use Rattle.ef_body.specs.Refusals.{failure, Decides, DecidesUnlessFailed, IfRefused}
+use Rattle.ef_body.specs.Refusals.{why_failed, Decides, DecidesUnlessFailed, WhereRefused}
 
 -- what a test that gave false tells
 pub not_so : (b : Bool) (fact : Type 0) → (IsTrue b ↔ fact) → b ≡ false → fact → ⊥
@@ -34,18 +34,18 @@ module _ {T U : Type 0} (r : Result T StoreErr) (s : Result U BodyErr)
       decides None = none
       decides (Some e) = none
 
-  pub store_refuses : (fact : Type 0) → IfRefused (result_err s) fact
-  store_refuses fact = subst (λ (answer : Option BodyErr). IfRefused answer fact) (sym is) (refuses (result_err r))
+  pub store_refuses : (fact : Type 0) → WhereRefused (result_err s) fact
+  store_refuses fact = subst (λ (answer : Option BodyErr). WhereRefused answer fact) (sym is) (refuses (result_err r))
     where
-      refuses : (told : Option StoreErr) → IfRefused (option_map Store told) fact
+      refuses : (told : Option StoreErr) → WhereRefused (option_map Store told) fact
       refuses None = tt
       refuses (Some e) = tt
 
-  pub store_told : (P : Option StoreErr → Type 0) → P (result_err r) → P (failure (result_err s))
+  pub store_told : (P : Option StoreErr → Type 0) → P (result_err r) → P (why_failed (result_err s))
   store_told P holds =
-      subst (λ (answer : Option BodyErr). P (failure answer)) (sym is) (told (result_err r) holds)
+      subst (λ (answer : Option BodyErr). P (why_failed answer)) (sym is) (told (result_err r) holds)
     where
-      told : (told : Option StoreErr) → P told → P (failure (option_map Store told))
+      told : (told : Option StoreErr) → P told → P (why_failed (option_map Store told))
       told None holds = holds
       told (Some e) holds = holds
 

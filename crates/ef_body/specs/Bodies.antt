@@ -7,7 +7,7 @@ use Rattle.block_chain.specs.Chains.{IsChain, chain_of, chain_bytes}
 use Rattle.ef_body.specs.declared.transparent.Transparent.{Transparent}
 use Rattle.ef_body.specs.declared.linear.Linear.{Linear}
 use Rattle.ef_body.specs.declared.cyclic.Cyclic.{Cyclic}
-use Rattle.ef_body.specs.Records.{in_order, newest_first}
+use Rattle.ef_body.specs.Records.{linear_order, newest_first}
 
 -- The entry's word for its records: their number in the upper half, the slot of record 1 in the lower half.
 abbrev pub counts_word : ℕ → ℕ → ℕ
@@ -24,12 +24,12 @@ abbrev pub transparent_bytes : List ℕ → Transparent → List ℕ
 transparent_bytes m body = take body.size (chain_bytes m body.chain)
 
 -- The records of a linear EF, in number order.
-abbrev pub linear_records : List ℕ → Linear → List (List ℕ)
-linear_records m body = in_order body.record_length (chain_bytes m body.chain) (number_told m body.told_at)
+abbrev pub linear_body_records : List ℕ → Linear → List (List ℕ)
+linear_body_records m body = linear_order body.record_length (chain_bytes m body.chain) (number_told m body.told_at)
 
 -- The records of a cyclic EF, the newest first.
-abbrev pub cyclic_records : List ℕ → Cyclic → List (List ℕ)
-cyclic_records m body =
+abbrev pub cyclic_body_records : List ℕ → Cyclic → List (List ℕ)
+cyclic_body_records m body =
     newest_first body.record_length body.capacity (chain_bytes m body.chain) (start_told m body.told_at)
     (number_told m body.told_at)
 

@@ -3,6 +3,6 @@
 pub mod Records
 pub mod Refusals
 pub mod Bodies
-pub mod Changes
-pub mod Calls
+pub mod BodyCalls
+pub mod BodyChanges
 pub mod laws

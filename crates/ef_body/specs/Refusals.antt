@@ -20,16 +20,16 @@ DecidesUnlessFailed refusal (Some (Refused status)) = refusal ≡ Some status
 DecidesUnlessFailed refusal (Some (Store e)) = Unit {0}
 
 -- A fact that holds if the call is refused.
-abbrev pub IfRefused : Option BodyErr → Type 0 → Type 0
-IfRefused None fact = Unit {0}
-IfRefused (Some (Refused status)) fact = fact
-IfRefused (Some (Store e)) fact = Unit {0}
+abbrev pub WhereRefused : Option BodyErr → Type 0 → Type 0
+WhereRefused None fact = Unit {0}
+WhereRefused (Some (Refused status)) fact = fact
+WhereRefused (Some (Store e)) fact = Unit {0}
 
 -- The store's failure in a result. A refusal is none.
-abbrev pub failure : Option BodyErr → Option StoreErr
-failure None = None
-failure (Some (Refused status)) = None
-failure (Some (Store e)) = Some e
+abbrev pub why_failed : Option BodyErr → Option StoreErr
+why_failed None = None
+why_failed (Some (Refused status)) = None
+why_failed (Some (Store e)) = Some e
 
 -- There is no record of this number.
 abbrev pub missing_record : List (List ℕ) → ℕ → Option Sw

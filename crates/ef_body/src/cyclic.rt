@@ -4,15 +4,15 @@ ghost use Rattle.std.specs.Prelude.{refl, nat_le, if◌then◌else◌};
 ghost use Rattle.std.specs.Result.{result_err};
 ghost use Rattle.undo_journal.specs.Commits.{CommitsByGate};
 ghost use Rattle.undo_journal.specs.Memory.{committed, IsReady};
-ghost use Rattle.undo_journal.specs.Calls.{OnlyReads, Reads, Changes};
+ghost use Rattle.undo_journal.specs.StoreCalls.{OnlyReads, Reads, Changes};
 ghost use Rattle.ef_body.specs.declared.layout.TheConstants.{RECORD_WRITES};
 ghost use Rattle.card_rules.specs.declared.status.Sw.{Sw};
 ghost use Rattle.card_rules.specs.declared.status.TheConstants.Sw.{NO_ROOM};
 ghost use Rattle.card_state.specs.RecordLists.{front};
-ghost use Rattle.ef_body.specs.Refusals.{missing_record, unraised, failure};
-ghost use Rattle.ef_body.specs.Bodies.{cyclic_records, IsCyclic};
-ghost use Rattle.ef_body.specs.Changes.{CyclicBecomes, Increases};
-ghost use Rattle.ef_body.specs.Calls.{Commits, CommitsUnlessRefused, ReceivesSum};
+ghost use Rattle.ef_body.specs.Refusals.{missing_record, unraised, why_failed};
+ghost use Rattle.ef_body.specs.Bodies.{cyclic_body_records, IsCyclic};
+ghost use Rattle.ef_body.specs.BodyChanges.{CyclicBecomes, Increases};
+ghost use Rattle.ef_body.specs.BodyCalls.{Commits, CommitsUnlessRefused, ReceivesSum};
 
 use crate::error::{BodyErr, from_store};
 use crate::number::add;
@@ -40,7 +40,7 @@ pub struct Cyclic {
 impl RecordBody for Cyclic {
     ghost is_body = { IsCyclic };
 
-    ghost records_in = { cyclic_records };
+    ghost records_in = { cyclic_body_records };
 
     ghost ring_of = { λ body. body };
 
@@ -84,9 +84,9 @@ impl Cyclic {
         requires ready { IsReady store.old }
         requires body { IsCyclic (committed store.old) self }
         requires size { length bytes.now ≡ self.record_length }
-        ensures { CommitsUnlessRefused (missing_record (cyclic_records (committed store.old) self) 1)
-            (CyclicBecomes (committed store.old) self (front (length (cyclic_records (committed store.old) self))
-            bytes.now (cyclic_records (committed store.old) self))) RECORD_WRITES store.old store.new result }
+        ensures { CommitsUnlessRefused (missing_record (cyclic_body_records (committed store.old) self) 1)
+            (CyclicBecomes (committed store.old) self (front (length (cyclic_body_records (committed store.old) self))
+            bytes.now (cyclic_body_records (committed store.old) self))) RECORD_WRITES store.old store.new result }
     {
         let newest = self.find(1)?;
         from_store(newest.replace_oldest(store, bytes))
@@ -102,7 +102,7 @@ impl Cyclic {
         requires body { IsCyclic (committed store.old) self }
         requires size { length bytes.now ≡ self.record_length }
         ensures { CommitsUnlessRefused None (CyclicBecomes (committed store.old) self
-            (front self.capacity bytes.now (cyclic_records (committed store.old) self))) RECORD_WRITES store.old
+            (front self.capacity bytes.now (cyclic_body_records (committed store.old) self))) RECORD_WRITES store.old
             store.new result }
     {
         from_store(self.push_front(store, bytes))
@@ -117,7 +117,7 @@ impl Cyclic {
         requires body { IsCyclic (committed store.old) self }
         requires size { length bytes.now ≡ self.record_length }
         ensures { Commits (CyclicBecomes (committed store.old) self
-            (front self.capacity bytes.now (cyclic_records (committed store.old) self))) RECORD_WRITES store.old
+            (front self.capacity bytes.now (cyclic_body_records (committed store.old) self))) RECORD_WRITES store.old
             store.new result }
     {
         put_front(self, store, bytes, self.appended())
@@ -150,9 +150,9 @@ impl Cyclic {
         requires sent { length sent.now ≤ self.record_length }
         requires room { self.record_length ≤ N }
         ensures found { IfOk result (λ slot. (slot.ring ≡ self) × (slot.number ≡ 1)) }
-        ensures sum { ReceivesSum self.record_length (cyclic_records (committed store.old) self) sent.now
+        ensures sum { ReceivesSum self.record_length (cyclic_body_records (committed store.old) self) sent.now
             bytes.new.items result }
-        ensures store { Reads store.old store.new (failure (result_err result)) }
+        ensures store { Reads store.old store.new (why_failed (result_err result)) }
     {
         bytes.clear();
         let newest = self.find(1)?;
@@ -181,15 +181,15 @@ impl Cyclic {
         requires body { IsCyclic (committed store.old) self }
         requires sent { length sent.now ≤ self.record_length }
         requires room { self.record_length ≤ N }
-        ensures sum { ReceivesSum self.record_length (cyclic_records (committed store.old) self) sent.now
+        ensures sum { ReceivesSum self.record_length (cyclic_body_records (committed store.old) self) sent.now
             bytes.new.items result }
         ensures any_exit { (committed store.new ≡ committed store.old)
             ⊎ Increases (committed store.old) self sent.now (committed store.new) }
         ensures done { OnOk result (Increases (committed store.old) self sent.now (committed store.new)) }
-        ensures refused { (status : Sw) → unraised self.record_length (cyclic_records (committed store.old) self)
+        ensures refused { (status : Sw) → unraised self.record_length (cyclic_body_records (committed store.old) self)
             sent.now ≡ Some status → OnlyReads store.old store.new }
         ensures by_gate { CommitsByGate store.old store.new }
-        ensures store { Changes RECORD_WRITES store.old store.new (failure (result_err result)) }
+        ensures store { Changes RECORD_WRITES store.old store.new (why_failed (result_err result)) }
     {
         let newest = self.raise(store, sent, bytes)?;
         from_store(newest.replace_oldest(store, bytes))

@@ -5,9 +5,9 @@ ghost use Rattle.std.specs.Result.{result_err};
 ghost use Rattle.undo_journal.specs.Memory.{committed, IsReady};
 ghost use Rattle.ef_body.specs.declared.layout.TheConstants.{UPDATE_WRITES, RECORD_WRITES};
 ghost use Rattle.ef_body.specs.Refusals.{missing_record, full};
-ghost use Rattle.ef_body.specs.Bodies.{linear_records, ring_of, IsLinear};
-ghost use Rattle.ef_body.specs.Changes.{LinearBecomes};
-ghost use Rattle.ef_body.specs.Calls.{CommitsUnlessRefused};
+ghost use Rattle.ef_body.specs.Bodies.{linear_body_records, ring_of, IsLinear};
+ghost use Rattle.ef_body.specs.BodyChanges.{LinearBecomes};
+ghost use Rattle.ef_body.specs.BodyCalls.{CommitsUnlessRefused};
 ghost use Rattle.ef_body.specs.laws.Rings.{ring_is, ring_records};
 
 use crate::cyclic::Cyclic;
@@ -32,7 +32,7 @@ pub struct Linear {
 impl RecordBody for Linear {
     ghost is_body = { IsLinear };
 
-    ghost records_in = { linear_records };
+    ghost records_in = { linear_body_records };
 
     ghost ring_of = { ring_of };
 
@@ -79,8 +79,8 @@ impl Linear {
         requires ready { IsReady store.old }
         requires body { IsLinear (committed store.old) self }
         requires size { length bytes.now ≡ self.record_length }
-        ensures { CommitsUnlessRefused (missing_record (linear_records (committed store.old) self) number)
-            (LinearBecomes (committed store.old) self (slice_set (linear_records (committed store.old) self)
+        ensures { CommitsUnlessRefused (missing_record (linear_body_records (committed store.old) self) number)
+            (LinearBecomes (committed store.old) self (slice_set (linear_body_records (committed store.old) self)
             (number - 1) bytes.now)) UPDATE_WRITES store.old store.new result }
     {
         let slot = self.find(number)?;
@@ -96,8 +96,9 @@ impl Linear {
         requires ready { IsReady store.old }
         requires body { IsLinear (committed store.old) self }
         requires size { length bytes.now ≡ self.record_length }
-        ensures { CommitsUnlessRefused (full self.capacity (linear_records (committed store.old) self))
-            (LinearBecomes (committed store.old) self (linear_records (committed store.old) self ++ bytes.now ∷ []))
+        ensures { CommitsUnlessRefused (full self.capacity (linear_body_records (committed store.old) self))
+            (LinearBecomes (committed store.old) self (linear_body_records (committed store.old) self ++ bytes.now
+            ∷ []))
             RECORD_WRITES store.old store.new result }
     {
         let slot = self.find_room()?;

@@ -2,8 +2,8 @@
 ghost use Rattle.std.specs.Prelude.{◌≤◌};
 ghost use Rattle.undo_journal.specs.Memory.{committed, IsReady};
 ghost use Rattle.card_state.specs.RecordLists.{record_of};
-ghost use Rattle.ef_body.specs.Bodies.{cyclic_records, IsCyclic};
-ghost use Rattle.ef_body.specs.Calls.{ReadsInto};
+ghost use Rattle.ef_body.specs.Bodies.{cyclic_body_records, IsCyclic};
+ghost use Rattle.ef_body.specs.BodyCalls.{ReadsInto};
 
 use crate::slot::{RecordSlot, offset_of, slot_of};
 use arrayvec::ArrayVec;
@@ -23,7 +23,7 @@ impl RecordSlot {
         requires ready { IsReady store.old }
         requires body { IsCyclic (committed store.old) self.ring }
         requires room { self.ring.record_length ≤ N }
-        ensures { ReadsInto (record_of (cyclic_records (committed store.old) self.ring) self.number) store.old
+        ensures { ReadsInto (record_of (cyclic_body_records (committed store.old) self.ring) self.number) store.old
             store.new bytes.new.items result }
     {
         bytes.clear();

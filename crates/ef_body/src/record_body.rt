@@ -2,10 +2,10 @@
 ghost use Rattle.std.specs.Prelude.{◌≡◌, ◌≤◌, ℕ, List};
 ghost use Rattle.undo_journal.specs.Memory.{committed, IsReady};
 ghost use Rattle.ef_body.specs.declared.cyclic.Cyclic.{Cyclic};
-ghost use Rattle.card_state.specs.RecordLists.{record_of, found};
+ghost use Rattle.card_state.specs.RecordLists.{record_of, records_found};
 ghost use Rattle.ef_body.specs.Refusals.{missing_record};
-ghost use Rattle.ef_body.specs.Bodies.{cyclic_records, IsCyclic};
-ghost use Rattle.ef_body.specs.Calls.{FindsRecord, ReadsUnlessRefused};
+ghost use Rattle.ef_body.specs.Bodies.{cyclic_body_records, IsCyclic};
+ghost use Rattle.ef_body.specs.BodyCalls.{FindsRecord, ReadsUnlessRefused};
 
 use crate::cyclic::Cyclic;
 use crate::error::{BodyErr, from_store};
@@ -84,7 +84,7 @@ pub trait RecordBody: Copy {
         requires body { is_body (committed store.old) self }
         requires room { (ring_of self).records ≤ N }
         ensures { ReadsUnlessRefused (missing_record (records_in (committed store.old) self) first)
-            (found direction first text.now (records_in (committed store.old) self)) store.old store.new
+            (records_found direction first text.now (records_in (committed store.old) self)) store.old store.new
             numbers.new.items result }
     {
         numbers.clear();
@@ -97,5 +97,5 @@ pub trait RecordBody: Copy {
 
     /// The ring has the same records.
     ghost ring_records: { (m : List ℕ) (body : Self) → is_body m body
-        → cyclic_records m (ring_of body) ≡ records_in m body };
+        → cyclic_body_records m (ring_of body) ≡ records_in m body };
 }

@@ -3,10 +3,10 @@ ghost use Rattle.std.specs.Prelude.{◌≡◌, ◌≤◌, ◌<◌, ◌+◌, ◌-
 ghost use Rattle.std.specs.Prelude.{slice_index};
 ghost use Rattle.std.specs.List.{starts_with};
 ghost use Rattle.undo_journal.specs.Memory.{committed, IsReady};
-ghost use Rattle.undo_journal.specs.Calls.{Learns};
-ghost use Rattle.card_state.specs.RecordLists.{record_of, stands_in, numbers_on, found};
-ghost use Rattle.ef_body.specs.Bodies.{cyclic_records, IsCyclic};
-ghost use Rattle.ef_body.specs.Calls.{ReadsInto};
+ghost use Rattle.undo_journal.specs.StoreCalls.{Learns};
+ghost use Rattle.card_state.specs.RecordLists.{record_of, stands_in, numbers_on, records_found};
+ghost use Rattle.ef_body.specs.Bodies.{cyclic_body_records, IsCyclic};
+ghost use Rattle.ef_body.specs.BodyCalls.{ReadsInto};
 
 use crate::cyclic::Cyclic;
 use crate::layout::MOST_RECORD_BYTES;
@@ -50,7 +50,7 @@ fn record_holds<B: Board>(
     requires first { 1 ≤ number }
     requires last { number ≤ body.records }
     ensures { Learns store.old store.new result (λ holds. holds
-        ≡ stands_in text.now (record_of (cyclic_records (committed store.old) body) number)) }
+        ≡ stands_in text.now (record_of (cyclic_body_records (committed store.old) body) number)) }
 {
     let mut bytes = ArrayVec::<u8, MOST_RECORD_BYTES>::new();
     let slot = RecordSlot { ring: body, number };
@@ -115,7 +115,8 @@ impl RecordSlot {
         requires ready { IsReady store.old }
         requires body { IsCyclic (committed store.old) self.ring }
         requires room { self.ring.records ≤ N }
-        ensures { ReadsInto (found direction self.number text.now (cyclic_records (committed store.old) self.ring))
+        ensures { ReadsInto (records_found direction self.number text.now (cyclic_body_records
+            (committed store.old) self.ring))
             store.old store.new numbers.new.items result }
     {
         numbers.clear();

@@ -3,12 +3,12 @@ ghost use Rattle.std.specs.Prelude.{◌≡◌, ◌≤◌, ◌<◌, ◌+◌, ◌�
 ghost use Rattle.undo_journal.specs.Memory.{committed, IsReady};
 ghost use Rattle.undo_journal.specs.Spending.{transaction_writes, WritesAtMost};
 ghost use Rattle.card_state.specs.FileTrees.{overwrite};
-ghost use Rattle.block_chain.specs.Changes.{touched_blocks, touched_words};
+ghost use Rattle.block_chain.specs.ChainChanges.{touched_blocks, touched_words};
 ghost use Rattle.block_chain.specs.Writes.{put_writes};
 ghost use Rattle.ef_body.specs.Refusals.{past_end, overlong};
 ghost use Rattle.ef_body.specs.Bodies.{transparent_bytes, IsTransparent};
-ghost use Rattle.ef_body.specs.Changes.{update_writes, TransparentBecomes};
-ghost use Rattle.ef_body.specs.Calls.{CommitsUnlessRefused, ReadsUnlessRefused};
+ghost use Rattle.ef_body.specs.BodyChanges.{update_writes, TransparentBecomes};
+ghost use Rattle.ef_body.specs.BodyCalls.{CommitsUnlessRefused, ReadsUnlessRefused};
 
 use crate::error::{BodyErr, from_store};
 use crate::writing::put_bytes;

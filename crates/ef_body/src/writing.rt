@@ -2,18 +2,18 @@
 ghost use Rattle.std.specs.Prelude.{◌≡◌, ◌≤◌, ◌<◌, ◌+◌, ◌*◌, ◌-◌, ◌++◌, ◌∷◌, [], length, slice_set, OnOk};
 ghost use Rattle.std.specs.Result.{result_err};
 ghost use Rattle.undo_journal.specs.Memory.{committed, current, room, InRuns, IsOpen, IsReady};
-ghost use Rattle.undo_journal.specs.Calls.{SetsIn};
+ghost use Rattle.undo_journal.specs.StoreCalls.{SetsIn};
 ghost use Rattle.undo_journal.specs.Lent.{memory_of};
 ghost use Rattle.undo_journal.specs.declared.layout.TheConstants.{GATE};
 ghost use Rattle.block_chain.specs.Chains.{chain_of as blocks_of_chain};
-ghost use Rattle.block_chain.specs.Changes.{Overwrites, touched_blocks, touched_words};
+ghost use Rattle.block_chain.specs.ChainChanges.{Overwrites, touched_blocks, touched_words};
 ghost use Rattle.block_chain.specs.Writes.{put_writes};
 ghost use Rattle.ef_body.specs.declared.layout.TheConstants.{RECORD_WRITES, UPDATE_WRITES};
 ghost use Rattle.card_state.specs.RecordLists.{front};
-ghost use Rattle.ef_body.specs.Bodies.{counts_word, cyclic_records, IsCyclic, LieIn};
+ghost use Rattle.ef_body.specs.Bodies.{counts_word, cyclic_body_records, IsCyclic, LieIn};
 ghost use Rattle.undo_journal.specs.Spending.{transaction_writes};
-ghost use Rattle.ef_body.specs.Changes.{CyclicBecomes, PutsRecord, RecordsBecome};
-ghost use Rattle.ef_body.specs.Calls.{Commits};
+ghost use Rattle.ef_body.specs.BodyChanges.{CyclicBecomes, PutsRecord, RecordsBecome};
+ghost use Rattle.ef_body.specs.BodyCalls.{Commits};
 
 use crate::cyclic::Cyclic;
 use crate::slot::{FreeSlot, RecordSlot, offset_of, slot_of};
@@ -105,7 +105,7 @@ pub(crate) fn put_front<B: Board>(
     requires some { 1 ≤ records }
     requires most { records ≤ body.capacity }
     requires more { records ≤ body.records + 1 }
-    ensures { Commits (CyclicBecomes (committed store.old) body (front records bytes.now (cyclic_records
+    ensures { Commits (CyclicBecomes (committed store.old) body (front records bytes.now (cyclic_body_records
         (committed store.old) body))) RECORD_WRITES store.old store.new result }
 {
     let start = slot_of(body, body.capacity);
@@ -124,7 +124,7 @@ impl RecordSlot {
         requires body { IsCyclic (committed store.old) self.ring }
         requires size { length bytes.now ≡ self.ring.record_length }
         ensures { Commits (RecordsBecome (committed store.old) self.ring (slice_set
-            (cyclic_records (committed store.old) self.ring) (self.number - 1) bytes.now)) UPDATE_WRITES store.old
+            (cyclic_body_records (committed store.old) self.ring) (self.number - 1) bytes.now)) UPDATE_WRITES store.old
             store.new result }
     {
         let offset = offset_of(self.ring, slot_of(self.ring, self.number));
@@ -145,8 +145,8 @@ impl RecordSlot {
         requires ready { IsReady store.old }
         requires body { IsCyclic (committed store.old) self.ring }
         requires size { length bytes.now ≡ self.ring.record_length }
-        ensures { Commits (CyclicBecomes (committed store.old) self.ring (front (length (cyclic_records
-            (committed store.old) self.ring)) bytes.now (cyclic_records (committed store.old) self.ring)))
+        ensures { Commits (CyclicBecomes (committed store.old) self.ring (front (length (cyclic_body_records
+            (committed store.old) self.ring)) bytes.now (cyclic_body_records (committed store.old) self.ring)))
             RECORD_WRITES store.old store.new result }
     {
         put_front(self.ring, store, bytes, self.ring.records)
@@ -163,7 +163,7 @@ impl FreeSlot {
         requires ready { IsReady store.old }
         requires body { IsCyclic (committed store.old) self.ring }
         requires size { length bytes.now ≡ self.ring.record_length }
-        ensures { Commits (RecordsBecome (committed store.old) self.ring (cyclic_records (committed store.old)
+        ensures { Commits (RecordsBecome (committed store.old) self.ring (cyclic_body_records (committed store.old)
             self.ring ++ bytes.now ∷ [])) RECORD_WRITES store.old store.new result }
     {
         let ring = self.ring;

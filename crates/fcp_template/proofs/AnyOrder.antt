@@ -14,10 +14,11 @@ use Rattle.card_model.specs.declared.fault.FcpFault.{FcpFault}
 use Rattle.card_model.specs.declared.descriptor.Structure.{Structure}
 use Rattle.card_model.specs.declared.descriptor.Descriptor.{Descriptor}
 use Rattle.card_model.specs.declared.descriptor.Descriptor.TheVariants as descriptors
-use Rattle.card_model.specs.TemplateGrammar.{DataObject, IsTemplate, is_tag, descriptor_of, identifier_of, name_of}
-use Rattle.card_model.specs.TemplateGrammar.{short_of, number_of, size_of, records_of, life_cycle_of, rule_of, ◌>>=◌}
+use Rattle.card_model.specs.TemplateGrammar.{DataObject, IsTemplate, is_tag, descriptor_of, identifier_of, name_read}
+use Rattle.card_model.specs.TemplateGrammar.{short_read, number_read, size_of, records_read, life_cycle_of, rule_read}
+use Rattle.card_model.specs.TemplateGrammar.{◌>>=◌}
 use Rattle.card_model.specs.TemplateGrammar.{has, value_at, is_df_descriptor, count_of, is_again, is_missing, is_twice}
-use Rattle.card_model.specs.TemplateGrammar.{has_unknown, df_of, transparent_of, structured, record_file_of, kind_of}
+use Rattle.card_model.specs.TemplateGrammar.{has_unknown, df_of, transparent_of, structured, record_file_of, kind_read}
 use Rattle.card_model.specs.TemplateGrammar.{fcp_of, meaning, FcpReads}
 use Rattle.fcp_template.proofs.OneReading.{reading_of_template}
 
@@ -177,12 +178,12 @@ record SameValues (os ps : List DataObject) : Type 0 where
 
 df_same : (os ps : List DataObject) → SameValues os ps → df_of os ≡ df_of ps
 unfolding df_of
-df_same os ps s = λ i. (name_of (s.name i) >>= λ name.
-    if s.has_short i || s.has_size i && not (is_some (s.size i >>= number_of)) then None else Some (kinds.Df name))
+df_same os ps s = λ i. (name_read (s.name i) >>= λ name.
+    if s.has_short i || s.has_size i && not (is_some (s.size i >>= number_read)) then None else Some (kinds.Df name))
 
 transparent_same : (os ps : List DataObject) → SameValues os ps → transparent_of os ≡ transparent_of ps
 unfolding transparent_of
-transparent_same os ps s = λ i. (short_of (s.short i) >>= λ short. size_of (s.size i >>= number_of) >>= λ size. if
+transparent_same os ps s = λ i. (short_read (s.short i) >>= λ short. size_of (s.size i >>= number_read) >>= λ size. if
     s.has_name i then None else Some (kinds.Transparent short size))
 
 record_file_same : (os ps : List DataObject) → SameValues os ps
@@ -190,11 +191,12 @@ record_file_same : (os ps : List DataObject) → SameValues os ps
     → record_file_of structure record_length existing os ≡ record_file_of structure record_length existing ps
 unfolding record_file_of
 record_file_same os ps s structure record_length existing = λ i.
-    (short_of (s.short i) >>= λ short. size_of (s.size i >>= number_of) >>= λ size. records_of record_length existing
+    (short_read (s.short i) >>= λ short. size_of
+    (s.size i >>= number_read) >>= λ size. records_read record_length existing
     size >>= λ records. if s.has_name i then None else Some (structured structure short records))
 
 kind_same : (os ps : List DataObject) → SameValues os ps → (descriptor : Descriptor)
-    → kind_of descriptor os ≡ kind_of descriptor ps
+    → kind_read descriptor os ≡ kind_read descriptor ps
 kind_same os ps s descriptors.Df = df_same os ps s
 kind_same os ps s descriptors.Transparent = transparent_same os ps s
 kind_same os ps s (descriptors.Records structure record_length existing) =
@@ -205,7 +207,7 @@ unfolding fcp_of
 fcp_same os ps s = λ i.
     (s.descriptor i >>= descriptor_of >>= λ descriptor. s.identifier i >>= identifier_of >>= λ identifier. kind_same os
     ps s descriptor i >>= λ kind.
-    life_cycle_of (s.life_cycle i) >>= λ life_cycle. s.rule i >>= rule_of >>= λ rule.
+    life_cycle_of (s.life_cycle i) >>= λ life_cycle. s.rule i >>= rule_read >>= λ rule.
     if s.unknown i then None else Some (record
     { identifier = identifier; life_cycle = life_cycle; rule = rule; kind = kind }))
 

@@ -21,24 +21,25 @@ use Rattle.card_model.specs.declared.descriptor.Structure.{Structure}
 use Rattle.card_model.specs.declared.descriptor.Structure.TheVariants.{Linear, Cyclic}
 use Rattle.card_model.specs.declared.descriptor.Descriptor.{Descriptor}
 use Rattle.card_model.specs.declared.descriptor.Descriptor.TheVariants as descriptors
-use Rattle.card_model.specs.TemplateGrammar.{DataObject, objects_text, descriptor_of, identifier_of, name_of, short_of}
-use Rattle.card_model.specs.TemplateGrammar.{number_of, size_of, records_of, life_cycle_of, rule_of, ◌>>=◌, has}
+use Rattle.card_model.specs.TemplateGrammar.{DataObject, objects_text, descriptor_of, identifier_of, name_read}
+use Rattle.card_model.specs.TemplateGrammar.{short_read}
+use Rattle.card_model.specs.TemplateGrammar.{number_read, size_of, records_read, life_cycle_of, rule_read, ◌>>=◌, has}
 use Rattle.card_model.specs.TemplateGrammar.{value_at, data_bytes, is_missing, is_twice, has_unknown, df_of}
-use Rattle.card_model.specs.TemplateGrammar.{transparent_of, structured, record_file_of, kind_of, fcp_of, meaning}
+use Rattle.card_model.specs.TemplateGrammar.{transparent_of, structured, record_file_of, kind_read, fcp_of, meaning}
 use Rattle.card_model.specs.TemplateGrammar.{FcpReads}
 use Rattle.card_state.specs.FileControl.{IsShort, IsSize, IsRecords, IsKind}
-use Rattle.card_model.specs.Templates.{IsShortSaid, IsInFull, two_bytes, short_value, fcp_objects, fcp_text}
+use Rattle.card_model.specs.Templates.{IsShortSaid, IsInFull, in_two_bytes, short_value, fcp_objects, fcp_text}
 
 -- ---- each field
 
 two_bytes_again : (n : ℕ) → 256 * (n / 256) + n % 256 ≡ n
 two_bytes_again n = omega arith
 
-identifier_again : (n : ℕ) → n ≢ 0x3F00 → n ≢ 0x3FFF → n ≢ 0xFFFF → identifier_of (two_bytes n) ≡ Some n
+identifier_again : (n : ℕ) → n ≢ 0x3F00 → n ≢ 0x3FFF → n ≢ 0xFFFF → identifier_of (in_two_bytes n) ≡ Some n
 identifier_again n mf current reserved = rw (two_bytes_again n) (grind (arith, nat_tests, common_steps))
 
 short_again : (short : ShortIdentifier) → IsShort short → short ≢ Absent
-    → short_of (Some (short_value short)) ≡ Some short
+    → short_read (Some (short_value short)) ≡ Some short
 short_again Absent full said = absurd (said refl)
 short_again Empty full said = refl
 short_again (Given n) full said =
@@ -46,7 +47,7 @@ short_again (Given n) full said =
     let high : n * 8 / 8 ≡ n = omega arith in
     rw (low, high) (grind (arith, nat_tests, common_steps))
 
-size_again : (n : ℕ) → IsSize n → size_of (number_of (two_bytes n)) ≡ Some n
+size_again : (n : ℕ) → IsSize n → size_of (number_read (in_two_bytes n)) ≡ Some n
 size_again n full = rw (two_bytes_again n) (grind (arith, nat_tests, common_steps))
 
 -- a number above 0 that a length divides is at least one length
@@ -55,14 +56,14 @@ one_at_least m zero n e some = omega arith
 one_at_least m (suc q) n e some = omega arith
 
 records_again : (records : Records) → IsRecords records
-    → records_of records.record_length (Some records.existing) records.size ≡ Some records
+    → records_read records.record_length (Some records.existing) records.size ≡ Some records
 records_again records full =
     let q = records.size / records.record_length in
     let whole : records.size ≡ records.record_length * q = omega (arith, full.multiple, full.shortest) in
     let some : 1 ≤ q = one_at_least records.record_length q records.size whole full.size.least in
     rw full.multiple (grind (arith, nat_tests, common_steps, some))
 
-name_again : (name : List ℕ) → (1 ≤ length name) × (length name ≤ 16) → name_of (Some name) ≡ Some (Some name)
+name_again : (name : List ℕ) → (1 ≤ length name) × (length name ≤ 16) → name_read (Some name) ≡ Some (Some name)
 name_again name full = grind (arith, nat_tests, common_steps)
 
 life_cycle_again : (state : LifeCycle) → state ≢ Terminated
@@ -73,7 +74,7 @@ life_cycle_again Deactivated live = refl
 life_cycle_again Activated live = refl
 life_cycle_again Terminated live = absurd (live refl)
 
-rule_again : (rule : List ℕ) → IsTrue (is_rule rule) → rule_of rule ≡ Some rule
+rule_again : (rule : List ℕ) → IsTrue (is_rule rule) → rule_read rule ≡ Some rule
 rule_again rule e = rw e refl
 
 short_length : (short : ShortIdentifier) → length (short_value short) ≤ 1
@@ -83,12 +84,13 @@ short_length (Given n) = omega arith
 
 -- ---- the whole, from what its objects tell
 
-df_is : (os : List DataObject) (name : Option (List ℕ)) → name_of (value_at os 0x84) ≡ Some name → has os 0x88 ≡ false
+df_is : (os : List DataObject) (name : Option (List ℕ)) → name_read (value_at os 0x84) ≡ Some name → has os 0x88 ≡ false
     → has os 0x80 ≡ false → df_of os ≡ Some (kinds.Df name)
 unfolding df_of
 df_is os name e f g = rw (e, f, g) refl
 
-transparent_is : (os : List DataObject) (short : ShortIdentifier) (size : ℕ) → short_of (value_at os 0x88) ≡ Some short
+transparent_is : (os : List DataObject) (short : ShortIdentifier) (size : ℕ)
+    → short_read (value_at os 0x88) ≡ Some short
     → size_of (data_bytes os) ≡ Some size → has os 0x84 ≡ false
     → transparent_of os ≡ Some (kinds.Transparent short size)
 unfolding transparent_of
@@ -96,16 +98,16 @@ transparent_is os short size e f g = rw (e, f, g) refl
 
 record_file_is : (structure : Structure) (os : List DataObject) (short : ShortIdentifier) (size : ℕ)
     (record_length existing : ℕ) (records : Records)
-    → short_of (value_at os 0x88) ≡ Some short → size_of (data_bytes os) ≡ Some size
-    → records_of record_length (Some existing) size ≡ Some records → has os 0x84 ≡ false
+    → short_read (value_at os 0x88) ≡ Some short → size_of (data_bytes os) ≡ Some size
+    → records_read record_length (Some existing) size ≡ Some records → has os 0x84 ≡ false
     → record_file_of structure record_length (Some existing) os ≡ Some (structured structure short records)
 unfolding record_file_of
 record_file_is structure os short size record_length existing records e f g h = rw (e, f, g, h) refl
 
 fcp_is : (os : List DataObject) (descriptor : Descriptor) (fcp : Fcp)
     → (value_at os 0x82 >>= descriptor_of) ≡ Some descriptor
-    → (value_at os 0x83 >>= identifier_of) ≡ Some fcp.identifier → kind_of descriptor os ≡ Some fcp.kind
-    → life_cycle_of (value_at os 0x8A) ≡ Some fcp.life_cycle → (value_at os 0x8C >>= rule_of) ≡ Some fcp.rule
+    → (value_at os 0x83 >>= identifier_of) ≡ Some fcp.identifier → kind_read descriptor os ≡ Some fcp.kind
+    → life_cycle_of (value_at os 0x8A) ≡ Some fcp.life_cycle → (value_at os 0x8C >>= rule_read) ≡ Some fcp.rule
     → has_unknown os ≡ false → fcp_of os ≡ Some fcp
 unfolding fcp_of
 fcp_is os descriptor fcp d i k l r u = rw (d, i, k, l, r, u) refl

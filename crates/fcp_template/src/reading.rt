@@ -5,13 +5,14 @@ ghost use Rattle.std.specs.Option.{option_copied};
 ghost use Rattle.card_model.specs.declared.fault.FcpFault.{FcpFault};
 ghost use Rattle.card_state.specs.declared.fcp.Fcp.{Fcp};
 ghost use Rattle.fcp_template.specs.TagParts.{tag_byte};
-ghost use Rattle.card_model.specs.TemplateGrammar.{is_tag, identifier_of, name_of, short_of, number_of, size_of};
-ghost use Rattle.card_model.specs.TemplateGrammar.{records_of, life_cycle_of, rule_of, descriptor_of, has, value_at};
+ghost use Rattle.card_model.specs.TemplateGrammar.{is_tag, identifier_of, name_read, short_read, number_read, size_of};
+ghost use Rattle.card_model.specs.TemplateGrammar.{records_read, life_cycle_of, rule_read, descriptor_of, has};
+ghost use Rattle.card_model.specs.TemplateGrammar.{value_at};
 ghost use Rattle.card_model.specs.TemplateGrammar.{data_bytes, is_df_descriptor, tells_of_df, count_of, is_again};
 ghost use Rattle.card_model.specs.TemplateGrammar.{is_missing, is_twice, has_unknown, df_of, transparent_of};
-ghost use Rattle.card_model.specs.TemplateGrammar.{◌>>=◌ as and_then, record_file_of, kind_of, fcp_of, meaning};
+ghost use Rattle.card_model.specs.TemplateGrammar.{◌>>=◌ as and_then, record_file_of, kind_read, fcp_of, meaning};
 ghost use Rattle.card_model.specs.TemplateGrammar.{FcpReads, fcp_read};
-ghost use Rattle.card_state.specs.FileControl.{IsShort, IsSize, IsName, IsRecords, IsKind, IsCreatable};
+ghost use Rattle.card_state.specs.FileControl.{IsShort, IsSize, IsDfName, IsRecords, IsKind, IsCreatable};
 ghost use Rattle.card_rules.specs.declared.life_cycle.LifeCycle.TheVariants.{Terminated};
 
 use crate::descriptor::{DF, SHAREABLE_DF, descriptor_of};
@@ -181,14 +182,14 @@ fn identifier_at(objects: &[Object<'_>]) -> Option<u16>
 
 /// Returns the access rule in object 8C.
 fn rule_at(objects: &[Object<'_>]) -> Option<Compact>
-    ensures value { result ≡ and_then (value_at objects.now 0x8C) rule_of }
+    ensures value { result ≡ and_then (value_at objects.now 0x8C) rule_read }
 {
     Compact::parse(value_at(objects, Tag::CompactRule)?)
 }
 
 /// Returns the kind of a file, from its descriptor and its objects.
 fn kind_of<'a>(descriptor: Descriptor, objects: &[Object<'a>]) -> Option<FileKind<'a>>
-    ensures value { result ≡ kind_of descriptor objects.now }
+    ensures value { result ≡ kind_read descriptor objects.now }
     ensures ranges { IfSome result IsKind }
 {
     match descriptor {
@@ -285,8 +286,8 @@ fn identifier_of(value: &[u8]) -> Option<u16>
 
 /// Returns the name in object 84, 1 to 16 bytes.
 fn name_of<'a>(value: Option<&'a [u8]>) -> Option<Option<DfName<'a>>>
-    ensures value { result ≡ name_of (option_copied value.entry) }
-    ensures ranges { IfSome result IsName }
+    ensures value { result ≡ name_read (option_copied value.entry) }
+    ensures ranges { IfSome result IsDfName }
 {
     match value {
         None => Some(None),
@@ -297,7 +298,7 @@ fn name_of<'a>(value: Option<&'a [u8]>) -> Option<Option<DfName<'a>>>
 /// Returns the short identifier in object 88, if present.
 /// It is 1 to 30, in the upper five bits of its byte.
 fn short_of(value: Option<&[u8]>) -> Option<ShortIdentifier>
-    ensures value { result ≡ short_of (option_copied value.entry) }
+    ensures value { result ≡ short_read (option_copied value.entry) }
     ensures ranges { IfSome result IsShort }
 {
     match value {
@@ -324,7 +325,7 @@ fn data_bytes(objects: &[Object<'_>]) -> Option<u32>
 
 /// Returns a big-endian number of two to four bytes.
 fn number_of(value: &[u8]) -> Option<u32>
-    ensures { result ≡ number_of value.now }
+    ensures { result ≡ number_read value.now }
 {
     match *value {
         [a, b] => Some(u32::from_be_bytes([0, 0, a, b])),
@@ -349,7 +350,7 @@ fn size_of(number: Option<u32>) -> Option<u16>
 /// There are 1 to 254 records of 1 to 255 bytes. The descriptor gives how many exist, by default all.
 fn records_of(record_length: u16, existing: Option<u8>, size: u16) -> Option<Records>
     requires { IsSize size }
-    ensures value { result ≡ records_of record_length existing size }
+    ensures value { result ≡ records_read record_length existing size }
     ensures ranges { IfSome result IsRecords }
 {
     if !is_filled(size, record_length) {

@@ -4,7 +4,7 @@ ghost use Rattle.std.specs.Prelude.{◌≡◌, ◌+◌, ◌≤◌, [], ◌∷◌
 ghost use Rattle.fcp_template.specs.TagParts.{tag_byte};
 ghost use Rattle.card_model.specs.TemplateGrammar.{object_text, objects_text};
 ghost use Rattle.card_state.specs.FileControl.{IsKind, IsShort};
-ghost use Rattle.card_model.specs.Templates.{IsInFull, data_object, two_bytes, short_value, descriptor_value};
+ghost use Rattle.card_model.specs.Templates.{IsInFull, data_object, in_two_bytes, short_value, descriptor_value};
 ghost use Rattle.card_model.specs.Templates.{kind_objects, fcp_objects, fcp_text};
 
 use crate::descriptor::{
@@ -67,7 +67,7 @@ fn put_descriptor(kind: &FileKind<'_>, body: &mut Body)
 fn put_record_descriptor(byte: u8, records: &Records, body: &mut Body)
     requires room { length body.old.items + 7 ≤ 127 }
     ensures { body.new.items ≡ body.old.items ++ object_text
-        (data_object 0x82 (byte ∷ 0x21 ∷ two_bytes records.now.record_length ++ records.now.existing ∷ [])) }
+        (data_object 0x82 (byte ∷ 0x21 ∷ in_two_bytes records.now.record_length ++ records.now.existing ∷ [])) }
 {
     let [high, low] = two_bytes(u16::from(records.record_length));
     put(
@@ -99,7 +99,7 @@ fn put_short_and_size(short: ShortIdentifier, size: u16, body: &mut Body)
     requires room { length body.old.items + 7 ≤ 127 }
     requires ranges { IsShort short }
     ensures { body.new.items ≡ body.old.items ++ objects_text
-        (data_object 0x88 (short_value short) ∷ data_object 0x80 (two_bytes size) ∷ []) }
+        (data_object 0x88 (short_value short) ∷ data_object 0x80 (in_two_bytes size) ∷ []) }
 {
     match short {
         ShortIdentifier::Given(number) => put(body, Tag::ShortFileIdentifier, &[number * 8]),
@@ -125,7 +125,7 @@ fn put(body: &mut Body, tag: Tag, value: &[u8])
 
 /// Returns a number in two bytes, big-endian.
 fn two_bytes(number: u16) -> [u8; 2]
-    ensures { result ≡ two_bytes number }
+    ensures { result ≡ in_two_bytes number }
 {
     number.to_be_bytes()
 }

@@ -9,9 +9,9 @@ use Rattle.card_state.specs.declared.fcp.FileKind.TheVariants as kinds
 use Rattle.card_state.specs.FileControl.{size_of_kind, name_bytes}
 use Rattle.block_chain.specs.declared.layout.TheConstants.{BLOCK_BYTES}
 use Rattle.block_chain.specs.declared.chain.Chain.{Chain}
-use Rattle.block_chain.specs.Words.{word, page_words}
+use Rattle.block_chain.specs.BlockWords.{word, page_words}
 use Rattle.block_chain.specs.Chains.{free_chain, bytes_of}
-use Rattle.block_chain.specs.Changes.{OnlyContent, Takes}
+use Rattle.block_chain.specs.ChainChanges.{OnlyContent, Takes}
 use Rattle.file_tree.specs.Formats.{block_count}
 use Rattle.file_tree.specs.declared.layout.TheConstants.{FIRST_ENTRY_PAGE}
 use Rattle.file_tree.specs.declared.entry.Entry.{Entry}
@@ -30,7 +30,7 @@ TellsFreeEntry t None = (f : ℕ) → f < 64 → (entry_in t f).kind ≢ 0
 TellsFreeEntry t (Some e) = (e < 64) × ((entry_in t e).kind ≡ 0)
 
 -- The entry is free, the DF isn't on the last level, and there are enough free blocks.
-pub record IsPlace (m : List ℕ) (df : ℕ) (kind : FileKind) (e : ℕ) : Type 0 where
+pub record IsPlaceFor (m : List ℕ) (df : ℕ) (kind : FileKind) (e : ℕ) : Type 0 where
   pub small : e < 64
   pub free : (entry_in (table m) e).kind ≡ 0
   pub level : ancestor (table m) 6 df ≡ 0
@@ -41,14 +41,14 @@ abbrev pub TellsPlace : List ℕ → ℕ → FileKind → Place → Type 0
 TellsPlace m df kind (Refused status) =
     place_refusal (block_count m) (tree_of m) (path_of (table m) df) kind ≡ Some status
 TellsPlace m df kind (At e) =
-    (place_refusal (block_count m) (tree_of m) (path_of (table m) df) kind ≡ None) × IsPlace m df kind e
+    (place_refusal (block_count m) (tree_of m) (path_of (table m) df) kind ≡ None) × IsPlaceFor m df kind e
 
 -- The place of a new file, or the first of all refusals.
 abbrev pub FindsPlace : List ℕ → ℕ → Fcp → Place → Type 0
 FindsPlace m df fcp (Refused status) =
     creation_refusal (block_count m) (tree_of m) (path_of (table m) df) fcp ≡ Some status
 FindsPlace m df fcp (At e) = (taken_refusal (tree_of m) (path_of (table m) df) fcp ≡ None)
-    × (place_refusal (block_count m) (tree_of m) (path_of (table m) df) fcp.kind ≡ None) × IsPlace m df fcp.kind e
+    × (place_refusal (block_count m) (tree_of m) (path_of (table m) df) fcp.kind ≡ None) × IsPlaceFor m df fcp.kind e
 
 -- The bytes, padded with zeros to length n.
 abbrev pub padded : ℕ → List ℕ → List ℕ

@@ -7,7 +7,7 @@ use Rattle.file_tree.specs.Formats.{block_count}
 use Rattle.card_state.specs.Spaces.{free_space}
 use Rattle.file_tree.specs.Table.{table, path_of, IsUsed}
 use Rattle.file_tree.specs.Trees.{tree_of}
-use Rattle.file_tree.specs.Changes.{Creates, with_freed}
+use Rattle.file_tree.specs.TreeChanges.{Creates, with_freed}
 use Rattle.file_tree.specs.Indexes.{AddsEntry}
 use Rattle.card_state.specs.NewFiles.{new_file, short_of_new}
 use Rattle.file_changes.specs.CreationRefusals.{creation_refusal}

@@ -3,9 +3,9 @@ use Rattle.std.specs.Prelude.{◌≡◌, ◌≢◌, ◌==◌, ◌⊎◌, ◌<◌
 use Rattle.std.specs.List.{range_with_len, sum_by}
 use Rattle.nvm_board.specs.declared.board.TheConstants.{PAGE_WORDS}
 use Rattle.block_chain.specs.declared.chain.Chain.{Chain}
-use Rattle.block_chain.specs.Words.{word}
+use Rattle.block_chain.specs.BlockWords.{word}
 use Rattle.block_chain.specs.Chains.{HasFree, AreApart}
-use Rattle.block_chain.specs.Changes.{GivesBack}
+use Rattle.block_chain.specs.ChainChanges.{GivesBack}
 use Rattle.block_chain.specs.Layout.{chains_of}
 use Rattle.file_tree.specs.declared.layout.TheConstants.{FIRST_ENTRY_PAGE}
 use Rattle.card_state.specs.declared.limits.TheConstants.{ENTRIES}

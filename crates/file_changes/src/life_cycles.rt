@@ -5,13 +5,13 @@ ghost use Rattle.std.specs.Result.{result_err};
 ghost use Rattle.undo_journal.specs.Undo.{IsDataAddress};
 ghost use Rattle.undo_journal.specs.Commits.{CommitsByGate};
 ghost use Rattle.undo_journal.specs.Memory.{committed, IsReady};
-ghost use Rattle.undo_journal.specs.Calls.{Learns, OnlyReads, Changes};
+ghost use Rattle.undo_journal.specs.StoreCalls.{Learns, OnlyReads, Changes};
 ghost use Rattle.card_rules.specs.LifeCycle.{life_cycle_byte};
 ghost use Rattle.card_state.specs.FileLives.{life_at, next_life};
 ghost use Rattle.file_tree.specs.States.{with_card_terminated, ChangesLife};
 ghost use Rattle.file_tree.specs.Table.{table, entry_in, path_of};
 ghost use Rattle.file_tree.specs.Trees.{tree_of};
-ghost use Rattle.file_tree.specs.Parts.{TellsLife};
+ghost use Rattle.file_tree.specs.TreeParts.{TellsLife};
 ghost use Rattle.file_tree.specs.StoredFiles.{HasFile};
 
 use crate::writing::two_bytes;

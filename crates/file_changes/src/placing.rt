@@ -1,7 +1,7 @@
 //! The place of a new file.
 
 ghost use Rattle.undo_journal.specs.Memory.{committed};
-ghost use Rattle.undo_journal.specs.Calls.{Learns};
+ghost use Rattle.undo_journal.specs.StoreCalls.{Learns};
 ghost use Rattle.file_tree.specs.StoredFiles.{HasFile};
 ghost use Rattle.file_changes.specs.CreationParts.{TellsPlace};
 

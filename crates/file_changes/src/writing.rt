@@ -4,8 +4,8 @@ ghost use Rattle.std.specs.Prelude.{◌≡◌, ◌≢◌, ◌∷◌, [], ◌<◌
 ghost use Rattle.std.specs.Result.{result_err};
 ghost use Rattle.undo_journal.specs.Memory.{current, room, InRuns, IsOpen};
 ghost use Rattle.undo_journal.specs.Lent.{memory_of};
-ghost use Rattle.undo_journal.specs.Calls.{SetsIn};
-ghost use Rattle.block_chain.specs.Words.{word_bytes};
+ghost use Rattle.undo_journal.specs.StoreCalls.{SetsIn};
+ghost use Rattle.block_chain.specs.BlockWords.{word_bytes};
 ghost use Rattle.file_tree.specs.Entries.{entry_told};
 ghost use Rattle.file_changes.specs.CreationParts.{WritesEntry};
 

@@ -8,7 +8,7 @@ use Rattle.card_rules.specs.declared.status.Sw.{Sw}
 use Rattle.card_rules.specs.declared.status.TheConstants.Sw.{DONE}
 use Rattle.card_state.specs.declared.fcp.Fcp.{Fcp}
 use Rattle.undo_journal.specs.declared.error.StoreErr.{StoreErr}
-use Rattle.undo_journal.specs.Calls.{Changes, OnlyReads, Reads}
+use Rattle.undo_journal.specs.StoreCalls.{Changes, OnlyReads, Reads}
 use Rattle.undo_journal.specs.Spending.{Advances}
 use Rattle.undo_journal.specs.laws.Calls.{advances_by, advances_kept, advances_then}
 use Rattle.file_tree.specs.Adding.{AddsByGate}
@@ -20,7 +20,7 @@ use Rattle.file_changes.specs.declared.creating.Creation.{Creation}
 use Rattle.file_changes.specs.declared.creating.Creation.TheVariants.{Created, Refused}
 use Rattle.file_tree.specs.declared.entry.Entry.{Entry}
 use Rattle.card_state.specs.declared.space.FreeSpace.{FreeSpace}
-use Rattle.file_tree.specs.Changes.{SameTree}
+use Rattle.file_tree.specs.TreeChanges.{SameTree}
 use Rattle.file_changes.specs.Creations.{CreatesNew, IsCreated, TellsCreation}
 use Rattle.file_changes.specs.CreationRefusals.{creation_refusal}
 use Rattle.file_tree.specs.Formats.{block_count}
@@ -31,7 +31,7 @@ use Rattle.command_base.specs.declared.current.Current.{Current}
 use Rattle.file_commands.specs.FileParts.{IsNewFile}
 use Rattle.card_model.specs.Steps.{IsDoing}
 use Rattle.command_base.specs.Served.{Serves}
-use Rattle.command_base.specs.Spending.{creation_writes}
+use Rattle.command_base.specs.CommandWrites.{creation_writes}
 use Rattle.command_base.specs.Standing.{card_of, IsCard}
 use Rattle.command_base.specs.Working.{card_in, session_in, session_of, space_in, table_in, IsCurrent}
 use Rattle.command_base.specs.CurrentFiles.{current_at}
@@ -41,7 +41,7 @@ use Rattle.file_commands.proofs.Creations.{created-space, filled-card, filled-st
 use Rattle.file_commands.proofs.Creations.{created-step, refused-step, taken-blocks, taken-entries}
 use Rattle.command_base.specs.laws.Serves.{compared-none, declined, torn, written}
 use Rattle.command_base.specs.laws.Stopping.{err-is}
-use Rattle.command_base.specs.Words.{StandsServed}
+use Rattle.command_base.specs.CommitWords.{StandsServed}
 use Rattle.command_base.specs.laws.Words.{Went, went-gated}
 
 module _ (old mid made : Memory) (ready : IsReady old) (words : IsCard (committed old)) (x : Current)

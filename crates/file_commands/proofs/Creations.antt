@@ -14,7 +14,7 @@ use Rattle.card_state.specs.declared.fcp.Fcp.{Fcp}
 use Rattle.card_model.specs.TemplateGrammar.{fcp_read}
 use Rattle.card_model.specs.Requests.{create_file}
 use Rattle.card_state.specs.declared.space.FreeSpace.{FreeSpace}
-use Rattle.file_tree.specs.Changes.{SameTree, with_freed}
+use Rattle.file_tree.specs.TreeChanges.{SameTree, with_freed}
 use Rattle.file_changes.specs.Creations.{CreatesNew, IsCreated}
 use Rattle.file_changes.specs.CreationRefusals.{creation_refusal}
 use Rattle.card_state.specs.NewFiles.{new_file, short_of_new}

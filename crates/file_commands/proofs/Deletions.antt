@@ -14,7 +14,7 @@ use Rattle.card_model.specs.declared.requests.Subject.TheVariants as subjects
 use Rattle.card_model.specs.Requests.{delete_file}
 use Rattle.file_tree.specs.declared.entry.Entry.{Entry}
 use Rattle.card_state.specs.declared.space.FreeSpace.{FreeSpace}
-use Rattle.file_tree.specs.Changes.{Deletes, with_freed}
+use Rattle.file_tree.specs.TreeChanges.{Deletes, with_freed}
 use Rattle.file_tree.specs.Formats.{block_count}
 use Rattle.card_state.specs.Spaces.{free_space}
 use Rattle.card_model.specs.Cards.{card_space, Card, Path, Tree, parent}

@@ -10,19 +10,19 @@ use Rattle.card_rules.specs.declared.access_mode.AccessBit.TheVariants.{Terminat
 use Rattle.card_rules.specs.declared.status.Sw.{Sw}
 use Rattle.card_rules.specs.declared.status.TheConstants.Sw.{ACCESS_DENIED, DONE}
 use Rattle.undo_journal.specs.declared.error.StoreErr.{StoreErr}
-use Rattle.undo_journal.specs.Calls.{OnlyReads}
+use Rattle.undo_journal.specs.StoreCalls.{OnlyReads}
 use Rattle.undo_journal.specs.laws.Memory.{reports_then}
 use Rattle.undo_journal.specs.Commits.{CommitsByGate}
 use Rattle.undo_journal.specs.Memory.{Memory, committed, IsReady, Reports}
 use Rattle.undo_journal.specs.Spending.{WritesAtMost}
 use Rattle.block_chain.specs.declared.layout.TheConstants.{FREE_HEAD_WORD}
 use Rattle.block_chain.specs.Chains.{free_chain}
-use Rattle.block_chain.specs.Words.{word}
+use Rattle.block_chain.specs.BlockWords.{word}
 use Rattle.card_model.specs.Requests.{terminate_card_usage}
 use Rattle.file_tree.specs.States.{with_card_terminated}
 use Rattle.file_tree.specs.Table.{table, path_of}
 use Rattle.file_tree.specs.Trees.{tree_of, TreeStands}
-use Rattle.file_tree.specs.Changes.{KeepsTree}
+use Rattle.file_tree.specs.TreeChanges.{KeepsTree}
 use Rattle.file_tree.specs.Formats.{SameFormat}
 use Rattle.file_tree.specs.laws.Footprints.{tree_kept}
 use Rattle.file_tree.specs.declared.entry.Entry.{Entry}

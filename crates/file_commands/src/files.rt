@@ -1,6 +1,6 @@
 //! CREATE FILE and DELETE FILE (ISO/IEC 7816-9).
 ghost use Rattle.std.specs.Prelude.{◌≡◌, ◌||◌, [], true, option_map, Some, IfOk, IfSome, OnOk};
-ghost use Rattle.undo_journal.specs.Calls.{Learns};
+ghost use Rattle.undo_journal.specs.StoreCalls.{Learns};
 ghost use Rattle.undo_journal.specs.Memory.{committed};
 ghost use Rattle.card_model.specs.Requests.{create_file as creation, delete_file as deletion};
 ghost use Rattle.card_rules.specs.declared.access_mode.AccessBit.TheVariants.{DeleteChild, DeleteSelf};

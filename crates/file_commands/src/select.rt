@@ -1,7 +1,7 @@
 //! SELECT (ISO/IEC 7816-4, 11.2.2).
 ghost use Rattle.std.specs.Prelude.{◌≡◌, ◌<◌, [], None, Some, option_map, IfOk, IfSome, OnErr};
 ghost use Rattle.std.specs.Result.{result_err};
-ghost use Rattle.undo_journal.specs.Calls.{Learns};
+ghost use Rattle.undo_journal.specs.StoreCalls.{Learns};
 ghost use Rattle.undo_journal.specs.Memory.{IsReady};
 ghost use Rattle.apdu_core.specs.ParsedCommands.{IsFilePath, IsSelector, identifiers_in, selection_of};
 ghost use Rattle.card_model.specs.Requests.{select as selection};

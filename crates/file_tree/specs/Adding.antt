@@ -2,7 +2,7 @@
 use Rattle.std.specs.Prelude.{◌≡◌, ◌⊎◌, ℕ, List}
 use Rattle.undo_journal.specs.Commits.{TurnsGate}
 use Rattle.undo_journal.specs.Memory.{Memory, committed}
-use Rattle.file_tree.specs.Changes.{SameTree}
+use Rattle.file_tree.specs.TreeChanges.{SameTree}
 
 -- Free blocks are filled, and the tree is unchanged. The committed words are then these, or the gate alone committed
 -- others.

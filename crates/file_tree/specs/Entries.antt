@@ -8,7 +8,7 @@ use Rattle.card_rules.specs.declared.life_cycle.LifeCycle.TheVariants.{Activated
 use Rattle.card_rules.specs.declared.access_mode.AccessBit.{AccessBit}
 use Rattle.card_rules.specs.Rule.{allows}
 use Rattle.block_chain.specs.declared.chain.Extent.{Extent}
-use Rattle.block_chain.specs.Words.{word_bytes}
+use Rattle.block_chain.specs.BlockWords.{word_bytes}
 use Rattle.file_tree.specs.declared.entry.Entry.{Entry}
 use Rattle.file_tree.specs.declared.entry.EntryHead.{EntryHead}
 use Rattle.card_state.specs.FileTrees.{transparent, linear, cyclic, dedicated, elementary, Body, Kind, File}
@@ -114,8 +114,8 @@ abbrev pub is_allowed_by : Entry → AccessBit → List Bool → List Bool → B
 is_allowed_by entry bit verified disabled = allows (rule_of entry) bit (life_told entry) verified disabled
 
 -- The number of records that fit.
-abbrev pub capacity_of : Entry → ℕ
-capacity_of entry = entry.size / entry.record_length
+abbrev pub entry_capacity : Entry → ℕ
+entry_capacity entry = entry.size / entry.record_length
 
 -- The record in slot `i`. Slots are adjacent, each as long as a record.
 abbrev pub slot : Entry → List ℕ → ℕ → List ℕ
@@ -128,14 +128,14 @@ linear_records entry bytes = map (slot entry bytes) (range_with_len 0 entry.reco
 -- Record k of a cyclic EF is k - 1 slots after the start. The first slot follows the last one.
 abbrev pub cyclic_records : Entry → List ℕ → List (List ℕ)
 cyclic_records entry bytes =
-    map (λ i. slot entry bytes ((entry.start + i) % capacity_of entry)) (range_with_len 0 entry.records)
+    map (λ i. slot entry bytes ((entry.start + i) % entry_capacity entry)) (range_with_len 0 entry.records)
 
 -- The content of an EF whose blocks have these bytes.
 abbrev pub body_of : Entry → List ℕ → Body
 body_of entry bytes =
     if entry.kind == 2 then transparent (take entry.size bytes) else
-    if entry.kind == 3 then linear entry.record_length (capacity_of entry) (linear_records entry bytes) else
-    cyclic entry.record_length (capacity_of entry) (cyclic_records entry bytes)
+    if entry.kind == 3 then linear entry.record_length (entry_capacity entry) (linear_records entry bytes) else
+    cyclic entry.record_length (entry_capacity entry) (cyclic_records entry bytes)
 
 -- A DF has a name unless the length is 0. An EF has a short identifier unless it is 0.
 abbrev pub kind_of : Entry → List ℕ → Kind

@@ -8,13 +8,13 @@ pub mod Formats
 pub mod MigrationParts
 pub mod Trees
 pub mod StoredFiles
-pub mod Changes
 pub mod Adding
 pub mod Naming
-pub mod Parts
 pub mod Subtrees
 pub mod Keys
 pub mod Indexes
 pub mod Surveys
 pub mod IndexParts
+pub mod TreeChanges
+pub mod TreeParts
 pub mod laws

@@ -1,5 +1,5 @@
 -- Changes of life cycle states in a memory (ISO/IEC 7816-9; ISO/IEC 7816-4, 7.4.10).
-use Rattle.std.specs.Prelude.{◌≡◌, ◌≢◌, ℕ, List, slice_set}
+use Rattle.std.specs.Prelude.{◌≡◌, ◌≢◌, ℕ, List, slice_set, ◌==◌, ◌||◌, zero, suc, Bool, false, if◌then◌else◌}
 use Rattle.std.specs.FinMap.{insert}
 use Rattle.card_rules.specs.LifeCycle.{life_cycle_byte}
 use Rattle.card_rules.specs.declared.life_cycle.LifeCycle.{LifeCycle}
@@ -8,10 +8,12 @@ use Rattle.block_chain.specs.declared.layout.TheConstants.{HEADER_PAGE}
 use Rattle.block_chain.specs.Chains.{free_chain}
 use Rattle.file_tree.specs.declared.layout.TheConstants.{STATE_WORD, CARD_TERMINATED}
 use Rattle.card_state.specs.FileTrees.{file_at}
-use Rattle.file_tree.specs.Changes.{KeepsRest}
+use Rattle.file_tree.specs.TreeChanges.{KeepsRest}
 use Rattle.file_tree.specs.Table.{table, entry_in, path_of}
 use Rattle.file_tree.specs.Trees.{tree_of, TreeStands}
-use Rattle.card_state.specs.FileLives.{with_life}
+use Rattle.card_state.specs.FileLives.{with_life, bars}
+use Rattle.file_tree.specs.declared.entry.Entry.{Entry}
+use Rattle.file_tree.specs.Entries.{life_told}
 
 -- The words after TERMINATE CARD USAGE.
 abbrev pub with_card_terminated : List ℕ → List ℕ
@@ -27,3 +29,10 @@ pub record ChangesLife (m : List ℕ) (e : ℕ) (state : LifeCycle) (after : Lis
   pub entry : entry_in (table after) e ≡ record (entry_in (table m) e) { life = life_cycle_byte state }
   pub others : (f : ℕ) → f ≢ e → entry_in (table after) f ≡ entry_in (table m) f
   pub paths : (f : ℕ) → path_of (table after) f ≡ path_of (table m) f
+
+-- True if at most n steps to parents meet a file that bars.
+unfoldable pub barred_up : List Entry → ℕ → ℕ → Bool
+barred_up t zero e = false
+barred_up t (suc n) e =
+    if e == 0 then false
+    else (bars (life_told (entry_in t (entry_in t e).parent)) || barred_up t n (entry_in t e).parent)

@@ -4,11 +4,11 @@ use Rattle.std.specs.Prelude.{map, length, slice_index_or, IsTrue, IsSome, All}
 use Rattle.std.specs.List.{range_with_len, filter_map, count_by}
 use Rattle.card_rules.specs.LifeCycle.{life_cycle_at}
 use Rattle.card_rules.specs.Rule.{is_rule}
-use Rattle.block_chain.specs.Words.{page_words}
+use Rattle.block_chain.specs.BlockWords.{page_words}
 use Rattle.block_chain.specs.declared.chain.Extent.{Extent}
 use Rattle.file_tree.specs.declared.entry.Entry.{Entry}
 use Rattle.card_state.specs.FileTrees.{Path, master_file}
-use Rattle.file_tree.specs.Entries.{free_entry, entry_of, name_of, rule_of, capacity_of, extent_of}
+use Rattle.file_tree.specs.Entries.{free_entry, entry_of, name_of, rule_of, entry_capacity, extent_of}
 
 -- The 64 entries by number. Entry 0 is on page 1.
 unfoldable pub table : List ℕ → List Entry
@@ -52,12 +52,12 @@ pub record IsTransparentBody (entry : Entry) : Type 0 where
 pub record IsRecordBody (entry : Entry) : Type 0 where
   pub some : 1 ≤ entry.record_length
   pub record_length : entry.record_length ≤ 255
-  pub multiple : entry.size ≡ capacity_of entry * entry.record_length
+  pub multiple : entry.size ≡ entry_capacity entry * entry.record_length
   pub size : entry.size ≤ 32767
-  pub room : 1 ≤ capacity_of entry
-  pub capacity : capacity_of entry ≤ 254
-  pub records : entry.records ≤ capacity_of entry
-  pub start : entry.start < capacity_of entry
+  pub room : 1 ≤ entry_capacity entry
+  pub capacity : entry_capacity entry ≤ 254
+  pub records : entry.records ≤ entry_capacity entry
+  pub start : entry.start < entry_capacity entry
   pub linear : entry.kind ≡ 3 → entry.start ≡ 0
 
 -- A short identifier is 1 to 30, or 0 for none. A DF has none.

@@ -2,12 +2,12 @@
 
 ghost use Rattle.std.specs.Prelude.{◌≡◌};
 ghost use Rattle.undo_journal.specs.Memory.{committed};
-ghost use Rattle.undo_journal.specs.Calls.{Learns};
+ghost use Rattle.undo_journal.specs.StoreCalls.{Learns};
 ghost use Rattle.card_state.specs.FileLives.{bars, is_barred};
 ghost use Rattle.file_tree.specs.Table.{table, entry_in, path_of};
 ghost use Rattle.file_tree.specs.Trees.{tree_of};
 ghost use Rattle.file_tree.specs.Entries.{is_allowed_by};
-ghost use Rattle.file_tree.specs.Parts.{barred_up};
+ghost use Rattle.file_tree.specs.States.{barred_up};
 ghost use Rattle.file_tree.specs.StoredFiles.{HasFile};
 
 use crate::entry::Entry;

@@ -2,7 +2,7 @@
 
 ghost use Rattle.std.specs.Prelude.{◌≡◌, ◌≢◌, ◌↔◌, ◌<◌, ◌++◌, take, IfSome, IsNone, IsTrue};
 ghost use Rattle.card_rules.specs.LifeCycle.{life_cycle_byte};
-ghost use Rattle.block_chain.specs.Words.{word_bytes};
+ghost use Rattle.block_chain.specs.BlockWords.{word_bytes};
 ghost use Rattle.file_tree.specs.Kinds.{kind_byte};
 ghost use Rattle.file_tree.specs.Entries.{high, low, free_entry, entry_of, head_of, head_told, life_told, state_told};
 ghost use Rattle.file_tree.specs.Entries.{name_of, rule_of, extent_of};

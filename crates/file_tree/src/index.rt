@@ -7,7 +7,7 @@ ghost use Rattle.file_tree.specs.declared.entry.Entry.{Entry};
 ghost use Rattle.file_tree.specs.Keys.{IsBefore};
 ghost use Rattle.file_tree.specs.Table.{table, entry_in, path_of, IsUsed, IsTable};
 ghost use Rattle.file_tree.specs.Trees.{tree_of, TreeStands};
-ghost use Rattle.file_tree.specs.Changes.{Deletes};
+ghost use Rattle.file_tree.specs.TreeChanges.{Deletes};
 ghost use Rattle.file_tree.specs.Indexes.{AreSorted, IsIndex, IsFreeIn, AddsEntry, TellsChild, child_by_identifier};
 ghost use Rattle.file_tree.specs.IndexParts.{TellsSearch, TellsPut, TellsIndex, parent_by, is_outside};
 

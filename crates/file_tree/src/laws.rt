@@ -5,20 +5,20 @@ ghost use Rattle.std.specs.Prelude.{◌≡◌, ◌≢◌, ◌-◌, ◌&&◌, ℕ
 ghost use Rattle.std.specs.FinMap.{get};
 ghost use Rattle.card_rules.specs.declared.identifiers.TheConstants.{MASTER_FILE};
 ghost use Rattle.block_chain.specs.Chains.{free_chain};
-ghost use Rattle.block_chain.specs.Changes.{OnlyContent};
+ghost use Rattle.block_chain.specs.ChainChanges.{OnlyContent};
 ghost use Rattle.file_tree.specs.declared.layout.TheConstants.{FIRST_ENTRY_PAGE, DEEPEST, MOST_FILE_BLOCKS};
 ghost use Rattle.card_state.specs.declared.limits.TheConstants.{ENTRIES};
 ghost use Rattle.file_tree.specs.declared.layout.TheConstants.{CREATE_WRITES, DELETE_WRITES};
 ghost use Rattle.file_tree.specs.declared.layout.TheConstants.{STATE_WORD, CARD_TERMINATED, MARK, OLD_MARK};
 ghost use Rattle.file_tree.specs.declared.layout.TheConstants.{MARK_WORD, PAGES_WORD};
-ghost use Rattle.block_chain.specs.Words.{word};
+ghost use Rattle.block_chain.specs.BlockWords.{word};
 ghost use Rattle.card_state.specs.FileTrees.{Path, IsTree, master_file, exists, file_at, is_dedicated};
 ghost use Rattle.card_state.specs.Selectors.{IsReserved};
 ghost use Rattle.file_tree.specs.Formats.{block_count};
 ghost use Rattle.card_state.specs.Spaces.{free_space};
 ghost use Rattle.file_tree.specs.Table.{free_entries, table, path_of, IsUsed};
 ghost use Rattle.file_tree.specs.Trees.{file_in, tree_of, TreeStands};
-ghost use Rattle.file_tree.specs.Changes.{KeepsTree, SameTree};
+ghost use Rattle.file_tree.specs.TreeChanges.{KeepsTree, SameTree};
 
 /// Proves the numbers of the layout. Entry 0 is on page 1. There are 64 entries. The MF has the identifier 3F00, and
 /// no file is more than seven steps below it. The largest file has 547 blocks. A creation takes at most 556 device

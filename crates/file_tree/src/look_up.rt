@@ -3,12 +3,12 @@
 ghost use Rattle.std.specs.Prelude.{◌≡◌, ◌≢◌, ◌==◌, ◌≤◌, ◌↔◌, ℕ, List, IsTrue, IfOk, IfSome, option_map};
 ghost use Rattle.std.specs.Result.{result_err};
 ghost use Rattle.undo_journal.specs.Memory.{committed, IsReady};
-ghost use Rattle.undo_journal.specs.Calls.{Learns, Reads};
+ghost use Rattle.undo_journal.specs.StoreCalls.{Learns, Reads};
 ghost use Rattle.card_state.specs.Selectors.{reached, child_by_short};
 ghost use Rattle.file_tree.specs.Table.{IsChild, table, entry_in, path_of, IsUsed, IsTable};
 ghost use Rattle.file_tree.specs.Trees.{tree_of};
 ghost use Rattle.file_tree.specs.Indexes.{IsIndex};
-ghost use Rattle.file_tree.specs.Parts.{TellsShort, TellsBeside, TellsAbove};
+ghost use Rattle.file_tree.specs.TreeParts.{TellsShort, TellsBeside, TellsAbove};
 ghost use Rattle.file_tree.specs.StoredFiles.{HasFile};
 
 use crate::entry::EntryHead;

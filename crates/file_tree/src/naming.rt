@@ -3,7 +3,7 @@
 ghost use Rattle.std.specs.Prelude.{◌≡◌, ◌↔◌, ◌<◌, min, length, option_map, IfOk, IfSome, IsTrue, List, ℕ};
 ghost use Rattle.std.specs.Result.{result_err};
 ghost use Rattle.undo_journal.specs.Memory.{committed, IsReady};
-ghost use Rattle.undo_journal.specs.Calls.{Learns, Reads};
+ghost use Rattle.undo_journal.specs.StoreCalls.{Learns, Reads};
 ghost use Rattle.card_state.specs.FileTrees.{Path};
 ghost use Rattle.card_state.specs.Selectors.{selected, the_parent, by_name, path_from_master, path_from_current};
 ghost use Rattle.file_tree.specs.Table.{table, path_of, IsUsed};

@@ -3,8 +3,8 @@
 ghost use Rattle.std.specs.Prelude.{◌≡◌, ◌+◌, ◌<◌, ℕ, [], slice_index, IfOk, OnOk};
 ghost use Rattle.std.specs.Result.{result_err};
 ghost use Rattle.undo_journal.specs.Memory.{committed, IsReady};
-ghost use Rattle.undo_journal.specs.Calls.{Reads};
-ghost use Rattle.block_chain.specs.Words.{word};
+ghost use Rattle.undo_journal.specs.StoreCalls.{Reads};
+ghost use Rattle.block_chain.specs.BlockWords.{word};
 ghost use Rattle.file_tree.specs.Entries.{head_of};
 ghost use Rattle.file_tree.specs.Table.{table, entry_in};
 

@@ -3,7 +3,7 @@
 ghost use Rattle.std.specs.Prelude.{◌≡◌, ◌↔◌, ◌<◌, ◌≤◌, length, IsTrue};
 ghost use Rattle.file_tree.specs.Table.{entry_in, ancestor, extents, free_entries, IsMasterFile, IsBelowMaster};
 ghost use Rattle.file_tree.specs.Table.{HaveIdentifiers, IsTable};
-ghost use Rattle.file_tree.specs.Parts.{Alike, BearOneName, AreBelow, AreApart, IsAlone};
+ghost use Rattle.file_tree.specs.TreeParts.{Alike, BearOneName, AreBelow, AreUnlike, IsAlone};
 
 use crate::entry::{Entry, ExtentList};
 use crate::kinds::EntryKind;
@@ -117,7 +117,7 @@ fn is_alone(entries: &[Entry], e: usize) -> bool
 
 /// Returns true if no two used entries conflict.
 fn are_apart(entries: &[Entry]) -> bool
-    ensures { IsTrue result ↔ AreApart entries.now }
+    ensures { IsTrue result ↔ AreUnlike entries.now }
 {
     for e in 0..entries.len() {
         if entries[e].is_used() && !is_alone(entries, e) {

@@ -3,7 +3,7 @@
 ghost use Rattle.std.specs.Prelude.{◌≡◌, IfOk};
 ghost use Rattle.std.specs.Result.{result_err};
 ghost use Rattle.undo_journal.specs.Memory.{committed, IsReady};
-ghost use Rattle.undo_journal.specs.Calls.{Reads};
+ghost use Rattle.undo_journal.specs.StoreCalls.{Reads};
 ghost use Rattle.file_tree.specs.Table.{table, IsTable};
 ghost use Rattle.file_tree.specs.Trees.{TellsSpace};
 ghost use Rattle.file_tree.specs.Surveys.{TellsTree};

@@ -52,7 +52,7 @@ impl<F: Follower> KeptBoard<F> {
 impl<F: Follower> Board for KeptBoard<F> {
     ghost use Rattle.std.specs.Prelude.{◌≡◌, ◌<◌, length};
     ghost use Rattle.nvm_board.specs.declared.board.TheConstants.{SECRETS};
-    ghost use Rattle.nvm_board.specs.Calls.{TellsWord, FitsPage, Writes, Compares};
+    ghost use Rattle.nvm_board.specs.BoardCalls.{TellsWord, FitsPage, Writes, Compares};
     ghost use Rattle.nvm_board.specs.Facts.{address};
     ghost use Rattle.nvm_board.specs.Cut.{cut_facts, WritesOrTears};
     ghost use Rattle.nvm_board.specs.laws.Counts.{cut_is_board};

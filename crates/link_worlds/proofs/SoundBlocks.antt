@@ -14,14 +14,15 @@ use Rattle.t1_link.specs.declared.reader_end.Failure.{Failure}
 use Rattle.t1_link.specs.declared.reader_end.Failure.TheVariants.{BadAnswer, LinkLost}
 use Rattle.t1_link.specs.declared.sequence_number.SequenceNumber.{SequenceNumber}
 use Rattle.t1_link.specs.declared.sequence_number.SequenceNumber.TheVariants.{Zero, One}
-use Rattle.t1_link.specs.Blocks.{Block, IsSpellable, control_byte, error_code, exclusive_or, field_of, frame, front}
+use Rattle.t1_link.specs.Blocks.{Block, IsSpellable, control_byte, error_code, exclusive_or, field_of, frame}
+use Rattle.t1_link.specs.Blocks.{checked_bytes}
 use Rattle.t1_link.specs.Blocks.{information, receive_ready}
 use Rattle.t1_link.specs.Blocks.{resynch_request, resynch_response, ifs_request, ifs_response, told_as}
 use Rattle.t1_link.specs.SequenceNumbers.{at_bit, other_number, same}
 use Rattle.t1_link.specs.BlockLaws.{length-field}
 use Rattle.t1_link.specs.CardTable.{Link, Reaction, Taken, card_takes, joined, refusing, replies, replying, runs}
 use Rattle.t1_link.specs.CardTable.{sending, sent_block, sent_more, sent_number, takes_information, takes_receive_ready}
-use Rattle.t1_link.specs.ReaderTable.{Outcome, Reader, Turned, advancing, asking, failing, fails, gives, has_more}
+use Rattle.t1_link.specs.ReaderTable.{CommandReport, Reader, Turned, advancing, asking, failing, fails, gives, has_more}
 use Rattle.t1_link.specs.ReaderTable.{is_dead, last_block, reader_sends}
 use Rattle.t1_link.specs.ReaderTable.{reader_takes, reader_times_out, requesting, requesting_again, sends, trying}
 use Rattle.t1_link.specs.ReaderTable.{turns_answer, turns_block}
@@ -58,7 +59,7 @@ pub record IsSoundReader (r : Reader) : Type 0 where
   pub field : AreBytes r.field
   pub rest : AreBytes r.rest
 
-abbrev pub IsSoundOutcome : Outcome → Type 0
+abbrev pub IsSoundOutcome : CommandReport → Type 0
 IsSoundOutcome (sends b) = IsSound b
 IsSoundOutcome (gives answer) = Unit {0}
 IsSoundOutcome unknown = Unit {0}
@@ -277,7 +278,7 @@ folded-byte start (x ∷ bytes) small all =
     let first : x < 256 = All-head (λ number. number < 256) x bytes all in
     folded-byte (bit_xor start x) bytes (xor_lt 8 start x small first) (All-tail (λ number. number < 256) x bytes all)
 
-front-bytes : (b : Block) → IsSound b → AreBytes (front b)
+front-bytes : (b : Block) → IsSound b → AreBytes (checked_bytes b)
 front-bytes b s =
     let small = length-field b s.spellable in
     let size : length (field_of b) < 256 = omega (arith, small) in
@@ -288,8 +289,9 @@ front-bytes b s =
 pub frame-bytes : (b : Block) → IsSound b → AreBytes (frame b)
 frame-bytes b s =
     let all = front-bytes b s in
-    All-append (λ number. number < 256) (front b) (exclusive_or (front b) ∷ []) all
-    (All-cons (λ number. number < 256) (exclusive_or (front b)) [] (folded-byte 0 (front b) (omega arith) all) no_bytes)
+    All-append (λ number. number < 256) (checked_bytes b) (exclusive_or (checked_bytes b) ∷ []) all
+    (All-cons (λ number. number < 256) (exclusive_or (checked_bytes b)) [] (folded-byte 0 (checked_bytes b)
+    (omega arith) all) no_bytes)
 
 -- in the words of the world
 pub told-bytes : (bytes : List ℕ) → AreBytes bytes → list_all (λ number. nat_lt number 256) bytes ≡ true

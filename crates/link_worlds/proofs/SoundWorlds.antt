@@ -7,7 +7,7 @@ use Rattle.t1_link.specs.declared.block.Fault.{Fault}
 use Rattle.t1_link.specs.Blocks.{Block, frame, heard}
 use Rattle.t1_link.specs.BlockLaws.{heard-frame}
 use Rattle.t1_link.specs.CardTable.{Reaction, link_step, replies, runs, sending}
-use Rattle.t1_link.specs.ReaderTable.{Outcome, Turned, fails, gives, is_busy, reader_sends, reader_step}
+use Rattle.t1_link.specs.ReaderTable.{CommandReport, Turned, fails, gives, is_busy, reader_sends, reader_step}
 use Rattle.t1_link.specs.ReaderTable.{reader_times_out, sends, unknown}
 use Rattle.card_model.specs.Requests.{AreBytes}
 use Rattle.link_worlds.specs.Worlds.{Arrival, Event, Line, Machine, World, are_bytes, arrival, after_arrival}
@@ -70,7 +70,7 @@ sound-arrival (toward_reader b) (garble bytes) s =
     sound-garbled bytes (may_arrive bytes) (at_reader bytes) refl (λ h. h)
 
 module _ {M : Type 0} (machine : Machine M) (Invariant : M → Type 0) (fits : AnswersByBytes machine Invariant) where
-  sound-noted : (w : World M) (o : Outcome) → IsSoundWorld Invariant w → IsSoundOutcome o
+  sound-noted : (w : World M) (o : CommandReport) → IsSoundWorld Invariant w → IsSoundOutcome o
       → IsSoundWorld Invariant (noted w o)
   sound-noted w (sends b) s x = record { card = s.card; reader = s.reader; line = x; machine = s.machine }
   sound-noted w (gives answer) s x = record { card = s.card; reader = s.reader; line = tt; machine = s.machine }

@@ -36,7 +36,8 @@ use Rattle.link_worlds.specs.Worlds.{running, send, taking, toward_card, toward_
 use Rattle.link_worlds.specs.WorldRepairs.{Counts, Watched, answer_blocks, command_blocks, counted, counts_after}
 use Rattle.link_worlds.specs.WorldRepairs.{faulted, newest, no_counts, passed, watch}
 use Rattle.link_worlds.specs.WorldLaw.{Kept, OnlyRequestsFollow, requests}
-use Rattle.link_worlds.proofs.WorldPhases.{Budget, Exchange, UnderWay, Kind, Straight, asks_card, asks_reader, kind_back}
+use Rattle.link_worlds.proofs.WorldPhases.{Budget, Exchange, UnderWay, Kind, Straight, asks_card, asks_reader}
+use Rattle.link_worlds.proofs.WorldPhases.{kind_back}
 use Rattle.link_worlds.proofs.WorldPhases.{kind_there, many, need, newest_answer}
 use Rattle.link_worlds.proofs.WorldPhases.{none_yet, offers_card, offers_reader, once, After, AnswerOffered, At}
 use Rattle.link_worlds.proofs.WorldPhases.{Awaits, Before, CommandOffered, Core, Good, History}

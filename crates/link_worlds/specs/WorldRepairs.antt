@@ -18,18 +18,18 @@ abbrev pub faulted : Counts → Counts
 faulted c = record c { faults = c.faults + 1 }
 
 -- the counts after an event that is possible
-abbrev pub counting : Counts → Event → Counts
-counting c (send command) = c
-counting c pass = passed c
-counting c lose = faulted c
-counting c (garble bytes) = faulted c
+abbrev pub counted_by : Counts → Event → Counts
+counted_by c (send command) = c
+counted_by c pass = passed c
+counted_by c lose = faulted c
+counted_by c (garble bytes) = faulted c
 
 -- an event that is impossible counts for nothing
 abbrev pub counted : Counts → Event → Arrival → Counts
 counted c event nothing = c
-counted c event (at_card bytes) = counting c event
-counted c event (at_reader bytes) = counting c event
-counted c event in_vain = counting c event
+counted c event (at_card bytes) = counted_by c event
+counted c event (at_reader bytes) = counted_by c event
+counted c event in_vain = counted_by c event
 
 -- all counts are zero
 abbrev pub no_counts : Counts

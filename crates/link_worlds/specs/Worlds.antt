@@ -8,7 +8,7 @@ use Rattle.t1_link.specs.declared.block.Fault.TheVariants.{WrongLength, WrongChe
 use Rattle.t1_link.specs.declared.reader_end.Failure.{Failure}
 use Rattle.t1_link.specs.Blocks.{Block, frame, heard}
 use Rattle.t1_link.specs.CardTable.{Link, link_step, Reaction, Taken, answers, fresh, replies, runs}
-use Rattle.t1_link.specs.ReaderTable.{Outcome, Reader, reader_step, Turned, fails, fresh_reader, gives, is_busy}
+use Rattle.t1_link.specs.ReaderTable.{CommandReport, Reader, reader_step, Turned, fails, fresh_reader, gives, is_busy}
 use Rattle.t1_link.specs.ReaderTable.{reader_sends, reader_times_out, sends, unknown}
 
 -- true if all numbers are bytes, 0 to 255
@@ -118,7 +118,7 @@ arrival (toward_reader b) lose = in_vain
 arrival (toward_reader b) (garble bytes) = if may_arrive bytes then at_reader bytes else nothing
 
 -- the world after an outcome of the reader's end: a block goes on the line, or the report of the command is there
-abbrev pub noted : {M : Type 0} → World M → Outcome → World M
+abbrev pub noted : {M : Type 0} → World M → CommandReport → World M
 noted w (sends b) = record w { line = toward_card b; offered = b ∷ w.offered }
 noted w (gives answer) = record w { line = quiet; reports = Done answer ∷ w.reports }
 noted w unknown = record w { line = quiet; reports = Unknown ∷ w.reports }

@@ -5,7 +5,7 @@ use Rattle.std.proofs.Common.{refl, ◌∙◌, ap, arith, inl, inr, length-appen
 use Rattle.nvm_board.specs.Facts.{Facts, address}
 use Rattle.undo_journal.specs.declared.batch.TheConstants.{BATCH}
 use Rattle.undo_journal.specs.declared.batch.Waiting.{Waiting}
-use Rattle.undo_journal.specs.Batches.{joined, batch_writes}
+use Rattle.undo_journal.specs.Batches.{with_set, batch_writes}
 use Rattle.undo_journal.specs.Memory.{Memory, Joins, commit_writes, set_writes}
 use Rattle.undo_journal.specs.Spending.{WritesAtMost}
 use Rattle.undo_journal.specs.laws.Joining.{commit_of_some}
@@ -13,7 +13,7 @@ use Rattle.block_chain.specs.declared.layout.TheConstants.{FREE_HEAD}
 use Rattle.file_tree.specs.declared.layout.TheConstants.{MARK, OLD_END_PAGE}
 use Rattle.pin_store.specs.declared.layout.TheConstants.{FIRST_PIN_PAGE}
 use Rattle.pin_store.specs.declared.layout.TheConstants.{PIN_MARK_WORD}
-use Rattle.migration.specs.Parts.{FillsBatch, JoinsFirst}
+use Rattle.migration.specs.MigratingParts.{FillsFirstBatch, JoinsFirst}
 
 -- A set after which these sets wait, fewer than a batch: nothing is written.
 pub record NowWait (sets : List Waiting) (old new : Memory) : Type 0 where
@@ -22,7 +22,7 @@ pub record NowWait (sets : List Waiting) (old new : Memory) : Type 0 where
   pub writes : new.facts.writes ≡ old.facts.writes
 
 pub now_wait : (set : Waiting) (old new : Memory) (sets : List Waiting) → Joins set old new
-    → joined set old.waiting ≡ sets → length sets < BATCH → NowWait sets old new
+    → with_set set old.waiting ≡ sets → length sets < BATCH → NowWait sets old new
 now_wait set old new sets joins is few = elim joins [
   | inl waits ↦ record {
     waiting = waits.waiting ∙ is;
@@ -33,14 +33,14 @@ now_wait set old new sets joins is few = elim joins [
 ]
 
 -- nor is anything where it fails
-pub spends_none : (set : Waiting) (old new : Memory) (sets : List Waiting) → joined set old.waiting ≡ sets
+pub spends_none : (set : Waiting) (old new : Memory) (sets : List Waiting) → with_set set old.waiting ≡ sets
     → (length sets == BATCH) ≡ false → WritesAtMost (set_writes set old) old.facts new.facts
     → new.facts.writes ≤ old.facts.writes
 spends_none set old new sets is few spends =
-    let size : (length (joined set old.waiting) == BATCH) ≡ false =
+    let size : (length (with_set set old.waiting) == BATCH) ≡ false =
     ap (λ (l : List Waiting). length l == BATCH) is ∙ few in
     let none : set_writes set old ≡ 0 =
-    ap (λ (b : Bool). if b then batch_writes (joined set old.waiting) else 0) size in
+    ap (λ (b : Bool). if b then batch_writes (with_set set old.waiting) else 0) size in
     omega (arith, spends.writes, none)
 
 -- the mark of a PIN as a set, and those of the first i PINs
@@ -52,7 +52,7 @@ marks zero = []
 marks (suc i) = marks i ++ pin_mark i ∷ []
 
 -- one mark more
-marks_joined : (i : ℕ) → i < 8 → joined (pin_mark i) (marks i) ≡ marks (i + 1)
+marks_joined : (i : ℕ) → i < 8 → with_set (pin_mark i) (marks i) ≡ marks (i + 1)
 marks_joined zero lt = refl
 marks_joined (suc zero) lt = refl
 marks_joined (suc (suc zero)) lt = refl
@@ -71,13 +71,13 @@ length-marks (suc i) = length-append (marks i) (pin_mark i ∷ []) ∙ ap (λ (n
 -- What the marks of the first i PINs make of a store that was idle: they wait, and the eighth fills the batch.
 pub record AreMarked (i : ℕ) (first now : Memory) : Type 0 where
   pub waits : i < 8 → (now.waiting ≡ marks i) × (now.used ≡ 0) × (now.facts.writes ≡ first.facts.writes)
-  pub full : i ≡ 8 → FillsBatch first now
+  pub full : i ≡ 8 → FillsFirstBatch first now
 
 module _ (i at : ℕ) (first now after : Memory) (lt : i < 8) (is : at ≡ address (FIRST_PIN_PAGE + i) PIN_MARK_WORD)
     (so_far : AreMarked i first now) where
-  all : joined (record { at = at; word = 1 }) now.waiting ≡ marks (i + 1)
-  all = ap (λ (a : ℕ). joined (record { at = a; word = 1 }) now.waiting) is
-      ∙ ap (λ (l : List Waiting). joined (pin_mark i) l) (so_far.waits lt).0 ∙ marks_joined i lt
+  all : with_set (record { at = at; word = 1 }) now.waiting ≡ marks (i + 1)
+  all = ap (λ (a : ℕ). with_set (record { at = a; word = 1 }) now.waiting) is
+      ∙ ap (λ (l : List Waiting). with_set (pin_mark i) l) (so_far.waits lt).0 ∙ marks_joined i lt
 
   pub marked_more : Joins (record { at = at; word = 1 }) now after → AreMarked (i + 1) first after
   marked_more joins =
@@ -142,7 +142,7 @@ pub data FirstWaits (old new : Memory) : Type 0 where
 pub first_waits : (end : ℕ) (old new : Memory) → old.waiting ≡ [] → JoinsFirst end old new → FirstWaits old new
 first_waits end old new none joins = elim joins [
   | inl sets ↦ with_first (now_wait first_set old new (first_set ∷ []) sets.1
-      (ap (λ (l : List Waiting). joined first_set l) none) (omega arith))
+      (ap (λ (l : List Waiting). with_set first_set l) none) (omega arith))
   | inr same ↦ without (record {
     waiting = ap (λ (m : Memory). m.waiting) same.1 ∙ none;
     used = ap (λ (m : Memory). m.used) same.1;
@@ -166,9 +166,9 @@ module _ (end : ℕ) (old mid new : Memory) (first : FirstWaits old mid) where
   pub pages_wait : Joins (pages_set end) mid new → PagesWait end old new
   pages_wait joins = elim first [
     | with_first w ↦ two_wait (wait_then _ _ old mid new w (now_wait (pages_set end) mid new (first_set ∷ pages_set end
-        ∷ []) joins (ap (λ (l : List Waiting). joined (pages_set end) l) w.waiting) (omega arith)))
+        ∷ []) joins (ap (λ (l : List Waiting). with_set (pages_set end) l) w.waiting) (omega arith)))
     | without w ↦ one_waits (wait_then _ _ old mid new w (now_wait (pages_set end) mid new (pages_set end ∷ []) joins
-        (ap (λ (l : List Waiting). joined (pages_set end) l) w.waiting) (omega arith)))
+        (ap (λ (l : List Waiting). with_set (pages_set end) l) w.waiting) (omega arith)))
   ]
 
   pub pages_spend : WritesAtMost (set_writes (pages_set end) mid) mid.facts new.facts
@@ -176,11 +176,11 @@ module _ (end : ℕ) (old mid new : Memory) (first : FirstWaits old mid) where
   pages_spend spends = elim first [
     | with_first w ↦
         let none = spends_none (pages_set end) mid new (first_set ∷ pages_set end ∷ [])
-        (ap (λ (l : List Waiting). joined (pages_set end) l) w.waiting) refl spends in
+        (ap (λ (l : List Waiting). with_set (pages_set end) l) w.waiting) refl spends in
         omega (arith, none, w.writes)
     | without w ↦
         let none = spends_none (pages_set end) mid new (pages_set end ∷ [])
-        (ap (λ (l : List Waiting). joined (pages_set end) l) w.waiting) refl spends in
+        (ap (λ (l : List Waiting). with_set (pages_set end) l) w.waiting) refl spends in
         omega (arith, none, w.writes)
   ]
 
@@ -189,13 +189,13 @@ module _ (end : ℕ) (old mid new : Memory) (pages : PagesWait end old mid) wher
   header_counts joins = elim pages [
     | two_wait w ↦
         let all = now_wait mark_set mid new (mark_set ∷ first_set ∷ pages_set end ∷ []) joins
-        (ap (λ (l : List Waiting). joined mark_set l) w.waiting) (omega arith) in
+        (ap (λ (l : List Waiting). with_set mark_set l) w.waiting) (omega arith) in
         let batch = ap batch_writes all.waiting in
         let size = ap (λ (l : List Waiting). length l) all.waiting in
         omega (arith, commit_of_some new (omega (arith, size)), batch, all.writes, w.writes)
     | one_waits w ↦
         let all = now_wait mark_set mid new (mark_set ∷ pages_set end ∷ []) joins
-        (ap (λ (l : List Waiting). joined mark_set l) w.waiting) (omega arith) in
+        (ap (λ (l : List Waiting). with_set mark_set l) w.waiting) (omega arith) in
         let batch = ap batch_writes all.waiting in
         let size = ap (λ (l : List Waiting). length l) all.waiting in
         omega (arith, commit_of_some new (omega (arith, size)), batch, all.writes, w.writes)
@@ -205,10 +205,10 @@ module _ (end : ℕ) (old mid new : Memory) (pages : PagesWait end old mid) wher
   header_spends spends = elim pages [
     | two_wait w ↦
         let none = spends_none mark_set mid new (mark_set ∷ first_set ∷ pages_set end ∷ [])
-        (ap (λ (l : List Waiting). joined mark_set l) w.waiting) refl spends in
+        (ap (λ (l : List Waiting). with_set mark_set l) w.waiting) refl spends in
         omega (arith, none, w.writes)
     | one_waits w ↦
         let none = spends_none mark_set mid new (mark_set ∷ pages_set end ∷ [])
-        (ap (λ (l : List Waiting). joined mark_set l) w.waiting) refl spends in
+        (ap (λ (l : List Waiting). with_set mark_set l) w.waiting) refl spends in
         omega (arith, none, w.writes)
   ]

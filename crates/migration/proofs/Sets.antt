@@ -6,8 +6,8 @@ use Rattle.std.proofs.lemmas.Bool.Decides.{eqb_tells}
 use Rattle.nvm_board.specs.Facts.{address, IsMemory, pages_of}
 use Rattle.nvm_board.specs.declared.board.TheConstants.{PAGE_WORDS}
 use Rattle.nvm_board.specs.laws.Sizes.{least_words, pages_same}
-use Rattle.block_chain.specs.Words.{word}
-use Rattle.block_chain.specs.Changes.{LinksAlone, AreLinked}
+use Rattle.block_chain.specs.BlockWords.{word}
+use Rattle.block_chain.specs.ChainChanges.{LinksAlone, AreLinked}
 use Rattle.block_chain.specs.declared.layout.TheConstants.{HEADER_PAGE, FREE_HEAD_WORD}
 use Rattle.block_chain.specs.laws.Words.{word-set_other, word-set_same}
 use Rattle.file_tree.specs.declared.layout.TheConstants.{MARK_WORD, PAGES_WORD, MARK, OLD_END_PAGE, STATE_WORD}
@@ -17,7 +17,7 @@ use Rattle.file_tree.specs.laws.Migrating.{links_keep, migrated_tree, same-entri
 use Rattle.pin_store.specs.declared.layout.TheConstants.{FIRST_PIN_PAGE}
 use Rattle.pin_store.specs.declared.layout.TheConstants.{PIN_MARK_WORD}
 use Rattle.migration.specs.Migrating.{IsMigrated, Migrates}
-use Rattle.migration.specs.Parts.{MarksPins, RenamesHeader, IsRenamed}
+use Rattle.migration.specs.MigratingParts.{MarksPins, RenamesHeader, IsRenamed}
 
 -- one mark more
 pub marks_more : (m now after : List ℕ) (i at : ℕ)

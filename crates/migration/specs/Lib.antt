@@ -1,2 +1,2 @@
 pub mod Migrating
-pub mod Parts
+pub mod MigratingParts

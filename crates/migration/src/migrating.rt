@@ -6,13 +6,14 @@ ghost use Rattle.undo_journal.specs.Commits.{CommitsByGate};
 ghost use Rattle.undo_journal.specs.Memory.{committed, commit_writes, current, room, CountsCommit, IsIdle};
 ghost use Rattle.undo_journal.specs.Memory.{IsReady, IsOpen};
 ghost use Rattle.undo_journal.specs.Lent.{memory_of};
-ghost use Rattle.undo_journal.specs.Calls.{Changes, SetsIn};
-ghost use Rattle.block_chain.specs.Words.{word};
+ghost use Rattle.undo_journal.specs.StoreCalls.{Changes, SetsIn};
+ghost use Rattle.block_chain.specs.BlockWords.{word};
 ghost use Rattle.block_chain.specs.declared.layout.TheConstants.{HEADER_PAGE};
 ghost use Rattle.file_tree.specs.declared.layout.TheConstants.{OLD_END_PAGE, MARK, MARK_WORD};
 ghost use Rattle.file_tree.specs.Trees.{TreeStands};
 ghost use Rattle.migration.specs.Migrating.{IsMigrated, Migrates, migration_writes};
-ghost use Rattle.migration.specs.Parts.{FillsBatch, IsRenamed, JoinsFirst, MarksPins, RenamesHeader, SetsFirst};
+ghost use Rattle.migration.specs.MigratingParts.{FillsFirstBatch, IsRenamed, JoinsFirst, MarksPins, RenamesHeader};
+ghost use Rattle.migration.specs.MigratingParts.{SetsFirst};
 
 use block_chain::{FREE_HEAD, HEADER_PAGE, link_pages};
 use file_tree::{MARK, MARK_WORD, OLD_END_PAGE, PAGES_WORD};
@@ -28,7 +29,7 @@ fn mark_pins<B: Board>(txn: &mut Txn<'_, B>) -> Result<(), StoreErr>
     requires room { 8 ≤ room (memory_of txn.old) }
     ensures done { OnOk result (MarksPins 8 (current (memory_of txn.old)) (current (memory_of txn.new))) }
     ensures store { SetsIn 8 txn.old txn.new (result_err result) }
-    ensures fills { OnOk result (IsIdle (memory_of txn.old) → FillsBatch (memory_of txn.old) (memory_of txn.new)) }
+    ensures fills { OnOk result (IsIdle (memory_of txn.old) → FillsFirstBatch (memory_of txn.old) (memory_of txn.new)) }
     ensures spends { IsIdle (memory_of txn.old)
         → (memory_of txn.new).facts.writes ≤ (memory_of txn.old).facts.writes + 10 }
 {

@@ -7,7 +7,7 @@ use Rattle.nvm_board.specs.declared.board.DeviceErr.TheVariants.{PowerLost}
 use Rattle.nvm_board.specs.declared.cut_board.CutBoard.{CutBoard}
 use Rattle.nvm_board.specs.Facts.{Facts, IsWorn, new_board}
 use Rattle.nvm_board.specs.Aims.{due_of}
-use Rattle.nvm_board.specs.Calls.{Writes}
+use Rattle.nvm_board.specs.BoardCalls.{Writes}
 use Rattle.nvm_board.specs.Ram.{ram_facts}
 use Rattle.nvm_board.specs.Torn.{IsTornBy}
 

@@ -1,9 +1,9 @@
 pub mod Facts
 pub mod Aims
 pub mod Torn
-pub mod Calls
 pub mod Ram
 pub mod Given
 pub mod Cut
 pub mod Faulty
+pub mod BoardCalls
 pub mod laws

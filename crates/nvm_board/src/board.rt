@@ -3,7 +3,7 @@ ghost use Rattle.std.specs.Prelude.{◌≡◌, ◌<◌, ◌≤◌, ◌↔◌, tr
 ghost use Rattle.nvm_board.specs.declared.board.TheConstants.{SECRETS};
 ghost use Rattle.nvm_board.specs.Facts.{Facts, IsBoard, IsWornOut, address, pages_of};
 ghost use Rattle.nvm_board.specs.Aims.{HasNoFault};
-ghost use Rattle.nvm_board.specs.Calls.{TellsWord, FitsPage, Writes, Compares, Arms};
+ghost use Rattle.nvm_board.specs.BoardCalls.{TellsWord, FitsPage, Writes, Compares, Arms};
 
 /// The least number of pages of a board.
 pub const LEAST_PAGES: u16 = 1024;

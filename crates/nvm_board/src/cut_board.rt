@@ -20,7 +20,7 @@ pub struct CutBoard {
 
 impl CutBoard {
     ghost use Rattle.std.specs.Prelude.{◌≡◌, ◌≤◌, is_some, IfOk, IfSome, IsNone};
-    ghost use Rattle.nvm_board.specs.Calls.{FitsPage};
+    ghost use Rattle.nvm_board.specs.BoardCalls.{FitsPage};
     ghost use Rattle.nvm_board.specs.Cut.{cut_facts, last_torn, IsNewCutBoard, WritesOrTears};
     ghost use Rattle.nvm_board.specs.Facts.{IsMemory, address};
     ghost use Rattle.nvm_board.specs.Given.{board_with};
@@ -66,7 +66,8 @@ impl CutBoard {
         })
     }
 
-    /// A lit board with these words, whose counts are 0 and on which no cut is to come. None if no board has that number
+    /// A lit board with these words, whose counts are 0 and on which no cut is to come. None if no board has that
+    /// number
     /// of words: 16 a page, 1,024 to 4,096 pages.
     pub fn of_words(words: Vec<u32>) -> Option<CutBoard>
         ensures board { IfSome result (λ b. cut_facts b ≡ board_with words.items) }
@@ -125,7 +126,7 @@ impl CutBoard {
 impl Board for CutBoard {
     ghost use Rattle.std.specs.Prelude.{◌≡◌, ◌<◌, length};
     ghost use Rattle.nvm_board.specs.declared.board.TheConstants.{SECRETS};
-    ghost use Rattle.nvm_board.specs.Calls.{TellsWord, FitsPage, Compares};
+    ghost use Rattle.nvm_board.specs.BoardCalls.{TellsWord, FitsPage, Compares};
     ghost use Rattle.nvm_board.specs.Facts.{address};
     ghost use Rattle.nvm_board.specs.Cut.{cut_facts, last_torn, WritesOrTears};
     ghost use Rattle.nvm_board.specs.laws.Counts.{cut_is_board};
@@ -198,7 +199,7 @@ impl Socket for CutBoard {
 
 impl Armed for CutBoard {
     ghost use Rattle.std.specs.Prelude.{◌≡◌, ◌≤◌};
-    ghost use Rattle.nvm_board.specs.Calls.{Arms};
+    ghost use Rattle.nvm_board.specs.BoardCalls.{Arms};
     ghost use Rattle.nvm_board.specs.Cut.{cut_facts, last_torn};
 
     fn arm(&mut self, k: u32, mask: u16)

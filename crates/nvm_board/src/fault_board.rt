@@ -188,7 +188,7 @@ impl FaultBoard {
 impl Board for FaultBoard {
     ghost use Rattle.std.specs.Prelude.{length};
     ghost use Rattle.nvm_board.specs.declared.board.TheConstants.{SECRETS};
-    ghost use Rattle.nvm_board.specs.Calls.{TellsWord, FitsPage, Writes, Compares};
+    ghost use Rattle.nvm_board.specs.BoardCalls.{TellsWord, FitsPage, Writes, Compares};
     ghost use Rattle.nvm_board.specs.Facts.{address};
     ghost use Rattle.nvm_board.specs.Faulty.{fault_facts, counting, AfterCall, AfterWrite};
     ghost use Rattle.nvm_board.specs.laws.Counts.{fault_is_board};
@@ -277,7 +277,7 @@ impl Socket for FaultBoard {
 
 impl Armed for FaultBoard {
     ghost use Rattle.std.specs.Prelude.{◌≡◌, ◌≤◌};
-    ghost use Rattle.nvm_board.specs.Calls.{Arms};
+    ghost use Rattle.nvm_board.specs.BoardCalls.{Arms};
     ghost use Rattle.nvm_board.specs.Faulty.{fault_facts, counting};
 
     fn arm(&mut self, k: u32, mask: u16)

@@ -202,7 +202,7 @@ impl RamBoard {
 
 impl Board for RamBoard {
     ghost use Rattle.std.specs.Prelude.{◌≡◌, OnErr};
-    ghost use Rattle.nvm_board.specs.Calls.{FitsPage, Writes};
+    ghost use Rattle.nvm_board.specs.BoardCalls.{FitsPage, Writes};
     ghost use Rattle.nvm_board.specs.Facts.{address};
     ghost use Rattle.nvm_board.specs.Ram.{ram_facts};
     ghost use Rattle.nvm_board.specs.laws.Counts.{ram_is_board};

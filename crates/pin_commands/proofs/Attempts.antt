@@ -18,7 +18,7 @@ use Rattle.card_rules.specs.declared.status.Sw.{Sw}
 use Rattle.card_rules.specs.declared.status.TheConstants.Sw.{DONE, METHOD_BLOCKED}
 use Rattle.card_rules.specs.Pins.{IsPinNumber, with_pin, without_pin}
 use Rattle.undo_journal.specs.declared.error.StoreErr.{StoreErr}
-use Rattle.undo_journal.specs.Calls.{OnlyReads, Reads}
+use Rattle.undo_journal.specs.StoreCalls.{OnlyReads, Reads}
 use Rattle.undo_journal.specs.Commits.{CommitsByGate, StaysShut}
 use Rattle.undo_journal.specs.Undo.{gate}
 use Rattle.undo_journal.specs.laws.Calls.{advances_by, advances_then}
@@ -46,10 +46,10 @@ use Rattle.card_model.specs.Behaviours.{attempt_commits, charged_card, is_right,
 use Rattle.card_model.specs.Behaviours.{tries_commits, value_commits, unblocking_of, value_of, with_pin_of}
 use Rattle.card_model.specs.PinCommands.{attempt_refusals, attempted, attempted_as, changing, marking, resetting}
 use Rattle.card_model.specs.PinCommands.{told_tries, tries_told, unverified, verifying}
-use Rattle.command_base.specs.Words.{StandsByWord, StandsServed}
+use Rattle.command_base.specs.CommitWords.{StandsByWord, StandsServed}
 use Rattle.command_base.specs.Served.{Serves}
 use Rattle.card_model.specs.Sessions.{Session, marked}
-use Rattle.command_base.specs.Spending.{most_writes}
+use Rattle.command_base.specs.CommandWrites.{most_writes}
 use Rattle.command_base.specs.Standing.{card_of, IsCard}
 use Rattle.command_base.specs.Working.{card_in, session_in, session_of, table_in, IsCurrent}
 use Rattle.command_base.specs.CurrentFiles.{tried_from}

@@ -2,7 +2,7 @@
 use Rattle.std.proofs.Common.{◌≡◌, ℕ, List, inl, inr, ⊎_elim}
 use Rattle.undo_journal.specs.Memory.{Memory}
 use Rattle.card_state.specs.Secrets.{tries_left}
-use Rattle.pin_store.specs.Trials.{pin_in, FillsByMatch, IsMatch, KeepsPinLaw, PaysForOne as PaysInStore}
+use Rattle.pin_store.specs.Trials.{pin_in, FillsByMatch, IsMatch, KeepsPinLaw, PaysForCounted as PaysInStore}
 use Rattle.command_base.specs.Comparing.{comparisons}
 use Rattle.command_base.specs.Comparing.{CostsATry, FillsTries, Matches, PaysForOne}
 

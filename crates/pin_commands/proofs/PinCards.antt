@@ -4,9 +4,9 @@ use Rattle.std.proofs.Common.{inr, lit<, slice_index_or}
 use Rattle.std.proofs.lemmas.List.FromFn.{get_or-map-range_with_len}
 use Rattle.nvm_board.specs.Facts.{address}
 use Rattle.nvm_board.specs.Facts.{IsMemory}
-use Rattle.block_chain.specs.Words.{word}
+use Rattle.block_chain.specs.BlockWords.{word}
 use Rattle.file_tree.specs.Table.{table}
-use Rattle.file_tree.specs.Changes.{KeepsTree}
+use Rattle.file_tree.specs.TreeChanges.{KeepsTree}
 use Rattle.file_tree.specs.Formats.{SameFormat}
 use Rattle.file_tree.specs.declared.layout.TheConstants.{MARK_WORD, PAGES_WORD}
 use Rattle.file_tree.specs.laws.Footprints.{tree_kept}

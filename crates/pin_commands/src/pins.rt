@@ -3,7 +3,7 @@
 ghost use Rattle.std.specs.Prelude.{◌≡◌, ◌<◌, ◌+◌, [], Some, option_map, IsSome};
 ghost use Rattle.std.specs.Result.{result_err};
 ghost use Rattle.nvm_board.specs.declared.board.TheConstants.{SECRETS};
-ghost use Rattle.undo_journal.specs.Calls.{Learns};
+ghost use Rattle.undo_journal.specs.StoreCalls.{Learns};
 ghost use Rattle.undo_journal.specs.Memory.{committed, IsReady};
 ghost use Rattle.card_rules.specs.Pins.{IsPinNumber};
 ghost use Rattle.card_model.specs.Requests.{change_reference_data as changing, reset_retry_counter as resetting};

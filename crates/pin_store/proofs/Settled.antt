@@ -6,7 +6,7 @@ use Rattle.nvm_board.specs.Aims.{AimStays}
 use Rattle.nvm_board.specs.Facts.{Facts, RisesAt, raised}
 use Rattle.nvm_board.specs.laws.Aims.{aims_kept, aims_stay, aims_then}
 use Rattle.undo_journal.specs.declared.error.StoreErr.{StoreErr}
-use Rattle.undo_journal.specs.Calls.{Changes, Leaves, OnlyReads, UnlessFailed}
+use Rattle.undo_journal.specs.StoreCalls.{Changes, Leaves, OnlyReads, UnlessFailed}
 use Rattle.undo_journal.specs.Memory.{Memory, IsIdle, IsReady, KeepsWords, Reports, committed}
 use Rattle.undo_journal.specs.laws.Memory.{reports_then}
 use Rattle.undo_journal.specs.Spending.{WritesAtMost}

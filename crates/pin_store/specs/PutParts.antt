@@ -3,7 +3,7 @@ use Rattle.std.specs.Prelude.{◌≡◌, ◌⊎◌, ◌+◌, ℕ, Result, OnOk}
 use Rattle.std.specs.Result.{result_err}
 use Rattle.undo_journal.specs.declared.error.StoreErr.{StoreErr}
 use Rattle.undo_journal.specs.declared.txn.Txn.{Txn}
-use Rattle.undo_journal.specs.Calls.{Changes, SetsIn}
+use Rattle.undo_journal.specs.StoreCalls.{Changes, SetsIn}
 use Rattle.undo_journal.specs.Lent.{memory_of}
 use Rattle.undo_journal.specs.Memory.{Memory, CountsCommit, InRuns, committed, current}
 use Rattle.undo_journal.specs.Spending.{transaction_writes}

@@ -25,5 +25,5 @@ renewal_runs (ValueAndTries new) = 1
 renewal_runs (Mark enabled) = 2
 
 -- The device writes of the transaction.
-abbrev pub renewal_writes : Renewal → ℕ
-renewal_writes renewal = transaction_writes (renewal_sets renewal) (renewal_runs renewal)
+abbrev pub renewing_writes : Renewal → ℕ
+renewing_writes renewal = transaction_writes (renewal_sets renewal) (renewal_runs renewal)

@@ -6,7 +6,7 @@ use Rattle.std.specs.Result.{result_err}
 use Rattle.nvm_board.specs.Aims.{AimsOn}
 use Rattle.nvm_board.specs.Facts.{Facts, RisesAt, raised}
 use Rattle.undo_journal.specs.declared.error.StoreErr.{StoreErr}
-use Rattle.undo_journal.specs.Calls.{Changes, Leaves, OnlyReads}
+use Rattle.undo_journal.specs.StoreCalls.{Changes, Leaves, OnlyReads}
 use Rattle.undo_journal.specs.Commits.{StaysShut}
 use Rattle.undo_journal.specs.Memory.{Memory, committed}
 use Rattle.pin_store.specs.declared.errors.PinErr.{PinErr}
@@ -67,9 +67,9 @@ Compared secret shown old new Matched = IsMatch secret shown old new
 Compared secret shown old new (Wrong left) = IsWrong secret shown left old new
 
 -- The device writes after a charge: `writes` after a match, none after a mismatch.
-abbrev pub end_writes : ℕ → Outcome → ℕ
-end_writes writes Matched = writes
-end_writes writes (Wrong left) = 0
+abbrev pub trial_end_writes : ℕ → Outcome → ℕ
+trial_end_writes writes Matched = writes
+trial_end_writes writes (Wrong left) = 0
 
 -- The effect of such a call by its outcome: after a match the PIN is `now`, after a mismatch nothing is written.
 abbrev pub EndsByOutcome : ℕ → List ℕ → Pin → Memory → Memory → Outcome → Type 0
@@ -89,7 +89,7 @@ pub record TakesTry {T E : Type 0} (secret : ℕ) (refused : Type 0) (old new : 
 
 -- A call that consumes a charge. It compares once, and a match changes the PIN by `set` in `writes` device writes. At
 -- each exit either that is done, or nothing has changed. `gate` describes the effect on the gate.
-pub record Ends (gate : Memory → Memory → Type 0) (writes secret : ℕ) (shown : List ℕ) (set : Pin → Pin)
+pub record EndsTrial (gate : Memory → Memory → Type 0) (writes secret : ℕ) (shown : List ℕ) (set : Pin → Pin)
     (old new : Memory) (result : Result Outcome StoreErr) : Type 0 where
   pub any_exit : (committed new ≡ committed old) ⊎ SetsByMatch secret shown (set (pin_in old secret)) old new
   pub done : IfOk result (EndsByOutcome secret shown (set (pin_in old secret)) old new)
@@ -97,7 +97,7 @@ pub record Ends (gate : Memory → Memory → Type 0) (writes secret : ℕ) (sho
   pub pages : ArePinPages (committed new)
   pub store : Leaves old new (result_err result)
   pub spends : ComparesOnce writes secret old.facts new.facts
-  pub counted : IfOk result (λ outcome. new.facts.writes ≡ old.facts.writes + end_writes writes outcome)
+  pub counted : IfOk result (λ outcome. new.facts.writes ≡ old.facts.writes + trial_end_writes writes outcome)
 
 -- A match was counted, and all tries of the secret are restored.
 pub record FillsByMatch (secret : ℕ) (shown : List ℕ) (old new : Memory) : Type 0 where
@@ -105,7 +105,7 @@ pub record FillsByMatch (secret : ℕ) (shown : List ℕ) (old new : Memory) : T
   pub full : tries_left secret (pin_in new secret) ≡ full_tries secret
 
 -- A comparison was counted and is paid for: a try was left and is used up, or all tries are restored after a match.
-pub record PaysForOne (secret : ℕ) (shown : List ℕ) (old new : Memory) : Type 0 where
+pub record PaysForCounted (secret : ℕ) (shown : List ℕ) (old new : Memory) : Type 0 where
   pub compared : new.facts.compares ≡ raised old.facts.compares secret
   pub left : 0 < tries_left secret (pin_in old secret)
   pub paid : (tries_left secret (pin_in new secret) + 1 ≡ tries_left secret (pin_in old secret))
@@ -119,7 +119,7 @@ pub record KeepsPinLaw (secret : ℕ) (shown : List ℕ) (old new : Memory) : Ty
   pub tries : (tries_left secret (pin_in new secret) ≡ tries_left secret (pin_in old secret))
       ⊎ (tries_left secret (pin_in new secret) + 1 ≡ tries_left secret (pin_in old secret))
       ⊎ FillsByMatch secret shown old new
-  pub compares : (new.facts.compares ≡ old.facts.compares) ⊎ PaysForOne secret shown old new
+  pub compares : (new.facts.compares ≡ old.facts.compares) ⊎ PaysForCounted secret shown old new
   pub matches : RisesAt old.facts.matches secret new.facts.matches
   pub pin : (pin_in new secret ≡ pin_in old secret) ⊎ (pin_in new secret ≡ charged_pin secret (pin_in old secret))
       ⊎ IsMatch secret shown old new

@@ -1,7 +1,7 @@
 //! The check of the PINs in a memory: their tries are in range, and a mark is 1 or 0.
 ghost use Rattle.std.specs.Prelude.{◌<◌, ◌↔◌, IsTrue};
 ghost use Rattle.nvm_board.specs.declared.board.TheConstants.{PAGE_WORDS};
-ghost use Rattle.undo_journal.specs.Calls.{Learns};
+ghost use Rattle.undo_journal.specs.StoreCalls.{Learns};
 ghost use Rattle.undo_journal.specs.Memory.{committed, IsReady};
 ghost use Rattle.pin_store.specs.Pages.{AreAtMost, AreMarks, ArePinPages};
 

@@ -5,7 +5,7 @@ ghost use Rattle.undo_journal.specs.Lent.{memory_of};
 ghost use Rattle.undo_journal.specs.Memory.{room, IsOpen, IsReady};
 ghost use Rattle.card_state.specs.Secrets.{changed_pin, marked_pin, reset_pin, tries_left, verified_pin, with_tries};
 ghost use Rattle.pin_store.specs.PutParts.{PutsIts, SetsIts};
-ghost use Rattle.pin_store.specs.RenewalParts.{renewal_runs, renewal_sets, renewal_writes, renewed_pin};
+ghost use Rattle.pin_store.specs.RenewalParts.{renewal_runs, renewal_sets, renewing_writes, renewed_pin};
 ghost use Rattle.pin_store.specs.Trials.{pin_in};
 
 use crate::layout::{PIN_MARK_WORD, TRIES, UNBLOCKING_TRIES};
@@ -108,7 +108,7 @@ pub(crate) fn put_renewed<B: Board>(
     renewal: Renewal<'_>,
 ) -> Result<(), StoreErr>
     requires ready { IsReady store.old }
-    ensures { PutsIts CommitsByGate (renewal_writes renewal.entry) secret (renewed_pin renewal.entry)
+    ensures { PutsIts CommitsByGate (renewing_writes renewal.entry) secret (renewed_pin renewal.entry)
         store.old store.new result }
 {
     let mut txn = store.begin();

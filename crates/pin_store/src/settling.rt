@@ -1,15 +1,15 @@
 //! The calls that consume a charge: each compares the charged secret once, and sets the PIN after a match.
 ghost use Rattle.std.specs.Prelude.{◌≡◌, ◌<◌, ◌≤◌, if◌then◌else◌, IfOk};
 ghost use Rattle.std.specs.Result.{result_err};
-ghost use Rattle.undo_journal.specs.Calls.{Reads, Leaves};
+ghost use Rattle.undo_journal.specs.StoreCalls.{Reads, Leaves};
 ghost use Rattle.undo_journal.specs.Commits.{CommitsByGate, StaysShut};
 ghost use Rattle.undo_journal.specs.Memory.{committed, IsReady};
 ghost use Rattle.nvm_board.specs.declared.board.TheConstants.{SECRETS};
 ghost use Rattle.card_rules.specs.declared.pins.TheConstants.{PINS};
 ghost use Rattle.card_state.specs.Secrets.{changed_pin, kept, marked_pin, reset_pin, verified_pin};
-ghost use Rattle.pin_store.specs.RenewalParts.{renewal_writes, renewed_pin};
+ghost use Rattle.pin_store.specs.RenewalParts.{renewing_writes, renewed_pin};
 ghost use Rattle.pin_store.specs.Pages.{ArePinPages};
-ghost use Rattle.pin_store.specs.Trials.{pin_in, Compared, ComparesOnce, Ends};
+ghost use Rattle.pin_store.specs.Trials.{pin_in, Compared, ComparesOnce, EndsTrial};
 
 use crate::charging::{Charged, tries};
 use crate::errors::Outcome;
@@ -30,7 +30,7 @@ pub fn settle<B: Board>(
     requires ready { IsReady store.old }
     requires secret { charged < PINS }
     requires pages { ArePinPages (committed store.old) }
-    ensures { Ends StaysShut 1 charged shown.now verified_pin store.old store.new result }
+    ensures { EndsTrial StaysShut 1 charged shown.now verified_pin store.old store.new result }
 {
     let secret = charged.secret();
     let outcome = compare(store, charged, shown)?;
@@ -54,7 +54,7 @@ pub fn change<B: Board>(
     requires ready { IsReady store.old }
     requires secret { charged < PINS }
     requires pages { ArePinPages (committed store.old) }
-    ensures { Ends CommitsByGate 5 charged shown.now (changed_pin new.now) store.old store.new result }
+    ensures { EndsTrial CommitsByGate 5 charged shown.now (changed_pin new.now) store.old store.new result }
 {
     renew(store, charged, shown, Renewal::Value(new))
 }
@@ -74,7 +74,7 @@ pub fn reset_counter<B: Board>(
     requires ready { IsReady store.old }
     requires secret { PINS ≤ charged }
     requires pages { ArePinPages (committed store.old) }
-    ensures { Ends CommitsByGate 4 charged shown.now (reset_pin new.now) store.old store.new result }
+    ensures { EndsTrial CommitsByGate 4 charged shown.now (reset_pin new.now) store.old store.new result }
 {
     renew(store, charged, shown, Renewal::ValueAndTries(new))
 }
@@ -93,7 +93,7 @@ pub fn set_enabled<B: Board>(
     requires ready { IsReady store.old }
     requires secret { charged < PINS }
     requires pages { ArePinPages (committed store.old) }
-    ensures { Ends CommitsByGate 5 charged shown.now (marked_pin enabled) store.old store.new result }
+    ensures { EndsTrial CommitsByGate 5 charged shown.now (marked_pin enabled) store.old store.new result }
 {
     renew(store, charged, shown, Renewal::Mark(enabled))
 }
@@ -108,7 +108,7 @@ fn renew<B: Board>(
 ) -> Result<Outcome, StoreErr>
     requires ready { IsReady store.old }
     requires pages { ArePinPages (committed store.old) }
-    ensures { Ends CommitsByGate (renewal_writes renewal.entry) charged shown.now (renewed_pin renewal.entry)
+    ensures { EndsTrial CommitsByGate (renewing_writes renewal.entry) charged shown.now (renewed_pin renewal.entry)
         store.old store.new result }
 {
     let secret = charged.secret();

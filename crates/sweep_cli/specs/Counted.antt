@@ -6,7 +6,7 @@ use Rattle.card_core.specs.Factory.{factory_card}
 use Rattle.command_base.specs.Finding.{Finds}
 use Rattle.card_bench.specs.declared.tally.Seen.{Seen}
 use Rattle.card_bench.specs.SweptRuns.{AreAllRuns}
-use Rattle.card_bench.specs.Tallies.{Counts, IsTally}
+use Rattle.card_bench.specs.Tallies.{CountsRuns, IsTally}
 use Rattle.sweep_cli.specs.declared.cases.Case.{Case}
 
 -- the number of runs and a colon (58), then for each finding a space (32) and the number of runs with it
@@ -23,5 +23,5 @@ pub record IsCountOf (case : Case) (text : List ℕ) : Type 0 where
   pub seen : List Seen
   pub tally : IsTally runs seen
   pub all : runs < 2 ^ 32 - 1
-      → Counts (AreAllRuns board case.prepare.now case.command.now case.probe.now case.depth) [] seen
+      → CountsRuns (AreAllRuns board case.prepare.now case.command.now case.probe.now case.depth) [] seen
   pub text_is : text ≡ counts_text runs seen

@@ -194,7 +194,8 @@ fn check<R: Abort + AllocGlobal>(
     Ok(())
 }
 
-/// What a command's sweep gives where no start is cut: of so many runs all but the last find the card before it, and the
+/// What a command's sweep gives where no start is cut: of so many runs all but the last find the card before it, and
+/// the
 /// last one the card after it.
 fn check_once<R: Abort + AllocGlobal>(
     rt: &R,

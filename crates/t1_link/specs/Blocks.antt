@@ -51,13 +51,13 @@ abbrev pub exclusive_or : List ℕ → ℕ
 exclusive_or bytes = fold bit_xor 0 bytes
 
 -- the prologue (node address, control byte, length byte) and the information field
-abbrev pub front : Block → List ℕ
-front b = 0x00 ∷ control_byte b ∷ length (field_of b) ∷ field_of b
+abbrev pub checked_bytes : Block → List ℕ
+checked_bytes b = 0x00 ∷ control_byte b ∷ length (field_of b) ∷ field_of b
 
 -- the bytes of a block (11.3.1): prologue, information field, and the check byte,
 -- which makes the exclusive-or of all bytes 00
 abbrev pub frame : Block → List ℕ
-frame b = front b ++ exclusive_or (front b) ∷ []
+frame b = checked_bytes b ++ exclusive_or (checked_bytes b) ∷ []
 
 -- a block of a kind without information field
 abbrev pub bare : List ℕ → Block → Option Block

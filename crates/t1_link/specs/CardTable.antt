@@ -126,9 +126,9 @@ action_of (replies b) = Reply
 action_of (runs command) = Run
 
 -- the command that waits for its answer after a reaction
-abbrev pub command_of : Reaction → Option (List ℕ)
-command_of (replies b) = None
-command_of (runs command) = Some command
+abbrev pub waiting_command : Reaction → Option (List ℕ)
+waiting_command (replies b) = None
+waiting_command (runs command) = Some command
 
 -- The value of the card's end: its link, and the command that waits for its answer.
 pub record CardLink : Type 0 where
@@ -137,4 +137,4 @@ pub record CardLink : Type 0 where
 
 -- the value of the card's end after a reaction
 abbrev pub after : Taken → CardLink
-after taken = record { link = taken.link; waiting = command_of taken.reaction }
+after taken = record { link = taken.link; waiting = waiting_command taken.reaction }

@@ -5,22 +5,22 @@ use Rattle.t1_link.specs.declared.card_end.Action.TheVariants.{Reply}
 use Rattle.t1_link.specs.declared.reader_end.Next.{Next}
 use Rattle.t1_link.specs.Blocks.{Block, frame}
 use Rattle.t1_link.specs.CardTable.{CardLink, Taken, action_of, after, reply_bytes}
-use Rattle.t1_link.specs.ReaderTable.{Outcome, Reader, Turned}
+use Rattle.t1_link.specs.ReaderTable.{CommandReport, Reader, Turned}
 use Rattle.t1_link.specs.ReaderFields.{left_in, next_of}
 
 -- the card's end follows its table: its state, the action it returns, and the contents of the block buffer
-pub record Takes (taken : Taken) (link : CardLink) (told : Action) (held : List ℕ) : Type 0 where
+pub record TakesByTable (taken : Taken) (link : CardLink) (told : Action) (held : List ℕ) : Type 0 where
   pub state : link ≡ after taken
   pub action : told ≡ action_of taken.reaction
   pub block : held ≡ reply_bytes taken.reaction
 
 -- the card's end stays unchanged and replies with this block
-pub record Replies (reply : Block) (told : Action) (held : List ℕ) : Type 0 where
+pub record RepliesUnchanged (reply : Block) (told : Action) (held : List ℕ) : Type 0 where
   pub action : told ≡ Reply
   pub block : held ≡ frame reply
 
 -- the reader's end follows its table: the step it returns, and the block buffer, rewritten or unchanged
-pub record Says (outcome : Outcome) (told : Next) (before held : List ℕ) : Type 0 where
+pub record Says (outcome : CommandReport) (told : Next) (before held : List ℕ) : Type 0 where
   pub next : told ≡ next_of outcome
   pub out : held ≡ left_in outcome before
 

@@ -43,15 +43,15 @@ fresh_reader = record {
 }
 
 -- The result of a step: a block to send, the answer, unknown whether the command ran, or a failure.
-pub data Outcome : Type 0 where
-  sends : Block → Outcome
-  gives : List ℕ → Outcome
-  unknown : Outcome
-  fails : Failure → Outcome
+pub data CommandReport : Type 0 where
+  sends : Block → CommandReport
+  gives : List ℕ → CommandReport
+  unknown : CommandReport
+  fails : Failure → CommandReport
 
 pub record Turned : Type 0 where
   pub reader : Reader
-  pub outcome : Outcome
+  pub outcome : CommandReport
 
 -- bit M of its last I-block: more of the command follows
 abbrev pub has_more : Reader → Bool

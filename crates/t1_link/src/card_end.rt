@@ -5,7 +5,7 @@ ghost use Rattle.t1_link.specs.Blocks.{IsSpellable, receive_ready};
 ghost use Rattle.t1_link.specs.CardTable.{CardLink, link_step, action_of, after, answers, reply_bytes};
 ghost use Rattle.t1_link.specs.CardTable.{card_takes, fresh};
 ghost use Rattle.t1_link.specs.CardTable.{sending, sent_block, sent_more, takes_information, takes_receive_ready};
-ghost use Rattle.t1_link.specs.EndParts.{Replies, Takes};
+ghost use Rattle.t1_link.specs.EndParts.{RepliesUnchanged, TakesByTable};
 ghost use Rattle.t1_link.specs.SequenceNumbers.{same};
 ghost use Rattle.t1_link.specs.SpokenParts.{block_of};
 
@@ -128,7 +128,7 @@ impl CardEnd {
     fn take_block(&mut self, block: Block<'_>, out: &mut BlockBytes) -> Action
         requires idle { self.old.waiting ≡ None }
         requires spellable { IsSpellable (block_of block) }
-        ensures { Takes (card_takes self.old.link (Ok (block_of block.entry))) self.new result out.new }
+        ensures { TakesByTable (card_takes self.old.link (Ok (block_of block.entry))) self.new result out.new }
     {
         match block {
             Block::ResynchRequest => {
@@ -152,7 +152,8 @@ impl CardEnd {
     /// Reacts to an I-block.
     fn take_information(&mut self, piece: Piece<'_>, out: &mut BlockBytes) -> Action
         requires { self.old.waiting ≡ None }
-        ensures { Takes (takes_information self.old.link piece.entry.number piece.entry.more piece.entry.field.now)
+        ensures { TakesByTable (takes_information self.old.link piece.entry.number piece.entry.more
+            piece.entry.field.now)
             self.new result out.new }
     {
         if !self.expects(piece.number) {
@@ -179,7 +180,7 @@ impl CardEnd {
     /// Reacts to an R-block.
     fn take_receive_ready(&mut self, number: SequenceNumber, out: &mut BlockBytes) -> Action
         requires { self.old.waiting ≡ None }
-        ensures { Takes (takes_receive_ready self.old.link number) self.new result out.new }
+        ensures { TakesByTable (takes_receive_ready self.old.link number) self.new result out.new }
     {
         if self.has_sent && self.answer.is_last(number) {
             self.send_again(out)
@@ -192,7 +193,7 @@ impl CardEnd {
 
     /// Replies with an R-block that has the expected number.
     fn receive_ready(&self, error: ErrorKind, out: &mut BlockBytes) -> Action
-        ensures { Replies (receive_ready self.now.link.nr error) result out.new }
+        ensures { RepliesUnchanged (receive_ready self.now.link.nr error) result out.new }
     {
         Block::ReceiveReady {
             number: self.expected,
@@ -205,7 +206,7 @@ impl CardEnd {
     /// Replies with the last I-block again.
     fn send_again(&self, out: &mut BlockBytes) -> Action
         requires { IsSome self.now.link.sent }
-        ensures { Replies (sent_block self.now.link) result out.new }
+        ensures { RepliesUnchanged (sent_block self.now.link) result out.new }
     {
         self.answer.last_block().write(out);
         Action::Reply
@@ -214,7 +215,7 @@ impl CardEnd {
     /// Replies with the next I-block of the answer.
     fn send_next(&mut self, out: &mut BlockBytes) -> Action
         requires { self.old.waiting ≡ None }
-        ensures { Takes (sending self.old.link self.old.link.rest) self.new result out.new }
+        ensures { TakesByTable (sending self.old.link self.old.link.rest) self.new result out.new }
     {
         self.answer.cut(usize::from(self.ifsd));
         self.has_sent = true;

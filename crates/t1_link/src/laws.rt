@@ -3,7 +3,7 @@
 ghost use Rattle.std.specs.Prelude.{◌≡◌, ◌≢◌, ◌++◌, ◌∷◌, [], List, ℕ, Ok, Err};
 ghost use Rattle.t1_link.specs.CardTable.{Link, replying, sending, sent_block};
 ghost use Rattle.t1_link.specs.ReaderTable.{Reader, advancing, last_block, sends};
-ghost use Rattle.t1_link.specs.Blocks.{Block as BlockValue, IsSpellable, exclusive_or, frame, front, heard};
+ghost use Rattle.t1_link.specs.Blocks.{Block as BlockValue, IsSpellable, exclusive_or, frame, checked_bytes, heard};
 
 use crate::block::Fault;
 
@@ -20,8 +20,8 @@ pub fn block_spelled_so()
 
 /// Any wrong check byte is detected as a redundancy error.
 pub fn other_check_byte_is_heard()
-    ensures { (b : BlockValue) (check : ℕ) → IsSpellable b → check ≢ exclusive_or (front b)
-        → heard (front b ++ check ∷ []) ≡ Err Fault.WrongCheck }
+    ensures { (b : BlockValue) (check : ℕ) → IsSpellable b → check ≢ exclusive_or (checked_bytes b)
+        → heard (checked_bytes b ++ check ∷ []) ≡ Err Fault.WrongCheck }
 {}
 
 /// Either end repeats its last I-block byte for byte.

@@ -10,7 +10,7 @@ use Rattle.undo_journal.specs.declared.batch.Waiting.{Waiting}
 use Rattle.undo_journal.specs.Undo.{data_words, IsDataAddress}
 use Rattle.undo_journal.specs.laws.Undo.{data_words-set}
 use Rattle.undo_journal.specs.laws.Memory.{length-overlay}
-use Rattle.undo_journal.specs.Batches.{overlay, look_up, batch_writes, AreSets, joined}
+use Rattle.undo_journal.specs.Batches.{overlay, look_up, batch_writes, AreSets, with_set}
 use Rattle.undo_journal.specs.Memory.{Memory, commit_writes, run_writes, taken}
 use Rattle.undo_journal.specs.laws.Joining.{commit_of_some, writes-some}
 use Rattle.undo_journal.specs.laws.Runs.{begins-one}
@@ -21,22 +21,22 @@ use Rattle.undo_journal.proofs.RunLaws.{runs-joined, runs-goes_on}
 -- One more set among those that wait, as the first of a batch or not.
 module _ (size : ℕ) (new : Waiting) (used : ℕ) (whole : used % BATCH ≡ 0) where
   pub join-costs : (ps : List Waiting) → AreSets size 0 ps → length ps < BATCH
-      → batch_writes (joined new ps) + run_writes (used + length ps)
-      ≤ batch_writes ps + run_writes (used + length (joined new ps)) + 1
+      → batch_writes (with_set new ps) + run_writes (used + length ps)
+      ≤ batch_writes ps + run_writes (used + length (with_set new ps)) + 1
   join-costs [] h few = omega (arith, whole, begins-one 0 new.at)
   join-costs (s ∷ rest) h few =
       let ps : List Waiting = s ∷ rest in
       let more = length-joined new ps in
       let fewer = joined-length new ps in
-      let some : 1 ≤ length (joined new ps) = omega (arith, more) in
+      let some : 1 ≤ length (with_set new ps) = omega (arith, more) in
       let runs = runs-joined size new ps 0 0 h (omega arith) in
-      omega (arith, whole, writes-some (joined new ps) some, runs, more, fewer, few)
+      omega (arith, whole, writes-some (with_set new ps) some, runs, more, fewer, few)
 
   -- it goes on with a run
   pub join-goes_on : (ps : List Waiting) → AreSets size 0 ps → length ps < BATCH → new.at % PAGE_WORDS ≢ 0
       → ((ps ≡ []) × (0 < used)) ⊎ IsSome (look_up (new.at - 1) ps)
-      → batch_writes (joined new ps) + run_writes (used + length ps)
-      ≤ batch_writes ps + run_writes (used + length (joined new ps))
+      → batch_writes (with_set new ps) + run_writes (used + length ps)
+      ≤ batch_writes ps + run_writes (used + length (with_set new ps))
   join-goes_on [] h few inside (inl begun) = omega (arith, whole, begins-one 0 new.at, begun.1)
   join-goes_on [] h few inside (inr waits) = absurd cc
   join-goes_on (s ∷ rest) h few inside (inl begun) = absurd
@@ -45,18 +45,18 @@ module _ (size : ℕ) (new : Waiting) (used : ℕ) (whole : used % BATCH ≡ 0) 
       let ps : List Waiting = s ∷ rest in
       let more = length-joined new ps in
       let fewer = joined-length new ps in
-      let some : 1 ≤ length (joined new ps) = omega (arith, more) in
+      let some : 1 ≤ length (with_set new ps) = omega (arith, more) in
       let runs = runs-goes_on size new ps 0 0 h (omega arith) inside waits in
-      omega (arith, whole, writes-some (joined new ps) some, runs, more, fewer, few)
+      omega (arith, whole, writes-some (with_set new ps) some, runs, more, fewer, few)
 
   -- its word is the one that is read
   pub join-current : (ps : List Waiting) (m : List ℕ) → AreSets size 0 ps → IsDataAddress m new.at
-      → data_words (overlay (joined new ps) m) ≡ slice_set (data_words (overlay ps m)) new.at new.word
+      → data_words (overlay (with_set new ps) m) ≡ slice_set (data_words (overlay ps m)) new.at new.word
   join-current ps m h place =
       let within : new.at < length (overlay ps m) = omega (arith, length-overlay ps m, place.1) in
       ap data_words (overlay-joined size new ps m 0 h) ∙ data_words-set (overlay ps m) new.at new.word (place.0, within)
 
-pub join-waits : (new : Waiting) (ps : List Waiting) → IsSome (look_up new.at (joined new ps))
+pub join-waits : (new : Waiting) (ps : List Waiting) → IsSome (look_up new.at (with_set new ps))
 join-waits new ps = ap (λ o. is_some o) (look_up-joined new ps)
 
 -- a batch that is not full

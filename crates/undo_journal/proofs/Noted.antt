@@ -13,7 +13,7 @@ use Rattle.undo_journal.specs.Undo.{gate, undo, data_words, IsSound}
 use Rattle.undo_journal.specs.Memory.{Memory, IsOpen, IsIdle, IsReady, IsTrueToBoard, Reports, FailsBy, committed}
 use Rattle.undo_journal.specs.Memory.{current, taken, store_err_of, store_result_of}
 use Rattle.undo_journal.specs.Spending.{KeepsBoard, WritesAtMost}
-use Rattle.undo_journal.specs.Calls.{OnlyReads, UnlessFailed, Changes}
+use Rattle.undo_journal.specs.StoreCalls.{OnlyReads, UnlessFailed, Changes}
 use Rattle.undo_journal.specs.laws.Calls.{reads_same, reads_spend}
 use Rattle.undo_journal.specs.laws.Exits.{error_tells}
 use Rattle.undo_journal.specs.laws.Told.{none_ready}

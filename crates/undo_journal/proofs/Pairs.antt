@@ -9,7 +9,7 @@ use Rattle.nvm_board.specs.Torn.{written}
 use Rattle.nvm_board.specs.laws.Torn.{written-elsewhere}
 use Rattle.undo_journal.specs.declared.batch.Waiting.{Waiting}
 use Rattle.undo_journal.specs.Batches.{AreSets}
-use Rattle.undo_journal.specs.Parts.{pairs_of, pair_words, Names, AllNamed}
+use Rattle.undo_journal.specs.JournalParts.{pairs_of, pair_words, Names, AllNamed}
 use Rattle.std.proofs.lemmas.Bool.Decides.{eqb_tells}
 use Rattle.undo_journal.specs.declared.layout.TheConstants.{JOURNAL}
 use Rattle.undo_journal.specs.Undo.{Pair, pair_at, pairs_from, earlier, IsDataAddress}

@@ -8,8 +8,8 @@ use Rattle.nvm_board.specs.declared.board.TheConstants.{PAGE_WORDS}
 use Rattle.nvm_board.specs.Torn.{written}
 use Rattle.undo_journal.specs.declared.batch.Waiting.{Waiting}
 use Rattle.undo_journal.specs.Undo.{Pair, IsDataAddress}
-use Rattle.undo_journal.specs.Batches.{overlay, look_up, AreSets, begins, runs_from, joined}
-use Rattle.undo_journal.specs.Parts.{run_words, first_words, Names, AllNamed}
+use Rattle.undo_journal.specs.Batches.{overlay, look_up, AreSets, begins, runs_from, with_set}
+use Rattle.undo_journal.specs.JournalParts.{run_words, first_words, Names, AllNamed}
 use Rattle.undo_journal.specs.laws.Runs.{goes, stops, going, begins-first, begins-one}
 use Rattle.undo_journal.specs.laws.Waits.{below, same, above, order, joined-below, joined-same, joined-above}
 use Rattle.undo_journal.proofs.Waits.{look_up-below, sets-lower}
@@ -22,7 +22,7 @@ module _ (size : ℕ) (new : Waiting) where
 
   -- it makes one run more, at most
   pub runs-joined : (ps : List Waiting) (least next : ℕ) → AreSets size least ps → next ≤ new.at
-      → runs_from next (joined new ps) ≤ runs_from next ps + 1
+      → runs_from next (with_set new ps) ≤ runs_from next ps + 1
   runs-joined [] least next h le = omega (arith, begins-one next new.at)
   runs-joined (s ∷ rest) least next h le = elim (order s.at new.at) [
     | below b lt ↦
@@ -48,7 +48,7 @@ module _ (size : ℕ) (new : Waiting) where
 
   -- none, where it goes on with a run that ends before it
   runs-first : (ps : List Waiting) → AreSets size new.at ps → new.at % PAGE_WORDS ≢ 0
-      → runs_from new.at (joined new ps) ≤ runs_from new.at ps
+      → runs_from new.at (with_set new ps) ≤ runs_from new.at ps
   runs-first [] h inside = elim (going new.at new.at) [
     | goes t e p is ↦ omega (arith, is)
     | stops t o is ↦ elim o [ inl differs ↦ absurd (differs refl) | inr first ↦ absurd (inside first) ]
@@ -74,7 +74,7 @@ module _ (size : ℕ) (new : Waiting) where
 
   pub runs-goes_on : (ps : List Waiting) (least next : ℕ) → AreSets size least ps → next ≤ new.at
       → new.at % PAGE_WORDS ≢ 0 → IsSome (look_up (new.at - 1) ps)
-      → runs_from next (joined new ps) ≤ runs_from next ps
+      → runs_from next (with_set new ps) ≤ runs_from next ps
   runs-goes_on [] least next h le inside waits = absurd cc
   runs-goes_on (s ∷ rest) least next h le inside waits = elim (order s.at new.at) [
     | below b lt ↦
@@ -82,9 +82,9 @@ module _ (size : ℕ) (new : Waiting) where
         elim (eqb_tells s.at (new.at - 1)) [
           | inl e ↦
               let follows : s.at + 1 ≡ new.at = omega (arith, e.1, lt) in
-              let family : ℕ → Type 0 = λ k. runs_from k (joined new rest) ≤ runs_from k rest in
+              let family : ℕ → Type 0 = λ k. runs_from k (with_set new rest) ≤ runs_from k rest in
               let moved : AreSets size new.at rest = subst (λ (k : ℕ). AreSets size k rest) follows h.1 in
-              let after : runs_from (s.at + 1) (joined new rest) ≤ runs_from (s.at + 1) rest =
+              let after : runs_from (s.at + 1) (with_set new rest) ≤ runs_from (s.at + 1) rest =
               subst family (sym follows) (runs-first rest moved inside) in
               omega (arith, made, after)
           | inr other ↦

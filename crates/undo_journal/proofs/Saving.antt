@@ -19,7 +19,7 @@ use Rattle.undo_journal.proofs.RunLaws.{IsSaved}
 use Rattle.std.proofs.lemmas.List.Elements.{All-append, All-weaker}
 use Rattle.undo_journal.specs.declared.batch.Waiting.{Waiting}
 use Rattle.undo_journal.specs.Batches.{overlay, AreSets}
-use Rattle.undo_journal.specs.Parts.{pairs_of, pair_words, Names, AllNamed}
+use Rattle.undo_journal.specs.JournalParts.{pairs_of, pair_words, Names, AllNamed}
 
 -- two memories of which a store makes the same
 pub record SameStore (m n : List ℕ) : Type 0 where

@@ -4,27 +4,27 @@ use Rattle.std.proofs.Common.{sym, ◌∙◌, ap, subst, inl, inr, arith}
 use Rattle.std.proofs.lemmas.Bool.Decides.{eqb_tells}
 use Rattle.std.proofs.lemmas.List.{length-take-le}
 use Rattle.nvm_board.specs.declared.board.TheConstants.{PAGE_WORDS}
-use Rattle.undo_journal.specs.Batches.{joined, joined_run, touched_pages}
+use Rattle.undo_journal.specs.Batches.{with_set, joined_run, touched_pages}
 use Rattle.undo_journal.specs.declared.batch.Waiting.{Waiting}
-use Rattle.undo_journal.specs.Memory.{Memory, InRuns, GoesOn, EndsAt}
+use Rattle.undo_journal.specs.Memory.{Memory, InRuns, ContinuesRun, EndsAt}
 use Rattle.undo_journal.specs.declared.batch.TheConstants.{BATCH}
 use Rattle.undo_journal.specs.laws.Calls.{runs_then, runs_weaker}
 use Rattle.undo_journal.proofs.Waits.{joined-length}
 
 -- one word more
 pub joined_run-more : (words : List ℕ) (at i : ℕ) (sets : List Waiting) → i < length words
-    → joined (record { at = at + i; word = slice_index words i }) (joined_run at (take i words) sets)
+    → with_set (record { at = at + i; word = slice_index words i }) (joined_run at (take i words) sets)
     ≡ joined_run at (take (i + 1) words) sets
 joined_run-more [] at i sets lt = absurd (omega arith)
 joined_run-more (w ∷ words) at zero sets lt =
     let here : at + zero ≡ at = omega arith in
-    ap (λ (j : ℕ). joined (record { at = j; word = w }) sets) here
+    ap (λ (j : ℕ). with_set (record { at = j; word = w }) sets) here
 joined_run-more (w ∷ words) at (suc i) sets lt =
     let place : at + suc i ≡ at + 1 + i = omega arith in
     let more : suc i + 1 ≡ suc (i + 1) = omega arith in
     let below : i < length words = omega (arith, lt) in
-    let first : List Waiting = joined (record { at = at; word = w }) sets in
-    ap (λ (j : ℕ). joined (record { at = j; word = slice_index words i })
+    let first : List Waiting = with_set (record { at = at; word = w }) sets in
+    ap (λ (j : ℕ). with_set (record { at = j; word = slice_index words i })
     (joined_run (at + 1) (take i words) first)) place
     ∙ joined_run-more words (at + 1) i first below ∙ ap (λ (n : ℕ). joined_run at (take n (w ∷ words)) sets) (sym more)
 
@@ -33,13 +33,13 @@ joined_run-length : (words : List ℕ) (at : ℕ) (sets : List Waiting)
 joined_run-length [] at sets = omega arith
 joined_run-length (w ∷ words) at sets =
     let set : Waiting = record { at = at; word = w } in
-    let rest = joined_run-length words (at + 1) (joined set sets) in
+    let rest = joined_run-length words (at + 1) (with_set set sets) in
     let one = joined-length set sets in
     omega (arith, rest, one)
 
 -- so few of them fill no batch
 pub fills-none : (set : Waiting) (words : List ℕ) (at i : ℕ) (old now : List Waiting)
-    → now ≡ joined_run at (take i words) old → i < length words → length (joined set now) ≡ BATCH
+    → now ≡ joined_run at (take i words) old → i < length words → length (with_set set now) ≡ BATCH
     → length old + (i + 1) < BATCH → ⊥
 fills-none set words at i old now is lt full few =
     let run = joined_run-length (take i words) at old in
@@ -69,7 +69,7 @@ module _ (at i : ℕ) (first now : Memory) (so_far : AreSetSoFar at i first now)
   ]
 
   -- one word more is set
-  module _ (after : Memory) (one : InRuns 1 now after) (goes : GoesOn now (at + i) → InRuns 0 now after) where
+  module _ (after : Memory) (one : InRuns 1 now after) (goes : ContinuesRun now (at + i) → InRuns 0 now after) where
     pages_put : InRuns (touched_pages at (i + 1)) first after
     pages_put =
         let next = pages-count at (i + 1) (omega arith) in

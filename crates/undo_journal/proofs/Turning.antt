@@ -5,7 +5,7 @@ use Rattle.nvm_board.specs.laws.Torn.{Torn-all}
 use Rattle.undo_journal.specs.declared.batch.Waiting.{Waiting}
 use Rattle.undo_journal.specs.Undo.{Pair, pairs}
 use Rattle.undo_journal.specs.Batches.{overlay, AreSets}
-use Rattle.undo_journal.specs.Parts.{first_words, AllNamed}
+use Rattle.undo_journal.specs.JournalParts.{first_words, AllNamed}
 use Rattle.undo_journal.proofs.RunLaws.{IsSaved, turn-saved, turn-written, named-drop}
 use Rattle.undo_journal.proofs.Saving.{SameUndo, saved-torn, same-then}
 

@@ -8,8 +8,8 @@ use Rattle.std.proofs.lemmas.Bool.Decides.{eqb_tells}
 use Rattle.std.proofs.lemmas.List.Elements.{All-set}
 use Rattle.nvm_board.specs.Facts.{AreWords}
 use Rattle.undo_journal.specs.declared.batch.Waiting.{Waiting}
-use Rattle.undo_journal.specs.Batches.{overlay, look_up, IsSet, AreSets, joined}
-use Rattle.undo_journal.specs.Parts.{before, IsLastBelow}
+use Rattle.undo_journal.specs.Batches.{overlay, look_up, IsSet, AreSets, with_set}
+use Rattle.undo_journal.specs.JournalParts.{before, IsLastBelow}
 use Rattle.undo_journal.specs.laws.Waits.{below, same, above, order, joined-below, joined-same, joined-above}
 use Rattle.undo_journal.specs.laws.Waits.{AreAscending}
 use Rattle.std.specs.List.{refill}
@@ -124,7 +124,7 @@ look_up-below size a least (s ∷ rest) h lt =
 module _ (size : ℕ) (new : Waiting) where
   -- its word is the one that is read
   pub overlay-joined : (ps : List Waiting) (m : List ℕ) (least : ℕ) → AreSets size least ps
-      → overlay (joined new ps) m ≡ slice_set (overlay ps m) new.at new.word
+      → overlay (with_set new ps) m ≡ slice_set (overlay ps m) new.at new.word
   overlay-joined [] m least h = refl
   overlay-joined (s ∷ rest) m least h = elim (order s.at new.at) [
     | below b lt ↦ ap (λ (l : List Waiting). overlay l m) (joined-below new s rest b)
@@ -151,7 +151,7 @@ module _ (size : ℕ) (new : Waiting) where
   ]
 
   pub sets-joined : (ps : List Waiting) (least : ℕ) → AreSets size least ps → IsSet size least new
-      → AreSets size least (joined new ps)
+      → AreSets size least (with_set new ps)
   sets-joined [] least h is_set = (is_set, tt)
   sets-joined (s ∷ rest) least h is_set = elim (order s.at new.at) [
     | below b lt ↦
@@ -184,7 +184,7 @@ module _ (size : ℕ) (new : Waiting) where
 -- How many they are then.
 module _ (new : Waiting) where
   -- it takes one place, or none
-  pub length-joined : (ps : List Waiting) → length ps ≤ length (joined new ps)
+  pub length-joined : (ps : List Waiting) → length ps ≤ length (with_set new ps)
   length-joined [] = omega arith
   length-joined (s ∷ rest) = elim (order s.at new.at) [
     | below b lt ↦ omega (arith, ap (λ (l : List Waiting). length l) (joined-below new s rest b), length-joined rest)
@@ -192,7 +192,7 @@ module _ (new : Waiting) where
     | above b e lt ↦ omega (arith, ap (λ (l : List Waiting). length l) (joined-above new s rest b e))
   ]
 
-  pub joined-length : (ps : List Waiting) → length (joined new ps) ≤ length ps + 1
+  pub joined-length : (ps : List Waiting) → length (with_set new ps) ≤ length ps + 1
   joined-length [] = omega arith
   joined-length (s ∷ rest) = elim (order s.at new.at) [
     | below b lt ↦ omega (arith, ap (λ (l : List Waiting). length l) (joined-below new s rest b), joined-length rest)
@@ -202,7 +202,7 @@ module _ (new : Waiting) where
 
 -- the place of a set by the number of those of smaller addresses: it is taken by a set of its address
 pub replaced-joined : (new : Waiting) (ps : List Waiting) (d : Waiting) → before new.at ps < length ps
-    → (get_or ps (before new.at ps) d).at ≡ new.at → slice_set ps (before new.at ps) new ≡ joined new ps
+    → (get_or ps (before new.at ps) d).at ≡ new.at → slice_set ps (before new.at ps) new ≡ with_set new ps
 replaced-joined new [] d lt is = absurd (omega arith)
 replaced-joined new (s ∷ rest) d lt is = elim (order s.at new.at) [
   | below b l ↦
@@ -226,7 +226,7 @@ replaced-joined new (s ∷ rest) d lt is = elim (order s.at new.at) [
 -- or not
 pub inserted-joined : (new : Waiting) (ps : List Waiting) (d : Waiting)
     → (before new.at ps < length ps → (get_or ps (before new.at ps) d).at ≡ new.at → ⊥)
-    → insert ps (before new.at ps) new ≡ joined new ps
+    → insert ps (before new.at ps) new ≡ with_set new ps
 inserted-joined new [] d free = refl
 inserted-joined new (s ∷ rest) d free = elim (order s.at new.at) [
   | below b l ↦
@@ -274,12 +274,13 @@ first-below s (t ∷ rest) a up last =
 
 -- a set of an address above the last one goes behind all
 pub joined-behind : (new : Waiting) (ps : List Waiting) (least : ℕ) → AreAscending least ps → IsLastBelow new.at ps
-    → joined new ps ≡ ps ++ new ∷ []
+    → with_set new ps ≡ ps ++ new ∷ []
 joined-behind new [] least up last = refl
 joined-behind new (s ∷ rest) least up last =
     let low = first-below s rest new.at up.1 last in
     elim (order s.at new.at) [
-      | below b lt ↦ joined-below new s rest b ∙ ap (λ (l : List Waiting). s ∷ l) (joined-behind new rest (s.at + 1) up.1
+      | below b lt ↦ joined-below new s rest b ∙ ap (λ (l : List Waiting). s
+          ∷ l) (joined-behind new rest (s.at + 1) up.1
           (λ k is. last (suc k) (let more : suc k + 1 ≡ length (s ∷ rest) = omega (arith, is) in more)))
       | same b e is ↦ absurd (omega (arith, low, is))
       | above b e lt ↦ absurd (omega (arith, low, lt))

@@ -16,15 +16,15 @@ look_up a [] = None
 look_up a (s ∷ rest) = if s.at == a then Some s.word else look_up a rest
 
 -- The sets with one more. It replaces one of the same address.
-abbrev pub joined : Waiting → List Waiting → List Waiting
-joined new [] = new ∷ []
-joined new (s ∷ rest) = if nat_lt s.at new.at then s
-    ∷ joined new rest else (if s.at == new.at then new ∷ rest else new ∷ s ∷ rest)
+abbrev pub with_set : Waiting → List Waiting → List Waiting
+with_set new [] = new ∷ []
+with_set new (s ∷ rest) = if nat_lt s.at new.at then s
+    ∷ with_set new rest else (if s.at == new.at then new ∷ rest else new ∷ s ∷ rest)
 
 -- The sets with one more for each of the words from an address on.
 abbrev pub joined_run : ℕ → List ℕ → List Waiting → List Waiting
 joined_run at [] sets = sets
-joined_run at (w ∷ words) sets = joined_run (at + 1) words (joined (record { at = at; word = w }) sets)
+joined_run at (w ∷ words) sets = joined_run (at + 1) words (with_set (record { at = at; word = w }) sets)
 
 -- A set of a data word in a memory of `size` words, at address `least` or above.
 pub record IsSet (size least : ℕ) (s : Waiting) : Type 0 where

@@ -17,7 +17,8 @@ abbrev pub CommitsByGate : Memory → Memory → Type 0
 CommitsByGate old new = (committed new ≡ committed old) ⊎ TurnsGate (committed old) new
 
 -- Once the gate has turned to 0 the current words are the committed ones. Where it is 0 and they are not, it had not
--- risen: no set had used a pair, and at most the pairs, and a gate that didn't turn, were written.
+-- risen: no set had used a pair, and at most the pairs, and a gate that didn't rise, were written. All this of a store
+-- that hasn't failed.
 abbrev pub TurnedCommits : Memory → Memory → Type 0
 TurnedCommits entry exit = gate exit.facts.words ≡ 0 → entry.failed ≡ None → (committed exit ≡ current entry)
     ⊎ ((entry.used ≡ 0) × (exit.facts.writes ≤ entry.facts.writes + 2))

@@ -14,7 +14,7 @@ use Rattle.undo_journal.specs.declared.error.OpenFault.TheVariants as fault
 use Rattle.undo_journal.specs.declared.layout.TheConstants.{PAIRS}
 use Rattle.undo_journal.specs.declared.batch.TheConstants.{BATCH}
 use Rattle.undo_journal.specs.declared.batch.Waiting.{Waiting}
-use Rattle.undo_journal.specs.Batches.{overlay, look_up, joined, batch_writes, AreSets}
+use Rattle.undo_journal.specs.Batches.{overlay, look_up, with_set, batch_writes, AreSets}
 use Rattle.undo_journal.specs.Undo.{gate, undo, data_words, IsSound, IsBadJournal}
 
 -- A store: the facts of its board, its failure, the number of journal pairs in use, and the waiting sets.
@@ -54,8 +54,8 @@ abbrev pub EndsAt : Memory → ℕ → Type 0
 EndsAt m a = ((m.waiting ≡ []) × (0 < m.used)) ⊎ IsSome (look_up a m.waiting)
 
 -- A set at this address continues the run of the word before it in the same page.
-abbrev pub GoesOn : Memory → ℕ → Type 0
-GoesOn m a = (a % PAGE_WORDS ≢ 0) × EndsAt m (a - 1)
+abbrev pub ContinuesRun : Memory → ℕ → Type 0
+ContinuesRun m a = (a % PAGE_WORDS ≢ 0) × EndsAt m (a - 1)
 
 -- The device writes of `sets` sets in one run, but for the gate of their commit. Each eight take three: pairs, gate
 -- and words. `InRuns` counts the words of the first eight.
@@ -87,11 +87,11 @@ pub record FillsBatch (sets : List Waiting) (old new : Memory) : Type 0 where
 
 -- The effect of a successful set on the waiting ones.
 abbrev pub Joins : Waiting → Memory → Memory → Type 0
-Joins set old new = Waits (joined set old.waiting) old new ⊎ FillsBatch (joined set old.waiting) old new
+Joins set old new = Waits (with_set set old.waiting) old new ⊎ FillsBatch (with_set set old.waiting) old new
 
 -- The device writes of a set: those of the batch that it fills, else none.
 abbrev pub set_writes : Waiting → Memory → ℕ
-set_writes set m = if length (joined set m.waiting) == BATCH then batch_writes (joined set m.waiting) else 0
+set_writes set m = if length (with_set set m.waiting) == BATCH then batch_writes (with_set set m.waiting) else 0
 
 -- No call has failed, and the board has power.
 pub record IsOpen (m : Memory) : Type 0 where

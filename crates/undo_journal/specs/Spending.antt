@@ -42,7 +42,7 @@ KeepsShut old new = gate old.words ≡ 0 → KeepsBoard old new
 abbrev pub rollback_writes : ℕ → ℕ
 rollback_writes pairs = if pairs == 0 then 0 else pairs + 1
 
--- The device writes of an open, at most.
+-- The device writes of an open that is done; one that stops makes no more.
 abbrev pub start_writes : Facts → ℕ
 start_writes facts = rollback_writes (gate facts.words)
 

@@ -9,10 +9,10 @@ ghost use Rattle.undo_journal.specs.declared.layout.TheConstants.{JOURNAL, PAIRS
 ghost use Rattle.undo_journal.specs.Undo.{gate, pairs, undo, data_words, IsDataAddress, IsSound};
 ghost use Rattle.undo_journal.specs.Commits.{TurnsGate};
 ghost use Rattle.undo_journal.specs.Spending.{WritesAtMost, KeepsBoard};
-ghost use Rattle.undo_journal.specs.Batches.{overlay, look_up, batch_writes, runs_from, AreSets, joined};
-ghost use Rattle.undo_journal.specs.Parts.{before, first_words, pair_words, AllNamed, IsLastBelow};
+ghost use Rattle.undo_journal.specs.Batches.{overlay, look_up, batch_writes, runs_from, AreSets, with_set};
+ghost use Rattle.undo_journal.specs.JournalParts.{before, first_words, pair_words, AllNamed, IsLastBelow};
 ghost use Rattle.undo_journal.specs.laws.Waits.{AreAscending};
-ghost use Rattle.undo_journal.specs.Memory.{commit_writes, set_writes, EndsAt, GoesOn, InRuns, IsHeld, Joins};
+ghost use Rattle.undo_journal.specs.Memory.{commit_writes, set_writes, EndsAt, ContinuesRun, InRuns, IsHeld, Joins};
 ghost use Rattle.undo_journal.specs.BatchParts.{working};
 
 use crate::address::Address;
@@ -95,7 +95,7 @@ fn is_behind(sets: &[Waiting], at: u16) -> bool
 fn join(sets: &mut Sets, new: Waiting)
     requires room { array_vec_len sets.old < BATCH }
     requires sorted { AreAscending 0 sets.old.items }
-    ensures { sets.new.items ≡ joined new sets.old.items }
+    ensures { sets.new.items ≡ with_set new sets.old.items }
 {
     if is_behind(sets, new.at) {
         sets.push(new);
@@ -257,7 +257,7 @@ pub(crate) fn add<B: Board>(board: &mut B, batch: &mut Batch, new: Waiting) -> R
     ensures taken { batch.new.used + array_vec_len batch.new.waiting
         ≤ batch.old.used + array_vec_len batch.old.waiting + 1 }
     ensures runs { InRuns 1 (working (B.facts board.old) batch.old) (working (B.facts board.new) batch.new) }
-    ensures goes_on { GoesOn (working (B.facts board.old) batch.old) new.at
+    ensures goes_on { ContinuesRun (working (B.facts board.old) batch.old) new.at
         → InRuns 0 (working (B.facts board.old) batch.old) (working (B.facts board.new) batch.new) }
     ensures next { OnOk result (EndsAt (working (B.facts board.new) batch.new) new.at) }
     ensures spends { WritesAtMost (set_writes new (working (B.facts board.old) batch.old)) (B.facts board.old)

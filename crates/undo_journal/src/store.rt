@@ -14,7 +14,7 @@ ghost use Rattle.undo_journal.specs.Spending.{KeepsShut, WritesAtMost, rollback_
 ghost use Rattle.undo_journal.specs.Commits.{StaysShut, TurnedCommits, TurnsGate};
 ghost use Rattle.undo_journal.specs.Memory.{committed, current, commit_writes, room, set_writes};
 ghost use Rattle.undo_journal.specs.Memory.{store_result_of, taken};
-ghost use Rattle.undo_journal.specs.Memory.{EndsAt, GoesOn, InRuns, IsIdle, IsOpen, IsReady, Joins, KeepsWords};
+ghost use Rattle.undo_journal.specs.Memory.{EndsAt, ContinuesRun, InRuns, IsIdle, IsOpen, IsReady, Joins, KeepsWords};
 ghost use Rattle.undo_journal.specs.Memory.{OpensNot, Reports};
 
 use crate::address::Address;
@@ -57,7 +57,7 @@ impl<B: Board> Model for Store<B> {
 
 impl<B: Board> Store<B> {
     ghost use Rattle.undo_journal.specs.Lent.{memory_of, store_of};
-    ghost use Rattle.undo_journal.specs.Calls.{OnlyReads, Reads, Changes};
+    ghost use Rattle.undo_journal.specs.StoreCalls.{OnlyReads, Reads, Changes};
 
     /// Opens the store of a board and rolls back uncommitted words. On failure it returns the board.
     ///
@@ -273,7 +273,7 @@ impl<B: Board> Store<B> {
         ensures tells { self.new.failed ≡ result_err result }
         ensures dark { IsErrOf result PowerLost → self.new.facts.dark ≡ true }
         ensures runs { InRuns 1 self.old self.new }
-        ensures goes_on { GoesOn self.old at → InRuns 0 self.old self.new }
+        ensures goes_on { ContinuesRun self.old at → InRuns 0 self.old self.new }
         ensures next { OnOk result (EndsAt self.new at) }
         ensures spends { WritesAtMost (set_writes (record { at = at; word = word }) self.old)
             self.old.facts self.new.facts }

@@ -10,7 +10,7 @@ ghost use Rattle.undo_journal.specs.Undo.{IsDataAddress, IsDataRun};
 ghost use Rattle.undo_journal.specs.Spending.{rollback_writes, WritesAtMost};
 ghost use Rattle.undo_journal.specs.Batches.{joined_run, touched_pages};
 ghost use Rattle.undo_journal.specs.declared.batch.TheConstants.{BATCH};
-ghost use Rattle.undo_journal.specs.Memory.{committed, current, commit_writes, room, set_writes, EndsAt, GoesOn};
+ghost use Rattle.undo_journal.specs.Memory.{committed, current, commit_writes, room, set_writes, EndsAt, ContinuesRun};
 ghost use Rattle.undo_journal.specs.Memory.{InRuns, Joins, Waits};
 
 use crate::error::StoreErr;
@@ -25,7 +25,7 @@ pub struct Txn<'a, B: Board> {
 
 impl<B: Board> Txn<'_, B> {
     ghost use Rattle.undo_journal.specs.Lent.{memory_of};
-    ghost use Rattle.undo_journal.specs.Calls.{Changes, ReadsIn, SetsIn};
+    ghost use Rattle.undo_journal.specs.StoreCalls.{Changes, ReadsIn, SetsIn};
 
     /// Returns the number of further sets that fit in the journal.
     pub fn room(&self) -> usize
@@ -58,7 +58,7 @@ impl<B: Board> Txn<'_, B> {
         requires place { IsDataAddress (current (memory_of self.old)) at }
         ensures done { OnOk result (current (memory_of self.new) ≡ slice_set (current (memory_of self.old)) at word) }
         ensures store { SetsIn 1 self.old self.new (result_err result) }
-        ensures goes_on { GoesOn (memory_of self.old) at → InRuns 0 (memory_of self.old) (memory_of self.new) }
+        ensures goes_on { ContinuesRun (memory_of self.old) at → InRuns 0 (memory_of self.old) (memory_of self.new) }
         ensures next { OnOk result (EndsAt (memory_of self.new) at) }
         ensures spends { WritesAtMost (set_writes (record { at = at; word = word }) (memory_of self.old))
             (memory_of self.old).facts (memory_of self.new).facts }

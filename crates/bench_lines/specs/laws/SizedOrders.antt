@@ -14,13 +14,13 @@ use Rattle.hex.proofs.HexLemmas.{decode_of-ok}
 use Rattle.bench_lines.specs.declared.order.TheConstants.{COMMAND_LIMIT, BLOCK_LIMIT, NUMBER_DIGITS}
 use Rattle.bench_lines.specs.Orders.{Order}
 use Rattle.bench_lines.specs.Orders.{Nothing, On, Off, Free, Apdu, Block, Cut, Lose, Garble}
-use Rattle.bench_lines.specs.Orders.{IsSized, bytes_in, cut_by, cut_in, mask_by, number_in, order_of, within_limit}
-use Rattle.bench_lines.specs.Spellings.{IsOfBytes}
+use Rattle.bench_lines.specs.Orders.{IsOrderSized, bytes_in, cut_by, cut_in, mask_by, number_in, order_of, within_limit}
+use Rattle.bench_lines.specs.Spellings.{IsOrderOfBytes}
 use Rattle.bench_lines.specs.laws.Numbers.{digits-bound}
 
 -- an order within the limits, of bytes
 abbrev InRange : Order → Type 0
-InRange order = IsSized order × IsOfBytes order
+InRange order = IsOrderSized order × IsOrderOfBytes order
 
 -- what is asked for, if anything is, keeps the limits
 abbrev Sized : Option Order → Type 0
@@ -107,7 +107,8 @@ cut (Some number) None range small = none
 cut None (Some mask) range small = none
 cut None None range small = none
 
-pub order_of-in_range : (line : List ℕ) (order : Order) → order_of line ≡ Some order → IsSized order × IsOfBytes order
+pub order_of-in_range : (line : List ℕ) (order : Order) → order_of line ≡ Some order
+    → IsOrderSized order × IsOrderOfBytes order
 unfolding order_of
 order_of-in_range line =
     either _ None _ none (

@@ -13,7 +13,7 @@ use Rattle.std.specs.Prelude.{slice_index}
 use Rattle.nvm_board.specs.Facts.{address, IsMemory}
 use Rattle.nvm_board.specs.declared.board.TheConstants.{PAGE_WORDS}
 use Rattle.block_chain.specs.Chains.{Leads, bytes_of}
-use Rattle.block_chain.specs.Words.{word, link, word_bytes, block_bytes, IsBlock}
+use Rattle.block_chain.specs.BlockWords.{word, link, word_bytes, block_bytes, IsBlock}
 use Rattle.block_chain.specs.declared.layout.TheConstants.{BLOCK_BYTES, BLOCK_WORDS}
 use Rattle.nvm_board.specs.laws.Sizes.{page_within}
 use Rattle.block_chain.specs.laws.Chains.{block_same}

@@ -10,7 +10,7 @@ use Rattle.nvm_board.specs.Facts.{IsMemory}
 use Rattle.nvm_board.specs.laws.Sizes.{pages_same}
 use Rattle.block_chain.specs.Chains.{Leads, pages_from, chain, IsChain}
 use Rattle.block_chain.specs.Counts.{count, NoneTwice}
-use Rattle.block_chain.specs.Words.{link, IsBlock}
+use Rattle.block_chain.specs.BlockWords.{link, IsBlock}
 use Rattle.block_chain.specs.declared.layout.TheConstants.{MOST_BLOCKS}
 use Rattle.block_chain.specs.laws.Counts.{count-cons, count-here, count-append}
 

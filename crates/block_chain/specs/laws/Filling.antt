@@ -12,10 +12,10 @@ use Rattle.nvm_board.specs.Torn.{IsMixture, written}
 use Rattle.nvm_board.specs.laws.Torn.{written-inside, written-elsewhere}
 use Rattle.nvm_board.specs.declared.board.TheConstants.{PAGE_WORDS}
 use Rattle.block_chain.specs.Chains.{bytes_of}
-use Rattle.block_chain.specs.Changes.{OnlyContent}
+use Rattle.block_chain.specs.ChainChanges.{OnlyContent}
 use Rattle.block_chain.specs.Counts.{count, NoneTwice, IsNotIn}
-use Rattle.block_chain.specs.Parts.{filled_word}
-use Rattle.block_chain.specs.Words.{word, word_bytes, IsBlock}
+use Rattle.block_chain.specs.ChainParts.{filled_word}
+use Rattle.block_chain.specs.BlockWords.{word, word_bytes, IsBlock}
 use Rattle.block_chain.specs.declared.layout.TheConstants.{BLOCK_BYTES, BLOCK_WORDS}
 use Rattle.block_chain.specs.laws.Bytes.{AreBlocks, index-bytes_of}
 use Rattle.block_chain.specs.laws.Counts.{count-index, apart}

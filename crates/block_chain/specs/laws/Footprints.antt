@@ -11,10 +11,10 @@ use Rattle.block_chain.specs.declared.layout.TheConstants.{FREE_HEAD, FREE_HEAD_
 use Rattle.block_chain.specs.declared.layout.TheConstants.{BLOCK_BYTES, BLOCK_WORDS}
 use Rattle.block_chain.specs.declared.chain.Extent.{Extent}
 use Rattle.nvm_board.specs.laws.Sizes.{memory_same, pages_same}
-use Rattle.block_chain.specs.Words.{word, link, page_words, word_bytes, IsBlock}
+use Rattle.block_chain.specs.BlockWords.{word, link, page_words, word_bytes, IsBlock}
 use Rattle.block_chain.specs.Counts.{count, NoneTwice, IsNotIn}
 use Rattle.block_chain.specs.Chains.{Leads, free_chain, bytes_of}
-use Rattle.block_chain.specs.Changes.{OnlyLinks, OnlyContent, KeepsBlocks}
+use Rattle.block_chain.specs.ChainChanges.{OnlyLinks, OnlyContent, KeepsBlocks}
 use Rattle.block_chain.specs.Layout.{IsOf, blocks_of, laid_out, IsExtent, AreLaid, SameBytes}
 use Rattle.block_chain.specs.laws.Words.{word-set_other, length-page_words, index-page_words}
 use Rattle.block_chain.specs.laws.Counts.{count-nil, count-other, count-append, count-index}

@@ -7,21 +7,21 @@ use Rattle.nvm_board.specs.Facts.{address, IsMemory}
 use Rattle.nvm_board.specs.declared.board.TheConstants.{PAGE_WORDS}
 use Rattle.block_chain.specs.Chains.{Leads, free_chain, HasFree, IsWhole, chain_of, laid}
 use Rattle.block_chain.specs.Counts.{count, NoneTwice, IsNotIn}
-use Rattle.block_chain.specs.Parts.{first_of, joined}
-use Rattle.block_chain.specs.Words.{word, IsBlock}
+use Rattle.block_chain.specs.ChainParts.{first_block, joined_chains}
+use Rattle.block_chain.specs.BlockWords.{word, IsBlock}
 use Rattle.block_chain.specs.declared.chain.Chain.{Chain}
 use Rattle.block_chain.specs.declared.layout.TheConstants.{FREE_HEAD}
 use Rattle.block_chain.specs.laws.Chains.{leads_joined, leads_same, leads_block}
 use Rattle.block_chain.specs.laws.Counts.{count-append, count-index, around}
 use Rattle.block_chain.specs.laws.Words.{word-set_other, word-set_same}
 
-pub joined-nil : (m : List ℕ) → joined m [] ≡ m
-unfolding joined
+pub joined-nil : (m : List ℕ) → joined_chains m [] ≡ m
+unfolding joined_chains
 joined-nil m = refl
 
 pub joined-cons : (m : List ℕ) (c : Chain) (cs : List Chain)
-    → joined m (c ∷ cs) ≡ slice_set (joined m cs) (address c.last 0) (first_of m cs)
-unfolding joined
+    → joined_chains m (c ∷ cs) ≡ slice_set (joined_chains m cs) (address c.last 0) (first_block m cs)
+unfolding joined_chains
 joined-cons m c cs = refl
 
 pub laid-nil : (m : List ℕ) → laid m [] ≡ []
@@ -32,10 +32,10 @@ pub laid-cons : (m : List ℕ) (c : Chain) (cs : List Chain) → laid m (c ∷ c
 unfolding laid
 laid-cons m c cs = refl
 
-pub length-joined : (m : List ℕ) (cs : List Chain) → length (joined m cs) ≡ length m
-unfolding joined
+pub length-joined : (m : List ℕ) (cs : List Chain) → length (joined_chains m cs) ≡ length m
+unfolding joined_chains
 length-joined m [] = refl
-length-joined m (c ∷ cs) = length-set (joined m cs) (address c.last 0) (first_of m cs) ∙ length-joined m cs
+length-joined m (c ∷ cs) = length-set (joined_chains m cs) (address c.last 0) (first_block m cs) ∙ length-joined m cs
 
 -- a whole chain, but for its last block, and that
 pub whole_split : (m : List ℕ) (c : Chain) → IsWhole m c
@@ -73,7 +73,7 @@ tail_whole m c cs each = λ i d lt. each (suc i) d (omega (arith, lt))
 
 -- a word that is not the link of one of these blocks stays
 pub joined-other : (m : List ℕ) (cs : List Chain) → All (IsWhole m) cs → (page place : ℕ) → place < PAGE_WORDS
-    → (place ≢ 0) ⊎ IsNotIn page (laid m cs) → word (joined m cs) page place ≡ word m page place
+    → (place ≢ 0) ⊎ IsNotIn page (laid m cs) → word (joined_chains m cs) page place ≡ word m page place
 joined-other m [] each page place small differs = ap (λ (l : List ℕ). word l page place) (joined-nil m)
 joined-other m (c ∷ cs) each page place small differs =
     let whole : IsWhole m c = each 0 c (omega arith) in
@@ -88,13 +88,13 @@ joined-other m (c ∷ cs) each page place small differs =
     (λ (other : IsNotIn page (laid m (c ∷ cs))). inr (let z : count page (laid m cs) ≡ 0 = omega
     (arith, other, parts) in z)) differs in
     ap (λ (l : List ℕ). word l page place) (joined-cons m c cs)
-    ∙ word-set_other (joined m cs) c.last 0 page place (first_of m cs) (omega arith) small apart
+    ∙ word-set_other (joined_chains m cs) c.last 0 page place (first_block m cs) (omega arith) small apart
     ∙ joined-other m cs (tail_whole m c cs each) page place small rest
 
 -- the joined chain
 pub joined-leads : (m : List ℕ) (cs : List Chain) → IsMemory m → HasFree m → All (IsWhole m) cs
     → NoneTwice (laid m cs ++ free_chain m)
-    → Leads (joined m cs) (first_of m cs) (laid m cs ++ free_chain m) 0
+    → Leads (joined_chains m cs) (first_block m cs) (laid m cs ++ free_chain m) 0
 unfolding laid
 joined-leads m [] sized free each once = let family : List ℕ
     → Type 0 = λ l. Leads l (slice_index m FREE_HEAD) (free_chain m) 0 in subst family (sym (joined-nil m)) free.leads
@@ -103,32 +103,32 @@ joined-leads m (c ∷ cs) sized free each once =
     let ps = chain_of m c in
     let qs = laid m cs ++ free_chain m in
     let front = take (length ps - 1) ps in
-    let n = slice_set (joined m cs) (address c.last 0) (first_of m cs) in
+    let n = slice_set (joined_chains m cs) (address c.last 0) (first_block m cs) in
     let split : ps ≡ front ++ c.last ∷ [] = whole_split m c whole in
     let regroup : (ps ++ laid m cs) ++ free_chain m ≡ ps ++ qs = append_assoc ps (laid m cs) (free_chain m) in
     let once_all : NoneTwice (ps ++ qs) = subst NoneTwice regroup once in
     let once_rest : NoneTwice qs = λ q. let most = once_all q in let parts = count-append q ps qs in
     omega (arith, most, parts) in
-    let rest : Leads (joined m cs) (first_of m cs) qs 0 =
+    let rest : Leads (joined_chains m cs) (first_block m cs) qs 0 =
     joined-leads m cs sized free (tail_whole m c cs each) once_rest in
-    let kept : Leads (joined m cs) c.first ps 0 =
-    leads_same m (joined m cs) c.first 0 ps (length-joined m cs)
+    let kept : Leads (joined_chains m cs) c.first ps 0 =
+    leads_same m (joined_chains m cs) c.first 0 ps (length-joined m cs)
     (λ q some. joined-other m cs (tail_whole m c cs each) q 0 (omega arith) (inr (let most =
     once_all q in let parts =
     count-append q ps qs in let more =
     count-append q (laid m cs) (free_chain m) in let z : count q (laid m cs) ≡ 0 =
     omega (arith, most, parts, more, some) in z))) whole.leads in
     let block = whole_block m c whole in
-    let inside : address c.last 0 < length (joined m cs) = let l = length-joined m cs in
+    let inside : address c.last 0 < length (joined_chains m cs) = let l = length-joined m cs in
     omega (arith, l, block.1, sized.whole, sized.least) in
-    let family : List ℕ → Type 0 = λ l. Leads (joined m cs) c.first l 0 in
+    let family : List ℕ → Type 0 = λ l. Leads (joined_chains m cs) c.first l 0 in
     let once_split : NoneTwice ((front ++ c.last ∷ []) ++ qs) =
     subst NoneTwice (ap (λ (l : List ℕ). l ++ qs) split) once_all in
     let all : Leads n c.first ((front ++ c.last ∷ []) ++ qs) 0 =
-    leads_joined (joined m cs) n c.first c.last (first_of m cs) front qs
-    (length-set (joined m cs) (address c.last 0) (first_of m cs)) (subst family split kept) rest once_split
-    (word-set_same (joined m cs) c.last 0 (first_of m cs) inside)
-    (λ q differs. word-set_other (joined m cs) c.last 0 q 0 (first_of m cs) (omega arith) (omega arith)
+    leads_joined (joined_chains m cs) n c.first c.last (first_block m cs) front qs
+    (length-set (joined_chains m cs) (address c.last 0) (first_block m cs)) (subst family split kept) rest once_split
+    (word-set_same (joined_chains m cs) c.last 0 (first_block m cs) inside)
+    (λ q differs. word-set_other (joined_chains m cs) c.last 0 q 0 (first_block m cs) (omega arith) (omega arith)
     (inl differs)) in
     let back : (front ++ c.last ∷ []) ++ qs ≡ (ps ++ laid m cs) ++ free_chain m =
     ap (λ (l : List ℕ). l ++ qs) (sym split) ∙ sym regroup in

@@ -12,8 +12,8 @@ use Rattle.block_chain.specs.Chains.{Leads, pages_from, free_chain}
 use Rattle.block_chain.specs.Counts.{count}
 use Rattle.nvm_board.specs.Facts.{IsMemory, pages_of}
 use Rattle.block_chain.specs.Layout.{IsOf, blocks_of, laid_out, IsExtent, AreLaid}
-use Rattle.block_chain.specs.Parts.{AreBlank, IsPlace, marked, AreMarks, Marks, IsFresh}
-use Rattle.block_chain.specs.Words.{link, IsBlock}
+use Rattle.block_chain.specs.ChainParts.{AreBlank, IsBlockPlace, times_marked, AreBlockMarks, Marks, IsUnmarkedChain}
+use Rattle.block_chain.specs.BlockWords.{link, IsBlock}
 use Rattle.block_chain.specs.declared.chain.Extent.{Extent}
 use Rattle.block_chain.specs.declared.layout.TheConstants.{FREE_HEAD, FIRST_BLOCK_PAGE}
 use Rattle.block_chain.specs.laws.Counts.{count-append, count-nil, count-other}
@@ -93,8 +93,8 @@ pub record AreLaidSoFar (end : ℕ) (m : List ℕ) (es : List Extent) (i : ℕ) 
   pub free : Leads m (slice_index m FREE_HEAD) (free_chain m) 0
   pub each : All (IsExtent m) (take i es)
   pub below : (q : ℕ) → end ≤ q → count q (free_chain m ++ laid_out m (take i es)) ≡ 0
-  pub marks : (q : ℕ) → IsPlace q → marked seen q ≡ count q (free_chain m ++ laid_out m (take i es))
-  pub fine : AreMarks end seen
+  pub marks : (q : ℕ) → IsBlockPlace q → times_marked seen q ≡ count q (free_chain m ++ laid_out m (take i es))
+  pub fine : AreBlockMarks end seen
   pub blocks_are : blocks ≡ length (free_chain m ++ laid_out m (take i es))
 
 module _ (n : ℕ) (m : List ℕ) (es : List Extent) where
@@ -102,8 +102,8 @@ module _ (n : ℕ) (m : List ℕ) (es : List Extent) where
   end = FIRST_BLOCK_PAGE + n
 
   -- the free chain alone
-  pub laid_free : (none seen : List ℕ) (blocks : ℕ) → IsFresh end m none (slice_index m FREE_HEAD)
-      → ((q : ℕ) → IsPlace q → marked none q ≡ 0) → Marks none (free_chain m) seen → AreMarks end seen
+  pub laid_free : (none seen : List ℕ) (blocks : ℕ) → IsUnmarkedChain end m none (slice_index m FREE_HEAD)
+      → ((q : ℕ) → IsBlockPlace q → times_marked none q ≡ 0) → Marks none (free_chain m) seen → AreBlockMarks end seen
       → blocks ≡ length (free_chain m) → AreLaidSoFar end m es 0 seen blocks
   laid_free none seen blocks fresh blank marks fine long =
       let all : free_chain m ++ laid_out m [] ≡ free_chain m ++ [] =
@@ -149,8 +149,9 @@ module _ (n : ℕ) (m : List ℕ) (es : List Extent) where
         omega (arith, a, b, c)
 
     -- one extent more
-    pub laid_more : (new : List ℕ) → IsExtent m e → IsFresh end m seen e.chain.first → Marks seen (blocks_of m e) new
-        → AreMarks end new → AreLaidSoFar end m es (i + 1) new (blocks + e.blocks)
+    pub laid_more : (new : List ℕ) → IsExtent m e → IsUnmarkedChain end m seen e.chain.first
+        → Marks seen (blocks_of m e) new
+        → AreBlockMarks end new → AreLaidSoFar end m es (i + 1) new (blocks + e.blocks)
     laid_more new extent fresh marks fine = record {
       free = so_far.free;
       each = λ k d below. each_next k d (let l = ap (λ (xs : List Extent). length xs) next_is in let a = length-append
@@ -184,7 +185,7 @@ module _ (n : ℕ) (m : List ℕ) (es : List Extent) where
             (cases_lt k (length (take i es))))
 
     -- where the memory is laid out, the next extent is fresh
-    pub laid_fresh : AreLaid n m es → IsFresh end m seen e.chain.first × IsExtent m e
+    pub laid_fresh : AreLaid n m es → IsUnmarkedChain end m seen e.chain.first × IsExtent m e
     laid_fresh laid =
         let one : Extent → Type 0 = λ x. IsExtent m x in
         let extent : IsExtent m e = subst one is (laid.each i d lt) in (
@@ -253,7 +254,7 @@ module _ (n : ℕ) (m : List ℕ) (es : List Extent) where
             (omega (arith, here)))
             (λ (none : count q (free_chain m) ≤ 0). laid_count m q es each (omega (arith, none, parts, some)))
             (cases_lt 0 (count q (free_chain m))) in
-            let place : IsPlace q = (block.0, omega (arith, block.1, sized.most)) in
+            let place : IsBlockPlace q = (block.0, omega (arith, block.1, sized.most)) in
             let marks = so_far.marks q place in
             let most = so_far.fine.each q place in
             let same = ap (λ (xs : List Extent). count q (free_chain m ++ laid_out m xs)) every in

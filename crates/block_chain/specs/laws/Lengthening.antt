@@ -9,10 +9,10 @@ use Rattle.std.proofs.lemmas.List.{length-append}
 use Rattle.nvm_board.specs.Facts.{IsMemory, pages_of}
 use Rattle.nvm_board.specs.laws.Sizes.{pages_same}
 use Rattle.nvm_board.specs.declared.board.TheConstants.{PAGE_WORDS}
-use Rattle.block_chain.specs.Words.{link, word}
+use Rattle.block_chain.specs.BlockWords.{link, word}
 use Rattle.block_chain.specs.Counts.{count}
 use Rattle.block_chain.specs.Chains.{Leads, free_chain}
-use Rattle.block_chain.specs.Changes.{AreLinked}
+use Rattle.block_chain.specs.ChainChanges.{AreLinked}
 use Rattle.block_chain.specs.Layout.{IsOf, IsExtent, AreLaid, SameBytes, blocks_of, laid_out}
 use Rattle.block_chain.specs.declared.chain.Extent.{Extent}
 use Rattle.block_chain.specs.declared.layout.TheConstants.{FREE_HEAD, FIRST_BLOCK_PAGE, MOST_BLOCKS, BLOCK_WORDS}

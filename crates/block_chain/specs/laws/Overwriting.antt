@@ -1,7 +1,7 @@
 -- Laws of bytes that are put in place of others, in lists and in the words of a chain.
 use Rattle.std.proofs.lemmas.List.{take-append-drop}
 use Rattle.std.specs.Prelude.{zero, suc, [], ◌∷◌, ◌/◌, ◌++◌}
-use Rattle.block_chain.specs.Changes.{touched_words}
+use Rattle.block_chain.specs.ChainChanges.{touched_words, with_bytes_at, OnlyContent, Overwrites}
 use Rattle.std.proofs.Common.{refl, sym, ◌∙◌, ap, ap₂, arith, inl, inr, ⊎_elim, get_or-take, get_or-drop}
 use Rattle.std.proofs.Common.{length-take, length-drop, subst}
 use Rattle.std.proofs.Math.ListN.{get_or-append, length-set}
@@ -13,10 +13,9 @@ use Rattle.std.specs.Prelude.{◌≡◌, ◌⊎◌, ◌<◌, ◌≤◌, ◌+◌,
 use Rattle.std.specs.Prelude.{drop, slice_index, nat_le, nat_lt, if◌then◌else◌, ◌≢◌, ◌*◌, ◌/◌, ◌%◌, slice_set}
 use Rattle.nvm_board.specs.Facts.{address, IsMemory}
 use Rattle.block_chain.specs.Chains.{bytes_of}
-use Rattle.block_chain.specs.Changes.{overwrite, OnlyContent, Overwrites}
 use Rattle.block_chain.specs.Counts.{count, NoneTwice, IsNotIn}
-use Rattle.block_chain.specs.Parts.{byte_over, PutsWord}
-use Rattle.block_chain.specs.Words.{word, word_bytes, IsBlock}
+use Rattle.block_chain.specs.ChainParts.{byte_over, PutsWord}
+use Rattle.block_chain.specs.BlockWords.{word, word_bytes, IsBlock}
 use Rattle.block_chain.specs.declared.layout.TheConstants.{BLOCK_BYTES, BLOCK_WORDS}
 use Rattle.nvm_board.specs.laws.Sizes.{memory_same}
 use Rattle.block_chain.specs.laws.Bytes.{blocks_same, AreBlocks, block_in, content_word}
@@ -50,7 +49,7 @@ module _ (content bytes : List ℕ) (offset : ℕ) (within : offset + length byt
   length-front : length (take offset content) ≡ offset
   length-front = let front = length-take offset content in omega (arith, front, within)
 
-  pub length-overwrite : length (overwrite content offset bytes) ≡ length content
+  pub length-overwrite : length (with_bytes_at content offset bytes) ≡ length content
   length-overwrite =
       let back = length-drop (offset + length bytes) content in
       let outer = length-append (take offset content) (bytes ++ rest) in
@@ -59,14 +58,14 @@ module _ (content bytes : List ℕ) (offset : ℕ) (within : offset + length byt
 
   -- each byte of the content with others in it
   pub index-overwrite : (at : ℕ)
-      → slice_index (overwrite content offset bytes) at ≡ byte_over offset bytes at (slice_index content at)
+      → slice_index (with_bytes_at content offset bytes) at ≡ byte_over offset bytes at (slice_index content at)
   index-overwrite at = ⊎_elim
       (λ (before : at < offset).
       let front : at < length (take offset content) = omega (arith, length-front) in
       get_or-append (take offset content) (bytes ++ rest) 0 at front ∙ get_or-take offset content at 0 before
       ∙ sym (byte_over-outside offset at (slice_index content at) bytes (inl before)))
       (λ (from : offset ≤ at).
-      let behind : slice_index (overwrite content offset bytes) at ≡ slice_index (bytes ++ rest) (at - offset) =
+      let behind : slice_index (with_bytes_at content offset bytes) at ≡ slice_index (bytes ++ rest) (at - offset) =
       get_or-append_right (take offset content) (bytes ++ rest) offset at 0 length-front from in
       ⊎_elim
       (λ (inside : at < offset + length bytes).
@@ -223,7 +222,7 @@ put_step m ps offset bytes sized blocks once k page now after put within is puts
     subst family (sym puts.done) (put_more m ps offset bytes sized blocks once k puts.put page now put within is over)
 
 -- no bytes put in place of others
-pub overwrite-none : (xs : List ℕ) (offset : ℕ) (bytes : List ℕ) → length bytes ≡ 0 → overwrite xs offset bytes ≡ xs
+pub overwrite-none : (xs : List ℕ) (offset : ℕ) (bytes : List ℕ) → length bytes ≡ 0 → with_bytes_at xs offset bytes ≡ xs
 overwrite-none xs offset [] none =
     let at : offset + 0 ≡ offset = omega arith in
     ap (λ (i : ℕ). take offset xs ++ drop i xs) at ∙ take-append-drop offset xs

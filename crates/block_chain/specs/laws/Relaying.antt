@@ -7,10 +7,10 @@ use Rattle.std.proofs.lemmas.List.Elements.{All-append}
 use Rattle.nvm_board.specs.Facts.{IsMemory}
 use Rattle.block_chain.specs.declared.layout.TheConstants.{FREE_HEAD}
 use Rattle.block_chain.specs.declared.chain.Extent.{Extent}
-use Rattle.block_chain.specs.Words.{link}
+use Rattle.block_chain.specs.BlockWords.{link}
 use Rattle.block_chain.specs.Counts.{count, IsNotIn}
 use Rattle.block_chain.specs.Chains.{Leads, free_chain, laid, bytes_of}
-use Rattle.block_chain.specs.Changes.{GivesBack, Takes}
+use Rattle.block_chain.specs.ChainChanges.{GivesBack, Takes}
 use Rattle.block_chain.specs.Layout.{blocks_of, laid_out, chains_of, IsExtent, AreLaid, AreSplit, SameBytes}
 use Rattle.block_chain.specs.laws.Chains.{chain_is}
 use Rattle.block_chain.specs.laws.Counts.{count-append, count-split}

@@ -10,8 +10,8 @@ use Rattle.std.specs.Prelude.{length, slice_index, slice_set}
 use Rattle.block_chain.specs.Chains.{Leads, pages_from, chain}
 use Rattle.block_chain.specs.Counts.{count, NoneTwice}
 use Rattle.nvm_board.specs.Facts.{IsMemory, pages_of}
-use Rattle.block_chain.specs.Parts.{IsPlace, marked, AreMarks, IsFresh, Marks}
-use Rattle.block_chain.specs.Words.{link, IsBlock}
+use Rattle.block_chain.specs.ChainParts.{IsBlockPlace, times_marked, AreBlockMarks, IsUnmarkedChain, Marks}
+use Rattle.block_chain.specs.BlockWords.{link, IsBlock}
 use Rattle.nvm_board.specs.declared.board.TheConstants.{MOST_PAGES}
 use Rattle.block_chain.specs.declared.layout.TheConstants.{FIRST_BLOCK_PAGE, MOST_BLOCKS}
 use Rattle.block_chain.specs.laws.Chains.{leads_then, leads_on}
@@ -24,7 +24,7 @@ pub record HasWalked (end : ℕ) (m : List ℕ) (from n page : ℕ) (old new : L
   pub long : length (pages_from m n from) ≡ n
   pub below : (q : ℕ) → end ≤ q → count q (pages_from m n from) ≡ 0
   pub marks : Marks old (pages_from m n from) new
-  pub fine : AreMarks end new
+  pub fine : AreBlockMarks end new
 
 pub pages_zero : (m : List ℕ) (from : ℕ) → pages_from m 0 from ≡ []
 unfolding pages_from
@@ -77,7 +77,7 @@ leads_one m from [] to end a b = sym a ∙ b
 leads_one m from (p ∷ ps) to end a b = leads_one m (link m p) ps to end a.2 b.2
 
 -- no block yet
-pub walked_none : (end : ℕ) (m : List ℕ) (from : ℕ) (seen : List ℕ) → AreMarks end seen
+pub walked_none : (end : ℕ) (m : List ℕ) (from : ℕ) (seen : List ℕ) → AreBlockMarks end seen
     → HasWalked end m from 0 from seen seen
 walked_none end m from seen fine = record {
   leads = (let family : List ℕ → Type 0 = λ ps. Leads m from ps from in subst family (sym (pages_zero m from)) refl);
@@ -106,7 +106,7 @@ module _ (end : ℕ) (m : List ℕ) (from n page : ℕ) (old new : List ℕ) (wa
         append_nil [] = refl
         append_nil (p ∷ ps) = ap (λ (qs : List ℕ). p ∷ qs) (append_nil ps)
 
-    pub walked_fresh : n ≤ MOST_BLOCKS → page ≡ 0 → IsFresh end m old from
+    pub walked_fresh : n ≤ MOST_BLOCKS → page ≡ 0 → IsUnmarkedChain end m old from
     walked_fresh fits none = record {
       leads = (
           let family : List ℕ → Type 0 = λ ps. Leads m from ps 0 in
@@ -121,7 +121,7 @@ module _ (end : ℕ) (m : List ℕ) (from n page : ℕ) (old new : List ℕ) (wa
     }
 
     -- a chain that goes on where all blocks were walked over does not end
-    pub stale_long : n ≡ MOST_BLOCKS → page ≢ 0 → (IsFresh end m old from → ⊥)
+    pub stale_long : n ≡ MOST_BLOCKS → page ≢ 0 → (IsUnmarkedChain end m old from → ⊥)
     stale_long all some fresh =
         let family : ℕ → Type 0 = λ k. Leads m from (pages_from m k from) 0 in
         some (leads_one m from (pages_from m n from) page 0 walked.leads (subst family (sym all) fresh.leads))
@@ -135,7 +135,8 @@ module _ (end : ℕ) (m : List ℕ) (from n page : ℕ) (old new : List ℕ) (wa
         rest_of less ∙ ap (λ (k : ℕ). pages_from m n from ++ pages_from m k page) one
         ∙ ap (λ (ps : List ℕ). pages_from m n from ++ ps) (pages_some m (MOST_BLOCKS - n - 1) page some)
 
-    pub stale_mark : n < MOST_BLOCKS → page ≢ 0 → IsPlace page → marked new page ≢ 0 → (IsFresh end m old from → ⊥)
+    pub stale_mark : n < MOST_BLOCKS → page ≢ 0 → IsBlockPlace page → times_marked new page ≢ 0
+        → (IsUnmarkedChain end m old from → ⊥)
     stale_mark fits some block mark fresh =
         let whole : count page (chain m from) ≡ count page (pages_from m n from ++ page
         ∷ pages_from m (MOST_BLOCKS - n - 1) (link m page)) = ap (count page) (next_of fits some) in
@@ -159,7 +160,7 @@ module _ (end : ℕ) (m : List ℕ) (from n page : ℕ) (old new : List ℕ) (wa
     walked_once most q = ⊎_elim
         (λ (some : 1 < count q (pages_from m n from)). absurd (
         let place = walked_place q (omega (arith, some)) in
-        let is : IsPlace q = (place.0, omega (arith, place.1, most)) in
+        let is : IsBlockPlace q = (place.0, omega (arith, place.1, most)) in
         let marks = walked.marks q is in
         let once = walked.fine.each q is in
         omega (arith, marks, once, some)))
@@ -168,9 +169,9 @@ module _ (end : ℕ) (m : List ℕ) (from n page : ℕ) (old new : List ℕ) (wa
 
     -- so while a block is not marked, not all were walked over
     pub walked_less : end ≤ MOST_PAGES → (FIRST_BLOCK_PAGE ≤ page) × (page < end)
-        → marked new page ≡ 0 → n < MOST_BLOCKS
+        → times_marked new page ≡ 0 → n < MOST_BLOCKS
     walked_less most fit free =
-        let is : IsPlace page = (fit.0, omega (arith, fit.1, most)) in
+        let is : IsBlockPlace page = (fit.0, omega (arith, fit.1, most)) in
         let marks = walked.marks page is in
         let none : count page (pages_from m n from) ≡ 0 = omega (arith, marks, free) in
         let span : ℕ = end - FIRST_BLOCK_PAGE in
@@ -196,11 +197,11 @@ module _ (end : ℕ) (m : List ℕ) (from n page : ℕ) (old new : List ℕ) (wa
 
     -- one block more
     pub walked_more : IsMemory m → end ≤ pages_of m → n < MOST_BLOCKS → page ≢ 0
-        → (FIRST_BLOCK_PAGE ≤ page) × (page < end) → marked new page ≡ 0
+        → (FIRST_BLOCK_PAGE ≤ page) × (page < end) → times_marked new page ≡ 0
         → HasWalked end m from (n + 1) (link m page) old (slice_set new (page - FIRST_BLOCK_PAGE) 1)
     walked_more sized inner fits some fit free =
         let block : IsBlock m page = (fit.0, omega (arith, fit.1, inner)) in
-        let place : IsPlace page = (fit.0, omega (arith, fit.1, inner, sized.most)) in
+        let place : IsBlockPlace page = (fit.0, omega (arith, fit.1, inner, sized.most)) in
         let one : pages_from m 1 page ≡ page ∷ [] =
         pages_some m 0 page some ∙ ap (λ (ps : List ℕ). page ∷ ps) (pages_zero m (link m page)) in
         let more : pages_from m (n + 1) from ≡ pages_from m n from ++ page ∷ [] =
@@ -208,18 +209,19 @@ module _ (end : ℕ) (m : List ℕ) (from n page : ℕ) (old new : List ℕ) (wa
         let family : List ℕ → Type 0 = λ ps. Leads m from ps (link m page) in
         let room = walked.fine.room in
         let inside : page - FIRST_BLOCK_PAGE < length new = omega (arith, room, fit.0, fit.1) in
-        let each : (q : ℕ) → IsPlace q
-        → marked (slice_set new (page - FIRST_BLOCK_PAGE) 1) q ≡ marked old q + count q (pages_from m (n + 1) from) =
+        let each : (q : ℕ) → IsBlockPlace q
+        → times_marked (slice_set new (page - FIRST_BLOCK_PAGE) 1) q
+        ≡ times_marked old q + count q (pages_from m (n + 1) from) =
         λ q is.
         let whole : count q (pages_from m (n + 1) from) ≡ count q (pages_from m n from) + count q (page ∷ []) =
         ap (count q) more ∙ count-append q (pages_from m n from) (page ∷ []) in
         let marks = walked.marks q is in
         elim (eqb_tells q page) [
           | inl same ↦
-              let there : marked (slice_set new (page - FIRST_BLOCK_PAGE) 1) q ≡ 1 =
-              ap (λ (k : ℕ). marked (slice_set new (page - FIRST_BLOCK_PAGE) 1) k) same.1
+              let there : times_marked (slice_set new (page - FIRST_BLOCK_PAGE) 1) q ≡ 1 =
+              ap (λ (k : ℕ). times_marked (slice_set new (page - FIRST_BLOCK_PAGE) 1) k) same.1
               ∙ get_or-set_same new (page - FIRST_BLOCK_PAGE) 1 0 inside in
-              let was : marked new q ≡ 0 = ap (λ (k : ℕ). marked new k) same.1 ∙ free in
+              let was : times_marked new q ≡ 0 = ap (λ (k : ℕ). times_marked new k) same.1 ∙ free in
               let here : count q (page ∷ []) ≡ 1 =
               ap (λ (k : ℕ). count k (page ∷ [])) same.1 ∙ count-here page []
               ∙ (let nil = count-nil page in let z : 1 + count page [] ≡ 1 = omega (arith, nil) in z) in
@@ -227,7 +229,7 @@ module _ (end : ℕ) (m : List ℕ) (from n page : ℕ) (old new : List ℕ) (wa
           | inr other ↦
               let apart : q - FIRST_BLOCK_PAGE ≢ page - FIRST_BLOCK_PAGE =
               λ e. other.1 (let z : q ≡ page = omega (arith, e, is.0, block.0) in z) in
-              let kept : marked (slice_set new (page - FIRST_BLOCK_PAGE) 1) q ≡ marked new q =
+              let kept : times_marked (slice_set new (page - FIRST_BLOCK_PAGE) 1) q ≡ times_marked new q =
               get_or-set_other new (page - FIRST_BLOCK_PAGE) (q - FIRST_BLOCK_PAGE) 1 0 apart in
               let none : count q (page ∷ []) ≡ 0 = count-other q page [] other.1 ∙ count-nil q in
               omega (arith, kept, none, whole, marks)
@@ -250,14 +252,14 @@ module _ (end : ℕ) (m : List ℕ) (from n page : ℕ) (old new : List ℕ) (wa
             room = (let size = length-set new (page - FIRST_BLOCK_PAGE) 1 in omega (arith, size, room));
             each = λ q is. elim (eqb_tells q page) [
               | inl same ↦
-                  let there : marked (slice_set new (page - FIRST_BLOCK_PAGE) 1) q ≡ 1 =
-                  ap (λ (k : ℕ). marked (slice_set new (page - FIRST_BLOCK_PAGE) 1) k) same.1
+                  let there : times_marked (slice_set new (page - FIRST_BLOCK_PAGE) 1) q ≡ 1 =
+                  ap (λ (k : ℕ). times_marked (slice_set new (page - FIRST_BLOCK_PAGE) 1) k) same.1
                   ∙ get_or-set_same new (page - FIRST_BLOCK_PAGE) 1 0 inside in
                   omega (arith, there)
               | inr other ↦
                   let apart : q - FIRST_BLOCK_PAGE ≢ page - FIRST_BLOCK_PAGE =
                   λ e. other.1 (let z : q ≡ page = omega (arith, e, is.0, block.0) in z) in
-                  let kept : marked (slice_set new (page - FIRST_BLOCK_PAGE) 1) q ≡ marked new q =
+                  let kept : times_marked (slice_set new (page - FIRST_BLOCK_PAGE) 1) q ≡ times_marked new q =
                   get_or-set_other new (page - FIRST_BLOCK_PAGE) (q - FIRST_BLOCK_PAGE) 1 0 apart in
                   let most = walked.fine.each q is in
                   omega (arith, kept, most)
@@ -267,12 +269,13 @@ module _ (end : ℕ) (m : List ℕ) (from n page : ℕ) (old new : List ℕ) (wa
 
     -- the next is no block, or one that was marked
     stale_next : IsMemory m → n < MOST_BLOCKS → page ≢ 0
-        → (((FIRST_BLOCK_PAGE ≤ page) × (page < end)) × (marked new page ≡ 0) → ⊥) → (IsFresh end m old from → ⊥)
+        → (((FIRST_BLOCK_PAGE ≤ page) × (page < end)) × (times_marked new page ≡ 0) → ⊥)
+        → (IsUnmarkedChain end m old from → ⊥)
     stale_next sized fits some unfit fresh =
         let family : List ℕ → Type 0 = λ ps. Leads m from ps 0 in
         let block : IsBlock m page =
         (leads_on m from 0 page (pages_from m n from) _ (subst family (next_of fits some) fresh.leads)).0 in
-        let place : IsPlace page = (block.0, omega (arith, block.1, sized.most)) in
+        let place : IsBlockPlace page = (block.0, omega (arith, block.1, sized.most)) in
         let inner : page < end = ⊎_elim
         (λ (lt : page < end). lt)
         (λ (past : end ≤ page). absurd (
@@ -285,7 +288,8 @@ module _ (end : ℕ) (m : List ℕ) (from n page : ℕ) (old new : List ℕ) (wa
         stale_mark fits some place (λ free. unfit ((block.0, inner), free)) fresh
 
     pub stale_there : IsMemory m → n ≤ MOST_BLOCKS → page ≢ 0
-        → (((FIRST_BLOCK_PAGE ≤ page) × (page < end)) × (marked new page ≡ 0) → ⊥) → (IsFresh end m old from → ⊥)
+        → (((FIRST_BLOCK_PAGE ≤ page) × (page < end)) × (times_marked new page ≡ 0) → ⊥)
+        → (IsUnmarkedChain end m old from → ⊥)
     stale_there sized within some unfit = ⊎_elim
         (λ (fits : n < MOST_BLOCKS). stale_next sized fits some unfit)
         (λ (all : MOST_BLOCKS ≤ n). stale_long (omega (arith, all, within)) some)

@@ -9,7 +9,7 @@ use Rattle.std.specs.Prelude.{◌≡◌, ◌≢◌, ◌⊎◌, ◌<◌, ℕ, Lis
 use Rattle.std.specs.Prelude.{[], ◌∷◌, drop, slice_index}
 use Rattle.nvm_board.specs.Facts.{address}
 use Rattle.nvm_board.specs.declared.board.TheConstants.{PAGE_WORDS}
-use Rattle.block_chain.specs.Words.{word, word_bytes, page_words, block_bytes}
+use Rattle.block_chain.specs.BlockWords.{word, word_bytes, page_words, block_bytes}
 use Rattle.block_chain.specs.declared.layout.TheConstants.{BLOCK_BYTES}
 
 -- another word of a memory stays

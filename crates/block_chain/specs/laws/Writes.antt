@@ -6,7 +6,7 @@ use Rattle.std.proofs.lemmas.Bool.Decides.{eqb_tells}
 use Rattle.undo_journal.specs.Spending.{transaction_writes}
 use Rattle.undo_journal.specs.declared.batch.TheConstants.{BATCH}
 use Rattle.block_chain.specs.declared.layout.TheConstants.{BLOCK_WORDS}
-use Rattle.block_chain.specs.Changes.{touched_blocks, touched_words}
+use Rattle.block_chain.specs.ChainChanges.{touched_blocks, touched_words}
 use Rattle.block_chain.specs.Writes.{begins_run, run_count, put_writes}
 
 -- a word begins a run, or goes on with one

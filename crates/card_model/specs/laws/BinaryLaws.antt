@@ -10,7 +10,8 @@ use Rattle.card_model.specs.declared.requests.Target.{Target}
 use Rattle.card_model.specs.Requests.{AreBytes, read_binary, update_binary}
 use Rattle.card_model.specs.BinaryCommands.{binary_read, binary_updated, on_read_binary, on_update_binary}
 use Rattle.card_model.specs.BinaryCommands.{read_response, target_bytes, update_refusals}
-use Rattle.card_model.specs.Cards.{Card, File, Kind, Path, transparent, linear, cyclic, dedicated, elementary, bytes_of}
+use Rattle.card_model.specs.Cards.{Card, File, Kind, Path, transparent, linear, cyclic, dedicated, elementary}
+use Rattle.card_model.specs.Cards.{file_bytes}
 use Rattle.card_model.specs.Cards.{file_at, identifier, is_transparent, overwrite, with_bytes, with_content, IsContent}
 use Rattle.card_model.specs.Cards.{IsProper, IsProperKind}
 use Rattle.card_model.specs.Guards.{target_kind, target_path}
@@ -21,13 +22,13 @@ use Rattle.card_model.specs.laws.ProperLaws.{IsFine, IsShort, either-if, no_byte
 use Rattle.card_model.specs.laws.ProperLaws.{short-status, there-identifier, unrefused-each}
 
 -- the bytes that a file holds; another file holds none
-proper-bytes : (kind : Kind) → IsProperKind kind → AreBytes (bytes_of kind)
+proper-bytes : (kind : Kind) → IsProperKind kind → AreBytes (file_bytes kind)
 proper-bytes (dedicated name) proper = no_bytes
 proper-bytes (elementary short (transparent bytes)) proper = proper.1.bytes
 proper-bytes (elementary short (linear size capacity records)) proper = no_bytes
 proper-bytes (elementary short (cyclic size capacity records)) proper = no_bytes
 
-proper-content : (kind : Kind) → is_transparent kind ≡ true → IsProperKind kind → IsContent (bytes_of kind)
+proper-content : (kind : Kind) → is_transparent kind ≡ true → IsProperKind kind → IsContent (file_bytes kind)
 proper-content (dedicated name) of_bytes proper = absurd (true≢false (sym of_bytes))
 proper-content (elementary short (transparent bytes)) of_bytes proper = proper.1
 proper-content (elementary short (linear size capacity records)) of_bytes proper = absurd (true≢false (sym of_bytes))
@@ -133,4 +134,5 @@ module _ (target : Target) (offset : ℕ) where
   lawful-update bytes =
       lawful-unshown (update_binary target offset bytes) (on_update_binary target offset bytes) refl
       (λ c s. (missing-word target, (lit< tt, (lit< tt, (lit< tt, (lit< tt, (lit< tt, tt)))))))
-      (λ c s proper all unrefused. fine-update c s proper target offset bytes all unrefused) (λ c s. refl) (λ c s. same-one c _ refl refl)
+      (λ c s proper all unrefused. fine-update c s proper target offset bytes all unrefused) (λ c s. refl)
+      (λ c s. same-one c _ refl refl)

@@ -6,12 +6,12 @@ use Rattle.std.specs.Prelude.{if◌then◌else◌}
 use Rattle.std.specs.List.{list_all}
 use Rattle.std.proofs.lemmas.Bool.{ltb-true, and_parts}
 use Rattle.std.proofs.Common.{arith, subst, sym, get_or-take, length-take}
-use Rattle.card_model.specs.CommandTable.{Body, body_of, by_identifier, named_file, shown_value, shown_values}
+use Rattle.card_model.specs.CommandTable.{SentBody, sent_body, by_identifier, named_file, shown_value, shown_values}
 use Rattle.card_model.specs.Requests.{two_bytes, identifiers, parent, name, path_from_master, path_from_current}
 use Rattle.card_model.specs.Requests.{AreBytes, AreIdentifiers, IsNamedByBytes}
 
 -- a body of bytes
-pub record IsBodyOfBytes (body : Body) : Type 0 where
+pub record IsBodyOfBytes (body : SentBody) : Type 0 where
   pub sent : AreBytes body.sent
   pub expected : unwrap_or body.expected 0 < 256
 
@@ -38,15 +38,15 @@ byte-at [] i all = omega arith
 byte-at (byte ∷ bytes) zero all = all 0 0 (let some : 0 < length (byte ∷ bytes) = omega arith in some)
 byte-at (byte ∷ bytes) (suc i) all = byte-at bytes i (bytes-rest byte bytes all)
 
-pub body-of_bytes : (bytes : List ℕ) → AreBytes bytes → IfSome (body_of bytes) IsBodyOfBytes
+pub body-of_bytes : (bytes : List ℕ) → AreBytes bytes → IfSome (sent_body bytes) IsBodyOfBytes
 body-of_bytes [] all = record { sent = all; expected = omega arith }
 body-of_bytes (le ∷ []) all = record { sent = bytes-rest le [] all; expected = byte-at (le ∷ []) 0 all }
 body-of_bytes (lc ∷ byte ∷ bytes) all =
     let rest = byte ∷ bytes in
     let rest_bytes : AreBytes rest = bytes-rest lc rest all in
-    let whole : Option Body = Some (record { sent = rest; expected = None }) in
-    let with_le : Option Body = Some (record { sent = take lc rest; expected = Some (slice_index rest lc) }) in
-    let holds : Option Body → Type 0 = λ body. IfSome body IsBodyOfBytes in
+    let whole : Option SentBody = Some (record { sent = rest; expected = None }) in
+    let with_le : Option SentBody = Some (record { sent = take lc rest; expected = Some (slice_index rest lc) }) in
+    let holds : Option SentBody → Type 0 = λ body. IfSome body IsBodyOfBytes in
     either-if holds (lc == 0) None _ tt
     (either-if holds (length rest == lc) whole _ (record { sent = rest_bytes; expected = omega arith })
     (either-if holds (length rest == lc + 1) with_le None

@@ -24,7 +24,7 @@ use Rattle.card_model.specs.Cards.{Card, File, Path, file_at, identifier, master
 use Rattle.card_model.specs.FileCommands.{created_card, file_created, file_deleted, no_parameters, subject_path}
 use Rattle.card_model.specs.FileCommands.{told_by, with_new, on_create_file, on_delete_file, without}
 use Rattle.card_model.specs.Guards.{given}
-use Rattle.card_model.specs.SelectCommand.{on_select, selected, selected_path, selection_data, selection_status}
+use Rattle.card_model.specs.SelectCommand.{on_select, file_selected, selected_path, selection_data, selection_status}
 use Rattle.card_model.specs.Sessions.{Session}
 use Rattle.card_model.specs.Templates.{template_at, template_of}
 use Rattle.card_model.specs.laws.Lawful.{Lawful, lawful-unshown, same-none, same-one}
@@ -90,7 +90,7 @@ identifier-behind df id =
 
 module _ (c : Card) (s : Session) (proper : IsProper c) where
   pub fine-selected : (selection : Selection) (returned : Returned) (expected : Option ℕ)
-      → IsFine (selected c s selection returned expected)
+      → IsFine (file_selected c s selection returned expected)
   fine-selected selection returned expected =
       let path = selected_path c s selection in
       let text = short-given expected (selection_data returned c.tree path) (short-data c returned path proper) in

@@ -14,7 +14,7 @@ use Rattle.card_model.specs.declared.requests.Target.{Target}
 use Rattle.card_model.specs.declared.requests.RecordPlace.{RecordPlace}
 use Rattle.card_model.specs.declared.requests.RecordChoice.{RecordChoice}
 use Rattle.card_model.specs.Requests.{AreBytes, IsStatusWord, read_record, update_record, append_record, search_record}
-use Rattle.card_state.specs.RecordLists.{front, has_record, record_of, found, numbers_on, stands_in}
+use Rattle.card_state.specs.RecordLists.{front, has_record, record_of, records_found, numbers_on, stands_in}
 use Rattle.card_state.specs.laws.Finding.{filter-few, number_backward, number_forward, steps_few, steps_forward}
 use Rattle.card_model.specs.Cards.{Card, File, Kind, Path, transparent, linear, cyclic, dedicated, elementary, file_at}
 use Rattle.card_model.specs.Cards.{identifier, IsProper, IsProperKind, IsRecord}
@@ -168,7 +168,7 @@ bytes-numbers Backward first last below most =
     let number = number_backward Backward first last i refl lt in omega (arith, number, below, most))
 
 text-found : (direction : Direction) (first : ℕ) (text : List ℕ) (records : List (List ℕ))
-    → has_record records first ≡ true → length records ≤ 254 → IsText (found direction first text records)
+    → has_record records first ≡ true → length records ≤ 254 → IsText (records_found direction first text records)
 text-found direction first text records there most =
     let numbers = numbers_on direction first (length records) in
     let test : ℕ → Bool = λ number. stands_in text (record_of records number) in
@@ -294,7 +294,8 @@ module _ (target : Target) where
   lawful-update choice bytes =
       lawful-unshown (update_record target choice bytes) (on_update_record target choice bytes) refl
       (λ c s. (missing-word target, (lit< tt, (lit< tt, (lit< tt, (lit< tt, (lit< tt, tt)))))))
-      (λ c s proper all unrefused. fine-record_updated c s proper target choice bytes all unrefused) (λ c s. refl) (λ c s. same-one c _ refl refl)
+      (λ c s proper all unrefused. fine-record_updated c s proper target choice bytes all unrefused) (λ c s. refl)
+      (λ c s. same-one c _ refl refl)
 
   pub lawful-append : (bytes : List ℕ) → Lawful (append_record target bytes)
   lawful-append bytes =
@@ -309,4 +310,5 @@ module _ (target : Target) where
       lawful-unshown (search_record target first direction text expected)
       (on_search_record target first direction text expected) refl
       (λ c s. (missing-word target, (lit< tt, (lit< tt, (lit< tt, (lit< tt, (omega arith, tt)))))))
-      (λ c s proper all unrefused. fine-records_searched c s proper target first direction text expected unrefused) (λ c s. refl) (λ c s. same-none c)
+      (λ c s proper all unrefused. fine-records_searched c s proper target first direction text expected unrefused)
+      (λ c s. refl) (λ c s. same-none c)

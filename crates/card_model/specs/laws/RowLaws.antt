@@ -4,7 +4,7 @@ use Rattle.std.specs.Prelude.{Option, Some, None, is_some, Result, Ok, Err, Matc
 use Rattle.std.proofs.Common.{lit<}
 use Rattle.card_rules.specs.declared.status.Sw.{Sw}
 use Rattle.card_rules.specs.declared.status.TheConstants.Sw.{WRONG_LENGTH, WRONG_PARAMETERS, UNKNOWN_CLASS}
-use Rattle.card_model.specs.CommandTable.{Body, body_of, Row, asked, asked_by_body, asked_by_row, command_table}
+use Rattle.card_model.specs.CommandTable.{SentBody, sent_body, Row, asked, asked_by_body, asked_by_row, command_table}
 use Rattle.card_model.specs.CommandTable.{is_class, row_of, select_rows, binary_rows, file_rows, record_rows}
 use Rattle.card_model.specs.CommandTable.{life_cycle_rows, pin_rows}
 use Rattle.card_model.specs.Requests.{Request, IsOfBytes, IsSized, AreBytes, IsStatusWord}
@@ -16,8 +16,8 @@ use Rattle.card_model.specs.laws.TableLaws.{EachRow, choose, each_found, each_gr
 
 -- Of a row: under a body of bytes it asks for a request of bytes; and each body that it allows is of a good size.
 record IsLawful (row : Row) : Type 0 where
-  of_bytes : (p1 p2 : ℕ) (body : Body) → IsBodyOfBytes body → IsOfBytes (row.meaning p1 p2 body)
-  sized : (p1 p2 : ℕ) (body : Body) → row.lengths p1 p2 (length body.sent) (is_some body.expected) ≡ true
+  of_bytes : (p1 p2 : ℕ) (body : SentBody) → IsBodyOfBytes body → IsOfBytes (row.meaning p1 p2 body)
+  sized : (p1 p2 : ℕ) (body : SentBody) → row.lengths p1 p2 (length body.sent) (is_some body.expected) ≡ true
       → IsSized (row.meaning p1 p2 body)
 
 selects : EachRow IsLawful select_rows
@@ -135,7 +135,7 @@ lawful-row class instruction =
     (each_group IsLawful selects binaries files records life_cycles pins)
 
 -- what a row makes of a body of bytes
-body-asked : (row : Row) (p1 p2 : ℕ) (body : Option Body) → IsLawful row → IfSome body IsBodyOfBytes
+body-asked : (row : Row) (p1 p2 : ℕ) (body : Option SentBody) → IsLawful row → IfSome body IsBodyOfBytes
     → MatchResult (asked_by_body row p1 p2 body) IsOfBytes IsStatusWord
 body-asked row p1 p2 None lawful of = lit< tt
 body-asked row p1 p2 (Some body) lawful of =
@@ -148,8 +148,8 @@ row-asked : (row : Option Row) (p1 p2 : ℕ) (bytes : List ℕ) → IfSome row I
 row-asked None p1 p2 bytes lawful all = lit< tt
 row-asked (Some row) p1 p2 bytes lawful all =
     choose (λ (asked : Result Request Sw). MatchResult asked IsOfBytes IsStatusWord)
-    (row.parameters p1 p2) (asked_by_body row p1 p2 (body_of bytes)) (Err WRONG_PARAMETERS)
-    (λ known. body-asked row p1 p2 (body_of bytes) lawful (body-of_bytes bytes all)) (lit< tt)
+    (row.parameters p1 p2) (asked_by_body row p1 p2 (sent_body bytes)) (Err WRONG_PARAMETERS)
+    (λ known. body-asked row p1 p2 (sent_body bytes) lawful (body-of_bytes bytes all)) (lit< tt)
 
 -- a command of bytes asks for a request of bytes, or is refused by a status word of two bytes
 pub asked-of_bytes : (command : List ℕ) → AreBytes command → MatchResult (asked command) IsOfBytes IsStatusWord
@@ -166,7 +166,8 @@ asked-of_bytes (class ∷ instruction ∷ p1 ∷ p2 ∷ bytes) all =
     (λ known. row-asked (row_of class instruction) p1 p2 bytes (lawful-row class instruction) rest) (lit< tt)
 
 -- how much a row lets through
-body-sized : (row : Row) (p1 p2 : ℕ) (body : Option Body) → IsLawful row → IfOk (asked_by_body row p1 p2 body) IsSized
+body-sized : (row : Row) (p1 p2 : ℕ) (body : Option SentBody) → IsLawful row
+    → IfOk (asked_by_body row p1 p2 body) IsSized
 body-sized row p1 p2 None lawful = tt
 body-sized row p1 p2 (Some body) lawful =
     choose (λ (asked : Result Request Sw). IfOk asked IsSized)
@@ -178,8 +179,8 @@ row-sized : (row : Option Row) (p1 p2 : ℕ) (bytes : List ℕ) → IfSome row I
 row-sized None p1 p2 bytes lawful = tt
 row-sized (Some row) p1 p2 bytes lawful =
     choose (λ (asked : Result Request Sw). IfOk asked IsSized)
-    (row.parameters p1 p2) (asked_by_body row p1 p2 (body_of bytes)) (Err WRONG_PARAMETERS)
-    (λ known. body-sized row p1 p2 (body_of bytes) lawful) tt
+    (row.parameters p1 p2) (asked_by_body row p1 p2 (sent_body bytes)) (Err WRONG_PARAMETERS)
+    (λ known. body-sized row p1 p2 (sent_body bytes) lawful) tt
 
 -- a command names and sends no more than the table of commands allows
 pub asked-sized : (command : List ℕ) → IfOk (asked command) IsSized

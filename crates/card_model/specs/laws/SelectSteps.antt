@@ -10,7 +10,7 @@ use Rattle.card_model.specs.Cards.{Card, File, Path, file_at, no_file}
 use Rattle.card_model.specs.Guards.{asks_less, given, right_length}
 use Rattle.card_model.specs.Behaviours.{refused, refused_by, unless_refused}
 use Rattle.card_model.specs.Reaching.{selected_from}
-use Rattle.card_model.specs.SelectCommand.{select_refusals, selected, selected_data, selected_path, selecting}
+use Rattle.card_model.specs.SelectCommand.{select_refusals, file_selected, selected_data, selected_path, selecting}
 use Rattle.card_model.specs.SelectCommand.{selection_data, selection_status}
 use Rattle.card_model.specs.Sessions.{Session}
 use Rattle.card_model.specs.Steps.{served, refusals_of, effect}
@@ -27,7 +27,7 @@ module _ (c : Card) (s : Session) (selection : Selection) (returned : Returned) 
   select-missed place =
       let found = selected_data c s selection returned in
       ap (λ (o : Option Path). unless_refused c s (verdict (is_none o) (asks_less expected found) found)
-      (selected c s selection returned expected)) place
+      (file_selected c s selection returned expected)) place
 
   -- a file that is reached
   module _ (path : Path) (file : File) (place : selected_from c.tree s.current_df selection
@@ -53,7 +53,7 @@ module _ (c : Card) (s : Session) (selection : Selection) (returned : Returned) 
         → served c s (select selection returned expected)
         ≡ refused c s (right_length (selection_data returned c.tree path))
     unfolding served refusals_of effect
-    select-less is = ap (λ (refusal : Option Sw). unless_refused c s refusal (selected c s selection returned
+    select-less is = ap (λ (refusal : Option Sw). unless_refused c s refusal (file_selected c s selection returned
         expected)) (by_length true is)
 
     pub select-reached : asks_less expected (selection_data returned c.tree path) ≡ false
@@ -68,7 +68,7 @@ module _ (c : Card) (s : Session) (selection : Selection) (returned : Returned) 
         }
     unfolding served refusals_of effect
     select-reached is =
-        ap (λ (refusal : Option Sw). unless_refused c s refusal (selected c s selection returned expected))
+        ap (λ (refusal : Option Sw). unless_refused c s refusal (file_selected c s selection returned expected))
         (by_length false is)
         ∙ (λ i. record {
           card = c;

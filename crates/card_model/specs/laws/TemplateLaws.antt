@@ -20,10 +20,10 @@ use Rattle.card_state.specs.declared.fcp.Records.{Records}
 use Rattle.card_state.specs.declared.fcp.ShortIdentifier.{ShortIdentifier}
 use Rattle.card_state.specs.declared.fcp.ShortIdentifier.TheVariants.{Absent, Empty, Given}
 use Rattle.card_model.specs.TemplateGrammar.{DataObject, fcp_read, meaning_of, objects_in, ◌>>=◌, data_bytes, df_of}
-use Rattle.card_model.specs.TemplateGrammar.{fcp_of, has, has_unknown, is_missing, is_twice, kind_of, meaning}
+use Rattle.card_model.specs.TemplateGrammar.{fcp_of, has, has_unknown, is_missing, is_twice, kind_read, meaning}
 use Rattle.card_model.specs.TemplateGrammar.{record_file_of, transparent_of, value_at, descriptor_of, identifier_of}
-use Rattle.card_model.specs.TemplateGrammar.{life_cycle_of, name_of, records_of, rule_of, plain_descriptor}
-use Rattle.card_model.specs.TemplateGrammar.{record_descriptor, short_of, size_of, structure_of}
+use Rattle.card_model.specs.TemplateGrammar.{life_cycle_of, name_read, records_read, rule_read, plain_descriptor}
+use Rattle.card_model.specs.TemplateGrammar.{record_descriptor, short_read, size_of, structure_of}
 use Rattle.card_state.specs.FileTrees.{Path, Tree}
 use Rattle.card_state.specs.NewFiles.{blank, low_bits, new_file, new_kind, short_for, short_of_new}
 use Rattle.card_state.specs.Selectors.{child_by_short}
@@ -107,13 +107,13 @@ record IsProperRule (rule : List ℕ) : Type 0 where
   bytes : AreBytes rule
   size : length rule ≤ 8
 
-proper-rule : (value : List ℕ) → AreBytes value → IfSome (rule_of value) IsProperRule
+proper-rule : (value : List ℕ) → AreBytes value → IfSome (rule_read value) IsProperRule
 proper-rule value all =
     by_test (λ found. IfSome found IsProperRule) (is_rule value) (Some value) None
     (λ is. record { bytes = all; size = length-rule value is }) tt
 
 -- a name of at most 16 bytes
-proper-name : (found : Option (List ℕ)) → HasBytes found → IfSome (name_of found) IsProperName
+proper-name : (found : Option (List ℕ)) → HasBytes found → IfSome (name_read found) IsProperName
 proper-name None all = tt
 proper-name (Some name) all =
     by_test (λ told. IfSome told IsProperName) (nat_le 1 (length name) && nat_le (length name) 16) (Some (Some name))
@@ -131,7 +131,7 @@ IsSmallShort Absent = Unit {0}
 IsSmallShort Empty = Unit {0}
 IsSmallShort (Given n) = (1 ≤ n) × (n ≤ 30)
 
-small-short : (found : Option (List ℕ)) → IfSome (short_of found) IsSmallShort
+small-short : (found : Option (List ℕ)) → IfSome (short_read found) IsSmallShort
 small-short None = tt
 small-short (Some []) = tt
 small-short (Some (b ∷ [])) =
@@ -160,7 +160,7 @@ pub record AreSmall (records : Records) : Type 0 where
   pub number : records.existing ≤ records.size / records.record_length
 
 small-records : (record_length : ℕ) (existing : Option ℕ) (size : ℕ) → size ≤ 32767
-    → IfSome (records_of record_length existing size) AreSmall
+    → IfSome (records_read record_length existing size) AreSmall
 small-records record_length existing size most =
     let capacity = size / record_length in
     let number = unwrap_or existing capacity in
@@ -200,14 +200,14 @@ IsFineKind (Cyclic short records) = IsSmallShort short × AreSmall records
 fine-df : (os : List DataObject) → HaveBytes os → IfSome (df_of os) IsFineKind
 unfolding df_of
 fine-df os all =
-    through IsProperName IsFineKind (name_of (value_at os 0x84)) _ (proper-name _ (bytes-first 0x84 os all))
+    through IsProperName IsFineKind (name_read (value_at os 0x84)) _ (proper-name _ (bytes-first 0x84 os all))
     (λ name proper. by_test (λ told. IfSome told IsFineKind)
     (has os 0x88 || has os 0x80 && not (is_some (data_bytes os))) None (Some (Df name)) (λ is. tt) proper)
 
 fine-transparent : (os : List DataObject) → IfSome (transparent_of os) IsFineKind
 unfolding transparent_of
 fine-transparent os =
-    through IsSmallShort IsFineKind (short_of (value_at os 0x88)) _ (small-short (value_at os 0x88)) (λ short few.
+    through IsSmallShort IsFineKind (short_read (value_at os 0x88)) _ (small-short (value_at os 0x88)) (λ short few.
     through IsSize IsFineKind (size_of (data_bytes os)) _ (small-size (data_bytes os)) (λ size sized.
     by_test (λ told. IfSome told IsFineKind) (has os 0x84) None (Some (Transparent short size)) (λ is. tt)
     (few, sized)))
@@ -217,41 +217,45 @@ fine-records : (build : ShortIdentifier → Records → FileKind)
     → ((short : ShortIdentifier) (records : Records) → IsSmallShort short → AreSmall records
     → IsFineKind (build short records))
     → (record_length : ℕ) (existing : Option ℕ) (os : List DataObject)
-    → IfSome (short_of (value_at os 0x88) >>= (λ short. size_of (data_bytes os) >>= (λ size.
-    records_of record_length existing size >>= (λ records. if has os 0x84 then None else Some (build short records)))))
+    → IfSome (short_read (value_at os 0x88) >>= (λ short. size_of (data_bytes os) >>= (λ size.
+    records_read record_length existing size >>= (λ records. if has os 0x84 then None else Some
+    (build short records)))))
     IsFineKind
 fine-records build fine record_length existing os =
-    through IsSmallShort IsFineKind (short_of (value_at os 0x88)) _ (small-short (value_at os 0x88)) (λ short few.
+    through IsSmallShort IsFineKind (short_read (value_at os 0x88)) _ (small-short (value_at os 0x88)) (λ short few.
     through IsSize IsFineKind (size_of (data_bytes os)) _ (small-size (data_bytes os)) (λ size sized.
-    through AreSmall IsFineKind (records_of record_length existing size) _ (small-records record_length existing size
+    through AreSmall IsFineKind (records_read record_length existing size) _ (small-records record_length existing size
     sized.1) (λ records small.
     by_test (λ told. IfSome told IsFineKind) (has os 0x84) None (Some (build short records)) (λ is. tt)
     (fine short records few small))))
 
 -- whatever kind of file the descriptor says
 module _ (os : List DataObject) (all : HaveBytes os) where
-  fine-plain : (b : ℕ) → IfSome (plain_descriptor b) (λ descriptor. IfSome (kind_of descriptor os) IsFineKind)
+  fine-plain : (b : ℕ) → IfSome (plain_descriptor b) (λ descriptor. IfSome (kind_read descriptor os) IsFineKind)
   fine-plain b =
-      by_test (λ found. IfSome found (λ descriptor. IfSome (kind_of descriptor os) IsFineKind)) (b == 0x38 || b == 0x78)
+      by_test (λ found. IfSome found (λ descriptor. IfSome (kind_read descriptor os) IsFineKind))
+      (b == 0x38 || b == 0x78)
       _ _ (λ is. fine-df os all)
-      (by_test (λ found. IfSome found (λ descriptor. IfSome (kind_of descriptor os) IsFineKind)) (b == 0x01 || b
+      (by_test (λ found. IfSome found (λ descriptor. IfSome (kind_read descriptor os) IsFineKind)) (b == 0x01 || b
       == 0x41) _ None (λ is. fine-transparent os) tt)
 
   fine-of_records : (b record_length : ℕ) (existing : Option ℕ)
-      → IfSome (record_descriptor (structure_of b) record_length existing) (λ descriptor. IfSome (kind_of descriptor os)
+      → IfSome (record_descriptor (structure_of b) record_length existing) (λ descriptor. IfSome
+      (kind_read descriptor os)
       IsFineKind)
   unfolding record_file_of
   fine-of_records b record_length existing =
-      by_test (λ structure. IfSome (record_descriptor structure record_length existing) (λ descriptor. IfSome (kind_of
+      by_test (λ structure. IfSome (record_descriptor structure record_length existing) (λ descriptor. IfSome (kind_read
       descriptor os) IsFineKind)) (b == 0x02 || b == 0x42) _ _
       (λ is. fine-records (λ short records. Linear short records) (λ short records few small. (few, small))
       record_length existing os)
-      (by_test (λ structure. IfSome (record_descriptor structure record_length existing) (λ descriptor. IfSome (kind_of
+      (by_test (λ structure. IfSome (record_descriptor structure record_length existing) (λ descriptor. IfSome
+      (kind_read
       descriptor os) IsFineKind)) (b == 0x06 || b == 0x46) _ None
       (λ is. fine-records (λ short records. Cyclic short records) (λ short records few small. (few, small))
       record_length existing os) tt)
 
-  fine-descriptor : (value : List ℕ) → IfSome (descriptor_of value) (λ descriptor. IfSome (kind_of descriptor os)
+  fine-descriptor : (value : List ℕ) → IfSome (descriptor_of value) (λ descriptor. IfSome (kind_read descriptor os)
       IsFineKind)
   fine-descriptor [] = tt
   fine-descriptor (b ∷ []) = fine-plain b
@@ -261,7 +265,7 @@ module _ (os : List DataObject) (all : HaveBytes os) where
   fine-descriptor (b ∷ coding ∷ high ∷ low ∷ existing ∷ []) = fine-of_records b (256 * high + low) (Some existing)
   fine-descriptor (b ∷ coding ∷ high ∷ low ∷ existing ∷ more ∷ rest) = tt
 
-  fine-first : (found : Option (List ℕ)) → IfSome (found >>= descriptor_of) (λ descriptor. IfSome (kind_of descriptor
+  fine-first : (found : Option (List ℕ)) → IfSome (found >>= descriptor_of) (λ descriptor. IfSome (kind_read descriptor
       os) IsFineKind)
   fine-first None = tt
   fine-first (Some value) = fine-descriptor value
@@ -276,15 +280,15 @@ pub record IsFineFcp (fcp : Fcp) : Type 0 where
 fine-fcp : (os : List DataObject) → HaveBytes os → IfSome (fcp_of os) IsFineFcp
 unfolding fcp_of
 fine-fcp os all =
-    through (λ descriptor. IfSome (kind_of descriptor os) IsFineKind) IsFineFcp (value_at os 0x82 >>= descriptor_of) _
+    through (λ descriptor. IfSome (kind_read descriptor os) IsFineKind) IsFineFcp (value_at os 0x82 >>= descriptor_of) _
     (fine-first os all (value_at os 0x82)) (λ descriptor fine_kind.
     through (λ id. id < 65536) IsFineFcp (value_at os 0x83 >>= identifier_of) _
     (through AreBytes (λ id. id < 65536) (value_at os 0x83) identifier_of (bytes-first 0x83 os all) small-identifier)
     (λ id small.
-    through IsFineKind IsFineFcp (kind_of descriptor os) _ fine_kind (λ kind fine.
+    through IsFineKind IsFineFcp (kind_read descriptor os) _ fine_kind (λ kind fine.
     through Any IsFineFcp (life_cycle_of (value_at os 0x8A)) _ (anything _) (λ life any_life.
-    through IsProperRule IsFineFcp (value_at os 0x8C >>= rule_of) _
-    (through AreBytes IsProperRule (value_at os 0x8C) rule_of (bytes-first 0x8C os all) proper-rule)
+    through IsProperRule IsFineFcp (value_at os 0x8C >>= rule_read) _
+    (through AreBytes IsProperRule (value_at os 0x8C) rule_read (bytes-first 0x8C os all) proper-rule)
     (λ rule proper.
     by_test (λ told. IfSome told IsFineFcp) (has_unknown os) None
     (Some (record { identifier = id; life_cycle = life; rule = rule; kind = kind })) (λ is. tt)

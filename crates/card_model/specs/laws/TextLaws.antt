@@ -8,7 +8,8 @@ use Rattle.card_rules.specs.declared.life_cycle.LifeCycle.{LifeCycle}
 use Rattle.card_rules.specs.declared.life_cycle.LifeCycle.TheVariants.{Creation, Initialisation, Deactivated}
 use Rattle.card_rules.specs.declared.life_cycle.LifeCycle.TheVariants.{Activated, Terminated}
 use Rattle.card_model.specs.TemplateGrammar.{DataObject, object_text, objects_text}
-use Rattle.card_model.specs.Templates.{data_object, descriptor_value, fcp_objects, kind_objects, short_value, two_bytes}
+use Rattle.card_model.specs.Templates.{data_object, descriptor_value, fcp_objects, kind_objects, short_value}
+use Rattle.card_model.specs.Templates.{in_two_bytes}
 use Rattle.card_model.specs.Templates.{kind_told, parameters_of, short_told, template_of}
 use Rattle.card_model.specs.Requests.{AreBytes}
 use Rattle.card_model.specs.Cards.{File, Kind, Path, transparent, linear, cyclic, dedicated, elementary, identifier}
@@ -52,7 +53,7 @@ part-object tag value n small few part =
     part-cons tag (length value ∷ value) (n + 1) small
     (part-cons (length value) value n (omega (arith, most, few)) part)
 
-part-two : (n : ℕ) → n < 65536 → IsPart (two_bytes n) 2
+part-two : (n : ℕ) → n < 65536 → IsPart (in_two_bytes n) 2
 part-two n small =
     part-cons (n / 256) (n % 256 ∷ []) 1 (omega (arith, small)) (part-cons (n % 256) [] 0 (omega arith) part-none)
 
@@ -62,11 +63,11 @@ part-plain first small = part-more (first ∷ 0x21 ∷ []) 2 5 (lit≤ tt)
     (part-cons first (0x21 ∷ []) 1 small (part-cons 0x21 [] 0 (lit< tt) part-none))
 
 part-records : (first record_length capacity number : ℕ) → first < 256 → record_length ≤ 255 → capacity ≤ 254
-    → number ≤ capacity → IsPart (first ∷ 0x21 ∷ two_bytes record_length ++ number ∷ []) 5
+    → number ≤ capacity → IsPart (first ∷ 0x21 ∷ in_two_bytes record_length ++ number ∷ []) 5
 part-records first record_length capacity number small short most few =
-    part-cons first (0x21 ∷ two_bytes record_length ++ number ∷ []) 4 small
-    (part-cons 0x21 (two_bytes record_length ++ number ∷ []) 3 (lit< tt)
-    (part-append (two_bytes record_length) (number ∷ []) 2 1 (part-two record_length (omega (arith, short)))
+    part-cons first (0x21 ∷ in_two_bytes record_length ++ number ∷ []) 4 small
+    (part-cons 0x21 (in_two_bytes record_length ++ number ∷ []) 3 (lit< tt)
+    (part-append (in_two_bytes record_length) (number ∷ []) 2 1 (part-two record_length (omega (arith, short)))
     (part-cons number [] 0 (omega (arith, most, few)) part-none)))
 
 part-descriptor : (kind : Kind) → IsProperKind kind → IsPart (descriptor_value (kind_told kind)) 5
@@ -87,13 +88,13 @@ part-short (Some n) few = let most = few.1 in part-cons (n * 8) [] 0 (omega (ari
 part-short_and_size : (short : Option ℕ) (size : ℕ) → IsProperShort short → size < 65536
     → (rest : List DataObject) (n : ℕ)
     → IsPart (objects_text rest) n
-    → IsPart (objects_text (data_object 0x88 (short_value (short_told short)) ∷ data_object 0x80 (two_bytes size)
+    → IsPart (objects_text (data_object 0x88 (short_value (short_told short)) ∷ data_object 0x80 (in_two_bytes size)
     ∷ rest)) (3 + (4 + n))
 part-short_and_size short size few small rest n part =
     part-append (object_text (data_object 0x88 (short_value (short_told short)))) _ 3 (4 + n)
     (part-object 0x88 (short_value (short_told short)) 1 (lit< tt) (lit≤ tt) (part-short short few))
-    (part-append (object_text (data_object 0x80 (two_bytes size))) (objects_text rest) 4 n
-    (part-object 0x80 (two_bytes size) 2 (lit< tt) (lit≤ tt) (part-two size small)) part)
+    (part-append (object_text (data_object 0x80 (in_two_bytes size))) (objects_text rest) 4 n
+    (part-object 0x80 (in_two_bytes size) 2 (lit< tt) (lit≤ tt) (part-two size small)) part)
 
 part-kind : (kind : Kind) → IsProperKind kind → (rest : List DataObject) (n : ℕ) → IsPart (objects_text rest) n
     → IsPart (objects_text (kind_objects (kind_told kind) ++ rest)) (18 + n)
@@ -138,8 +139,8 @@ module _ (path : Path) (file : File) (small : identifier path < 65536) (proper :
       part-append (object_text (data_object 0x82 (descriptor_value (kind_told file.kind)))) _ 7 35
       (part-object 0x82 (descriptor_value (kind_told file.kind)) 5 (lit< tt) (lit≤ tt)
       (part-descriptor file.kind proper.kind))
-      (part-append (object_text (data_object 0x83 (two_bytes (identifier path)))) _ 4 31
-      (part-object 0x83 (two_bytes (identifier path)) 2 (lit< tt) (lit≤ tt) (part-two (identifier path) small))
+      (part-append (object_text (data_object 0x83 (in_two_bytes (identifier path)))) _ 4 31
+      (part-object 0x83 (in_two_bytes (identifier path)) 2 (lit< tt) (lit≤ tt) (part-two (identifier path) small))
       (part-kind file.kind proper.kind _ 13 part-end))
 
   pub text-template : IsText (template_of path file)

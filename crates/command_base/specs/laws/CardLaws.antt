@@ -4,7 +4,7 @@ use Rattle.std.proofs.Common.{◌∙◌, ap, arith, inl, inr, ⊎_elim}
 use Rattle.std.proofs.lemmas.Bool.Decides.{eqb_tells}
 use Rattle.nvm_board.specs.Facts.{IsMemory}
 use Rattle.nvm_board.specs.laws.Sizes.{pages_same}
-use Rattle.block_chain.specs.Words.{word}
+use Rattle.block_chain.specs.BlockWords.{word}
 use Rattle.block_chain.specs.declared.layout.TheConstants.{FIRST_BLOCK_PAGE, HEADER_PAGE, MOST_BLOCKS}
 use Rattle.file_tree.specs.Formats.{block_count, is_format_2, SameFormat}
 use Rattle.card_state.specs.Spaces.{free_space}

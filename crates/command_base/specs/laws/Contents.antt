@@ -14,7 +14,7 @@ use Rattle.block_chain.specs.Layout.{blocks_of, IsExtent}
 use Rattle.block_chain.specs.laws.Extents.{laid_chains}
 use Rattle.file_tree.specs.declared.entry.Entry.{Entry}
 use Rattle.card_state.specs.FileTrees.{transparent, linear, cyclic, dedicated, elementary, is_transparent}
-use Rattle.file_tree.specs.Entries.{file_of, extent_told, capacity_of, linear_records, cyclic_records, name_of}
+use Rattle.file_tree.specs.Entries.{file_of, extent_told, entry_capacity, linear_records, cyclic_records, name_of}
 use Rattle.file_tree.specs.Table.{table, entry_in, extents}
 use Rattle.file_tree.specs.Trees.{content, file_in}
 use Rattle.file_tree.specs.laws.Costs.{all_extents, entry_extent, extent_of-some, room_for_size}
@@ -90,8 +90,8 @@ module _ (m : List ℕ) (e : ℕ) where
       ap (λ (k : ℕ). if k == 1 then dedicated (if x.name_length == 0 then None else Some (name_of x))
       else elementary (if x.short == 0 then None else Some x.short)
       (if k == 2 then transparent (take x.size bytes) else
-      if k == 3 then linear x.record_length (capacity_of x) (linear_records x bytes) else
-      cyclic x.record_length (capacity_of x) (cyclic_records x bytes))) is
+      if k == 3 then linear x.record_length (entry_capacity x) (linear_records x bytes) else
+      cyclic x.record_length (entry_capacity x) (cyclic_records x bytes))) is
 
   module _ (sized : IsMemory m) (words : IsCard m) (below : e < 64) (high : 2 ≤ x.kind) where
     -- its content is the bytes of its chain

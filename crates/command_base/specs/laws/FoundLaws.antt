@@ -18,13 +18,14 @@ use Rattle.block_chain.specs.declared.chain.Extent.{Extent}
 use Rattle.block_chain.specs.declared.layout.TheConstants.{BLOCK_BYTES}
 use Rattle.block_chain.specs.Chains.{bytes_of}
 use Rattle.block_chain.specs.Layout.{blocks_of, IsExtent}
-use Rattle.block_chain.specs.Words.{word_bytes, page_words, block_bytes}
+use Rattle.block_chain.specs.BlockWords.{word_bytes, page_words, block_bytes}
 use Rattle.block_chain.specs.laws.Bytes.{leads_blocks, AreBlocks}
 use Rattle.block_chain.specs.laws.Words.{length-block_bytes, word_bytes-bytes}
 use Rattle.ef_body.specs.laws.Slots.{length-slot, slot-within}
 use Rattle.file_tree.specs.declared.entry.Entry.{Entry}
 use Rattle.card_state.specs.FileTrees.{File, Path, dedicated, elementary, transparent, linear, cyclic, identifier}
-use Rattle.file_tree.specs.Entries.{free_entry, body_of, capacity_of, cyclic_records, entry_of, entry_told, extent_of}
+use Rattle.file_tree.specs.Entries.{free_entry, body_of, entry_capacity, cyclic_records, entry_of, entry_told}
+use Rattle.file_tree.specs.Entries.{extent_of}
 use Rattle.file_tree.specs.Entries.{extent_told, file_of, kind_of, linear_records, name_of, slot}
 use Rattle.file_tree.specs.Table.{table, entry_in, path_of, IsFileEntry, IsRecordBody, IsTransparentBody, IsUsed}
 use Rattle.file_tree.specs.Trees.{content, tree_of, TreeStands}
@@ -126,13 +127,13 @@ room-content m stands e below high =
     omega (arith, long, blocks, is)
 
 -- a slot of a file with room for some
-proper-slot : (entry : Entry) (bytes : List ℕ) (i : ℕ) → i < capacity_of entry
-    → capacity_of entry * entry.record_length ≤ length bytes → AreBytes bytes
+proper-slot : (entry : Entry) (bytes : List ℕ) (i : ℕ) → i < entry_capacity entry
+    → entry_capacity entry * entry.record_length ≤ length bytes → AreBytes bytes
     → IsRecord entry.record_length (slot entry bytes i)
 proper-slot entry bytes i below room all =
     let long = entry.record_length in
     let from = i * long in
-    let within = slot-within long i (capacity_of entry) below in
+    let within = slot-within long i (entry_capacity entry) below in
     record {
       bytes = All-take byte (from + long - from) (drop from bytes) (All-drop byte from bytes all);
       size = length-slot long bytes i (omega (arith, within, room));
@@ -140,8 +141,8 @@ proper-slot entry bytes i below room all =
 
 -- the records of a file, each in a slot
 are-records : (entry : Entry) (bytes : List ℕ) (place : ℕ → ℕ) → IsRecordBody entry → entry.size ≤ length bytes
-    → AreBytes bytes → ((k : ℕ) → k < entry.records → place k < capacity_of entry)
-    → AreRecords entry.record_length (capacity_of entry)
+    → AreBytes bytes → ((k : ℕ) → k < entry.records → place k < entry_capacity entry)
+    → AreRecords entry.record_length (entry_capacity entry)
     (map (λ i. slot entry bytes (place i)) (range_with_len 0 entry.records))
 are-records entry bytes place body enough all inside =
     let long = length-map-range_with_len (λ i. slot entry bytes (place i)) 0 entry.records in
@@ -168,8 +169,8 @@ are-records entry bytes place body enough all inside =
 proper-body : (entry : Entry) (bytes : List ℕ) (two three : Bool) → (two ≡ true → IsTransparentBody entry)
     → (two ≡ false → IsRecordBody entry) → entry.size ≤ length bytes
     → AreBytes bytes → IsProperBody (if two then transparent (take entry.size bytes) else
-    if three then linear entry.record_length (capacity_of entry) (linear_records entry bytes) else
-    cyclic entry.record_length (capacity_of entry) (cyclic_records entry bytes))
+    if three then linear entry.record_length (entry_capacity entry) (linear_records entry bytes) else
+    cyclic entry.record_length (entry_capacity entry) (cyclic_records entry bytes))
 proper-body entry bytes true three of_bytes of_records enough all =
     let long = length-take entry.size bytes in
     let least = (of_bytes refl).some in
@@ -183,7 +184,7 @@ proper-body entry bytes false true of_bytes of_records enough all =
     let few = (of_records refl).records in
     are-records entry bytes (λ i. i) (of_records refl) enough all (λ k lt. omega (arith, lt, few))
 proper-body entry bytes false false of_bytes of_records enough all =
-    are-records entry bytes (λ i. (entry.start + i) % capacity_of entry) (of_records refl) enough all
+    are-records entry bytes (λ i. (entry.start + i) % entry_capacity entry) (of_records refl) enough all
     (λ k lt. mod-lt (entry.start + k) (of_records refl).room)
 
 proper-name : (none : Bool) (name : List ℕ) → AreBytes name → (none ≡ false → 1 ≤ length name) → length name ≤ 16

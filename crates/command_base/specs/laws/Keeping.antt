@@ -2,8 +2,8 @@
 use Rattle.std.proofs.Common.{◌≡◌, ◌≢◌, ◌<◌, ℕ, List}
 use Rattle.std.proofs.Common.{arith, inr, inl, lit<}
 use Rattle.nvm_board.specs.Facts.{IsMemory}
-use Rattle.block_chain.specs.Words.{word}
-use Rattle.file_tree.specs.Changes.{KeepsRest, IsEntryPage}
+use Rattle.block_chain.specs.BlockWords.{word}
+use Rattle.file_tree.specs.TreeChanges.{KeepsRest, IsEntryPage}
 use Rattle.file_tree.specs.Formats.{SameFormat}
 use Rattle.file_tree.specs.Trees.{tree_of, TreeStands}
 use Rattle.file_tree.specs.declared.layout.TheConstants.{MARK_WORD, PAGES_WORD, STATE_WORD}

@@ -4,7 +4,7 @@ use Rattle.std.proofs.Common.{sym, ◌∙◌, ap, subst, arith, inl}
 use Rattle.std.specs.Result.{IsErrAnd}
 use Rattle.card_rules.specs.declared.status.Sw.{Sw}
 use Rattle.undo_journal.specs.declared.error.StoreErr.{StoreErr}
-use Rattle.undo_journal.specs.Calls.{OnlyReads, Reads}
+use Rattle.undo_journal.specs.StoreCalls.{OnlyReads, Reads}
 use Rattle.undo_journal.specs.Memory.{Memory, committed, IsReady, Reports}
 use Rattle.undo_journal.specs.Spending.{WritesAtMost}
 use Rattle.nvm_board.specs.Facts.{Facts}
@@ -23,7 +23,7 @@ use Rattle.card_model.specs.Cards.{Card}
 use Rattle.card_model.specs.Behaviours.{refused, outcome, Attempt}
 use Rattle.card_model.specs.Sessions.{Session}
 use Rattle.command_base.specs.Served.{Serves}
-use Rattle.command_base.specs.Spending.{most_writes}
+use Rattle.command_base.specs.CommandWrites.{most_writes}
 use Rattle.command_base.specs.Standing.{IsCard, card_of}
 use Rattle.command_base.specs.declared.stop.Stop.{Stop}
 use Rattle.command_base.specs.declared.stop.Stop.TheVariants.{Refused, Failed}

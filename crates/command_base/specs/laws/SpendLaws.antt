@@ -9,11 +9,12 @@ use Rattle.card_model.specs.Requests.{change_life_cycle, terminate_card_usage, v
 use Rattle.card_model.specs.Requests.{reset_retry_counter, change_requirement, IsSized}
 use Rattle.card_model.specs.laws.RowLaws.{asked-sized}
 use Rattle.command_base.specs.declared.spending.TheConstants.{COMMAND_WRITES}
-use Rattle.command_base.specs.Spending.{most_writes, shown_writes, writes_asked, writes_of}
+use Rattle.command_base.specs.CommandWrites.{most_writes, shown_writes, writes_asked, writes_of}
 use Rattle.command_base.specs.laws.TouchLaws.{few_blocks, few_words}
 use Rattle.undo_journal.specs.Spending.{transaction_writes}
 
-few-shown : {T : Type 0} (shown : Option T) (most : ℕ) → most ≤ COMMAND_WRITES → shown_writes shown most ≤ COMMAND_WRITES
+few-shown : {T : Type 0} (shown : Option T) (most : ℕ) → most ≤ COMMAND_WRITES
+    → shown_writes shown most ≤ COMMAND_WRITES
 few-shown None most few = omega arith
 few-shown (Some value) most few = few
 

@@ -10,7 +10,7 @@ use Rattle.card_state.specs.declared.fcp.FileKind.TheVariants.{Df, Transparent, 
 use Rattle.card_state.specs.declared.fcp.ShortIdentifier.TheVariants.{Empty, Given}
 use Rattle.file_tree.specs.declared.entry.Entry.{Entry}
 use Rattle.card_state.specs.FileTrees.{transparent, linear, cyclic, dedicated, elementary}
-use Rattle.file_tree.specs.Entries.{file_of, free_entry, capacity_of, cyclic_records, kind_of, linear_records}
+use Rattle.file_tree.specs.Entries.{file_of, free_entry, entry_capacity, cyclic_records, kind_of, linear_records}
 use Rattle.file_tree.specs.Entries.{life_told, name_of, rule_of, slot}
 use Rattle.file_tree.specs.Table.{table, entry_in, path_of, IsFileEntry, IsRecordBody, IsUsed}
 use Rattle.file_tree.specs.Trees.{content, file_in}
@@ -59,7 +59,7 @@ module _ (x : Entry) (most : x.name_length ≤ 16) (room : length x.name ≡ 16)
 -- the records of a file with room for some
 module _ (x : Entry) (body : IsRecordBody x) where
   records-are : (records : List (List ℕ)) → length records ≡ x.records
-      → records_told x.record_length (capacity_of x) records ≡ records_in_entry x
+      → records_told x.record_length (entry_capacity x) records ≡ records_in_entry x
   records-are records count =
       let size = sym body.multiple in
       λ i. record { size = size i; record_length = x.record_length; existing = count i }
@@ -91,8 +91,8 @@ module _ (x : Entry) (used : x.kind ≢ 0) (file : IsFileEntry x) where
         kind_told (if one then dedicated (if x.name_length == 0 then None else Some (name_of x))
         else elementary (if x.short == 0 then None else Some x.short)
         (if two then transparent (take x.size bytes) else
-        if three then linear x.record_length (capacity_of x) (linear_records x bytes) else
-        cyclic x.record_length (capacity_of x) (cyclic_records x bytes)))
+        if three then linear x.record_length (entry_capacity x) (linear_records x bytes) else
+        cyclic x.record_length (entry_capacity x) (cyclic_records x bytes)))
 
     by_kind : (one two three : Bool) → (one ≡ false → 2 ≤ x.kind) → (one ≡ false → two ≡ false → IsRecordBody x)
         → told one two three ≡ wanted one two three
@@ -108,7 +108,7 @@ module _ (x : Entry) (used : x.kind ≢ 0) (file : IsFileEntry x) where
         λ i. Linear (short-is (x.short == 0) x.short i) (are i)
     by_kind false false false long of_records =
         let are = records-are x (of_records refl refl) (cyclic_records x bytes)
-        (length-map-range_with_len (λ i. slot x bytes ((x.start + i) % capacity_of x)) 0 x.records) in
+        (length-map-range_with_len (λ i. slot x bytes ((x.start + i) % entry_capacity x)) 0 x.records) in
         λ i. Cyclic (short-is (x.short == 0) x.short i) (are i)
 
     kind-is : kind_told (kind_of x bytes) ≡ kind_in_entry x

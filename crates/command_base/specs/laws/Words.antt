@@ -1,7 +1,7 @@
 -- Which card stands by the word that was written, from what a call tells of the gate.
 use Rattle.std.proofs.Common.{◌≡◌, ◌⊎◌, ℕ, zero, suc, List, [], ◌∷◌, ◌++◌, Contains, Option, None, Some, refl, sym, ◌∙◌}
 use Rattle.std.proofs.Common.{ap, subst, arith, inl, inr, ⊎_elim}
-use Rattle.undo_journal.specs.Calls.{OnlyReads}
+use Rattle.undo_journal.specs.StoreCalls.{OnlyReads}
 use Rattle.undo_journal.specs.Commits.{CommitsByGate, TurnsGate}
 use Rattle.undo_journal.specs.Memory.{Memory, committed}
 use Rattle.undo_journal.specs.Spending.{Advances, WritesAtMost}
@@ -16,7 +16,7 @@ use Rattle.command_base.specs.Finding.{found}
 use Rattle.card_model.specs.Behaviours.{refused_by, Attempt}
 use Rattle.card_model.specs.Sessions.{Session}
 use Rattle.command_base.specs.Standing.{card_of, IsCard}
-use Rattle.command_base.specs.Words.{StandsByWord, StandsServed}
+use Rattle.command_base.specs.CommitWords.{StandsByWord, StandsServed}
 use Rattle.command_base.specs.Working.{card_in, session_in}
 
 -- the last of some cards is one of them

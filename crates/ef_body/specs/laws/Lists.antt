@@ -11,37 +11,37 @@ use Rattle.std.specs.Prelude.{◌≡◌, ◌≢◌, ◌⊎◌, ◌<◌, ◌≤�
 use Rattle.std.specs.Prelude.{slice_index_or, slice_set}
 use Rattle.std.proofs.Math.Nat.{mod-lt, mod-eq-sub-mod}
 use Rattle.card_state.specs.FileTrees.{overwrite}
-use Rattle.ef_body.specs.Records.{slot, in_order, newest_first}
+use Rattle.ef_body.specs.Records.{slot_record, linear_order, newest_first}
 use Rattle.card_state.specs.RecordLists.{front}
 use Rattle.ef_body.specs.laws.Slots.{slot-within, slot-put_same, slot-put_other, slot-here, slot-around}
 
 -- how many records, and each of them
-pub length-in_order : (size : ℕ) (bytes : List ℕ) (n : ℕ) → length (in_order size bytes n) ≡ n
-unfolding in_order
-length-in_order size bytes n = length-map-range_with_len (slot size bytes) 0 n
+pub length-in_order : (size : ℕ) (bytes : List ℕ) (n : ℕ) → length (linear_order size bytes n) ≡ n
+unfolding linear_order
+length-in_order size bytes n = length-map-range_with_len (slot_record size bytes) 0 n
 
 pub at-in_order : (size : ℕ) (bytes : List ℕ) (n k : ℕ) (d : List ℕ) → k < n
-    → slice_index_or (in_order size bytes n) k d ≡ slot size bytes k
-unfolding in_order
+    → slice_index_or (linear_order size bytes n) k d ≡ slot_record size bytes k
+unfolding linear_order
 at-in_order size bytes n k d lt =
-    let place : 0 + k ≡ k = omega arith in get_or-map-range_with_len (slot size bytes) 0 n k k d lt place
+    let place : 0 + k ≡ k = omega arith in get_or-map-range_with_len (slot_record size bytes) 0 n k k d lt place
 
 pub length-newest_first : (size capacity : ℕ) (bytes : List ℕ) (start n : ℕ)
     → length (newest_first size capacity bytes start n) ≡ n
 unfolding newest_first
 length-newest_first size capacity bytes start n =
-    length-map-range_with_len (λ i. slot size bytes ((start + i) % capacity)) 0 n
+    length-map-range_with_len (λ i. slot_record size bytes ((start + i) % capacity)) 0 n
 
 pub at-newest_first : (size capacity : ℕ) (bytes : List ℕ) (start n k : ℕ) (d : List ℕ) → k < n
-    → slice_index_or (newest_first size capacity bytes start n) k d ≡ slot size bytes ((start + k) % capacity)
+    → slice_index_or (newest_first size capacity bytes start n) k d ≡ slot_record size bytes ((start + k) % capacity)
 unfolding newest_first
 at-newest_first size capacity bytes start n k d lt =
     let place : 0 + k ≡ k = omega arith in
-    get_or-map-range_with_len (λ i. slot size bytes ((start + i) % capacity)) 0 n k k d lt place
+    get_or-map-range_with_len (λ i. slot_record size bytes ((start + i) % capacity)) 0 n k k d lt place
 
 -- a linear body's slots are those of a cyclic one whose record 1 lies in slot 0
 pub in_order-ring : (size capacity : ℕ) (bytes : List ℕ) (n : ℕ) → n ≤ capacity
-    → newest_first size capacity bytes 0 n ≡ in_order size bytes n
+    → newest_first size capacity bytes 0 n ≡ linear_order size bytes n
 in_order-ring size capacity bytes n few =
     let here = length-newest_first size capacity bytes 0 n in
     let there = length-in_order size bytes n in
@@ -49,17 +49,18 @@ in_order-ring size capacity bytes n few =
     let small : k < n = omega (arith, lt, here) in
     let place : 0 + k ≡ k = omega arith in
     at-newest_first size capacity bytes 0 n k d small
-    ∙ ap (slot size bytes) (ap (λ (i : ℕ). i % capacity) place ∙ slot-here k capacity (omega (arith, small, few)))
+    ∙ ap (slot_record size bytes) (ap (λ (i : ℕ). i % capacity) place ∙ slot-here k capacity (omega
+    (arith, small, few)))
     ∙ sym (at-in_order size bytes n k d small))
 
 -- one record more lies in the slot behind the others
 pub newest_first-more : (size capacity : ℕ) (bytes : List ℕ) (start n : ℕ)
     → newest_first size capacity bytes start (n + 1)
-    ≡ newest_first size capacity bytes start n ++ slot size bytes ((start + n) % capacity) ∷ []
+    ≡ newest_first size capacity bytes start n ++ slot_record size bytes ((start + n) % capacity) ∷ []
 unfolding newest_first
 newest_first-more size capacity bytes start n =
     let place : 0 + n ≡ n = omega arith in
-    map-range_with_len_more (λ i. slot size bytes ((start + i) % capacity)) 0 n n place
+    map-range_with_len_more (λ i. slot_record size bytes ((start + i) % capacity)) 0 n n place
 
 -- the slot of a record: it lies before the end, or goes on at the first slot
 slot-is : (start capacity k : ℕ) → start < capacity → k < capacity
@@ -143,8 +144,8 @@ module _ (size capacity : ℕ) (bytes : List ℕ) (start n : ℕ) (new : List �
 
   -- into that of one, which leaves the others
   put_elsewhere : (i k : ℕ) → i < capacity → k < capacity → k ≢ i
-      → slot size (overwrite bytes ((start + i) % capacity * size) new) ((start + k) % capacity)
-      ≡ slot size bytes ((start + k) % capacity)
+      → slot_record size (overwrite bytes ((start + i) % capacity * size) new) ((start + k) % capacity)
+      ≡ slot_record size bytes ((start + k) % capacity)
   put_elsewhere i k small_i small_k other =
       slot-put_other size bytes ((start + i) % capacity) new long (slot_within (start + i)) ((start + k) % capacity)
       (slots-differ start capacity i k lt small_i small_k other) (slot_within (start + k))
@@ -164,7 +165,7 @@ module _ (size capacity : ℕ) (bytes : List ℕ) (start n : ℕ) (new : List �
       ∙ elim (eqb_tells k i) [
         | inl same ↦
             let room : i < length (newest_first size capacity bytes start n) = omega (arith, old, inside) in
-            ap (λ (j : ℕ). slot size (overwrite bytes (at * size) new) ((start + j) % capacity)) same.1
+            ap (λ (j : ℕ). slot_record size (overwrite bytes (at * size) new) ((start + j) % capacity)) same.1
             ∙ slot-put_same size bytes at new long (slot_within (start + i))
             ∙ sym (ap (λ (j : ℕ). slice_index_or (slice_set (newest_first size capacity bytes start n) i new) j d)
             same.1
@@ -214,11 +215,11 @@ module _ (size capacity : ℕ) (bytes : List ℕ) (start n : ℕ) (new : List �
       ∙ sym (get_or-take many (new ∷ newest_first size capacity bytes start n) k d below))
     where
       by_place : (k : ℕ) (d : List ℕ) → k < many
-          → slot size (overwrite bytes (before * size) new) ((before + k) % capacity)
+          → slot_record size (overwrite bytes (before * size) new) ((before + k) % capacity)
           ≡ slice_index_or (new ∷ newest_first size capacity bytes start n) k d
       by_place zero d below =
           let none : before + 0 ≡ before = omega arith in
-          ap (slot size (overwrite bytes (before * size) new)) (ap (λ (i : ℕ). i % capacity) none
+          ap (slot_record size (overwrite bytes (before * size) new)) (ap (λ (i : ℕ). i % capacity) none
           ∙ slot-here before capacity (slot_before-small start capacity lt))
           ∙ slot-put_same size bytes before new long before_within
       by_place (suc k) d below =
@@ -227,7 +228,7 @@ module _ (size capacity : ℕ) (bytes : List ℕ) (start n : ℕ) (new : List �
           let small : k < capacity = omega (arith, below, most) in
           let turn : (before + suc k) % capacity ≡ (start + k) % capacity =
           ap (λ (i : ℕ). i % capacity) next ∙ slot_before-next start capacity k lt small in
-          ap (slot size (overwrite bytes (before * size) new)) turn
+          ap (slot_record size (overwrite bytes (before * size) new)) turn
           ∙ slot-put_other size bytes before new long before_within ((start + k) % capacity)
           (slot_before-other start capacity k lt (omega (arith, below, most))) (slot_within (start + k))
           ∙ sym (at-newest_first size capacity bytes start n k d inside)

@@ -8,10 +8,10 @@ use Rattle.std.proofs.lemmas.Nat.{mod-mul-add}
 use Rattle.std.specs.Prelude.{◌≡◌, ◌≢◌, ◌⊎◌, ◌<◌, ◌≤◌, ◌+◌, ◌-◌, ◌*◌, ◌%◌, ℕ, List, length, slice_index, take, drop}
 use Rattle.card_state.specs.FileTrees.{overwrite}
 use Rattle.block_chain.specs.laws.Overwriting.{index-overwrite, length-overwrite, byte_over-inside, byte_over-outside}
-use Rattle.ef_body.specs.Records.{slot}
+use Rattle.ef_body.specs.Records.{slot_record}
 
 -- a slot is so many bytes behind those before it
-pub slot-take : (size : ℕ) (bytes : List ℕ) (i : ℕ) → slot size bytes i ≡ take size (drop (i * size) bytes)
+pub slot-take : (size : ℕ) (bytes : List ℕ) (i : ℕ) → slot_record size bytes i ≡ take size (drop (i * size) bytes)
 slot-take size bytes i =
     let count : i * size + size - i * size ≡ size = omega arith in
     ap (λ (n : ℕ). take n (drop (i * size) bytes)) count
@@ -21,7 +21,8 @@ pub slot-within : (size i n : ℕ) → i < n → i * size + size ≤ n * size
 slot-within size i n lt =
     let more : size * (i + 1) ≤ size * n = mul-le-mul_left size (omega arith) in omega (arith, more)
 
-pub length-slot : (size : ℕ) (bytes : List ℕ) (i : ℕ) → i * size + size ≤ length bytes → length (slot size bytes i) ≡
+pub length-slot : (size : ℕ) (bytes : List ℕ) (i : ℕ) → i * size + size ≤ length bytes
+    → length (slot_record size bytes i) ≡
     size
 length-slot size bytes i within =
     let rest = length-drop (i * size) bytes in
@@ -29,7 +30,7 @@ length-slot size bytes i within =
     ap (λ (l : List ℕ). length l) (slot-take size bytes i) ∙ length-take-le size (drop (i * size) bytes) enough
 
 pub index-slot : (size : ℕ) (bytes : List ℕ) (i k : ℕ) → k < size
-    → slice_index (slot size bytes i) k ≡ slice_index bytes (i * size + k)
+    → slice_index (slot_record size bytes i) k ≡ slice_index bytes (i * size + k)
 index-slot size bytes i k lt =
     ap (λ (l : List ℕ). slice_index l k) (slot-take size bytes i)
     ∙ get_or-take size (drop (i * size) bytes) k 0 lt ∙ get_or-drop (i * size) bytes k 0
@@ -43,7 +44,7 @@ module _ (size : ℕ) (bytes : List ℕ) (i : ℕ) (new : List ℕ) (long : leng
   pub length-put : length (overwrite bytes (i * size) new) ≡ length bytes
   length-put = length-overwrite bytes new (i * size) fits
 
-  pub slot-put_same : slot size (overwrite bytes (i * size) new) i ≡ new
+  pub slot-put_same : slot_record size (overwrite bytes (i * size) new) i ≡ new
   slot-put_same =
       let inside : i * size + size ≤ length (overwrite bytes (i * size) new) = omega (arith, length-put, within) in
       let whole = length-slot size (overwrite bytes (i * size) new) i inside in
@@ -58,7 +59,7 @@ module _ (size : ℕ) (bytes : List ℕ) (i : ℕ) (new : List ℕ) (long : leng
       ∙ ap (slice_index new) place)
 
   pub slot-put_other : (j : ℕ) → j ≢ i → j * size + size ≤ length bytes
-      → slot size (overwrite bytes (i * size) new) j ≡ slot size bytes j
+      → slot_record size (overwrite bytes (i * size) new) j ≡ slot_record size bytes j
   slot-put_other j other inside =
       let inside_new : j * size + size ≤ length (overwrite bytes (i * size) new) = omega (arith, length-put, inside) in
       let whole = length-slot size bytes j inside in

@@ -15,9 +15,9 @@ use Rattle.std.proofs.lemmas.List.Elements.{filter_map-append}
 use Rattle.nvm_board.specs.declared.board.TheConstants.{PAGE_WORDS}
 use Rattle.block_chain.specs.declared.layout.TheConstants.{HEADER_PAGE, FREE_HEAD_WORD, FIRST_BLOCK_PAGE}
 use Rattle.block_chain.specs.declared.chain.Extent.{Extent}
-use Rattle.block_chain.specs.Words.{word, page_words}
+use Rattle.block_chain.specs.BlockWords.{word, page_words}
 use Rattle.block_chain.specs.Chains.{bytes_of, free_chain}
-use Rattle.block_chain.specs.Changes.{KeepsBlocks, Takes}
+use Rattle.block_chain.specs.ChainChanges.{KeepsBlocks, Takes}
 use Rattle.block_chain.specs.Layout.{blocks_of, laid_out, AreLaid, SameBytes}
 use Rattle.block_chain.specs.laws.Extents.{all_around, all_right}
 use Rattle.block_chain.specs.laws.Footprints.{page_words_same, not_among, laid_elsewhere}
@@ -28,7 +28,7 @@ use Rattle.file_tree.specs.Entries.{entry_of, file_of, extent_of, extent_told}
 use Rattle.card_state.specs.Spaces.{blocks_for}
 use Rattle.file_tree.specs.Table.{table, entry_in, path_of, extents, free_entries, IsUsed, IsTable}
 use Rattle.file_tree.specs.Trees.{content, tree_of, TreeStands, file_in}
-use Rattle.file_tree.specs.Changes.{Creates}
+use Rattle.file_tree.specs.TreeChanges.{Creates}
 use Rattle.file_changes.specs.CreationParts.{WritesEntry}
 use Rattle.file_tree.specs.laws.Tables.{length-table, entry_in-table, entry_past, mapped-same}
 use Rattle.file_tree.specs.laws.Nodes.{used_small}

@@ -18,9 +18,9 @@ use Rattle.nvm_board.specs.declared.board.TheConstants.{PAGE_WORDS}
 use Rattle.block_chain.specs.declared.layout.TheConstants.{HEADER_PAGE, FREE_HEAD_WORD, FIRST_BLOCK_PAGE}
 use Rattle.block_chain.specs.declared.chain.Extent.{Extent}
 use Rattle.block_chain.specs.Counts.{count}
-use Rattle.block_chain.specs.Words.{word, page_words}
+use Rattle.block_chain.specs.BlockWords.{word, page_words}
 use Rattle.block_chain.specs.Chains.{bytes_of, free_chain, laid, HasFree, AreApart}
-use Rattle.block_chain.specs.Changes.{GivesBack, KeepsBlocks}
+use Rattle.block_chain.specs.ChainChanges.{GivesBack, KeepsBlocks}
 use Rattle.block_chain.specs.Layout.{blocks_of, laid_out, chains_of, IsExtent, AreLaid, AreSplit, SameBytes}
 use Rattle.block_chain.specs.laws.Words.{index-page_words, word-set_same, word-set_other}
 use Rattle.block_chain.specs.laws.Laying.{laid_count}
@@ -37,7 +37,7 @@ use Rattle.file_tree.specs.Entries.{free_entry, entry_of, file_of, name_of, exte
 use Rattle.file_tree.specs.Table.{table, entry_in, ancestor, path_in, path_of, extents, free_entries, IsUsed, IsChild}
 use Rattle.file_tree.specs.Table.{IsEntry, IsMasterFile, IsTable}
 use Rattle.file_tree.specs.Trees.{content, tree_of, TreeStands, file_in}
-use Rattle.file_tree.specs.Changes.{KeepsRest, Deletes, with_freed}
+use Rattle.file_tree.specs.TreeChanges.{KeepsRest, Deletes, with_freed}
 use Rattle.file_tree.specs.Subtrees.{leads_up}
 use Rattle.file_changes.specs.DeletionParts.{is_gone, going, part_below, FreesUpTo, FreesEntries}
 use Rattle.file_tree.specs.laws.Tables.{length-table, entry_in-table, entry_of-free, entry_past, entry_within}

@@ -6,14 +6,14 @@ use Rattle.nvm_board.specs.Facts.{IsMemory}
 use Rattle.nvm_board.specs.laws.Sizes.{least_words, memory_same}
 use Rattle.block_chain.specs.declared.chain.Chain.{Chain}
 use Rattle.block_chain.specs.Chains.{free_chain}
-use Rattle.block_chain.specs.Changes.{Takes}
+use Rattle.block_chain.specs.ChainChanges.{Takes}
 use Rattle.block_chain.specs.laws.Footprints.{page_words_same, not_among}
 use Rattle.block_chain.specs.laws.Bytes.{leads_blocks}
 use Rattle.file_tree.specs.declared.entry.Entry.{Entry}
 use Rattle.file_tree.specs.Entries.{entry_of}
 use Rattle.file_tree.specs.Table.{table, entry_in}
 use Rattle.file_tree.specs.Trees.{TreeStands}
-use Rattle.file_tree.specs.Changes.{SameTree}
+use Rattle.file_tree.specs.TreeChanges.{SameTree}
 use Rattle.file_changes.specs.CreationParts.{WritesEntry, TakesAndWrites, FillsAndAdds, with_chain}
 use Rattle.file_tree.specs.Indexes.{AddsEntry}
 use Rattle.file_tree.specs.laws.Tables.{length-table, entry_in-table, entry_past, table-same}

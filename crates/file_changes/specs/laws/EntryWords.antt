@@ -8,7 +8,7 @@ use Rattle.std.proofs.lemmas.Bool.{cases_lt}
 use Rattle.nvm_board.specs.Facts.{address, IsMemory}
 use Rattle.nvm_board.specs.Torn.{written}
 use Rattle.nvm_board.specs.laws.Torn.{written-inside, written-elsewhere, length-written}
-use Rattle.block_chain.specs.Words.{page_words}
+use Rattle.block_chain.specs.BlockWords.{page_words}
 use Rattle.block_chain.specs.laws.Words.{index-page_words}
 use Rattle.file_tree.specs.declared.layout.TheConstants.{FIRST_ENTRY_PAGE}
 use Rattle.file_tree.specs.declared.entry.Entry.{Entry}

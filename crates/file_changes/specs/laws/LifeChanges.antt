@@ -1,6 +1,6 @@
 -- What another state in the entry of a file makes of the tree: its file in this state, and all others stay.
 use Rattle.nvm_board.specs.declared.board.TheConstants.{PAGE_WORDS}
-use Rattle.block_chain.specs.Words.{word}
+use Rattle.block_chain.specs.BlockWords.{word, page_words, word_bytes}
 use Rattle.file_tree.specs.declared.layout.TheConstants.{MARK_WORD, PAGES_WORD}
 use Rattle.file_tree.specs.laws.Formats.{laid_as}
 use Rattle.file_tree.specs.Formats.{block_count, SameFormat}
@@ -21,9 +21,8 @@ use Rattle.card_rules.specs.declared.life_cycle.LifeCycle.TheVariants.{Creation,
 use Rattle.card_rules.specs.declared.life_cycle.LifeCycle.TheVariants.{Terminated}
 use Rattle.block_chain.specs.declared.layout.TheConstants.{HEADER_PAGE, FREE_HEAD_WORD}
 use Rattle.block_chain.specs.declared.chain.Extent.{Extent}
-use Rattle.block_chain.specs.Words.{page_words, word_bytes}
 use Rattle.block_chain.specs.Chains.{bytes_of, free_chain}
-use Rattle.block_chain.specs.Changes.{KeepsBlocks}
+use Rattle.block_chain.specs.ChainChanges.{KeepsBlocks}
 use Rattle.block_chain.specs.Layout.{blocks_of, AreLaid, SameBytes}
 use Rattle.block_chain.specs.laws.Footprints.{page_words_same, laid_elsewhere}
 use Rattle.block_chain.specs.laws.Words.{index-page_words}
@@ -37,7 +36,7 @@ use Rattle.file_tree.specs.States.{ChangesLife}
 use Rattle.file_tree.specs.Table.{table, entry_in, ancestor, path_in, path_of, extents, IsUsed, IsChild}
 use Rattle.file_tree.specs.Table.{IsEntry, IsTable}
 use Rattle.file_tree.specs.Trees.{content, tree_of, TreeStands, file_in}
-use Rattle.file_tree.specs.Parts.{TellsLife}
+use Rattle.file_tree.specs.TreeParts.{TellsLife}
 use Rattle.file_changes.specs.CreationParts.{WritesEntry}
 use Rattle.file_tree.specs.laws.Tables.{length-table, entry_in-table, entry_past, entry_within, entry_of-free}
 use Rattle.file_tree.specs.laws.Tables.{entry_of-used, mapped-same}

@@ -19,11 +19,11 @@ use Rattle.card_state.specs.Spaces.{blocks_for}
 use Rattle.file_tree.specs.Entries.{file_of}
 use Rattle.file_tree.specs.Table.{table, entry_in, path_of, free_entries, IsUsed}
 use Rattle.file_tree.specs.Trees.{tree_of, TreeStands}
-use Rattle.file_tree.specs.Changes.{SameTree, Creates, with_freed}
+use Rattle.file_tree.specs.TreeChanges.{SameTree, Creates, with_freed}
 use Rattle.card_state.specs.NewFiles.{blank, new_file, short_of_new}
 use Rattle.file_changes.specs.CreationRefusals.{first_reason, taken_refusal, place_refusal}
 use Rattle.file_changes.specs.Creations.{CreatesNew, IsCreated}
-use Rattle.file_changes.specs.CreationParts.{entry_for, no_chain, short_option, kind_number, WritesEntry, IsPlace}
+use Rattle.file_changes.specs.CreationParts.{entry_for, no_chain, short_option, kind_number, WritesEntry, IsPlaceFor}
 use Rattle.file_changes.specs.CreationParts.{TakesAndWrites, FillsAndAdds}
 use Rattle.file_tree.specs.laws.Costs.{space_counted}
 use Rattle.file_tree.specs.laws.Rewriting.{filled}
@@ -51,7 +51,7 @@ module _ (m after : List ℕ) (df n e : ℕ) (fcp : Fcp) (sized : IsMemory m) (s
     (dedicated : (entry_in (table m) df).kind ≡ 1) (is : IsCreatable fcp)
     (none : taken_refusal (tree_of m) (path_of (table m) df) fcp ≡ None)
     (no_reason : place_refusal (block_count m) (tree_of m) (path_of (table m) df) fcp.kind ≡ None)
-    (place : IsPlace m df fcp.kind e) (short : short_option n ≡ short_of_new (tree_of m) (path_of (table m) df) fcp)
+    (place : IsPlaceFor m df fcp.kind e) (short : short_option n ≡ short_of_new (tree_of m) (path_of (table m) df) fcp)
     (made : FillsAndAdds m e (entry_for fcp df n no_chain) (blocks_for (size_of_kind fcp.kind)) after) where
   abbrev pub blocks : ℕ
   blocks = blocks_for (size_of_kind fcp.kind)

@@ -24,7 +24,7 @@ use Rattle.card_state.specs.FileControl.{IsRecords, IsKind, IsCreatable, size_of
 use Rattle.block_chain.specs.declared.chain.Chain.{Chain}
 use Rattle.file_tree.specs.declared.entry.Entry.{Entry}
 use Rattle.card_state.specs.FileTrees.{transparent, linear, cyclic, dedicated, elementary}
-use Rattle.file_tree.specs.Entries.{file_of, slot, linear_records, cyclic_records, capacity_of}
+use Rattle.file_tree.specs.Entries.{file_of, slot, linear_records, cyclic_records, entry_capacity}
 use Rattle.card_state.specs.Spaces.{blocks_for}
 use Rattle.file_tree.specs.Table.{IsFileEntry, IsRecordBody, HasBody, HasName}
 use Rattle.card_state.specs.NewFiles.{blank, new_file, capacity}
@@ -92,24 +92,24 @@ some_option short some = elim (eqb_tells short 0) [
 rule_again : (rule : List ℕ) → take (length rule) (padded 8 rule) ≡ rule
 rule_again rule = take_padded 8 rule
 
-linear_new : (x : Entry) (n : ℕ) → x.records ≤ capacity_of x → x.size ≤ n
+linear_new : (x : Entry) (n : ℕ) → x.records ≤ entry_capacity x → x.size ≤ n
     → linear_records x (replicate n blank) ≡ replicate x.records (replicate x.record_length blank)
 linear_new x n few fits = all_one (slot x (replicate n blank)) (replicate x.record_length blank) 0
     x.records (λ i from below.
     let within = div-mul-le_self x.size x.record_length in
-    slot_filled x n (capacity_of x) i (omega (arith, few, below)) (omega (arith, within, fits)))
+    slot_filled x n (entry_capacity x) i (omega (arith, few, below)) (omega (arith, within, fits)))
 
-cyclic_new : (x : Entry) (n : ℕ) → x.records ≤ capacity_of x → x.size ≤ n → x.start ≡ 0
+cyclic_new : (x : Entry) (n : ℕ) → x.records ≤ entry_capacity x → x.size ≤ n → x.start ≡ 0
     → cyclic_records x (replicate n blank) ≡ replicate x.records (replicate x.record_length blank)
 cyclic_new x n few fits start =
-    all_one (λ i. slot x (replicate n blank) ((x.start + i) % capacity_of x)) (replicate x.record_length blank) 0
+    all_one (λ i. slot x (replicate n blank) ((x.start + i) % entry_capacity x)) (replicate x.record_length blank) 0
     x.records (λ i from below.
-    let small : i < capacity_of x = omega (arith, few, below) in
-    let place : (x.start + i) % capacity_of x ≡ i =
-    ap (λ (s : ℕ). (s + i) % capacity_of x) start
-    ∙ (let z : 0 + i ≡ i = omega arith in ap (λ (k : ℕ). k % capacity_of x) z) ∙ mod-eq_of_lt small in
+    let small : i < entry_capacity x = omega (arith, few, below) in
+    let place : (x.start + i) % entry_capacity x ≡ i =
+    ap (λ (s : ℕ). (s + i) % entry_capacity x) start
+    ∙ (let z : 0 + i ≡ i = omega arith in ap (λ (k : ℕ). k % entry_capacity x) z) ∙ mod-eq_of_lt small in
     let within = div-mul-le_self x.size x.record_length in
-    ap (slot x (replicate n blank)) place ∙ slot_filled x n (capacity_of x) i small (omega (arith, within, fits)))
+    ap (slot x (replicate n blank)) place ∙ slot_filled x n (entry_capacity x) i small (omega (arith, within, fits)))
 
 module _ (identifier : ℕ) (life : LifeCycle) (rule : List ℕ) (parent short : ℕ) (chain : Chain) where
   abbrev fcp_with : FileKind → Fcp

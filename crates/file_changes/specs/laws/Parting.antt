@@ -12,7 +12,7 @@ use Rattle.block_chain.specs.Layout.{AreSplit}
 use Rattle.block_chain.specs.laws.Extents.{split_none, split_given, split_kept}
 use Rattle.file_tree.specs.declared.entry.Entry.{Entry}
 use Rattle.card_state.specs.Spaces.{blocks_for}
-use Rattle.file_tree.specs.Entries.{free_entry, extent_of, extent_told, capacity_of}
+use Rattle.file_tree.specs.Entries.{free_entry, extent_of, extent_told, entry_capacity}
 use Rattle.file_tree.specs.Table.{entry_in, extents, free_entries, IsEntry}
 use Rattle.file_changes.specs.DeletionParts.{is_gone, going, part_below}
 use Rattle.file_tree.specs.laws.Costs.{extent_of-none, extent_of-some}
@@ -241,7 +241,7 @@ size_some x is high =
             | inl third ↦ inl third.1
             | inr fourth ↦ inr (let a = other.1 in let b = fourth.1 in omega (arith, a, b, most, high))
           ]) in
-          let product = product_some (capacity_of x) x.record_length body.room body.some in
+          let product = product_some (entry_capacity x) x.record_length body.room body.some in
           let multiple = body.multiple in
           omega (arith, product, multiple)
     ]

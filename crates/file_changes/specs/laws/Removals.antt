@@ -17,7 +17,7 @@ use Rattle.card_state.specs.Spaces.{free_space}
 use Rattle.file_tree.specs.Entries.{free_entry}
 use Rattle.file_tree.specs.Table.{table, entry_in, extents, IsUsed}
 use Rattle.file_tree.specs.Trees.{tree_of, TreeStands}
-use Rattle.file_tree.specs.Changes.{Deletes, with_freed}
+use Rattle.file_tree.specs.TreeChanges.{Deletes, with_freed}
 use Rattle.file_tree.specs.Subtrees.{leads_up}
 use Rattle.file_changes.specs.DeletionParts.{is_gone, going, part_below, IsRemoval, Removes, CanGive}
 use Rattle.file_tree.specs.laws.Tables.{entry_in-table}

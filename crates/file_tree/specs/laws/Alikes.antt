@@ -7,7 +7,7 @@ use Rattle.file_tree.specs.declared.entry.Entry.{Entry}
 use Rattle.file_tree.specs.Entries.{name_of}
 use Rattle.file_tree.specs.Table.{entry_in, IsUsed, IsChild, IsEntry, IsMasterFile, IsTable}
 use Rattle.file_tree.specs.Table.{HaveIdentifiers, HaveShortIdentifiers, HaveNames}
-use Rattle.file_tree.specs.Parts.{Alike, AreApart, AreBelow}
+use Rattle.file_tree.specs.TreeParts.{Alike, AreUnlike, AreBelow}
 use Rattle.file_tree.specs.laws.Tables.{entry_past}
 
 -- of two numbers neither is below the other
@@ -34,7 +34,7 @@ alike_there e one other x y is also alike =
     let with_other : Entry → Type 0 = λ b. Alike e one b in
     subst with_one (sym is) (subst with_other (sym also) alike)
 
-module _ (t : List Entry) (apart : AreApart t) where
+module _ (t : List Entry) (apart : AreUnlike t) where
   pub apart_shorts : HaveShortIdentifiers t
   apart_shorts df e f one other some same = same_number e f
       (λ lt. apart e one.used f lt other.used (inl (one.below, one.parent ∙ sym other.parent, some, same)))
@@ -58,7 +58,7 @@ alike_none e one other short name (inr named) =
     omega (arith, some, most, name)
 
 -- the rules on short identifiers and names leave no two alike
-pub rules_apart : (t : List Entry) → HaveShortIdentifiers t → HaveNames t → AreApart t
+pub rules_apart : (t : List Entry) → HaveShortIdentifiers t → HaveNames t → AreUnlike t
 rules_apart t shorts names e used f lt other (inl siblings) =
     let one : IsChild t (entry_in t e).parent e = record { below = siblings.0; used = used; parent = refl } in
     let two : IsChild t (entry_in t e).parent f =
@@ -69,7 +69,7 @@ rules_apart t shorts names e used f lt other (inr named) =
 
 -- the rules on the table, as the check goes over them
 pub table_of : (t : List Entry) → IsMasterFile (entry_in t 0) → All IsEntry t → AreBelow t → HaveIdentifiers t
-    → AreApart t → IsTable t
+    → AreUnlike t → IsTable t
 table_of t master each below identifiers apart = record {
   each = each;
   master = master;
@@ -79,5 +79,5 @@ table_of t master each below identifiers apart = record {
   names = apart_names t apart;
 }
 
-pub table_apart : (t : List Entry) → IsTable t → AreApart t
+pub table_apart : (t : List Entry) → IsTable t → AreUnlike t
 table_apart t rules = rules_apart t rules.short_identifiers rules.names

@@ -16,7 +16,7 @@ use Rattle.file_tree.specs.Entries.{file_of, is_allowed_by, life_told, rule_of}
 use Rattle.card_state.specs.FileLives.{bars, above, life_at, has_barred_above, is_allowed}
 use Rattle.file_tree.specs.Table.{table, entry_in, ancestor, path_of, IsUsed, IsTable}
 use Rattle.file_tree.specs.Trees.{content, tree_of}
-use Rattle.file_tree.specs.Parts.{barred_up}
+use Rattle.file_tree.specs.States.{barred_up}
 use Rattle.file_tree.specs.laws.Paths.{path-zero, path_of-child, parent_used, reaches_master}
 use Rattle.file_tree.specs.laws.Nodes.{file_at_entry}
 

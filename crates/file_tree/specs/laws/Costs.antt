@@ -16,14 +16,14 @@ use Rattle.std.proofs.Common.{Greater, length-append, length-take}
 use Rattle.std.proofs.lemmas.List.Sums.{sum_by-append}
 use Rattle.std.proofs.lemmas.Bool.Decides.{eqb_tells, leb_tells}
 use Rattle.block_chain.specs.declared.chain.Extent.{Extent}
-use Rattle.block_chain.specs.Words.{page_words}
+use Rattle.block_chain.specs.BlockWords.{page_words}
 use Rattle.block_chain.specs.Chains.{bytes_of, free_chain}
 use Rattle.block_chain.specs.Layout.{IsExtent, blocks_of, laid_out}
 use Rattle.block_chain.specs.laws.Bytes.{length-bytes_of, leads_blocks}
 use Rattle.file_tree.specs.declared.entry.Entry.{Entry}
 use Rattle.card_state.specs.FileTrees.{Path, File, transparent, linear, cyclic, dedicated, elementary}
 use Rattle.card_state.specs.Spaces.{blocks_for, cost, cost_of, free_space}
-use Rattle.file_tree.specs.Entries.{free_entry, entry_of, file_of, capacity_of, extent_told, extent_of}
+use Rattle.file_tree.specs.Entries.{free_entry, entry_of, file_of, entry_capacity, extent_told, extent_of}
 use Rattle.file_tree.specs.Entries.{linear_records, cyclic_records}
 use Rattle.file_tree.specs.Table.{table, entry_in, extents, free_entries, HasBody, IsTable}
 use Rattle.file_tree.specs.Trees.{content, node, tree_of, TreeStands}
@@ -159,7 +159,7 @@ cost_by_kind : (x : Entry) (bytes : List ℕ) → HasBody x → x.kind ≢ 0 →
     → cost (file_of x bytes) ≡ (if x.kind == 1 then 0 else blocks_for x.size)
 unfolding file_of
 cost_by_kind x bytes body some small room =
-    cost_tested (x.kind == 1) (x.kind == 2) (x.kind == 3) _ _ (take x.size bytes) x.record_length (capacity_of x)
+    cost_tested (x.kind == 1) (x.kind == 2) (x.kind == 3) _ _ (take x.size bytes) x.record_length (entry_capacity x)
     (linear_records x bytes) (cyclic_records x bytes) x.size
     (λ other is. elim (eqb_tells x.kind 2) [
       | inl same ↦

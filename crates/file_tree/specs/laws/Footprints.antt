@@ -19,7 +19,7 @@ use Rattle.file_tree.specs.declared.entry.Entry.{Entry}
 use Rattle.file_tree.specs.Entries.{extent_told, file_of}
 use Rattle.file_tree.specs.Table.{table, entry_in, path_of, extents, IsTable}
 use Rattle.file_tree.specs.Trees.{content, node, tree_of, TreeStands}
-use Rattle.file_tree.specs.Changes.{KeepsTree}
+use Rattle.file_tree.specs.TreeChanges.{KeepsTree}
 use Rattle.file_tree.specs.laws.Tables.{length-table, table-same}
 use Rattle.file_tree.specs.laws.Nodes.{Node}
 use Rattle.file_tree.specs.laws.Costs.{extent_of-none, extent_of-some, all_extents}

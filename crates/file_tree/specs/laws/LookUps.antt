@@ -12,7 +12,7 @@ use Rattle.card_state.specs.Selectors.{Candidate, first_reached, reached}
 use Rattle.file_tree.specs.Table.{table, entry_in, path_of, IsUsed, IsChild, HaveIdentifiers, IsTable}
 use Rattle.file_tree.specs.Trees.{content, tree_of}
 use Rattle.file_tree.specs.Indexes.{TellsChild}
-use Rattle.file_tree.specs.Parts.{IsShortChild, TellsShort, TellsBeside, TellsAbove}
+use Rattle.file_tree.specs.TreeParts.{IsShortChild, TellsShort, TellsBeside, TellsAbove}
 use Rattle.file_tree.specs.laws.Paths.{path-zero, path_of-empty, parent_path, identifier_path, parent_used}
 use Rattle.file_tree.specs.laws.Paths.{master_used, child_of_path, path_of_child}
 use Rattle.file_tree.specs.laws.Nodes.{entry_found, exists-used, exists-none, file_at_entry}

@@ -5,8 +5,8 @@ use Rattle.std.proofs.lemmas.Bool.Decides.{eqb_tells}
 use Rattle.nvm_board.specs.Facts.{IsMemory, pages_of}
 use Rattle.nvm_board.specs.declared.board.TheConstants.{PAGE_WORDS}
 use Rattle.nvm_board.specs.laws.Sizes.{least_words}
-use Rattle.block_chain.specs.Words.{word}
-use Rattle.block_chain.specs.Changes.{LinksAlone, AreLinked}
+use Rattle.block_chain.specs.BlockWords.{word}
+use Rattle.block_chain.specs.ChainChanges.{LinksAlone, AreLinked}
 use Rattle.block_chain.specs.Layout.{IsOf, AreLaid}
 use Rattle.block_chain.specs.declared.layout.TheConstants.{HEADER_PAGE, FREE_HEAD_WORD, FREE_HEAD, FIRST_BLOCK_PAGE}
 use Rattle.block_chain.specs.laws.Footprints.{laid_same, page_words_same}
@@ -16,7 +16,7 @@ use Rattle.file_tree.specs.declared.layout.TheConstants.{MARK, MARK_WORD, PAGES_
 use Rattle.file_tree.specs.Table.{table, extents, IsTable}
 use Rattle.file_tree.specs.Formats.{block_count}
 use Rattle.file_tree.specs.Trees.{tree_of, TreeStands}
-use Rattle.file_tree.specs.Changes.{KeepsTree}
+use Rattle.file_tree.specs.TreeChanges.{KeepsTree}
 use Rattle.file_tree.specs.MigrationParts.{Renames}
 use Rattle.file_tree.specs.laws.Formats.{count_is, end_new, end_old}
 use Rattle.file_tree.specs.laws.Footprints.{content_same, tree_same}

@@ -12,7 +12,7 @@ use Rattle.card_state.specs.FileTrees.{Path, File, Tree}
 use Rattle.file_tree.specs.Keys.{key_for, IsBefore}
 use Rattle.file_tree.specs.Table.{table, entry_in, path_of, IsUsed}
 use Rattle.file_tree.specs.Trees.{tree_of, TreeStands, file_in}
-use Rattle.file_tree.specs.Changes.{Deletes}
+use Rattle.file_tree.specs.TreeChanges.{Deletes}
 use Rattle.file_tree.specs.Subtrees.{leads, leads_up}
 use Rattle.file_tree.specs.Indexes.{place_of, IsPlace, AreSorted, IsIndex}
 use Rattle.file_tree.specs.IndexParts.{leads_by, is_outside}

@@ -14,9 +14,9 @@ use Rattle.card_rules.specs.LifeCycle.{life_cycle_at}
 use Rattle.card_rules.specs.declared.life_cycle.LifeCycle.TheVariants.{Activated}
 use Rattle.block_chain.specs.declared.chain.Extent.{Extent}
 use Rattle.block_chain.specs.Counts.{count, IsNotIn}
-use Rattle.block_chain.specs.Words.{word}
+use Rattle.block_chain.specs.BlockWords.{word}
 use Rattle.block_chain.specs.Chains.{free_chain, bytes_of}
-use Rattle.block_chain.specs.Changes.{OnlyContent}
+use Rattle.block_chain.specs.ChainChanges.{OnlyContent}
 use Rattle.card_state.specs.FileTrees.{overwrite, transparent, linear, cyclic, dedicated, elementary, File}
 use Rattle.block_chain.specs.Layout.{blocks_of, laid_out, IsExtent, AreLaid}
 use Rattle.block_chain.specs.laws.Counts.{count-append, count-split}
@@ -24,11 +24,11 @@ use Rattle.block_chain.specs.laws.Bytes.{AreBlocks, leads_blocks, blocks_take}
 use Rattle.block_chain.specs.laws.Footprints.{page_words_same, not_among, no_header, laid_kept}
 use Rattle.block_chain.specs.laws.Footprints.{extent_kept, extent_bytes}
 use Rattle.file_tree.specs.declared.entry.Entry.{Entry}
-use Rattle.file_tree.specs.Entries.{file_of, linear_records, cyclic_records, capacity_of, rule_of, name_of}
+use Rattle.file_tree.specs.Entries.{file_of, linear_records, cyclic_records, entry_capacity, rule_of, name_of}
 use Rattle.file_tree.specs.Entries.{extent_told}
 use Rattle.file_tree.specs.Table.{table, entry_in, path_of, extents, IsUsed, IsTable}
 use Rattle.file_tree.specs.Trees.{content, tree_of, TreeStands, file_in}
-use Rattle.file_tree.specs.Changes.{KeepsRest, SameTree, Rewrites, with_overwritten}
+use Rattle.file_tree.specs.TreeChanges.{KeepsRest, SameTree, Rewrites, with_overwritten}
 use Rattle.file_tree.specs.laws.Tables.{table-same, length-table}
 use Rattle.file_tree.specs.laws.Nodes.{file_at_entry, used_small}
 use Rattle.file_tree.specs.laws.Costs.{entry_extent}
@@ -48,8 +48,8 @@ file_of-transparent x bytes is = λ i. record {
   kind = if is i == 1 then dedicated (if x.name_length == 0 then None else Some (name_of x))
       else elementary (if x.short == 0 then None else Some x.short) (
       if is i == 2 then transparent (take x.size bytes) else
-      if is i == 3 then linear x.record_length (capacity_of x) (linear_records x bytes) else
-      cyclic x.record_length (capacity_of x) (cyclic_records x bytes));
+      if is i == 3 then linear x.record_length (entry_capacity x) (linear_records x bytes) else
+      cyclic x.record_length (entry_capacity x) (cyclic_records x bytes));
 }
 
 -- so where its bytes are overwritten, the file's are

@@ -24,7 +24,7 @@ use Rattle.file_tree.specs.laws.Paths.{path-zero, path_of-empty, parent_path, on
 use Rattle.file_tree.specs.laws.Nodes.{Node, find_path, used_small}
 use Rattle.card_state.specs.laws.Orders.{same_path, one_of_same, same_of_one}
 use Rattle.file_tree.specs.laws.Nodes.{node_tells, get-used}
-use Rattle.file_tree.specs.Parts.{TellsShort}
+use Rattle.file_tree.specs.TreeParts.{TellsShort}
 use Rattle.file_tree.specs.laws.Costs.{no_entries}
 
 -- what holds of each of these nodes

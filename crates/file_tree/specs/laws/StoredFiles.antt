@@ -2,7 +2,7 @@
 use Rattle.std.specs.Prelude.{ℕ, List}
 use Rattle.std.proofs.Common.{sym, subst}
 use Rattle.undo_journal.specs.Memory.{Memory, IsReady}
-use Rattle.undo_journal.specs.Calls.{OnlyReads}
+use Rattle.undo_journal.specs.StoreCalls.{OnlyReads}
 use Rattle.file_tree.specs.Table.{table, IsUsed}
 use Rattle.file_tree.specs.Trees.{TreeStands}
 use Rattle.file_tree.specs.StoredFiles.{HasFile}

@@ -7,7 +7,7 @@ use Rattle.std.proofs.Common.{refl, ◌∙◌, ap, ap₂, arith, inl, inr, appen
 use Rattle.std.proofs.lemmas.Bool.Decides.{eqb_tells}
 use Rattle.std.proofs.lemmas.List.{get_or_past, take_more}
 use Rattle.std.proofs.lemmas.List.Elements.{filter_map-append}
-use Rattle.block_chain.specs.Words.{page_words, word_bytes}
+use Rattle.block_chain.specs.BlockWords.{page_words, word_bytes}
 use Rattle.file_tree.specs.declared.entry.Entry.{Entry}
 use Rattle.block_chain.specs.declared.chain.Extent.{Extent}
 use Rattle.file_tree.specs.Entries.{high, low, byte_of, free_entry, entry_told, entry_of, extent_of}

@@ -5,7 +5,7 @@ use Rattle.std.specs.Prelude.{◌≡◌, ℕ, List, length, Option, None, Some, 
 use Rattle.std.proofs.Common.{refl, sym, ◌∙◌, ap, subst}
 use Rattle.block_chain.specs.declared.chain.Extent.{Extent}
 use Rattle.block_chain.specs.Chains.{free_chain}
-use Rattle.block_chain.specs.Layout.{AreLaid, TellsFree}
+use Rattle.block_chain.specs.Layout.{AreLaid, TellsFreeBlocks}
 use Rattle.file_tree.specs.declared.entry.Entry.{Entry}
 use Rattle.card_state.specs.declared.space.FreeSpace.{FreeSpace}
 use Rattle.file_tree.specs.Table.{table, extents, free_entries, IsTable}
@@ -38,7 +38,7 @@ tells_space m now t es blocks free sized same entries named rules laid counted =
 
 -- what was found of the blocks tells it, whether they lie as they should or not
 pub space_told : (m now : List ℕ) (t : List Entry) (es : List Extent) (found : Option ℕ) (told : Option FreeSpace)
-    → IsMemory m → now ≡ m → t ≡ table m → es ≡ extents t → IsTable t → TellsFree (block_count m) now es found
+    → IsMemory m → now ≡ m → t ≡ table m → es ≡ extents t → IsTable t → TellsFreeBlocks (block_count m) now es found
     → told ≡ option_map (space_in t) found → TellsSpace m told
 space_told m now t es None told sized same entries named rules none is =
     let answer : Option FreeSpace → Type 0 = λ o. TellsSpace m o in

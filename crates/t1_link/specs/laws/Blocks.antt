@@ -17,7 +17,8 @@ use Rattle.t1_link.specs.declared.block.Fault.TheVariants.{WrongLength, WrongChe
 use Rattle.t1_link.specs.declared.sequence_number.SequenceNumber.TheVariants.{Zero, One}
 use Rattle.t1_link.specs.Blocks.{Block, information, receive_ready, resynch_request, resynch_response}
 use Rattle.t1_link.specs.Blocks.{ifs_request, ifs_response, field_of, control_byte}
-use Rattle.t1_link.specs.Blocks.{exclusive_or, front, frame, bare, size_told, kinds, at_byte, has_wrong_length, heard}
+use Rattle.t1_link.specs.Blocks.{exclusive_or, checked_bytes, frame, bare, size_told, kinds, at_byte, has_wrong_length}
+use Rattle.t1_link.specs.Blocks.{heard}
 use Rattle.t1_link.specs.Blocks.{IsSpellable}
 
 -- bytes with no fault but in their kind
@@ -48,7 +49,8 @@ length-field (ifs_response size) h = omega arith
 
 -- the exclusive-or of a whole block
 pub exclusive_or-frame : (b : Block) → exclusive_or (frame b) ≡ 0
-exclusive_or-frame b = fold-append bit_xor 0 (front b) (exclusive_or (front b) ∷ []) ∙ xor_self (exclusive_or (front b))
+exclusive_or-frame b = fold-append bit_xor 0 (checked_bytes b) (exclusive_or (checked_bytes b)
+    ∷ []) ∙ xor_self (exclusive_or (checked_bytes b))
 
 -- 4 bytes beside the information field
 right_length : (control check : ℕ) (field : List ℕ) → length field ≤ 254
@@ -68,13 +70,14 @@ xor-none a b e = sym (xor_zero_l b) ∙ ap (λ (n : ℕ). bit_xor n b) (sym (xor
     ∙ ap (bit_xor a) e ∙ xor_zero_r a
 
 -- with another check byte it is no block
-pub heard-other_check : (b : Block) (check : ℕ) → IsSpellable b → check ≢ exclusive_or (front b)
-    → heard (front b ++ check ∷ []) ≡ Err WrongCheck
+pub heard-other_check : (b : Block) (check : ℕ) → IsSpellable b → check ≢ exclusive_or (checked_bytes b)
+    → heard (checked_bytes b ++ check ∷ []) ≡ Err WrongCheck
 heard-other_check b check h other =
-    let all : exclusive_or (front b ++ check ∷ []) ≡ bit_xor (exclusive_or (front b)) check =
-    fold-append bit_xor 0 (front b) (check ∷ []) in
-    heard-wrong_check (front b ++ check ∷ []) (right_length (control_byte b) check (field_of b) (length-field b h))
-    (λ none. other (xor-none (exclusive_or (front b)) check (sym all ∙ none)))
+    let all : exclusive_or (checked_bytes b ++ check ∷ []) ≡ bit_xor (exclusive_or (checked_bytes b)) check =
+    fold-append bit_xor 0 (checked_bytes b) (check ∷ []) in
+    heard-wrong_check (checked_bytes b ++ check
+    ∷ []) (right_length (control_byte b) check (field_of b) (length-field b h))
+    (λ none. other (xor-none (exclusive_or (checked_bytes b)) check (sym all ∙ none)))
 
 right_field : (control check : ℕ) (field : List ℕ)
     → slice_range (0 ∷ control ∷ length field ∷ (field ++ check ∷ [])) 3 (3 + length field) ≡ field
@@ -86,10 +89,10 @@ right_field control check field =
 pub heard-kind : (b : Block) → length (field_of b) ≤ 254
     → heard (frame b) ≡ ok_or (at_byte (control_byte b) (kinds (field_of b))) UnknownBlock
 heard-kind b fits =
-    heard-no_fault (frame b) (right_length (control_byte b) (exclusive_or (front b)) (field_of b) fits)
+    heard-no_fault (frame b) (right_length (control_byte b) (exclusive_or (checked_bytes b)) (field_of b) fits)
     (eq-eqb _ 0 (exclusive_or-frame b)) refl
     ∙ ap (λ (field : List ℕ). ok_or (at_byte (control_byte b) (kinds field)) UnknownBlock)
-    (right_field (control_byte b) (exclusive_or (front b)) (field_of b))
+    (right_field (control_byte b) (exclusive_or (checked_bytes b)) (field_of b))
 
 size_told-one : (size : ℕ) → 1 ≤ size → size ≤ 254 → size_told (size ∷ []) ≡ Some size
 size_told-one size low high = simp (le-leb 1 size low, le-leb size 254 high) refl
@@ -287,10 +290,10 @@ frame-heard (node ∷ control ∷ len ∷ rest) b e =
     (found_some _ UnknownBlock b d.1) in
     let whole : bytes ≡ (0 ∷ control ∷ len ∷ field) ++ slice_index rest len ∷ [] =
     λ i. zero_node i ∷ control ∷ len ∷ ends i in
-    let fronts : front b ≡ 0 ∷ control ∷ len ∷ field =
+    let fronts : checked_bytes b ≡ 0 ∷ control ∷ len ∷ field =
     λ i. 0 ∷ reads.control_is i ∷ (ap length reads.field_is ∙ count) i ∷ reads.field_is i in
     let sum : bit_xor (exclusive_or (0 ∷ control ∷ len ∷ field)) (slice_index rest len) ≡ 0 =
     sym (fold-append bit_xor 0 (0 ∷ control ∷ len ∷ field) (slice_index rest len ∷ [])) ∙ ap exclusive_or (sym whole)
     ∙ eqb-true _ _ (not_not _ c.0) in
-    let check : exclusive_or (front b) ≡ slice_index rest len = ap exclusive_or fronts ∙ xor_same _ _ sum in
+    let check : exclusive_or (checked_bytes b) ≡ slice_index rest len = ap exclusive_or fronts ∙ xor_same _ _ sum in
     ((λ i. fronts i ++ check i ∷ []) ∙ sym whole, reads.spellable)

@@ -14,13 +14,13 @@ use Rattle.t1_link.specs.Blocks.{heard, ifs_response, told_as}
 use Rattle.t1_link.specs.SequenceNumbers.{other_number, same}
 use Rattle.t1_link.specs.declared.reader_end.Next.{Next}
 use Rattle.t1_link.specs.ReaderFields.{HasAnswer, IsSend, next_of}
-use Rattle.t1_link.specs.ReaderTable.{Outcome, Reader, Turned, advancing, asking, failing, fails, gives, has_more}
+use Rattle.t1_link.specs.ReaderTable.{CommandReport, Reader, Turned, advancing, asking, failing, fails, gives, has_more}
 use Rattle.t1_link.specs.ReaderTable.{is_busy, last_block, reader_step, requesting, requesting_again}
 use Rattle.t1_link.specs.ReaderTable.{sends, trying, turns_answer, turns_block, turns_information, turns_receive_ready}
 use Rattle.t1_link.specs.ReaderTable.{turns_resynch, unknown}
 
 -- a block is to be sent
-abbrev pub is_block : Outcome → Bool
+abbrev pub is_block : CommandReport → Bool
 is_block (sends b) = true
 is_block (gives answer) = false
 is_block unknown = false
@@ -112,7 +112,7 @@ send-in_hand t next r says is agrees =
     (subst (λ (x : Reader). IsSend (next_of t.outcome) ↔ (x.phase ≡ Busy)) (sym is)
     (by t.outcome t.reader.phase agrees.0))
   where
-    by : (o : Outcome) (p : Phase) → is_block o ≡ is_busy p → IsSend (next_of o) ↔ (p ≡ Busy)
+    by : (o : CommandReport) (p : Phase) → is_block o ≡ is_busy p → IsSend (next_of o) ↔ (p ≡ Busy)
     by (sends b) Idle e = absurd cc
     by (sends b) Busy e = (λ _. refl, λ _. tt)
     by (sends b) Dead e = absurd cc

@@ -9,10 +9,10 @@ use Rattle.undo_journal.specs.declared.batch.Waiting.{Waiting}
 use Rattle.undo_journal.specs.declared.txn.Txn.{Txn}
 use Rattle.undo_journal.specs.Batches.{look_up, batch_writes, touched_pages}
 use Rattle.undo_journal.specs.Lent.{memory_of}
-use Rattle.undo_journal.specs.Memory.{Memory, InRuns, EndsAt, GoesOn, run_writes}
+use Rattle.undo_journal.specs.Memory.{Memory, InRuns, EndsAt, ContinuesRun, run_writes}
 use Rattle.undo_journal.specs.laws.Memory.{reports_same, reports_then}
 use Rattle.undo_journal.specs.Spending.{Advances, KeepsBoard, WritesAtMost}
-use Rattle.undo_journal.specs.Calls.{OnlyReads, TxnReads, Sets}
+use Rattle.undo_journal.specs.StoreCalls.{OnlyReads, TxnReads, Sets}
 
 -- a board that is kept costs nothing
 pub keeping_spends : (n : ℕ) (a b : Facts) → KeepsBoard a b → WritesAtMost n a b
@@ -156,7 +156,7 @@ ends_kept a b at reads ends = ⊎_map
     ))
     (λ waits. subst (λ (l : List Waiting). IsSome (look_up at l)) (sym reads.keeps.waiting) waits) ends
 
-pub goes_on_kept : (a b : Memory) (at : ℕ) → OnlyReads a b → GoesOn a at → GoesOn b at
+pub goes_on_kept : (a b : Memory) (at : ℕ) → OnlyReads a b → ContinuesRun a at → ContinuesRun b at
 goes_on_kept a b at reads goes = (goes.0, ends_kept a b (at - 1) reads goes.1)
 
 -- sets in a row

@@ -8,7 +8,7 @@ use Rattle.std.proofs.Common.{◌≡◌, ◌≢◌, ◌⊎◌, ◌≤◌, ◌+�
 use Rattle.std.proofs.Common.{⊎_elim, true≢false}
 use Rattle.nvm_board.specs.laws.Aims.{aims_then}
 use Rattle.undo_journal.specs.declared.error.StoreErr.{StoreErr}
-use Rattle.undo_journal.specs.Calls.{Changes}
+use Rattle.undo_journal.specs.StoreCalls.{Changes}
 use Rattle.undo_journal.specs.Commits.{CommitsByGate, TurnsGate}
 use Rattle.undo_journal.specs.Endings.{ended, end_writes}
 use Rattle.undo_journal.specs.Batches.{batch_writes}

@@ -6,7 +6,7 @@ use Rattle.std.specs.Prelude.{if◌then◌else◌}
 use Rattle.std.proofs.lemmas.Bool.Decides.{eqb_tells}
 use Rattle.nvm_board.specs.declared.board.TheConstants.{PAGE_WORDS}
 use Rattle.undo_journal.specs.declared.batch.Waiting.{Waiting}
-use Rattle.undo_journal.specs.Batches.{look_up, joined, batch_writes, runs_from}
+use Rattle.undo_journal.specs.Batches.{look_up, with_set, batch_writes, runs_from}
 use Rattle.undo_journal.specs.Memory.{Memory, Joins, commit_writes, spent, taken}
 use Rattle.undo_journal.specs.laws.Runs.{begins-first, runs-same, runs-one_more}
 use Rattle.undo_journal.specs.laws.Waits.{AreAscending, joined-longer}
@@ -25,7 +25,7 @@ commit_of_some m some = elim (eqb_tells (taken m) 0) [
 
 module _ (set : Waiting) (old new : Memory) (joins : Joins set old new) where
   -- what waits afterwards, or was written now, is what waited with the set
-  spends-joined : spent new ≡ old.facts.writes + batch_writes (joined set old.waiting)
+  spends-joined : spent new ≡ old.facts.writes + batch_writes (with_set set old.waiting)
   spends-joined = elim joins [
     | inl waits ↦ omega (arith, ap (λ f. f.writes) waits.facts, ap batch_writes waits.waiting)
     | inr fills ↦ omega (arith, fills.writes, ap batch_writes fills.waiting)
@@ -34,7 +34,7 @@ module _ (set : Waiting) (old new : Memory) (joins : Joins set old new) where
   -- the first of a batch
   pub joins-first : old.waiting ≡ [] → spent new ≡ spent old + 3
   joins-first none =
-      let joined_is : joined set old.waiting ≡ set ∷ [] = ap (λ (l : List Waiting). joined set l) none in
+      let joined_is : with_set set old.waiting ≡ set ∷ [] = ap (λ (l : List Waiting). with_set set l) none in
       omega (arith, spends-joined, ap batch_writes joined_is, ap batch_writes none, begins-first set.at)
 
   module _ (ascending : AreAscending 0 old.waiting) (free : look_up set.at old.waiting ≡ None)
@@ -49,9 +49,9 @@ module _ (set : Waiting) (old new : Memory) (joins : Joins set old new) where
         ]
 
     module _ (some : 1 ≤ length old.waiting) where
-      more : batch_writes (joined set old.waiting) ≡ 2 + runs_from 0 (joined set old.waiting)
-      more = writes-some (joined set old.waiting)
-          (let le : 1 ≤ length (joined set old.waiting) = omega (arith, joined-longer set old.waiting free) in le)
+      more : batch_writes (with_set set old.waiting) ≡ 2 + runs_from 0 (with_set set old.waiting)
+      more = writes-some (with_set set old.waiting)
+          (let le : 1 ≤ length (with_set set old.waiting) = omega (arith, joined-longer set old.waiting free) in le)
 
       -- one that goes on with a run
       pub joins-goes_on : set.at % PAGE_WORDS ≢ 0 → IsSome (look_up (set.at - 1) old.waiting) → spent new ≡ spent old

@@ -6,7 +6,7 @@ use Rattle.std.specs.Prelude.{if◌then◌else◌}
 use Rattle.std.proofs.lemmas.Bool.Decides.{eqb_tells}
 use Rattle.nvm_board.specs.declared.board.TheConstants.{PAGE_WORDS}
 use Rattle.undo_journal.specs.declared.batch.Waiting.{Waiting}
-use Rattle.undo_journal.specs.Batches.{look_up, begins, runs_from, joined}
+use Rattle.undo_journal.specs.Batches.{look_up, begins, runs_from, with_set}
 use Rattle.undo_journal.specs.laws.Waits.{below, same, above, order, joined-below, joined-above, AreAscending}
 use Rattle.undo_journal.specs.laws.Waits.{look_up-past, not-first, none-behind, none-low}
 
@@ -63,7 +63,7 @@ begins-none a inside = elim (going a a) [
 module _ (new : Waiting) where
   -- it goes on with the run that ends before all of them
   runs-after : (ps : List Waiting) → AreAscending new.at ps → look_up new.at ps ≡ None → look_up (new.at + 1) ps ≡ None
-      → new.at % PAGE_WORDS ≢ 0 → runs_from new.at (joined new ps) ≡ runs_from new.at ps
+      → new.at % PAGE_WORDS ≢ 0 → runs_from new.at (with_set new ps) ≡ runs_from new.at ps
   runs-after [] h free behind inside = omega (arith, begins-none new.at inside)
   runs-after (s ∷ rest) h free behind inside = elim (order s.at new.at) [
     | below b lt ↦ absurd (omega (arith, lt, h.0))
@@ -79,7 +79,7 @@ module _ (new : Waiting) where
   -- it goes on with a run that ends before it: there are as many runs
   pub runs-same : (ps : List Waiting) (next : ℕ) → AreAscending next ps → next ≤ new.at → look_up new.at ps ≡ None
       → look_up (new.at + 1) ps ≡ None → new.at % PAGE_WORDS ≢ 0 → IsSome (look_up (new.at - 1) ps)
-      → runs_from next (joined new ps) ≡ runs_from next ps
+      → runs_from next (with_set new ps) ≡ runs_from next ps
   runs-same [] next h le free behind inside waits = absurd cc
   runs-same (s ∷ rest) next h le free behind inside waits = elim (order s.at new.at) [
     | below b lt ↦
@@ -89,9 +89,9 @@ module _ (new : Waiting) where
         elim (eqb_tells s.at (new.at - 1)) [
           | inl e ↦
               let follows : s.at + 1 ≡ new.at = omega (arith, e.1, lt) in
-              let family : ℕ → Type 0 = λ k. runs_from k (joined new rest) ≡ runs_from k rest in
+              let family : ℕ → Type 0 = λ k. runs_from k (with_set new rest) ≡ runs_from k rest in
               let moved : AreAscending new.at rest = subst (λ (k : ℕ). AreAscending k rest) follows h.1 in
-              let after : runs_from (s.at + 1) (joined new rest) ≡ runs_from (s.at + 1) rest =
+              let after : runs_from (s.at + 1) (with_set new rest) ≡ runs_from (s.at + 1) rest =
               subst family (sym follows) (runs-after rest moved free_on behind_on inside) in
               omega (arith, made, after)
           | inr other ↦
@@ -117,7 +117,7 @@ module _ (new : Waiting) where
   -- it begins a run: the word before it, in its page, does not wait
   pub runs-one_more : (ps : List Waiting) (next : ℕ) → AreAscending next ps → next ≤ new.at → look_up new.at ps ≡ None
       → look_up (new.at + 1) ps ≡ None → (new.at % PAGE_WORDS ≡ 0)
-      ⊎ ((next ≢ new.at) × (look_up (new.at - 1) ps ≡ None)) → runs_from next (joined new ps) ≡ runs_from next ps + 1
+      ⊎ ((next ≢ new.at) × (look_up (new.at - 1) ps ≡ None)) → runs_from next (with_set new ps) ≡ runs_from next ps + 1
   runs-one_more [] next h le free behind apart =
       let alone = first-alone next (elim apart [ inl first ↦ inl first | inr other ↦ inr other.0 ]) in
       omega (arith, alone)

@@ -7,7 +7,8 @@ use Rattle.std.proofs.lemmas.List.{nil_from_length}
 use Rattle.undo_journal.specs.declared.error.StoreErr.{StoreErr}
 use Rattle.undo_journal.specs.declared.txn.Txn.{Txn}
 use Rattle.undo_journal.specs.Memory.{Memory, Reports, IsIdle, IsReady}
-use Rattle.undo_journal.specs.Calls.{OnlyReads, TxnReads, Sets, UnlessFailed, Reads, Leaves, Changes, ReadsIn, SetsIn}
+use Rattle.undo_journal.specs.StoreCalls.{OnlyReads, TxnReads, Sets, UnlessFailed, Reads, Leaves, Changes, ReadsIn}
+use Rattle.undo_journal.specs.StoreCalls.{SetsIn}
 use Rattle.undo_journal.specs.laws.Memory.{reports_then, writes_then}
 use Rattle.undo_journal.specs.laws.Calls.{reads_then, reads_same, reads_spend, writes_after, within_more}
 use Rattle.undo_journal.specs.laws.Calls.{txn_reads_then, sets_then, sets_weaker}

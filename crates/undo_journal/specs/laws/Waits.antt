@@ -5,7 +5,7 @@ use Rattle.std.proofs.Common.{ap, subst, inl, inr, arith, suc, nat_lt, Some, Non
 use Rattle.std.specs.Prelude.{if◌then◌else◌}
 use Rattle.std.proofs.lemmas.Bool.Decides.{eqb_tells, leb_tells}
 use Rattle.undo_journal.specs.declared.batch.Waiting.{Waiting}
-use Rattle.undo_journal.specs.Batches.{look_up, joined}
+use Rattle.undo_journal.specs.Batches.{look_up, with_set}
 
 -- an address below another, the same, or above it
 pub data Order (x a : ℕ) : Type 0 where
@@ -60,27 +60,27 @@ none-low a least (s ∷ rest) h lt =
 -- One more set.
 module _ (new : Waiting) where
   pub joined-below : (s : Waiting) (rest : List Waiting) → nat_lt s.at new.at ≡ true
-      → joined new (s ∷ rest) ≡ s ∷ joined new rest
+      → with_set new (s ∷ rest) ≡ s ∷ with_set new rest
   joined-below s rest lower =
       ap (λ (b : Bool). if b then s
-      ∷ joined new rest else (if s.at == new.at then new ∷ rest else new ∷ s ∷ rest)) lower
+      ∷ with_set new rest else (if s.at == new.at then new ∷ rest else new ∷ s ∷ rest)) lower
 
   pub joined-same : (s : Waiting) (rest : List Waiting) → nat_lt s.at new.at ≡ false → (s.at == new.at) ≡ true
-      → joined new (s ∷ rest) ≡ new ∷ rest
+      → with_set new (s ∷ rest) ≡ new ∷ rest
   joined-same s rest lower is =
       ap (λ (b : Bool). if b then s
-      ∷ joined new rest else (if s.at == new.at then new ∷ rest else new ∷ s ∷ rest)) lower
+      ∷ with_set new rest else (if s.at == new.at then new ∷ rest else new ∷ s ∷ rest)) lower
       ∙ ap (λ (b : Bool). if b then new ∷ rest else new ∷ s ∷ rest) is
 
   pub joined-above : (s : Waiting) (rest : List Waiting) → nat_lt s.at new.at ≡ false → (s.at == new.at) ≡ false
-      → joined new (s ∷ rest) ≡ new ∷ s ∷ rest
+      → with_set new (s ∷ rest) ≡ new ∷ s ∷ rest
   joined-above s rest lower is =
       ap (λ (b : Bool). if b then s
-      ∷ joined new rest else (if s.at == new.at then new ∷ rest else new ∷ s ∷ rest)) lower
+      ∷ with_set new rest else (if s.at == new.at then new ∷ rest else new ∷ s ∷ rest)) lower
       ∙ ap (λ (b : Bool). if b then new ∷ rest else new ∷ s ∷ rest) is
 
   -- it waits
-  pub look_up-joined : (ps : List Waiting) → look_up new.at (joined new ps) ≡ Some new.word
+  pub look_up-joined : (ps : List Waiting) → look_up new.at (with_set new ps) ≡ Some new.word
   look_up-joined [] = look_up-here new [] new.at refl
   look_up-joined (s ∷ rest) = elim (order s.at new.at) [
     | below b lt ↦
@@ -88,7 +88,7 @@ module _ (new : Waiting) where
         ap (λ (l : List Waiting). look_up new.at l) (joined-below s rest b)
         ∙ elim (eqb_tells s.at new.at) [
           | inl e ↦ absurd (other e.1)
-          | inr differs ↦ ap (λ (b : Bool). if b then Some s.word else look_up new.at (joined new rest)) differs.0
+          | inr differs ↦ ap (λ (b : Bool). if b then Some s.word else look_up new.at (with_set new rest)) differs.0
               ∙ look_up-joined rest
         ]
     | same b e is ↦ ap (λ (l : List Waiting). look_up new.at l) (joined-same s rest b e)
@@ -98,7 +98,7 @@ module _ (new : Waiting) where
   ]
 
   -- any other address has what it had
-  pub look_up-other : (a : ℕ) → a ≢ new.at → (ps : List Waiting) → look_up a (joined new ps) ≡ look_up a ps
+  pub look_up-other : (a : ℕ) → a ≢ new.at → (ps : List Waiting) → look_up a (with_set new ps) ≡ look_up a ps
   look_up-other a other [] = look_up-past new [] a (λ e. other (sym e))
   look_up-other a other (s ∷ rest) = elim (order s.at new.at) [
     | below b lt ↦ ap (λ (l : List Waiting). look_up a l) (joined-below s rest b)
@@ -112,7 +112,7 @@ module _ (new : Waiting) where
   ]
 
   -- it takes a place of its own, where none of its address waits
-  pub joined-longer : (ps : List Waiting) → look_up new.at ps ≡ None → length (joined new ps) ≡ length ps + 1
+  pub joined-longer : (ps : List Waiting) → look_up new.at ps ≡ None → length (with_set new ps) ≡ length ps + 1
   joined-longer [] none = refl
   joined-longer (s ∷ rest) none = elim (order s.at new.at) [
     | below b lt ↦
@@ -124,7 +124,7 @@ module _ (new : Waiting) where
   ]
 
   pub ascending-joined : (ps : List Waiting) (least : ℕ) → AreAscending least ps → least ≤ new.at
-      → AreAscending least (joined new ps)
+      → AreAscending least (with_set new ps)
   ascending-joined [] least h le = (le, tt)
   ascending-joined (s ∷ rest) least h le = elim (order s.at new.at) [
     | below b lt ↦

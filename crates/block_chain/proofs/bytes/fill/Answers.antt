@@ -1,8 +1,8 @@
 use Rattle.std.proofs.Common.{◌≡◌, ◌+◌, ◌<◌, ℕ, List, take, sym, ◌∙◌, subst, arith}
 use Rattle.undo_journal.specs.Memory.{committed}
 use Rattle.block_chain.specs.Chains.{free_chain}
-use Rattle.block_chain.specs.Changes.{OnlyContent}
-use Rattle.block_chain.specs.Parts.{filled_word}
+use Rattle.block_chain.specs.ChainChanges.{OnlyContent}
+use Rattle.block_chain.specs.ChainParts.{filled_word}
 use Rattle.block_chain.specs.laws.Bytes.{leads_blocks, blocks_same}
 use Rattle.block_chain.specs.laws.Chains.{head_small, leads_first}
 use Rattle.block_chain.specs.laws.Filling.{AreFilled, filled_more, first_filled}

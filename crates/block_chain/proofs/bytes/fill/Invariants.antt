@@ -1,9 +1,9 @@
 use Rattle.std.proofs.Common.{◌≡◌, ◌≤◌, ◌+◌, slice_index, take, None}
 use Rattle.undo_journal.specs.Memory.{committed}
-use Rattle.undo_journal.specs.Calls.{Changes}
+use Rattle.undo_journal.specs.StoreCalls.{Changes}
 use Rattle.block_chain.specs.Chains.{free_chain}
-use Rattle.block_chain.specs.Changes.{OnlyContent}
-use Rattle.block_chain.specs.Parts.{filled_word}
+use Rattle.block_chain.specs.ChainChanges.{OnlyContent}
+use Rattle.block_chain.specs.ChainParts.{filled_word}
 use Rattle.block_chain.specs.laws.Filling.{AreFilled}
 use Rattle.block_chain.proofs.bytes.fill.Given as goal
 

@@ -3,11 +3,11 @@ use Rattle.std.proofs.Common.{◌≡◌, ◌+◌, ◌*◌, ◌%◌, ℕ, List, l
 use Rattle.std.proofs.Common.{inr, arith}
 use Rattle.std.proofs.lemmas.Result.{on_ok_weaker}
 use Rattle.nvm_board.specs.Facts.{address}
-use Rattle.undo_journal.specs.Memory.{current, EndsAt, GoesOn, Joins}
+use Rattle.undo_journal.specs.Memory.{current, EndsAt, ContinuesRun, Joins}
 use Rattle.undo_journal.specs.Lent.{memory_of}
 use Rattle.undo_journal.specs.laws.Calls.{reads_sets, sets_then, runs_then, reads_runs, goes_on_kept}
-use Rattle.block_chain.specs.Parts.{byte_over, JoinsAt}
-use Rattle.block_chain.specs.Words.{word_bytes}
+use Rattle.block_chain.specs.ChainParts.{byte_over, JoinsAt}
+use Rattle.block_chain.specs.BlockWords.{word_bytes}
 use Rattle.undo_journal.specs.laws.Exits.{none_ok}
 use Rattle.undo_journal.specs.laws.Told.{sets_in_handed}
 use Rattle.block_chain.proofs.bytes.put_word.Goals as goal
@@ -69,7 +69,7 @@ returns-clause-goes_on g c = λ goes.
     let at : address c.args.page (1 + c.args.k % BLOCK_WORDS) ≡ PAGE_WORDS * c.args.page + 1 + c.args.k % BLOCK_WORDS =
     omega arith in
     let reads = c.new_word.ensures.store.only.reads in
-    let moved = subst (λ (a : ℕ). GoesOn (memory_of c.args.txn.now) a) at goes in
+    let moved = subst (λ (a : ℕ). ContinuesRun (memory_of c.args.txn.now) a) at goes in
     runs_then 0 0 0 _ _ _ (omega arith) (reads_runs 0 _ _ reads)
     (c.set.ensures.goes_on (goes_on_kept _ _ _ reads moved))
 

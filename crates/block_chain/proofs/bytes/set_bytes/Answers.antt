@@ -6,7 +6,7 @@ use Rattle.undo_journal.specs.laws.Exits.{none_ok}
 use Rattle.undo_journal.specs.laws.Told.{sets_in_handed, sets_in_on}
 use Rattle.block_chain.specs.Chains.{chain_of}
 use Rattle.block_chain.specs.laws.Overwriting.{overwrites_none}
-use Rattle.block_chain.specs.Changes.{touched_blocks}
+use Rattle.block_chain.specs.ChainChanges.{touched_blocks}
 use Rattle.block_chain.proofs.RunCosts.{none_yet, runs_all, runs_more, run_put, run_next}
 use Rattle.block_chain.proofs.Puts.{link_small, put_few, put_first, put_last, put_more}
 use Rattle.block_chain.proofs.Counting.{counted-all, counted-more, counted-no_bytes, counted-none}

@@ -1,7 +1,7 @@
 use Rattle.std.proofs.Common.{◌≤◌, ◌-◌, ◌/◌}
 use Rattle.undo_journal.specs.Memory.{current, IsIdle, IsOpen}
 use Rattle.undo_journal.specs.Lent.{memory_of}
-use Rattle.undo_journal.specs.Calls.{Sets}
+use Rattle.undo_journal.specs.StoreCalls.{Sets}
 use Rattle.block_chain.specs.Chains.{chain_of}
 use Rattle.block_chain.proofs.Puts.{IsPutSoFar}
 use Rattle.block_chain.proofs.RunCosts.{AreRunsSoFar}

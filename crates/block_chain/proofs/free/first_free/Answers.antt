@@ -3,13 +3,12 @@ use Rattle.undo_journal.specs.Memory.{current}
 use Rattle.undo_journal.specs.Lent.{memory_of}
 use Rattle.undo_journal.specs.laws.Calls.{txn_reads_then}
 use Rattle.block_chain.specs.Chains.{chain, free_chain}
-use Rattle.block_chain.specs.Words.{link}
+use Rattle.block_chain.specs.BlockWords.{link, IsBlock}
 use Rattle.block_chain.specs.laws.Chains.{at_block, head_small}
 use Rattle.undo_journal.specs.laws.Exits.{none_ok}
 use Rattle.undo_journal.specs.laws.Told.{reads_in_handed, reads_in_on}
 use Rattle.std.specs.Prelude.{List, ℕ}
 use Rattle.std.proofs.Common.{subst}
-use Rattle.block_chain.specs.Words.{IsBlock}
 use Rattle.block_chain.proofs.free.first_free.Goals as goal
 
 pub head-requires-clause-small : goal.head-requires-clause-small

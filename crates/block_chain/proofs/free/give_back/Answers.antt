@@ -5,8 +5,8 @@ use Rattle.undo_journal.specs.Memory.{current}
 use Rattle.undo_journal.specs.Lent.{memory_of}
 use Rattle.undo_journal.specs.laws.Exits.{none_ok}
 use Rattle.undo_journal.specs.laws.Told.{sets_in_on, sets_in_handed, sets_in_within}
-use Rattle.block_chain.specs.Changes.{GivesBack}
-use Rattle.block_chain.specs.Parts.{first_of, joined}
+use Rattle.block_chain.specs.ChainChanges.{GivesBack}
+use Rattle.block_chain.specs.ChainParts.{first_block, joined_chains}
 use Rattle.block_chain.specs.declared.layout.TheConstants.{HEADER_PAGE}
 use Rattle.block_chain.proofs.Giving.{gives_back, gives_none}
 use Rattle.block_chain.proofs.free.give_back.Goals as goal
@@ -16,14 +16,14 @@ pub returns-clause-done : goal.returns-clause-done
 returns-clause-done g c =
     let m = current (memory_of c.args.txn.now) in
     let cs = c.args.chains.now in
-    let page : c.from.result ≡ first_of m cs = c.from.ensures ∙ c.in_ok-page.ensures.page in
-    let words : current (memory_of c.join.new.txn) ≡ joined m cs = c.in_ok-page.ensures.done in
+    let page : c.from.result ≡ first_block m cs = c.from.ensures ∙ c.in_ok-page.ensures.page in
+    let words : current (memory_of c.join.new.txn) ≡ joined_chains m cs = c.in_ok-page.ensures.done in
     let family : List ℕ → Type 0 = λ l. GivesBack m cs l in
     on_ok_weaker c.set.result (λ
     (done : current (memory_of c.set.new.self) ≡ slice_set (current (memory_of c.join.new.txn))
     (address HEADER_PAGE FREE_HEAD_WORD) c.from.result).
-    let after : current (memory_of c.set.new.self) ≡ slice_set (joined m cs) (address HEADER_PAGE FREE_HEAD_WORD)
-    (first_of m cs) = done ∙ (λ i. slice_set (words i) (address HEADER_PAGE FREE_HEAD_WORD) (page i)) in
+    let after : current (memory_of c.set.new.self) ≡ slice_set (joined_chains m cs) (address HEADER_PAGE FREE_HEAD_WORD)
+    (first_block m cs) = done ∙ (λ i. slice_set (words i) (address HEADER_PAGE FREE_HEAD_WORD) (page i)) in
     subst family (sym after)
     (gives_back m cs c.requires.ready.current_size c.requires.free c.requires.apart)) c.set.ensures.done
 

@@ -6,7 +6,7 @@ use Rattle.nvm_board.specs.Facts.{address}
 use Rattle.undo_journal.specs.Memory.{current}
 use Rattle.undo_journal.specs.Lent.{memory_of}
 use Rattle.undo_journal.specs.laws.Calls.{reads_sets, sets_then}
-use Rattle.block_chain.specs.Parts.{first_of, joined}
+use Rattle.block_chain.specs.ChainParts.{first_block, joined_chains}
 use Rattle.block_chain.specs.declared.chain.Chain.{Chain}
 use Rattle.block_chain.specs.laws.Chains.{head_small}
 use Rattle.block_chain.specs.laws.Joining.{joined-nil, joined-cons, length-joined, whole_block}
@@ -26,8 +26,8 @@ loop-left-init g c =
       within = omega arith;
       ready = c.in_ok-page.ensures.store.ready;
       sets = reads_sets _ _ _ c.head.ensures.store.only;
-      page = c.in_ok-page.ensures.page ∙ sym (ap (first_of m) none);
-      words = c.head.ensures.store.only.reads.keeps.current_words ∙ sym (ap (joined m) none ∙ joined-nil m);
+      page = c.in_ok-page.ensures.page ∙ sym (ap (first_block m) none);
+      words = c.head.ensures.store.only.reads.keeps.current_words ∙ sym (ap (joined_chains m) none ∙ joined-nil m);
     }
 
 pub overflow_mul-chain : goal.overflow_mul-chain
@@ -63,15 +63,15 @@ loop-left-preserved g c =
     drop_more cs (left - 1) d lt ∙ ap (λ (i : ℕ). slice_index_or cs (left - 1) d ∷ drop i cs) back in
     let at : PAGE_WORDS * (slice_index_or cs (left - 1) d).last ≡ address (slice_index_or cs (left - 1) d).last 0 =
     omega arith in
-    let page : c.from.result ≡ first_of m (drop left cs) = c.from.ensures ∙ c.loop-left.invariant.page in
+    let page : c.from.result ≡ first_block m (drop left cs) = c.from.ensures ∙ c.loop-left.invariant.page in
     record {
       within = omega (arith, lt);
       ready = c.in_ok-set.ensures.store.ready;
       sets = sets_then _ _ _ _ _ _ fits c.loop-left.invariant.sets c.set.ensures.store.sets;
-      page = sym (ap (first_of m) more);
+      page = sym (ap (first_block m) more);
       words = c.in_ok-set.ensures.done
           ∙ (λ i. slice_set (c.loop-left.invariant.words i) (at i) (page i))
-          ∙ sym (ap (joined m) more ∙ joined-cons m _ _);
+          ∙ sym (ap (joined_chains m) more ∙ joined-cons m _ _);
     }
 
 pub returns-in_err-page-clause-page : goal.returns-in_err-page-clause-page

@@ -4,7 +4,7 @@ use Rattle.nvm_board.specs.Facts.{address}
 use Rattle.undo_journal.specs.Memory.{current}
 use Rattle.undo_journal.specs.Lent.{memory_of}
 use Rattle.undo_journal.specs.laws.Calls.{sets_then, reads_sets}
-use Rattle.block_chain.specs.Changes.{Takes}
+use Rattle.block_chain.specs.ChainChanges.{Takes}
 use Rattle.block_chain.specs.declared.layout.TheConstants.{HEADER_PAGE}
 use Rattle.block_chain.proofs.Taking.{takes}
 use Rattle.undo_journal.specs.laws.Exits.{none_ok}

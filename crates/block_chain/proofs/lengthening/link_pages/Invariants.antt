@@ -1,8 +1,8 @@
 use Rattle.std.specs.Prelude.{◌≡◌, ◌==◌, ◌<◌, ◌≤◌, ◌+◌, ◌-◌, ℕ, if◌then◌else◌, None}
 use Rattle.undo_journal.specs.Memory.{committed}
-use Rattle.undo_journal.specs.Calls.{Changes}
-use Rattle.block_chain.specs.Changes.{LinksAlone}
-use Rattle.block_chain.specs.Words.{link}
+use Rattle.undo_journal.specs.StoreCalls.{Changes}
+use Rattle.block_chain.specs.ChainChanges.{LinksAlone}
+use Rattle.block_chain.specs.BlockWords.{link}
 use Rattle.block_chain.proofs.lengthening.link_pages.Given as goal
 
 abbrev pub invariant-loop-page : goal.invariant-loop-page

@@ -1,7 +1,7 @@
 use Rattle.std.proofs.Common.{◌≡◌, ◌<◌, ◌≤◌, ◌++◌, ◌∷◌, [], ℕ, List, length, take, drop, slice_index, sym, ◌∙◌}
 use Rattle.std.proofs.Common.{ap, ap₂, refl, arith, append_assoc, get_or-drop}
 use Rattle.std.proofs.lemmas.List.{take_more, length-drop, length-append, length-take-le}
-use Rattle.block_chain.specs.Words.{word_bytes}
+use Rattle.block_chain.specs.BlockWords.{word_bytes}
 use Rattle.block_chain.proofs.reading.append_part.Goals as goal
 
 pub push-requires : goal.push-requires

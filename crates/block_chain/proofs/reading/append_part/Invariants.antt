@@ -1,5 +1,5 @@
 use Rattle.std.proofs.Common.{◌≡◌, ◌++◌, take, drop}
-use Rattle.block_chain.specs.Words.{word_bytes}
+use Rattle.block_chain.specs.BlockWords.{word_bytes}
 use Rattle.block_chain.proofs.reading.append_part.Given as goal
 
 abbrev pub invariant-loop-i : goal.invariant-loop-i

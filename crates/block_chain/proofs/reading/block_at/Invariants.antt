@@ -1,6 +1,6 @@
 use Rattle.std.proofs.Common.{◌≡◌, slice_index}
 use Rattle.undo_journal.specs.Memory.{committed, IsReady}
-use Rattle.undo_journal.specs.Calls.{OnlyReads}
+use Rattle.undo_journal.specs.StoreCalls.{OnlyReads}
 use Rattle.block_chain.specs.Chains.{chain}
 use Rattle.block_chain.proofs.reading.block_at.Given as goal
 

@@ -3,7 +3,7 @@ use Rattle.std.proofs.Common.{arith}
 use Rattle.undo_journal.specs.Memory.{committed}
 use Rattle.undo_journal.specs.laws.Calls.{reads_then}
 use Rattle.block_chain.specs.declared.layout.TheConstants.{BLOCK_BYTES, BLOCK_WORDS}
-use Rattle.block_chain.specs.Words.{word, word_bytes, IsBlock}
+use Rattle.block_chain.specs.BlockWords.{word, word_bytes, IsBlock}
 use Rattle.block_chain.specs.Chains.{chain_of}
 use Rattle.block_chain.specs.laws.Chains.{leads_block}
 use Rattle.block_chain.specs.laws.Bytes.{content_word, leads_blocks, index-bytes_of}

@@ -5,7 +5,7 @@ use Rattle.undo_journal.specs.laws.Exits.{none_ok}
 use Rattle.undo_journal.specs.laws.Told.{reads_handed, reads_none, reads_on, reads_so_far}
 use Rattle.block_chain.specs.declared.layout.TheConstants.{MOST_BLOCKS}
 use Rattle.block_chain.specs.Chains.{chain_bytes, chain_of}
-use Rattle.block_chain.specs.Words.{word}
+use Rattle.block_chain.specs.BlockWords.{word}
 use Rattle.block_chain.specs.laws.Laying.{pages_most}
 use Rattle.block_chain.proofs.Runs.{block_here, none_appended, none_asked, read_all, read_more, read_none, some_bytes}
 use Rattle.block_chain.proofs.Runs.{some_more}

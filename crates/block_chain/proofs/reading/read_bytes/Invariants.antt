@@ -1,6 +1,6 @@
 use Rattle.std.proofs.Common.{◌≡◌, ◌-◌, ◌/◌, ◌%◌}
 use Rattle.undo_journal.specs.Memory.{committed, IsReady}
-use Rattle.undo_journal.specs.Calls.{OnlyReads}
+use Rattle.undo_journal.specs.StoreCalls.{OnlyReads}
 use Rattle.block_chain.specs.Chains.{chain_of}
 use Rattle.block_chain.specs.declared.layout.TheConstants.{BLOCK_WORDS}
 use Rattle.block_chain.proofs.Runs.{IsRead}

@@ -4,7 +4,7 @@ use Rattle.undo_journal.specs.Memory.{committed}
 use Rattle.undo_journal.specs.laws.Calls.{reads_then}
 use Rattle.block_chain.specs.Chains.{free_chain, chain}
 use Rattle.block_chain.specs.Layout.{IsExtent, laid_out}
-use Rattle.block_chain.specs.Parts.{AreBlank, IsPlace, marked, IsFresh, IsWalked}
+use Rattle.block_chain.specs.ChainParts.{AreBlank, IsBlockPlace, times_marked, IsUnmarkedChain, IsWalked}
 use Rattle.block_chain.specs.declared.chain.Extent.{Extent}
 use Rattle.block_chain.specs.declared.layout.TheConstants.{MOST_BLOCKS, FIRST_BLOCK_PAGE, FREE_HEAD}
 use Rattle.block_chain.specs.laws.Counts.{count-append}
@@ -22,7 +22,7 @@ some_at : {X : Type 0} (o : Option X) (x : X) (P : X → Type 0) → o ≡ Some 
 some_at o x P is h = let family : Option _ → Type 0 = λ r. IfSome r P in subst family is h
 
 -- no block is marked yet
-blank : (seen : List ℕ) → AreBlank seen → (q : ℕ) → IsPlace q → marked seen q ≡ 0
+blank : (seen : List ℕ) → AreBlank seen → (q : ℕ) → IsBlockPlace q → times_marked seen q ≡ 0
 blank seen none q block = none (q - FIRST_BLOCK_PAGE)
 
 pub walk_over-requires-clause-marks : goal.walk_over-requires-clause-marks
@@ -39,10 +39,11 @@ pub returns-in-None-clause-found : goal.returns-in-None-clause-found
 returns-in-None-clause-found g c = λ laid.
     let read = c.read.ensures.reads.keeps.committed_words in
     let stale = c.in_ok-walked.ensures.stale c.in-None.is in
-    let family : List ℕ → Type 0 = λ l. IsFresh (FIRST_BLOCK_PAGE + c.args.count) l c.args.seen.now c.in_ok-head.head in
-    let from : ℕ → Type 0 = λ p. IsFresh (FIRST_BLOCK_PAGE + c.args.count) (committed c.args.store.now)
+    let family : List ℕ → Type 0 = λ l. IsUnmarkedChain
+    (FIRST_BLOCK_PAGE + c.args.count) l c.args.seen.now c.in_ok-head.head in
+    let from : ℕ → Type 0 = λ p. IsUnmarkedChain (FIRST_BLOCK_PAGE + c.args.count) (committed c.args.store.now)
     c.args.seen.now p in
-    let fresh : IsFresh (FIRST_BLOCK_PAGE + c.args.count) (committed c.args.store.now) c.args.seen.now
+    let fresh : IsUnmarkedChain (FIRST_BLOCK_PAGE + c.args.count) (committed c.args.store.now) c.args.seen.now
     (slice_index (committed c.args.store.now) FREE_HEAD) = record {
       leads = laid.free;
       below = λ q past. let a = laid.below q past in let s = count-append q (free_chain (committed c.args.store.now))
@@ -132,8 +133,9 @@ returns-in-None-2-clause-found g c = λ laid.
     let from : c.from.result ≡ e.chain.first = c.from.ensures in
     let read = c.loop-i.invariant.reads.keeps.committed_words in
     let stale = c.in_ok-walked-2.ensures.stale c.in-None-2.is in
-    let family : List ℕ → Type 0 = λ l. IsFresh (FIRST_BLOCK_PAGE + c.args.count) l c.loop-i.seen c.from.result in
-    let start : ℕ → Type 0 = λ p. IsFresh (FIRST_BLOCK_PAGE + c.args.count) m c.loop-i.seen p in
+    let family : List ℕ → Type 0 = λ l. IsUnmarkedChain
+    (FIRST_BLOCK_PAGE + c.args.count) l c.loop-i.seen c.from.result in
+    let start : ℕ → Type 0 = λ p. IsUnmarkedChain (FIRST_BLOCK_PAGE + c.args.count) m c.loop-i.seen p in
     let fresh =
     (laid_fresh c.args.count m es i c.loop-i.seen c.loop-i.blocks e d lt refl c.loop-i.invariant.so_far laid).0 in
     stale (subst family (sym read) (subst start (sym from) fresh))

@@ -1,6 +1,6 @@
 use Rattle.std.proofs.Common.{◌≡◌, ◌≤◌, ◌+◌, length}
 use Rattle.undo_journal.specs.Memory.{committed, IsReady}
-use Rattle.undo_journal.specs.Calls.{OnlyReads}
+use Rattle.undo_journal.specs.StoreCalls.{OnlyReads}
 use Rattle.block_chain.specs.declared.layout.TheConstants.{FIRST_BLOCK_PAGE, MOST_BLOCKS}
 use Rattle.block_chain.specs.Chains.{free_chain}
 use Rattle.block_chain.specs.laws.Laying.{AreLaidSoFar}

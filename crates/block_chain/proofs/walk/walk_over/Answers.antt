@@ -5,8 +5,8 @@ use Rattle.nvm_board.specs.Facts.{pages_of}
 use Rattle.undo_journal.specs.Memory.{Memory, committed, IsReady}
 use Rattle.undo_journal.specs.laws.Calls.{reads_then, reads_same}
 use Rattle.block_chain.specs.Counts.{count}
-use Rattle.block_chain.specs.Parts.{marked, IsWalked}
-use Rattle.block_chain.specs.Words.{link}
+use Rattle.block_chain.specs.ChainParts.{times_marked, IsWalked}
+use Rattle.block_chain.specs.BlockWords.{link}
 use Rattle.block_chain.specs.declared.layout.TheConstants.{MOST_BLOCKS, FIRST_BLOCK_PAGE}
 use Rattle.block_chain.specs.laws.Walking.{HasWalked, walked_none, walked_less, walked_more, walked_all, walked_fresh}
 use Rattle.block_chain.specs.laws.Walking.{stale_there, last_more, pages_zero}
@@ -18,7 +18,7 @@ use Rattle.nvm_board.specs.declared.board.TheConstants.{PAGE_WORDS}
 -- where a block is not marked, not all blocks were walked over
 fits_at : (store : Memory) (m : List ℕ) (end from n page : ℕ) (old new : List ℕ) → HasWalked end m from n page old new
     → IsReady store → end ≤ pages_of (committed store)
-    → ((FIRST_BLOCK_PAGE ≤ page) × (page < end)) × (marked new page ≡ 0) → n < MOST_BLOCKS
+    → ((FIRST_BLOCK_PAGE ≤ page) × (page < end)) × (times_marked new page ≡ 0) → n < MOST_BLOCKS
 fits_at store m end from n page old new walked ready inside fit =
     let most = ready.usable.committed_size.most in
     walked_less end m from n page old new walked (omega (arith, inside, most)) fit.0 fit.1
@@ -37,7 +37,7 @@ loop-last-preserved g c =
     let m = committed c.args.store.now in
     let page = c.loop-last.page in
     let invariant = c.loop-last.invariant in
-    let fit : ((FIRST_BLOCK_PAGE ≤ page) × (page < c.args.end)) × (marked c.loop-last.seen page ≡ 0) =
+    let fit : ((FIRST_BLOCK_PAGE ≤ page) × (page < c.args.end)) × (times_marked c.loop-last.seen page ≡ 0) =
     c.mark.ensures.new.0 c.loop-last-test.true in
     let some : page ≢ 0 = let least = fit.0.0 in λ e. let z : ⊥ = omega (arith, e, least) in z in
     let fits = fits_at _ _ _ _ _ _ _ _ invariant.walked c.requires.ready c.requires.inside fit in
@@ -83,7 +83,7 @@ returns-clause-walked g c =
       blocks = sym (ap (λ (ps : List ℕ). length ps) all ∙ invariant.walked.long);
       last = invariant.last ∙ sym (ap (λ (ps : List ℕ). slice_index ps (blocks - 1)) all);
       marks = λ q block. invariant.walked.marks q block
-          ∙ sym (ap (λ (ps : List ℕ). marked c.args.seen.now q + count q ps) all);
+          ∙ sym (ap (λ (ps : List ℕ). times_marked c.args.seen.now q + count q ps) all);
       fine = invariant.walked.fine;
     })
 

@@ -1,6 +1,6 @@
 use Rattle.std.proofs.Common.{◌≡◌, ◌≤◌, ◌-◌, slice_index}
 use Rattle.undo_journal.specs.Memory.{committed, IsReady}
-use Rattle.undo_journal.specs.Calls.{OnlyReads}
+use Rattle.undo_journal.specs.StoreCalls.{OnlyReads}
 use Rattle.block_chain.specs.Chains.{pages_from}
 use Rattle.block_chain.specs.declared.layout.TheConstants.{MOST_BLOCKS}
 use Rattle.block_chain.specs.laws.Walking.{HasWalked}

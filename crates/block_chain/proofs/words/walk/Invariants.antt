@@ -1,7 +1,7 @@
 use Rattle.std.proofs.Common.{◌≡◌, slice_index}
 use Rattle.undo_journal.specs.Memory.{current, IsOpen}
 use Rattle.undo_journal.specs.Lent.{memory_of}
-use Rattle.undo_journal.specs.Calls.{TxnReads}
+use Rattle.undo_journal.specs.StoreCalls.{TxnReads}
 use Rattle.block_chain.specs.Chains.{chain}
 use Rattle.block_chain.proofs.words.walk.Given as goal
 

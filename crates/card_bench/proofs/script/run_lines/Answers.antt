@@ -1,6 +1,6 @@
 use Rattle.std.proofs.Common.{◌≡◌, ◌+◌, ◌-◌, ℕ, List, Some, None, IfSome, Err, subst, sym, ◌∙◌, ap, arith}
 use Rattle.bench_lines.specs.declared.reading.LineFault.TheVariants.{Read, TooLong, TooMuch}
-use Rattle.card_bench.specs.Endings.{IsRunToLine}
+use Rattle.card_bench.specs.ScriptEndings.{IsRunToLine}
 use Rattle.bench_lines.specs.OrderViews.{order_with}
 use Rattle.bench_lines.specs.Orders.{order_of}
 use Rattle.bench_lines.specs.Scripts.{TakesLine}

@@ -1,7 +1,7 @@
 use Rattle.std.proofs.Common.{◌-◌}
 use Rattle.nvm_board.specs.Cut.{cut_facts}
 use Rattle.command_base.specs.Finding.{HasCard}
-use Rattle.card_bench.specs.Tallies.{findings, Adds, Counts}
+use Rattle.card_bench.specs.Tallies.{findings, Adds, CountsRuns}
 use Rattle.card_bench.specs.Sweeps.{EndsBehindStarts}
 use Rattle.card_bench.specs.SweptRuns.{InTurn, AreBehindCut, AreAllBehind}
 use Rattle.card_bench.proofs.sweeping.+cut_starts.Given as goal
@@ -14,6 +14,6 @@ invariant-loop-i l = record {
   so_far : HasCard (cut_facts l.board).words → Adds (EndsBehindStarts l.depth (cut_facts l.board) l.probe)
       (findings l.fn.sweep.seen.items) (findings l.sweep.seen.items);
   counted : HasCard (cut_facts l.board).words
-      → Counts (InTurn (AreBehindCut (AreAllBehind (l.depth - 1) l.probe) (cut_facts l.board)) l.i)
+      → CountsRuns (InTurn (AreBehindCut (AreAllBehind (l.depth - 1) l.probe) (cut_facts l.board)) l.i)
       l.fn.sweep.seen.items l.sweep.seen.items;
 }

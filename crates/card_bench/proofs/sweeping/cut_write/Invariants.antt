@@ -1,13 +1,13 @@
 use Rattle.command_base.specs.Finding.{HasCard}
-use Rattle.card_bench.specs.Tallies.{findings, Adds, Counts}
-use Rattle.card_bench.specs.PlanParts.{board_of, IsGiven}
+use Rattle.card_bench.specs.Tallies.{findings, Adds, CountsRuns}
+use Rattle.card_bench.specs.PlanParts.{board_of, IsGivenBy}
 use Rattle.card_bench.specs.SweptRuns.{InTurn, AreOfMask}
 use Rattle.card_bench.proofs.sweeping.cut_write.Given as goal
 
 abbrev pub invariant-loop-i : goal.invariant-loop-i
 invariant-loop-i l = record {
   so_far : HasCard (board_of l.plan).words
-      → Adds (IsGiven l.plan) (findings l.fn.sweep.seen.items) (findings l.sweep.seen.items);
-  counted : HasCard (board_of l.plan).words → Counts (InTurn (AreOfMask (board_of l.plan) l.plan.prepare.now
+      → Adds (IsGivenBy l.plan) (findings l.fn.sweep.seen.items) (findings l.sweep.seen.items);
+  counted : HasCard (board_of l.plan).words → CountsRuns (InTurn (AreOfMask (board_of l.plan) l.plan.prepare.now
       l.plan.command.now l.plan.probe.now l.plan.depth l.k l.words) l.i) l.fn.sweep.seen.items l.sweep.seen.items;
 }

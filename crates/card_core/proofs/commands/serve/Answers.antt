@@ -4,7 +4,7 @@ use Rattle.card_rules.specs.declared.status.Sw.{Sw}
 use Rattle.undo_journal.specs.declared.error.StoreErr.{StoreErr}
 use Rattle.undo_journal.specs.Memory.{Memory}
 use Rattle.apdu_core.specs.declared.commands.Command.{Command}
-use Rattle.apdu_core.specs.ParsedCommands.{IsInRange, request_of}
+use Rattle.apdu_core.specs.ParsedCommands.{IsCommandInRange, request_of}
 use Rattle.command_base.specs.declared.current.Current.{Current}
 use Rattle.command_base.specs.Served.{Serves}
 use Rattle.command_base.specs.Working.{card_in}
@@ -29,7 +29,7 @@ module _ (old : Memory) (x : Current) (new : Memory) (y : Current) (result : Res
       told text (subst (λ (it : List ℕ). Serves (request_of this) old x new y it result) (sym empty) serves)
 
 pub select_file-requires-clause-selector : goal.select_file-requires-clause-selector
-select_file-requires-clause-selector g c = subst IsInRange c.in-Select.is c.requires.in_range
+select_file-requires-clause-selector g c = subst IsCommandInRange c.in-Select.is c.requires.in_range
 
 pub returns-in-Select-clause-serves : goal.returns-in-Select-clause-serves
 returns-in-Select-clause-serves g c = told _ _ _ _ _ _ _ c.in-Select.is _ c.select_file.ensures
@@ -39,7 +39,7 @@ unfolding commits
 returns-in-Select-clause-space g c = space_left _ _ _ _ _ _ _ _ c.select_file.ensures tt c.requires.whole.space
 
 pub read_file-requires-clause-target : goal.read_file-requires-clause-target
-read_file-requires-clause-target g c = (subst IsInRange c.in-ReadBinary.is c.requires.in_range).0
+read_file-requires-clause-target g c = (subst IsCommandInRange c.in-ReadBinary.is c.requires.in_range).0
 
 pub returns-in-ReadBinary-clause-serves : goal.returns-in-ReadBinary-clause-serves
 returns-in-ReadBinary-clause-serves g c = told _ _ _ _ _ _ _ c.in-ReadBinary.is _ c.read_file.ensures
@@ -49,11 +49,11 @@ unfolding commits
 returns-in-ReadBinary-clause-space g c = space_left _ _ _ _ _ _ _ _ c.read_file.ensures tt c.requires.whole.space
 
 pub update_file-requires-clause-target : goal.update_file-requires-clause-target
-update_file-requires-clause-target g c = (subst IsInRange c.in-UpdateBinary.is c.requires.in_range).0
+update_file-requires-clause-target g c = (subst IsCommandInRange c.in-UpdateBinary.is c.requires.in_range).0
 
 pub update_file-requires-clause-bytes : goal.update_file-requires-clause-bytes
 update_file-requires-clause-bytes g c =
-    let all = subst IsInRange c.in-UpdateBinary.is c.requires.in_range in (all.2, all.3)
+    let all = subst IsCommandInRange c.in-UpdateBinary.is c.requires.in_range in (all.2, all.3)
 
 pub returns-in-UpdateBinary-clause-serves : goal.returns-in-UpdateBinary-clause-serves
 returns-in-UpdateBinary-clause-serves g c =
@@ -71,7 +71,7 @@ returns-in-DeleteFile-clause-serves g c =
     silent _ _ _ _ _ _ _ c.in-DeleteFile.is _ c.requires.empty c.delete_file.ensures.serves
 
 pub read_record-requires-clause-target : goal.read_record-requires-clause-target
-read_record-requires-clause-target g c = (subst IsInRange c.in-ReadRecord.is c.requires.in_range).0
+read_record-requires-clause-target g c = (subst IsCommandInRange c.in-ReadRecord.is c.requires.in_range).0
 
 pub returns-in-ReadRecord-clause-serves : goal.returns-in-ReadRecord-clause-serves
 returns-in-ReadRecord-clause-serves g c = told _ _ _ _ _ _ _ c.in-ReadRecord.is _ c.read_record.ensures
@@ -81,11 +81,11 @@ unfolding commits
 returns-in-ReadRecord-clause-space g c = space_left _ _ _ _ _ _ _ _ c.read_record.ensures tt c.requires.whole.space
 
 pub update_record-requires-clause-target : goal.update_record-requires-clause-target
-update_record-requires-clause-target g c = (subst IsInRange c.in-UpdateRecord.is c.requires.in_range).0
+update_record-requires-clause-target g c = (subst IsCommandInRange c.in-UpdateRecord.is c.requires.in_range).0
 
 pub update_record-requires-clause-bytes : goal.update_record-requires-clause-bytes
 update_record-requires-clause-bytes g c =
-    let all = subst IsInRange c.in-UpdateRecord.is c.requires.in_range in (all.2, all.3)
+    let all = subst IsCommandInRange c.in-UpdateRecord.is c.requires.in_range in (all.2, all.3)
 
 pub returns-in-UpdateRecord-clause-serves : goal.returns-in-UpdateRecord-clause-serves
 returns-in-UpdateRecord-clause-serves g c =
@@ -95,11 +95,11 @@ pub returns-in-UpdateRecord-clause-space : goal.returns-in-UpdateRecord-clause-s
 returns-in-UpdateRecord-clause-space g c = space_kept _ _ _ _ c.requires.whole.space c.update_record.ensures.space
 
 pub append_record-requires-clause-target : goal.append_record-requires-clause-target
-append_record-requires-clause-target g c = (subst IsInRange c.in-AppendRecord.is c.requires.in_range).0
+append_record-requires-clause-target g c = (subst IsCommandInRange c.in-AppendRecord.is c.requires.in_range).0
 
 pub append_record-requires-clause-bytes : goal.append_record-requires-clause-bytes
 append_record-requires-clause-bytes g c =
-    let all = subst IsInRange c.in-AppendRecord.is c.requires.in_range in (all.1, all.2)
+    let all = subst IsCommandInRange c.in-AppendRecord.is c.requires.in_range in (all.1, all.2)
 
 pub returns-in-AppendRecord-clause-serves : goal.returns-in-AppendRecord-clause-serves
 returns-in-AppendRecord-clause-serves g c =
@@ -109,10 +109,10 @@ pub returns-in-AppendRecord-clause-space : goal.returns-in-AppendRecord-clause-s
 returns-in-AppendRecord-clause-space g c = space_kept _ _ _ _ c.requires.whole.space c.append_record.ensures.space
 
 pub search_record-requires-clause-target : goal.search_record-requires-clause-target
-search_record-requires-clause-target g c = (subst IsInRange c.in-SearchRecord.is c.requires.in_range).0
+search_record-requires-clause-target g c = (subst IsCommandInRange c.in-SearchRecord.is c.requires.in_range).0
 
 pub search_record-requires-clause-few : goal.search_record-requires-clause-few
-search_record-requires-clause-few g c = (subst IsInRange c.in-SearchRecord.is c.requires.in_range).3
+search_record-requires-clause-few g c = (subst IsCommandInRange c.in-SearchRecord.is c.requires.in_range).3
 
 pub returns-in-SearchRecord-clause-serves : goal.returns-in-SearchRecord-clause-serves
 returns-in-SearchRecord-clause-serves g c = told _ _ _ _ _ _ _ c.in-SearchRecord.is _ c.search_record.ensures
@@ -122,7 +122,7 @@ unfolding commits
 returns-in-SearchRecord-clause-space g c = space_left _ _ _ _ _ _ _ _ c.search_record.ensures tt c.requires.whole.space
 
 pub increase-requires-clause-few : goal.increase-requires-clause-few
-increase-requires-clause-few g c = (subst IsInRange c.in-Increase.is c.requires.in_range).1
+increase-requires-clause-few g c = (subst IsCommandInRange c.in-Increase.is c.requires.in_range).1
 
 pub returns-in-Increase-clause-serves : goal.returns-in-Increase-clause-serves
 returns-in-Increase-clause-serves g c = told _ _ _ _ _ _ _ c.in-Increase.is _ c.increase.ensures.serves
@@ -148,7 +148,7 @@ returns-in-TerminateCardUsage-clause-space g c =
     space_left _ _ _ _ _ _ _ _ c.terminate_card_usage.ensures (refl, tt) c.requires.whole.space
 
 pub verify-requires-clause-pin : goal.verify-requires-clause-pin
-verify-requires-clause-pin g c = subst IsInRange c.in-Verify.is c.requires.in_range
+verify-requires-clause-pin g c = subst IsCommandInRange c.in-Verify.is c.requires.in_range
 
 pub returns-in-Verify-clause-serves : goal.returns-in-Verify-clause-serves
 returns-in-Verify-clause-serves g c = silent _ _ _ _ _ _ _ c.in-Verify.is _ c.requires.empty c.verify.ensures
@@ -158,7 +158,7 @@ unfolding commits
 returns-in-Verify-clause-space g c = space_left _ _ _ _ _ _ _ _ c.verify.ensures (pin-files _ _) c.requires.whole.space
 
 pub change_reference_data-requires-clause-pin : goal.change_reference_data-requires-clause-pin
-change_reference_data-requires-clause-pin g c = subst IsInRange c.in-ChangeReferenceData.is c.requires.in_range
+change_reference_data-requires-clause-pin g c = subst IsCommandInRange c.in-ChangeReferenceData.is c.requires.in_range
 
 pub returns-in-ChangeReferenceData-clause-serves : goal.returns-in-ChangeReferenceData-clause-serves
 returns-in-ChangeReferenceData-clause-serves g c =
@@ -173,7 +173,7 @@ returns-in-ChangeReferenceData-clause-space g c =
     c.requires.whole.space
 
 pub reset_retry_counter-requires-clause-pin : goal.reset_retry_counter-requires-clause-pin
-reset_retry_counter-requires-clause-pin g c = subst IsInRange c.in-ResetRetryCounter.is c.requires.in_range
+reset_retry_counter-requires-clause-pin g c = subst IsCommandInRange c.in-ResetRetryCounter.is c.requires.in_range
 
 pub returns-in-ResetRetryCounter-clause-serves : goal.returns-in-ResetRetryCounter-clause-serves
 returns-in-ResetRetryCounter-clause-serves g c =
@@ -185,7 +185,7 @@ returns-in-ResetRetryCounter-clause-space g c =
     space_left _ _ _ _ _ _ _ _ c.reset_retry_counter.ensures (pin-files _ _) c.requires.whole.space
 
 pub change_requirement-requires-clause-pin : goal.change_requirement-requires-clause-pin
-change_requirement-requires-clause-pin g c = subst IsInRange c.in-ChangeRequirement.is c.requires.in_range
+change_requirement-requires-clause-pin g c = subst IsCommandInRange c.in-ChangeRequirement.is c.requires.in_range
 
 pub returns-in-ChangeRequirement-clause-serves : goal.returns-in-ChangeRequirement-clause-serves
 returns-in-ChangeRequirement-clause-serves g c =

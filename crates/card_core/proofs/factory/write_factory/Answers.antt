@@ -6,7 +6,7 @@ use Rattle.nvm_board.specs.laws.Torn.{length-written}
 use Rattle.block_chain.specs.declared.layout.TheConstants.{HEADER_PAGE}
 use Rattle.undo_journal.specs.laws.Exits.{on_then}
 use Rattle.card_core.specs.Factory.{IsWritten}
-use Rattle.block_chain.specs.Words.{page_words}
+use Rattle.block_chain.specs.BlockWords.{page_words}
 use Rattle.card_core.proofs.FactoryPages.{length-header, page_words-written, page_words-written_other}
 use Rattle.card_core.proofs.Powers.{answered_after, answered_handed}
 use Rattle.command_base.specs.laws.Stopping.{none-done}

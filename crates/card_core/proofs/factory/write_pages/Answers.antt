@@ -3,7 +3,7 @@ use Rattle.nvm_board.specs.Facts.{address}
 use Rattle.nvm_board.specs.laws.Aims.{aims_then, aims_written}
 use Rattle.nvm_board.specs.laws.Sizes.{page_within, pages_same}
 use Rattle.nvm_board.specs.laws.Torn.{length-written}
-use Rattle.block_chain.specs.Words.{page_words}
+use Rattle.block_chain.specs.BlockWords.{page_words}
 use Rattle.card_core.proofs.FactoryPages.{page_words-written, page_words-written_other}
 use Rattle.card_core.proofs.Powers.{answered_after, steady_then}
 use Rattle.card_core.proofs.FactoryPages.{length-factory_page}

@@ -2,7 +2,7 @@ use Rattle.std.proofs.Common.{◌≡◌, ◌<◌, ◌≤◌, ◌+◌, ℕ, lengt
 use Rattle.nvm_board.specs.Aims.{AimsOn}
 use Rattle.nvm_board.specs.Facts.{Steady}
 use Rattle.card_core.specs.Factory.{factory_page}
-use Rattle.block_chain.specs.Words.{page_words}
+use Rattle.block_chain.specs.BlockWords.{page_words}
 use Rattle.card_core.proofs.factory.write_pages.Given as goal
 
 abbrev pub invariant-loop-page : goal.invariant-loop-page

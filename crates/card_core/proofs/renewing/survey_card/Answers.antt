@@ -1,11 +1,11 @@
 use Rattle.std.proofs.Common.{ℕ, List, Some, None, sym, ◌∙◌, ap, subst, inl, inr}
-use Rattle.undo_journal.specs.Calls.{Changes}
+use Rattle.undo_journal.specs.StoreCalls.{Changes}
 use Rattle.undo_journal.specs.Memory.{committed}
 use Rattle.undo_journal.specs.laws.Told.{changes_after, changes_handed}
 use Rattle.file_tree.specs.Table.{table}
 use Rattle.command_base.specs.laws.CardLaws.{card_format}
 use Rattle.std.proofs.Common.{arith, ⊎_elim}
-use Rattle.block_chain.specs.Words.{word}
+use Rattle.block_chain.specs.BlockWords.{word}
 use Rattle.block_chain.specs.declared.layout.TheConstants.{HEADER_PAGE}
 use Rattle.file_tree.specs.declared.layout.TheConstants.{MARK_WORD}
 use Rattle.file_tree.specs.Indexes.{IsIndex}

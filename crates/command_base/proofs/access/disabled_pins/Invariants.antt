@@ -1,4 +1,4 @@
-use Rattle.undo_journal.specs.Calls.{OnlyReads}
+use Rattle.undo_journal.specs.StoreCalls.{OnlyReads}
 use Rattle.undo_journal.specs.Memory.{committed, IsReady}
 use Rattle.command_base.proofs.Disabled.{TellsMarks}
 use Rattle.command_base.proofs.access.disabled_pins.Given as goal

@@ -4,7 +4,7 @@ use Rattle.undo_journal.specs.Memory.{committed}
 use Rattle.undo_journal.specs.laws.Told.{reads_on}
 use Rattle.card_model.specs.Requests.{increase}
 use Rattle.card_model.specs.declared.requests.Target.TheVariants as target
-use Rattle.ef_body.specs.Bodies.{cyclic_records, IsCyclic}
+use Rattle.ef_body.specs.Bodies.{cyclic_body_records, IsCyclic}
 use Rattle.ef_body.specs.Refusals.{unraised}
 use Rattle.command_base.specs.declared.current.Current.{Current}
 use Rattle.command_base.specs.declared.stop.Stop.TheVariants.{Refused}
@@ -66,7 +66,7 @@ returns-in_err-slot g c =
     increase-unraised (committed c.args.store.now) c.requires.kept.ready.usable.committed_size c.requires.kept.card
     c.args.current.now _ c.in_ok-file.file found sent c.args.expected found.named.unrefused
     (sym c.is_too_long.ensures ∙ c.if-is_too_long.false) status
-    (ap (λ (l : List ℕ). unraised ring.record_length (cyclic_records l ring) sent)
+    (ap (λ (l : List ℕ). unraised ring.record_length (cyclic_body_records l ring) sent)
     (sym reads.keeps.committed_words) ∙ due)))
 
 pub answer_of-response-requires : goal.answer_of-response-requires

@@ -8,7 +8,8 @@ use Rattle.command_base.specs.Served.{Serves}
 use Rattle.command_base.specs.Working.{card_in, session_in}
 use Rattle.card_model.specs.laws.Guarding.{served-refused}
 use Rattle.content_commands.proofs.Halting.{halted-in-place}
-use Rattle.content_commands.proofs.AppendServes.{appended-body, appended-done, appended-few, appended-long, appended-space}
+use Rattle.content_commands.proofs.AppendServes.{appended-body, appended-done, appended-few, appended-long}
+use Rattle.content_commands.proofs.AppendServes.{appended-space}
 use Rattle.content_commands.proofs.AppendServes.{appended-torn, is-appendable}
 use Rattle.content_commands.proofs.RecordWrites.{append-decided, append-refused}
 use Rattle.command_base.specs.laws.Stopping.{none-failed, reply-failed}

@@ -4,7 +4,7 @@ use Rattle.undo_journal.specs.Memory.{committed}
 use Rattle.undo_journal.specs.laws.Calls.{reads_then}
 use Rattle.undo_journal.specs.laws.Told.{reads_on}
 use Rattle.card_model.specs.Requests.{read_record}
-use Rattle.ef_body.specs.Bodies.{cyclic_records}
+use Rattle.ef_body.specs.Bodies.{cyclic_body_records}
 use Rattle.card_state.specs.RecordLists.{record_of}
 use Rattle.command_base.specs.declared.current.Current.{Current}
 use Rattle.command_base.specs.declared.stop.Stop.TheVariants.{Refused}
@@ -42,10 +42,10 @@ returns-then-is_other_length g c =
     c.pointer_at-pointer.ensures c.in_ok-slot.ensures.found in
     let number = found.number_is in
     let has = chosen-has _ _ _ _ _ _ found in
-    let text : c.read.new.bytes.items ≡ record_of (cyclic_records (committed old) file.ring) (chosen_in file
+    let text : c.read.new.bytes.items ≡ record_of (cyclic_body_records (committed old) file.ring) (chosen_in file
     (pointer_from x
     c.args.target) c.args.choice) =
-    c.in_ok-read.ensures.bytes ∙ (λ i. record_of (cyclic_records (same i) (found.ring_is i)) (number i)) in
+    c.in_ok-read.ensures.bytes ∙ (λ i. record_of (cyclic_body_records (same i) (found.ring_is i)) (number i)) in
     let other = ap (λ (l : List ℕ). not (c.args.expected == 0) && not (c.args.expected == length l)) (sym text)
     ∙ sym c.is_other_length.ensures ∙ c.if-is_other_length.true in
     let status = ap right_length (sym text) ∙ sym c.right_length.ensures in
@@ -79,10 +79,10 @@ returns g c =
     c.pointer_at-pointer.ensures c.in_ok-slot.ensures.found in
     let number = found.number_is in
     let has = chosen-has _ _ _ _ _ _ found in
-    let text : c.read.new.bytes.items ≡ record_of (cyclic_records (committed old) file.ring) (chosen_in file
+    let text : c.read.new.bytes.items ≡ record_of (cyclic_body_records (committed old) file.ring) (chosen_in file
     (pointer_from x
     c.args.target) c.args.choice) =
-    c.in_ok-read.ensures.bytes ∙ (λ i. record_of (cyclic_records (same i) (found.ring_is i)) (number i)) in
+    c.in_ok-read.ensures.bytes ∙ (λ i. record_of (cyclic_body_records (same i) (found.ring_is i)) (number i)) in
     let whole = ap (λ (l : List ℕ). not (c.args.expected == 0) && not (c.args.expected == length l)) (sym text)
     ∙ sym c.is_other_length.ensures ∙ c.if-is_other_length.false in
     let pointer : c.pointer_after-after.result ≡ pointer_after (pointer_from x c.args.target) c.args.choice

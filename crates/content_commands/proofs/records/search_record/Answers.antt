@@ -4,8 +4,8 @@ use Rattle.undo_journal.specs.laws.Calls.{reads_then}
 use Rattle.undo_journal.specs.laws.Told.{reads_on}
 use Rattle.card_model.specs.declared.requests.RecordChoice.TheVariants.{At}
 use Rattle.card_model.specs.Requests.{search_record}
-use Rattle.ef_body.specs.Bodies.{cyclic_records}
-use Rattle.card_state.specs.RecordLists.{found as found_in}
+use Rattle.ef_body.specs.Bodies.{cyclic_body_records}
+use Rattle.card_state.specs.RecordLists.{records_found as found_in}
 use Rattle.command_base.specs.declared.current.Current.{Current}
 use Rattle.command_base.specs.declared.stop.Stop.TheVariants.{Refused}
 use Rattle.card_model.specs.Guards.{asks_less, given, right_length}
@@ -43,8 +43,9 @@ returns-then-asks_less g c =
     found.number_is in
     let has = chosen-has _ _ _ _ _ _ found in
     let numbers : c.search.new.numbers.items ≡ found_in c.args.direction (place_number c.args.first
-    (pointer_from x c.args.target)) c.args.text.now (cyclic_records (committed old) file.ring) =
-    c.in_ok-search.ensures.bytes ∙ (λ i. found_in c.args.direction (number i) c.args.text.now (cyclic_records (same i)
+    (pointer_from x c.args.target)) c.args.text.now (cyclic_body_records (committed old) file.ring) =
+    c.in_ok-search.ensures.bytes ∙ (λ i. found_in c.args.direction (number i) c.args.text.now (cyclic_body_records
+    (same i)
     (found.ring_is i))) in
     let less = ap (asks_less c.args.expected) (sym numbers) ∙ sym c.asks_less.ensures
     ∙ c.if-asks_less.true in
@@ -73,9 +74,10 @@ returns g c =
     let has = chosen-has _ _ _ _ _ _ found in
     let all : List ℕ = found_in c.args.direction (place_number c.args.first
     (pointer_from x c.args.target))
-    c.args.text.now (cyclic_records (committed old) file.ring) in
+    c.args.text.now (cyclic_body_records (committed old) file.ring) in
     let numbers : c.search.new.numbers.items ≡ all =
-    c.in_ok-search.ensures.bytes ∙ (λ i. found_in c.args.direction (number i) c.args.text.now (cyclic_records (same i)
+    c.in_ok-search.ensures.bytes ∙ (λ i. found_in c.args.direction (number i) c.args.text.now (cyclic_body_records
+    (same i)
     (found.ring_is i))) in
     let enough = ap (asks_less c.args.expected) (sym numbers) ∙ sym c.asks_less.ensures
     ∙ c.if-asks_less.false in

@@ -10,7 +10,8 @@ use Rattle.command_base.specs.Served.{Serves}
 use Rattle.command_base.specs.Working.{card_in, session_in}
 use Rattle.card_model.specs.laws.Guarding.{served-refused}
 use Rattle.content_commands.proofs.Halting.{halted-in-place}
-use Rattle.content_commands.proofs.UpdateServes.{replaced-body, replaced-done, replaced-few, replaced-long, replaced-space}
+use Rattle.content_commands.proofs.UpdateServes.{replaced-body, replaced-done, replaced-few, replaced-long}
+use Rattle.content_commands.proofs.UpdateServes.{replaced-space}
 use Rattle.content_commands.proofs.UpdateServes.{is-replaceable, replaced-torn}
 use Rattle.content_commands.proofs.RecordWrites.{need-replaces, replaces-records, update-decided, update-refused}
 use Rattle.command_base.specs.laws.Stopping.{none-failed, reply-failed}

@@ -4,10 +4,10 @@ use Rattle.undo_journal.specs.Lent.{memory_of}
 use Rattle.undo_journal.specs.Memory.{Memory, IsOpen}
 use Rattle.undo_journal.specs.laws.Endings.{ends, ends_answered, ends_by_gate, ends_done}
 use Rattle.undo_journal.specs.laws.Transactions.{begun}
-use Rattle.block_chain.specs.Changes.{touched_words, touched_blocks}
+use Rattle.block_chain.specs.ChainChanges.{touched_words, touched_blocks}
 use Rattle.ef_body.specs.declared.layout.TheConstants.{RECORD_WRITES}
 use Rattle.ef_body.specs.Bodies.{LieIn}
-use Rattle.ef_body.specs.Changes.{PutsRecord}
+use Rattle.ef_body.specs.BodyChanges.{PutsRecord}
 use Rattle.ef_body.proofs.Putting.{touched_few, touched_few_blocks}
 use Rattle.ef_body.proofs.writing.put_record.Goals as goal
 

@@ -4,7 +4,7 @@ use Rattle.undo_journal.specs.Memory.{current}
 use Rattle.undo_journal.specs.Lent.{memory_of}
 use Rattle.undo_journal.specs.laws.Calls.{runs_then, runs_weaker, sets_weaker}
 use Rattle.undo_journal.specs.laws.Told.{sets_in_on, sets_in_handed}
-use Rattle.block_chain.specs.Changes.{touched_blocks, touched_words}
+use Rattle.block_chain.specs.ChainChanges.{touched_blocks, touched_words}
 use Rattle.ef_body.proofs.Putting.{puts}
 use Rattle.ef_body.proofs.writing.set_record.Goals as goal
 

@@ -5,13 +5,13 @@ use Rattle.file_tree.specs.Table.{IsUsed}
 use Rattle.undo_journal.specs.laws.Exits.{none_ok}
 use Rattle.std.proofs.Common.{◌≡◌, ℕ, List, length, take, Option, None, Some, is_some, sym, ◌∙◌, ap, subst, arith}
 use Rattle.std.proofs.Common.{inl, inr, ⊎_elim, true≢false, refl}
-use Rattle.file_tree.specs.Changes.{SameTree}
+use Rattle.file_tree.specs.TreeChanges.{SameTree}
 use Rattle.undo_journal.specs.Memory.{Memory, committed, IsReady}
 use Rattle.file_tree.specs.Adding.{AddsByGate}
 use Rattle.card_state.specs.declared.fcp.Fcp.{Fcp}
 use Rattle.card_state.specs.FileControl.{IsCreatable, size_of_kind}
 use Rattle.block_chain.specs.Chains.{free_chain}
-use Rattle.block_chain.specs.Changes.{OnlyContent}
+use Rattle.block_chain.specs.ChainChanges.{OnlyContent}
 use Rattle.file_tree.specs.declared.entry.Entry.{Entry}
 use Rattle.file_changes.specs.declared.placing.Place.{Place}
 use Rattle.file_changes.specs.declared.placing.Place.TheVariants.{At}

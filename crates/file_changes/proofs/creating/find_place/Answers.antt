@@ -55,7 +55,8 @@ returns-in-Some g c = record {
 pub returns-in-None : goal.returns-in-None
 returns-in-None g c = record {
   told = IfOk-weaker c.place_for.result _ _
-      (λ place told. place_told (committed c.args.store.now) (committed c.taken.new.store) c.args.df c.args.fcp.now place
+      (λ place told. place_told (committed c.args.store.now)
+      (committed c.taken.new.store) c.args.df c.args.fcp.now place
       c.taken.ensures.store.only.keeps.committed_words (sym c.in_ok-status.ensures.told ∙ c.in-None.is) told)
       c.place_for.ensures.told;
   store = reads_on _ _ _ _ c.taken.ensures.store.only c.place_for.ensures.store;

@@ -2,7 +2,7 @@ use Rattle.std.proofs.Common.{◌≡◌, ◌≢◌, ◌+◌, ◌<◌, ℕ, List,
 use Rattle.nvm_board.specs.Facts.{address}
 use Rattle.undo_journal.specs.Memory.{current, IsOpen}
 use Rattle.undo_journal.specs.Lent.{memory_of}
-use Rattle.undo_journal.specs.Calls.{Sets}
+use Rattle.undo_journal.specs.StoreCalls.{Sets}
 use Rattle.undo_journal.specs.laws.Calls.{sets_then, sets_weaker}
 use Rattle.file_tree.specs.declared.entry.Entry.{Entry}
 use Rattle.file_tree.specs.declared.layout.TheConstants.{FIRST_ENTRY_PAGE}

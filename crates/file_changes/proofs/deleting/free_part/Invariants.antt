@@ -1,6 +1,6 @@
 use Rattle.undo_journal.specs.Memory.{current, IsOpen}
 use Rattle.undo_journal.specs.Lent.{memory_of}
-use Rattle.undo_journal.specs.Calls.{Sets}
+use Rattle.undo_journal.specs.StoreCalls.{Sets}
 use Rattle.file_changes.specs.DeletionParts.{FreesUpTo}
 use Rattle.file_changes.proofs.deleting.free_part.Given as goal
 

@@ -12,7 +12,7 @@ use Rattle.file_tree.specs.States.{ChangesLife}
 use Rattle.card_state.specs.FileLives.{life_at}
 use Rattle.file_tree.specs.Table.{table, entry_in, path_of, IsUsed}
 use Rattle.file_tree.specs.Trees.{tree_of, TreeStands}
-use Rattle.file_tree.specs.Parts.{TellsLife}
+use Rattle.file_tree.specs.TreeParts.{TellsLife}
 use Rattle.file_tree.specs.laws.Nodes.{used_small}
 use Rattle.file_changes.specs.laws.LifeChanges.{life_written, life_changed, life_stays, byte_of_state}
 use Rattle.undo_journal.specs.laws.Transactions.{by_gate_after}

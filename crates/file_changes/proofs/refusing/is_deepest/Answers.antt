@@ -69,7 +69,8 @@ returns g c = record {
   told = let t = table (committed c.args.store.now) in
       let n = 7 - c.loop-step._step in
       let none : n ≡ 0 = omega (arith, c.loop-step-test.false) in
-      let is : ancestor t 6 c.args.df ≡ c.loop-step.at = c.loop-step.invariant.left ∙ ancestor-none t n c.loop-step.at none in
+      let is : ancestor t 6 c.args.df
+      ≡ c.loop-step.at = c.loop-step.invariant.left ∙ ancestor-none t n c.loop-step.at none in
       rw is (search rules);
   store = reads_so_far _ _ c.loop-step.invariant.reads c.loop-step.invariant.ready;
 }

@@ -8,7 +8,8 @@ use Rattle.card_model.specs.Requests.{create_file}
 use Rattle.command_base.specs.declared.current.Current.{Current}
 use Rattle.command_base.specs.Served.{Serves}
 use Rattle.command_base.specs.Working.{card_in, session_in}
-use Rattle.file_commands.proofs.CreateServes.{created-counts, created-done, created-torn, creation-refused, creation-taken}
+use Rattle.file_commands.proofs.CreateServes.{created-counts, created-done, created-torn, creation-refused}
+use Rattle.file_commands.proofs.CreateServes.{creation-taken}
 use Rattle.file_commands.proofs.CreateServes.{creation-taken-one, creation-torn, creation-used}
 use Rattle.file_commands.proofs.FileSteps.{create-refusal}
 use Rattle.command_base.specs.laws.Readings.{index_still}

@@ -6,7 +6,7 @@ use Rattle.card_state.specs.FileLives.{bars, is_barred}
 use Rattle.file_tree.specs.Table.{table, entry_in, path_of, IsUsed}
 use Rattle.file_tree.specs.Trees.{tree_of, TreeStands}
 use Rattle.file_tree.specs.Entries.{life_told}
-use Rattle.file_tree.specs.Parts.{barred_up}
+use Rattle.file_tree.specs.States.{barred_up}
 use Rattle.file_tree.specs.laws.Barring.{barred_told, life_told_there}
 use Rattle.undo_journal.specs.laws.Told.{reads_none}
 use Rattle.file_tree.proofs.barring.is_barred_at.Goals as goal

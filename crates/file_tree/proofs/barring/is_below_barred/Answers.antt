@@ -8,7 +8,7 @@ use Rattle.file_tree.specs.declared.entry.EntryHead.{EntryHead}
 use Rattle.file_tree.specs.Entries.{head_of, life_told, state_told}
 use Rattle.card_state.specs.FileLives.{bars}
 use Rattle.file_tree.specs.Table.{table, entry_in, IsUsed, IsTable}
-use Rattle.file_tree.specs.Parts.{barred_up}
+use Rattle.file_tree.specs.States.{barred_up}
 use Rattle.file_tree.specs.laws.Barring.{barred_up-master, barred_up-none, barred_up-step}
 use Rattle.file_tree.specs.laws.Nodes.{used_small}
 use Rattle.file_tree.specs.laws.Paths.{parent_used}

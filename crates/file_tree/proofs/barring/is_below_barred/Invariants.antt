@@ -1,8 +1,8 @@
 use Rattle.std.proofs.Common.{◌≡◌, ◌-◌}
 use Rattle.undo_journal.specs.Memory.{committed, IsReady}
-use Rattle.undo_journal.specs.Calls.{OnlyReads}
+use Rattle.undo_journal.specs.StoreCalls.{OnlyReads}
 use Rattle.file_tree.specs.Table.{table, entry_in, IsUsed}
-use Rattle.file_tree.specs.Parts.{barred_up}
+use Rattle.file_tree.specs.States.{barred_up}
 use Rattle.file_tree.proofs.barring.is_below_barred.Given as goal
 
 -- `at` is a file that was met, `above` its parent; what stands above `at` is left to be told

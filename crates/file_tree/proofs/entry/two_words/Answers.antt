@@ -1,7 +1,7 @@
 use Rattle.std.specs.Prelude.{◌≡◌, ◌<◌, ◌+◌, ◌*◌, ◌/◌, ◌%◌, [], ◌∷◌, ◌++◌, ℕ}
 use Rattle.std.specs.Int.{w64, to_be_bytes}
 use Rattle.std.proofs.Common.{rules, ◌∙◌, ap₂, List, arith}
-use Rattle.block_chain.specs.Words.{word_bytes}
+use Rattle.block_chain.specs.BlockWords.{word_bytes}
 use Rattle.file_tree.proofs.entry.two_words.Goals as goal
 
 -- the bytes of a word above another one

@@ -1,7 +1,7 @@
 use Rattle.std.proofs.Common.{ℕ, List, Option, None, Some, IfSome}
 use Rattle.file_tree.specs.declared.entry.Entry.{Entry}
 use Rattle.file_tree.specs.Table.{table, IsChild}
-use Rattle.file_tree.specs.Parts.{TellsShort}
+use Rattle.file_tree.specs.TreeParts.{TellsShort}
 use Rattle.std.proofs.Common.{◌≢◌, arith}
 use Rattle.undo_journal.specs.Memory.{committed}
 use Rattle.file_tree.specs.laws.Shorts.{short_named, short_found}

@@ -5,7 +5,7 @@ use Rattle.std.proofs.Common.{true≢false}
 use Rattle.file_tree.specs.declared.entry.Entry.{Entry}
 use Rattle.file_tree.specs.declared.entry.EntryHead.{EntryHead}
 use Rattle.file_tree.specs.Entries.{head_of}
-use Rattle.file_tree.specs.Parts.{IsShortChild}
+use Rattle.file_tree.specs.TreeParts.{IsShortChild}
 use Rattle.file_tree.specs.Table.{table, entry_in}
 use Rattle.file_tree.specs.laws.LookUps.{child_there, no_child_there}
 use Rattle.undo_journal.specs.Memory.{committed}

@@ -3,7 +3,7 @@ use Rattle.undo_journal.specs.Memory.{committed}
 use Rattle.undo_journal.specs.laws.Exits.{none_ok}
 use Rattle.undo_journal.specs.laws.Told.{reads_none, reads_handed}
 use Rattle.file_tree.specs.Table.{table}
-use Rattle.file_tree.specs.Parts.{TellsBeside}
+use Rattle.file_tree.specs.TreeParts.{TellsBeside}
 use Rattle.file_tree.specs.laws.LookUps.{told_above_used, reached_child, reached_beside, reached_above}
 use Rattle.file_tree.proofs.look_up.select.Goals as goal
 

@@ -1,4 +1,5 @@
-use Rattle.std.proofs.Common.{rules, ◌≡◌, ◌≤◌, ◌<◌, ◌↔◌, ◌∙◌, ℕ, List, IsTrue, length, sym, ap, subst, arith, below_more}
+use Rattle.std.proofs.Common.{rules, ◌≡◌, ◌≤◌, ◌<◌, ◌↔◌, ◌∙◌, ℕ, List, IsTrue, length, sym, ap, subst, arith}
+use Rattle.std.proofs.Common.{below_more}
 use Rattle.std.proofs.Common.{true≢false}
 use Rattle.undo_journal.specs.Memory.{committed}
 use Rattle.undo_journal.specs.laws.Calls.{reads_then}

@@ -1,6 +1,6 @@
 use Rattle.std.proofs.Common.{◌≡◌, length, take}
 use Rattle.undo_journal.specs.Memory.{committed, IsReady}
-use Rattle.undo_journal.specs.Calls.{OnlyReads}
+use Rattle.undo_journal.specs.StoreCalls.{OnlyReads}
 use Rattle.file_tree.specs.Table.{table}
 use Rattle.file_tree.proofs.reading.fill_table.Given as goal
 

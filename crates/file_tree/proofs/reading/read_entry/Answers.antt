@@ -1,7 +1,7 @@
 use Rattle.undo_journal.specs.laws.Exits.{none_ok}
 use Rattle.std.proofs.Common.{◌+◌, sym, ◌∙◌, arith}
 use Rattle.undo_journal.specs.Memory.{committed}
-use Rattle.block_chain.specs.Words.{page_words}
+use Rattle.block_chain.specs.BlockWords.{page_words}
 use Rattle.block_chain.specs.laws.Words.{index-page_words}
 use Rattle.file_tree.specs.laws.Tables.{entry_of-same, entry_in-table}
 use Rattle.undo_journal.specs.laws.Told.{reads_handed}

@@ -3,7 +3,7 @@ use Rattle.std.proofs.Common.{◌≡◌, ◌+◌, ℕ, Bool, List, if◌then◌e
 use Rattle.std.proofs.lemmas.Bool.Decides.{eqb_tells}
 use Rattle.nvm_board.specs.Facts.{address}
 use Rattle.undo_journal.specs.Memory.{committed}
-use Rattle.block_chain.specs.Words.{word, page_words}
+use Rattle.block_chain.specs.BlockWords.{word, page_words}
 use Rattle.block_chain.specs.laws.Words.{index-page_words}
 use Rattle.file_tree.specs.declared.entry.Entry.{Entry}
 use Rattle.file_tree.specs.declared.entry.EntryHead.{EntryHead}

@@ -1,6 +1,6 @@
 use Rattle.std.proofs.Common.{◌≡◌, ◌+◌, slice_index, sym, ◌∙◌, ap, arith}
 use Rattle.undo_journal.specs.Memory.{committed}
-use Rattle.block_chain.specs.Words.{page_words}
+use Rattle.block_chain.specs.BlockWords.{page_words}
 use Rattle.block_chain.specs.laws.Words.{index-page_words}
 use Rattle.undo_journal.specs.laws.Told.{reads_on}
 use Rattle.file_tree.specs.laws.Tables.{entry_of-free, entry_in-table}

@@ -1,7 +1,7 @@
 use Rattle.std.proofs.Common.{◌≡◌, ◌<◌, ◌+◌, ℕ, length, slice_index}
 use Rattle.undo_journal.specs.Memory.{committed, IsReady}
-use Rattle.undo_journal.specs.Calls.{OnlyReads}
-use Rattle.block_chain.specs.Words.{word}
+use Rattle.undo_journal.specs.StoreCalls.{OnlyReads}
+use Rattle.block_chain.specs.BlockWords.{word}
 use Rattle.file_tree.proofs.reading.read_words.Given as goal
 
 abbrev pub invariant-loop-k : goal.invariant-loop-k

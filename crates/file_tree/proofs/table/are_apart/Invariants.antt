@@ -1,6 +1,6 @@
 use Rattle.std.proofs.Common.{◌<◌, ℕ}
 use Rattle.file_tree.specs.Table.{IsUsed}
-use Rattle.file_tree.specs.Parts.{IsAlone}
+use Rattle.file_tree.specs.TreeParts.{IsAlone}
 use Rattle.file_tree.proofs.table.are_apart.Given as goal
 
 abbrev pub invariant-loop-e : goal.invariant-loop-e

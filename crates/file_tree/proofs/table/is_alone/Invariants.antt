@@ -1,6 +1,6 @@
 use Rattle.std.proofs.Common.{◌<◌, ℕ}
 use Rattle.file_tree.specs.Table.{entry_in, IsUsed}
-use Rattle.file_tree.specs.Parts.{Alike}
+use Rattle.file_tree.specs.TreeParts.{Alike}
 use Rattle.file_tree.proofs.table.is_alone.Given as goal
 
 abbrev pub invariant-loop-f : goal.invariant-loop-f

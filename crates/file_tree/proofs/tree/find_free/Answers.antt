@@ -2,7 +2,7 @@ use Rattle.undo_journal.specs.laws.Exits.{none_ok}
 use Rattle.std.proofs.Common.{◌≡◌, ℕ, List, Option, Some, None, length, refl, ◌∙◌, ap, subst}
 use Rattle.undo_journal.specs.Memory.{committed}
 use Rattle.block_chain.specs.declared.chain.Extent.{Extent}
-use Rattle.block_chain.specs.Layout.{TellsFree}
+use Rattle.block_chain.specs.Layout.{TellsFreeBlocks}
 use Rattle.file_tree.specs.declared.entry.Entry.{Entry}
 use Rattle.file_tree.specs.laws.Tables.{length-table}
 use Rattle.file_tree.specs.laws.Telling.{space_told}
@@ -25,9 +25,9 @@ count_free-entries-requires g c =
     ap (λ (t : List Entry). length t) c.requires.read ∙ length-table (committed c.args.store.now)
 
 -- what was found of the blocks, where they lie as they should and where not
-found_is : (n : ℕ) (now : List ℕ) (es : List Extent) (o answer : Option ℕ) → o ≡ answer → TellsFree n now es o
-    → TellsFree n now es answer
-found_is n now es o answer is told = subst (λ (r : Option ℕ). TellsFree n now es r) is told
+found_is : (n : ℕ) (now : List ℕ) (es : List Extent) (o answer : Option ℕ) → o ≡ answer → TellsFreeBlocks n now es o
+    → TellsFreeBlocks n now es answer
+found_is n now es o answer is told = subst (λ (r : Option ℕ). TellsFreeBlocks n now es r) is told
 
 pub returns-in_err-blocks-clause-tree : goal.returns-in_err-blocks-clause-tree
 returns-in_err-blocks-clause-tree g c = none_ok _ _ _ c.from_residual-in_err-blocks.ensures.1
@@ -70,7 +70,7 @@ returns-clause-tree g c =
     let m = committed c.args.store.now in
     let count : c.in-Some.count ≡ block_count m = counted m m _ _ _ _ refl c.in-Some.is c.in_ok-count.ensures.count in
     let family : ℕ → Type 0 =
-    λ n. TellsFree n (committed c.read_block_count.new.store) c.as_slice.result.now (Some c.in-Some-2.blocks) in
+    λ n. TellsFreeBlocks n (committed c.read_block_count.new.store) c.as_slice.result.now (Some c.in-Some-2.blocks) in
     space_told m (committed c.read_block_count.new.store) c.args.all.now c.as_slice.result.now (Some c.in-Some-2.blocks)
     _ c.requires.ready.usable.committed_size c.read_block_count.ensures.store.only.keeps.committed_words c.requires.read
     (c.as_slice.ensures.value ∙ c.extents_of-extents.ensures) c.requires.rules

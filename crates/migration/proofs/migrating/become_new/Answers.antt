@@ -6,7 +6,7 @@ use Rattle.undo_journal.specs.Memory.{Memory, commit_writes, IsIdle, IsOpen}
 use Rattle.undo_journal.specs.laws.Endings.{ends, ends_counted, ends_done, ends_within}
 use Rattle.undo_journal.specs.laws.Transactions.{stays}
 use Rattle.migration.specs.declared.migrating.TheConstants.{RENAME_WRITES}
-use Rattle.migration.specs.Parts.{IsRenamed}
+use Rattle.migration.specs.MigratingParts.{IsRenamed}
 use Rattle.migration.proofs.migrating.become_new.Goals as goal
 
 pub rename-work-requires-clause-ready : goal.rename-work-requires-clause-ready

@@ -1,8 +1,8 @@
 use Rattle.std.specs.Prelude.{◌≤◌, ◌-◌}
 use Rattle.undo_journal.specs.Memory.{current, IsIdle, IsOpen}
 use Rattle.undo_journal.specs.Lent.{memory_of}
-use Rattle.undo_journal.specs.Calls.{Sets}
-use Rattle.migration.specs.Parts.{MarksPins}
+use Rattle.undo_journal.specs.StoreCalls.{Sets}
+use Rattle.migration.specs.MigratingParts.{MarksPins}
 use Rattle.migration.proofs.Costs.{AreMarked}
 use Rattle.migration.proofs.migrating.mark_pins.Given as goal
 

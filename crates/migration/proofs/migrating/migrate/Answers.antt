@@ -4,8 +4,8 @@ use Rattle.std.proofs.lemmas.Result.{on_ok_weaker}
 use Rattle.undo_journal.specs.Memory.{committed}
 use Rattle.undo_journal.specs.laws.Told.{changes_after, changes_on, changes_handed, changes_within}
 use Rattle.block_chain.specs.Chains.{free_chain}
-use Rattle.block_chain.specs.Words.{word}
-use Rattle.block_chain.specs.Changes.{LinksAlone, AreLinked}
+use Rattle.block_chain.specs.BlockWords.{word}
+use Rattle.block_chain.specs.ChainChanges.{LinksAlone, AreLinked}
 use Rattle.block_chain.specs.declared.layout.TheConstants.{HEADER_PAGE, FREE_HEAD_WORD}
 use Rattle.block_chain.specs.laws.Chains.{head_small}
 use Rattle.file_tree.specs.declared.layout.TheConstants.{MARK_WORD, OLD_END_PAGE}

@@ -1,5 +1,5 @@
 use Rattle.std.proofs.Common.{◌≡◌, Err, Result, subst, rules}
-use Rattle.undo_journal.specs.Calls.{Changes}
+use Rattle.undo_journal.specs.StoreCalls.{Changes}
 use Rattle.undo_journal.specs.Memory.{Memory}
 use Rattle.undo_journal.specs.laws.Told.{changes_after}
 use Rattle.pin_store.specs.Trials.{store_failure}

@@ -1,6 +1,6 @@
 use Rattle.std.proofs.Common.{◌≡◌, ◌<◌, ◌≤◌, ℕ, refl, slice_index, sym, ◌∙◌, true≢false, below_more, arith, rules}
 use Rattle.nvm_board.specs.Facts.{address}
-use Rattle.undo_journal.specs.Calls.{OnlyReads}
+use Rattle.undo_journal.specs.StoreCalls.{OnlyReads}
 use Rattle.undo_journal.specs.Memory.{Memory, committed, current}
 use Rattle.undo_journal.specs.laws.Calls.{reads_same, reads_then}
 use Rattle.undo_journal.specs.laws.Told.{reads_handed, reads_on, reads_so_far}

@@ -1,6 +1,6 @@
 use Rattle.std.proofs.Common.{◌<◌, ◌≤◌, ℕ}
 use Rattle.undo_journal.specs.Memory.{committed, IsReady}
-use Rattle.undo_journal.specs.Calls.{OnlyReads}
+use Rattle.undo_journal.specs.StoreCalls.{OnlyReads}
 use Rattle.pin_store.specs.Pages.{pin_word}
 use Rattle.pin_store.proofs.checking.are_at_most.Given as goal
 

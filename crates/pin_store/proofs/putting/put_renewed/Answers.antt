@@ -3,7 +3,7 @@ use Rattle.undo_journal.specs.Lent.{memory_of}
 use Rattle.undo_journal.specs.Memory.{Memory, IsOpen}
 use Rattle.undo_journal.specs.laws.Endings.{ends, ends_answered, ends_by_gate, ends_counted, ends_done}
 use Rattle.card_state.specs.Secrets.{owner}
-use Rattle.pin_store.specs.RenewalParts.{renewal_runs, renewal_sets, renewal_writes, renewed_pin}
+use Rattle.pin_store.specs.RenewalParts.{renewal_runs, renewal_sets, renewing_writes, renewed_pin}
 use Rattle.pin_store.specs.Pages.{pin_at, SetsPin}
 use Rattle.pin_store.specs.laws.AllPins.{renewed_pages}
 use Rattle.pin_store.proofs.putting.put_renewed.Goals as goal
@@ -32,11 +32,11 @@ returns g c =
           set.store.sets.kept c.end.ensures.any_exit;
       pages = λ pages. renewed_pages _ _ c.args.renewal c.args.secret pages either;
       store = ends_answered (renewal_sets c.args.renewal) (renewal_runs c.args.renewal)
-          (renewal_writes c.args.renewal) c.set_renewed-work.result c.end.result _ _
+          (renewing_writes c.args.renewal) c.set_renewed-work.result c.end.result _ _
           (memory_of c.set_renewed-work.new.txn) _ _ (omega arith) c.begin-txn.ensures.same last c.requires.ready
           set.store.sets.taken set.store.sets.reports set.runs set.store.tells c.end.ensures.store
           c.end.ensures.answered;
-      counted = ends_counted (renewal_writes c.args.renewal) c.set_renewed-work.result c.end.result _ _
+      counted = ends_counted (renewing_writes c.args.renewal) c.set_renewed-work.result c.end.result _ _
           (memory_of c.set_renewed-work.new.txn) _ _ c.begin-txn.ensures.same last c.requires.ready set.counted
           c.end.ensures.answered c.end.ensures.counted;
     }

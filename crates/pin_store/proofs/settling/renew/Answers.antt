@@ -1,5 +1,5 @@
 use Rattle.std.proofs.Common.{inl, rules}
-use Rattle.pin_store.specs.RenewalParts.{renewal_writes, renewed_pin}
+use Rattle.pin_store.specs.RenewalParts.{renewing_writes, renewed_pin}
 use Rattle.pin_store.specs.Trials.{pin_in}
 use Rattle.pin_store.proofs.Settled.{pages_stay, compares_more, compares_then, match_told, matched_sets}
 use Rattle.pin_store.proofs.Settled.{matched_sets_or_not, end_told}
@@ -14,13 +14,13 @@ returns-in_err-outcome g c = record {
   by_gate = search rules;
   pages = pages_stay _ _ c.compare.ensures.kept c.requires.pages;
   store = search rules;
-  spends = compares_more (renewal_writes c.args.renewal) _ _ _ c.compare.ensures.spends;
+  spends = compares_more (renewing_writes c.args.renewal) _ _ _ c.compare.ensures.spends;
   counted = search rules;
 }
 
 pub returns-in_err-put_renewed : goal.returns-in_err-put_renewed
 returns-in_err-put_renewed g c = record {
-  any_exit = matched_sets_or_not (renewal_writes c.args.renewal) c.args.charged c.secret-secret.result
+  any_exit = matched_sets_or_not (renewing_writes c.args.renewal) c.args.charged c.secret-secret.result
       c.args.shown.now
       (renewed_pin c.args.renewal) _ _ _
       c.secret-secret.ensures.secret (match_told c.args.charged c.args.shown.now c.args.store.now c.compare.new.store
@@ -33,14 +33,14 @@ returns-in_err-put_renewed g c = record {
   pages = c.put_renewed.ensures.pages (pages_stay _ _ c.compare.ensures.kept c.requires.pages);
   store = leaves_handed _ _ _ _ c.from_residual-in_err-put_renewed.ensures.1
       (leaves_on _ _ _ _ c.compare.ensures.store.reports (changes_leave _ _ _ _ c.in_err-put_renewed.ensures.store));
-  spends = compares_then (renewal_writes c.args.renewal) _ _ _ _ c.compare.ensures.spends
+  spends = compares_then (renewing_writes c.args.renewal) _ _ _ _ c.compare.ensures.spends
       c.put_renewed.ensures.store.writes;
   counted = search rules;
 }
 
 pub returns-in_ok-put_renewed : goal.returns-in_ok-put_renewed
 returns-in_ok-put_renewed g c = record {
-  any_exit = matched_sets_or_not (renewal_writes c.args.renewal) c.args.charged c.secret-secret.result
+  any_exit = matched_sets_or_not (renewing_writes c.args.renewal) c.args.charged c.secret-secret.result
       c.args.shown.now
       (renewed_pin c.args.renewal) _ _ _
       c.secret-secret.ensures.secret (match_told c.args.charged c.args.shown.now c.args.store.now c.compare.new.store
@@ -50,7 +50,7 @@ returns-in_ok-put_renewed g c = record {
   done = end_told c.args.charged c.args.shown.now
       (renewed_pin c.args.renewal (pin_in c.args.store.now c.args.charged))
       c.args.store.now c.put_renewed.new.store c.in_ok-outcome.outcome c.in-Matched.is
-      (matched_sets (renewal_writes c.args.renewal) c.args.charged c.secret-secret.result c.args.shown.now
+      (matched_sets (renewing_writes c.args.renewal) c.args.charged c.secret-secret.result c.args.shown.now
       (renewed_pin c.args.renewal) _ _ _
       c.secret-secret.ensures.secret (match_told c.args.charged c.args.shown.now c.args.store.now c.compare.new.store
       c.in_ok-outcome.outcome c.in-Matched.is c.in_ok-outcome.ensures.done) c.compare.ensures.kept
@@ -59,7 +59,7 @@ returns-in_ok-put_renewed g c = record {
   by_gate = search rules;
   pages = c.put_renewed.ensures.pages (pages_stay _ _ c.compare.ensures.kept c.requires.pages);
   store = leaves_on _ _ _ _ c.compare.ensures.store.reports (changes_leave _ _ _ _ c.in_ok-put_renewed.ensures.store);
-  spends = compares_then (renewal_writes c.args.renewal) _ _ _ _ c.compare.ensures.spends
+  spends = compares_then (renewing_writes c.args.renewal) _ _ _ _ c.compare.ensures.spends
       c.put_renewed.ensures.store.writes;
   counted = search rules;
 }
@@ -71,6 +71,6 @@ returns-in_default g c = record {
   by_gate = search rules;
   pages = pages_stay _ _ c.compare.ensures.kept c.requires.pages;
   store = search rules;
-  spends = compares_more (renewal_writes c.args.renewal) _ _ _ c.compare.ensures.spends;
+  spends = compares_more (renewing_writes c.args.renewal) _ _ _ c.compare.ensures.spends;
   counted = search rules;
 }

@@ -4,7 +4,7 @@ use Rattle.std.proofs.lemmas.Result.{on_ok_weaker}
 use Rattle.nvm_board.specs.laws.Aims.{aims_same}
 use Rattle.undo_journal.specs.declared.batch.Waiting.{Waiting}
 use Rattle.undo_journal.specs.Undo.{data_words}
-use Rattle.undo_journal.specs.Batches.{overlay, look_up, batch_writes, AreSets, joined}
+use Rattle.undo_journal.specs.Batches.{overlay, look_up, batch_writes, AreSets, with_set}
 use Rattle.undo_journal.proofs.Waits.{sets-joined, joined-length, sets-ascend}
 use Rattle.undo_journal.proofs.Costing.{join-costs, join-goes_on, join-current, join-waits, below-full, full-length}
 use Rattle.std.specs.Prelude.{if◌then◌else◌}
@@ -153,7 +153,7 @@ returns-clause-next g c =
 pub returns-then-is_full-clause-joins : goal.returns-then-is_full-clause-joins
 returns-then-is_full-clause-joins g c =
     let before = c.args.batch.now in
-    let sets : c.join.new.sets.items ≡ joined c.args.new before.waiting.items = c.join.ensures in
+    let sets : c.join.new.sets.items ≡ with_set c.args.new before.waiting.items = c.join.ensures in
     on_ok_weaker c.flush.result (λ counted. inr (record {
       full = ap (λ (l : List Waiting). length l) (sym sets)
           ∙ full-length _ (sym c.is_full.ensures.value ∙ c.if-is_full.true);
@@ -178,7 +178,7 @@ returns-clause-joins g c =
 pub returns-then-is_full-clause-spends : goal.returns-then-is_full-clause-spends
 returns-then-is_full-clause-spends g c =
     let before = working (g.B.Board.facts c.args.board.now) c.args.batch.now in
-    let sets = joined c.args.new c.args.batch.now.waiting.items in
+    let sets = with_set c.args.new c.args.batch.now.waiting.items in
     let full : (length sets == BATCH) ≡ true =
     ap (λ (l : List Waiting). length l == BATCH) (sym c.join.ensures)
     ∙ (sym c.is_full.ensures.value ∙ c.if-is_full.true) in

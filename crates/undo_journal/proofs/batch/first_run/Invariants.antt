@@ -1,5 +1,5 @@
 use Rattle.std.proofs.Common.{◌≡◌, ◌≤◌, ◌+◌, ◌-◌, ◌++◌, length, drop}
-use Rattle.undo_journal.specs.Parts.{run_words, first_words}
+use Rattle.undo_journal.specs.JournalParts.{run_words, first_words}
 use Rattle.undo_journal.proofs.batch.first_run.Given as goal
 
 abbrev pub invariant-loop-words : goal.invariant-loop-words

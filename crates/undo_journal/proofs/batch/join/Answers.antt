@@ -1,6 +1,6 @@
 use Rattle.std.proofs.Common.{◌≡◌, ◌<◌, ℕ, List, length, get_or, slice_set, insert, sym, ◌∙◌, ap, ap₂, subst, arith}
 use Rattle.undo_journal.specs.declared.batch.Waiting.{Waiting}
-use Rattle.undo_journal.specs.Parts.{before, IsLastBelow}
+use Rattle.undo_journal.specs.JournalParts.{before, IsLastBelow}
 use Rattle.undo_journal.proofs.Waits.{replaced-joined, inserted-joined, before-length, refill-set, joined-behind}
 use Rattle.undo_journal.proofs.batch.join.Goals as goal
 use Rattle.undo_journal.proofs.batch.join.Goals.{else-place-len-via-then-place-len+else-deref-place}
@@ -25,7 +25,8 @@ pub returns-then-is_behind : goal.returns-then-is_behind
 returns-then-is_behind c =
     let items = c.args.sets.now.items in
     let last : IsLastBelow c.args.new.at items =
-    subst (λ (l : List Waiting). IsLastBelow c.args.new.at l) c.deref.ensures.0 (c.is_behind.ensures c.if-is_behind.true)
+    subst (λ (l : List Waiting). IsLastBelow c.args.new.at l) c.deref.ensures.0
+    (c.is_behind.ensures c.if-is_behind.true)
     in
     c.push.ensures.items ∙ sym (joined-behind c.args.new items 0 c.requires.sorted last)
 

@@ -1,5 +1,5 @@
 use Rattle.std.proofs.Common.{◌≡◌, ◌≤◌, ◌+◌, ◌-◌, length, drop}
-use Rattle.undo_journal.specs.Parts.{before}
+use Rattle.undo_journal.specs.JournalParts.{before}
 use Rattle.undo_journal.proofs.batch.place_of.Given as goal
 
 abbrev pub invariant-loop-place : goal.invariant-loop-place

@@ -4,7 +4,7 @@ use Rattle.std.proofs.lemmas.List.{drop_more}
 use Rattle.nvm_board.specs.laws.Aims.{aims_stay}
 use Rattle.undo_journal.specs.declared.batch.Waiting.{Waiting}
 use Rattle.undo_journal.specs.Batches.{AreSets}
-use Rattle.undo_journal.specs.Parts.{pair_words}
+use Rattle.undo_journal.specs.JournalParts.{pair_words}
 use Rattle.undo_journal.proofs.Telling.{steady_then}
 use Rattle.undo_journal.proofs.Waits.{sets-lower}
 use Rattle.undo_journal.proofs.batch.saved_pairs.Goals as goal

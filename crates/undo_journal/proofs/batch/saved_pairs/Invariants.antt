@@ -2,7 +2,7 @@ use Rattle.std.proofs.Common.{◌≡◌, ◌*◌, ◌++◌, length, drop}
 use Rattle.nvm_board.specs.Facts.{Steady}
 use Rattle.undo_journal.specs.Spending.{KeepsBoard}
 use Rattle.undo_journal.specs.Batches.{AreSets}
-use Rattle.undo_journal.specs.Parts.{pair_words}
+use Rattle.undo_journal.specs.JournalParts.{pair_words}
 use Rattle.undo_journal.proofs.batch.saved_pairs.Given as goal
 
 abbrev pub invariant-loop-set : goal.invariant-loop-set

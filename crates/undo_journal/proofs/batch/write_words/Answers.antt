@@ -2,7 +2,7 @@ use Rattle.std.proofs.Common.{rules, ◌≡◌, ◌<◌, ℕ, List, length, drop
 use Rattle.nvm_board.specs.laws.Aims.{aims_then, aims_written}
 use Rattle.undo_journal.specs.declared.batch.Waiting.{Waiting}
 use Rattle.undo_journal.specs.Batches.{AreSets, runs_from}
-use Rattle.undo_journal.specs.Parts.{first_words}
+use Rattle.undo_journal.specs.JournalParts.{first_words}
 use Rattle.undo_journal.proofs.Telling.{steady_then}
 use Rattle.undo_journal.proofs.RunLaws.{turn-few, turn-inside, turn-runs, sets-drop}
 use Rattle.undo_journal.proofs.Turning.{turn-torn, turn-same, turn-named, turn-left}

@@ -4,7 +4,7 @@ use Rattle.nvm_board.specs.Facts.{Steady}
 use Rattle.undo_journal.specs.declared.batch.TheConstants.{BATCH}
 use Rattle.undo_journal.specs.Undo.{pairs}
 use Rattle.undo_journal.specs.Batches.{overlay, runs_from, AreSets}
-use Rattle.undo_journal.specs.Parts.{AllNamed}
+use Rattle.undo_journal.specs.JournalParts.{AllNamed}
 use Rattle.undo_journal.proofs.Saving.{SameUndo}
 use Rattle.undo_journal.proofs.batch.write_words.Given as goal
 

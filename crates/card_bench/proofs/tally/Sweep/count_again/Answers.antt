@@ -2,7 +2,7 @@ use Rattle.std.proofs.Common.{◌≡◌, ◌+◌, ◌∙◌, List, ap}
 use Rattle.std.specs.List.{slice_set}
 use Rattle.std.proofs.lemmas.Option.{get_or_from_slice_get}
 use Rattle.card_bench.specs.declared.tally.Seen.{Seen}
-use Rattle.card_bench.specs.Tallies.{finding, count_of}
+use Rattle.card_bench.specs.Tallies.{finding, times_seen}
 use Rattle.card_bench.proofs.TallyLemmas.{findings-set, tally-again}
 use Rattle.card_bench.proofs.tally.Sweep.count_again.Goals as goal
 
@@ -13,7 +13,7 @@ pub invariant_of-self : goal.invariant_of-self
 invariant_of-self c =
     let old = c.args.self.now in
     let again = tally-again old.runs old.seen.items c.args.place _ c.index_mut.result.now c.requires.place
-    (ap finding c.index_mut.ensures.value) (ap (λ n. n + 1) (ap count_of c.index_mut.ensures.value))
+    (ap finding c.index_mut.ensures.value) (ap (λ n. n + 1) (ap times_seen c.index_mut.ensures.value))
     (record { sum = old.sum; given = old.given; different = old.different }) in
     record { sum = again.sum; given = again.given; different = again.different }
 

@@ -9,9 +9,9 @@ use Rattle.command_base.specs.Comparing.{comparisons, ComparesAsked}
 use Rattle.command_base.specs.Finding.{HasCard}
 use Rattle.card_core.specs.Running.{card_found, FailsIn, IsCutIn, Running, Steps}
 use Rattle.card_model.specs.Sessions.{Session}
-use Rattle.command_base.specs.Spending.{writes_asked, writes_of}
+use Rattle.command_base.specs.CommandWrites.{writes_asked, writes_of}
 use Rattle.card_model.specs.Steps.{ChangesNothing, IsStage}
-use Rattle.command_base.specs.Words.{StandsAsked}
+use Rattle.command_base.specs.CommitWords.{StandsAsked}
 use Rattle.command_base.specs.Working.{card_in, table_in}
 use Rattle.card_core.specs.ShownSessions.{session_while}
 use Rattle.command_base.specs.laws.SpendLaws.{few_writes}

@@ -20,7 +20,7 @@ use Rattle.migration.specs.Migrating.{migration_writes}
 use Rattle.nvm_board.specs.Facts.{Facts}
 use Rattle.card_core.specs.Running.{StartStopsBy}
 use Rattle.undo_journal.specs.laws.Calls.{boards_then, within_more}
-use Rattle.block_chain.specs.Words.{word}
+use Rattle.block_chain.specs.BlockWords.{word}
 use Rattle.block_chain.specs.declared.layout.TheConstants.{HEADER_PAGE}
 use Rattle.file_tree.specs.declared.layout.TheConstants.{MARK_WORD}
 use Rattle.command_base.specs.Standing.{IsOldCard}

@@ -3,7 +3,7 @@ use Rattle.t1_link.specs.CardTable.{link_step}
 use Rattle.command_base.specs.declared.spending.TheConstants.{COMMAND_WRITES}
 use Rattle.card_core.specs.Running.{card_found}
 use Rattle.card_turns.specs.BenchStates.{on}
-use Rattle.card_turns.specs.Plays.{HasNoFault}
+use Rattle.card_turns.specs.Plays.{BringsNoFault}
 use Rattle.card_turns.specs.Turns.{Wears}
 use Rattle.card_turns.proofs.BlockGuesses.{block-compares, block-counts, block-pays}
 use Rattle.card_turns.proofs.GuessesPaid.{paid-few}
@@ -32,7 +32,7 @@ returns-in-Ok g c =
     let guesses = paid-few (on c.in-On.powered) (on c.block.new.self)
     (block-pays c.in-On.powered c.block.new.self (link_step c.in-On.powered.link c.args.block.now).reaction
     c.in-Ok.ensures.stage c.in-Ok.ensures.compares kept.1 c.in-Ok.ensures.has_card) in
-    let wears : HasNoFault (on c.in-On.powered) (on c.block.new.self)
+    let wears : BringsNoFault (on c.in-On.powered) (on c.block.new.self)
     → Wears COMMAND_WRITES c.in-On.powered.card.facts c.block.new.self.card.facts =
     λ good. wears-shown COMMAND_WRITES (card_found c.in-On.powered.card) (card_found c.block.new.self.card)
     c.in-On.powered.card.facts c.block.new.self.card.facts

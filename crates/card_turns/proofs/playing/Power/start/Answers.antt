@@ -5,7 +5,7 @@ use Rattle.card_turns.proofs.PowerTurns.{starts, stays_mute, ends_dark, ends_mut
 use Rattle.card_turns.specs.declared.came.Came.{Came}
 use Rattle.card_turns.specs.declared.playing.Turn.TheVariants.{On}
 use Rattle.card_turns.specs.BenchStates.{off}
-use Rattle.card_turns.specs.BenchViews.{power_state, CountsEach}
+use Rattle.card_turns.specs.BenchViews.{power_state, HasEachCount}
 use Rattle.card_turns.specs.Plays.{Plays, TellsItem}
 use Rattle.card_turns.proofs.playing.Power.start.Goals as goal
 use Rattle.card_turns.proofs.playing.Power.start.Goals.{in-PowerLost, in-Fault}
@@ -29,7 +29,7 @@ returns-in-Ok-start-clause-kept g c =
     let works = c.in-Ok-start.ensures.started.0.state in (
       λ dark. let apart = sym works
           ∙ dark in cc,
-      subst CountsEach (sym counts) (record { compares = each.0; matches = each.1 }),
+      subst HasEachCount (sym counts) (record { compares = each.0; matches = each.1 }),
     )
 
 pub returns-in_default-clause-plays : goal.returns-in_default-clause-plays

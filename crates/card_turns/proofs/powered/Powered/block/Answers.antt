@@ -3,7 +3,7 @@ use Rattle.std.specs.Prelude.{◌≡◌, ◌⊎◌, ◌≢◌, ℕ, List, [], Op
 use Rattle.std.proofs.Common.{rules, ap, sym, refl, subst, ◌∙◌}
 use Rattle.card_core.specs.declared.state.CardState.TheVariants.{Working, Dark}
 use Rattle.card_model.specs.CommandTable.{asked}
-use Rattle.t1_link.specs.CardTable.{answers, reply_bytes, command_of, link_step, CardLink, Link, Reaction}
+use Rattle.t1_link.specs.CardTable.{answers, reply_bytes, waiting_command, link_step, CardLink, Link, Reaction}
 use Rattle.t1_link.specs.CardTable.{replies, runs}
 use Rattle.command_base.specs.Comparing.{comparisons, ComparesAsked}
 use Rattle.card_core.specs.Running.{card_found}
@@ -26,7 +26,7 @@ returns-in-Dark-clause-compares g c =
     kept-compares c.args.self.now (link_step c.args.self.now.link c.args.got.now).reaction
 
 -- and where a command waits, the block compares what the command does
-run-compares : (p new : Powered) (reaction : Reaction) (bytes : List ℕ) → command_of reaction ≡ Some bytes
+run-compares : (p new : Powered) (reaction : Reaction) (bytes : List ℕ) → waiting_command reaction ≡ Some bytes
     → ComparesAsked (asked bytes) (card_found p.card) (comparisons p.card.facts) (card_found new.card)
     (comparisons new.card.facts)
     → BlockCompares p reaction new

@@ -1,10 +1,10 @@
 use Rattle.std.proofs.Common.{◌∙◌, List, ℕ, ap, sym, length}
-use Rattle.undo_journal.specs.Calls.{Changes}
+use Rattle.undo_journal.specs.StoreCalls.{Changes}
 use Rattle.undo_journal.specs.Memory.{committed}
 use Rattle.undo_journal.specs.laws.Told.{changes_after}
 use Rattle.ef_body.specs.declared.layout.TheConstants.{RECORD_WRITES}
 use Rattle.ef_body.specs.declared.cyclic.Cyclic.{Cyclic}
-use Rattle.ef_body.specs.Bodies.{cyclic_records}
+use Rattle.ef_body.specs.Bodies.{cyclic_body_records}
 use Rattle.card_state.specs.RecordLists.{raised_number}
 use Rattle.ef_body.proofs.Refusing.{store_told}
 use Rattle.card_state.specs.laws.Spelling.{length-spelled}
@@ -14,7 +14,7 @@ pub replace_oldest-requires-clause-size : goal.replace_oldest-requires-clause-si
 replace_oldest-requires-clause-size g c =
     let m = committed c.args.store.now in
     ap (λ (l : List ℕ). length l) (c.deref.ensures.0 ∙ c.in_ok-newest.ensures.sum.bytes)
-    ∙ length-spelled c.args.self.record_length (raised_number (cyclic_records m c.args.self) c.args.sent.now)
+    ∙ length-spelled c.args.self.record_length (raised_number (cyclic_body_records m c.args.self) c.args.sent.now)
     ∙ ap (λ (r : Cyclic). r.record_length) (sym c.in_ok-newest.ensures.found.0)
 
 pub returns-clause-store : goal.returns-clause-store

@@ -2,9 +2,9 @@ use Rattle.std.proofs.Common.{◌≡◌, ◌+◌, ◌∙◌, List, ℕ, ap, sym,
 use Rattle.std.specs.Prelude.{min}
 use Rattle.undo_journal.specs.Memory.{committed}
 use Rattle.ef_body.specs.declared.layout.TheConstants.{RECORD_WRITES}
-use Rattle.ef_body.specs.Bodies.{cyclic_records}
-use Rattle.ef_body.specs.Calls.{Commits}
-use Rattle.ef_body.specs.Changes.{CyclicBecomes}
+use Rattle.ef_body.specs.Bodies.{cyclic_body_records}
+use Rattle.ef_body.specs.BodyCalls.{Commits}
+use Rattle.ef_body.specs.BodyChanges.{CyclicBecomes}
 use Rattle.ef_body.specs.laws.Rings.{length-cyclic}
 use Rattle.ef_body.proofs.Increasing.{front-most}
 use Rattle.ef_body.proofs.cyclic.Cyclic.push_front.Goals as goal
@@ -12,7 +12,7 @@ use Rattle.ef_body.proofs.cyclic.Cyclic.push_front.Goals as goal
 pub returns : goal.returns
 returns g c =
     let m = committed c.args.store.now in
-    let rs = cyclic_records m c.args.self in
+    let rs = cyclic_body_records m c.args.self in
     let is : c.appended.result ≡ min (length rs + 1) c.args.self.capacity =
     c.appended.ensures ∙ ap (λ (n : ℕ). min (n + 1) c.args.self.capacity) (sym (length-cyclic m c.args.self
     c.requires.body)) in

@@ -1,9 +1,9 @@
 use Rattle.std.proofs.Common.{rules, ◌∙◌, [], List, ℕ, arith, ap, length, inl, inr, subst, sym}
 use Rattle.undo_journal.specs.Memory.{committed}
-use Rattle.undo_journal.specs.Calls.{Reads}
+use Rattle.undo_journal.specs.StoreCalls.{Reads}
 use Rattle.undo_journal.specs.laws.Told.{told_is}
-use Rattle.block_chain.specs.Changes.{AppendsSome}
-use Rattle.ef_body.specs.Bodies.{cyclic_records}
+use Rattle.block_chain.specs.ChainChanges.{AppendsSome}
+use Rattle.ef_body.specs.Bodies.{cyclic_body_records}
 use Rattle.ef_body.specs.laws.Rings.{length-cyclic}
 use Rattle.ef_body.proofs.Becoming.{length-record, received_last, received_record}
 use Rattle.ef_body.proofs.Refusing.{refused_undecided, store_ok, store_told}
@@ -13,7 +13,7 @@ use Rattle.ef_body.proofs.cyclic.Cyclic.raise.Goals as goal
 pub returns-in_err-newest-clause-sum : goal.returns-in_err-newest-clause-sum
 returns-in_err-newest-clause-sum g c =
     let m = committed c.args.store.now in
-    let rs = cyclic_records m c.args.self in
+    let rs = cyclic_body_records m c.args.self in
     record {
       bytes = search rules;
       emptied = search rules;
@@ -28,7 +28,7 @@ returns-in_err-from_store-clause-sum g c =
     let m = committed c.args.store.now in
     let at = c.in_ok-newest.ensures.found in
     failed_sum _ _ c.from_residual-in_err-from_store.ensures.1 _ c.in_err-from_store.ensures c.args.self.record_length
-    (cyclic_records m c.args.self) c.args.sent.now _
+    (cyclic_body_records m c.args.self) c.args.sent.now _
     (subst (λ (l : List ℕ). AppendsSome [] l c.read.new.bytes.items)
     (received_record c.args.self 1 c.in_ok-newest.newest at m) c.read.ensures.any_exit)
 
@@ -52,7 +52,7 @@ add-requires g c =
 pub returns-then-add-clause-sum : goal.returns-then-add-clause-sum
 returns-then-add-clause-sum g c =
     let m = committed c.args.store.now in
-    let rs = cyclic_records m c.args.self in
+    let rs = cyclic_body_records m c.args.self in
     let at = c.in_ok-newest.ensures.found in
     let some = received_last c.args.self 1 c.in_ok-newest.newest at in
     let many = length-cyclic m c.args.self c.requires.body in
@@ -73,7 +73,7 @@ returns-then-add-clause-sum g c =
 pub returns-clause-sum : goal.returns-clause-sum
 returns-clause-sum g c =
     let m = committed c.args.store.now in
-    let rs = cyclic_records m c.args.self in
+    let rs = cyclic_body_records m c.args.self in
     let at = c.in_ok-newest.ensures.found in
     let some = received_last c.args.self 1 c.in_ok-newest.newest at in
     let many = length-cyclic m c.args.self c.requires.body in

@@ -1,7 +1,7 @@
 use Rattle.std.proofs.Common.{rules, ◌∙◌, ℕ, List, ap, subst}
 use Rattle.undo_journal.specs.Memory.{committed}
 use Rattle.card_state.specs.RecordLists.{record_of}
-use Rattle.ef_body.specs.Calls.{ReadsInto}
+use Rattle.ef_body.specs.BodyCalls.{ReadsInto}
 use Rattle.ef_body.specs.laws.Rings.{length-records}
 use Rattle.ef_body.proofs.Becoming.{received_record}
 use Rattle.ef_body.proofs.Calling.{refused_reads, store_reads}

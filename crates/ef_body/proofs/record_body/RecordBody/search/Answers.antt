@@ -1,9 +1,9 @@
 use Rattle.std.proofs.Common.{rules, ◌∙◌, ℕ, List, ap, ap₂, subst}
 use Rattle.undo_journal.specs.Memory.{committed}
 use Rattle.ef_body.specs.declared.cyclic.Cyclic.{Cyclic}
-use Rattle.ef_body.specs.Bodies.{cyclic_records}
-use Rattle.ef_body.specs.Calls.{ReadsInto}
-use Rattle.card_state.specs.RecordLists.{found}
+use Rattle.ef_body.specs.Bodies.{cyclic_body_records}
+use Rattle.ef_body.specs.BodyCalls.{ReadsInto}
+use Rattle.card_state.specs.RecordLists.{records_found}
 use Rattle.ef_body.specs.laws.Rings.{length-records}
 use Rattle.ef_body.proofs.Calling.{refused_reads, store_reads}
 use Rattle.ef_body.proofs.record_body.RecordBody.search.Goals as goal
@@ -37,6 +37,6 @@ returns g c =
     (length-records m (body.ring_of c.args.self) _ is same)) _ _ _ _
     (subst (λ (l : List ℕ). ReadsInto l c.args.store.now c.search.new.store c.search.new.numbers.items
     c.search.result)
-    (ap₂ (λ (r : Cyclic) (n : ℕ). found c.args.direction n c.args.text.now (cyclic_records m r)) at.0 at.1
-    ∙ ap (found c.args.direction c.args.first c.args.text.now) same)
+    (ap₂ (λ (r : Cyclic) (n : ℕ). records_found c.args.direction n c.args.text.now (cyclic_body_records m r)) at.0 at.1
+    ∙ ap (records_found c.args.direction c.args.first c.args.text.now) same)
     c.search.ensures)

@@ -1,7 +1,7 @@
 use Rattle.std.proofs.Common.{rules, ℕ, List, arith, subst}
 use Rattle.std.proofs.lemmas.Result.{on_ok_weaker}
 use Rattle.undo_journal.specs.Memory.{committed}
-use Rattle.ef_body.specs.Calls.{ReadsInto}
+use Rattle.ef_body.specs.BodyCalls.{ReadsInto}
 use Rattle.ef_body.specs.laws.Slots.{slot-within}
 use Rattle.ef_body.proofs.Becoming.{record_at}
 use Rattle.ef_body.proofs.Bytes.{all_appended, length-emptied, some_appended}

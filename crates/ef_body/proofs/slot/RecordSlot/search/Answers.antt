@@ -6,7 +6,7 @@ use Rattle.undo_journal.specs.Memory.{committed}
 use Rattle.undo_journal.specs.laws.Calls.{reads_same, reads_then}
 use Rattle.undo_journal.specs.laws.Told.{reads_on, reads_handed, reads_so_far}
 use Rattle.card_state.specs.RecordLists.{record_of, stands_in, numbers_on}
-use Rattle.ef_body.specs.Bodies.{cyclic_records, IsCyclic}
+use Rattle.ef_body.specs.Bodies.{cyclic_body_records, IsCyclic}
 use Rattle.ef_body.specs.laws.Rings.{length-cyclic}
 use Rattle.ef_body.proofs.Finding.{found_some, filter-next}
 use Rattle.card_state.specs.laws.Finding.{steps_few, filter-few}
@@ -29,7 +29,7 @@ note-requires g c =
     let m = committed c.args.store.now in
     let body = c.args.self.ring in
     let numbers = numbers_on c.args.direction c.args.self.number body.records in
-    let test : ℕ → Bool = λ n. stands_in c.args.text.now (record_of (cyclic_records m body) n) in
+    let test : ℕ → Bool = λ n. stands_in c.args.text.now (record_of (cyclic_body_records m body) n) in
     let steps = c.steps_of-steps.ensures in
     let lt : c.loop-step.step < length numbers = omega (arith, steps, c.loop-step-test.true) in
     let most = steps_few c.args.direction c.args.self.number body.records c.args.self.from_first c.args.self.to_last in
@@ -49,13 +49,13 @@ loop-step-preserved g c =
     let m = committed c.args.store.now in
     let body = c.args.self.ring in
     let numbers = numbers_on c.args.direction c.args.self.number body.records in
-    let test : ℕ → Bool = λ n. stands_in c.args.text.now (record_of (cyclic_records m body) n) in
+    let test : ℕ → Bool = λ n. stands_in c.args.text.now (record_of (cyclic_body_records m body) n) in
     let steps = c.steps_of-steps.ensures in
     let lt : c.loop-step.step < length numbers = omega (arith, steps, c.loop-step-test.true) in
     let number = c.number_at-number.ensures.number in
     let holds : c.in_ok-holds.holds ≡ test (slice_index numbers c.loop-step.step) =
     c.in_ok-holds.ensures.told
-    ∙ ap (λ (l : List ℕ). stands_in c.args.text.now (record_of (cyclic_records l body) c.number_at-number.result))
+    ∙ ap (λ (l : List ℕ). stands_in c.args.text.now (record_of (cyclic_body_records l body) c.number_at-number.result))
     c.loop-step.invariant.reads.keeps.committed_words ∙ ap test number in
     let here : cond c.in_ok-holds.holds (c.number_at-number.result ∷ []) []
     ≡ cond (test (slice_index numbers c.loop-step.step)) (slice_index numbers c.loop-step.step ∷ []) [] =
@@ -71,7 +71,7 @@ pub returns-in_err-holds : goal.returns-in_err-holds
 returns-in_err-holds g c = record {
   bytes = search rules;
   any_exit = found_some c.args.direction c.args.self.number c.args.self.ring.records c.loop-step.step c.args.text.now
-      (cyclic_records (committed c.args.store.now) c.args.self.ring) _ (length-cyclic (committed c.args.store.now)
+      (cyclic_body_records (committed c.args.store.now) c.args.self.ring) _ (length-cyclic (committed c.args.store.now)
       c.args.self.ring c.requires.body) c.loop-step.invariant.so_far;
   store = reads_handed _ _ _ _ c.from_residual.ensures.1
       (reads_on _ _ _ _ c.loop-step.invariant.reads c.in_err-holds.ensures.store);
@@ -82,7 +82,7 @@ returns g c =
     let m = committed c.args.store.now in
     let body = c.args.self.ring in
     let numbers = numbers_on c.args.direction c.args.self.number body.records in
-    let test : ℕ → Bool = λ n. stands_in c.args.text.now (record_of (cyclic_records m body) n) in
+    let test : ℕ → Bool = λ n. stands_in c.args.text.now (record_of (cyclic_body_records m body) n) in
     let steps = c.steps_of-steps.ensures in
     let all : length numbers ≤ c.loop-step.step = omega (arith, steps, c.loop-step-test.false) in
     let many = length-cyclic m body c.requires.body in
@@ -90,6 +90,6 @@ returns g c =
       bytes = c.loop-step.invariant.so_far ∙ ap (filter test) (take_all c.loop-step.step numbers all)
           ∙ ap (λ (n : ℕ). filter test (numbers_on c.args.direction c.args.self.number n)) (sym many);
       any_exit = found_some c.args.direction c.args.self.number body.records c.loop-step.step c.args.text.now
-          (cyclic_records m body) _ many c.loop-step.invariant.so_far;
+          (cyclic_body_records m body) _ many c.loop-step.invariant.so_far;
       store = reads_so_far _ _ c.loop-step.invariant.reads c.loop-step.invariant.ready;
     }

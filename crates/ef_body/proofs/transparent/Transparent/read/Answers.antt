@@ -3,7 +3,7 @@ use Rattle.std.proofs.lemmas.Result.{on_ok_weaker}
 use Rattle.card_rules.specs.declared.status.TheConstants.Sw.{WRONG_OFFSET}
 use Rattle.undo_journal.specs.Memory.{committed}
 use Rattle.ef_body.specs.Bodies.{transparent_bytes}
-use Rattle.ef_body.specs.Calls.{ReadsInto}
+use Rattle.ef_body.specs.BodyCalls.{ReadsInto}
 use Rattle.ef_body.proofs.Bytes.{all_appended, length-emptied, some_appended}
 use Rattle.ef_body.proofs.Bytes.{length-transparent, inside, offset_past, offset_inside, taken_within}
 use Rattle.ef_body.proofs.Calling.{refused_reads, store_reads}

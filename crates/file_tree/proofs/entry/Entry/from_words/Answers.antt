@@ -1,5 +1,5 @@
 use Rattle.std.proofs.Common.{rules, ◌≡◌, slice_index, slice_index_or, sym, ◌∙◌}
-use Rattle.block_chain.specs.Words.{word_bytes}
+use Rattle.block_chain.specs.BlockWords.{word_bytes}
 use Rattle.file_tree.specs.laws.Tables.{entry_of-free, entry_of-used}
 use Rattle.file_tree.proofs.entry.Entry.from_words.Goals as goal
 

@@ -2,8 +2,8 @@ use Rattle.std.proofs.Common.{◌<◌, ◌+◌, length, slice_set, refl, sym, su
 use Rattle.std.proofs.Math.Logic.{⊎_map}
 use Rattle.undo_journal.specs.declared.batch.TheConstants.{BATCH}
 use Rattle.undo_journal.specs.declared.batch.Waiting.{Waiting}
-use Rattle.undo_journal.specs.Batches.{joined, batch_writes}
-use Rattle.undo_journal.specs.Memory.{Memory, committed, current, InRuns, GoesOn}
+use Rattle.undo_journal.specs.Batches.{with_set, batch_writes}
+use Rattle.undo_journal.specs.Memory.{Memory, committed, current, InRuns, ContinuesRun}
 use Rattle.undo_journal.specs.laws.Exits.{none_ok, error_tells}
 use Rattle.undo_journal.specs.laws.Memory.{reports_same}
 use Rattle.std.proofs.lemmas.Result.{on_ok_weaker}
@@ -85,7 +85,8 @@ returns-clause-runs g c =
 
 pub returns-clause-goes_on : goal.returns-clause-goes_on
 returns-clause-goes_on g c = λ goes.
-    let runs = c.add-answer.ensures.goes_on (subst (λ (m : Memory). GoesOn m c.args.at) (sym c.self.view_is) goes) in
+    let runs = c.add-answer.ensures.goes_on (subst (λ (m : Memory). ContinuesRun m c.args.at)
+    (sym c.self.view_is) goes) in
     let new : Memory = record {
       facts = g.B.Board.facts c.add-answer.new.board;
       failed = c.noted.new.failed;
@@ -107,16 +108,17 @@ returns-clause-joins g c =
     on_ok _ _ c.noted.ensures.answer _ _
     (⊎_map
     (λ waits. record {
-      few = subst (λ (m : Memory). length (joined set m.waiting) < BATCH) c.self.view_is waits.few;
-      waiting = waits.waiting ∙ ap (λ (m : Memory). joined set m.waiting) c.self.view_is;
+      few = subst (λ (m : Memory). length (with_set set m.waiting) < BATCH) c.self.view_is waits.few;
+      waiting = waits.waiting ∙ ap (λ (m : Memory). with_set set m.waiting) c.self.view_is;
       used = waits.used ∙ ap (λ (m : Memory). m.used) c.self.view_is;
       facts = waits.facts ∙ ap (λ (m : Memory). m.facts) c.self.view_is;
     })
     (λ fills. record {
-      full = ap (λ (m : Memory). length (joined set m.waiting)) (sym c.self.view_is) ∙ fills.full;
+      full = ap (λ (m : Memory). length (with_set set m.waiting)) (sym c.self.view_is) ∙ fills.full;
       waiting = fills.waiting;
       used = fills.used ∙ ap (λ (m : Memory). m.used + BATCH) c.self.view_is;
-      writes = fills.writes ∙ ap (λ (m : Memory). m.facts.writes + batch_writes (joined set m.waiting)) c.self.view_is;
+      writes = fills.writes ∙ ap (λ (m : Memory). m.facts.writes + batch_writes
+          (with_set set m.waiting)) c.self.view_is;
     }))
     c.add-answer.ensures.joins
 

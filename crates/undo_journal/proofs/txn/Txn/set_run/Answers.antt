@@ -1,7 +1,7 @@
 use Rattle.std.proofs.Common.{◌<◌, ◌+◌, ℕ, List, length, get_or, slice_set, inl, inr, refl, ap, ◌∙◌, arith}
 use Rattle.undo_journal.specs.declared.batch.TheConstants.{BATCH}
 use Rattle.undo_journal.specs.declared.batch.Waiting.{Waiting}
-use Rattle.undo_journal.specs.Batches.{joined}
+use Rattle.undo_journal.specs.Batches.{with_set}
 use Rattle.undo_journal.specs.Lent.{memory_of}
 use Rattle.std.specs.Prelude.{◌≡◌, take}
 use Rattle.std.proofs.Math.Logic.{⊎_map}
@@ -79,7 +79,7 @@ loop-i-preserved g c =
           let so = so_far.waits (let less : length old + c.loop-i.i < BATCH = omega (arith, few) in less) in
           let set : Waiting = record { at = c.args.at + c.loop-i.i; word = get_or c.args.words.now c.loop-i.i 0 } in
           let more = joined_run-more c.args.words.now c.args.at c.loop-i.i old lt in
-          let sets = ap (λ (l : List Waiting). joined set l) so.waiting ∙ more in
+          let sets = ap (λ (l : List Waiting). with_set set l) so.waiting ∙ more in
           let size = ap (λ (l : List Waiting). length l) sets in
           elim c.in_ok-set.ensures.joins [
             | inl waits ↦ record {

@@ -3,7 +3,7 @@ use Rattle.nvm_board.specs.Torn.{written}
 use Rattle.undo_journal.specs.Memory.{current, IsOpen, Waits}
 use Rattle.undo_journal.specs.Batches.{joined_run}
 use Rattle.undo_journal.specs.declared.batch.TheConstants.{BATCH}
-use Rattle.undo_journal.specs.Calls.{Sets}
+use Rattle.undo_journal.specs.StoreCalls.{Sets}
 use Rattle.undo_journal.specs.Lent.{memory_of}
 use Rattle.undo_journal.proofs.SetRuns.{AreSetSoFar}
 use Rattle.undo_journal.proofs.txn.Txn.set_run.Given as goal

@@ -2,12 +2,12 @@
 use Rattle.std.specs.Prelude.{◌≡◌, ◌<◌, ◌≤◌, ◌+◌, ◌-◌, ◌&&◌, ℕ, List, length, slice_index, nat_le, nat_lt}
 use Rattle.std.specs.Prelude.{if◌then◌else◌, ◌*◌, ◌%◌, [], ◌∷◌, slice_set}
 use Rattle.nvm_board.specs.Facts.{address}
-use Rattle.undo_journal.specs.Calls.{OnlyReads}
+use Rattle.undo_journal.specs.StoreCalls.{OnlyReads}
 use Rattle.undo_journal.specs.Memory.{Memory, Joins}
 use Rattle.nvm_board.specs.declared.board.TheConstants.{MOST_PAGES}
 use Rattle.block_chain.specs.Chains.{Leads, chain, free_chain}
 use Rattle.block_chain.specs.Counts.{count, IsNotIn}
-use Rattle.block_chain.specs.Words.{word, link, IsBlock, word_bytes}
+use Rattle.block_chain.specs.BlockWords.{word, link, IsBlock, word_bytes}
 use Rattle.block_chain.specs.declared.chain.Chain.{Chain}
 use Rattle.block_chain.specs.declared.layout.TheConstants.{FREE_HEAD, FIRST_BLOCK_PAGE, BLOCK_WORDS}
 use Rattle.block_chain.specs.declared.walk.Walked.{Walked}
@@ -41,51 +41,51 @@ pub record JoinsAt (at : ℕ) (old new : Memory) : Type 0 where
   pub joins : Joins (record { at = at; word = word }) found new
 
 -- The first block of the chains, or of the free chain if there are none.
-abbrev pub first_of : List ℕ → List Chain → ℕ
-first_of m [] = slice_index m FREE_HEAD
-first_of m (c ∷ cs) = c.first
+abbrev pub first_block : List ℕ → List Chain → ℕ
+first_block m [] = slice_index m FREE_HEAD
+first_block m (c ∷ cs) = c.first
 
 -- The words after joining. The last block of each chain links to the first of the next one, that of the last chain to
 -- the first free block.
-unfoldable pub joined : List ℕ → List Chain → List ℕ
-joined m [] = m
-joined m (c ∷ cs) = slice_set (joined m cs) (address c.last 0) (first_of m cs)
+unfoldable pub joined_chains : List ℕ → List Chain → List ℕ
+joined_chains m [] = m
+joined_chains m (c ∷ cs) = slice_set (joined_chains m cs) (address c.last 0) (first_block m cs)
 
 -- The word whose four bytes are this byte.
 abbrev pub filled_word : ℕ → ℕ
 filled_word byte = byte * 0x1000000 + byte * 0x10000 + byte * 0x100 + byte
 
 -- A page that can be a block in some memory.
-abbrev pub IsPlace : ℕ → Type 0
-IsPlace page = (FIRST_BLOCK_PAGE ≤ page) × (page < MOST_PAGES)
+abbrev pub IsBlockPlace : ℕ → Type 0
+IsBlockPlace page = (FIRST_BLOCK_PAGE ≤ page) × (page < MOST_PAGES)
 
 -- The mark of a block.
-abbrev pub marked : List ℕ → ℕ → ℕ
-marked seen page = slice_index seen (page - FIRST_BLOCK_PAGE)
+abbrev pub times_marked : List ℕ → ℕ → ℕ
+times_marked seen page = slice_index seen (page - FIRST_BLOCK_PAGE)
 
 -- No page is marked.
 abbrev pub AreBlank : List ℕ → Type 0
 AreBlank seen = (place : ℕ) → slice_index seen place ≡ 0
 
 -- A mark for each block before the page `end`, 0 or 1.
-pub record AreMarks (end : ℕ) (seen : List ℕ) : Type 0 where
+pub record AreBlockMarks (end : ℕ) (seen : List ℕ) : Type 0 where
   pub room : end ≤ FIRST_BLOCK_PAGE + length seen
-  pub each : (page : ℕ) → IsPlace page → marked seen page ≤ 1
+  pub each : (page : ℕ) → IsBlockPlace page → times_marked seen page ≤ 1
 
 -- The chain from a page on ends. It consists of blocks before the page `end`, none of them marked and none twice.
-pub record IsFresh (end : ℕ) (m : List ℕ) (seen : List ℕ) (from : ℕ) : Type 0 where
+pub record IsUnmarkedChain (end : ℕ) (m : List ℕ) (seen : List ℕ) (from : ℕ) : Type 0 where
   pub leads : Leads m from (chain m from) 0
   pub below : (q : ℕ) → end ≤ q → IsNotIn q (chain m from)
-  pub once : (page : ℕ) → IsPlace page → marked seen page + count page (chain m from) ≤ 1
+  pub once : (page : ℕ) → IsBlockPlace page → times_marked seen page + count page (chain m from) ≤ 1
 
 -- The walk marked these blocks.
 abbrev pub Marks : List ℕ → List ℕ → List ℕ → Type 0
-Marks old ps new = (page : ℕ) → IsPlace page → marked new page ≡ marked old page + count page ps
+Marks old ps new = (page : ℕ) → IsBlockPlace page → times_marked new page ≡ times_marked old page + count page ps
 
 -- The chain from a page on was fresh, and its blocks are now marked.
 pub record IsWalked (end : ℕ) (m : List ℕ) (from : ℕ) (old : List ℕ) (w : Walked) (new : List ℕ) : Type 0 where
-  pub fresh : IsFresh end m old from
+  pub fresh : IsUnmarkedChain end m old from
   pub blocks : w.blocks ≡ length (chain m from)
   pub last : w.last ≡ slice_index (chain m from) (w.blocks - 1)
   pub marks : Marks old (chain m from) new
-  pub fine : AreMarks end new
+  pub fine : AreBlockMarks end new

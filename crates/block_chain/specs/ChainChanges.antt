@@ -1,11 +1,11 @@
 -- The effects of calls on chains on the words of a memory.
-use Rattle.std.specs.Prelude.{◌≡◌, ◌≢◌, ◌⊎◌, ◌==◌, ◌<◌, ◌≤◌, ◌+◌, ◌-◌, ◌/◌, ℕ, zero, suc, if◌then◌else◌}
-use Rattle.std.specs.Prelude.{List, ◌++◌, length, slice_index, take, drop}
+use Rattle.std.specs.Prelude.{◌≡◌, ◌≢◌, ◌⊎◌, ◌==◌, ◌<◌, ◌≤◌, ◌+◌, ◌-◌, ◌/◌, ℕ, zero, suc, if◌then◌else◌, List, ◌++◌}
+use Rattle.std.specs.Prelude.{length, slice_index, take, drop}
 use Rattle.std.specs.List.{splice}
 use Rattle.nvm_board.specs.declared.board.TheConstants.{PAGE_WORDS}
 use Rattle.block_chain.specs.declared.layout.TheConstants.{BLOCK_BYTES, FREE_HEAD, HEADER_PAGE, FREE_HEAD_WORD}
 use Rattle.block_chain.specs.declared.chain.Chain.{Chain}
-use Rattle.block_chain.specs.Words.{word, link}
+use Rattle.block_chain.specs.BlockWords.{word, link}
 use Rattle.block_chain.specs.Layout.{IsOf}
 use Rattle.block_chain.specs.Counts.{IsNotIn}
 use Rattle.block_chain.specs.Chains.{free_chain, bytes_of, IsChain, laid}
@@ -35,12 +35,12 @@ pub record GivesBack (m : List ℕ) (cs : List Chain) (after : List ℕ) : Type 
   pub only : OnlyLinks m (laid m cs) after
 
 -- The bytes with new ones written over them from an offset on.
-abbrev pub overwrite : List ℕ → ℕ → List ℕ → List ℕ
-overwrite bytes offset new = splice bytes offset (offset + length new) new
+abbrev pub with_bytes_at : List ℕ → ℕ → List ℕ → List ℕ
+with_bytes_at bytes offset new = splice bytes offset (offset + length new) new
 
 -- The bytes of these blocks are overwritten. All else is unchanged.
 pub record Overwrites (m ps : List ℕ) (offset : ℕ) (bytes after : List ℕ) : Type 0 where
-  pub content : bytes_of after ps ≡ overwrite (bytes_of m ps) offset bytes
+  pub content : bytes_of after ps ≡ with_bytes_at (bytes_of m ps) offset bytes
   pub only : OnlyContent m ps after
 
 -- The number of words that contain a range of bytes of a chain, four bytes a word.

@@ -4,8 +4,8 @@ use Rattle.std.specs.Result.{result_err}
 use Rattle.undo_journal.specs.declared.error.StoreErr.{StoreErr}
 use Rattle.undo_journal.specs.declared.txn.Txn.{Txn}
 use Rattle.undo_journal.specs.Lent.{memory_of, store_of}
-use Rattle.undo_journal.specs.Memory.{Memory, KeepsWords, Reports, IsOpen, IsIdle, IsReady, InRuns, committed}
-use Rattle.undo_journal.specs.Memory.{taken, room}
+use Rattle.undo_journal.specs.Memory.{Memory, KeepsWords, Reports, IsOpen, IsIdle, IsReady, InRuns, committed, taken}
+use Rattle.undo_journal.specs.Memory.{room}
 use Rattle.undo_journal.specs.Spending.{KeepsBoard, WritesAtMost}
 
 -- The calls only read: committed, current and waiting words are unchanged, and so are the board's words and counts.

@@ -7,7 +7,7 @@ use Rattle.card_model.specs.Requests.{read_record, update_record, append_record,
 use Rattle.card_model.specs.Requests.{change_life_cycle, terminate_card_usage, verify, change_reference_data}
 use Rattle.card_model.specs.Requests.{reset_retry_counter, change_requirement}
 use Rattle.undo_journal.specs.Spending.{transaction_writes}
-use Rattle.block_chain.specs.Changes.{touched_blocks, touched_words}
+use Rattle.block_chain.specs.ChainChanges.{touched_blocks, touched_words}
 
 -- a record of at most 255 bytes touches 65 words, and one word of the entry; they are in at most 7 runs
 abbrev pub record_writes : ℕ

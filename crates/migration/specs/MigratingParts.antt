@@ -3,7 +3,7 @@ use Rattle.std.specs.Prelude.{◌≡◌, ◌≢◌, ◌==◌, ◌⊎◌, ◌<◌
 use Rattle.nvm_board.specs.Facts.{address}
 use Rattle.nvm_board.specs.declared.board.TheConstants.{PAGE_WORDS}
 use Rattle.undo_journal.specs.Memory.{Memory, Joins}
-use Rattle.block_chain.specs.Words.{word}
+use Rattle.block_chain.specs.BlockWords.{word}
 use Rattle.block_chain.specs.declared.layout.TheConstants.{FREE_HEAD, FREE_HEAD_WORD, HEADER_PAGE}
 use Rattle.file_tree.specs.declared.layout.TheConstants.{MARK, MARK_WORD, OLD_END_PAGE, PAGES_WORD}
 use Rattle.file_tree.specs.MigrationParts.{Renames}
@@ -42,7 +42,7 @@ pub record IsRenamed (end : ℕ) (m after : List ℕ) : Type 0 where
 
 -- Eight sets, each in a page of its own, are written: one write for their pairs, one for the gate, and eight for the
 -- words.
-pub record FillsBatch (old new : Memory) : Type 0 where
+pub record FillsFirstBatch (old new : Memory) : Type 0 where
   pub waiting : new.waiting ≡ []
   pub used : new.used ≡ 8
   pub writes : new.facts.writes ≡ old.facts.writes + 10

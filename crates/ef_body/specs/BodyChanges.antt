@@ -3,16 +3,16 @@ use Rattle.std.specs.Prelude.{◌≡◌, ◌≢◌, ◌⊎◌, ◌<◌, ◌+◌,
 use Rattle.nvm_board.specs.Facts.{address}
 use Rattle.nvm_board.specs.declared.board.TheConstants.{PAGE_WORDS}
 use Rattle.block_chain.specs.declared.chain.Chain.{Chain}
-use Rattle.block_chain.specs.Words.{word}
+use Rattle.block_chain.specs.BlockWords.{word}
 use Rattle.block_chain.specs.Counts.{IsNotIn}
 use Rattle.block_chain.specs.Chains.{chain_of, chain_bytes}
-use Rattle.block_chain.specs.Changes.{OnlyContent}
+use Rattle.block_chain.specs.ChainChanges.{OnlyContent}
 use Rattle.card_state.specs.FileTrees.{overwrite}
 use Rattle.ef_body.specs.declared.transparent.Transparent.{Transparent}
 use Rattle.ef_body.specs.declared.linear.Linear.{Linear}
 use Rattle.ef_body.specs.declared.cyclic.Cyclic.{Cyclic}
 use Rattle.card_state.specs.RecordLists.{front, spelled, raised_number}
-use Rattle.ef_body.specs.Bodies.{transparent_bytes, linear_records, cyclic_records, start_told}
+use Rattle.ef_body.specs.Bodies.{transparent_bytes, linear_body_records, cyclic_body_records, start_told}
 
 -- Only the content words of these blocks and the word at this address may change.
 pub record OnlyBody (m ps : List ℕ) (told_at : ℕ) (after : List ℕ) : Type 0 where
@@ -28,21 +28,21 @@ pub record TransparentBecomes (m : List ℕ) (body : Transparent) (bytes after :
 
 -- A linear EF has these records. All else is unchanged.
 pub record LinearBecomes (m : List ℕ) (body : Linear) (records : List (List ℕ)) (after : List ℕ) : Type 0 where
-  pub becomes : linear_records after body ≡ records
+  pub becomes : linear_body_records after body ≡ records
   pub start : start_told after body.told_at ≡ 0
   pub blocks : chain_of after body.chain ≡ chain_of m body.chain
   pub only : OnlyBody m (chain_of m body.chain) body.told_at after
 
 -- A ring has these records, with record 1 in the same slot as before. All else is unchanged.
 pub record RecordsBecome (m : List ℕ) (ring : Cyclic) (records : List (List ℕ)) (after : List ℕ) : Type 0 where
-  pub becomes : cyclic_records after ring ≡ records
+  pub becomes : cyclic_body_records after ring ≡ records
   pub start : start_told after ring.told_at ≡ ring.start
   pub blocks : chain_of after ring.chain ≡ chain_of m ring.chain
   pub only : OnlyBody m (chain_of m ring.chain) ring.told_at after
 
 -- A cyclic EF has these records, with record 1 in the slot before that of the former record 1. All else is unchanged.
 pub record CyclicBecomes (m : List ℕ) (body : Cyclic) (records : List (List ℕ)) (after : List ℕ) : Type 0 where
-  pub becomes : cyclic_records after body ≡ records
+  pub becomes : cyclic_body_records after body ≡ records
   pub start : start_told after body.told_at ≡ (body.start + body.capacity - 1) % body.capacity
   pub blocks : chain_of after body.chain ≡ chain_of m body.chain
   pub only : OnlyBody m (chain_of m body.chain) body.told_at after
@@ -59,7 +59,7 @@ pub record PutsRecord (m : List ℕ) (c : Chain) (offset : ℕ) (bytes : List �
 -- dropped.
 abbrev pub Increases : List ℕ → Cyclic → List ℕ → List ℕ → Type 0
 Increases m body sent after =
-    let records = cyclic_records m body in
+    let records = cyclic_body_records m body in
     CyclicBecomes m body (front (length records) (spelled body.record_length (raised_number records sent)) records)
     after
 

@@ -1,6 +1,6 @@
 -- The calls of a board: their results and their effects.
-use Rattle.std.specs.Prelude.{◌≡◌, ◌⊎◌, ◌+◌, ◌↔◌, if◌then◌else◌, ℕ, List, Bool, Result, IsTrue, IfOk, OnOk, OnErr}
-use Rattle.std.specs.Prelude.{◌<◌, ◌≤◌, ◌-◌, Some, length, slice_index}
+use Rattle.std.specs.Prelude.{◌≡◌, ◌⊎◌, ◌+◌, ◌↔◌, if◌then◌else◌, ℕ, List, Bool, Result, IsTrue, IfOk, OnOk, OnErr, ◌<◌}
+use Rattle.std.specs.Prelude.{◌≤◌, ◌-◌, Some, length, slice_index}
 use Rattle.nvm_board.specs.declared.board.Arm.{Arm}
 use Rattle.nvm_board.specs.declared.board.DeviceErr.{DeviceErr}
 use Rattle.nvm_board.specs.declared.board.TheConstants.{PAGE_WORDS}

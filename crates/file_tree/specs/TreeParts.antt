@@ -1,11 +1,9 @@
 -- Steps inside the checks, the lookups and the life cycle changes. The only public clause that uses these definitions
 -- is that of `is_below_barred`, which only `file_changes` calls.
-use Rattle.std.specs.Prelude.{◌≡◌, ◌≢◌, ◌==◌, ◌⊎◌, ◌<◌, ◌&&◌, ◌||◌, ℕ, zero, suc, Bool, false, not, if◌then◌else◌}
-use Rattle.std.specs.Prelude.{List, length, Option, None, Some}
+use Rattle.std.specs.Prelude.{◌≡◌, ◌≢◌, ◌==◌, ◌⊎◌, ◌<◌, ◌&&◌, ℕ, not, if◌then◌else◌, List, length, Option, None, Some}
 use Rattle.file_tree.specs.declared.entry.Entry.{Entry}
 use Rattle.card_state.specs.FileTrees.{master_file}
-use Rattle.card_state.specs.FileLives.{bars}
-use Rattle.file_tree.specs.Entries.{byte_of, life_told, low, name_of}
+use Rattle.file_tree.specs.Entries.{byte_of, low, name_of}
 use Rattle.file_tree.specs.Table.{entry_in, IsUsed, IsBelowMaster, IsChild}
 
 -- Two entries have the same name, not an empty one.
@@ -22,8 +20,8 @@ abbrev pub IsAlone : List Entry → ℕ → Type 0
 IsAlone t e = (f : ℕ) → e < f → IsUsed t f → Alike e (entry_in t e) (entry_in t f) → ⊥
 
 -- No two used entries conflict.
-abbrev pub AreApart : List Entry → Type 0
-AreApart t = (e : ℕ) → IsUsed t e → IsAlone t e
+abbrev pub AreUnlike : List Entry → Type 0
+AreUnlike t = (e : ℕ) → IsUsed t e → IsAlone t e
 
 -- Each file but the MF is below it.
 abbrev pub AreBelow : List Entry → Type 0
@@ -54,13 +52,6 @@ TellsAbove t df id found =
     found ≡ (if not (df == 0) && ((entry_in t above).identifier == id) then Some above else
     if (entry_in t df).identifier == id then Some df else
     if master_file == id then Some 0 else None)
-
--- True if at most n steps to parents meet a file that bars.
-unfoldable pub barred_up : List Entry → ℕ → ℕ → Bool
-barred_up t zero e = false
-barred_up t (suc n) e =
-    if e == 0 then false
-    else (bars (life_told (entry_in t (entry_in t e).parent)) || barred_up t n (entry_in t e).parent)
 
 -- The word has the kind and the identifier of an entry, and another life cycle state.
 pub record TellsLife (x : Entry) (state w : ℕ) : Type 0 where

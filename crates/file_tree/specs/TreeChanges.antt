@@ -4,13 +4,13 @@ use Rattle.std.specs.List.{starts_with}
 use Rattle.std.specs.FinMap.{insert, retain_keys}
 use Rattle.nvm_board.specs.declared.board.TheConstants.{PAGE_WORDS}
 use Rattle.block_chain.specs.declared.layout.TheConstants.{HEADER_PAGE, FREE_HEAD_WORD, FIRST_BLOCK_PAGE}
-use Rattle.block_chain.specs.Words.{word}
+use Rattle.block_chain.specs.BlockWords.{word}
 use Rattle.block_chain.specs.Chains.{free_chain}
-use Rattle.block_chain.specs.Changes.{KeepsBlocks}
+use Rattle.block_chain.specs.ChainChanges.{KeepsBlocks}
 use Rattle.file_tree.specs.declared.layout.TheConstants.{FIRST_ENTRY_PAGE}
 use Rattle.card_state.specs.declared.limits.TheConstants.{ENTRIES}
 use Rattle.card_state.specs.declared.space.FreeSpace.{FreeSpace}
-use Rattle.card_state.specs.FileTrees.{File, file_at, bytes_of, with_bytes, overwrite}
+use Rattle.card_state.specs.FileTrees.{File, file_at, file_bytes, with_bytes, overwrite}
 use Rattle.file_tree.specs.Formats.{block_count, SameFormat}
 use Rattle.file_tree.specs.Table.{table, entry_in, path_of, IsUsed}
 use Rattle.file_tree.specs.Trees.{tree_of, TreeStands}
@@ -36,7 +36,7 @@ pub record KeepsTree (m after : List ℕ) : Type 0 where
 -- The file with bytes written over its own from an offset on.
 abbrev pub with_overwritten : File → ℕ → List ℕ → File
 with_overwritten file offset bytes =
-    record file { kind = with_bytes file.kind (overwrite (bytes_of file.kind) offset bytes) }
+    record file { kind = with_bytes file.kind (overwrite (file_bytes file.kind) offset bytes) }
 
 -- The bytes of an entry's file are overwritten. No other file changes.
 pub record Rewrites (m : List ℕ) (e offset : ℕ) (bytes after : List ℕ) : Type 0 where
