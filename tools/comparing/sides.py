@@ -120,10 +120,9 @@ class Reader:
         pcsc, end = self.pcsc, time.monotonic() + BACK_AFTER
         protocols = pcsc.SCARD_PROTOCOL_T0 | pcsc.SCARD_PROTOCOL_T1
         while True:
-            result, self.card, self.protocol = pcsc.SCardConnect(
-                self.context, self.name, pcsc.SCARD_SHARE_EXCLUSIVE, protocols
-            )
+            result, card, protocol = pcsc.SCardConnect(self.context, self.name, pcsc.SCARD_SHARE_EXCLUSIVE, protocols)
             if not result:
+                self.card, self.protocol = card, protocol
                 return
             if time.monotonic() > end:
                 self.check(result, f"no card in the reader {self.name}")
@@ -147,6 +146,8 @@ class Reader:
             self.card, pcsc.SCARD_SHARE_EXCLUSIVE, protocols, pcsc.SCARD_UNPOWER_CARD
         )
         if result:
+            # (the card was out meanwhile)
+            self.release()
             self.insert()
         result, _, _, _, atr = pcsc.SCardStatus(self.card)
         self.check(result, "the card has no answer to reset")
@@ -166,11 +167,19 @@ class Reader:
     def transmit(self, command: bytes) -> bytes:
         """A single exchange; no bytes where the reader has an error."""
         pcsc = self.pcsc
+        if self.card is None:
+            return b""
         header = pcsc.SCARD_PCI_T0 if self.protocol == pcsc.SCARD_PROTOCOL_T0 else pcsc.SCARD_PCI_T1
         result, answer = pcsc.SCardTransmit(self.card, header, list(command))
         return b"" if result else bytes(byte & 0xFF for byte in answer)
 
-    def close(self) -> None:
+    def release(self) -> None:
         """Leaves the card without power."""
-        self.pcsc.SCardDisconnect(self.card, self.pcsc.SCARD_UNPOWER_CARD)
+        if self.card is not None:
+            self.pcsc.SCardDisconnect(self.card, self.pcsc.SCARD_UNPOWER_CARD)
+            self.card = None
+
+    def close(self) -> None:
+        """Ends the use of the reader."""
+        self.release()
         self.pcsc.SCardReleaseContext(self.context)
