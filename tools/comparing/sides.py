@@ -3,6 +3,7 @@ from __future__ import annotations
 
 import subprocess
 import time
+from types import ModuleType
 from typing import Protocol
 
 from script_lines import ORDERS_THAT_PRINT
@@ -77,7 +78,7 @@ class Program:
             self.process.wait()
 
 
-def scard():
+def scard() -> ModuleType:
     """Debian's module for PC/SC."""
     try:
         from smartcard import scard as module
