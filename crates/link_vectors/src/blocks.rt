@@ -270,9 +270,11 @@ impl Card {
     /// Whether a command is to be run that ends with these bytes, behind those of the one block before, if there was
     /// one. Of its bytes 262 are kept.
     fn is_run(&self, field: &[u8]) -> bool {
+        if !self.end.waiting() {
+            return false;
+        }
         let command = self.end.command();
-        self.end.waiting()
-            && command.len() == self.table.kept.min(262)
+        command.len() == self.table.kept.min(262)
             && (self.table.kept == field.len() || command.starts_with(LONGEST_FIELD))
             && (self.table.kept > 262 || command.ends_with(field))
     }
