@@ -49,18 +49,29 @@ def check_lines(path):
 
 
 def read_lines(path):
-    """The lines of the file with their numbers, empty ones and comments but the two that part it left out."""
+    """The lines of the file with their numbers, but empty ones."""
     with open(path, encoding="latin-1", newline="") as it:
         lines = [line.removesuffix("\r") for line in it.read().split("\n")]
-    orders = [Order(number, line) for number, line in enumerate(lines, 1)]
-    return [it for it in orders if it.text in (COMMAND, PROBE) or it.text and not it.text.startswith("#")]
+    return [Order(number, line) for number, line in enumerate(lines, 1) if line]
+
+
+def without_comments(lines):
+    """The lines but comments, the two that part the script aside."""
+    return [it for it in lines if it.text in (COMMAND, PROBE) or not it.text.startswith("#")]
+
+
+def check_marks(lines):
+    """Refuses a script without one of the lines that part it, and names a line that is nearly one."""
+    for mark in (COMMAND, PROBE):
+        if all(it.text != mark for it in lines):
+            near = next((it for it in lines if "".join(it.text.lower().split()) == mark.replace(" ", "")), None)
+            hint = f"; line {near.line} is '{near.text}': write '{mark}'" if near else ""
+            raise Refused(f"there is no line '{mark}': it parts the script{hint}")
 
 
 def place_of(mark, lines):
     """Where the one line stands that is this mark."""
     places = [i for i, it in enumerate(lines) if it.text == mark]
-    if not places:
-        raise Refused(f"there is no line '{mark}': it parts the script")
     if len(places) > 1:
         first, second = (lines[i].line for i in places[:2])
         raise Refused(f"line {second}: a second '{mark}', after that of line {first}")
@@ -82,8 +93,13 @@ def command_of(mark, orders):
 def read_case(path):
     """The three parts of the file."""
     check_lines(path)
-    lines = read_lines(path)
+    all_lines = read_lines(path)
+    check_marks(all_lines)
+    lines = without_comments(all_lines)
     at, probe = place_of(COMMAND, lines), place_of(PROBE, lines)
     if probe < at:
         raise Refused(f"line {lines[probe].line}: '{PROBE}' stands before '{COMMAND}'")
-    return Case(lines[:at], command_of(lines[at], lines[at + 1 : probe]), lines[probe + 1 :])
+    case = Case(lines[:at], command_of(lines[at], lines[at + 1 : probe]), lines[probe + 1 :])
+    if not any(is_printing(it.text) for it in case.probe):
+        raise Refused(f"line {lines[probe].line}: nothing behind '{PROBE}' looks at the card, so a sweep would show nothing")
+    return case

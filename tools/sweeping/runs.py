@@ -53,11 +53,12 @@ def tasks_of(writes, pairs, depth):
             yield ((number, mask), depth), expected(pairs[number if is_made else number - 1], depth)
 
 
-def look_at_writes(pool, card, options):
-    """The command's device writes, and how many pairs count before each, and behind the last."""
+def look_at_writes(pool, card, answer, options):
+    """The device writes of the command, which is answered so uncut, and how many pairs count before each, and after all."""
     total = card.writes()
     if not total:
-        raise Refused(f"line {card.case.command.line}: the command makes no device write, so there is nothing to cut")
+        raise Refused(f"line {card.case.command.line}: the command makes no device write, so there is nothing to cut;"
+                      f" its answer is {answer}")
     pairs = []
     with Progress("writes looked at", total) as progress:
         for count in pool.imap(pairs_left, range(1, total + 1)):
@@ -73,7 +74,7 @@ def sweep_with(pool, card, options):
     card.check()
     answer, after = card.uncut()
     before = card.untouched()
-    writes, pairs = look_at_writes(pool, card, options)
+    writes, pairs = look_at_writes(pool, card, answer, options)
     sweep = Sweep(Command(card.case.command.text), answer, before, after, options.depth, writes, card.looks())
     tasks = list(tasks_of(writes, pairs, options.depth))
     with Progress("runs", sum(runs for _, runs in tasks)) as progress:
