@@ -39,12 +39,20 @@ def tagged(template: bytes) -> list[tuple[int, bytes]]:
     return found
 
 
-def condition(byte: int) -> str:
-    """A condition byte of a rule in words."""
+def meaning(byte: int) -> str | None:
+    """A condition byte of a rule: always, never, or the PIN that it asks for; None where it is no condition."""
     if byte in (0x00, 0xFF):
         return "always" if byte == 0 else "never"
     is_known = byte >> 4 in (1, 9) and 1 <= byte & 0xF <= 8
-    return f"asks for PIN {byte & 0xF}" if is_known else f"{byte:02X}, which is no condition"
+    return f"PIN {byte & 0xF}" if is_known else None
+
+
+def condition(byte: int) -> str:
+    """A condition byte of a rule in words."""
+    words = meaning(byte)
+    if words is None:
+        return f"{byte:02X}, which is no condition"
+    return f"asks for {words}" if words.startswith("PIN") else words
 
 
 class Template:

@@ -2,10 +2,12 @@
 import subprocess
 from itertools import count
 
+from card_image.layout import PAIRS
+
 from .case import Refused, is_printing
 
-# more writes than any start makes: a word for each of the journal's 432 pairs, and the gate
-START_WRITES = 434
+# more writes than any start makes: a word for each of the journal's pairs, and the gate
+START_WRITES = PAIRS + 2
 # the masks of a write of one word, which is all that a start makes
 START_MASKS = (0, 1)
 

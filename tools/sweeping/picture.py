@@ -1,6 +1,8 @@
 """The picture of a sweep: a column for each device write of the command, a row for each mask, coloured by what was found."""
 from xml.sax.saxutils import escape
 
+from svg import rect, text
+
 from .outcomes import AFTER, BEFORE, UNCHANGED
 from .table import counted, letter, numbers_told
 
@@ -12,16 +14,6 @@ GRID, COMMIT, TEXT, PAPER = "#d8d8d8", "#c00000", "#222222", "#ffffff"
 MARGIN, LABELS, HEAD, ROW, LINE = 16, 64, 92, 18, 18
 NARROWEST, WIDEST, WIDTH = 6, 26, 900
 LEAST_WIDTH = 560
-
-
-def rect(x, y, width, height, fill, more=""):
-    """A filled rectangle."""
-    return f'<rect x="{x:g}" y="{y:g}" width="{width:g}" height="{height:g}" fill="{fill}"{more}/>'
-
-
-def text(x, y, words, more=""):
-    """A line of text."""
-    return f'<text x="{x:g}" y="{y:g}"{more}>{escape(words)}</text>'
 
 
 def mark(middle, y):

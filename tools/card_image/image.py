@@ -1,0 +1,99 @@
+"""A memory image in a file: its words, its journal, and the words after undo (docs/MEMORY.md, "Undo")."""
+import fcntl
+import os
+import struct
+from dataclasses import dataclass
+from functools import cached_property
+
+from . import layout
+
+
+class Unreadable(Exception):
+    """Why a file can't be read as a memory image."""
+
+
+@dataclass(frozen=True)
+class Pair:
+    """A pair of the journal: an address, and the word that was there earlier."""
+
+    number: int
+    address: int
+    earlier: int
+
+
+@dataclass(frozen=True)
+class Image:
+    """The words of a memory, in their order."""
+
+    words: tuple[int, ...]
+
+    @property
+    def pages(self) -> int:
+        return len(self.words) // layout.PAGE_WORDS
+
+    @property
+    def gate(self) -> int:
+        """How many pairs of the journal count."""
+        return self.words[layout.GATE]
+
+    @cached_property
+    def pairs(self) -> list[Pair]:
+        """The pairs that count, as far as the journal has room for them."""
+        at = layout.JOURNAL
+        counting = range(min(self.gate, layout.PAIRS))
+        return [Pair(it, self.words[at + 2 * it], self.words[at + 2 * it + 1]) for it in counting]
+
+    def bad_journal(self) -> tuple[str, str] | None:
+        """The place that makes the journal a bad one, and why; None where undo is defined."""
+        if self.gate > layout.PAIRS:
+            return f"page {layout.GATE_PAGE}, word 0", f"{self.gate} pairs count, of at most {layout.PAIRS}"
+        for pair in self.pairs:
+            page = pair.address // layout.PAGE_WORDS
+            where = f"journal pair {pair.number}"
+            if page >= self.pages:
+                return where, f"address {pair.address} is past the memory's end"
+            if layout.GATE_PAGE <= page < layout.BLOCK_PAGE:
+                return where, f"address {pair.address} is in the journal itself"
+        return None
+
+    @cached_property
+    def undone(self) -> list[int]:
+        """The words after undo of a good journal: of the pairs with one address the first counts."""
+        words = list(self.words)
+        for pair in reversed(self.pairs):
+            words[pair.address] = pair.earlier
+        words[layout.GATE] = 0
+        return words
+
+
+def image_of(data: bytes) -> Image:
+    """The image that these bytes are, the most significant byte of each word first."""
+    return Image(struct.unpack(f">{len(data) // layout.WORD_BYTES}I", data))
+
+
+def read_image(path: str) -> tuple[Image, bool]:
+    """The image in a file, and whether another program has the file locked."""
+    try:
+        with open(path, "rb") as it:
+            is_used = not can_lock(it.fileno())
+            data = it.read(layout.MOST_PAGES * layout.PAGE_BYTES + 1)
+            size = os.fstat(it.fileno()).st_size
+    except OSError as error:
+        raise Unreadable(f"{path}: {error.strerror}") from error
+    if len(data) % layout.PAGE_BYTES or not layout.LEAST_PAGES <= len(data) // layout.PAGE_BYTES <= layout.MOST_PAGES:
+        raise Unreadable(
+            f"{path} has {max(size, len(data)):,} bytes; a memory image has {layout.PAGE_BYTES} bytes a page,"
+            f" and {layout.LEAST_PAGES:,} to {layout.MOST_PAGES:,} pages"
+        )
+    return image_of(data), is_used
+
+
+def can_lock(descriptor: int) -> bool:
+    """Whether no other program has the file locked."""
+    try:
+        fcntl.flock(descriptor, fcntl.LOCK_SH | fcntl.LOCK_NB)
+    except BlockingIOError:
+        return False
+    except OSError:
+        pass
+    return True
