@@ -1,22 +1,52 @@
 //! The bench as a program: runs a script from standard input, and prints its output.
+//! With `--card FILE` it runs the script on the card in FILE.
 #![tactic(auto)]
 
 ghost use Rattle.std.specs.Prelude.{◌≡◌};
 ghost use Rattle.card_bench.specs.Faults.{status_of};
 
-use card_bench::{RunFault, run};
-use std::io::{self, BufReader};
+mod card_file;
+mod kept_file;
+mod options;
+
+use card_bench::{RunFault, run, run_on};
+use card_file::{CardFault, open_card};
+use options::{Asked, read_words};
+use std::env;
+use std::io::{self, BufReader, ErrorKind};
 use std::process::ExitCode;
 
-/// Reports a bad line on standard error, and returns the exit status.
+/// The exit status if a file is not taken as a card's.
+const NO_CARD: u8 = 6;
+
+/// Reports a bad line, or a failed file, on standard error, and returns the exit status.
 fn report(rt: &impl Eprint, fault: &RunFault) -> u8
     ensures { result ≡ status_of fault.now }
 {
-    if let RunFault::BadLine(_) = fault {
+    if let RunFault::BadLine(_) | RunFault::Unkept = fault {
         // The exit status reports the fault even if standard error fails.
         let _ = rt.eprintln(fault);
     }
     fault.status()
+}
+
+/// Reports on standard error why a file is not taken as a card's, and returns the exit status.
+fn refuse(rt: &impl Eprint, fault: &CardFault) -> ExitCode {
+    let _ = rt.eprintln(format_args!("error card: {fault}"));
+    ExitCode::from(NO_CARD)
+}
+
+/// Returns what the command line asks for.
+/// A word that is not UTF-8 is no option, so then it asks for the factory card.
+fn asked(rt: &HostRuntime) -> Result<Asked, RunFault> {
+    match env::args(rt) {
+        Ok(mut words) => {
+            let _program = words.next();
+            Ok(read_words(words))
+        }
+        Err(error) if error.kind() == ErrorKind::OutOfMemory => Err(RunFault::Memory),
+        Err(_) => Ok(Asked::Factory),
+    }
 }
 
 /// Runs the script from standard input. The exit status is 0, or that of the fault.
@@ -24,7 +54,16 @@ fn main(rt: HostRuntime) -> ExitCode {
     let Ok(mut reader) = BufReader::new(rt.alloc(), rt.reader()) else {
         return ExitCode::from(RunFault::Memory.status());
     };
-    match run(rt.alloc(), &mut reader, &mut io::writer(&rt)) {
+    let ran = match asked(&rt) {
+        Err(fault) => Err(fault),
+        Ok(Asked::Factory) => run(rt.alloc(), &mut reader, &mut io::writer(&rt)),
+        Ok(Asked::Unknown) => return refuse(&rt, &CardFault::Usage),
+        Ok(Asked::Card(options)) => match open_card(&rt, &options) {
+            Ok(board) => run_on(board, &mut reader, &mut io::writer(&rt)),
+            Err(fault) => return refuse(&rt, &fault),
+        },
+    };
+    match ran {
         Ok(()) => ExitCode::SUCCESS,
         Err(fault) => ExitCode::from(report(&rt, &fault)),
     }

@@ -1,11 +1,11 @@
 -- Formatting a new board succeeds: no cut is due, and no count stands at its end.
-use Rattle.std.specs.Prelude.{◌≡◌, ◌<◌, ◌*◌, ℕ, zero, suc, true, false, List, Option, None, Some, Err, Contains, length}
+use Rattle.std.specs.Prelude.{◌≡◌, ◌<◌, ◌≤◌, ◌-◌, ◌*◌, ℕ, zero, suc, true, false, List, Option, None, Some, Err, Contains, length}
 use Rattle.std.specs.Prelude.{replicate, slice_index_or, refl}
 use Rattle.std.proofs.Common.{arith, inl, inr, subst, sym, ap, ◌∙◌, true≢false}
 use Rattle.nvm_board.specs.declared.board.Arm.{Arm}
 use Rattle.nvm_board.specs.declared.board.DeviceErr.{DeviceErr}
 use Rattle.nvm_board.specs.declared.board.DeviceErr.TheVariants.{PowerLost, Fault}
-use Rattle.nvm_board.specs.declared.board.TheConstants.{COUNT_END, LEAST_PAGES, PAGE_WORDS}
+use Rattle.nvm_board.specs.declared.board.TheConstants.{COUNT_END, MOST_PAGES, PAGE_WORDS}
 use Rattle.nvm_board.specs.Aims.{due_of}
 use Rattle.nvm_board.specs.Facts.{Answered, Facts, GoesDark, Steady, new_board, pages_of}
 use Rattle.std.proofs.lemmas.List.{length-replicate}
@@ -15,21 +15,23 @@ use Rattle.undo_journal.specs.Spending.{WritesAtMost}
 use Rattle.card_core.specs.Factory.{factory_card}
 use Rattle.command_base.specs.Finding.{Finds}
 use Rattle.card_turns.specs.BenchStates.{BenchState, off, bench_card, bench_facts, IsOff}
+use Rattle.t1_link.specs.ReaderTable.{Reader}
+use Rattle.card_bench.specs.declared.line.Line.{Line}
 use Rattle.card_bench.specs.Exchanges.{Desk}
 use Rattle.card_turns.specs.Plays.{IsGood}
-use Rattle.card_bench.specs.Prints.{IsFirstDesk, IsJustWritten}
+use Rattle.card_bench.specs.Prints.{IsFirstDesk, IsJustWritten, IsNewlyWritten, desk_of}
 
--- a new board of 1,024 pages has room for 896 blocks
-pub new_pages : (old : Facts) → old ≡ new_board LEAST_PAGES → pages_of old.words ≡ LEAST_PAGES
-new_pages old is =
-    let size : length old.words ≡ PAGE_WORDS * LEAST_PAGES =
-    ap (λ (f : Facts). length f.words) is ∙ length-replicate {A = ℕ} (PAGE_WORDS * LEAST_PAGES) 0 in
+-- a new board has room for as many blocks as it has pages from page 128 on
+pub new_pages : (n : ℕ) (old : Facts) → old ≡ new_board n → pages_of old.words ≡ n
+new_pages n old is =
+    let size : length old.words ≡ PAGE_WORDS * n =
+    ap (λ (f : Facts). length f.words) is ∙ length-replicate {A = ℕ} (PAGE_WORDS * n) 0 in
     omega (arith, size)
 
-pub new_blocks : (old new : Facts) → old ≡ new_board LEAST_PAGES → length new.words ≡ length old.words
-    → board_blocks new.words ≡ 896
-new_blocks old new is size =
-    let pages = new_pages old is in
+pub new_blocks : (n : ℕ) (old new : Facts) → old ≡ new_board n → length new.words ≡ length old.words
+    → board_blocks new.words ≡ n - 128
+new_blocks n old new is size =
+    let pages = new_pages n old is in
     let same = pages_same old.words new.words size in
     omega (arith, pages, same)
 
@@ -47,36 +49,36 @@ new_count counts none at_end =
     omega (arith, same)
 
 -- power isn't lost
-stays_lit : (old new : Facts) → old ≡ new_board LEAST_PAGES → new.faults ≡ 0
-    → WritesAtMost LEAST_PAGES old new → GoesDark old new → ⊥
-stays_lit old new is none counts dark = elim dark.due [
+stays_lit : (n : ℕ) (old new : Facts) → n ≤ MOST_PAGES → old ≡ new_board n → new.faults ≡ 0
+    → WritesAtMost n old new → GoesDark old new → ⊥
+stays_lit n old new most is none counts dark = elim dark.due [
   | inl spent ↦ let due : old.due ≡ 0 = ap (λ (f : Facts). f.due) is in omega (arith, spent, due)
   | inr worn ↦ elim worn.0 [
     | inl faults ↦ omega (arith, faults, none)
     | inr (inl writes) ↦
         let before : old.writes ≡ 0 = ap (λ (f : Facts). f.writes) is in
         let few = counts.writes in
-        omega (arith, writes, before, few)
+        omega (arith, writes, before, few, most)
     | inr (inr (inl compares)) ↦ new_count new.compares (counts.compares ∙ ap (λ (f : Facts). f.compares) is) compares
     | inr (inr (inr matches)) ↦ new_count new.matches (counts.matches ∙ ap (λ (f : Facts). f.matches) is) matches
   ]
 ]
 
-pub format_succeeds : (old new : Facts) (e : DeviceErr) → old ≡ new_board LEAST_PAGES → new.faults ≡ 0
-    → WritesAtMost LEAST_PAGES old new → Answered {T = Unit {0}} old new (Err e) → ⊥
-format_succeeds old new Fault is none counts answered = let rises = (answered.fault refl).faults in
+pub format_succeeds : (n : ℕ) (old new : Facts) (e : DeviceErr) → n ≤ MOST_PAGES → old ≡ new_board n
+    → new.faults ≡ 0 → WritesAtMost n old new → Answered {T = Unit {0}} old new (Err e) → ⊥
+format_succeeds n old new Fault most is none counts answered = let rises = (answered.fault refl).faults in
     omega (arith, none, rises)
-format_succeeds old new PowerLost is none counts answered = elim (answered.lost refl) [
-  | inl dark ↦ stays_lit old new is none counts dark
+format_succeeds n old new PowerLost most is none counts answered = elim (answered.lost refl) [
+  | inl dark ↦ stays_lit n old new most is none counts dark
   | inr dark ↦
       let lit : old.dark ≡ false = ap (λ (f : Facts). f.dark) is in
       true≢false (sym dark.0 ∙ lit)
 ]
 
 -- a new board on which the factory's card was written
-pub just_written : (old new : Facts) → old ≡ new_board LEAST_PAGES → Steady old new
-    → WritesAtMost LEAST_PAGES old new → IsJustWritten new
-just_written old new is steady spent =
+pub just_written : (n : ℕ) (old new : Facts) → old ≡ new_board n → Steady old new
+    → WritesAtMost n old new → IsNewlyWritten n new
+just_written n old new is steady spent =
     let due : old.due ≡ 0 = ap (λ (f : Facts). f.due) is in
     let cuts : old.cuts ≡ 0 = ap (λ (f : Facts). f.cuts) is in
     let writes : old.writes ≡ 0 = ap (λ (f : Facts). f.writes) is in
@@ -112,3 +114,14 @@ first_desk d f bench reader line finds counts faults due = record {
   reader = reader;
   line = line;
 }
+
+-- a desk is told by its three parts
+pub desk_is : (d : Desk) (f : Facts) → d.bench ≡ off (record f { dark = true }) → d.reader ≡ None
+    → d.line ≡ record { lose = None; garble = None } → d ≡ desk_of f
+desk_is d f bench reader line =
+    ap (λ (b : BenchState). with_parts b d.reader d.line) bench
+    ∙ ap (λ (r : Option Reader). with_parts (off (record f { dark = true })) r d.line) reader
+    ∙ ap (λ (l : Line). with_parts (off (record f { dark = true })) None l) line
+  where
+    with_parts : BenchState → Option Reader → Line → Desk
+    with_parts bench reader line = record { bench = bench; reader = reader; line = line }

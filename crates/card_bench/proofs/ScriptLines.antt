@@ -16,13 +16,13 @@ use Rattle.bench_lines.specs.Scripts.{AreOrders, CountsTaken, FailsAtLine, IsInL
 use Rattle.bench_lines.specs.Scripts.{WhereKnown}
 use Rattle.bench_lines.specs.laws.TextLines.{IsLong, lines-last, lines-line, lines-long, order_of-empty, order_of-long}
 use Rattle.bench_lines.specs.laws.TextLines.{order_of-none, orders-more, strip-within}
-use Rattle.card_bench.specs.ScriptEndings.{HasWritten, IsReadInto, IsRunInto, IsRunToEnd, IsRunToLine}
+use Rattle.card_bench.specs.ScriptEndings.{HasWritten, IsReadInto, IsRunInto, IsRunToEnd, IsRunToLine, IsRunUnkept}
 use Rattle.card_bench.specs.Exchanges.{Desk}
 use Rattle.card_bench.specs.Performing.{Performs}
 use Rattle.card_turns.specs.Plays.{IsGood}
 use Rattle.card_bench.specs.Printouts.{Print, text_of}
 use Rattle.card_bench.specs.Printouts as print
-use Rattle.card_bench.specs.Prints.{IsFirstDesk, LinesPrint, PrintsLines}
+use Rattle.card_bench.specs.Prints.{LinesPrint, PrintsLines}
 
 -- it prints nothing
 silent : (order : Order) (prints : Print) (desk desk' : Desk) → order_of [] ≡ Some order
@@ -70,7 +70,7 @@ unfolding PrintsLines
 prints_none desk = (refl, refl)
 
 -- The script up to here: its lines so far all ask for something, their bytes were counted, and they were carried out.
-pub record Runs (script rest : List ℕ) (n taken : ℕ) (desk : Desk) (out : List ℕ) : Type 0 where
+pub record Runs (first : Desk) (script rest : List ℕ) (n taken : ℕ) (desk : Desk) (out : List ℕ) : Type 0 where
   pub front : List ℕ
   pub done : List (List ℕ)
   pub split : script ≡ front ++ rest
@@ -79,22 +79,20 @@ pub record Runs (script rest : List ℕ) (n taken : ℕ) (desk : Desk) (out : Li
   pub number : length done ≡ n
   pub orders : AreOrders done
   pub size : length front ≡ taken
-  pub first : Desk
-  pub begins : IsFirstDesk first
   pub prints : PrintsLines first done desk out
 
 -- the same, where the reader and the writer tell their bytes
-abbrev pub HasRun : Option (List ℕ) → Option (List ℕ) → ℕ → ℕ → Desk → Option (List ℕ) → Option (List ℕ) → Type 0
-HasRun None now n taken desk held holds = Unit {0}
-HasRun (Some script) None n taken desk held holds = ⊥
-HasRun (Some script) (Some rest) n taken desk held holds = (out : List ℕ) × Runs script rest n taken desk out
+abbrev pub HasRun : Desk → Option (List ℕ) → Option (List ℕ) → ℕ → ℕ → Desk → Option (List ℕ) → Option (List ℕ) → Type 0
+HasRun first None now n taken desk held holds = Unit {0}
+HasRun first (Some script) None n taken desk held holds = ⊥
+HasRun first (Some script) (Some rest) n taken desk held holds = (out : List ℕ) × Runs first script rest n taken desk out
     × Appends held holds out
 
 -- nothing was read yet
-pub begins_run : (script : Option (List ℕ)) (desk : Desk) (held : Option (List ℕ)) → IsFirstDesk desk
-    → HasRun script script 0 0 desk held held
-begins_run None desk held first = tt
-begins_run (Some script) desk held first = (
+pub begins_run : (script : Option (List ℕ)) (desk : Desk) (held : Option (List ℕ))
+    → HasRun desk script script 0 0 desk held held
+begins_run None desk held = tt
+begins_run (Some script) desk held = (
   [],
   record {
     front = [];
@@ -105,22 +103,19 @@ begins_run (Some script) desk held first = (
     number = refl;
     orders = refl;
     size = refl;
-    first = desk;
-    begins = first;
     prints = prints_none desk;
   },
   Appends-nil held,
 )
 
 -- some lines print this
-pub printed : (script rest : List ℕ) (n taken : ℕ) (desk : Desk) (out : List ℕ)
-    (run : Runs script rest n taken desk out) → LinesPrint run.done out
-printed script rest n taken desk out run =
-    record { first = run.first; last = desk; begins = run.begins; all = run.prints }
+pub printed : (first : Desk) (script rest : List ℕ) (n taken : ℕ) (desk : Desk) (out : List ℕ)
+    (run : Runs first script rest n taken desk out) → LinesPrint first run.done out
+printed first script rest n taken desk out run = record { last = desk; all = run.prints }
 
 -- one more line, that ends with a line feed
-module _ (script rest rest' line : List ℕ) (n taken taken' : ℕ) (desk : Desk) (out : List ℕ)
-    (run : Runs script rest n taken desk out) where
+module _ (first : Desk) (script rest rest' line : List ℕ) (n taken taken' : ℕ) (desk : Desk) (out : List ℕ)
+    (run : Runs first script rest n taken desk out) where
   all_lines : lines script ≡ run.done ++ lines rest
   all_lines = ap lines run.split ∙ run.goes rest
 
@@ -148,7 +143,7 @@ module _ (script rest rest' line : List ℕ) (n taken taken' : ℕ) (desk : Desk
 
     next : (desk' : Desk) (order : Order) (prints : Print) → length rest + taken ≡ length rest' + taken'
         → order_of line ≡ Some order → Performs order desk desk' prints → IsGood desk'.bench
-        → Runs script rest' (n + 1) taken' desk' (out ++ text_of prints)
+        → Runs first script rest' (n + 1) taken' desk' (out ++ text_of prints)
     next desk' order prints counted good performs well = record {
       front = run.front ++ (bytes ++ 10 ∷ []);
       done = run.done ++ line ∷ [];
@@ -158,9 +153,7 @@ module _ (script rest rest' line : List ℕ) (n taken taken' : ℕ) (desk : Desk
       number = let sum = length-append run.done (line ∷ []) in let is_n = run.number in omega (arith, sum, is_n);
       orders = orders-more run.done line run.orders (ap is_some good);
       size = size_on counted;
-      first = run.first;
-      begins = run.begins;
-      prints = prints_more run.first desk desk' run.done out line order prints run.prints good performs well;
+      prints = prints_more first desk desk' run.done out line order prints run.prints good performs well;
     }
 
     fed_rest : lines script ≡ (run.done ++ line ∷ []) ++ lines rest'
@@ -225,117 +218,115 @@ module _ (script rest rest' line : List ℕ) (n taken taken' : ℕ) (desk : Desk
         only (b ∷ l) none = ap (λ (e : Bool). cond e [] ((b ∷ l) ∷ [])) (some_bytes b l)
 
 -- a line that ends with a line feed
-pub goes_on : (script old new : Option (List ℕ)) (n taken taken' : ℕ) (line : List ℕ) (desk desk' : Desk)
-    (held before holds : Option (List ℕ)) (order : Order) (prints : Print) → HasRun script old n taken desk held before
+pub goes_on : (first : Desk) (script old new : Option (List ℕ)) (n taken taken' : ℕ) (line : List ℕ) (desk desk' : Desk)
+    (held before holds : Option (List ℕ)) (order : Order) (prints : Print) → HasRun first script old n taken desk held before
     → TakesLine old new line LineFeed
     → CountsTaken old new taken taken' → order_of line ≡ Some order → Performs order desk desk' prints
-    → IsGood desk'.bench → Appends before holds (text_of prints) → HasRun script new (n + 1) taken' desk' held holds
-goes_on None old new n taken taken' line desk desk' held before holds order prints run takes counted good
+    → IsGood desk'.bench → Appends before holds (text_of prints) → HasRun first script new (n + 1) taken' desk' held holds
+goes_on first None old new n taken taken' line desk desk' held before holds order prints run takes counted good
     performs well wrote = tt
-goes_on (Some script) None new n taken taken' line desk desk' held before holds order prints run takes counted good
+goes_on first (Some script) None new n taken taken' line desk desk' held before holds order prints run takes counted good
     performs well wrote = absurd run
-goes_on (Some script) (Some rest) None n taken taken' line desk desk' held before holds order prints run takes counted
+goes_on first (Some script) (Some rest) None n taken taken' line desk desk' held before holds order prints run takes counted
     good performs well wrote = absurd counted
-goes_on (Some script) (Some rest) (Some rest') n taken taken' line desk desk' held before holds order prints run takes
+goes_on first (Some script) (Some rest) (Some rest') n taken taken' line desk desk' held before holds order prints run takes
     counted good performs well wrote = (
       run.0 ++ text_of prints,
-      next script rest rest' line n taken taken' desk run.0 run.1 takes.0 takes.1 takes.2 takes.3 desk' order prints
+      next first script rest rest' line n taken taken' desk run.0 run.1 takes.0 takes.1 takes.2 takes.3 desk' order prints
           counted good performs well,
       Appends-trans held before holds run.0 (text_of prints) run.2 wrote,
     )
 
 -- the last line: what it prints is written
-whole : (script rest rest' line : List ℕ) (n taken taken' : ℕ) (desk desk' : Desk) (out : List ℕ)
-    (run : Runs script rest n taken desk out) (held before holds : Option (List ℕ)) (order : Order) (prints : Print)
+whole : (first : Desk) (script rest rest' line : List ℕ) (n taken taken' : ℕ) (desk desk' : Desk) (out : List ℕ)
+    (run : Runs first script rest n taken desk out) (held before holds : Option (List ℕ)) (order : Order) (prints : Print)
     → rest ≡ line ++ rest' → rest' ≡ [] → IsInLine line
     → Appends held before out → order_of line ≡ Some order → Performs order desk desk' prints → IsGood desk'.bench
-    → Appends before holds (text_of prints) → AreOrders (lines script) × HasWritten held (lines script) holds
-whole script rest rest' [] n taken taken' desk desk' out run held before holds order prints is none inside held_out
+    → Appends before holds (text_of prints) → AreOrders (lines script) × HasWritten first held (lines script) holds
+whole first script rest rest' [] n taken taken' desk desk' out run held before holds order prints is none inside held_out
     good performs well wrote =
-    let all : lines script ≡ run.done = last_lines script rest rest' [] n taken taken' desk out run is none inside
+    let all : lines script ≡ run.done = last_lines first script rest rest' [] n taken taken' desk out run is none inside
     ∙ append-nil run.done in (
       subst AreOrders (sym all) run.orders,
       (
         out,
-        subst (λ (ls : List (List ℕ)). LinesPrint ls out) (sym all) (printed script rest n taken desk out run),
+        subst (λ (ls : List (List ℕ)). LinesPrint first ls out) (sym all) (printed first script rest n taken desk out run),
         subst (Appends held holds) (ap (λ (l : List ℕ). out ++ l) (silent order prints desk desk' good performs)
             ∙ append-nil out) (Appends-trans held before holds out (text_of prints) held_out wrote),
       ),
     )
-whole script rest rest' (b ∷ l) n taken taken' desk desk' out run held before holds order prints is none inside held_out
+whole first script rest rest' (b ∷ l) n taken taken' desk desk' out run held before holds order prints is none inside held_out
     good performs well wrote =
     let all : lines script ≡ run.done ++ (b ∷ l) ∷ [] =
-    last_lines script rest rest' (b ∷ l) n taken taken' desk out run is none inside
+    last_lines first script rest rest' (b ∷ l) n taken taken' desk out run is none inside
     ∙ ap (λ (e : Bool). run.done ++ cond e [] ((b ∷ l) ∷ [])) (some_bytes b l) in (
       subst AreOrders (sym all) (orders-more run.done (b ∷ l) run.orders (ap is_some good)),
       (
         out ++ text_of prints,
-        subst (λ (ls : List (List ℕ)). LinesPrint ls (out ++ text_of prints)) (sym all) (record {
-          first = run.first;
+        subst (λ (ls : List (List ℕ)). LinesPrint first ls (out ++ text_of prints)) (sym all) (record {
           last = desk';
-          begins = run.begins;
-          all = prints_more run.first desk desk' run.done out (b ∷ l) order prints run.prints good performs well;
+          all = prints_more first desk desk' run.done out (b ∷ l) order prints run.prints good performs well;
         }),
         Appends-trans held before holds out (text_of prints) held_out wrote,
       ),
     )
 
-pub is_done : (script old new : Option (List ℕ)) (n taken taken' : ℕ) (line : List ℕ) (desk desk' : Desk)
-    (held before holds : Option (List ℕ)) (order : Order) (prints : Print) → HasRun script old n taken desk held before
+pub is_done : (first : Desk) (script old new : Option (List ℕ)) (n taken taken' : ℕ) (line : List ℕ) (desk desk' : Desk)
+    (held before holds : Option (List ℕ)) (order : Order) (prints : Print) → HasRun first script old n taken desk held before
     → TakesLine old new line EndOfScript
     → CountsTaken old new taken taken' → taken' ≤ SCRIPT_LIMIT → order_of line ≡ Some order
     → Performs order desk desk' prints → IsGood desk'.bench → Appends before holds (text_of prints)
-    → IfSome script (λ bytes. IsRunToEnd bytes held holds)
-is_done None old new n taken taken' line desk desk' held before holds order prints run takes counted within good
+    → IfSome script (λ bytes. IsRunToEnd first bytes held holds)
+is_done first None old new n taken taken' line desk desk' held before holds order prints run takes counted within good
     performs well wrote = tt
-is_done (Some script) None new n taken taken' line desk desk' held before holds order prints run takes counted within
+is_done first (Some script) None new n taken taken' line desk desk' held before holds order prints run takes counted within
     good performs well wrote = absurd run
-is_done (Some script) (Some rest) None n taken taken' line desk desk' held before holds order prints run takes counted
+is_done first (Some script) (Some rest) None n taken taken' line desk desk' held before holds order prints run takes counted
     within good performs well wrote =
     absurd counted
-is_done (Some script) (Some rest) (Some rest') n taken taken' line desk desk' held before holds order prints run takes
+is_done first (Some script) (Some rest) (Some rest') n taken taken' line desk desk' held before holds order prints run takes
     counted within good performs well wrote =
-    let all = whole script rest rest' line n taken taken' desk desk' run.0 run.1 held before holds
+    let all = whole first script rest rest' line n taken taken' desk desk' run.0 run.1 held before holds
     order prints takes.0 takes.1 takes.2 run.2 good performs well wrote in
     record {
       good = record {
         orders = all.0;
-        size = last_size script rest rest' line n taken taken' desk run.0 run.1 takes.0 takes.1 takes.2 counted within;
+        size = last_size first script rest rest' line n taken taken' desk run.0 run.1 takes.0 takes.1 takes.2 counted within;
       };
       written = all.1;
     }
 
 -- a bad line
-pub is_bad : (script old new : Option (List ℕ)) (n taken taken' : ℕ) (line : List ℕ) (end : LineEnd) (desk : Desk)
-    (held holds : Option (List ℕ)) → HasRun script old n taken desk held holds → TakesLine old new line end
+pub is_bad : (first : Desk) (script old new : Option (List ℕ)) (n taken taken' : ℕ) (line : List ℕ) (end : LineEnd) (desk : Desk)
+    (held holds : Option (List ℕ)) → HasRun first script old n taken desk held holds → TakesLine old new line end
     → CountsTaken old new taken taken' → taken' ≤ SCRIPT_LIMIT
-    → order_of line ≡ None → IfSome script (λ bytes. IsRunToLine (n + 1) bytes held holds)
+    → order_of line ≡ None → IfSome script (λ bytes. IsRunToLine first (n + 1) bytes held holds)
 unfolding fed_fails last_fails
-is_bad None old new n taken taken' line end desk held holds run takes counted within bad = tt
-is_bad (Some script) None new n taken taken' line end desk held holds run takes counted within bad = absurd run
-is_bad (Some script) (Some rest) None n taken taken' line end desk held holds run takes counted
+is_bad first None old new n taken taken' line end desk held holds run takes counted within bad = tt
+is_bad first (Some script) None new n taken taken' line end desk held holds run takes counted within bad = absurd run
+is_bad first (Some script) (Some rest) None n taken taken' line end desk held holds run takes counted
     within bad = absurd counted
-is_bad (Some script) (Some rest) (Some rest') n taken taken' line LineFeed desk held holds run takes
+is_bad first (Some script) (Some rest) (Some rest') n taken taken' line LineFeed desk held holds run takes
     counted within bad = record {
-      fails = fed_fails script rest rest' line n taken taken' desk run.0 run.1 takes.0 takes.1 takes.2
+      fails = fed_fails first script rest rest' line n taken taken' desk run.0 run.1 takes.0 takes.1 takes.2
           takes.3 counted within bad;
-      written = (run.0, printed script rest n taken desk run.0 run.1, run.2);
+      written = (run.0, printed first script rest n taken desk run.0 run.1, run.2);
     }
-is_bad (Some script) (Some rest) (Some rest') n taken taken' line EndOfScript desk held holds run takes
+is_bad first (Some script) (Some rest) (Some rest') n taken taken' line EndOfScript desk held holds run takes
     counted within bad = record {
-      fails = last_fails script rest rest' line n taken taken' desk run.0 run.1 takes.0 takes.1
+      fails = last_fails first script rest rest' line n taken taken' desk run.0 run.1 takes.0 takes.1
           takes.2 counted within bad;
-      written = (run.0, printed script rest n taken desk run.0 run.1, run.2);
+      written = (run.0, printed first script rest n taken desk run.0 run.1, run.2);
     }
 
 -- a line of too many bytes
-pub is_too_long : (script old new : Option (List ℕ)) (n taken taken' : ℕ) (desk : Desk) (held holds : Option (List ℕ))
-    → HasRun script old n taken desk held holds → TakesTooMuch old new taken taken' → taken' ≤ SCRIPT_LIMIT
-    → IfSome script (λ bytes. IsRunToLine (n + 1) bytes held holds)
-is_too_long None old new n taken taken' desk held holds run takes within = tt
-is_too_long (Some script) None new n taken taken' desk held holds run takes within = absurd run
-is_too_long (Some script) (Some rest) None n taken taken' desk held holds run takes within = absurd takes.1
-is_too_long (Some script) (Some rest) (Some rest') n taken taken' desk held holds run takes within = record {
+pub is_too_long : (first : Desk) (script old new : Option (List ℕ)) (n taken taken' : ℕ) (desk : Desk) (held holds : Option (List ℕ))
+    → HasRun first script old n taken desk held holds → TakesTooMuch old new taken taken' → taken' ≤ SCRIPT_LIMIT
+    → IfSome script (λ bytes. IsRunToLine first (n + 1) bytes held holds)
+is_too_long first None old new n taken taken' desk held holds run takes within = tt
+is_too_long first (Some script) None new n taken taken' desk held holds run takes within = absurd run
+is_too_long first (Some script) (Some rest) None n taken taken' desk held holds run takes within = absurd takes.1
+is_too_long first (Some script) (Some rest) (Some rest') n taken taken' desk held holds run takes within = record {
   fails = record {
     before = run.1.done;
     line = long.0;
@@ -356,7 +347,7 @@ is_too_long (Some script) (Some rest) (Some rest') n taken taken' desk held hold
         let counted = takes.4 in
         omega (arith, sum, size, parts, counted, within);
   };
-  written = (run.0, printed script rest n taken desk run.0 run.1, run.2);
+  written = (run.0, printed first script rest n taken desk run.0 run.1, run.2);
 }
   where
     long : IsLong (lines (takes.0 ++ rest'))
@@ -371,18 +362,18 @@ is_too_long (Some script) (Some rest) (Some rest') n taken taken' desk held hold
         lines-last takes.0 takes.2 ∙ ap (λ (b : Bool). cond b [] (takes.0 ∷ [])) some
 
 -- the bytes of the lines so far
-front_lines : (script rest : List ℕ) (n taken : ℕ) (desk : Desk) (out : List ℕ)
-    (run : Runs script rest n taken desk out) → lines run.front ≡ run.done
-front_lines script rest n taken desk out run = ap lines (sym (append-nil run.front)) ∙ run.goes [] ∙ append-nil run.done
+front_lines : (first : Desk) (script rest : List ℕ) (n taken : ℕ) (desk : Desk) (out : List ℕ)
+    (run : Runs first script rest n taken desk out) → lines run.front ≡ run.done
+front_lines first script rest n taken desk out run = ap lines (sym (append-nil run.front)) ∙ run.goes [] ∙ append-nil run.done
 
 -- no more is read
-pub is_unread : (script old new : Option (List ℕ)) (n taken taken' : ℕ) (desk : Desk) (held holds : Option (List ℕ))
-    → HasRun script old n taken desk held holds → TakesInto old new taken taken' → taken' ≤ SCRIPT_LIMIT
-    → WhereKnown script new (λ bytes left. IsReadInto bytes left held holds)
-is_unread None old new n taken taken' desk held holds run takes most = tt
-is_unread (Some script) None new n taken taken' desk held holds run takes most = absurd run
-is_unread (Some script) (Some rest) None n taken taken' desk held holds run takes most = absurd takes.1
-is_unread (Some script) (Some rest) (Some rest') n taken taken' desk held holds run takes most = record {
+pub is_unread : (first : Desk) (script old new : Option (List ℕ)) (n taken taken' : ℕ) (desk : Desk) (held holds : Option (List ℕ))
+    → HasRun first script old n taken desk held holds → TakesInto old new taken taken' → taken' ≤ SCRIPT_LIMIT
+    → WhereKnown script new (λ bytes left. IsReadInto first bytes left held holds)
+is_unread first None old new n taken taken' desk held holds run takes most = tt
+is_unread first (Some script) None new n taken taken' desk held holds run takes most = absurd run
+is_unread first (Some script) (Some rest) None n taken taken' desk held holds run takes most = absurd takes.1
+is_unread first (Some script) (Some rest) (Some rest') n taken taken' desk held holds run takes most = record {
   front = run.1.front;
   begun = takes.0;
   parts = run.1.split ∙ ap (λ (l : List ℕ). run.1.front ++ l) takes.1 ∙ sym (append_assoc run.1.front takes.0 rest');
@@ -397,8 +388,8 @@ is_unread (Some script) (Some rest) (Some rest') n taken taken' desk held holds 
       omega (arith, sum, size, parts, counted, most);
   written = (
     run.0,
-    subst (λ (ls : List (List ℕ)). LinesPrint ls run.0) (sym (front_lines script rest n taken desk run.0 run.1))
-        (printed script rest n taken desk run.0 run.1),
+    subst (λ (ls : List (List ℕ)). LinesPrint first ls run.0) (sym (front_lines first script rest n taken desk run.0 run.1))
+        (printed first script rest n taken desk run.0 run.1),
     run.2,
   );
 }
@@ -426,53 +417,51 @@ prints_one old new line order prints is one well =
     (order, new, prints, [], is, one, well, (refl, refl), sym (append-nil (text_of prints)))
 
 -- the writer fails
-pub is_unwritten : (script old new : Option (List ℕ)) (n taken taken' : ℕ) (line : List ℕ)
+pub is_unwritten : (first : Desk) (script old new : Option (List ℕ)) (n taken taken' : ℕ) (line : List ℕ)
     (end : LineEnd) (desk desk' : Desk) (held before holds : Option (List ℕ)) (order : Order) (prints : Print)
-    → HasRun script old n taken desk held before → TakesLine old new line end
+    → HasRun first script old n taken desk held before → TakesLine old new line end
     → CountsTaken old new taken taken'
     → taken' ≤ SCRIPT_LIMIT → order_of line ≡ Some order → Performs order desk desk' prints
     → IsGood desk'.bench → (text_of prints ≡ [] → ⊥) → (size : ℕ) × Appends before holds (take size (text_of prints))
-    → WhereKnown script new (λ bytes left. IsRunInto bytes left held holds)
-is_unwritten None old new n taken taken' line end desk desk' held before holds order prints run takes counted most good
+    → WhereKnown script new (λ bytes left. IsRunInto first bytes left held holds)
+is_unwritten first None old new n taken taken' line end desk desk' held before holds order prints run takes counted most good
     performs well loud began = tt
-is_unwritten (Some script) None new n taken taken' line end desk desk' held before holds order prints run takes counted
+is_unwritten first (Some script) None new n taken taken' line end desk desk' held before holds order prints run takes counted
     most good performs well loud began =
     absurd run
-is_unwritten (Some script) (Some rest) None n taken taken' line end desk desk' held before holds order prints run takes
+is_unwritten first (Some script) (Some rest) None n taken taken' line end desk desk' held before holds order prints run takes
     counted most good performs well loud began =
     absurd counted
-is_unwritten (Some script) (Some rest) (Some rest')
+is_unwritten first (Some script) (Some rest) (Some rest')
     n taken taken' line LineFeed desk desk' held before holds order prints run takes counted most good
     performs well loud began =
     let front : List ℕ = run.1.front ++ (takes.0 ++ 10 ∷ []) in
-    let goes = fed script rest rest' line n taken taken' desk run.0 run.1 takes.0 takes.1 takes.2 takes.3 in record {
+    let goes = fed first script rest rest' line n taken taken' desk run.0 run.1 takes.0 takes.1 takes.2 takes.3 in record {
       front = front;
-      parts = split_on script rest rest' line n taken taken' desk run.0 run.1 takes.0 takes.1 takes.2 takes.3;
+      parts = split_on first script rest rest' line n taken taken' desk run.0 run.1 takes.0 takes.1 takes.2 takes.3;
       ended = inl (run.1.front ++ takes.0, sym (append_assoc run.1.front takes.0 (10 ∷ [])));
       within =
-          let s = size_on script rest rest' line n taken taken' desk run.0 run.1 takes.0 takes.1
+          let s = size_on first script rest rest' line n taken taken' desk run.0 run.1 takes.0 takes.1
           takes.2 takes.3 counted in
           omega (arith, s, most);
       before = run.1.done;
       line = line;
       all = ap lines (sym (append-nil front)) ∙ goes [] ∙ append-nil (run.1.done ++ line ∷ []);
-      first = run.1.first;
       between = desk;
       last = desk';
       out = run.0;
       text = text_of prints;
-      begins = run.1.begins;
       prior = run.1.prints;
       one = prints_one desk desk' line order prints good performs well;
       speaks = loud;
       size = began.0;
       begun = Appends-trans held before holds run.0 (take began.0 (text_of prints)) run.2 began.1;
     }
-is_unwritten (Some script) (Some rest) (Some rest')
+is_unwritten first (Some script) (Some rest) (Some rest')
     n taken taken' [] EndOfScript desk desk' held before holds order prints run takes counted most good
     performs well loud began =
     absurd (loud (silent order prints desk desk' good performs))
-is_unwritten (Some script) (Some rest) (Some rest')
+is_unwritten first (Some script) (Some rest) (Some rest')
     n taken taken' (b ∷ l) EndOfScript desk desk' held before holds order prints run takes counted most good
     performs well loud began =
     record {
@@ -491,15 +480,43 @@ is_unwritten (Some script) (Some rest) (Some rest')
       all =
           run.1.goes (b ∷ l) ∙ ap (λ (ls : List (List ℕ)). run.1.done ++ ls) (lines-last (b ∷ l) takes.2)
           ∙ ap (λ (e : Bool). run.1.done ++ cond e [] ((b ∷ l) ∷ [])) (some_bytes b l);
-      first = run.1.first;
       between = desk;
       last = desk';
       out = run.0;
       text = text_of prints;
-      begins = run.1.begins;
       prior = run.1.prints;
       one = prints_one desk desk' (b ∷ l) order prints good performs well;
       speaks = loud;
       size = began.0;
       begun = Appends-trans held before holds run.0 (take began.0 (text_of prints)) run.2 began.1;
+    }
+
+-- nothing of a line's text is printed
+pub is_unanswered : (first : Desk) (script old new : Option (List ℕ)) (n taken taken' : ℕ) (line : List ℕ)
+    (end : LineEnd) (desk desk' : Desk) (held before : Option (List ℕ)) (order : Order) (prints : Print)
+    → HasRun first script old n taken desk held before → TakesLine old new line end
+    → CountsTaken old new taken taken'
+    → taken' ≤ SCRIPT_LIMIT → order_of line ≡ Some order → Performs order desk desk' prints
+    → IsGood desk'.bench → (text_of prints ≡ [] → ⊥)
+    → WhereKnown script new (λ bytes left. IsRunUnkept first bytes left held before)
+unfolding is_unwritten
+is_unanswered first None old new n taken taken' line end desk desk' held before order prints run takes counted most good
+    performs well loud = tt
+is_unanswered first (Some script) None new n taken taken' line end desk desk' held before order prints run takes counted
+    most good performs well loud = absurd run
+is_unanswered first (Some script) (Some rest) None n taken taken' line end desk desk' held before order prints run takes
+    counted most good performs well loud = absurd counted
+is_unanswered first (Some script) (Some rest) (Some rest') n taken taken' line LineFeed desk desk' held before order
+    prints run takes counted most good performs well loud = record {
+      into = is_unwritten first (Some script) (Some rest) (Some rest') n taken taken' line LineFeed desk desk' held before
+          before order prints run takes counted most good performs well loud (0, Appends-nil before);
+      nothing = refl;
+    }
+is_unanswered first (Some script) (Some rest) (Some rest') n taken taken' [] EndOfScript desk desk' held before order
+    prints run takes counted most good performs well loud = absurd (loud (silent order prints desk desk' good performs))
+is_unanswered first (Some script) (Some rest) (Some rest') n taken taken' (b ∷ l) EndOfScript desk desk' held before
+    order prints run takes counted most good performs well loud = record {
+      into = is_unwritten first (Some script) (Some rest) (Some rest') n taken taken' (b ∷ l) EndOfScript desk desk' held
+          before before order prints run takes counted most good performs well loud (0, Appends-nil before);
+      nothing = refl;
     }

@@ -14,3 +14,4 @@ pub mod SweptRuns
 pub mod Tallies
 pub mod PlanParts
 pub mod ScriptEndings
+pub mod Images

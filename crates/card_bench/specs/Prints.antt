@@ -1,10 +1,10 @@
 -- The output of a script, line by line.
-use Rattle.std.specs.Prelude.{◌≡◌, ◌≤◌, ℕ, List, [], ◌∷◌, ◌++◌, None, Some, replicate}
+use Rattle.std.specs.Prelude.{◌≡◌, ◌≤◌, ℕ, List, [], ◌∷◌, ◌++◌, None, Some, true, replicate}
 use Rattle.nvm_board.specs.declared.board.TheConstants.{LEAST_PAGES, SECRETS}
 use Rattle.nvm_board.specs.Facts.{Facts}
 use Rattle.card_core.specs.Factory.{factory_card}
 use Rattle.bench_lines.specs.Orders.{Order}
-use Rattle.card_turns.specs.BenchStates.{bench_card, bench_facts, IsOff}
+use Rattle.card_turns.specs.BenchStates.{bench_card, bench_facts, off, IsOff}
 use Rattle.card_bench.specs.Exchanges.{Desk}
 use Rattle.bench_lines.specs.Orders.{order_of}
 use Rattle.card_bench.specs.Performing.{Performs}
@@ -20,14 +20,18 @@ PrintsLines old (line ∷ others) new out =
     × (order_of line ≡ Some order) × Performs order old between prints × IsGood between.bench
     × PrintsLines between others new rest × (out ≡ text_of prints ++ rest)
 
--- The counters of a new board of 1,024 pages with a card image: at most one device write a page, all others zero, and
+-- The counters of a new board of these pages with a card image: at most one device write a page, all others zero, and
 -- no pending cut.
-pub record IsJustWritten (f : Facts) : Type 0 where
+pub record IsNewlyWritten (pages : ℕ) (f : Facts) : Type 0 where
   pub due : f.due ≡ 0
   pub cuts : f.cuts ≡ 0
-  pub writes : f.writes ≤ LEAST_PAGES
+  pub writes : f.writes ≤ pages
   pub compares : f.compares ≡ replicate SECRETS 0
   pub matches : f.matches ≡ replicate SECRETS 0
+
+-- the same of 1,024 pages
+abbrev pub IsJustWritten : Facts → Type 0
+IsJustWritten f = IsNewlyWritten LEAST_PAGES f
 
 -- The first desk: the factory card on a new board of 896 blocks, power off, and no pending faults on the line.
 pub record IsFirstDesk (d : Desk) : Type 0 where
@@ -38,9 +42,15 @@ pub record IsFirstDesk (d : Desk) : Type 0 where
   pub reader : d.reader ≡ None
   pub line : d.line ≡ record { lose = None; garble = None }
 
--- the output of these lines
-pub record LinesPrint (some : List (List ℕ)) (out : List ℕ) : Type 0 where
-  pub first : Desk
+-- the desk at which a script begins on a board: power off, no reader, and no pending faults on the line
+abbrev pub desk_of : Facts → Desk
+desk_of f = record {
+  bench = off (record f { dark = true });
+  reader = None;
+  line = record { lose = None; garble = None };
+}
+
+-- the output of these lines, from this desk on
+pub record LinesPrint (first : Desk) (some : List (List ℕ)) (out : List ℕ) : Type 0 where
   pub last : Desk
-  pub begins : IsFirstDesk first
   pub all : PrintsLines first some last out

@@ -1,8 +1,9 @@
 //! The desk of a script: a bench, the reader's end of the link, and the line between the ends.
-ghost use Rattle.std.specs.Prelude.{◌≡◌, ◌≢◌, ◌≤◌, ℕ, List, None, length, take, true, IfErr, OnErr, OnOk};
+ghost use Rattle.std.specs.Prelude.{◌≡◌, ◌≢◌, ◌≤◌, ◌⊎◌, ℕ, List, None, Err, length, take, true, false};
+ghost use Rattle.std.specs.Prelude.{IfErr, OnErr, OnOk};
 ghost use Rattle.std.specs.Io.KnownBytes.{Appends};
 ghost use Rattle.bench_lines.specs.declared.order.TheConstants.{COMMAND_LIMIT};
-ghost use Rattle.card_turns.specs.BenchStates.{off};
+ghost use Rattle.card_turns.specs.BenchStates.{bench_facts, off};
 ghost use Rattle.card_bench.specs.DeskParts.{print_of};
 ghost use Rattle.card_bench.specs.Exchanges.{printed_by};
 ghost use Rattle.card_bench.specs.ExchangeParts.{ended_of};
@@ -18,6 +19,7 @@ use crate::line::Line;
 use crate::printing::{ATR, PrintedText, print_bytes, print_free, write_line};
 use bench_lines::Order;
 use card_turns::{Bench, Came, Turn};
+use kept_board::Followed;
 use nvm_board::{Armed, Faultless, Socket};
 use std::io::Write;
 use std::marker::Model;
@@ -79,11 +81,7 @@ impl<B: Socket> Desk<B> {
     /// # Errors
     ///
     /// `Write` if the writer fails, or takes nothing.
-    pub(crate) fn print<W: Write>(
-        &self,
-        writer: &mut W,
-        text: &mut PrintedText,
-    ) -> Result<(), RunFault>
+    fn print<W: Write>(&self, writer: &mut W, text: &mut PrintedText) -> Result<(), RunFault>
         ensures wrote { OnOk result
             (Appends (W.contents writer.old) (W.contents writer.new) (text_of self.now.prints)) }
         ensures began { OnErr result ((size : ℕ)
@@ -101,6 +99,36 @@ impl<B: Socket> Desk<B> {
             Came::Block => print_bytes(writer, &self.ends.blocks.toward_reader, text),
             Came::Free(free) => print_free(writer, free, text),
         }
+    }
+}
+
+impl<B: Socket + Followed> Desk<B> {
+    /// Prints the result of the last line, if the board's follower has all writes.
+    /// Without output it asks neither the follower nor the writer.
+    ///
+    /// # Errors
+    ///
+    /// `Unkept` if the follower has not all writes: then nothing is written. `Write` as `print`.
+    pub(crate) fn answer<W: Write>(
+        &self,
+        writer: &mut W,
+        text: &mut PrintedText,
+    ) -> Result<(), RunFault>
+        ensures wrote { OnOk result
+            (Appends (W.contents writer.old) (W.contents writer.new) (text_of self.now.prints)) }
+        ensures unwritten { result ≡ Err RunFault.Write → (size : ℕ)
+            × Appends (W.contents writer.old) (W.contents writer.new) (take size (text_of self.now.prints)) }
+        ensures unkept { result ≡ Err RunFault.Unkept → W.contents writer.new ≡ W.contents writer.old }
+        ensures kept { OnOk result (self.now.prints ≢ prints_nothing → (board : B)
+            × (B.facts board ≡ bench_facts self.now.desk.bench) × (B.has_kept board ≡ true)) }
+        ensures behind { result ≡ Err RunFault.Unkept → (board : B) × (B.has_kept board ≡ false) }
+        ensures fault { IfErr result (λ fault. (fault ≡ RunFault.Write) ⊎ (fault ≡ RunFault.Unkept)) }
+        ensures speaks { OnErr result (self.now.prints ≢ prints_nothing) }
+    {
+        if !matches!(self.came, Came::Nothing) && !self.ends.bench.board().follows() {
+            return Err(RunFault::Unkept);
+        }
+        self.print(writer, text)
     }
 }
 

@@ -1,12 +1,13 @@
 //! The factory card on a new board.
-ghost use Rattle.std.specs.Prelude.{◌≡◌, None, IfOk};
+ghost use Rattle.std.specs.Prelude.{◌≡◌, ◌≤◌, ◌-◌, None, IfOk};
+ghost use Rattle.nvm_board.specs.declared.board.TheConstants.{LEAST_PAGES, MOST_PAGES};
 ghost use Rattle.nvm_board.specs.Cut.{cut_facts};
 ghost use Rattle.card_core.specs.Factory.{factory_card};
 ghost use Rattle.command_base.specs.Finding.{Finds};
-ghost use Rattle.card_bench.specs.Prints.{IsJustWritten};
+ghost use Rattle.card_bench.specs.Prints.{IsJustWritten, IsNewlyWritten};
 
 use card_core::format;
-use nvm_board::CutBoard;
+use nvm_board::{CutBoard, LEAST_PAGES};
 use std::alloc::{AllocError, Global};
 
 /// Returns a new board with the factory card.
@@ -20,8 +21,23 @@ pub fn factory_board(alloc: Global) -> Result<CutBoard, AllocError>
     ensures counts { IfOk result (λ board. IsJustWritten (cut_facts board)) }
     ensures uncut { IfOk result (λ board. (cut_facts board).pending ≡ None) }
 {
+    factory_board_of(alloc, LEAST_PAGES)
+}
+
+/// Returns a new board of these pages with the factory card.
+/// All pages but the first 128 are blocks. Only the writes of its making are counted, and no cut is pending.
+///
+/// # Errors
+/// There is too little memory for the words.
+pub fn factory_board_of(alloc: Global, pages: u16) -> Result<CutBoard, AllocError>
+    requires least { LEAST_PAGES ≤ pages }
+    requires most { pages ≤ MOST_PAGES }
+    ensures card { IfOk result (λ board. Finds (cut_facts board).words (factory_card (pages - 128))) }
+    ensures counts { IfOk result (λ board. IsNewlyWritten pages (cut_facts board)) }
+    ensures uncut { IfOk result (λ board. (cut_facts board).pending ≡ None) }
+{
     // A new board has no pending cut, so it takes all writes.
-    match format(CutBoard::new(alloc)?) {
+    match format(CutBoard::with_pages(alloc, pages)?) {
         Ok(board) => Ok(board),
         Err(_) => unreachable!(),
     }

@@ -16,13 +16,16 @@ pub enum RunFault {
     /// There is too little memory. Nothing was read.
     #[error("there is too little memory")]
     Memory,
+    /// The board's follower, such as a file, did not take a write. The line that made it has no answer.
+    #[error("the card's file can't be written")]
+    Unkept,
 }
 
 impl RunFault {
     ghost use Rattle.std.specs.Prelude.{◌≡◌};
     ghost use Rattle.card_bench.specs.Faults.{status_of};
 
-    /// Returns the exit status of the fault: 2 to 5.
+    /// Returns the exit status of the fault: 2 to 5, or 7.
     pub fn status(&self) -> u8
         ensures { result ≡ status_of self.now }
     {
@@ -31,6 +34,7 @@ impl RunFault {
             RunFault::Read => 3,
             RunFault::Write => 4,
             RunFault::Memory => 5,
+            RunFault::Unkept => 7,
         }
     }
 }

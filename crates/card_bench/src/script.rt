@@ -1,14 +1,18 @@
 //! Runs a script, from its first line to its last.
-ghost use Rattle.std.specs.Prelude.{◌≡◌, ◌≢◌, Err, IfSome, IfErr, OnOk};
+ghost use Rattle.std.specs.Prelude.{◌≡◌, ◌≢◌, false, Err, IfSome, IfErr, OnOk};
 ghost use Rattle.card_bench.specs.ScriptEndings.{IsRunToEnd, RunStopsBy};
-ghost use Rattle.card_bench.specs.Prints.{IsFirstDesk};
+ghost use Rattle.card_bench.specs.Exchanges.{Desk as DeskValue};
+ghost use Rattle.card_bench.specs.Prints.{IsFirstDesk, desk_of};
+ghost use Rattle.card_turns.specs.Plays.{IsGood};
+ghost use Rattle.command_base.specs.Finding.{HasCard};
 
 use crate::desk::Desk;
 use crate::factory::factory_board;
 use crate::fault::RunFault;
 use crate::printing::PrintedText;
 use bench_lines::{GivenBytes, LineBytes, LineEnd, LineFault, Order, SCRIPT_LIMIT, read_line};
-use nvm_board::CutBoard;
+use kept_board::Followed;
+use nvm_board::{Armed, Faultless, has_no_fault};
 use std::alloc::Global;
 use std::io::{BufRead, Write};
 
@@ -26,40 +30,70 @@ pub fn run<R: BufRead, W: Write>(
     reader: &mut R,
     writer: &mut W,
 ) -> Result<(), RunFault>
-    // At the end of the script, each of its lines is valid, and the writer contains their output.
-    ensures done { OnOk result (IfSome (R.remaining reader.old)
-        (λ script. IsRunToEnd script (W.contents writer.old) (W.contents writer.new))) }
+    // At the end of the script, each of its lines is valid, and the writer contains their output, from the factory card
+    // on.
+    ensures done { OnOk result ((first : DeskValue) × IsFirstDesk first × IfSome (R.remaining reader.old)
+        (λ script. IsRunToEnd first script (W.contents writer.old) (W.contents writer.new))) }
 
     // A bad line is the first one, and the writer contains the output of the lines before it. `Read` occurs within a
     // line, before its end and before it is too long. `Write` occurs in the output of the last line that was read.
-    ensures stopped { IfErr result (λ fault.
-        RunStopsBy fault (R.remaining reader.old) (R.remaining reader.new)
+    ensures stopped { result ≢ Err RunFault.Memory → IfErr result (λ fault. (first : DeskValue) × IsFirstDesk first
+        × RunStopsBy first fault (R.remaining reader.old) (R.remaining reader.new)
         (W.contents writer.old) (W.contents writer.new)) }
 
     // With too little memory nothing was read or written.
     ensures unread { result ≡ Err RunFault.Memory → R.remaining reader.new ≡ R.remaining reader.old }
     ensures unwritten { result ≡ Err RunFault.Memory → W.contents writer.new ≡ W.contents writer.old }
+
+    // This board has no follower.
+    ensures kept { result ≢ Err RunFault.Unkept }
 {
     let Ok(board) = factory_board(alloc) else {
         return Err(RunFault::Memory);
     };
+    run_on(board, reader, writer)
+}
+
+/// Runs a script on the card in a board's memory.
+/// Power is off at the begin. A line has an answer only if the board's follower has all writes.
+///
+/// # Errors
+///
+/// Those of `run` but `Memory`, and `Unkept` if the follower did not take a write: then the line has no answer, and no
+/// line after it runs.
+pub fn run_on<B: Armed + Faultless + Followed + Drop, R: BufRead, W: Write>(
+    board: B,
+    reader: &mut R,
+    writer: &mut W,
+) -> Result<(), RunFault>
+    requires { HasCard (B.facts board).words }
+    ensures done { OnOk result (IfSome (R.remaining reader.old)
+        (λ script. IsRunToEnd (desk_of (B.facts board)) script (W.contents writer.old) (W.contents writer.new))) }
+    ensures stopped { IfErr result (λ fault.
+        RunStopsBy (desk_of (B.facts board)) fault (R.remaining reader.old) (R.remaining reader.new)
+        (W.contents writer.old) (W.contents writer.new)) }
+    ensures memory { result ≢ Err RunFault.Memory }
+    ensures behind { result ≡ Err RunFault.Unkept → (board : B) × (B.has_kept board ≡ false) }
+{
+    has_no_fault(&board);
     let mut desk = Desk::new(board);
     run_lines(&mut desk, reader, writer)
 }
 
-/// Runs the lines of a script on the first desk.
-fn run_lines<R: BufRead, W: Write>(
-    desk: &mut Desk<CutBoard>,
+/// Runs the lines of a script on a desk.
+fn run_lines<B: Armed + Faultless + Followed, R: BufRead, W: Write>(
+    desk: &mut Desk<B>,
     reader: &mut R,
     writer: &mut W,
 ) -> Result<(), RunFault>
-    requires { IsFirstDesk desk.old.desk }
+    requires { IsGood desk.old.desk.bench }
     ensures done { OnOk result (IfSome (R.remaining reader.old)
-        (λ script. IsRunToEnd script (W.contents writer.old) (W.contents writer.new))) }
+        (λ script. IsRunToEnd desk.old.desk script (W.contents writer.old) (W.contents writer.new))) }
     ensures stopped { IfErr result (λ fault.
-        RunStopsBy fault (R.remaining reader.old) (R.remaining reader.new)
+        RunStopsBy desk.old.desk fault (R.remaining reader.old) (R.remaining reader.new)
         (W.contents writer.old) (W.contents writer.new)) }
     ensures memory { result ≢ Err RunFault.Memory }
+    ensures behind { result ≡ Err RunFault.Unkept → (board : B) × (B.has_kept board ≡ false) }
 {
     let mut line = LineBytes::new();
     let mut given = GivenBytes::new();
@@ -77,9 +111,9 @@ fn run_lines<R: BufRead, W: Write>(
             return Err(RunFault::BadLine(number));
         };
         desk.perform(order, given.as_slice());
-        let Ok(()) = desk.print(writer, &mut text) else {
-            return Err(RunFault::Write);
-        };
+        if let Err(fault) = desk.answer(writer, &mut text) {
+            return Err(fault);
+        }
         match end {
             LineEnd::LineFeed => {}
             LineEnd::EndOfScript => return Ok(()),

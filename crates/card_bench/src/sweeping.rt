@@ -72,7 +72,7 @@ pub fn sweep(
     ensures different { IfOk result (λ s. AllPairs (λ a b. a ≢ b) (findings s.seen.items)) }
     ensures runs { IfOk result (λ s. HasCard (cut_facts board.now).words
         → All (GivenByRun (cut_facts board.now) prepare.now command.now probe.now depth) (findings s.seen.items)) }
-    // Nothing is left out: the tally counts all possible runs, in order.
+    // The tally is that of the possible runs, in order. docs/SWEEP.md says what is open.
     ensures complete { IfOk result (λ s. HasCard (cut_facts board.now).words → s.runs < 2 ^ 32 - 1
         → CountsRuns (AreAllRuns (cut_facts board.now) prepare.now command.now probe.now depth) [] s.seen.items) }
 {

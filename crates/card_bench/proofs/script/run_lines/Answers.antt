@@ -1,10 +1,12 @@
-use Rattle.std.proofs.Common.{◌≡◌, ◌+◌, ◌-◌, ℕ, List, Some, None, IfSome, Err, subst, sym, ◌∙◌, ap, arith}
+use Rattle.std.proofs.Common.{◌≡◌, ◌+◌, ◌-◌, ℕ, List, Option, Some, None, IfSome, Err, inl, inr, subst, sym, ◌∙◌, ap, arith}
 use Rattle.bench_lines.specs.declared.reading.LineFault.TheVariants.{Read, TooLong, TooMuch}
-use Rattle.card_bench.specs.ScriptEndings.{IsRunToLine}
+use Rattle.card_bench.specs.declared.fault.RunFault.{RunFault}
+use Rattle.card_bench.specs.ScriptEndings.{IsRunToLine, IsRunUnkept, RunStopsBy}
 use Rattle.bench_lines.specs.OrderViews.{order_with}
 use Rattle.bench_lines.specs.Orders.{order_of}
-use Rattle.bench_lines.specs.Scripts.{TakesLine}
-use Rattle.card_bench.proofs.ScriptLines.{begins_run, goes_on, is_done, is_bad, is_too_long, is_unread, is_unwritten}
+use Rattle.bench_lines.specs.Scripts.{TakesLine, WhereKnown}
+use Rattle.card_bench.proofs.ScriptLines.{begins_run, goes_on, is_done, is_bad, is_too_long, is_unread}
+use Rattle.card_bench.proofs.ScriptLines.{is_unanswered, is_unwritten}
 use Rattle.card_bench.proofs.ScriptLines.{speaks, HasRun}
 use Rattle.bench_lines.specs.laws.SizedOrders.{order_of-in_range}
 use Rattle.card_bench.proofs.script.run_lines.Goals as goal
@@ -15,8 +17,8 @@ returns-in-Err-TooLong-clause-stopped g c =
     let number : (c.loop-number.number - 1) + 1 ≡ c.loop-number.number = omega arith in
     let held = g.W.Write.contents c.args.writer.now in
     let holds = g.W.Write.contents c.loop-number.writer in
-    subst (λ (n : ℕ). IfSome script (λ bytes. IsRunToLine n bytes held holds)) number
-    (is_too_long script _ _ (c.loop-number.number - 1) _ _ _ held holds
+    subst (λ (n : ℕ). IfSome script (λ bytes. IsRunToLine c.args.desk.now.desk n bytes held holds)) number
+    (is_too_long _ script _ _ (c.loop-number.number - 1) _ _ _ held holds
     c.loop-number.invariant.so_far (c.in-Err-TooLong.ensures.too_long (ap Err c.in-Err-TooLong.field-0-is))
     c.read_line.ensures.taken)
 
@@ -29,12 +31,12 @@ much-apart e = cc
 
 pub returns-in-Err-Read-clause-stopped : goal.returns-in-Err-Read-clause-stopped
 returns-in-Err-Read-clause-stopped g c =
-    is_unread _ _ _ _ _ _ _ _ _ c.loop-number.invariant.so_far
+    is_unread _ _ _ _ _ _ _ _ _ _ c.loop-number.invariant.so_far
     (c.in-Err-Read.ensures.stopped (λ e. read-apart (sym c.in-Err-Read.field-0-is ∙ e))) c.read_line.ensures.taken
 
 pub returns-in-Err-TooMuch-clause-stopped : goal.returns-in-Err-TooMuch-clause-stopped
 returns-in-Err-TooMuch-clause-stopped g c =
-    is_unread _ _ _ _ _ _ _ _ _ c.loop-number.invariant.so_far
+    is_unread _ _ _ _ _ _ _ _ _ _ c.loop-number.invariant.so_far
     (c.in-Err-TooMuch.ensures.stopped (λ e. much-apart (sym c.in-Err-TooMuch.field-0-is ∙ e))) c.read_line.ensures.taken
 
 pub unreachable-unreachable : goal.unreachable-unreachable
@@ -51,21 +53,36 @@ returns-in_default-clause-stopped g c =
     ∙ sym c.in_default.ensures in
     let held = g.W.Write.contents c.args.writer.now in
     let holds = g.W.Write.contents c.loop-number.writer in
-    subst (λ (n : ℕ). IfSome script (λ bytes. IsRunToLine n bytes held holds)) number
-    (is_bad script _ _ (c.loop-number.number - 1) _ _ c.read_line.new.line.items c.in-Ok.end _ held holds
+    subst (λ (n : ℕ). IfSome script (λ bytes. IsRunToLine c.args.desk.now.desk n bytes held holds)) number
+    (is_bad _ script _ _ (c.loop-number.number - 1) _ _ c.read_line.new.line.items c.in-Ok.end _ held holds
     c.loop-number.invariant.so_far c.in-Ok.ensures.line c.in-Ok.ensures.counted c.read_line.ensures.taken bad)
 
-pub returns-in_default-print-clause-stopped : goal.returns-in_default-print-clause-stopped
-returns-in_default-print-clause-stopped g c =
+pub returns-in-Err-clause-stopped : goal.returns-in-Err-clause-stopped
+returns-in-Err-clause-stopped g c =
     let order = order_with c.in-Some.order c.as_slice.result.now in
     let good : order_of c.read_line.new.line.items ≡ Some order =
     ap order_of (sym c.deref.ensures.0) ∙ sym c.in-Some.ensures
     ∙ ap (λ (l : List ℕ). Some (order_with c.in-Some.order l)) (sym c.as_slice.ensures) in
-    let prints = c.perform.new.self.prints in
-    let loud = c.in_default-print.ensures.speaks in
-    is_unwritten _ _ _ _ _ _ _ c.in-Ok.end _ _ _ _ _ _ _ c.loop-number.invariant.so_far c.in-Ok.ensures.line
-    c.in-Ok.ensures.counted c.read_line.ensures.taken good c.perform.ensures.performs c.perform.ensures.good
-    (speaks prints loud) c.in_default-print.ensures.began
+    let first = c.args.desk.now.desk in
+    let script = g.R.Read.remaining c.args.reader.now in
+    let left = g.R.Read.remaining c.read_line.new.reader in
+    let held = g.W.Write.contents c.args.writer.now in
+    let before = g.W.Write.contents c.loop-number.writer in
+    let after = g.W.Write.contents c.answer.new.writer in
+    let loud = speaks c.perform.new.self.prints c.in-Err.ensures.speaks in
+    elim c.in-Err.ensures.fault [
+      | inl write ↦
+          subst (λ (f : RunFault). RunStopsBy first f script left held after) (sym write)
+          (is_unwritten _ _ _ _ _ _ _ _ c.in-Ok.end _ _ _ _ _ _ _ c.loop-number.invariant.so_far c.in-Ok.ensures.line
+          c.in-Ok.ensures.counted c.read_line.ensures.taken good c.perform.ensures.performs c.perform.ensures.good
+          loud (c.in-Err.ensures.unwritten (ap Err write)))
+      | inr unkept ↦
+          subst (λ (f : RunFault). RunStopsBy first f script left held after) (sym unkept)
+          (subst (λ (w : Option (List ℕ)). WhereKnown script left (λ bytes rest. IsRunUnkept first bytes rest held w))
+          (sym (c.in-Err.ensures.unkept (ap Err unkept)))
+          (is_unanswered _ _ _ _ _ _ _ _ c.in-Ok.end _ _ _ _ _ _ c.loop-number.invariant.so_far c.in-Ok.ensures.line
+          c.in-Ok.ensures.counted c.read_line.ensures.taken good c.perform.ensures.performs c.perform.ensures.good loud))
+    ]
 
 pub perform-requires-clause-sized : goal.perform-requires-clause-sized
 perform-requires-clause-sized g c =
@@ -83,14 +100,14 @@ returns-in-EndOfScript-clause-done g c =
     ∙ ap (λ (l : List ℕ). Some (order_with c.in-Some.order l)) (sym c.as_slice.ensures) in
     let old = g.R.Read.remaining c.loop-number.reader in
     let new = g.R.Read.remaining c.read_line.new.reader in
-    is_done _ old new _ _ _ _ _ _ _ _ _ _ _ c.loop-number.invariant.so_far
+    is_done _ _ old new _ _ _ _ _ _ _ _ _ _ _ c.loop-number.invariant.so_far
     (subst (TakesLine old new c.read_line.new.line.items) c.in-EndOfScript.is c.in-Ok.ensures.line)
     c.in-Ok.ensures.counted c.read_line.ensures.taken good c.perform.ensures.performs c.perform.ensures.good
-    c.in-Ok-print.ensures.wrote
+    c.in_default-answer.ensures.wrote
 
 pub loop-number-init : goal.loop-number-init
 loop-number-init g c =
-    record { taken = omega arith; turns = omega arith; good = c.requires.good; so_far = begins_run _ _ _ c.requires }
+    record { taken = omega arith; turns = omega arith; good = c.requires; so_far = begins_run _ _ _ }
 
 pub loop-number-preserved : goal.loop-number-preserved
 loop-number-preserved g c =
@@ -102,7 +119,7 @@ loop-number-preserved g c =
     let old = g.R.Read.remaining c.loop-number.reader in
     let new = g.R.Read.remaining c.read_line.new.reader in
     let number : (c.loop-number.number - 1) + 1 ≡ c.loop-number.number + 1 - 1 = omega arith in
-    let after = g.W.Write.contents c.print.new.writer in
+    let after = g.W.Write.contents c.answer.new.writer in
     let held = g.W.Write.contents c.args.writer.now in
     let desk = c.perform.new.self.desk in
     record {
@@ -112,9 +129,9 @@ loop-number-preserved g c =
           let turns = c.loop-number.invariant.turns in
           omega (arith, fed, turns);
       good = c.perform.ensures.good;
-      so_far = subst (λ (n : ℕ). HasRun first new n c.read_line.new.taken
+      so_far = subst (λ (n : ℕ). HasRun c.args.desk.now.desk first new n c.read_line.new.taken
           desk held after) number
-          (goes_on first old new _ _ _ _ _ _ _ _ _ _ _ c.loop-number.invariant.so_far
+          (goes_on _ first old new _ _ _ _ _ _ _ _ _ _ _ c.loop-number.invariant.so_far
           (subst (TakesLine old new c.read_line.new.line.items) c.in-LineFeed.is c.in-Ok.ensures.line)
-          c.in-Ok.ensures.counted good c.perform.ensures.performs c.perform.ensures.good c.in-Ok-print.ensures.wrote);
+          c.in-Ok.ensures.counted good c.perform.ensures.performs c.perform.ensures.good c.in_default-answer.ensures.wrote);
     }

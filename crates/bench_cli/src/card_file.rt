@@ -1,0 +1,181 @@
+//! Opens the file of a card, or makes one with the factory card.
+ghost use Rattle.std.specs.Prelude.{IfOk};
+ghost use Rattle.command_base.specs.Finding.{HasCard};
+ghost use Rattle.kept_board.specs.Kept.{kept_facts};
+
+use crate::kept_file::{KeptFile, PAGE_BYTES};
+use crate::options::CardOptions;
+use card_bench::{NoCard, factory_board_of, image_board};
+use kept_board::KeptBoard;
+use nvm_board::{CutBoard, LEAST_PAGES, MOST_PAGES};
+use std::alloc::Global;
+use std::fs::{self, File, OpenOptions, TryLockError};
+use std::io::{self, ErrorKind, Read, Write};
+use thiserror::Error;
+
+/// Why a file is not taken as a card's. The file stays as it was.
+#[derive(Debug, Drop, Error)]
+pub enum CardFault {
+    #[error("usage: bench_cli --card FILE [--pages N] [--sync], with N from 1024 to 4096")]
+    Usage,
+    #[error("the file can't be opened: {0}")]
+    Open(io::Error),
+    #[error("the file can't be read: {0}")]
+    Read(io::Error),
+    #[error("the file can't be made: {0}")]
+    Make(io::Error),
+    #[error("the file is in use by another program")]
+    InUse,
+    #[error("the file can't be locked: {0}")]
+    Lock(io::Error),
+    #[error("the file has {0} bytes; a card's memory has 64 a page, and 1024 to 4096 pages")]
+    Size(u64),
+    #[error("the file has {0} pages, not the number that --pages gives")]
+    OtherPages(u64),
+    #[error("no card is found in the file: the words of its memory break a rule")]
+    NoCard,
+    #[error("there is too little memory")]
+    Memory,
+}
+
+/// Returns the card in the file, or the factory card in a new file.
+pub fn open_card(rt: &HostRuntime, options: &CardOptions) -> Result<KeptBoard<KeptFile>, CardFault>
+    ensures { IfOk result (λ board. HasCard (kept_facts board).words) }
+{
+    let path = options.path.as_str();
+    match OpenOptions::new().read(true).write(true).open(rt, path) {
+        Ok(file) => read_card(rt.alloc(), file, options),
+        Err(error) if error.kind() == ErrorKind::NotFound => make_card(rt, options),
+        Err(error) => Err(CardFault::Open(error)),
+    }
+}
+
+/// Returns the card in an open file.
+fn read_card(
+    alloc: Global,
+    mut file: File,
+    options: &CardOptions,
+) -> Result<KeptBoard<KeptFile>, CardFault>
+    ensures { IfOk result (λ board. HasCard (kept_facts board).words) }
+{
+    lock(&file)?;
+    let size = match file.metadata() {
+        Ok(it) => it.len(),
+        Err(error) => return Err(CardFault::Read(error)),
+    };
+    check_size(size, options)?;
+    let words = words_in(alloc, &mut file, size)?;
+    match image_board(alloc, words) {
+        Ok(board) => Ok(KeptBoard::new(board, KeptFile::new(file, size, options.sync))),
+        Err(NoCard::Memory) => Err(CardFault::Memory),
+        Err(NoCard::Size) => Err(CardFault::Size(size)),
+        Err(NoCard::Start(_)) => Err(CardFault::NoCard),
+    }
+}
+
+/// Makes a file with the factory card, whole or not at all.
+/// It is written under another name first, and renamed once the disk has it.
+fn make_card(rt: &HostRuntime, options: &CardOptions) -> Result<KeptBoard<KeptFile>, CardFault>
+    ensures { IfOk result (λ board. HasCard (kept_facts board).words) }
+{
+    let pages = options.new_pages();
+    let Ok(board) = factory_board_of(rt.alloc(), pages) else {
+        return Err(CardFault::Memory);
+    };
+    let path = options.path.as_str();
+    let Ok(new) = format!(in rt.alloc(); "{path}.new") else {
+        return Err(CardFault::Memory);
+    };
+    let mut file = match OpenOptions::new()
+        .read(true)
+        .write(true)
+        .create(true)
+        .open(rt, new.as_str())
+    {
+        Ok(file) => file,
+        Err(error) => return Err(CardFault::Make(error)),
+    };
+    lock(&file)?;
+    // Another bench can have made the file since this one looked.
+    if fs::exists(rt, path).unwrap_or(true) {
+        let _ = fs::remove_file(rt, new.as_str());
+        return Err(CardFault::InUse);
+    }
+    if let Err(error) = fill(rt, &mut file, board.words(), new.as_str(), options) {
+        let _ = fs::remove_file(rt, new.as_str());
+        return Err(CardFault::Make(error));
+    }
+    let size = (PAGE_BYTES * usize::from(pages)) as u64;
+    Ok(KeptBoard::new(board, KeptFile::new(file, size, options.sync)))
+}
+
+/// Writes a board's words to the new file, and renames it once the disk has them.
+fn fill(
+    rt: &HostRuntime,
+    file: &mut File,
+    words: &[u32],
+    new: &str,
+    options: &CardOptions,
+) -> io::Result<()> {
+    file.set_len(0)?;
+    let mut bytes = Vec::new(rt.alloc());
+    for word in words {
+        bytes.extend_from_slice(&word.to_be_bytes())?;
+    }
+    file.write_all(&bytes)?;
+    file.sync_all()?;
+    fs::rename(rt, new, options.path.as_str())?;
+    if options.sync {
+        fs::open(rt, folder_of(options.path.as_str()))?.sync_all()?;
+    }
+    Ok(())
+}
+
+/// Returns the folder of a path.
+fn folder_of(path: &str) -> &str {
+    match path.rsplit_once('/') {
+        Some(("", _)) => "/",
+        Some((folder, _)) => folder,
+        None => ".",
+    }
+}
+
+/// Locks the file, so that no other bench uses it while it is open.
+fn lock(file: &File) -> Result<(), CardFault> {
+    match file.try_lock() {
+        Ok(()) => Ok(()),
+        Err(TryLockError::WouldBlock) => Err(CardFault::InUse),
+        Err(TryLockError::Error(error)) => Err(CardFault::Lock(error)),
+    }
+}
+
+/// Refuses a size that no memory has, or that differs from the options.
+fn check_size(size: u64, options: &CardOptions) -> Result<(), CardFault> {
+    let pages = size / PAGE_BYTES as u64;
+    if size % PAGE_BYTES as u64 != 0
+        || pages < u64::from(LEAST_PAGES)
+        || u64::from(MOST_PAGES) < pages
+    {
+        return Err(CardFault::Size(size));
+    }
+    match &options.pages {
+        Some(wanted) if u64::from(wanted.number()) != pages => Err(CardFault::OtherPages(pages)),
+        _ => Ok(()),
+    }
+}
+
+/// Returns the words in the file, the most significant byte of each first.
+fn words_in(alloc: Global, file: &mut File, size: u64) -> Result<Vec<u32>, CardFault> {
+    let mut bytes = Vec::new(alloc);
+    if let Err(error) = file.take(size).read_to_end(&mut bytes) {
+        return Err(CardFault::Read(error));
+    }
+    let mut words = Vec::new(alloc);
+    for word in bytes.chunks_exact(4) {
+        let [a, b, c, d] = *word else { continue };
+        if words.push(u32::from_be_bytes([a, b, c, d])).is_err() {
+            return Err(CardFault::Memory);
+        }
+    }
+    Ok(words)
+}

@@ -1,0 +1,22 @@
+use Rattle.std.proofs.Common.{Option, List, ℕ, OnOk, IfErr, IfSome, subst}
+use Rattle.card_bench.specs.declared.fault.RunFault.{RunFault}
+use Rattle.card_bench.specs.ScriptEndings.{IsRunToEnd, RunStopsBy}
+use Rattle.card_bench.specs.Exchanges.{Desk}
+use Rattle.card_bench.proofs.FormatLemmas.{desk_is}
+use Rattle.card_bench.proofs.script.run_on.Goals as goal
+
+pub returns-clause-done : goal.returns-clause-done
+returns-clause-done g c =
+    let first = desk_is c.new-desk.result.desk (g.B.Board.facts c.args.board) c.new-desk.ensures.bench
+    c.new-desk.ensures.reader c.new-desk.ensures.line in
+    subst (λ (d : Desk). OnOk c.run_lines.result (IfSome (g.R.Read.remaining c.args.reader.now)
+    (λ script. IsRunToEnd d script (g.W.Write.contents c.args.writer.now)
+    (g.W.Write.contents c.run_lines.new.writer)))) first c.run_lines.ensures.done
+
+pub returns-clause-stopped : goal.returns-clause-stopped
+returns-clause-stopped g c =
+    let first = desk_is c.new-desk.result.desk (g.B.Board.facts c.args.board) c.new-desk.ensures.bench
+    c.new-desk.ensures.reader c.new-desk.ensures.line in
+    subst (λ (d : Desk). IfErr c.run_lines.result (λ fault. RunStopsBy d fault (g.R.Read.remaining c.args.reader.now)
+    (g.R.Read.remaining c.run_lines.new.reader) (g.W.Write.contents c.args.writer.now)
+    (g.W.Write.contents c.run_lines.new.writer))) first c.run_lines.ensures.stopped

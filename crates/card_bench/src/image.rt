@@ -1,0 +1,44 @@
+//! A board of a memory image.
+ghost use Rattle.std.specs.Prelude.{◌≡◌, IfOk, IfErr};
+ghost use Rattle.nvm_board.specs.Cut.{cut_facts};
+ghost use Rattle.nvm_board.specs.Given.{board_with};
+ghost use Rattle.command_base.specs.Finding.{HasCard};
+ghost use Rattle.card_bench.specs.Images.{IsRefusedRightly};
+
+use card_core::StartFault;
+use card_turns::Powered;
+use nvm_board::CutBoard;
+use std::alloc::Global;
+
+/// Why an image is no card's.
+#[derive(Debug, Drop)]
+pub enum NoCard {
+    /// There is too little memory.
+    Memory,
+    /// No board has this number of words. A board has 16 a page, and 1,024 to 4,096 pages.
+    Size,
+    /// Power-on fails: the journal is bad, or the recovered words break a rule.
+    Start(StartFault),
+}
+
+/// Returns a new board with these words, if they are a valid card image.
+/// A copy is powered on to see that, so the words stay.
+///
+/// # Errors
+/// `Size` and `Memory`; `Start` with `BadJournal` or `Damaged` if the words are no valid card image.
+pub fn image_board(alloc: Global, words: Vec<u32>) -> Result<CutBoard, NoCard>
+    ensures board { IfOk result (λ board. cut_facts board ≡ board_with words.items) }
+    ensures card { IfOk result (λ board. HasCard (cut_facts board).words) }
+    ensures none { IfErr result (λ why. IsRefusedRightly why words.items) }
+{
+    let Some(board) = CutBoard::of_words(words) else {
+        return Err(NoCard::Size);
+    };
+    let Ok(copy) = board.copy(alloc) else {
+        return Err(NoCard::Memory);
+    };
+    match Powered::start(copy) {
+        Ok(_) => Ok(board),
+        Err((_, fault)) => Err(NoCard::Start(fault)),
+    }
+}
