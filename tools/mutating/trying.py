@@ -1,0 +1,150 @@
+"""Checks of a copy of the repository with mutants in its sources."""
+from __future__ import annotations
+
+import contextlib
+import os
+import re
+import shutil
+import subprocess
+from collections.abc import Iterator
+from dataclasses import dataclass
+from pathlib import Path
+
+from .batches import batches_of
+from .edits import Edit, merged
+
+PARTS = ("src", "specs", "proofs")
+# an error, with the goal that it is about, or a note that a goal is not proved
+ERROR = re.compile(r"(?:note: )?(?:\./)?((?:src|proofs)/\S+):(\d+):\d+: (?:error: |it is not proved that )(.*)")
+GOAL = re.compile(r"^(?:.*\()?`([\w.-]+)`[:)]")
+# an error in a source that the prover doesn't get to read
+UNREAD = re.compile(r"(?:\./)?(src/\S+):(\d+):\d+: error\[")
+# The prover refuses a text because it names something that the mutant took away. This shows nothing of the contract.
+NAMES = re.compile(r"has no field|is not in scope|has no `|was not admitted")
+
+
+@dataclass(frozen=True)
+class Verdict:
+    """What a try of a mutant came to."""
+
+    edit: str
+    is_refused: bool
+    said: str
+
+
+def copy_tree(top: Path, room: Path) -> None:
+    """Copies the sources, and the libraries that earlier checks have built: these save proving the crates below."""
+    for name in ("crates.txt", "HANDLES"):
+        shutil.copy(top / name, room)
+    subprocess.run(["git", "init", "--quiet", str(room)], check=True)
+    for crate in (folder for folder in (top / "crates").iterdir() if folder.is_dir()):
+        for part in (*PARTS, "out/rlib"):
+            if (crate / part).is_dir():
+                shutil.copytree(crate / part, room / "crates" / crate.name / part, copy_function=link_proof)
+
+
+def run(folder: Path, *words: str) -> str:
+    """What a command of the toolchain prints, run in a folder."""
+    how = {"text": True, "stdout": subprocess.PIPE, "stderr": subprocess.STDOUT}
+    return subprocess.run(["rt", *words], cwd=folder, check=False, **how).stdout
+
+
+def link_proof(one: str, other: str) -> str:
+    """Links what was proved, which a check replaces and never changes, and copies all else."""
+    with contextlib.suppress(OSError):
+        if one.endswith(".oantt"):
+            os.link(one, other)
+            return other
+    return shutil.copy2(one, other)
+
+
+class Crate:
+    """A crate in the copy, and what a check of its unchanged sources has proved."""
+
+    def __init__(self, room: Path, name: str) -> None:
+        self.name = name
+        self.room = room
+        self.folder = room / "crates" / name
+        self.kept = self.folder / "out" / "incremental"
+        self.seed = room / "seed" / name
+
+    def prove(self) -> bool:
+        """Proves the unchanged crate, and keeps its proofs for each of the tries."""
+        said = run(self.folder, "check", "--jobs", "1")
+        if not re.search(r"^logic=proved", said, re.M):
+            print(said, end="")
+            return False
+        shutil.copytree(self.kept, self.seed, copy_function=link_proof)
+        return True
+
+    def reset(self) -> None:
+        """Begins the next check with the proofs of the unchanged crate."""
+        shutil.rmtree(self.kept, ignore_errors=True)
+        shutil.copytree(self.seed, self.kept, copy_function=link_proof)
+
+    def write(self, texts: dict[str, str]) -> None:
+        """Writes these files."""
+        for path, text in texts.items():
+            (self.folder / path).write_text(text, encoding="utf-8")
+
+    def check_with(self, edits: list[Edit]) -> list[str]:
+        """The lines that a check prints with these mutants."""
+        self.reset()
+        old = {path: (self.folder / path).read_text(encoding="utf-8") for edit in edits for path in edit.texts}
+        modules = sorted(set().union(*(edit.modules for edit in edits)))
+        only = [] if "" in modules else [word for module in modules for word in ("--only", module)]
+        self.write(merged(self.folder, edits) if len(edits) > 1 else edits[0].texts)
+        try:
+            return run(self.folder, "check", "--jobs", "1", *only).split("\n")
+        finally:
+            self.write(old)
+
+    def try_alone(self, edits: list[Edit]) -> list[Verdict]:
+        """Tries mutants by `rt must-fail`, each in a check of its own."""
+        self.reset()
+        tried = self.folder / "must-fail"
+        tried.mkdir()
+        for edit in edits:
+            shutil.copy(edit.path, tried)
+        said = run(self.room, "must-fail", self.name)
+        shutil.rmtree(tried)
+        return [alone_verdict(edit, said) for edit in edits]
+
+    def try_together(self, edits: list[Edit]) -> list[Verdict]:
+        """The mutants of a group that the prover refuses in one check, but for those that it can't read."""
+        lines = self.check_with(edits)
+        unread = [match for line in lines if (match := UNREAD.match(line))]
+        readable = [edit for edit in edits if not any(edit.owns(match) for match in unread)]
+        if unread and len(readable) < len(edits):
+            return self.try_together(readable) if readable else []
+        errors = [error for line in lines if (error := ERROR.match(line))]
+        found = ((edit, open_goals(edit, errors)) for edit in edits)
+        return [Verdict(edit.name, True, ", ".join(goals)) for edit, goals in found if goals]
+
+    def try_all(self, edits: list[Edit]) -> Iterator[Verdict]:
+        """Tries mutants in groups, and alone those that no group refuses."""
+        left = {edit.name: edit for edit in edits}
+        for group in batches_of(edits):
+            for verdict in self.try_together(group):
+                del left[verdict.edit]
+                yield verdict
+        if left:
+            yield from self.try_alone(list(left.values()))
+
+
+def open_goals(edit: Edit, errors: list[re.Match[str]]) -> list[str]:
+    """The goals that the prover refuses in the functions that a mutant changes. An error that names what the mutant
+    took away is none."""
+    goals = (GOAL.search(it[3]) for it in errors if edit.owns(it) and not NAMES.search(it[3]))
+    return list(dict.fromkeys(goal[1] for goal in goals if goal))
+
+
+def alone_verdict(edit: Edit, said: str) -> Verdict:
+    """What `rt must-fail` says of a mutant."""
+    label = re.compile(rf"must-fail \w+/{re.escape(edit.path.name)}: (.*)")
+    found = (match[1] for line in said.split("\n") if (match := label.search(line)))
+    told = next(found, "rt must-fail says nothing of it")
+    only_by_name = "only because a proof file names" in told
+    refused, _, reason = told.partition("refused, as it must be")
+    is_refused = not refused and bool(reason) and not only_by_name
+    return Verdict(edit.name, is_refused, reason.removeprefix(": ") if is_refused else told)
