@@ -33,6 +33,10 @@ KeepsUnlessOld old new = gate old.words ≡ 0 → ¬ IsOldCard (words_found old.
 abbrev pub KeepsFoundUnlessOld : List ℕ → List ℕ → Type 0
 KeepsFoundUnlessOld old new = ¬ IsOldCard (words_found old) → words_found new ≡ words_found old
 
+-- Power-on makes at most the device writes of the rollback, unless the card image is of format 1.
+abbrev pub RollsBackUnlessOld : Facts → Facts → Type 0
+RollsBackUnlessOld old new = ¬ IsOldCard (words_found old.words) → new.writes ≤ old.writes + start_writes old
+
 -- device writes of the way to format 2, where the memory isn't of it
 abbrev pub renewal_writes : List ℕ → ℕ
 renewal_writes m = if is_format_2 (words_found m) then 0 else migration_writes (pages_of m)

@@ -15,7 +15,7 @@ ghost use Rattle.command_base.specs.Comparing.{comparisons, ComparesAsked};
 ghost use Rattle.card_model.specs.Cards.{card_space};
 ghost use Rattle.command_base.specs.Finding.{HasCard, FindsAgain};
 ghost use Rattle.card_core.specs.Starting.{IsNewFound, KeepsFormat, KeepsFoundUnlessOld, KeepsUnlessOld};
-ghost use Rattle.card_core.specs.Starting.{RenamesLast, TakesAllPages, power_on_writes};
+ghost use Rattle.card_core.specs.Starting.{RenamesLast, RollsBackUnlessOld, TakesAllPages, power_on_writes};
 ghost use Rattle.card_core.specs.Running.{Starts, StartStopsBy, Steps, FailsIn, IsCutIn, card_found, memory_failure};
 ghost use Rattle.command_base.specs.CommandWrites.{writes_of};
 ghost use Rattle.card_model.specs.Steps.{IsStage, ChangesNothing};
@@ -90,6 +90,8 @@ impl<B: Board> Card<B> {
         // The words that are found stay, each of them, unless they are a card of format 1.
         ensures kept { IfOk result (λ c. KeepsFoundUnlessOld (B.facts board).words c.facts.words) }
         ensures kept_err { IfErr result (λ e. KeepsFoundUnlessOld (B.facts board).words (B.facts e.0).words) }
+        // If power-on stops on a memory without a card of format 1, it wrote no more than the rollback does.
+        ensures rolls_back_err { IfErr result (λ e. RollsBackUnlessOld (B.facts board) (B.facts e.0)) }
         ensures shut { IfOk result (λ c. KeepsUnlessOld (B.facts board) c.facts) }
         ensures shut_err { IfErr result (λ e. KeepsUnlessOld (B.facts board) (B.facts e.0)) }
         // Its last write alone makes the mark that of format 2, and where it is done it made just these writes.

@@ -24,7 +24,7 @@ use Rattle.block_chain.specs.BlockWords.{word}
 use Rattle.block_chain.specs.declared.layout.TheConstants.{HEADER_PAGE}
 use Rattle.file_tree.specs.declared.layout.TheConstants.{MARK_WORD}
 use Rattle.command_base.specs.Standing.{IsOldCard}
-use Rattle.card_core.specs.Starting.{KeepsFormat, KeepsFoundUnlessOld, RenamesLast, power_on_writes}
+use Rattle.card_core.specs.Starting.{KeepsFormat, KeepsFoundUnlessOld, RenamesLast, RollsBackUnlessOld, power_on_writes}
 use Rattle.command_base.specs.laws.CardLaws.{card_format}
 use Rattle.card_core.proofs.Migrated.{found-again, found-format, found-pages, found-still, renames-last}
 use Rattle.card_core.proofs.Migrated.{spends-all, spends-on}
@@ -114,6 +114,19 @@ returns-in-Err-survey_of-clause-kept_err g c =
 
 pub returns-in-Err-clause-kept_err : goal.returns-in-Err-clause-kept_err
 returns-in-Err-clause-kept_err g c = λ new. ap data_words c.in-Err.ensures.kept_err
+
+pub returns-in-Err-survey_of-clause-rolls_back_err : goal.returns-in-Err-survey_of-clause-rolls_back_err
+returns-in-Err-survey_of-clause-rolls_back_err g c =
+    let first = g.B.Board.facts c.args.board in
+    subst (λ (now : Facts). RollsBackUnlessOld first now) (sym c.into_board.ensures)
+    (λ new.
+    let read = (c.survey_card.ensures.idle (subst (λ (l : List ℕ). ¬ IsOldCard l) (sym c.in-Ok.ensures.found)
+    new)).board.writes in
+    let opened = c.in-Ok.ensures.writes.writes in
+    omega (arith, read, opened))
+
+pub returns-in-Err-clause-rolls_back_err : goal.returns-in-Err-clause-rolls_back_err
+returns-in-Err-clause-rolls_back_err g c = λ new. c.in-Err.ensures.writes_err.writes
 
 pub returns-in-Ok-survey_of-clause-shut : goal.returns-in-Ok-survey_of-clause-shut
 returns-in-Ok-survey_of-clause-shut g c =
