@@ -10,4 +10,5 @@ pub mod FactoryTable
 pub mod FactoryLemmas
 pub mod FactoryFound
 pub mod Refusing
+pub mod FoundFiles
 pub mod Failing

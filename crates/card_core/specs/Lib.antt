@@ -8,3 +8,4 @@ pub mod ShownSessions
 pub mod StartParts
 pub mod Lending
 pub mod Refused
+pub mod WellFormed

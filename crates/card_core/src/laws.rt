@@ -19,6 +19,7 @@ ghost use Rattle.command_base.specs.Finding.{Finds, HasCard, found};
 ghost use Rattle.card_model.specs.Behaviours.{answer_bytes};
 ghost use Rattle.command_base.specs.Standing.{StandsFor};
 ghost use Rattle.card_core.specs.Refused.{IsSuccess, LeavesAll, ShowsWrong};
+ghost use Rattle.card_core.specs.WellFormed.{IsWellFormed};
 ghost use Rattle.card_model.specs.CommandTable.{asked};
 ghost use Rattle.card_model.specs.Sessions.{Session};
 ghost use Rattle.card_model.specs.Steps.{IsStage, commits_served, carried_out, alone_served, gated_served};
@@ -37,6 +38,13 @@ pub fn standing_card_is_found()
 /// Its contents are bytes, each record has its file's record length, and each number is in its range.
 pub fn found_is_proper()
     ensures { (m : List ℕ) → HasCard m → IsProper (found m) }
+{}
+
+/// The card state after recovery is well formed.
+/// Its files are a tree of at most eight levels, with valid access rules. Names differ, and so do the short identifiers
+/// in one DF. It has eight PINs, with values of eight bytes.
+pub fn found_is_well_formed()
+    ensures { (m : List ℕ) → HasCard m → IsWellFormed (found m) }
 {}
 
 /// A command of bytes keeps a proper card proper.

@@ -18,6 +18,7 @@ ghost use Rattle.card_core.specs.Starting.{IsNewFound, KeepsFormat, KeepsFoundUn
 ghost use Rattle.card_core.specs.Starting.{RenamesLast, RollsBackUnlessOld, TakesAllPages, power_on_writes};
 ghost use Rattle.card_core.specs.Running.{Starts, StartStopsBy, Steps, FailsIn, IsCutIn, card_found, memory_failure};
 ghost use Rattle.command_base.specs.CommandWrites.{writes_of};
+ghost use Rattle.card_core.specs.WellFormed.{HasCurrentFiles};
 ghost use Rattle.card_model.specs.Steps.{IsStage, ChangesNothing};
 ghost use Rattle.command_base.specs.CommitWords.{StandsAsked};
 ghost use Rattle.card_model.specs.Behaviours.{answer_bytes};
@@ -126,6 +127,15 @@ impl<B: Board> Card<B> {
         ensures unlit { self.now.state ≡ CardState.Dark → self.now.facts.dark ≡ true }
     {
         self.state
+    }
+
+    /// Proves that the current files of a working card are in its tree: a DF and, if one is current, an EF in it.
+    pub fn has_current_files(&self)
+        ensures { self.now.state ≡ CardState.Working
+            → HasCurrentFiles (card_found self.now).tree self.now.session }
+    {
+        // Only the invariant of the card is needed.
+        let _ = &self.lent;
     }
 
     /// Returns the free space of the card: blocks and file entries.
