@@ -9,7 +9,7 @@ ghost use Rattle.command_base.specs.Finding.{HasCard, FindsAgain};
 ghost use Rattle.card_core.specs.Running.{Starts, StartStopsBy, card_found};
 ghost use Rattle.card_model.specs.Cards.{card_space};
 ghost use Rattle.card_core.specs.Starting.{IsNewFound, KeepsFormat, KeepsFoundUnlessOld, KeepsUnlessOld};
-ghost use Rattle.card_core.specs.Starting.{RenamesLast, TakesAllPages, power_on_writes};
+ghost use Rattle.card_core.specs.Starting.{RenamesLast, RollsBackUnlessOld, TakesAllPages, power_on_writes};
 ghost use Rattle.t1_link.specs.CardTable.{link_step, fresh};
 ghost use Rattle.card_turns.specs.CardBlocks.{Replies, RepliesFailure, FailsAt, IsCutAt, IsBlockStage};
 ghost use Rattle.card_turns.specs.CardBlocks.{IsRun, BlockChangesNothing, BlockCompares, BlockStands};
@@ -70,6 +70,8 @@ impl<B: Board> Powered<B> {
         ensures kept { IfOk result (λ p. KeepsFoundUnlessOld (B.facts board).words p.card.facts.words) }
         ensures kept_err { IfErr result (λ e. KeepsFoundUnlessOld (B.facts board).words (B.facts e.0).words) }
         ensures last { IfErr result (λ e. RenamesLast (B.facts board) (B.facts e.0)) }
+        // If power-on stops on a memory without a card of format 1, it wrote no more than the rollback does.
+        ensures rolls_back_err { IfErr result (λ e. RollsBackUnlessOld (B.facts board) (B.facts e.0)) }
         // Where no pair of the journal counts, and there is no card of format 1, no word changes,
         // and nothing is written.
         ensures shut { IfOk result (λ p. KeepsUnlessOld (B.facts board) p.card.facts) }
