@@ -11,7 +11,7 @@ use Rattle.card_core.specs.declared.faults.StartFault.TheVariants.{PowerLost, Fa
 use Rattle.command_base.specs.Comparing.{Comparisons, comparisons}
 use Rattle.command_base.specs.Finding.{FindsAgain, HasCard, found}
 use Rattle.card_core.specs.Running.{Starts, StartStopsBy}
-use Rattle.card_core.specs.Starting.{power_on_writes, renewal_writes}
+use Rattle.card_core.specs.Starting.{KeepsFoundUnlessOld, power_on_writes, renewal_writes}
 use Rattle.t1_link.specs.CardTable.{fresh}
 use Rattle.card_turns.specs.declared.playing.Turn.TheVariants as turn
 use Rattle.card_turns.specs.declared.playing.Item.TheVariants as item
@@ -130,18 +130,20 @@ module _ (old : BenchState) (dark : Facts) (darkened : dark ≡ record (bench_fa
 
     -- what a start leaves
     leaves : (new : BenchState) → FindsAgain lit.words (bench_facts new).words
+        → KeepsFoundUnlessOld lit.words (bench_facts new).words
         → comparisons (bench_facts new) ≡ comparisons (bench_facts old) → LeavesCard old new
-    leaves new again same = record {
+    leaves new again kept same = record {
       card = found-again (bench_facts new).words again;
+      words = subst (λ (l : List ℕ). KeepsFoundUnlessOld l (bench_facts new).words) lit-words kept;
       compares = ap (λ (c : Comparisons). c.compares) same;
       matches = ap (λ (c : Comparisons). c.matches) same;
     }
 
     -- the card starts
     pub starts : (p : Powered) → Starts lit p.card → p.link ≡ fresh → FindsAgain lit.words p.card.facts.words
-        → WritesAtMost (power_on_writes lit) lit p.card.facts
+        → KeepsFoundUnlessOld lit.words p.card.facts.words → WritesAtMost (power_on_writes lit) lit p.card.facts
         → p.card.facts.writes ≡ lit.writes + power_on_writes lit → Plays old turn.On item.Atr (on p)
-    starts p started link again spent counted =
+    starts p started link again kept spent counted =
         let power = started.power in
         let counts = writing-compares (power_on_writes lit) lit p.card.facts spent in
         record {
@@ -157,7 +159,7 @@ module _ (old : BenchState) (dark : Facts) (darkened : dark ≡ record (bench_fa
           guesses = pays-nothing old (on p) (found-again p.card.facts.words again) (counts ∙ lit-counts);
           one = λ before good. (
             (started.session, link, started.state, power.lit),
-            leaves (on p) again (counts ∙ lit-counts),
+            leaves (on p) again kept (counts ∙ lit-counts),
             counted ∙ ap₂ (λ (done more : ℕ). done + more) lit-writes lit-asked,
           );
           wears = λ before good. start-wears p.card.facts spent before good.faults;
@@ -168,7 +170,8 @@ module _ (old : BenchState) (dark : Facts) (darkened : dark ≡ record (bench_fa
 
     -- the board, power off, after a start that stopped
     module _ (stopped new : Facts) (again : FindsAgain lit.words stopped.words)
-        (turned : new ≡ record stopped { dark = true }) (spent : WritesAtMost (power_on_writes lit) lit stopped) where
+        (kept : KeepsFoundUnlessOld lit.words stopped.words) (turned : new ≡ record stopped { dark = true })
+        (spent : WritesAtMost (power_on_writes lit) lit stopped) where
       new-words : new.words ≡ stopped.words
       new-words = ap (λ (f : Facts). f.words) turned
 
@@ -179,7 +182,8 @@ module _ (old : BenchState) (dark : Facts) (darkened : dark ≡ record (bench_fa
       same-comparisons = ap comparisons turned ∙ writing-compares (power_on_writes lit) lit stopped spent ∙ lit-counts
 
       rests : LeavesCard old (off new)
-      rests = leaves (off new) (subst (FindsAgain lit.words) (sym new-words) again) same-comparisons
+      rests = leaves (off new) (subst (FindsAgain lit.words) (sym new-words) again)
+          (subst (λ (l : List ℕ). KeepsFoundUnlessOld lit.words l) (sym new-words) kept) same-comparisons
 
       has-card : HasCard (bench_facts old).words → HasCard new.words
       has-card before = subst HasCard (sym new-words) (has-card-again stopped.words again before)

@@ -8,7 +8,7 @@ use Rattle.nvm_board.specs.declared.board.TheConstants.{MOST_PAGES}
 use Rattle.file_tree.specs.Formats.{is_format_2}
 use Rattle.migration.specs.Migrating.{migration_writes}
 use Rattle.command_base.specs.Finding.{words_found}
-use Rattle.card_core.specs.Starting.{power_on_writes}
+use Rattle.card_core.specs.Starting.{KeepsFoundUnlessOld, power_on_writes}
 use Rattle.t1_link.specs.CardTable.{link_step}
 use Rattle.card_turns.specs.declared.playing.Turn.{Turn}
 use Rattle.card_turns.specs.declared.playing.Turn.TheVariants as turn
@@ -25,9 +25,11 @@ WritesAsAsked old new = new.writes ≡ old.writes + power_on_writes old
 abbrev pub WritesNoMore : Facts → Facts → Type 0
 WritesNoMore old new = new.writes ≤ old.writes + power_on_writes old
 
--- What a start leaves, cut or not: the card that is found is what it was, and no secret was compared.
+-- What a start leaves, cut or not: the card that is found is what it was, and so are the words that are found, unless
+-- they are a card of format 1. No secret was compared.
 pub record LeavesCard (old new : BenchState) : Type 0 where
   pub card : bench_card new ≡ bench_card old
+  pub words : KeepsFoundUnlessOld (bench_facts old).words (bench_facts new).words
   pub compares : (bench_facts new).compares ≡ (bench_facts old).compares
   pub matches : (bench_facts new).matches ≡ (bench_facts old).matches
 

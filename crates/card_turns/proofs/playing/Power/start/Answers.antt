@@ -17,7 +17,8 @@ returns-in-Ok-start-clause-plays g c =
     λ reply. starts (power_state g.B.Board.facts c.args.self) dark c.into_dark_board-board.ensures lit
     c.in-Ok.ensures.lit (g.met.B.Board.is_board c.light.new.self).sized c.in-Ok-start.powered
     c.in-Ok-start.ensures.started.0
-    c.in-Ok-start.ensures.started.1 c.in-Ok-start.ensures.found c.in-Ok-start.ensures.writes
+    c.in-Ok-start.ensures.started.1 c.in-Ok-start.ensures.found c.in-Ok-start.ensures.kept
+    c.in-Ok-start.ensures.writes
     c.in-Ok-start.ensures.counted
 
 pub returns-in-Ok-start-clause-kept : goal.returns-in-Ok-start-clause-kept
@@ -59,12 +60,14 @@ returns-after-fault-clause-plays g c =
           subst (λ (told : Came). TellsItem told reply (λ i. Plays old On i (off new))) (sym w.came-is)
           (ends_dark old dark c.into_dark_board-board.ensures
           lit lights (g.met.B.Board.is_board c.light.new.self).sized stopped new c.in-Err.ensures.found_err
+          c.in-Err.ensures.kept_err
           c.power_off.ensures
           spent c.in-Err.fault w.in-PowerLost.is c.in-Err.ensures.stopped)
       | in-Fault w ↦
           subst (λ (told : Came). TellsItem told reply (λ i. Plays old On i (off new))) (sym w.came-is)
           (ends_mute old dark c.into_dark_board-board.ensures
           lit lights (g.met.B.Board.is_board c.light.new.self).sized stopped new c.in-Err.ensures.found_err
+          c.in-Err.ensures.kept_err
           c.power_off.ensures
           spent c.in-Err.fault w.in-Fault.is c.in-Err.ensures.stopped)
     ]
