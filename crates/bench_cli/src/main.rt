@@ -2,7 +2,7 @@
 //! With `--card FILE` it runs the script on the card in FILE.
 #![tactic(auto)]
 
-ghost use Rattle.std.specs.Prelude.{◌≡◌};
+ghost use Rattle.std.specs.Prelude.{◌≡◌, MatchResult};
 ghost use Rattle.card_bench.specs.Faults.{status_of};
 
 mod card_file;
@@ -30,6 +30,16 @@ fn report(rt: &impl Eprint, fault: &RunFault) -> u8
     fault.status()
 }
 
+/// Returns the exit status of a run: 0, or that of its fault, which it reports.
+fn status_at_end(rt: &impl Eprint, ended: &Result<(), RunFault>) -> u8
+    ensures { MatchResult ended.now (λ _. result ≡ 0) (λ fault. result ≡ status_of fault) }
+{
+    match ended {
+        Ok(()) => 0,
+        Err(fault) => report(rt, fault),
+    }
+}
+
 /// Reports on standard error why a file is not taken as a card's, and returns the exit status.
 fn refuse(rt: &impl Eprint, fault: &CardFault) -> ExitCode {
     let _ = rt.eprintln(format_args!("error card: {fault}"));
@@ -52,7 +62,7 @@ fn asked(rt: &HostRuntime) -> Result<Asked, RunFault> {
 /// Runs the script from standard input. The exit status is 0, or that of the fault.
 fn main(rt: HostRuntime) -> ExitCode {
     let Ok(mut reader) = BufReader::new(rt.alloc(), rt.reader()) else {
-        return ExitCode::from(RunFault::Memory.status());
+        return ExitCode::from(status_at_end(&rt, &Err(RunFault::Memory)));
     };
     let ran = match asked(&rt) {
         Err(fault) => Err(fault),
@@ -63,8 +73,5 @@ fn main(rt: HostRuntime) -> ExitCode {
             Err(fault) => return refuse(&rt, &fault),
         },
     };
-    match ran {
-        Ok(()) => ExitCode::SUCCESS,
-        Err(fault) => ExitCode::from(report(&rt, &fault)),
-    }
+    ExitCode::from(status_at_end(&rt, &ran))
 }
