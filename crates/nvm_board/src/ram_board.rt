@@ -1,6 +1,6 @@
 //! A board in working memory, which never fails. It loses power only by call or at the end of a count.
 ghost use Rattle.std.specs.Prelude.{◌≡◌, ◌+◌, ◌*◌, ◌<◌, ◌≤◌, ◌↔◌, if◌then◌else◌, true, false, length, IsTrue, All};
-ghost use Rattle.std.specs.Prelude.{Contains, IfOk, slice_index};
+ghost use Rattle.std.specs.Prelude.{◌⊎◌, Contains, IfOk, slice_index};
 ghost use Rattle.nvm_board.specs.declared.board.TheConstants.{SECRETS, COUNT_END, LEAST_PAGES, MOST_PAGES, PAGE_WORDS};
 ghost use Rattle.nvm_board.specs.Facts.{AreWords, address, pages_of};
 
@@ -148,9 +148,11 @@ impl RamBoard {
         self.dark = true;
     }
 
-    /// Returns true if a count of this comparison is at its end.
+    /// Returns true if a count of this comparison is at its end: that of comparisons, or on a match that of matches.
     fn counts_end(&self, secret: usize, equal: bool) -> bool
         requires { secret < SECRETS }
+        ensures exact { IsTrue result ↔ ((slice_index self.now.compares secret ≡ COUNT_END)
+            ⊎ ((equal ≡ true) × (slice_index self.now.matches secret ≡ COUNT_END))) }
         ensures worn { IsTrue result → IsWorn (ram_facts self.now) }
         ensures spare { result ≡ false → slice_index self.now.compares secret < COUNT_END }
         ensures spare_match { result ≡ false → equal ≡ true → slice_index self.now.matches secret < COUNT_END }
