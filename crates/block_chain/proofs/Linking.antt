@@ -6,7 +6,7 @@ use Rattle.std.proofs.lemmas.Bool.{cases_lt}
 use Rattle.nvm_board.specs.Facts.{address, IsMemory, pages_of}
 use Rattle.nvm_board.specs.laws.Sizes.{page_within}
 use Rattle.block_chain.specs.BlockWords.{link}
-use Rattle.block_chain.specs.ChainChanges.{LinksAlone}
+use Rattle.block_chain.specs.ChainChanges.{LinksAlone, LinksFirst}
 use Rattle.block_chain.specs.laws.Words.{word-set_other, word-set_same}
 
 -- none is linked yet
@@ -32,16 +32,7 @@ links_more first end page w m now after from below only torn = ⊎_elim
     }))
     torn
 
--- and the links before and behind it stay
-pub links_before : (page w : ℕ) (now after : List ℕ) → (after ≡ now) ⊎ (after ≡ slice_set now (address page 0) w)
-    → (q : ℕ) → q < page → link after q ≡ link now q
-links_before page w now after torn q before = ⊎_elim
-    (λ (old : after ≡ now). ap (λ (l : List ℕ). link l q) old)
-    (λ (new : after ≡ slice_set now (address page 0) w). ap (λ (l : List ℕ). link l q) new
-    ∙ word-set_other now page 0 q 0 w (omega arith) (omega arith)
-    (inl (λ same. let z : ⊥ = omega (arith, same, before) in z)))
-    torn
-
+-- and the links behind it stay
 pub links_behind : (page w : ℕ) (now after : List ℕ) → (after ≡ now) ⊎ (after ≡ slice_set now (address page 0) w)
     → (q : ℕ) → page < q → link after q ≡ link now q
 links_behind page w now after torn q past = ⊎_elim
@@ -71,3 +62,23 @@ linked_more first end rest page w now after sized inner is done linked q from be
     ∙ word-set_same now page 0 w inside ∙ is
     ∙ sym (ap (λ (p : ℕ). if p + 1 == end then rest else p + 1) here))
     (cases_lt q page)
+
+-- whole or torn, the first pages are linked, up to this one or with it
+pub links_first : (first end rest page w : ℕ) (m now after : List ℕ) → IsMemory now → page < pages_of now
+    → w ≡ (if page + 1 == end then rest else page + 1)
+    → ((q : ℕ) → first ≤ q → q < page → link now q ≡ (if q + 1 == end then rest else q + 1))
+    → ((q : ℕ) → page ≤ q → q < end → link now q ≡ link m q)
+    → (after ≡ now) ⊎ (after ≡ slice_set now (address page 0) w) → LinksFirst first end rest m after
+links_first first end rest page w m now after sized inner is linked behind torn = ⊎_elim
+    (λ (old : after ≡ now). record {
+      made = page;
+      linked = λ q from below. ap (λ (l : List ℕ). link l q) old ∙ linked q from below;
+      behind = λ q past below. ap (λ (l : List ℕ). link l q) old ∙ behind q past below;
+    })
+    (λ (new : after ≡ slice_set now (address page 0) w). record {
+      made = page + 1;
+      linked = linked_more first end rest page w now after sized inner is new linked;
+      behind = λ q past below.
+          links_behind page w now after (inr new) q (omega (arith, past)) ∙ behind q (omega (arith, past)) below;
+    })
+    torn

@@ -70,11 +70,12 @@ pub record LinksAlone (first end : ℕ) (m after : List ℕ) : Type 0 where
   pub others : (page place : ℕ) → place < PAGE_WORDS → (place ≢ 0) ⊎ (page < first) ⊎ (end ≤ page)
       → word after page place ≡ word m page place
 
--- Any first of the pages from one page up to another are linked so, and those behind the next one link as before.
+-- The first pages of a run, up to page `made`, are linked, each to the next and the last to `rest`. The others link as
+-- before.
 pub record LinksFirst (first end rest : ℕ) (m after : List ℕ) : Type 0 where
   pub made : ℕ
   pub linked : (page : ℕ) → first ≤ page → page < made → link after page ≡ (if page + 1 == end then rest else page + 1)
-  pub behind : (page : ℕ) → made < page → page < end → link after page ≡ link m page
+  pub behind : (page : ℕ) → made ≤ page → page < end → link after page ≡ link m page
 
 -- Each of the pages from one page up to another links to the next, and the last to this page.
 abbrev pub AreLinked : ℕ → ℕ → ℕ → List ℕ → Type 0

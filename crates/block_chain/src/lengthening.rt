@@ -21,7 +21,7 @@ fn next_page(page: u16, end: u16, rest: u16) -> u16
 /// Only these links change, at any exit.
 ///
 /// # Errors
-/// The store's failure: power was lost, or the device failed. Then only some of the pages may be linked.
+/// The store's failure: power was lost, or the device failed. Then only the first pages may be linked.
 pub fn link_pages<B: Board>(
     store: &mut Store<B>,
     first: u16,

@@ -5,7 +5,7 @@ use Rattle.undo_journal.specs.Memory.{committed}
 use Rattle.undo_journal.specs.laws.Memory.{current_size}
 use Rattle.undo_journal.specs.laws.Exits.{none_ok}
 use Rattle.undo_journal.specs.laws.Told.{reads_none, reads_change, changes_on, changes_handed, changes_within}
-use Rattle.block_chain.proofs.Linking.{links_none, links_more, linked_more, links_before, links_behind}
+use Rattle.block_chain.proofs.Linking.{links_none, links_more, linked_more, links_behind, links_first}
 use Rattle.block_chain.proofs.lengthening.link_pages.Goals as goal
 
 pub loop-page-init : goal.loop-page-init
@@ -70,14 +70,12 @@ returns-in_err-write_plain-clause-store g c =
 pub returns-in_err-write_plain-clause-ascending : goal.returns-in_err-write_plain-clause-ascending
 returns-in_err-write_plain-clause-ascending g c =
     let invariant = c.loop-page.invariant in
-    let torn = c.write_plain.ensures.any_exit in
-    record {
-      made = c.loop-page.page;
-      linked = λ q from below. links_before c.loop-page.page _ (committed c.loop-page.store) _ torn q below
-          ∙ invariant.linked q from below;
-      behind = λ q past below. links_behind c.loop-page.page _ (committed c.loop-page.store) _ torn q past
-          ∙ invariant.behind q (omega (arith, past)) below;
-    }
+    let lt : c.loop-page.page < c.args.end = omega (arith, c.loop-page-test.true) in
+    let pages = pages_same (committed c.args.store.now) (committed c.loop-page.store) invariant.only.size in
+    links_first c.args.first c.args.end c.args.rest c.loop-page.page _ (committed c.args.store.now)
+    (committed c.loop-page.store) _ invariant.changes.ready.usable.committed_size
+    (omega (arith, lt, c.requires.inside, pages)) (c.from.ensures ∙ c.next_page-next.ensures) invariant.linked
+    invariant.behind c.write_plain.ensures.any_exit
 
 pub returns-clause-ascending : goal.returns-clause-ascending
 returns-clause-ascending g c =
@@ -85,7 +83,7 @@ returns-clause-ascending g c =
     record {
       made = c.loop-page.page;
       linked = invariant.linked;
-      behind = λ q past below. invariant.behind q (omega (arith, past)) below;
+      behind = invariant.behind;
     }
 
 pub returns-clause-any_exit : goal.returns-clause-any_exit
