@@ -3,7 +3,7 @@ use Rattle.std.specs.Prelude.{◌≡◌, ◌≢◌, ◌<◌, ℕ, if◌then◌el
 use Rattle.std.specs.Prelude.{None, Some}
 use Rattle.card_state.specs.declared.limits.TheConstants.{ENTRIES}
 use Rattle.file_tree.specs.declared.entry.Entry.{Entry}
-use Rattle.file_tree.specs.declared.index.Place.{Place}
+use Rattle.file_tree.specs.declared.steps.Place.{Place}
 use Rattle.file_tree.specs.declared.index.Index.{Index}
 use Rattle.card_state.specs.FileTrees.{Path, Tree, exists}
 use Rattle.file_tree.specs.Keys.{key_for, IsBefore}

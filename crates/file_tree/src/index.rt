@@ -1,33 +1,23 @@
 //! The index: each file by parent and identifier, in working memory. A lookup reads no store.
 
-ghost use Rattle.std.specs.Prelude.{◌≡◌, ◌<◌, ◌≤◌, ◌↔◌, ℕ, List, All, IsTrue, length, filter, option_map};
+ghost use Rattle.std.specs.Prelude.{◌≡◌, ◌<◌, ◌≤◌, ℕ, List, length, filter, option_map};
 ghost use Rattle.std.specs.Prelude.{slice_index};
-ghost use Rattle.std.specs.List.Sorted.{IsSearchInRange};
 ghost use Rattle.file_tree.specs.declared.entry.Entry.{Entry};
-ghost use Rattle.file_tree.specs.Keys.{IsBefore};
 ghost use Rattle.file_tree.specs.Table.{table, entry_in, path_of, IsUsed, IsTable};
 ghost use Rattle.file_tree.specs.Trees.{tree_of, TreeStands};
 ghost use Rattle.file_tree.specs.TreeChanges.{Deletes};
 ghost use Rattle.file_tree.specs.Indexes.{AreSorted, IsIndex, IsFreeIn, AddsEntry, TellsChild, child_by_identifier};
-ghost use Rattle.file_tree.specs.IndexParts.{TellsSearch, TellsPut, TellsIndex, parent_by, is_outside};
+ghost use Rattle.file_tree.specs.IndexParts.{TellsPut, TellsIndex, parent_by, is_outside};
 
 use crate::entry::Entry;
 use crate::layout::ENTRIES_END;
 use crate::look_up::Reached;
 use crate::parents::is_within;
-use crate::steps::{Key, Steps};
+use crate::steps::{Key, Place, Steps, is_behind, search};
 use arrayvec::ArrayVec;
-use std::cmp::Ordering;
 
 /// The greatest number of places: one per entry but the MF's.
 const MOST_PLACES: usize = 63;
-
-/// The place of a file: its key and its entry.
-#[derive(Clone, Copy, Default)]
-struct Place {
-    key: Key,
-    entry: u8,
-}
 
 /// Places in ascending order of their keys.
 type PlaceList = ArrayVec<Place, MOST_PLACES>;
@@ -36,43 +26,6 @@ type PlaceList = ArrayVec<Place, MOST_PLACES>;
 #[derive(Drop)]
 pub struct Index {
     places: PlaceList,
-}
-
-/// Searches a key among places in ascending order, by bisection. It returns the index of the key, or else the one
-/// where it belongs.
-fn search(places: &[Place], key: Key, steps: &mut Steps) -> Result<usize, usize>
-    requires few { length places.now ≤ 63 }
-    requires fresh { steps.old ≡ 0 }
-    ensures within { IsSearchInRange result (length places.now) }
-    ensures found { AreSorted places.now → TellsSearch places.now key result }
-    ensures steps { steps.new ≤ 6 }
-{
-    let mut low = 0;
-    let mut high = places.len();
-    while low < high {
-        let middle = low + (high - low) / 2;
-        match steps.compare(places[middle].key, key) {
-            Ordering::Less => low = middle + 1,
-            Ordering::Equal => return Ok(middle),
-            Ordering::Greater => high = middle,
-        }
-    }
-    Err(low)
-}
-
-/// Returns true if a key is greater than those of all places.
-fn is_behind(places: &[Place], key: Key) -> bool
-    ensures { AreSorted places.now → (IsTrue result ↔ All (λ place. IsBefore place.key key) places.now) }
-{
-    let end = places.len();
-    if end == 0 {
-        return true;
-    }
-    let mut steps = Steps::new();
-    match steps.compare(places[end - 1].key, key) {
-        Ordering::Less => true,
-        Ordering::Equal | Ordering::Greater => false,
-    }
 }
 
 /// Returns the parent of an entry's file, for the MF its own.
@@ -147,11 +100,11 @@ impl Index {
         ensures path { (m : List ℕ) → TreeStands m → IsUsed (table m) parent → IsIndex (table m) self.now
             → option_map (path_of (table m)) result.0
             ≡ child_by_identifier (tree_of m) (path_of (table m) parent) identifier }
-        ensures steps { result.1 ≤ 7 }
+        ensures steps { result.1 ≤ 6 }
     {
         let places = self.places.as_slice();
-        let mut steps = Steps::new();
-        match search(places, Key::new(parent, identifier), &mut steps) {
+        let (found, steps) = search(places, Key::new(parent, identifier));
+        match found {
             Ok(at) => (Some(places[at].entry), steps),
             Err(_) => (None, steps),
         }
@@ -183,8 +136,8 @@ impl Index {
             self.places.push(place);
             return true;
         }
-        let mut steps = Steps::new();
-        match search(self.places.as_slice(), place.key, &mut steps) {
+        let (found, _) = search(self.places.as_slice(), place.key);
+        match found {
             Ok(_) => false,
             Err(at) => {
                 self.places.insert(at, place);

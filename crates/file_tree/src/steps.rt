@@ -1,8 +1,12 @@
-//! The keys of the index, and the count of their comparisons.
+//! The places of the index by ascending keys, their search, and the count of key comparisons. Keys are compared here
+//! alone, and each comparison is counted.
 
-ghost use Rattle.std.specs.Prelude.{◌≡◌, ◌<◌, ◌+◌};
+ghost use Rattle.std.specs.Prelude.{◌≡◌, ◌<◌, ◌≤◌, ◌+◌, ◌↔◌, All, IsTrue, length};
+ghost use Rattle.std.specs.List.Sorted.{IsSearchInRange};
 ghost use Rattle.std.specs.Ordering.{MatchOrdering};
 ghost use Rattle.file_tree.specs.Keys.{key_for, IsBefore};
+ghost use Rattle.file_tree.specs.Indexes.{AreSorted};
+ghost use Rattle.file_tree.specs.IndexParts.{TellsSearch};
 
 use std::cmp::Ordering;
 use std::marker::Model;
@@ -31,6 +35,13 @@ impl Key {
     }
 }
 
+/// The place of a file: its key and its entry.
+#[derive(Clone, Copy, Default)]
+pub(crate) struct Place {
+    pub(crate) key: Key,
+    pub(crate) entry: u8,
+}
+
 /// The number of key comparisons of a search.
 #[derive(Clone, Copy)]
 pub struct Steps {
@@ -49,7 +60,7 @@ impl Model for Steps {
 
 impl Steps {
     /// Returns a count of 0.
-    pub(crate) fn new() -> Steps
+    fn new() -> Steps
         ensures { result ≡ 0 }
     {
         Steps { count: 0 }
@@ -64,7 +75,7 @@ impl Steps {
     }
 
     /// Compares and counts two keys. The parents come first, then the identifiers.
-    pub(crate) fn compare(&mut self, one: Key, other: Key) -> Ordering
+    fn compare(&mut self, one: Key, other: Key) -> Ordering
         requires { self.old < 255 }
         ensures order { MatchOrdering result (IsBefore one other) (one ≡ other) (IsBefore other one) }
         ensures counted { self.new ≡ self.old + 1 }
@@ -75,5 +86,42 @@ impl Steps {
             Ordering::Equal => one.identifier.cmp(&other.identifier),
             Ordering::Greater => Ordering::Greater,
         }
+    }
+}
+
+/// Searches a key among places in ascending order, by bisection. It returns the index of the key, or else the one
+/// where it belongs, and the comparisons made.
+pub(crate) fn search(places: &[Place], key: Key) -> (Result<usize, usize>, Steps)
+    requires few { length places.now ≤ 63 }
+    ensures within { IsSearchInRange result.0 (length places.now) }
+    ensures found { AreSorted places.now → TellsSearch places.now key result.0 }
+    ensures steps { result.1 ≤ 6 }
+{
+    let mut steps = Steps::new();
+    let mut low = 0;
+    let mut high = places.len();
+    while low < high {
+        let middle = low + (high - low) / 2;
+        match steps.compare(places[middle].key, key) {
+            Ordering::Less => low = middle + 1,
+            Ordering::Equal => return (Ok(middle), steps),
+            Ordering::Greater => high = middle,
+        }
+    }
+    (Err(low), steps)
+}
+
+/// Returns true if a key is greater than those of all places.
+pub(crate) fn is_behind(places: &[Place], key: Key) -> bool
+    ensures { AreSorted places.now → (IsTrue result ↔ All (λ place. IsBefore place.key key) places.now) }
+{
+    let end = places.len();
+    if end == 0 {
+        return true;
+    }
+    let mut steps = Steps::new();
+    match steps.compare(places[end - 1].key, key) {
+        Ordering::Less => true,
+        Ordering::Equal | Ordering::Greater => false,
     }
 }

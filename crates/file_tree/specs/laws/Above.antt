@@ -6,7 +6,7 @@ use Rattle.std.proofs.lemmas.Bool.Decides.{eqb_tells}
 use Rattle.std.proofs.lemmas.List.Elements.{All-head, All-tail}
 use Rattle.file_tree.specs.declared.entry.Entry.{Entry}
 use Rattle.file_tree.specs.declared.steps.Key.{Key}
-use Rattle.file_tree.specs.declared.index.Place.{Place}
+use Rattle.file_tree.specs.declared.steps.Place.{Place}
 use Rattle.file_tree.specs.declared.index.Index.{Index}
 use Rattle.card_state.specs.FileTrees.{master_file}
 use Rattle.file_tree.specs.Table.{entry_in, IsUsed, IsTable}

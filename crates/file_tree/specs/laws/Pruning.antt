@@ -6,7 +6,7 @@ use Rattle.std.specs.FinMap.{get, retain_keys, get-retain_keys, slice_cmp-IsAnti
 use Rattle.std.proofs.Common.{refl, sym, ◌∙◌, ap, subst, arith, true≢false}
 use Rattle.std.proofs.lemmas.List.Elements.{All-filter, filter_passes}
 use Rattle.file_tree.specs.declared.entry.Entry.{Entry}
-use Rattle.file_tree.specs.declared.index.Place.{Place}
+use Rattle.file_tree.specs.declared.steps.Place.{Place}
 use Rattle.file_tree.specs.declared.index.Index.{Index}
 use Rattle.card_state.specs.FileTrees.{Path, File, Tree}
 use Rattle.file_tree.specs.Keys.{key_for, IsBefore}

@@ -1,5 +1,5 @@
 use Rattle.std.proofs.Common.{◌∙◌, sym, refl, arith}
-use Rattle.file_tree.specs.declared.index.Place.{Place}
+use Rattle.file_tree.specs.declared.steps.Place.{Place}
 use Rattle.file_tree.specs.Keys.{key_for}
 use Rattle.file_tree.specs.laws.Indexes.{parent_here, parent_skip, parent_none}
 use Rattle.file_tree.proofs.index.parent_of.Goals as goal

@@ -2,7 +2,7 @@ use Rattle.std.proofs.Common.{◌≡◌, ◌≤◌, ◌+◌, ◌++◌, ℕ, Bool
 use Rattle.std.proofs.Common.{slice_index, slice_index_or, sym, ◌∙◌, ap, arith, rules, lit<, append-nil}
 use Rattle.std.proofs.Math.Seq.{take-length}
 use Rattle.std.proofs.lemmas.List.Elements.{filter_more}
-use Rattle.file_tree.specs.declared.index.Place.{Place}
+use Rattle.file_tree.specs.declared.steps.Place.{Place}
 use Rattle.file_tree.specs.Keys.{key_for}
 use Rattle.file_tree.specs.IndexParts.{is_outside, parent_by}
 use Rattle.file_tree.specs.Subtrees.{leads}

@@ -1,8 +1,9 @@
-use Rattle.std.proofs.Common.{None, Some, slice_index_or, subst, ◌∙◌}
+use Rattle.std.proofs.Common.{ℕ, None, Some, Result, length, slice_index_or, subst, ◌∙◌}
+use Rattle.std.specs.List.Sorted.{IsSearchInRange}
 use Rattle.file_tree.specs.declared.steps.Key.{Key}
-use Rattle.file_tree.specs.declared.index.Place.{Place}
+use Rattle.file_tree.specs.declared.steps.Place.{Place}
 use Rattle.file_tree.specs.Keys.{key_for}
-use Rattle.file_tree.specs.IndexParts.{AreBefore, AreBehind}
+use Rattle.file_tree.specs.IndexParts.{AreBefore, AreBehind, TellsSearch}
 use Rattle.file_tree.specs.laws.Indexes.{are_sorted, found_child, no_child}
 use Rattle.file_tree.specs.laws.Indexed.{told_path}
 use Rattle.file_tree.proofs.index.Index.find.Goals as goal
@@ -16,8 +17,12 @@ returns-in-Ok-clause-found c = λ m is.
     let places = c.as_slice-places.result.now in
     let same = c.as_slice-places.ensures.value in
     let up = are_sorted m c.args.self.now places same c.args.parent c.args.identifier c.in-Ok.at is in
+    let within = subst (λ (r : Result ℕ ℕ). IsSearchInRange r (length places))
+    c.in-Ok.is c.search-found.ensures.within in
+    let there = subst (λ (r : Result ℕ ℕ). TellsSearch places c.new.result r)
+    c.in-Ok.is (c.search-found.ensures.found up) in
     found_child m c.args.self.now places same c.args.parent c.args.identifier c.in-Ok.at is no_place
-    (c.in-Ok.ensures.within) (c.in-Ok.ensures.found up no_place ∙ c.new.ensures)
+    within (there no_place ∙ c.new.ensures)
 
 pub returns-in-Err-clause-found : goal.returns-in-Err-clause-found
 returns-in-Err-clause-found c = λ m is.
@@ -25,7 +30,9 @@ returns-in-Err-clause-found c = λ m is.
     let same = c.as_slice-places.ensures.value in
     let at = c.in-Err.field-0 in
     let up = are_sorted m c.args.self.now places same c.args.parent c.args.identifier at is in
-    let there = c.in-Err.ensures.found up in
+    let there = subst (λ (r : Result ℕ ℕ). TellsSearch places c.new.result r)
+    c.in-Err.is (c.search-found.ensures.found up)
+    in
     let before : Key → Type 0 = λ k. AreBefore places k at in
     let behind : Key → Type 0 = λ k. AreBehind places k at in
     no_child m c.args.self.now places same c.args.parent c.args.identifier at is

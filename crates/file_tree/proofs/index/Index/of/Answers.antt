@@ -2,7 +2,7 @@ use Rattle.std.proofs.Common.{rules, ◌≡◌, ◌<◌, ◌≤◌, ◌+◌, ℕ
 use Rattle.std.specs.Prelude.{slice_index_or}
 use Rattle.file_tree.specs.declared.entry.Entry.{Entry}
 use Rattle.file_tree.specs.declared.steps.Key.{Key}
-use Rattle.file_tree.specs.declared.index.Place.{Place}
+use Rattle.file_tree.specs.declared.steps.Place.{Place}
 use Rattle.file_tree.specs.declared.index.Index.{Index}
 use Rattle.file_tree.specs.Keys.{key_for}
 use Rattle.file_tree.specs.Table.{IsUsed}

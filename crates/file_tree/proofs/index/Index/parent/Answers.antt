@@ -1,5 +1,5 @@
 use Rattle.std.proofs.Common.{◌∙◌, List, ap}
-use Rattle.file_tree.specs.declared.index.Place.{Place}
+use Rattle.file_tree.specs.declared.steps.Place.{Place}
 use Rattle.file_tree.specs.Table.{table}
 use Rattle.file_tree.specs.IndexParts.{parent_by}
 use Rattle.file_tree.specs.laws.Above.{parent_is}

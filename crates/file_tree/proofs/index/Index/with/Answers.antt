@@ -1,7 +1,7 @@
 use Rattle.std.proofs.Common.{◌≢◌, sym, subst, ap}
 use Rattle.std.specs.Prelude.{All}
 use Rattle.file_tree.specs.declared.steps.Key.{Key}
-use Rattle.file_tree.specs.declared.index.Place.{Place}
+use Rattle.file_tree.specs.declared.steps.Place.{Place}
 use Rattle.file_tree.specs.laws.Indexes.{room, adds_key, adds_place, put_apart}
 use Rattle.file_tree.proofs.index.Index.with.Goals as goal
 

@@ -1,5 +1,5 @@
 use Rattle.std.proofs.Common.{◌∙◌, ap, List, filter}
-use Rattle.file_tree.specs.declared.index.Place.{Place}
+use Rattle.file_tree.specs.declared.steps.Place.{Place}
 use Rattle.file_tree.specs.declared.index.Index.{Index}
 use Rattle.file_tree.specs.IndexParts.{is_outside}
 use Rattle.file_tree.specs.laws.Pruning.{pruned}

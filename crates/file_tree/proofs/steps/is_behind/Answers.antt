@@ -1,8 +1,8 @@
 use Rattle.std.proofs.Common.{◌<◌, ◌≤◌, ◌+◌, ◌-◌, length, refl, arith}
-use Rattle.file_tree.specs.declared.index.Place.{Place}
+use Rattle.file_tree.specs.declared.steps.Place.{Place}
 use Rattle.file_tree.specs.Keys.{key_for}
 use Rattle.file_tree.specs.laws.Indexes.{all_before}
-use Rattle.file_tree.proofs.index.is_behind.Goals as goal
+use Rattle.file_tree.proofs.steps.is_behind.Goals as goal
 
 -- what stands past the end
 abbrev no_place : Place

@@ -1,9 +1,9 @@
 use Rattle.std.proofs.Common.{◌≡◌, ◌<◌, ◌≤◌, ◌+◌, ◌-◌, ◌/◌, ℕ, length, sym, subst, arith, ◌∙◌}
-use Rattle.file_tree.specs.declared.index.Place.{Place}
+use Rattle.file_tree.specs.declared.steps.Place.{Place}
 use Rattle.file_tree.specs.Keys.{key_for}
 use Rattle.file_tree.specs.IndexParts.{AreBehind, halved}
 use Rattle.file_tree.specs.laws.Indexes.{same_key, search_up, search_down, halved-few, halved-half}
-use Rattle.file_tree.proofs.index.search.Goals as goal
+use Rattle.file_tree.proofs.steps.search.Goals as goal
 
 -- what stands past the end
 abbrev no_place : Place
@@ -14,9 +14,9 @@ unfolding halved
 loop-low-init c = record {
   ordered = omega arith;
   within = omega arith;
-  few = (let fresh = c.requires.fresh in omega (arith, fresh));
+  few = (let fresh = c.new-steps.ensures in omega (arith, fresh));
   left = (let few = c.requires.few in subst (λ (n : ℕ). length c.args.places.now - 0 ≤ halved n)
-      (sym c.requires.fresh) (omega (arith, few)));
+      (sym c.new-steps.ensures) (omega (arith, few)));
   before = λ up k d lt. absurd (omega (arith, lt));
   behind = λ up k d from below. absurd (omega (arith, from, below));
 }

@@ -1,7 +1,7 @@
 use Rattle.std.proofs.Common.{◌-◌, ◌≤◌, length}
 use Rattle.file_tree.specs.Indexes.{AreSorted}
 use Rattle.file_tree.specs.IndexParts.{AreBefore, AreBehind, halved}
-use Rattle.file_tree.proofs.index.search.Given as goal
+use Rattle.file_tree.proofs.steps.search.Given as goal
 
 abbrev pub invariant-loop-low : goal.invariant-loop-low
 invariant-loop-low l = record {
