@@ -1,6 +1,7 @@
 -- The files and the PINs of a card that is found, and the current files of a session.
 use Rattle.std.specs.Prelude.{◌≡◌, ◌≢◌, ◌<◌, ◌≤◌, ◌==◌, ◌&&◌, ◌++◌, ◌∷◌, [], ℕ, zero, suc, Bool, true, false, not}
-use Rattle.std.specs.Prelude.{if◌then◌else◌, List, length, map, All, Option, Some, None, IfSome, IsTrue, unwrap_or, option_map}
+use Rattle.std.specs.Prelude.{if◌then◌else◌, List, length, map, All, Option, Some}
+use Rattle.std.specs.Prelude.{None, IfSome, IsTrue, unwrap_or, option_map}
 use Rattle.std.specs.List.{range_with_len}
 use Rattle.std.specs.FinMap.{get}
 use Rattle.std.proofs.Common.{arith, ap, ap₂, inl, inr, subst, sym, ◌∙◌, refl, true≢false}
