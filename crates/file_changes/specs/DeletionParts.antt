@@ -1,8 +1,10 @@
 -- Steps inside a deletion. No public clause uses these definitions.
-use Rattle.std.specs.Prelude.{◌≡◌, ◌≢◌, ◌==◌, ◌⊎◌, ◌<◌, ◌+◌, ◌&&◌, ℕ, Bool, not, if◌then◌else◌, List, map, length}
-use Rattle.std.specs.List.{range_with_len, sum_by}
+use Rattle.std.specs.Prelude.{◌≡◌, ◌≢◌, ◌↔◌, ◌==◌, ◌⊎◌, ◌<◌, ◌+◌, ◌&&◌, ℕ, Bool, false, not, if◌then◌else◌, List, []}
+use Rattle.std.specs.Prelude.{map, length, slice_index_or, IsTrue, Option, None, Some}
+use Rattle.std.specs.List.{range_with_len, sum_by, cons_option}
 use Rattle.nvm_board.specs.declared.board.TheConstants.{PAGE_WORDS}
 use Rattle.block_chain.specs.declared.chain.Chain.{Chain}
+use Rattle.block_chain.specs.declared.chain.Extent.{Extent}
 use Rattle.block_chain.specs.BlockWords.{word}
 use Rattle.block_chain.specs.Chains.{HasFree, AreApart}
 use Rattle.block_chain.specs.ChainChanges.{GivesBack}
@@ -10,8 +12,9 @@ use Rattle.block_chain.specs.Layout.{chains_of}
 use Rattle.file_tree.specs.declared.layout.TheConstants.{FIRST_ENTRY_PAGE}
 use Rattle.card_state.specs.declared.limits.TheConstants.{ENTRIES}
 use Rattle.file_tree.specs.declared.entry.Entry.{Entry}
+use Rattle.file_changes.specs.declared.deleting.Part.{Part}
 use Rattle.file_changes.specs.declared.deleting.Removal.{Removal}
-use Rattle.file_tree.specs.Entries.{free_entry}
+use Rattle.file_tree.specs.Entries.{extent_of, free_entry}
 use Rattle.file_tree.specs.Table.{table, entry_in, extents, free_entries}
 use Rattle.file_tree.specs.Subtrees.{leads_up}
 
@@ -27,9 +30,28 @@ going t top f = if is_gone t top f then entry_in t f else free_entry
 unfoldable pub part_below : List Entry → ℕ → List Entry
 part_below t top = map (going t top) (range_with_len 0 64)
 
--- All that is deleted: the part of the table, the chains of its extents, and the numbers of its blocks and entries.
+-- an entry, if it goes with another one
+abbrev pub entry_if_gone : List Entry → ℕ → ℕ → Option Entry
+entry_if_gone t top f = if is_gone t top f then Some (entry_in t f) else None
+
+-- the extent of an entry, if one is given that has one
+abbrev pub extents_in : Option Entry → List Extent
+extents_in None = []
+extents_in (Some x) = cons_option (extent_of x) []
+
+-- of each entry of a part, whether a file has it
+abbrev pub GoesWith : List Bool → List Entry → Type 0
+GoesWith goes part = (f : ℕ) → f < 64 → IsTrue (slice_index_or goes f false) ↔ ((entry_in part f).kind ≢ 0)
+
+-- Which entries go, how many, and the extents of their files.
+pub record IsPart (t : List Entry) (top : ℕ) (part : Part) : Type 0 where
+  pub goes : GoesWith part.goes (part_below t top)
+  pub count : part.count + free_entries (part_below t top) ≡ 64
+  pub extents : part.extents.items ≡ extents (part_below t top)
+
+-- Which entries go, the chains of their extents, and how many blocks and entries they are.
 pub record IsRemoval (m : List ℕ) (e : ℕ) (removal : Removal) : Type 0 where
-  pub part : removal.part.items ≡ part_below (table m) e
+  pub goes : GoesWith removal.goes (part_below (table m) e)
   pub chains : removal.chains.items ≡ chains_of (extents (part_below (table m) e))
   pub blocks : removal.space.blocks ≡ sum_by (λ x. x.blocks) (extents (part_below (table m) e))
   pub entries : removal.space.entries + free_entries (part_below (table m) e) ≡ 64

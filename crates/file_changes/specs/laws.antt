@@ -1,6 +1,7 @@
 -- Laws of the definitions, with their proofs.
 pub mod Parting
 pub mod Deleting
+pub mod Parts
 pub mod Removals
 pub mod Adding
 pub mod NewEntries

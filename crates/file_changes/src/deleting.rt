@@ -1,58 +1,133 @@
 //! DELETE FILE: deleting a file with all files below it (ISO/IEC 7816-9).
 
-ghost use Rattle.std.specs.Prelude.{◌≡◌, ◌⊎◌, ◌<◌, ◌≤◌, ◌+◌, length, IfOk, OnOk, MatchResult};
+ghost use Rattle.std.specs.Prelude.{◌≡◌, ◌⊎◌, ◌<◌, ◌≤◌, ◌+◌, ◌++◌, ℕ, List, [], true, false, if◌then◌else◌, is_some};
+ghost use Rattle.std.specs.Prelude.{length, replicate, slice_index, slice_set, IfOk, OnOk, MatchResult};
 ghost use Rattle.std.specs.List.{sum_by};
 ghost use Rattle.std.specs.Result.{result_err};
 ghost use Rattle.undo_journal.specs.Commits.{CommitsByGate};
 ghost use Rattle.undo_journal.specs.Memory.{committed, current, room, IsOpen, IsReady};
 ghost use Rattle.undo_journal.specs.Lent.{memory_of};
-ghost use Rattle.undo_journal.specs.StoreCalls.{Learns, Changes, SetsIn};
+ghost use Rattle.undo_journal.specs.StoreCalls.{Learns, Changes, Reads, SetsIn};
 ghost use Rattle.block_chain.specs.declared.layout.TheConstants.{MOST_BLOCKS};
 ghost use Rattle.block_chain.specs.Layout.{chains_of};
 ghost use Rattle.file_tree.specs.declared.layout.TheConstants.{DELETE_WRITES};
 ghost use Rattle.file_tree.specs.Formats.{block_count};
 ghost use Rattle.card_state.specs.Spaces.{free_space};
-ghost use Rattle.file_tree.specs.Table.{extents, table};
+ghost use Rattle.file_tree.specs.declared.entry.Entry.{Entry};
+ghost use Rattle.file_tree.specs.Table.{entry_in, table};
 ghost use Rattle.file_tree.specs.Trees.{tree_of};
 ghost use Rattle.file_tree.specs.TreeChanges.{Deletes, with_freed};
 ghost use Rattle.file_tree.specs.Indexes.{IsIndex};
 ghost use Rattle.file_tree.specs.StoredFiles.{HasFile};
-ghost use Rattle.file_changes.specs.DeletionParts.{IsRemoval, going, part_below, CanGive, FreesEntries, Removes};
+ghost use Rattle.file_changes.specs.DeletionParts.{IsPart, IsRemoval, CanGive, FreesEntries, GoesWith, Removes};
+ghost use Rattle.file_changes.specs.DeletionParts.{extents_in, entry_if_gone};
 
 use arrayvec::ArrayVec;
 use block_chain::{Chain, Extent, give_back};
 use file_tree::{
-    ENTRIES, ENTRIES_END, Entry, ExtentList, FreeSpace, Index, TABLE_ROOM, Table, count_free,
-    entry_address, extents_of, is_within, parent_of, read_table,
+    ENTRIES, ENTRIES_END, Entry, ExtentList, FreeSpace, Index, TABLE_ROOM, entry_address,
+    is_within, read_entry, read_entry_head,
 };
 use undo_journal::{Board, Store, StoreErr, Txn};
 
 /// The chains of some EFs.
 type ChainList = ArrayVec<Chain, TABLE_ROOM>;
 
-/// Returns an entry in the subtree of `top`, else a free one.
-fn going_entry(entries: &[Entry], top: u8, e: u8) -> Entry
-    requires { e < length entries.now }
-    ensures { result ≡ going entries.now top e }
-{
-    let entry = entries[usize::from(e)];
-    if entry.is_used() && is_within(|at| parent_of(entries, at), top, e) {
-        entry
-    } else {
-        Entry::free()
+/// Of each entry, whether it goes.
+type Marks = [bool; TABLE_ROOM];
+
+/// The subtree of a file: which entries go, how many, and the extents of its EFs.
+#[derive(Drop)]
+struct Part {
+    goes: Marks,
+    count: u16,
+    extents: ExtentList,
+}
+
+impl Part {
+    /// Returns a subtree of no entry.
+    fn new() -> Part
+        ensures goes { result.goes ≡ replicate 64 false }
+        ensures count { result.count ≡ 0 }
+        ensures extents { result.extents.items ≡ [] }
+    {
+        Part {
+            goes: [false; TABLE_ROOM],
+            count: 0,
+            extents: ExtentList::new(),
+        }
+    }
+
+    /// Adds an entry that goes, if one is given.
+    fn add(&mut self, e: u8, entry: Option<Entry>)
+        requires within { e < 64 }
+        requires count { self.old.count < 64 }
+        requires room { length self.old.extents.items < 64 }
+        ensures goes { self.new.goes ≡ (if is_some entry then slice_set self.old.goes e true else self.old.goes) }
+        ensures count { self.new.count ≡ self.old.count + (if is_some entry then 1 else 0) }
+        ensures extents { self.new.extents.items ≡ self.old.extents.items ++ extents_in entry }
+    {
+        let Some(entry) = entry else {
+            return;
+        };
+        self.goes[usize::from(e)] = true;
+        self.count += 1;
+        if let Some(extent) = entry.extent() {
+            self.extents.push(extent);
+        }
     }
 }
 
-/// Returns the subtree of a file as a table. Entries outside it are free ones.
-fn part_of(entries: &[Entry], top: u8) -> Table
-    requires { length entries.now ≡ 64 }
-    ensures { result.items ≡ part_below entries.now top }
+/// Returns the parent of each entry, from the heads of the entries.
+fn read_parents<B: Board>(store: &mut Store<B>) -> Result<[u8; 256], StoreErr>
+    requires ready { IsReady store.old }
+    ensures parents { IfOk result (λ parents. (e : ℕ) → e < 256
+        → slice_index parents e ≡ (entry_in (table (committed store.old)) e).parent) }
+    ensures store { Reads store.old store.new (result_err result) }
 {
-    let mut part = Table::new();
+    let mut parents = [0; 256];
     for e in 0..ENTRIES_END {
-        part.push(going_entry(entries, top, e));
+        let head = read_entry_head(store, e)?;
+        parents[usize::from(e)] = head.parent;
     }
-    part
+    Ok(parents)
+}
+
+/// Returns an entry if it is in the subtree of `top`.
+fn going_entry<B: Board>(
+    store: &mut Store<B>,
+    parents: &[u8; 256],
+    top: u8,
+    e: u8,
+) -> Result<Option<Entry>, StoreErr>
+    requires ready { IsReady store.old }
+    requires within { e < 64 }
+    requires parents { (f : ℕ) → f < 256
+        → slice_index parents.now f ≡ (entry_in (table (committed store.old)) f).parent }
+    ensures { Learns store.old store.new result (λ found. found ≡ entry_if_gone (table (committed store.old)) top e) }
+{
+    if !is_within(|at| parents[usize::from(at)], top, e) {
+        return Ok(None);
+    }
+    let entry = read_entry(store, e)?;
+    if !entry.is_used() {
+        return Ok(None);
+    }
+    Ok(Some(entry))
+}
+
+/// Returns the subtree of a file. Reads only the entries in it whole.
+fn part_of<B: Board>(store: &mut Store<B>, top: u8) -> Result<Part, StoreErr>
+    requires ready { IsReady store.old }
+    ensures { Learns store.old store.new result (IsPart (table (committed store.old)) top) }
+{
+    let parents = read_parents(store)?;
+    let mut part = Part::new();
+    for e in 0..ENTRIES_END {
+        let entry = going_entry(store, &parents, top, e)?;
+        part.add(e, entry);
+    }
+    Ok(part)
 }
 
 /// Returns the chains of extents.
@@ -79,61 +154,62 @@ fn blocks_in(extents: &[Extent]) -> u16
     blocks
 }
 
-/// Frees each entry that is used in a part of the table.
-fn free_part<B: Board>(txn: &mut Txn<'_, B>, part: &[Entry]) -> Result<(), StoreErr>
+/// Frees the entries that go.
+fn free_part<B: Board>(txn: &mut Txn<'_, B>, marks: &Marks) -> Result<(), StoreErr>
     requires ready { IsOpen (memory_of txn.old) }
-    requires size { length part.now ≡ 64 }
     requires room { 64 ≤ room (memory_of txn.old) }
-    ensures done { OnOk result (FreesEntries (current (memory_of txn.old)) part.now (current (memory_of txn.new))) }
+    ensures done { OnOk result ((part : List Entry) → GoesWith marks.now part
+        → FreesEntries (current (memory_of txn.old)) part (current (memory_of txn.new))) }
     ensures store { SetsIn 64 txn.old txn.new (result_err result) }
 {
     for e in 0..ENTRIES_END {
-        if part[usize::from(e)].is_used() {
+        let goes = marks[usize::from(e)];
+        if goes {
             txn.set(entry_address(e), 0)?;
         }
     }
     Ok(())
 }
 
-/// Frees a part of the table, and gives chains back.
+/// Frees the entries that go, and gives chains back.
 fn take_away<B: Board>(
     txn: &mut Txn<'_, B>,
-    part: &[Entry],
+    marks: &Marks,
     chains: &[Chain],
 ) -> Result<(), StoreErr>
     requires ready { IsOpen (memory_of txn.old) }
-    requires size { length part.now ≡ 64 }
-    requires apart { CanGive (current (memory_of txn.old)) part.now chains.now }
+    requires apart { (part : List Entry) × GoesWith marks.now part
+        × CanGive (current (memory_of txn.old)) part chains.now }
     requires room { 64 + (length chains.now + 1) ≤ room (memory_of txn.old) }
-    ensures done { OnOk result
-        (Removes (current (memory_of txn.old)) part.now chains.now (current (memory_of txn.new))) }
+    ensures done { OnOk result ((part : List Entry) → GoesWith marks.now part
+        → Removes (current (memory_of txn.old)) part chains.now (current (memory_of txn.new))) }
     ensures store { SetsIn (64 + (length chains.now + 1)) txn.old txn.new (result_err result) }
 {
-    free_part(txn, part)?;
+    free_part(txn, marks)?;
     give_back(txn, chains)
 }
 
 /// Frees entries and chains in one transaction.
-fn remove<B: Board>(store: &mut Store<B>, part: &[Entry], chains: &[Chain]) -> Result<(), StoreErr>
+fn remove<B: Board>(store: &mut Store<B>, marks: &Marks, chains: &[Chain]) -> Result<(), StoreErr>
     requires ready { IsReady store.old }
-    requires size { length part.now ≡ 64 }
-    requires apart { CanGive (committed store.old) part.now chains.now }
+    requires apart { (part : List Entry) × GoesWith marks.now part × CanGive (committed store.old) part chains.now }
     requires few { length chains.now ≤ 64 }
-    ensures any_exit { (committed store.new ≡ committed store.old)
-        ⊎ Removes (committed store.old) part.now chains.now (committed store.new) }
-    ensures done { OnOk result (Removes (committed store.old) part.now chains.now (committed store.new)) }
+    ensures any_exit { (committed store.new ≡ committed store.old) ⊎ ((part : List Entry) → GoesWith marks.now part
+        → Removes (committed store.old) part chains.now (committed store.new)) }
+    ensures done { OnOk result ((part : List Entry) → GoesWith marks.now part
+        → Removes (committed store.old) part chains.now (committed store.new)) }
     ensures by_gate { CommitsByGate store.old store.new }
     ensures store { Changes DELETE_WRITES store.old store.new (result_err result) }
 {
     let mut txn = store.begin();
-    let work = take_away(&mut txn, part, chains);
+    let work = take_away(&mut txn, marks, chains);
     txn.end(work)
 }
 
 /// All that is deleted with a file: entries, chains and their space.
 #[derive(Drop)]
 struct Removal {
-    part: Table,
+    goes: Marks,
     chains: ChainList,
     space: FreeSpace,
 }
@@ -144,16 +220,14 @@ fn removal_of<B: Board>(store: &mut Store<B>, e: u8) -> Result<Removal, StoreErr
     requires below { 0 < e }
     ensures { Learns store.old store.new result (IsRemoval (committed store.old) e) }
 {
-    let entries = read_table(store)?;
-    let part = part_of(entries.as_slice(), e);
-    let extents = extents_of(part.as_slice());
+    let part = part_of(store, e)?;
     let space = FreeSpace {
-        blocks: blocks_in(extents.as_slice()),
-        entries: ENTRIES - count_free(part.as_slice()),
+        blocks: blocks_in(part.extents.as_slice()),
+        entries: part.count,
     };
-    let chains = chains_in(extents.as_slice());
+    let chains = chains_in(part.extents.as_slice());
     Ok(Removal {
-        part,
+        goes: part.goes,
         chains,
         space,
     })
@@ -185,7 +259,7 @@ pub fn delete<B: Board>(
         (λ error. index.new ≡ index.old) }
 {
     let removal = removal_of(store, e)?;
-    remove(store, removal.part.as_slice(), removal.chains.as_slice())?;
+    remove(store, &removal.goes, removal.chains.as_slice())?;
     index.without(e);
     Ok(removal.space)
 }

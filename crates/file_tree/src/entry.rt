@@ -176,7 +176,7 @@ impl Entry {
     /// Returns the blocks of an EF, `None` for other entries. Their number follows from the size; the entry names the
     /// chain.
     #[tactic(auto, unfolding(crate::specs::Entries::extent_of))]
-    pub(crate) fn extent(&self) -> Option<Extent>
+    pub fn extent(&self) -> Option<Extent>
         ensures { result ≡ extent_of self.now }
     {
         if let Some(EntryKind::Free | EntryKind::Dedicated) = self.kind() {

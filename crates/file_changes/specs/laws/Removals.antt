@@ -82,32 +82,29 @@ module _ (m : List ℕ) (top : ℕ) (stands : TreeStands m) where
 -- What goes is removed: from words that are the same, and by lists that hold what was found.
 module _ (m now : List ℕ) (top : ℕ) (sized : IsMemory m) (stands : TreeStands m) (above : 0 < top)
     (used : IsUsed (table m) top) (removal : Removal) (found : IsRemoval m top removal) (same : now ≡ m)
-    (part : List Entry) (chains : List Chain) (part_is : part ≡ removal.part.items)
-    (chains_are : chains ≡ removal.chains.items) where
+    (chains : List Chain) (chains_are : chains ≡ removal.chains.items) where
   abbrev gone_part : List Entry
   gone_part = part_below (table m) top
 
   abbrev gone_chains : List Chain
   gone_chains = chains_of (extents gone_part)
 
-  pub can_give : CanGive now part chains
+  pub can_give : CanGive now gone_part chains
   can_give =
-      let family : List ℕ → List Entry → List Chain → Type 0 = λ l p cs. CanGive l p cs in
-      subst (λ (l : List ℕ). family l part chains) (sym same)
-      (subst (λ (cs : List Chain). family m part cs) (sym (chains_are ∙ found.chains))
-      (subst (λ (p : List Entry). family m p gone_chains) (sym (part_is ∙ found.part))
+      let family : List ℕ → List Chain → Type 0 = λ l cs. CanGive l gone_part cs in
+      subst (λ (l : List ℕ). family l chains) (sym same)
+      (subst (λ (cs : List Chain). family m cs) (sym (chains_are ∙ found.chains))
       (λ between freed. (
         mid_has_free m between top sized stands above used freed,
         mid_apart m between top sized stands above used freed,
-      ))))
+      )))
 
-  module _ (after : List ℕ) (removes : Removes now part chains after) where
+  module _ (after : List ℕ) (removes : Removes now gone_part chains after) where
     removed : Removes m gone_part gone_chains after
     removed =
-        let family : List ℕ → List Entry → List Chain → Type 0 = λ l p cs. Removes l p cs after in
-        subst (λ (cs : List Chain). family m gone_part cs) (chains_are ∙ found.chains)
-        (subst (λ (p : List Entry). family m p chains) (part_is ∙ found.part)
-        (subst (λ (l : List ℕ). family l part chains) same removes))
+        let family : List ℕ → List Chain → Type 0 = λ l cs. Removes l gone_part cs after in
+        subst (λ (cs : List Chain). family m cs) (chains_are ∙ found.chains)
+        (subst (λ (l : List ℕ). family l chains) same removes)
 
     pub removed_deletes : Deletes m top after
     removed_deletes = deleted m removed.between top sized stands above used removed.freed after removed.given

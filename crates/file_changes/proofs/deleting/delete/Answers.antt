@@ -1,29 +1,24 @@
 use Rattle.undo_journal.specs.laws.Transactions.{by_gate_after}
 use Rattle.undo_journal.specs.laws.Exits.{none_ok}
-use Rattle.std.proofs.Common.{◌≡◌, List, length, ◌∙◌, ap, inl, inr, ⊎_elim}
+use Rattle.std.proofs.Common.{◌≡◌, ℕ, List, ◌∙◌, inl, inr, ⊎_elim}
 use Rattle.undo_journal.specs.Memory.{committed}
 use Rattle.file_tree.specs.declared.entry.Entry.{Entry}
-use Rattle.file_changes.specs.DeletionParts.{Removes}
-use Rattle.file_changes.specs.laws.Parting.{length-part}
+use Rattle.file_changes.specs.DeletionParts.{part_below, GoesWith, Removes}
 use Rattle.file_tree.specs.Table.{table}
 use Rattle.file_changes.specs.laws.Removals.{can_give, removed_deletes, removed_space}
 use Rattle.undo_journal.specs.laws.Told.{changes_after, reads_change, changes_handed}
 use Rattle.file_changes.proofs.deleting.delete.Goals as goal
 
-pub remove-requires-clause-size : goal.remove-requires-clause-size
-remove-requires-clause-size g c =
-    let m = committed c.args.store.now in
-    let removal = c.in_ok-removal.ensures.told in
-    ap (λ (t : List Entry). length t) (c.as_slice.ensures.value ∙ removal.part) ∙ length-part (table m) c.args.e
-
 pub remove-requires-clause-apart : goal.remove-requires-clause-apart
 remove-requires-clause-apart g c =
     let m = committed c.args.store.now in
     let sized = c.requires.file.ready.usable.committed_size in
-    let read = c.removal_of.ensures.store.only.keeps.committed_words in
-    can_give m _ c.args.e sized c.requires.file.tree c.requires.below c.requires.file.used _
-    c.in_ok-removal.ensures.told read
-    _ _ c.as_slice.ensures.value c.as_slice-2.ensures.value
+    let read = c.removal_of.ensures.store.only.keeps.committed_words in (
+      part_below (table m) c.args.e,
+      c.in_ok-removal.ensures.told.goes,
+      can_give m _ c.args.e sized c.requires.file.tree c.requires.below c.requires.file.used _
+          c.in_ok-removal.ensures.told read _ c.as_slice.ensures.value,
+    )
 
 pub returns-in_err-remove-clause-any_exit : goal.returns-in_err-remove-clause-any_exit
 returns-in_err-remove-clause-any_exit g c =
@@ -33,9 +28,11 @@ returns-in_err-remove-clause-any_exit g c =
     let after = committed c.remove.new.store in
     ⊎_elim
     (λ (kept : after ≡ committed c.removal_of.new.store). inl (kept ∙ read))
-    (λ (removes : Removes (committed c.removal_of.new.store) c.as_slice.result.now c.as_slice-2.result.now after).
+    (λ (removes : (part : List Entry) → GoesWith c.in_ok-removal.removal.goes part
+    → Removes (committed c.removal_of.new.store) part c.as_slice.result.now after).
     inr (removed_deletes m _ c.args.e sized c.requires.file.tree c.requires.below c.requires.file.used
-    _ c.in_ok-removal.ensures.told read _ _ c.as_slice.ensures.value c.as_slice-2.ensures.value after removes))
+    _ c.in_ok-removal.ensures.told read _ c.as_slice.ensures.value after
+    (removes _ c.in_ok-removal.ensures.told.goes)))
     c.remove.ensures.any_exit
 
 pub returns-clause-done : goal.returns-clause-done
@@ -44,8 +41,8 @@ returns-clause-done g c =
     let sized = c.requires.file.ready.usable.committed_size in
     let read = c.removal_of.ensures.store.only.keeps.committed_words in
     removed_deletes m _ c.args.e sized c.requires.file.tree c.requires.below
-    c.requires.file.used _ c.in_ok-removal.ensures.told read _ _ c.as_slice.ensures.value c.as_slice-2.ensures.value _
-    c.in_ok-remove.ensures.done
+    c.requires.file.used _ c.in_ok-removal.ensures.told read _ c.as_slice.ensures.value _
+    (c.in_ok-remove.ensures.done _ c.in_ok-removal.ensures.told.goes)
 
 pub returns-clause-any_exit : goal.returns-clause-any_exit
 returns-clause-any_exit g c =
@@ -53,8 +50,8 @@ returns-clause-any_exit g c =
     let sized = c.requires.file.ready.usable.committed_size in
     let read = c.removal_of.ensures.store.only.keeps.committed_words in
     inr (removed_deletes m _ c.args.e sized c.requires.file.tree c.requires.below
-    c.requires.file.used _ c.in_ok-removal.ensures.told read _ _ c.as_slice.ensures.value c.as_slice-2.ensures.value _
-    c.in_ok-remove.ensures.done)
+    c.requires.file.used _ c.in_ok-removal.ensures.told read _ c.as_slice.ensures.value _
+    (c.in_ok-remove.ensures.done _ c.in_ok-removal.ensures.told.goes))
 
 pub returns-clause-space : goal.returns-clause-space
 returns-clause-space g c =
@@ -63,7 +60,7 @@ returns-clause-space g c =
     let read = c.removal_of.ensures.store.only.keeps.committed_words in
     removed_space m _ c.args.e sized c.requires.file.tree c.requires.below c.requires.file.used _
     c.in_ok-removal.ensures.told
-    read _ _ c.as_slice.ensures.value c.as_slice-2.ensures.value _ c.in_ok-remove.ensures.done
+    read _ c.as_slice.ensures.value _ (c.in_ok-remove.ensures.done _ c.in_ok-removal.ensures.told.goes)
 
 pub removal_of-requires-clause-below : goal.removal_of-requires-clause-below
 removal_of-requires-clause-below g c = c.requires.below

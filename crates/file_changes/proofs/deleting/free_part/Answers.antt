@@ -1,4 +1,6 @@
-use Rattle.std.proofs.Common.{◌≡◌, ◌≢◌, ◌+◌, ◌<◌, ℕ, List, length, slice_set, sym, ◌∙◌, ap, subst, arith}
+use Rattle.card_state.specs.declared.limits.TheConstants.{ENTRIES}
+use Rattle.std.proofs.Common.{rules, ◌≡◌, ◌≢◌, ◌+◌, ℕ, Bool, false, List, slice_index_or, slice_set}
+use Rattle.std.proofs.Common.{sym, ◌∙◌, ap, subst, arith}
 use Rattle.nvm_board.specs.Facts.{address}
 use Rattle.undo_journal.specs.Memory.{current, IsOpen}
 use Rattle.undo_journal.specs.Lent.{memory_of}
@@ -7,13 +9,12 @@ use Rattle.undo_journal.specs.laws.Calls.{sets_then, sets_weaker}
 use Rattle.file_tree.specs.declared.entry.Entry.{Entry}
 use Rattle.file_tree.specs.declared.layout.TheConstants.{FIRST_ENTRY_PAGE}
 use Rattle.file_tree.specs.Table.{entry_in}
-use Rattle.file_changes.specs.DeletionParts.{FreesUpTo}
+use Rattle.file_changes.specs.DeletionParts.{FreesUpTo, GoesWith}
 use Rattle.file_tree.specs.laws.Kinds.{kind_of_unused}
-use Rattle.file_tree.specs.laws.Tables.{entry_within}
 use Rattle.file_changes.specs.laws.Deleting.{frees_next, frees_skip}
 use Rattle.undo_journal.specs.laws.Told.{sets_in_on, sets_in_handed}
 use Rattle.file_changes.proofs.deleting.free_part.Goals as goal
-use Rattle.file_changes.proofs.deleting.free_part.Goals.{then-is_used+in_ok-set, else-is_used}
+use Rattle.file_changes.proofs.deleting.free_part.Goals.{then-goes+in_ok-set, else-goes}
 
 pub returns-in_err-set-clause-store : goal.returns-in_err-set-clause-store
 returns-in_err-set-clause-store g c =
@@ -23,39 +24,45 @@ returns-in_err-set-clause-store g c =
 pub loop-e-preserved : goal.loop-e-preserved
 loop-e-preserved g c =
     let m = current (memory_of c.args.txn.now) in
-    let part = c.args.part.now in
     let e = c.loop-e.e in
     let now = current (memory_of c.loop-e.txn) in
     let before = c.loop-e.invariant.so_far in
-    let within : c.from.result < length part = omega (arith, c.from.ensures, c.requires.size, c.loop-e-test.true) in
-    elim c.if-is_used.branch [
-      | then-is_used+in_ok-set w ↦
-          let some : (entry_in part e).kind ≢ 0 = λ none. c.is_used.ensures.0 w.if-is_used.true
-          (ap (λ (x : Entry). x.kind) (entry_within part c.from.result _ within)
-          ∙ ap (λ (k : ℕ). (entry_in part k).kind) c.from.ensures ∙ none) in
+    let mark : slice_index_or c.args.marks.now c.from.result false ≡ slice_index_or c.args.marks.now e false =
+    ap (λ (k : ℕ). slice_index_or c.args.marks.now k false) c.from.ensures in
+    elim c.if-goes.branch [
+      | then-goes+in_ok-set w ↦
           let done : current (memory_of w.set.new.self) ≡ slice_set now (address (FIRST_ENTRY_PAGE + e) 0) 0 =
           ◌∙◌ {b = slice_set now w.entry_address.result 0} w.in_ok-set.ensures.done
           (ap (λ (k : ℕ). slice_set now k 0) w.entry_address.ensures) in
-          let next = frees_next m now part e c.requires.ready.current_size c.loop-e-test.true before some in
-          let family : List ℕ → Type 0 = λ l. FreesUpTo m part (e + 1) l in
+          let next : (part : List Entry) → GoesWith c.args.marks.now part
+          → FreesUpTo m part (e + 1) (current (memory_of w.set.new.self)) = λ part told.
+          (let some : (entry_in part e).kind ≢ 0 = (told e c.loop-e-test.true).0 (sym mark ∙ w.if-goes.true) in
+          subst (λ (l : List ℕ). FreesUpTo m part (e + 1) l) (sym done)
+          (frees_next m now part e c.requires.ready.current_size c.loop-e-test.true (before part told) some)) in
           record {
             ready = (let ready : IsOpen (memory_of w.set.new.self) = w.in_ok-set.ensures.store.ready in
                 subst (λ t. IsOpen (memory_of t)) (sym w.txn-is) ready);
             sets = subst (λ t. Sets (e + 1) c.args.txn.now t) (sym w.txn-is)
                 (sets_then _ 1 _ _ _ _ (omega arith) c.loop-e.invariant.sets w.set.ensures.store.sets);
-            so_far = subst (λ t. FreesUpTo m part (e + 1) (current (memory_of t))) (sym w.txn-is)
-                (subst family (sym done) next);
+            so_far = subst (λ t. (part : List Entry) → GoesWith c.args.marks.now part
+                → FreesUpTo m part (e + 1) (current (memory_of t))) (sym w.txn-is) next;
           }
-      | else-is_used w ↦
-          let none : (entry_in part e).kind ≡ 0 =
-          ap (λ (k : ℕ). (entry_in part k).kind) (sym c.from.ensures)
-          ∙ ap (λ (x : Entry). x.kind) (sym (entry_within part c.from.result _ within))
-          ∙ kind_of_unused _ _ c.is_used.ensures w.if-is_used.false in
+      | else-goes w ↦
+          let next : (part : List Entry) → GoesWith c.args.marks.now part → FreesUpTo m part (e + 1) now = λ part told.
+          (let none : (entry_in part e).kind ≡ 0 =
+          kind_of_unused _ _ (told e c.loop-e-test.true) (sym mark ∙ w.if-goes.false) in
+          frees_skip m now part e c.requires.ready.current_size c.loop-e-test.true (before part told) none) in
           record {
             ready = subst (λ t. IsOpen (memory_of t)) (sym w.txn-is) c.loop-e.invariant.ready;
             sets = subst (λ t. Sets (e + 1) c.args.txn.now t) (sym w.txn-is)
                 (sets_weaker _ _ _ _ (omega arith) c.loop-e.invariant.sets);
-            so_far = subst (λ t. FreesUpTo m part (e + 1) (current (memory_of t))) (sym w.txn-is)
-                (frees_skip m now part e c.requires.ready.current_size c.loop-e-test.true before none);
+            so_far = subst (λ t. (part : List Entry) → GoesWith c.args.marks.now part
+                → FreesUpTo m part (e + 1) (current (memory_of t))) (sym w.txn-is) next;
           }
     ]
+
+pub returns-clause-done : goal.returns-clause-done
+returns-clause-done g c = λ part told.
+    let m = current (memory_of c.args.txn.now) in
+    let end : c.loop-e.e ≡ ENTRIES = search rules in
+    subst (λ (k : ℕ). FreesUpTo m part k (current (memory_of c.loop-e.txn))) end (c.loop-e.invariant.so_far part told)

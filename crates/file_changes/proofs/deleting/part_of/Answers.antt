@@ -1,23 +1,75 @@
-use Rattle.std.proofs.Common.{rules, ◌≡◌, ◌+◌, ◌++◌, ◌∷◌, [], ℕ, List, map, sym, ◌∙◌, ap, ap₂, arith}
-use Rattle.std.specs.List.{range_with_len}
-use Rattle.std.proofs.lemmas.List.FromFn.{map-range_with_len_more}
+use Rattle.std.proofs.Common.{rules, ◌≡◌, ◌≤◌, ◌<◌, ◌+◌, ℕ, List, length, Option, sym, ◌∙◌, ap, subst, arith}
+use Rattle.undo_journal.specs.Memory.{committed}
+use Rattle.undo_journal.specs.laws.Calls.{reads_then}
+use Rattle.undo_journal.specs.laws.Exits.{none_ok}
+use Rattle.undo_journal.specs.laws.Told.{reads_handed, reads_on, reads_so_far}
 use Rattle.file_tree.specs.declared.entry.Entry.{Entry}
-use Rattle.file_changes.specs.DeletionParts.{going, part_below}
+use Rattle.file_tree.specs.Table.{table, entry_in}
+use Rattle.file_changes.specs.DeletionParts.{entry_if_gone}
+use Rattle.file_changes.specs.laws.Parts.{part_none, part_more, part_whole, few_more}
 use Rattle.file_changes.proofs.deleting.part_of.Goals as goal
 
+pub read_parents-requires : goal.read_parents-requires
+read_parents-requires g c = record { ready = c.requires.ready }
+
+pub returns-in_err-parents : goal.returns-in_err-parents
+returns-in_err-parents g c = record {
+  told = none_ok _ _ _ c.from_residual.ensures.1;
+  store = reads_handed _ _ _ _ c.from_residual.ensures.1 c.in_err-parents.ensures.store;
+}
+
+pub loop-e-init : goal.loop-e-init
+loop-e-init g c = record {
+  ready = c.in_ok-parents.ensures.store.ready;
+  reads = c.read_parents.ensures.store.only;
+  few = (let none = ap (λ l. length l) c.new-part.ensures.extents in omega (arith, none));
+  so_far = part_none _ _ _ c.new-part.ensures.goes c.new-part.ensures.count c.new-part.ensures.extents;
+}
+
+pub going_entry-requires-clause-ready : goal.going_entry-requires-clause-ready
+going_entry-requires-clause-ready g c = c.loop-e.invariant.ready
+
+pub going_entry-requires-clause-parents : goal.going_entry-requires-clause-parents
+going_entry-requires-clause-parents g c = λ f small.
+    c.in_ok-parents.ensures.parents f small
+    ∙ ap (λ (l : List ℕ). (entry_in (table l) f).parent) (sym c.loop-e.invariant.reads.keeps.committed_words)
+
+pub returns-in_err-entry : goal.returns-in_err-entry
+returns-in_err-entry g c = record {
+  told = none_ok _ _ _ c.from_residual-in_err-entry.ensures.1;
+  store = reads_handed _ _ _ _ c.from_residual-in_err-entry.ensures.1
+      (reads_on _ _ _ _ c.loop-e.invariant.reads c.in_err-entry.ensures.store);
+}
+
+pub add-requires-clause-count : goal.add-requires-clause-count
+add-requires-clause-count g c =
+    let small : c.loop-e.e < 64 = search rules in
+    let count = c.loop-e.invariant.so_far.count in
+    omega (arith, small, count)
+
+pub add-requires-clause-room : goal.add-requires-clause-room
+add-requires-clause-room g c =
+    let small : c.loop-e.e < 64 = search rules in
+    let few = c.loop-e.invariant.few in
+    omega (arith, small, few)
+
 pub loop-e-preserved : goal.loop-e-preserved
-loop-e-preserved c =
-    let f = going c.args.entries.now c.args.top in
-    let at : 0 + c.loop-e.e ≡ c.loop-e.e = omega arith in
+loop-e-preserved g c =
+    let t = table (committed c.args.store.now) in
+    let e = c.loop-e.e in
+    let small : e < 64 = search rules in
+    let is : c.in_ok-entry.entry ≡ entry_if_gone t c.args.top e = c.in_ok-entry.ensures.told
+    ∙ ap (λ (l : List ℕ). entry_if_gone (table l) c.args.top e) c.loop-e.invariant.reads.keeps.committed_words in
     record {
-      size = omega (arith, c.push.ensures.len);
-      so_far = c.push.ensures.items
-          ∙ ap₂ (λ (front : List Entry) (x : Entry). front ++ x ∷ []) c.loop-e.invariant.so_far c.going_entry.ensures
-          ∙ sym (map-range_with_len_more f 0 c.loop-e.e c.loop-e.e at);
+      ready = c.in_ok-entry.ensures.store.ready;
+      reads = reads_then _ _ _ c.loop-e.invariant.reads c.going_entry.ensures.store.only;
+      few = few_more _ _ _ e c.loop-e.invariant.few c.add.ensures.extents;
+      so_far = part_more t c.args.top e c.loop-e.part c.add.new.self c.in_ok-entry.entry small is
+          c.add.ensures.goes c.add.ensures.count c.add.ensures.extents c.loop-e.invariant.so_far;
     }
 
 pub returns : goal.returns
-unfolding part_below
-returns c =
-    let all : c.loop-e.e ≡ 64 = search rules in
-    c.loop-e.invariant.so_far ∙ ap (λ (n : ℕ). map (going c.args.entries.now c.args.top) (range_with_len 0 n)) all
+returns g c = record {
+  told = let end : c.loop-e.e ≡ 64 = search rules in part_whole _ _ _ _ end c.loop-e.invariant.so_far;
+  store = reads_so_far _ _ c.loop-e.invariant.reads c.loop-e.invariant.ready;
+}

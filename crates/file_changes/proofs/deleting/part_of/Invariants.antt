@@ -1,10 +1,14 @@
-use Rattle.std.proofs.Common.{◌≡◌, length, map}
-use Rattle.std.specs.List.{range_with_len}
-use Rattle.file_changes.specs.DeletionParts.{going}
+use Rattle.std.proofs.Common.{◌≤◌, length}
+use Rattle.undo_journal.specs.Memory.{committed, IsReady}
+use Rattle.undo_journal.specs.StoreCalls.{OnlyReads}
+use Rattle.file_tree.specs.Table.{table}
+use Rattle.file_changes.specs.laws.Parts.{IsPartTo}
 use Rattle.file_changes.proofs.deleting.part_of.Given as goal
 
 abbrev pub invariant-loop-e : goal.invariant-loop-e
-invariant-loop-e l = record {
-  size : length l.part.items ≡ l.e;
-  so_far : l.part.items ≡ map (going l.entries l.top) (range_with_len 0 l.e);
+invariant-loop-e g l = record {
+  ready : IsReady l.store;
+  reads : OnlyReads l.fn.store l.store;
+  few : length l.part.extents.items ≤ l.e;
+  so_far : IsPartTo (table (committed l.fn.store)) l.top l.e l.part;
 }

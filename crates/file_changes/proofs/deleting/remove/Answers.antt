@@ -1,15 +1,16 @@
-use Rattle.std.proofs.Common.{◌+◌, length, sym, ◌∙◌, arith}
+use Rattle.std.proofs.Common.{◌+◌, List, length, sym, ◌∙◌, arith}
 use Rattle.undo_journal.specs.Lent.{memory_of}
 use Rattle.undo_journal.specs.laws.Endings.{ends, ends_answered, ends_by_gate, ends_done}
 use Rattle.file_tree.specs.declared.layout.TheConstants.{DELETE_WRITES}
-use Rattle.file_changes.specs.DeletionParts.{Removes}
+use Rattle.file_tree.specs.declared.entry.Entry.{Entry}
+use Rattle.file_changes.specs.DeletionParts.{GoesWith, Removes}
 use Rattle.file_changes.proofs.deleting.remove.Goals as goal
 
 pub returns-clause-any_exit : goal.returns-clause-any_exit
 returns-clause-any_exit g c =
     let set = c.take_away-work.ensures in
     let last = c.store-1.given.1 (sym (set.store.sets.same_store ∙ c.begin-txn.ensures.same_store)) in
-    ends (λ m after. Removes m c.args.part.now c.args.chains.now after)
+    ends (λ m after. (part : List Entry) → GoesWith c.args.marks.now part → Removes m part c.args.chains.now after)
     _ c.take_away-work.result _ _ (memory_of c.take_away-work.new.txn) _ _ c.begin-txn.ensures.same last
     c.requires.ready set.store.sets.kept set.done c.end.ensures.any_exit
 
@@ -17,7 +18,9 @@ pub returns-clause-done : goal.returns-clause-done
 returns-clause-done g c =
     let set = c.take_away-work.ensures in
     let last = c.store-1.given.1 (sym (set.store.sets.same_store ∙ c.begin-txn.ensures.same_store)) in
-    ends_done (λ m after. Removes m c.args.part.now c.args.chains.now after) c.take_away-work.result
+    ends_done
+    (λ m after. (part : List Entry) → GoesWith c.args.marks.now part → Removes m part c.args.chains.now after)
+    c.take_away-work.result
     c.end.result _ _ (memory_of c.take_away-work.new.txn) _ _ c.begin-txn.ensures.same last
     c.requires.ready set.done c.end.ensures.answered c.end.ensures.done
 

@@ -8,9 +8,6 @@ use Rattle.file_changes.proofs.deleting.take_away.Goals as goal
 pub free_part-requires-clause-ready : goal.free_part-requires-clause-ready
 free_part-requires-clause-ready g c = c.requires.ready
 
-pub free_part-requires-clause-size : goal.free_part-requires-clause-size
-free_part-requires-clause-size g c = c.requires.size
-
 pub free_part-requires-clause-room : goal.free_part-requires-clause-room
 free_part-requires-clause-room g c = let room = c.requires.room in omega (arith, room)
 
@@ -26,10 +23,12 @@ pub give_back-requires-clause-ready : goal.give_back-requires-clause-ready
 give_back-requires-clause-ready g c = c.in_ok-free_part.ensures.store.ready
 
 pub give_back-requires-clause-free : goal.give_back-requires-clause-free
-give_back-requires-clause-free g c = (c.requires.apart _ c.in_ok-free_part.ensures.done).0
+give_back-requires-clause-free g c =
+    let apart = c.requires.apart in (apart.2 _ (c.in_ok-free_part.ensures.done apart.0 apart.1)).0
 
 pub give_back-requires-clause-apart : goal.give_back-requires-clause-apart
-give_back-requires-clause-apart g c = (c.requires.apart _ c.in_ok-free_part.ensures.done).1
+give_back-requires-clause-apart g c =
+    let apart = c.requires.apart in (apart.2 _ (c.in_ok-free_part.ensures.done apart.0 apart.1)).1
 
 pub give_back-requires-clause-room : goal.give_back-requires-clause-room
 give_back-requires-clause-room g c =
@@ -40,9 +39,9 @@ give_back-requires-clause-room g c =
 pub returns-clause-done : goal.returns-clause-done
 returns-clause-done g c =
     on_then _ _ c.give_back.result
-    (λ given. record {
+    (λ given part told. record {
       between = current (memory_of c.free_part.new.txn);
-      freed = c.in_ok-free_part.ensures.done;
+      freed = c.in_ok-free_part.ensures.done part told;
       given = given;
     })
     c.give_back.ensures.done
