@@ -15,7 +15,12 @@ pub fn is_within<F: Fn(u8) -> u8>(parent_of: F, top: u8, e: u8) -> bool
         if at == top {
             return true;
         }
-        at = parent_of(at);
+        let parent = parent_of(at);
+        // Only the MF is its own parent, and no step leads on from it.
+        if parent == at {
+            return false;
+        }
+        at = parent;
     }
     at == top
 }

@@ -49,6 +49,15 @@ leads-step parent n top e differ = elim (eqb_tells e top) [
   | inr other ↦ ap (λ (b : Bool). b || leads parent n top (parent e)) other.0
 ]
 
+pub leads-fixed : (parent : ℕ → ℕ) (n top e : ℕ) → parent e ≡ e → e ≢ top → leads parent n top e ≡ false
+unfolding leads
+leads-fixed parent zero top e own differ = elim (eqb_tells e top) [
+  | inl same ↦ absurd (differ same.1)
+  | inr other ↦ other.0
+]
+leads-fixed parent (suc n) top e own differ = leads-step parent n top e differ
+    ∙ ap (leads parent n top) own ∙ leads-fixed parent n top e own differ
+
 pub leads-here : (parent : ℕ → ℕ) (n top e : ℕ) → e ≡ top → leads parent n top e ≡ true
 unfolding leads
 leads-here parent zero top e is = elim (eqb_tells e top) [

@@ -1,6 +1,6 @@
 use Rattle.std.proofs.Common.{◌≡◌, ◌+◌, ◌-◌, ℕ, suc, ◌∙◌, ap, arith, sym}
 use Rattle.file_tree.specs.Subtrees.{leads}
-use Rattle.file_tree.specs.laws.Subtrees.{leads-step, leads-here, leads-zero}
+use Rattle.file_tree.specs.laws.Subtrees.{leads-step, leads-here, leads-zero, leads-fixed}
 use Rattle.file_tree.proofs.parents.is_within.Goals as goal
 
 pub loop-step-preserved : goal.loop-step-preserved
@@ -9,17 +9,24 @@ loop-step-preserved g c =
     let at = c.loop-step.at in
     let one : 7 - c.loop-step._step ≡ suc (7 - (c.loop-step._step + 1)) = omega (arith, c.loop-step-test.true) in
     record {
-      small = c.parent_of-at.type_inv;
+      small = c.parent_of-parent.type_inv;
       same = λ parent tells. c.loop-step.invariant.same parent tells ∙ ap (λ (n : ℕ). leads parent n top at) one
           ∙ leads-step parent (7 - (c.loop-step._step + 1)) top at c.if-at-top.false
           ∙ ap (leads parent (7 - (c.loop-step._step + 1)) top)
-          (sym (tells at _ c.loop-step.invariant.small c.parent_of-at.ensures));
+          (sym (tells at _ c.loop-step.invariant.small c.parent_of-parent.ensures));
     }
 
 pub returns-then-at-top : goal.returns-then-at-top
 returns-then-at-top g c = λ parent tells.
     sym (c.loop-step.invariant.same parent tells
     ∙ leads-here parent (7 - c.loop-step._step) c.args.top c.loop-step.at c.if-at-top.true)
+
+pub returns-then-parent-at : goal.returns-then-parent-at
+returns-then-parent-at g c = λ parent tells.
+    let is = tells c.loop-step.at _ c.loop-step.invariant.small c.parent_of-parent.ensures in
+    let own = sym is ∙ c.if-parent-at.true in
+    sym (c.loop-step.invariant.same parent tells
+    ∙ leads-fixed parent (7 - c.loop-step._step) c.args.top c.loop-step.at own c.if-at-top.false)
 
 pub returns : goal.returns
 returns g c = λ parent tells.
