@@ -1,7 +1,7 @@
 -- Steps inside a search and a change of an index. No public clause uses these definitions.
 use Rattle.std.specs.Prelude.{◌≡◌, ◌≢◌, ◌==◌, ◌<◌, ◌≤◌, ◌/◌, ◌++◌, ℕ, zero, suc, Bool, true, false, not}
 use Rattle.std.specs.Prelude.{if◌then◌else◌, List, [], ◌∷◌}
-use Rattle.std.specs.Prelude.{All, Contains, length, slice_index_or, Option, None, Some, Result, Ok, Err}
+use Rattle.std.specs.Prelude.{All, Contains, length, slice_index_or, Result, Ok, Err}
 use Rattle.file_tree.specs.declared.entry.Entry.{Entry}
 use Rattle.file_tree.specs.declared.steps.Key.{Key}
 use Rattle.file_tree.specs.declared.steps.Place.{Place}
@@ -46,10 +46,10 @@ abbrev pub TellsPut : List Place → Place → List Place → Bool → Type 0
 TellsPut old place new true = Puts old place new
 TellsPut old place new false = All (λ p. p.key ≢ place.key) old → ⊥
 
--- The index of a table of entries, None if two children of one DF have the same identifier.
-abbrev pub TellsIndex : List Entry → Option Index → Type 0
-TellsIndex t None = HaveIdentifiers t → ⊥
-TellsIndex t (Some index) = HaveIdentifiers t × IsIndex t index
+-- The index of a table of entries was made, or two children of one DF have the same identifier.
+abbrev pub TellsIndex : List Entry → Bool → Index → Type 0
+TellsIndex t true index = HaveIdentifiers t × IsIndex t index
+TellsIndex t false index = HaveIdentifiers t → ⊥
 
 -- The places of the files of entries 1 to `end` - 1, by ascending keys.
 pub record ArePlacesTo (t : List Entry) (end : ℕ) (places : List Place) : Type 0 where

@@ -4,6 +4,7 @@ pub mod States
 pub mod Kinds
 pub mod Entries
 pub mod Table
+pub mod TableEnd
 pub mod Formats
 pub mod MigrationParts
 pub mod Trees

@@ -10,12 +10,22 @@ use Rattle.file_tree.specs.Table.{entry_in, IsUsed, IsBelowMaster, IsChild}
 abbrev pub BearOneName : Entry → Entry → Type 0
 BearOneName one other = (0 < length (name_of one)) × (name_of one ≡ name_of other)
 
--- Two entries conflict by short identifier or name. `e` is the number of the first; the MF is no child.
-abbrev pub Alike : ℕ → Entry → Entry → Type 0
-Alike e one other =
-    ((0 < e) × (one.parent ≡ other.parent) × (one.short ≢ 0) × (one.short ≡ other.short)) ⊎ BearOneName one other
+-- Two entries are children of one DF with the same short identifier. `e` is the number of the first; the MF is no
+-- child.
+abbrev pub ShareShort : ℕ → Entry → Entry → Type 0
+ShareShort e one other = (0 < e) × (one.parent ≡ other.parent) × (one.short ≢ 0) × (one.short ≡ other.short)
 
--- No later used entry conflicts with this one.
+-- Two entries conflict by short identifier or name.
+abbrev pub Alike : ℕ → Entry → Entry → Type 0
+Alike e one other = ShareShort e one other ⊎ BearOneName one other
+
+-- No later used entry has the same short identifier. `HasOwnName`: the same name. `IsAlone`: neither.
+abbrev pub HasOwnShort : List Entry → ℕ → Type 0
+HasOwnShort t e = (f : ℕ) → e < f → IsUsed t f → ShareShort e (entry_in t e) (entry_in t f) → ⊥
+
+abbrev pub HasOwnName : List Entry → ℕ → Type 0
+HasOwnName t e = (f : ℕ) → e < f → IsUsed t f → BearOneName (entry_in t e) (entry_in t f) → ⊥
+
 abbrev pub IsAlone : List Entry → ℕ → Type 0
 IsAlone t e = (f : ℕ) → e < f → IsUsed t f → Alike e (entry_in t e) (entry_in t f) → ⊥
 

@@ -23,5 +23,6 @@ pub mod Indexes
 pub mod Above
 pub mod Pruning
 pub mod Indexed
+pub mod TableEnds
 pub mod Migrating
 pub mod Barring

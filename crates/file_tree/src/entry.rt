@@ -68,8 +68,8 @@ pub struct EntryHead {
 /// The capacity of a list with at most one element per entry.
 pub const TABLE_ROOM: usize = ENTRIES as usize;
 
-/// The file entries of a memory, by number.
-pub type Table = ArrayVec<Entry, TABLE_ROOM>;
+/// All file entries of a memory, by number.
+pub(crate) type Table = ArrayVec<Entry, TABLE_ROOM>;
 
 /// The extents of EFs.
 pub type ExtentList = ArrayVec<Extent, TABLE_ROOM>;

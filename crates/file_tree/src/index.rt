@@ -1,6 +1,6 @@
 //! The index: each file by parent and identifier, in working memory. A lookup reads no store.
 
-ghost use Rattle.std.specs.Prelude.{◌≡◌, ◌<◌, ◌≤◌, ℕ, List, length, filter, option_map};
+ghost use Rattle.std.specs.Prelude.{◌≡◌, ◌<◌, ◌≤◌, ℕ, List, [], length, filter, option_map};
 ghost use Rattle.std.specs.Prelude.{slice_index};
 ghost use Rattle.file_tree.specs.declared.entry.Entry.{Entry};
 ghost use Rattle.file_tree.specs.Table.{table, entry_in, path_of, IsUsed, IsTable};
@@ -10,7 +10,6 @@ ghost use Rattle.file_tree.specs.Indexes.{AreSorted, IsIndex, IsFreeIn, AddsEntr
 ghost use Rattle.file_tree.specs.IndexParts.{TellsPut, TellsIndex, parent_by, is_outside};
 
 use crate::entry::Entry;
-use crate::layout::ENTRIES_END;
 use crate::look_up::Reached;
 use crate::parents::is_within;
 use crate::steps::{Key, Place, Steps, is_behind, search};
@@ -71,27 +70,35 @@ fn places_outside(places: &[Place], top: u8) -> PlaceList
 }
 
 impl Index {
-    /// Returns the index of a table of entries. It returns `None` if two children of one DF have the same identifier.
-    pub(crate) fn of(entries: &[Entry]) -> Option<Index>
-        requires { length entries.now ≡ 64 }
-        ensures { TellsIndex entries.now result }
+    /// Returns an index of no file.
+    pub(crate) fn new() -> Index
+        ensures { result.places.items ≡ [] }
     {
-        let mut index = Index {
+        Index {
             places: PlaceList::new(),
-        };
-        for e in 1..ENTRIES_END {
-            let entry = &entries[usize::from(e)];
+        }
+    }
+
+    /// Fills an empty index from a table of entries, in place, since it is long. It returns false if two children of one
+    /// DF have the same identifier.
+    pub(crate) fn fill(&mut self, entries: &[Entry]) -> bool
+        requires empty { self.old.places.items ≡ [] }
+        requires size { length entries.now ≤ 64 }
+        ensures { TellsIndex entries.now result self.new }
+    {
+        for e in 1..entries.len() {
+            let entry = &entries[e];
             if entry.is_used() {
                 let place = Place {
                     key: Key::new(entry.parent, entry.identifier),
-                    entry: e,
+                    entry: e as u8,
                 };
-                if !index.put(place) {
-                    return None;
+                if !self.put(place) {
+                    return false;
                 }
             }
         }
-        Some(index)
+        true
     }
 
     /// Returns the child of a DF by identifier, with the comparisons made. The child is an entry number, or `None`.

@@ -21,7 +21,7 @@ mod tree;
 
 pub use barring::{is_allowed_at, is_barred_at, is_below_barred};
 pub use card_state::FreeSpace;
-pub use entry::{Entry, EntryHead, ExtentList, TABLE_ROOM, Table};
+pub use entry::{Entry, EntryHead, ExtentList, TABLE_ROOM};
 pub use index::Index;
 pub use kinds::EntryKind;
 pub use layout::{
@@ -32,8 +32,7 @@ pub use layout::{
 pub use look_up::{Reached, find_short, select};
 pub use naming::{find_name, find_parent, find_path, find_path_from_master};
 pub use parents::is_within;
-pub use reading::{read_entry, read_entry_head, read_table};
+pub use reading::{find_end, read_entry, read_entry_head};
 pub use space::blocks_for;
 pub use steps::Steps;
-pub use table::{ancestor, count_free, extents_of, parent_of};
 pub use tree::{Survey, survey_tree};

@@ -1,15 +1,17 @@
 //! Reading entries from a store.
 
-ghost use Rattle.std.specs.Prelude.{◌≡◌, ◌+◌, ◌<◌, ℕ, [], slice_index, IfOk, OnOk};
+ghost use Rattle.std.specs.Prelude.{◌≡◌, ◌+◌, ◌<◌, ◌≤◌, ℕ, [], slice_index, take, IfOk, OnOk};
 ghost use Rattle.std.specs.Result.{result_err};
 ghost use Rattle.undo_journal.specs.Memory.{committed, IsReady};
-ghost use Rattle.undo_journal.specs.StoreCalls.{Reads};
+ghost use Rattle.undo_journal.specs.StoreCalls.{Learns, Reads};
 ghost use Rattle.block_chain.specs.BlockWords.{word};
 ghost use Rattle.file_tree.specs.Entries.{head_of};
 ghost use Rattle.file_tree.specs.Table.{table, entry_in};
+ghost use Rattle.file_tree.specs.TableEnd.{IsTableEnd};
 
-use crate::entry::{Entry, EntryHead, Table};
+use crate::entry::{Entry, EntryHead};
 use crate::layout::{ENTRIES_END, ENTRY_WORDS, entry_address};
+use arrayvec::ArrayVec;
 use undo_journal::{Board, Store, StoreErr};
 
 /// Returns the words of an entry, each read once.
@@ -57,38 +59,44 @@ fn read_used<B: Board>(store: &mut Store<B>, e: u8) -> Result<Entry, StoreErr>
     read_entry(store, e)
 }
 
-/// Fills an empty table with all entries, by number. It reads the first word of each entry, and eleven more of each
-/// used one. The table is filled in place, since it is 2,816 bytes long.
+/// Returns the number of the entry after the last used one, or 1 if there is none. It reads a word of each entry, from
+/// the last one down.
 ///
 /// # Errors
 /// The store's failure: power was lost, or the device failed.
-pub(crate) fn fill_table<B: Board>(
+pub fn find_end<B: Board>(store: &mut Store<B>) -> Result<u8, StoreErr>
+    requires ready { IsReady store.old }
+    ensures { Learns store.old store.new result (IsTableEnd (table (committed store.old))) }
+{
+    let mut end = ENTRIES_END;
+    while end > 1 {
+        let first = store.read_committed(entry_address(end - 1))?;
+        if first != 0 {
+            return Ok(end);
+        }
+        end -= 1;
+    }
+    Ok(end)
+}
+
+/// Fills an empty table with the entries before `end`. It reads the first word of each, and eleven more of each used
+/// one. The table is filled in place, since it is long.
+pub(crate) fn fill_table<B: Board, const N: usize>(
     store: &mut Store<B>,
-    entries: &mut Table,
+    end: u8,
+    entries: &mut ArrayVec<Entry, N>,
 ) -> Result<(), StoreErr>
     requires ready { IsReady store.old }
+    requires within { end ≤ 64 }
+    requires room { end ≤ N }
     requires empty { entries.old.items ≡ [] }
-    ensures table { OnOk result (entries.new.items ≡ table (committed store.old)) }
+    ensures table { OnOk result (entries.new.items ≡ take end (table (committed store.old))) }
     ensures store { Reads store.old store.new (result_err result) }
 {
-    for e in 0..ENTRIES_END {
+    for e in 0..end {
         entries.push(read_used(store, e)?);
     }
     Ok(())
-}
-
-/// Returns all entries, by number.
-///
-/// # Errors
-/// The store's failure: power was lost, or the device failed.
-pub fn read_table<B: Board>(store: &mut Store<B>) -> Result<Table, StoreErr>
-    requires ready { IsReady store.old }
-    ensures table { IfOk result (λ entries. entries.items ≡ table (committed store.old)) }
-    ensures store { Reads store.old store.new (result_err result) }
-{
-    let mut entries = Table::new();
-    fill_table(store, &mut entries)?;
-    Ok(entries)
 }
 
 /// Returns the head of an entry by its number. It reads two words, where a whole entry takes eleven.

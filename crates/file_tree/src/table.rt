@@ -1,9 +1,10 @@
 //! The rules on a table of entries that was read. They touch no store.
 
-ghost use Rattle.std.specs.Prelude.{◌≡◌, ◌↔◌, ◌<◌, ◌≤◌, length, IsTrue};
+ghost use Rattle.std.specs.Prelude.{◌≡◌, ◌↔◌, ◌<◌, ◌≤◌, [], length, IsTrue};
 ghost use Rattle.file_tree.specs.Table.{entry_in, ancestor, extents, free_entries, IsMasterFile, IsBelowMaster};
 ghost use Rattle.file_tree.specs.Table.{HaveIdentifiers, IsTable};
-ghost use Rattle.file_tree.specs.TreeParts.{Alike, BearOneName, AreBelow, AreUnlike, IsAlone};
+ghost use Rattle.file_tree.specs.TreeParts.{BearOneName, ShareShort, HasOwnShort, HasOwnName};
+ghost use Rattle.file_tree.specs.TreeParts.{AreBelow, AreUnlike, IsAlone};
 
 use crate::entry::{Entry, ExtentList};
 use crate::kinds::EntryKind;
@@ -12,7 +13,7 @@ use crate::rules::are_entries;
 use card_rules::identifiers::MASTER_FILE;
 
 /// Returns the parent of an entry's file. Past the table it is 0.
-pub fn parent_of(entries: &[Entry], e: u8) -> u8
+fn parent_of(entries: &[Entry], e: u8) -> u8
     ensures { result ≡ (entry_in entries.now e).parent }
 {
     match entries.get(usize::from(e)) {
@@ -23,7 +24,7 @@ pub fn parent_of(entries: &[Entry], e: u8) -> u8
 
 /// Returns the entry after `steps` steps to parents. The MF is its own parent, so the walk stays there.
 #[tactic(auto, using(crate::specs::laws::Levels::levels))]
-pub fn ancestor(entries: &[Entry], steps: u8, e: u8) -> u8
+fn ancestor(entries: &[Entry], steps: u8, e: u8) -> u8
     ensures { result ≡ ancestor entries.now steps e }
 {
     let mut at = e;
@@ -78,41 +79,56 @@ fn bear_one_name(one: &Entry, other: &Entry) -> bool
     !one.name().is_empty() && one.name() == other.name()
 }
 
-/// Returns true if two used entries can't be in one table. They are children of one DF with the same short
-/// identifier, or DFs with the same name. `e` is the number of the first; the MF is no child. Identifiers are checked
-/// elsewhere.
-fn are_alike(e: usize, one: &Entry, other: &Entry) -> bool
-    ensures { IsTrue result ↔ Alike e one.now other.now }
+/// Returns true if two entries are children of one DF with the same short identifier. `e` is the number of the first;
+/// the MF is no child.
+fn share_short(e: usize, one: &Entry, other: &Entry) -> bool
+    ensures { IsTrue result ↔ ShareShort e one.now other.now }
 {
-    let same_short = one.short != 0 && one.short == other.short;
-    let siblings = e > 0 && one.parent == other.parent && same_short;
-    siblings || bear_one_name(one, other)
+    one.short != 0 && one.short == other.short && e > 0 && one.parent == other.parent
 }
 
-/// Returns true if a file has neither short identifier nor name.
-fn has_identifier_alone(entry: &Entry) -> bool
-    ensures { IsTrue result ↔ ((entry.now.short ≡ 0) × (entry.now.name_length ≡ 0)) }
-{
-    entry.short == 0 && entry.name_length == 0
-}
-
-/// Returns true if no later used entry conflicts with this one. A file without short identifier and name conflicts
-/// with none, so the others aren't read.
-fn is_alone(entries: &[Entry], e: usize) -> bool
+/// Returns true if no later used entry has the same short identifier. A file without one isn't compared.
+fn has_own_short(entries: &[Entry], e: usize) -> bool
     requires { e < length entries.now }
-    ensures { IsTrue result ↔ IsAlone entries.now e }
+    ensures { IsTrue result ↔ HasOwnShort entries.now e }
 {
     let one = &entries[e];
-    if has_identifier_alone(one) {
+    if one.short == 0 {
         return true;
     }
     for f in e + 1..entries.len() {
         let other = &entries[f];
-        if other.is_used() && are_alike(e, one, other) {
+        if share_short(e, one, other) && other.is_used() {
             return false;
         }
     }
     true
+}
+
+/// Returns true if no later used entry has the same name. A file without one isn't compared.
+fn has_own_name(entries: &[Entry], e: usize) -> bool
+    requires { e < length entries.now }
+    ensures { IsTrue result ↔ HasOwnName entries.now e }
+{
+    let one = &entries[e];
+    if one.name_length == 0 {
+        return true;
+    }
+    for f in e + 1..entries.len() {
+        let other = &entries[f];
+        if bear_one_name(one, other) && other.is_used() {
+            return false;
+        }
+    }
+    true
+}
+
+/// Returns true if no later used entry conflicts with this one. Identifiers are checked elsewhere.
+fn is_alone(entries: &[Entry], e: usize) -> bool
+    requires { e < length entries.now }
+    ensures { IsTrue result ↔ IsAlone entries.now e }
+{
+    has_own_short(entries, e) && has_own_name(entries, e)
 }
 
 /// Returns true if no two used entries conflict.
@@ -130,7 +146,8 @@ fn are_apart(entries: &[Entry]) -> bool
 /// Returns true if the entries satisfy the rules of a tree. The caller's index has already shown that children of one
 /// DF have different identifiers.
 pub(crate) fn is_table(entries: &[Entry]) -> bool
-    requires size { length entries.now ≡ 64 }
+    requires some { 0 < length entries.now }
+    requires size { length entries.now ≤ 64 }
     requires apart { HaveIdentifiers entries.now }
     ensures { IsTrue result ↔ IsTable entries.now }
 {
@@ -140,25 +157,25 @@ pub(crate) fn is_table(entries: &[Entry]) -> bool
         && are_apart(entries)
 }
 
-/// Returns the extents of the EFs, in the order of their entries.
+/// Fills an empty list with the extents of the EFs, in the order of their entries.
 #[tactic(auto, using(crate::specs::laws::Tables::extents_pushed))]
-pub fn extents_of(entries: &[Entry]) -> ExtentList
-    requires { length entries.now ≤ 64 }
-    ensures { result.items ≡ extents entries.now }
+pub(crate) fn list_extents(entries: &[Entry], list: &mut ExtentList)
+    requires size { length entries.now ≤ 64 }
+    requires empty { list.old.items ≡ [] }
+    ensures { list.new.items ≡ extents entries.now }
 {
-    let mut extents = ExtentList::new();
     for entry in entries {
         if let Some(extent) = entry.extent() {
-            extents.push(extent);
+            list.push(extent);
         }
     }
-    extents
 }
 
 /// Returns the number of free entries.
-pub fn count_free(entries: &[Entry]) -> u16
-    requires { length entries.now ≡ 64 }
-    ensures { result ≡ free_entries entries.now }
+pub(crate) fn count_free(entries: &[Entry]) -> u16
+    requires { length entries.now ≤ 64 }
+    ensures free { result ≡ free_entries entries.now }
+    ensures few { result ≤ length entries.now }
 {
     let mut free = 0;
     for entry in entries {

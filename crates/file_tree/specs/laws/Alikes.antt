@@ -7,7 +7,8 @@ use Rattle.file_tree.specs.declared.entry.Entry.{Entry}
 use Rattle.file_tree.specs.Entries.{name_of}
 use Rattle.file_tree.specs.Table.{entry_in, IsUsed, IsChild, IsEntry, IsMasterFile, IsTable}
 use Rattle.file_tree.specs.Table.{HaveIdentifiers, HaveShortIdentifiers, HaveNames}
-use Rattle.file_tree.specs.TreeParts.{Alike, AreUnlike, AreBelow}
+use Rattle.file_tree.specs.TreeParts.{ShareShort, BearOneName, HasOwnShort, HasOwnName, IsAlone, AreUnlike}
+use Rattle.file_tree.specs.TreeParts.{AreBelow}
 use Rattle.file_tree.specs.laws.Tables.{entry_past}
 
 -- of two numbers neither is below the other
@@ -27,12 +28,23 @@ used_within t e used = ⊎_elim
     (λ (past : length t ≤ e). absurd (used (ap (λ (x : Entry). x.kind) (entry_past t e past))))
     (cases_lt e (length t))
 
--- entries that are alike are so by whatever names
-pub alike_there : (e : ℕ) (one other x y : Entry) → x ≡ one → y ≡ other → Alike e one other → Alike e x y
-alike_there e one other x y is also alike =
-    let with_one : Entry → Type 0 = λ a. Alike e a y in
-    let with_other : Entry → Type 0 = λ b. Alike e one b in
-    subst with_one (sym is) (subst with_other (sym also) alike)
+-- entries that share a short identifier or a name do so by whatever names
+pub shared_there : (e : ℕ) (one other x y : Entry) → x ≡ one → y ≡ other → ShareShort e one other → ShareShort e x y
+shared_there e one other x y is also shared =
+    let with_one : Entry → Type 0 = λ a. ShareShort e a y in
+    let with_other : Entry → Type 0 = λ b. ShareShort e one b in
+    subst with_one (sym is) (subst with_other (sym also) shared)
+
+pub named_there : (one other x y : Entry) → x ≡ one → y ≡ other → BearOneName one other → BearOneName x y
+named_there one other x y is also named =
+    let with_one : Entry → Type 0 = λ a. BearOneName a y in
+    let with_other : Entry → Type 0 = λ b. BearOneName one b in
+    subst with_one (sym is) (subst with_other (sym also) named)
+
+-- an entry is alone where it has its own short identifier and its own name
+pub alone_of : (t : List Entry) (e : ℕ) → HasOwnShort t e → HasOwnName t e → IsAlone t e
+alone_of t e short name f lt used (inl shared) = short f lt used shared
+alone_of t e short name f lt used (inr named) = name f lt used named
 
 module _ (t : List Entry) (apart : AreUnlike t) where
   pub apart_shorts : HaveShortIdentifiers t
@@ -49,13 +61,12 @@ module _ (t : List Entry) (apart : AreUnlike t) where
       (λ lt. apart e used f lt other (inr (some, same)))
       (λ lt. apart f other e lt used (inr (omega (arith, some, size), sym same)))
 
--- an entry without a short identifier and without a name is like none
-pub alike_none : (e : ℕ) (one other : Entry) → one.short ≡ 0 → one.name_length ≡ 0 → Alike e one other → ⊥
-alike_none e one other short name (inl siblings) = siblings.2 short
-alike_none e one other short name (inr named) =
+-- an entry without a name has none in common with another
+pub unnamed : (one other : Entry) → one.name_length ≡ 0 → BearOneName one other → ⊥
+unnamed one other none named =
     let some = named.0 in
     let most = length-take one.name_length one.name in
-    omega (arith, some, most, name)
+    omega (arith, some, most, none)
 
 -- the rules on short identifiers and names leave no two alike
 pub rules_apart : (t : List Entry) → HaveShortIdentifiers t → HaveNames t → AreUnlike t

@@ -1,7 +1,6 @@
 use Rattle.undo_journal.specs.laws.Exits.{none_ok}
 use Rattle.std.proofs.Common.{rules, ◌≡◌, ◌<◌, ℕ, List, [], ◌∷◌, ◌++◌, length, take, sym, ◌∙◌, ap, ap₂, arith}
 use Rattle.std.proofs.lemmas.List.{take_more}
-use Rattle.std.proofs.Math.Seq.{take-length}
 use Rattle.undo_journal.specs.Memory.{committed}
 use Rattle.undo_journal.specs.laws.Calls.{reads_then}
 use Rattle.file_tree.specs.declared.entry.Entry.{Entry}
@@ -16,7 +15,9 @@ loop-e-preserved g c =
     let m = committed c.args.store.now in
     let t = table m in
     let e = c.loop-e.e in
-    let small : e < 64 = search rules in
+    let lt : e < c.args.end = search rules in
+    let most = c.requires.within in
+    let small : e < 64 = omega (arith, lt, most) in
     let within : e < length t = let l = length-table m in omega (arith, small, l) in
     let read : c.in_ok-read_used.field-0 ≡ entry_in t e =
     c.in_ok-read_used.ensures.entry
@@ -33,9 +34,8 @@ loop-e-preserved g c =
 pub returns-clause-table : goal.returns-clause-table
 returns-clause-table g c =
     let m = committed c.args.store.now in
-    let all : c.loop-e.e ≡ length (table m) = let l = length-table m in let e : c.loop-e.e ≡ 64 = search rules in omega
-    (arith, l, e) in
-    c.loop-e.invariant.so_far ∙ ap (λ (n : ℕ). take n (table m)) all ∙ take-length (table m)
+    let all : c.loop-e.e ≡ c.args.end = search rules in
+    c.loop-e.invariant.so_far ∙ ap (λ (n : ℕ). take n (table m)) all
 
 pub read_used-requires-clause-ready : goal.read_used-requires-clause-ready
 read_used-requires-clause-ready g c = c.loop-e.invariant.ready

@@ -1,4 +1,4 @@
-use Rattle.std.proofs.Common.{rules, ◌<◌, IsTrue, length, subst, arith}
+use Rattle.std.proofs.Common.{rules, IsTrue, subst}
 use Rattle.file_tree.specs.declared.entry.Entry.{Entry}
 use Rattle.file_tree.specs.Table.{IsMasterFile}
 use Rattle.file_tree.specs.laws.Tables.{entry_within}
@@ -12,8 +12,7 @@ returns-then-are_below_master c = elim c.if-are_entries.branch [
   | then-are_entries lower ↦ elim c.if-is_master_file.branch [
     | then-is_master_file each ↦
         let t = c.args.entries.now in
-        let size = c.requires.size in
-        let some : 0 < length t = omega (arith, size) in
+        let some = c.requires.some in
         let is_master : Entry → Type 0 = λ x. IsMasterFile x in
         let master : IsTrue c.is_master_file.result = search rules in
         let first = subst is_master (entry_within t 0 _ some) (c.is_master_file.ensures.0 master) in

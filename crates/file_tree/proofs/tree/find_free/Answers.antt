@@ -1,28 +1,18 @@
 use Rattle.undo_journal.specs.laws.Exits.{none_ok}
-use Rattle.std.proofs.Common.{◌≡◌, ℕ, List, Option, Some, None, length, refl, ◌∙◌, ap, subst}
+use Rattle.std.proofs.Common.{◌≡◌, ℕ, List, Option, Some, None, refl, ◌∙◌, ap, subst}
 use Rattle.undo_journal.specs.Memory.{committed}
 use Rattle.block_chain.specs.declared.chain.Extent.{Extent}
 use Rattle.block_chain.specs.Layout.{TellsFreeBlocks}
-use Rattle.file_tree.specs.declared.entry.Entry.{Entry}
-use Rattle.file_tree.specs.laws.Tables.{length-table}
 use Rattle.file_tree.specs.laws.Telling.{space_told}
 use Rattle.undo_journal.specs.laws.Told.{reads_handed, reads_on}
-use Rattle.std.specs.Prelude.{◌<◌, ℕ, None, MatchOption}
+use Rattle.std.specs.Prelude.{◌<◌, MatchOption}
 use Rattle.std.proofs.Common.{arith}
 use Rattle.nvm_board.specs.Facts.{pages_of}
 use Rattle.file_tree.specs.Formats.{end_page, block_count}
 use Rattle.file_tree.specs.Trees.{TreeStands}
+use Rattle.file_tree.specs.Table.{table}
 use Rattle.file_tree.specs.laws.Formats.{count_is}
 use Rattle.file_tree.proofs.tree.find_free.Goals as goal
-
-pub extents_of-extents-requires : goal.extents_of-extents-requires
-extents_of-extents-requires g c =
-    let size = ap (λ (t : List Entry). length t) c.requires.read ∙ length-table (committed c.args.store.now) in
-    omega (arith, size)
-
-pub count_free-entries-requires : goal.count_free-entries-requires
-count_free-entries-requires g c =
-    ap (λ (t : List Entry). length t) c.requires.read ∙ length-table (committed c.args.store.now)
 
 -- what was found of the blocks, where they lie as they should and where not
 found_is : (n : ℕ) (now : List ℕ) (es : List Extent) (o answer : Option ℕ) → o ≡ answer → TellsFreeBlocks n now es o
@@ -70,9 +60,9 @@ returns-clause-tree g c =
     let m = committed c.args.store.now in
     let count : c.in-Some.count ≡ block_count m = counted m m _ _ _ _ refl c.in-Some.is c.in_ok-count.ensures.count in
     let family : ℕ → Type 0 =
-    λ n. TellsFreeBlocks n (committed c.read_block_count.new.store) c.as_slice.result.now (Some c.in-Some-2.blocks) in
-    space_told m (committed c.read_block_count.new.store) c.args.all.now c.as_slice.result.now (Some c.in-Some-2.blocks)
-    _ c.requires.ready.usable.committed_size c.read_block_count.ensures.store.only.keeps.committed_words c.requires.read
-    (c.as_slice.ensures.value ∙ c.extents_of-extents.ensures) c.requires.rules
+    λ n. TellsFreeBlocks n (committed c.read_block_count.new.store) c.args.laid.now (Some c.in-Some-2.blocks) in
+    space_told m (committed c.read_block_count.new.store) (table m) c.args.laid.now (Some c.in-Some-2.blocks)
+    _ c.requires.ready.usable.committed_size c.read_block_count.ensures.store.only.keeps.committed_words refl
+    c.requires.extents c.requires.rules
     (subst family count (found_is _ _ _ _ _ c.in-Some-2.is c.in_ok-blocks.ensures.found))
-    (λ i. Some (record { blocks = c.in-Some-2.blocks; entries = c.count_free-entries.ensures i }))
+    (λ i. Some (record { blocks = c.in-Some-2.blocks; entries = c.requires.entries i }))

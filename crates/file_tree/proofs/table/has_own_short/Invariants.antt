@@ -1,8 +1,8 @@
 use Rattle.std.proofs.Common.{◌<◌, ℕ}
 use Rattle.file_tree.specs.Table.{entry_in, IsUsed}
-use Rattle.file_tree.specs.TreeParts.{Alike}
-use Rattle.file_tree.proofs.table.is_alone.Given as goal
+use Rattle.file_tree.specs.TreeParts.{ShareShort}
+use Rattle.file_tree.proofs.table.has_own_short.Given as goal
 
 abbrev pub invariant-loop-f : goal.invariant-loop-f
 invariant-loop-f l = (f : ℕ) → f < l.f → l.fn.e < f → IsUsed l.entries f
-    → Alike l.fn.e (entry_in l.entries l.fn.e) (entry_in l.entries f) → ⊥
+    → ShareShort l.fn.e (entry_in l.entries l.fn.e) (entry_in l.entries f) → ⊥
