@@ -15,6 +15,7 @@ ghost use Rattle.file_tree.specs.Formats.{block_count};
 ghost use Rattle.card_state.specs.Spaces.{free_space};
 ghost use Rattle.file_tree.specs.declared.entry.Entry.{Entry};
 ghost use Rattle.file_tree.specs.Table.{entry_in, table};
+ghost use Rattle.file_tree.specs.TableEnd.{IsTableEnd};
 ghost use Rattle.file_tree.specs.Trees.{tree_of};
 ghost use Rattle.file_tree.specs.TreeChanges.{Deletes, with_freed};
 ghost use Rattle.file_tree.specs.Indexes.{IsIndex};
@@ -25,7 +26,7 @@ ghost use Rattle.file_changes.specs.DeletionParts.{extents_in, entry_if_gone};
 use arrayvec::ArrayVec;
 use block_chain::{Chain, Extent, give_back};
 use file_tree::{
-    ENTRIES, ENTRIES_END, Entry, ExtentList, FreeSpace, Index, TABLE_ROOM, entry_address,
+    ENTRIES_END, Entry, ExtentList, FreeSpace, Index, TABLE_ROOM, entry_address, find_end,
     is_within, read_entry, read_entry_head,
 };
 use undo_journal::{Board, Store, StoreErr, Txn};
@@ -78,15 +79,16 @@ impl Part {
     }
 }
 
-/// Returns the parent of each entry, from the heads of the entries.
-fn read_parents<B: Board>(store: &mut Store<B>) -> Result<[u8; 256], StoreErr>
+/// Returns the parent of each entry, from the heads of the entries before `end`.
+fn read_parents<B: Board>(store: &mut Store<B>, end: u8) -> Result<[u8; 256], StoreErr>
     requires ready { IsReady store.old }
+    requires end { IsTableEnd (table (committed store.old)) end }
     ensures parents { IfOk result (λ parents. (e : ℕ) → e < 256
         → slice_index parents e ≡ (entry_in (table (committed store.old)) e).parent) }
     ensures store { Reads store.old store.new (result_err result) }
 {
     let mut parents = [0; 256];
-    for e in 0..ENTRIES_END {
+    for e in 0..end {
         let head = read_entry_head(store, e)?;
         parents[usize::from(e)] = head.parent;
     }
@@ -121,9 +123,10 @@ fn part_of<B: Board>(store: &mut Store<B>, top: u8) -> Result<Part, StoreErr>
     requires ready { IsReady store.old }
     ensures { Learns store.old store.new result (IsPart (table (committed store.old)) top) }
 {
-    let parents = read_parents(store)?;
+    let end = find_end(store)?;
+    let parents = read_parents(store, end)?;
     let mut part = Part::new();
-    for e in 0..ENTRIES_END {
+    for e in 0..end {
         let entry = going_entry(store, &parents, top, e)?;
         part.add(e, entry);
     }

@@ -1,6 +1,6 @@
 -- The part of a table that goes, entry by entry.
-use Rattle.std.specs.Prelude.{◌≡◌, ◌≢◌, ◌↔◌, ◌==◌, ◌<◌, ◌≤◌, ◌+◌, ◌++◌, ◌&&◌, ℕ, Bool, true, false, not, cond}
-use Rattle.std.specs.Prelude.{if◌then◌else◌, IsTrue, List, [], ◌∷◌, map, length, replicate, slice_index_or, slice_set}
+use Rattle.std.specs.Prelude.{◌≡◌, ◌≢◌, ◌↔◌, ◌==◌, ◌<◌, ◌≤◌, ◌+◌, ◌++◌, ◌&&◌, ℕ, zero, suc, Bool, true, false, not}
+use Rattle.std.specs.Prelude.{cond, if◌then◌else◌, IsTrue, List, [], ◌∷◌, map, length, replicate, slice_index_or, slice_set}
 use Rattle.std.specs.Prelude.{Option, None, Some, is_some}
 use Rattle.std.specs.List.{range_with_len, cons_option, sum_by}
 use Rattle.std.proofs.Common.{refl, sym, ◌∙◌, ap, subst, arith, inl, inr, below_more, true≢false}
@@ -50,16 +50,14 @@ part_none t top part goes count none = record {
 }
 
 -- all of them
-pub part_whole : (t : List Entry) (top k : ℕ) (part : Part) → k ≡ 64 → IsPartTo t top k part → IsPart t top part
+pub part_whole : (t : List Entry) (top : ℕ) (part : Part) → IsPartTo t top 64 part → IsPart t top part
 unfolding part_below
-part_whole t top k part all so_far =
-    let whole : IsPartTo t top 64 part = subst (λ (n : ℕ). IsPartTo t top n part) all so_far in
-    record {
-      goes = λ f lt. subst (λ (x : Entry). IsTrue (slice_index_or part.goes f false) ↔ (x.kind ≢ 0))
-          (sym (entry_of_part f lt)) (whole.each f lt);
-      count = whole.count;
-      extents = whole.extents;
-    }
+part_whole t top part whole = record {
+  goes = λ f lt. subst (λ (x : Entry). IsTrue (slice_index_or part.goes f false) ↔ (x.kind ≢ 0))
+      (sym (entry_of_part f lt)) (whole.each f lt);
+  count = whole.count;
+  extents = whole.extents;
+}
   where
     entry_of_part : (f : ℕ) → f < 64 → entry_in (part_to t top 64) f ≡ going t top f
     entry_of_part f lt =
@@ -180,3 +178,19 @@ module _ (t : List Entry) (top e : ℕ) (part more : Part) (found : Option Entry
 
   pub part_more : IsPartTo t top (e + 1) more
   part_more = by_test (is_gone t top e) refl
+
+-- one more entry that is free, and all that are left
+part_free : (t : List Entry) (top e : ℕ) (part : Part) → e < 64 → entry_in t e ≡ free_entry → IsPartTo t top e part
+    → IsPartTo t top (e + 1) part
+part_free t top e part small free so_far =
+    let is : None ≡ entry_if_gone t top e =
+    sym (ap (λ (x : Entry). if not (x.kind == 0) && leads_up t 7 top e then Some (entry_in t e) else None) free) in
+    part_more t top e part part None small is refl (omega arith) (sym (append-nil part.extents.items)) so_far
+
+pub parts_rest : (t : List Entry) (top : ℕ) (part : Part) (e n : ℕ) → e + n ≡ 64
+    → ((f : ℕ) → e ≤ f → entry_in t f ≡ free_entry) → IsPartTo t top e part → IsPartTo t top 64 part
+parts_rest t top part e zero all free so_far =
+    let end : e ≡ 64 = omega (arith, all) in subst (λ (k : ℕ). IsPartTo t top k part) end so_far
+parts_rest t top part e (suc n) all free so_far = parts_rest t top part (e + 1) n (omega (arith, all))
+    (λ f from. free f (omega (arith, from)))
+    (part_free t top e part (omega (arith, all)) (free e (omega arith)) so_far)

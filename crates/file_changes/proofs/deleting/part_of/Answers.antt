@@ -1,27 +1,43 @@
-use Rattle.std.proofs.Common.{rules, ◌≡◌, ◌≤◌, ◌<◌, ◌+◌, ℕ, List, length, Option, sym, ◌∙◌, ap, subst, arith}
+use Rattle.std.proofs.Common.{rules, ◌≡◌, ◌≤◌, ◌<◌, ◌+◌, ◌-◌, ℕ, List, length, Option, sym, ◌∙◌, ap, subst, arith}
 use Rattle.undo_journal.specs.Memory.{committed}
 use Rattle.undo_journal.specs.laws.Calls.{reads_then}
 use Rattle.undo_journal.specs.laws.Exits.{none_ok}
 use Rattle.undo_journal.specs.laws.Told.{reads_handed, reads_on, reads_so_far}
 use Rattle.file_tree.specs.declared.entry.Entry.{Entry}
 use Rattle.file_tree.specs.Table.{table, entry_in}
+use Rattle.file_tree.specs.TableEnd.{IsTableEnd}
 use Rattle.file_changes.specs.DeletionParts.{entry_if_gone}
-use Rattle.file_changes.specs.laws.Parts.{part_none, part_more, part_whole, few_more}
+use Rattle.file_changes.specs.laws.Parts.{part_none, part_more, part_whole, parts_rest, few_more}
 use Rattle.file_changes.proofs.deleting.part_of.Goals as goal
 
-pub read_parents-requires : goal.read_parents-requires
-read_parents-requires g c = record { ready = c.requires.ready }
+pub find_end-requires : goal.find_end-requires
+find_end-requires g c = record { ready = c.requires.ready }
+
+pub returns-in_err-end : goal.returns-in_err-end
+returns-in_err-end g c = record {
+  told = none_ok _ _ _ c.from_residual.ensures.1;
+  store = reads_handed _ _ _ _ c.from_residual.ensures.1 c.in_err-end.ensures.store;
+}
+
+pub read_parents-requires-clause-ready : goal.read_parents-requires-clause-ready
+read_parents-requires-clause-ready g c = c.in_ok-end.ensures.store.ready
+
+pub read_parents-requires-clause-end : goal.read_parents-requires-clause-end
+read_parents-requires-clause-end g c =
+    subst (λ (l : List ℕ). IsTableEnd (table l) c.in_ok-end.end)
+    (sym c.find_end.ensures.store.only.keeps.committed_words) c.in_ok-end.ensures.told
 
 pub returns-in_err-parents : goal.returns-in_err-parents
 returns-in_err-parents g c = record {
-  told = none_ok _ _ _ c.from_residual.ensures.1;
-  store = reads_handed _ _ _ _ c.from_residual.ensures.1 c.in_err-parents.ensures.store;
+  told = none_ok _ _ _ c.from_residual-in_err-parents.ensures.1;
+  store = reads_handed _ _ _ _ c.from_residual-in_err-parents.ensures.1
+      (reads_on _ _ _ _ c.find_end.ensures.store.only c.in_err-parents.ensures.store);
 }
 
 pub loop-e-init : goal.loop-e-init
 loop-e-init g c = record {
   ready = c.in_ok-parents.ensures.store.ready;
-  reads = c.read_parents.ensures.store.only;
+  reads = reads_then _ _ _ c.find_end.ensures.store.only c.read_parents.ensures.store.only;
   few = (let none = ap (λ l. length l) c.new-part.ensures.extents in omega (arith, none));
   so_far = part_none _ _ _ c.new-part.ensures.goes c.new-part.ensures.count c.new-part.ensures.extents;
 }
@@ -32,7 +48,8 @@ going_entry-requires-clause-ready g c = c.loop-e.invariant.ready
 pub going_entry-requires-clause-parents : goal.going_entry-requires-clause-parents
 going_entry-requires-clause-parents g c = λ f small.
     c.in_ok-parents.ensures.parents f small
-    ∙ ap (λ (l : List ℕ). (entry_in (table l) f).parent) (sym c.loop-e.invariant.reads.keeps.committed_words)
+    ∙ ap (λ (l : List ℕ). (entry_in (table l) f).parent)
+    (c.find_end.ensures.store.only.keeps.committed_words ∙ sym c.loop-e.invariant.reads.keeps.committed_words)
 
 pub returns-in_err-entry : goal.returns-in_err-entry
 returns-in_err-entry g c = record {
@@ -43,13 +60,17 @@ returns-in_err-entry g c = record {
 
 pub add-requires-clause-count : goal.add-requires-clause-count
 add-requires-clause-count g c =
-    let small : c.loop-e.e < 64 = search rules in
+    let lt : c.loop-e.e < c.in_ok-end.end = search rules in
+    let most = c.in_ok-end.ensures.told.most in
+    let small : c.loop-e.e < 64 = omega (arith, lt, most) in
     let count = c.loop-e.invariant.so_far.count in
     omega (arith, small, count)
 
 pub add-requires-clause-room : goal.add-requires-clause-room
 add-requires-clause-room g c =
-    let small : c.loop-e.e < 64 = search rules in
+    let lt : c.loop-e.e < c.in_ok-end.end = search rules in
+    let most = c.in_ok-end.ensures.told.most in
+    let small : c.loop-e.e < 64 = omega (arith, lt, most) in
     let few = c.loop-e.invariant.few in
     omega (arith, small, few)
 
@@ -57,7 +78,9 @@ pub loop-e-preserved : goal.loop-e-preserved
 loop-e-preserved g c =
     let t = table (committed c.args.store.now) in
     let e = c.loop-e.e in
-    let small : e < 64 = search rules in
+    let lt : e < c.in_ok-end.end = search rules in
+    let most = c.in_ok-end.ensures.told.most in
+    let small : e < 64 = omega (arith, lt, most) in
     let is : c.in_ok-entry.entry ≡ entry_if_gone t c.args.top e = c.in_ok-entry.ensures.told
     ∙ ap (λ (l : List ℕ). entry_if_gone (table l) c.args.top e) c.loop-e.invariant.reads.keeps.committed_words in
     record {
@@ -70,6 +93,12 @@ loop-e-preserved g c =
 
 pub returns : goal.returns
 returns g c = record {
-  told = let end : c.loop-e.e ≡ 64 = search rules in part_whole _ _ _ _ end c.loop-e.invariant.so_far;
+  told = let t = table (committed c.args.store.now) in
+      let end : c.loop-e.e ≡ c.in_ok-end.end = search rules in
+      let table_end = c.in_ok-end.ensures.told in
+      let most = table_end.most in
+      let left : c.loop-e.e + (64 - c.loop-e.e) ≡ 64 = omega (arith, end, most) in
+      part_whole t c.args.top c.loop-e.part (parts_rest t c.args.top c.loop-e.part c.loop-e.e (64 - c.loop-e.e) left
+      (λ e from. table_end.free e (omega (arith, from, end))) c.loop-e.invariant.so_far);
   store = reads_so_far _ _ c.loop-e.invariant.reads c.loop-e.invariant.ready;
 }

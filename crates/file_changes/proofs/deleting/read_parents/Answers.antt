@@ -13,7 +13,6 @@ use Rattle.file_tree.specs.declared.entry.Entry.{Entry}
 use Rattle.file_tree.specs.declared.entry.EntryHead.{EntryHead}
 use Rattle.file_tree.specs.Entries.{head_of}
 use Rattle.file_tree.specs.Table.{table, entry_in}
-use Rattle.file_tree.specs.laws.Tables.{entry_past, length-table}
 use Rattle.file_changes.proofs.deleting.read_parents.Goals as goal
 
 pub loop-e-init : goal.loop-e-init
@@ -34,7 +33,9 @@ loop-e-preserved g c =
     let at : c.from.result ≡ e = c.from.ensures in
     let parent = ap (λ (x : EntryHead). x.parent) (c.in_ok-head.ensures.head
     ∙ ap (λ (l : List ℕ). head_of (entry_in (table l) e)) invariant.reads.keeps.committed_words) in
-    let small : e < 64 = search rules in
+    let lt : e < c.args.end = search rules in
+    let most = c.requires.end.most in
+    let small : e < 64 = omega (arith, lt, most) in
     let fits : c.from.result < length old = omega (arith, at, small, invariant.long) in
     record {
       ready = c.in_ok-head.ensures.store.ready;
@@ -51,14 +52,12 @@ loop-e-preserved g c =
 
 pub returns-clause-parents : goal.returns-clause-parents
 returns-clause-parents g c = λ f small.
-    let t = table (committed c.args.store.now) in
-    let long = length-table (committed c.args.store.now) in
-    let end : c.loop-e.e ≡ 64 = search rules in
+    let end : c.loop-e.e ≡ c.args.end = search rules in
     ⊎_elim
-    (λ (below : f < 64). c.loop-e.invariant.told f (omega (arith, below, end)))
-    (λ (from : 64 ≤ f). c.loop-e.invariant.rest f (omega (arith, from, end)) small
-    ∙ sym (ap (λ (x : Entry). x.parent) (entry_past t f (omega (arith, long, from)))))
-    (cases_lt f 64)
+    (λ (below : f < c.args.end). c.loop-e.invariant.told f (omega (arith, below, end)))
+    (λ (from : c.args.end ≤ f). c.loop-e.invariant.rest f (omega (arith, from, end)) small
+    ∙ sym (ap (λ (x : Entry). x.parent) (c.requires.end.free f from)))
+    (cases_lt f c.args.end)
 
 pub returns-clause-store : goal.returns-clause-store
 returns-clause-store g c = reads_so_far _ _ c.loop-e.invariant.reads c.loop-e.invariant.ready
