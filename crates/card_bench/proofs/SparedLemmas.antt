@@ -13,7 +13,7 @@ use Rattle.card_turns.specs.declared.playing.Item.{Item}
 use Rattle.card_turns.specs.declared.playing.Item.TheVariants.{Atr, Quiet, Mute, Dark, Reply}
 use Rattle.card_turns.specs.BenchStates.{BenchState, off, on, bench_facts, with_facts, IsArmed}
 use Rattle.card_turns.specs.Lasting.{HasLeft}
-use Rattle.card_turns.specs.Turns.{TurnsOn, WritesAsAsked, dark_of, turn_steps}
+use Rattle.card_turns.specs.Turns.{Spends, TurnsOn, WritesAsAsked, dark_of, turn_steps}
 use Rattle.card_turns.proofs.Wearing.{TURN_STEPS, block-due, due-spent, few-steps, fewer, not-mute}
 use Rattle.card_bench.specs.Sweeps.{SparesStart, off_with}
 use Rattle.card_bench.specs.SweptRuns.{SparesCommand}
@@ -150,3 +150,52 @@ spared-command number mask board prepare command s left =
     s.sent.counts.cut in
     let same : a.writes ≡ (bench_facts s.prepared).writes = ap (λ (f : Facts). f.writes) is in
     omega (arith, few, same)
+
+-- a cut that is set for the very next write, and doesn't come, leaves all words
+still-words : (a z : Facts) (i : Item) (arm : Arm) → a.due ≡ 1 → a.due ≡ due_of a.pending → a.pending ≡ Some arm
+    → arm.whole_writes ≡ 0 → z.due ≡ due_of z.pending → is_some z.pending ≡ true → Spends (dark_of i) a z
+    → a.due ≡ z.due + dark_of i → a.faults ≡ 0 → z.faults ≡ 0 → z.words ≡ a.words
+still-words a z i arm one due pending first due_left set counts spent fine fine_left =
+    let few = few-written a z arm due pending due_left set counts.cut in
+    let more = counts.more in
+    let left : due_of z.pending ≡ 1 = ap (λ (b : Bool). if b then 1 else 0) set in
+    counts.still (omega (arith, one, spent, due_left, left)) (omega (arith, fine, fine_left))
+    (omega (arith, few, first, more))
+
+pub start-still : (mask : ℕ) (board : Facts) → (s : SparesStart 1 mask board) → HasLeft TURN_STEPS board
+    → (bench_facts s.last).words ≡ board.words
+start-still mask board s left =
+    let a = bench_facts s.armed in
+    let z = bench_facts s.last in
+    let arm : Arm = record { whole_writes = 0; mask = mask } in
+    let is = armed-is 1 mask (off_with board) s.armed s.arm in
+    let pending : a.pending ≡ Some arm = ap (λ (f : Facts). f.pending) is in
+    let due : a.due ≡ 1 = s.good.due ∙ ap due_of pending in
+    let far : HasLeft TURN_STEPS a = left-of TURN_STEPS 1 mask (off_with board) s.armed s.arm (record {
+      faults = left.faults;
+      cuts = left.cuts;
+      writes = left.writes;
+      compares = left.compares;
+      matches = left.matches;
+    }) in
+    let spent = due-spent s.armed s.last turn.On s.item s.start
+    (fewer TURN_STEPS (turn_steps s.armed turn.On) a (few-steps s.armed turn.On) far) in
+    let set = still-set a z s.item due s.good_left.due spent s.spared in
+    still-words a z s.item arm due s.good.due pending refl s.good_left.due set s.start.counts spent s.good.faults
+    s.good_left.faults ∙ ap (λ (f : Facts). f.words) is
+
+pub command-still : (mask : ℕ) (board : Facts) (prepare : List Turn) (command : List ℕ)
+    → (s : SparesCommand 1 mask board prepare command) → HasLeft COMMAND_WRITES (bench_facts s.prepared)
+    → (bench_facts s.last).words ≡ (bench_facts s.prepared).words
+command-still mask board prepare command s left =
+    let a = bench_facts s.armed in
+    let z = bench_facts s.last in
+    let arm : Arm = record { whole_writes = 0; mask = mask } in
+    let is = armed-is 1 mask s.prepared s.armed s.arm in
+    let pending : a.pending ≡ Some arm = ap (λ (f : Facts). f.pending) is in
+    let due : a.due ≡ 1 = s.good.due ∙ ap due_of pending in
+    let far = left-of COMMAND_WRITES 1 mask s.prepared s.armed s.arm left in
+    let spent = block-due s.armed s.last command s.item s.sent far in
+    let set = still-set a z s.item due s.good_left.due spent s.spared in
+    still-words a z s.item arm due s.good.due pending refl s.good_left.due set s.sent.counts spent s.good.faults
+    s.good_left.faults ∙ ap (λ (f : Facts). f.words) is

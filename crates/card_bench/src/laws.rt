@@ -116,6 +116,17 @@ pub fn spared_runs_make_fewer_writes()
         → (bench_facts s.last).writes ≤ (bench_facts s.prepared).writes + (number - 1) }
 {}
 
+/// A sweep spares a start at its first write, or a command, only if it changes no word.
+/// So a body that cuts no write of a command that changes the card is no sweep. The counts of the board have to be far
+/// from their end.
+pub fn runs_spared_at_once_change_no_word()
+    ensures start { (mask : ℕ) (board : Facts) → (s : SparesStart 1 mask board) → HasLeft 3787 board
+        → (bench_facts s.last).words ≡ board.words }
+    ensures command { (mask : ℕ) (board : Facts) (prepare : List Turn) (command : List ℕ)
+        → (s : SparesCommand 1 mask board prepare command) → HasLeft 700 (bench_facts s.prepared)
+        → (bench_facts s.last).words ≡ (bench_facts s.prepared).words }
+{}
+
 /// How many blocks a command puts on the line at most, as a reader sees it.
 pub fn limits()
     ensures blocks { LINE_BLOCKS ≡ 1000 }

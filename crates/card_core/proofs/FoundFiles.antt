@@ -18,7 +18,7 @@ use Rattle.card_model.specs.Cards.{IsProperKind, IsProperShort}
 use Rattle.file_tree.specs.declared.entry.Entry.{Entry}
 use Rattle.file_tree.specs.Entries.{body_of, free_entry, file_of, name_of, rule_of}
 use Rattle.file_tree.specs.Formats.{is_format_2}
-use Rattle.file_tree.specs.Table.{table, entry_in, path_in, path_of, IsFileEntry, IsTable, IsUsed}
+use Rattle.file_tree.specs.Table.{table, entry_in, path_in, path_of, IsTable}
 use Rattle.file_tree.specs.Trees.{content, tree_of, TreeStands}
 use Rattle.file_tree.specs.laws.Nodes.{dedicated_entry, entry_found, exists-used, file_at_entry, used_small}
 use Rattle.file_tree.specs.laws.Paths.{one_path, parent_path, parent_used, path_of_child}

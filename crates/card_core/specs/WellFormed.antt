@@ -1,6 +1,6 @@
 -- What the rules on file entries and PINs mean for a card: its files (ISO/IEC 7816-4, 7.2 and 7.4), access rules, names
 -- and short identifiers, and its PINs; and that the current files of a session are in its tree.
-use Rattle.std.specs.Prelude.{◌≡◌, ◌≤◌, ◌++◌, ◌∷◌, [], ◌&&◌, not, ℕ, List, length, All, Option, Some, IfSome, IsTrue}
+use Rattle.std.specs.Prelude.{◌≡◌, ◌≤◌, ◌++◌, ◌∷◌, [], ◌&&◌, not, ℕ, List, length, All, Some, IfSome, IsTrue}
 use Rattle.std.specs.FinMap.{get}
 use Rattle.card_rules.specs.Rule.{is_rule}
 use Rattle.card_rules.specs.declared.pins.TheConstants.{PINS}

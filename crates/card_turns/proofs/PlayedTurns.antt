@@ -103,6 +103,11 @@ plays_more old between new turns trace turn item all more =
       });
     }
 
+-- where no cut, fault or write was counted the words are as they were
+pub still-lit : (old new : Facts) → Advances old new → new.cuts ≡ old.cuts + 0 → 0 ≡ 0 → new.faults ≡ old.faults
+    → new.writes ≡ old.writes → new.words ≡ old.words
+still-lit old new advances cuts none fine same = advances.cut.still (omega (arith, cuts, fine, same))
+
 -- a block in which power was lost, which is then turned off
 pub plays_cut : (old new : Powered) (got out : List ℕ) → IsCutAt old got new out → HasCard new.card.facts.words
     → IsBlockStage old (link_step old.link got).reaction (card_found new.card)
@@ -120,6 +125,7 @@ plays_cut old new got out cut found stage paid shown writes advances stands = re
     faults = omega (arith, cut.power.faults);
     more = advances.more;
     cut = aims-off old.card.facts new.card.facts advances.cut.cut;
+    still = λ none fine same. absurd (omega (arith, none));
   };
   well = λ good. tt;
   guesses = paid-few (on old) (off (record new.card.facts { dark = true })) paid;
@@ -142,6 +148,7 @@ hears_nothing old new facts got is same =
         faults = omega arith;
         more = omega arith;
         cut = inl refl;
+        still = λ none fine same. refl;
       };
       well = λ good. tt;
       guesses = pays-nothing (off facts) (off facts) refl refl;

@@ -1,7 +1,7 @@
 -- A power-on, by how the start of the card ended.
 use Rattle.std.specs.Prelude.{◌≡◌, ◌≤◌, ◌+◌, ◌⊎◌, ℕ, true, false, List, Option, IfSome}
 use Rattle.std.proofs.Common.{arith, ap, ap₂, inl, inr, refl, subst, sym, ◌∙◌, true≢false}
-use Rattle.nvm_board.specs.Aims.{Aim, aim, KeepsAim}
+use Rattle.nvm_board.specs.Aims.{Aim, aim, AimsOn, KeepsAim, events}
 use Rattle.nvm_board.specs.Facts.{Facts, GoesDark, IsMemory, IsWorn, IsWornOut, Steady}
 use Rattle.undo_journal.specs.declared.layout.TheConstants.{PAIRS}
 use Rattle.undo_journal.specs.Spending.{WritesAtMost, rollback_writes, start_writes}
@@ -34,6 +34,7 @@ turns_off old new is = subst (λ (b : BenchState). Plays old turn.Off item.Quiet
     faults = omega arith;
     more = omega arith;
     cut = inl refl;
+    still = λ none fine same. refl;
   };
   well = λ good. tt;
   guesses = pays-nothing old (off (record (bench_facts old) { dark = true })) refl refl;
@@ -67,6 +68,7 @@ module _ (old : BenchState) (dark : Facts) (darkened : dark ≡ record (bench_fa
           faults = omega (arith, faults);
           more = omega (arith, writes);
           cut = inl (ap aim is);
+          still = λ none fine same. words;
         };
         well = λ good. tt;
         guesses = pays-nothing old (off new) (ap found words) (ap comparisons is);
@@ -116,6 +118,10 @@ module _ (old : BenchState) (dark : Facts) (darkened : dark ≡ record (bench_fa
           (ap aim lights ∙ ap aim darkened) fell.there;
     })
 
+    -- and where nothing was counted the words are as they were
+    lit-still : (new : Facts) → AimsOn lit new → events new ≡ events lit → new.words ≡ (bench_facts old).words
+    lit-still new aims none = aims.still none ∙ lit-words
+
     -- what a start takes of the board's counts
     start-wears : (new : Facts) → WritesAtMost (power_on_writes lit) lit new → HasCard (bench_facts old).words
         → new.faults ≡ (bench_facts old).faults → Wears (turn_writes old turn.On) (bench_facts old) new
@@ -154,6 +160,8 @@ module _ (old : BenchState) (dark : Facts) (darkened : dark ≡ record (bench_fa
             faults = omega (arith, power.faults, lit-faults);
             more = let more = spent.more in omega (arith, more, lit-writes);
             cut = lit-aims p.card.facts spent.cut.cut;
+            still = λ none fine same. lit-still p.card.facts spent.cut
+                (omega (arith, power.cuts, lit-cuts, fine, lit-faults, same, lit-writes));
           };
           well = λ good. started.state;
           guesses = pays-nothing old (on p) (found-again p.card.facts.words again) (counts ∙ lit-counts);
@@ -195,7 +203,12 @@ module _ (old : BenchState) (dark : Facts) (darkened : dark ≡ record (bench_fa
       spent-so = subst (λ (f : Facts). WritesAtMost (power_on_writes lit) lit f) (sym turned) (record {
         writes = spent.writes;
         more = spent.more;
-        cut = record { off = λ is. absurd (dark-lit is); cut = aims-off lit stopped spent.cut.cut };
+        cut = record {
+          off = λ is. absurd (dark-lit is);
+          cut = aims-off lit stopped spent.cut.cut;
+          more = spent.cut.more;
+          still = spent.cut.still;
+        };
         compares = spent.compares;
         matches = spent.matches;
       })
@@ -216,6 +229,7 @@ module _ (old : BenchState) (dark : Facts) (darkened : dark ≡ record (bench_fa
               faults = omega (arith, lost.faults, faults, lit-faults);
               more = let more = spent-so.more in omega (arith, more, lit-writes);
               cut = lit-aims new spent-so.cut.cut;
+              still = λ none fine same. absurd (omega (arith, none));
             };
             well = λ good. tt;
             guesses = guesses;
@@ -247,6 +261,8 @@ module _ (old : BenchState) (dark : Facts) (darkened : dark ≡ record (bench_fa
               faults = omega (arith, more, faults, lit-faults);
               more = let written = spent-so.more in omega (arith, written, lit-writes);
               cut = lit-aims new spent-so.cut.cut;
+              still = λ none fine same. lit-still new spent-so.cut
+                  (omega (arith, same_cuts, cuts, fine, lit-faults, same, lit-writes));
             };
             well = λ good. tt;
             guesses = guesses;

@@ -106,13 +106,14 @@ darks (item ∷ items) = dark_of item + darks items
 
 -- The counters of the board after a turn with one power loss (1) or none (0). Each loss is counted, and uses up one of
 -- the due cuts, unless a counter is at its limit. The counters of faults and writes never decrease, and a set power cut
--- falls into the write that it was set for.
+-- falls into the write that it was set for. Words change only if a write, a power loss or a fault is counted.
 pub record Spends (lost : ℕ) (old new : Facts) : Type 0 where
   pub cuts : new.cuts ≡ old.cuts + lost
   pub due : (old.due ≡ new.due + lost) ⊎ (IsWorn new × (new.due ≡ old.due))
   pub faults : old.faults ≤ new.faults
   pub more : old.writes ≤ new.writes
   pub cut : KeepsAim old new
+  pub still : lost ≡ 0 → new.faults ≡ old.faults → new.writes ≡ old.writes → new.words ≡ old.words
 
 -- The counters of the board after turns with `lost` power losses. The counter of cuts rises by `lost`. No cut became
 -- due, and at most `lost` due cuts are used up. The counters of faults and writes never decrease.

@@ -7,7 +7,7 @@ use Rattle.nvm_board.specs.declared.board.Arm.{Arm}
 use Rattle.nvm_board.specs.declared.board.DeviceErr.{DeviceErr}
 use Rattle.nvm_board.specs.declared.board.DeviceErr.TheVariants.{PowerLost, Fault}
 use Rattle.nvm_board.specs.Facts.{Facts, Answered, IsLostRightly, IsWorn, Steady, GoesDark}
-use Rattle.nvm_board.specs.Aims.{Aim, aim, due_of, AimsAtWrite}
+use Rattle.nvm_board.specs.Aims.{Aim, aim, due_of, AimStays, AimsAtWrite}
 use Rattle.nvm_board.specs.Cut.{ArmAfter}
 use Rattle.nvm_board.specs.Torn.{IsTornBy}
 
@@ -167,6 +167,15 @@ aimed writes a = option_map (λ x. record { write = writes + x.whole_writes + 1;
 aim-armed : (a : Option Arm) (f : Facts) → aim (with_arm a f) ≡ aimed f.writes a
 aim-armed None f = refl
 aim-armed (Some a) f = refl
+
+-- a read leaves where the cut falls
+pub aim_stays_armed : (a : Option Arm) (old new : Facts) → new.writes ≡ old.writes → AimStays old new
+    → AimStays (with_arm a old) (with_arm a new)
+aim_stays_armed a old new same stays = record {
+  off = λ off. ap (with_arm a) (stays.off off);
+  aim = aim-armed a new ∙ ap (λ (n : ℕ). aimed n a) same ∙ sym (aim-armed a old);
+  more = stays.more;
+}
 
 -- a call that leaves the arm, and makes no write, leaves where the cut falls
 pub aims_armed : (a : Option Arm) (old new : Facts) → new.writes ≡ old.writes → AimsAtWrite old new

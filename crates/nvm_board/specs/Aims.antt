@@ -1,5 +1,5 @@
 -- The write that a set cut falls into.
-use Rattle.std.specs.Prelude.{◌≡◌, ◌⊎◌, ◌+◌, ◌==◌, ℕ, true, if◌then◌else◌, Option, None, Some, option_map}
+use Rattle.std.specs.Prelude.{◌≡◌, ◌⊎◌, ◌+◌, ◌≤◌, ◌==◌, ℕ, true, if◌then◌else◌, Option, None, Some, option_map}
 use Rattle.std.specs.Prelude.{is_some, IfSome}
 use Rattle.nvm_board.specs.declared.board.Arm.{Arm}
 use Rattle.nvm_board.specs.Facts.{Facts}
@@ -35,10 +35,15 @@ pub record HasFallen (old new : Facts) : Type 0 where
 abbrev pub KeepsAim : Facts → Facts → Type 0
 KeepsAim old new = (aim new ≡ aim old) ⊎ HasFallen old new
 
--- A read or a comparison doesn't change the aim. A board without power is unchanged.
+-- The number of events that the board has counted: device writes, power losses and faults.
+abbrev pub events : Facts → ℕ
+events f = f.writes + f.cuts + f.faults
+
+-- A read or a comparison doesn't change the aim, and takes no event back. A board without power is unchanged.
 pub record AimStays (old new : Facts) : Type 0 where
   pub off : old.dark ≡ true → new ≡ old
   pub aim : aim new ≡ aim old
+  pub more : events old ≤ events new
 
 -- The cut falls into the very next write.
 pub record FallsNext (old new : Facts) : Type 0 where
@@ -53,7 +58,10 @@ pub record AimsAtWrite (old new : Facts) : Type 0 where
   pub off : old.dark ≡ true → new ≡ old
   pub cut : (aim new ≡ aim old) ⊎ FallsNext old new
 
--- Any calls on a board leave the aim as it is, until the cut falls. A board without power is unchanged.
+-- Any calls on a board leave the aim as it is, until the cut falls. They take no event back, and words change only if
+-- an event is counted. A board without power is unchanged.
 pub record AimsOn (old new : Facts) : Type 0 where
   pub off : old.dark ≡ true → new ≡ old
   pub cut : KeepsAim old new
+  pub more : events old ≤ events new
+  pub still : events new ≡ events old → new.words ≡ old.words

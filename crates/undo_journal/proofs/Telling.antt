@@ -1,11 +1,11 @@
 -- What an answer tells of a board and of a store, at the exits of their calls.
-use Rattle.std.specs.Prelude.{Result, Ok, Err, OnOk, OnErr, IsErrAnd}
+use Rattle.std.specs.Prelude.{Result, Ok, Err, IsErrAnd}
 use Rattle.std.proofs.Common.{◌≡◌, ◌⊎◌, ◌+◌, ℕ, List, true, false, refl, sym, ◌∙◌, ap, subst, inl, inr, arith}
 use Rattle.undo_journal.specs.declared.batch.Waiting.{Waiting}
 use Rattle.std.proofs.Math.Logic.{⊎_elim, ⊎_map}
 use Rattle.nvm_board.specs.declared.board.DeviceErr.{DeviceErr}
 use Rattle.nvm_board.specs.declared.board.DeviceErr.TheVariants as device
-use Rattle.nvm_board.specs.Aims.{AimsAtWrite}
+use Rattle.nvm_board.specs.BoardCalls.{Writes}
 use Rattle.nvm_board.specs.Facts.{Facts, Answered, Steady, GoesDark}
 use Rattle.nvm_board.specs.laws.Aims.{aims_written}
 use Rattle.undo_journal.specs.declared.error.StoreErr.TheVariants.{PowerLost}
@@ -64,23 +64,21 @@ answered_after a b c result first told = record {
 }
 
 -- what a write costs
-pub write_costs : {T : Type 0} (old new : Facts) (result : Result T DeviceErr)
-    → AimsAtWrite old new → OnOk result (new.writes ≡ old.writes + 1)
-    → OnErr result ((new.writes ≡ old.writes) ⊎ (new.writes ≡ old.writes + 1)) → new.compares ≡ old.compares
-    → new.matches ≡ old.matches → WritesAtMost 1 old new
-write_costs old new (Ok x) cut ok err compares matches = record {
+pub write_costs : {T : Type 0} (at : ℕ) (run : List ℕ) (old new : Facts) (result : Result T DeviceErr)
+    → Writes at run old new result → WritesAtMost 1 old new
+write_costs at run old new (Ok x) wrote = let ok : new.writes ≡ old.writes + 1 = wrote.counted in record {
   writes = omega (arith, ok);
   more = omega (arith, ok);
-  cut = aims_written old new (inr ok) cut;
-  compares = compares;
-  matches = matches;
+  cut = aims_written at run old new (Ok x) wrote;
+  compares = wrote.compares;
+  matches = wrote.matches;
 }
-write_costs old new (Err e) cut ok err compares matches = record {
+write_costs at run old new (Err e) wrote = let err = wrote.counted_err in record {
   writes = omega (arith, err);
   more = omega (arith, err);
-  cut = aims_written old new err cut;
-  compares = compares;
-  matches = matches;
+  cut = aims_written at run old new (Err e) wrote;
+  compares = wrote.compares;
+  matches = wrote.matches;
 }
 
 -- what an error tells of a lit board

@@ -1,13 +1,16 @@
 -- Laws of a cut that is set, over calls in a row.
-use Rattle.std.proofs.Common.{◌≡◌, ◌⊎◌, ◌+◌, refl, sym, ◌∙◌, ap, subst, inl, inr, arith}
+use Rattle.std.proofs.Common.{◌≡◌, ◌⊎◌, ◌+◌, ◌<◌, ◌≤◌, ℕ, List, refl, sym, ◌∙◌, ap, subst, inl, inr, arith}
 use Rattle.std.proofs.Math.Logic.{⊎_map}
-use Rattle.std.specs.Prelude.{Option, IfSome}
-use Rattle.nvm_board.specs.Facts.{Facts}
-use Rattle.nvm_board.specs.Aims.{Aim, aim, AimStays, AimsAtWrite, AimsOn, HasFallen}
+use Rattle.std.specs.Prelude.{Option, IfSome, Result, Ok, Err}
+use Rattle.nvm_board.specs.declared.board.DeviceErr.{DeviceErr}
+use Rattle.nvm_board.specs.declared.board.DeviceErr.TheVariants.{PowerLost, Fault}
+use Rattle.nvm_board.specs.Facts.{Facts, Answered}
+use Rattle.nvm_board.specs.Aims.{Aim, aim, AimStays, AimsAtWrite, AimsOn, HasFallen, events}
+use Rattle.nvm_board.specs.BoardCalls.{Writes}
 
 -- no call at all
 pub aims_same : (f : Facts) → AimsOn f f
-aims_same f = record { off = λ off. refl; cut = inl refl }
+aims_same f = record { off = λ off. refl; cut = inl refl; more = omega arith; still = λ same. refl }
 
 -- reads in a row
 pub aims_stay : (a b c : Facts) → AimStays a b → AimStays b c → AimStays a c
@@ -16,20 +19,22 @@ aims_stay a b c first rest = record {
       let same = first.off off in
       rest.off (ap (λ (f : Facts). f.dark) same ∙ off) ∙ same;
   aim = rest.aim ∙ first.aim;
+  more = omega (arith, first.more, rest.more);
 }
 
 -- no read at all
 pub aim_same : (f : Facts) → AimStays f f
-aim_same f = record { off = λ off. refl; aim = refl }
+aim_same f = record { off = λ off. refl; aim = refl; more = omega arith }
 
 -- reads among calls
-pub aims_kept : (old new : Facts) → AimStays old new → AimsOn old new
-aims_kept old new stays = record { off = stays.off; cut = inl stays.aim }
+pub aims_kept : (old new : Facts) → new.words ≡ old.words → AimStays old new → AimsOn old new
+aims_kept old new same stays =
+    record { off = stays.off; cut = inl stays.aim; more = stays.more; still = λ none. same }
 
--- a write among calls: at an error it was counted, or not
-pub aims_written : (old new : Facts) → (new.writes ≡ old.writes) ⊎ (new.writes ≡ old.writes + 1) → AimsAtWrite old new
-    → AimsOn old new
-aims_written old new counted aims = record {
+-- a write among calls that is an event: at an error it was counted, or not
+writes-on : (old new : Facts) → (new.writes ≡ old.writes) ⊎ (new.writes ≡ old.writes + 1) → events old < events new
+    → AimsAtWrite old new → AimsOn old new
+writes-on old new counted event aims = record {
   off = aims.off;
   cut = ⊎_map (λ same. same) (λ falls. record {
     dark = falls.dark;
@@ -38,7 +43,31 @@ aims_written old new counted aims = record {
         (sym falls.was) (let next = falls.next in ⊎_map (λ (same : new.writes ≡ old.writes). omega (arith, same, next))
         (λ (more : new.writes ≡ old.writes + 1). omega (arith, more, next)) counted);
   }) aims.cut;
+  more = omega (arith, event);
+  still = λ same. absurd (omega (arith, event, same));
 }
+
+-- a board without power leaves all
+stays-off : (old new : Facts) → new ≡ old → AimsOn old new
+stays-off old new same = subst (λ (f : Facts). AimsOn old f) (sym same) (aims_same old)
+
+-- a write among calls
+pub aims_written : {T : Type 0} (at : ℕ) (run : List ℕ) (old new : Facts) (result : Result T DeviceErr)
+    → Writes at run old new result → AimsOn old new
+aims_written at run old new (Ok x) wrote =
+    let lit = wrote.light.ok refl in
+    let counted : new.writes ≡ old.writes + 1 = wrote.counted in
+    writes-on old new (inr counted) (omega (arith, counted, lit.cuts, lit.faults)) wrote.cut
+aims_written at run old new (Err PowerLost) wrote =
+    let counted = wrote.counted_err in
+    elim (wrote.light.lost refl) [
+      | inl dark ↦ writes-on old new counted (omega (arith, counted, dark.cuts, dark.faults)) wrote.cut
+      | inr off ↦ stays-off old new off.1
+    ]
+aims_written at run old new (Err Fault) wrote =
+    let fault = wrote.light.fault refl in
+    let counted = wrote.counted_err in
+    writes-on old new counted (omega (arith, counted, fault.cuts, fault.faults)) wrote.cut
 
 -- a cut that fell, where none was set between
 fallen_after : (a b c : Facts) → aim b ≡ aim a → HasFallen b c → HasFallen a c
@@ -61,4 +90,9 @@ aims_then a b c first rest = record {
     ]
     | inr fell ↦ inr (subst (λ (f : Facts). HasFallen a f) (sym (rest.off fell.dark)) fell)
   ];
+  more = omega (arith, first.more, rest.more);
+  still = λ (same : events c ≡ events a).
+      let none : events b ≡ events a = omega (arith, same, first.more, rest.more) in
+      let then_none : events c ≡ events b = omega (arith, same, none) in
+      rest.still then_none ∙ first.still none;
 }

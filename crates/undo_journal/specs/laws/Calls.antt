@@ -19,7 +19,7 @@ pub keeping_spends : (n : ℕ) (a b : Facts) → KeepsBoard a b → WritesAtMost
 keeping_spends n a b kept = record {
   writes = omega (arith, kept.writes);
   more = omega (arith, kept.writes);
-  cut = aims_kept a b kept.cut;
+  cut = aims_kept a b kept.words kept.cut;
   compares = kept.compares;
   matches = kept.matches;
 }
@@ -39,7 +39,7 @@ pub spends_after : (n : ℕ) (a b c : Facts) → KeepsBoard a b → WritesAtMost
 spends_after n a b c kept costs = record {
   writes = omega (arith, kept.writes, costs.writes);
   more = omega (arith, kept.writes, costs.more);
-  cut = aims_then a b c (aims_kept a b kept.cut) costs.cut;
+  cut = aims_then a b c (aims_kept a b kept.words kept.cut) costs.cut;
   compares = costs.compares ∙ kept.compares;
   matches = costs.matches ∙ kept.matches;
 }
@@ -49,7 +49,7 @@ pub advances_by : (n : ℕ) (a b : Facts) → WritesAtMost n a b → Advances a 
 advances_by n a b costs = record { more = costs.more; cut = costs.cut }
 
 pub advances_kept : (a b : Facts) → KeepsBoard a b → Advances a b
-advances_kept a b kept = record { more = omega (arith, kept.writes); cut = aims_kept a b kept.cut }
+advances_kept a b kept = record { more = omega (arith, kept.writes); cut = aims_kept a b kept.words kept.cut }
 
 pub advances_then : (a b c : Facts) → Advances a b → Advances b c → Advances a c
 advances_then a b c first rest = record {
@@ -122,7 +122,7 @@ reads_runs n a b reads = record {
     ap (λ (t : ℕ). run_writes t) reads.keeps.taken,
   );
   more = omega (arith, reads.board.writes);
-  cut = aims_kept a.facts b.facts reads.board.cut;
+  cut = aims_kept a.facts b.facts reads.board.words reads.board.cut;
   compares = reads.board.compares;
   matches = reads.board.matches;
 }

@@ -1,4 +1,4 @@
-use Rattle.std.proofs.Common.{◌≡◌, ◌≢◌, ◌≤◌, ℕ, List, length, refl, rules, ap, ◌∙◌, arith, below_more, inr}
+use Rattle.std.proofs.Common.{◌≡◌, ◌≢◌, ◌≤◌, ℕ, List, length, refl, rules, ap, ◌∙◌, arith, below_more}
 use Rattle.nvm_board.specs.Facts.{address}
 use Rattle.nvm_board.specs.laws.Aims.{aims_then, aims_written}
 use Rattle.nvm_board.specs.laws.Sizes.{page_within, pages_same}
@@ -26,7 +26,7 @@ loop-page-preserved g c =
     record {
       steady = steady_then _ _ _ c.loop-page.invariant.steady (c.in_ok-write.ensures.light.ok refl);
       cut = aims_then _ _ _ c.loop-page.invariant.cut
-          (aims_written _ _ (inr c.in_ok-write.ensures.counted) c.in_ok-write.ensures.cut);
+          (aims_written _ _ _ _ _ c.in_ok-write.ensures);
       writes = omega (arith, c.in_ok-write.ensures.counted);
       compares = c.in_ok-write.ensures.compares ∙ c.loop-page.invariant.compares;
       matches = c.in_ok-write.ensures.matches ∙ c.loop-page.invariant.matches;
@@ -50,7 +50,7 @@ loop-page-preserved g c =
 
 pub returns-in_err-write-clause-cut : goal.returns-in_err-write-clause-cut
 returns-in_err-write-clause-cut g c = aims_then _ _ _ c.loop-page.invariant.cut
-    (aims_written _ _ c.in_err-write.ensures.counted_err c.in_err-write.ensures.cut)
+    (aims_written _ _ _ _ _ c.in_err-write.ensures)
 
 pub returns-clause-cut : goal.returns-clause-cut
 returns-clause-cut g c = c.loop-page.invariant.cut

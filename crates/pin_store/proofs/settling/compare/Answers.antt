@@ -47,7 +47,7 @@ pub returns-in_err-right-clause-spends : goal.returns-in_err-right-clause-spends
 returns-in_err-right-clause-spends g c =
     compares_after c.args.charged c.charged.inside.secret _ _ c.compare.new.self c.charged.view_is
     (reads_then _ _ _ c.tries.ensures.store.only c.kept.ensures.store.only)
-    c.compare.ensures.writes c.compare.ensures.cut c.in_err-right.ensures.compared_err
+    c.compare.ensures.words c.compare.ensures.writes c.compare.ensures.cut c.in_err-right.ensures.compared_err
     c.in_err-right.ensures.matched_err
 
 pub returns-clause-kept : goal.returns-clause-kept
@@ -66,7 +66,7 @@ pub returns-clause-spends : goal.returns-clause-spends
 returns-clause-spends g c =
     compares_after c.args.charged c.charged.inside.secret _ _ c.compare.new.self c.charged.view_is
     (reads_then _ _ _ c.tries.ensures.store.only c.kept.ensures.store.only)
-    c.compare.ensures.writes c.compare.ensures.cut (inr c.in_ok-right.ensures.compared)
+    c.compare.ensures.words c.compare.ensures.writes c.compare.ensures.cut (inr c.in_ok-right.ensures.compared)
     (rises_if c.in_ok-right.right c.charged.inside.secret _ _ c.in_ok-right.ensures.matched)
 
 pub returns-clause-done : goal.returns-clause-done

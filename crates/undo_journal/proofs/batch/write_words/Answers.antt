@@ -1,4 +1,4 @@
-use Rattle.std.proofs.Common.{rules, ◌≡◌, ◌<◌, ℕ, List, length, drop, sym, ◌∙◌, ap, arith, inr, refl, subst}
+use Rattle.std.proofs.Common.{rules, ◌≡◌, ◌<◌, ℕ, List, length, drop, sym, ◌∙◌, ap, arith, refl, subst}
 use Rattle.nvm_board.specs.laws.Aims.{aims_then, aims_written}
 use Rattle.undo_journal.specs.declared.batch.Waiting.{Waiting}
 use Rattle.undo_journal.specs.Batches.{AreSets, runs_from}
@@ -55,7 +55,7 @@ returns-in_err-write-clause-writes g c =
     record {
       writes = omega (arith, wrote.counted_err, turn-runs ps some, kept.writes);
       more = omega (arith, wrote.counted_err, kept.more);
-      cut = aims_then _ _ _ kept.cut (aims_written _ _ wrote.counted_err wrote.cut);
+      cut = aims_then _ _ _ kept.cut (aims_written _ _ _ _ _ wrote);
       compares = wrote.compares ∙ kept.compares;
       matches = wrote.matches ∙ kept.matches;
     }
@@ -99,7 +99,7 @@ loop-rest-preserved g c =
         kept.writes,
       );
       more = omega (arith, wrote.counted, kept.more);
-      cut = aims_then _ _ _ kept.cut (aims_written _ _ (inr wrote.counted) wrote.cut);
+      cut = aims_then _ _ _ kept.cut (aims_written _ _ _ _ _ wrote);
       compares = wrote.compares ∙ kept.compares;
       matches = wrote.matches ∙ kept.matches;
     }

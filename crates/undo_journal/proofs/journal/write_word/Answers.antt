@@ -15,5 +15,5 @@ returns g c =
       torn = subst (λ (k : ℕ). Torn before k (c.args.word ∷ []) after) same told.torn;
       light = told.light;
       counted = told.counted;
-      writes = write_costs _ _ _ told.cut told.counted told.counted_err told.compares told.matches;
+      writes = write_costs _ _ _ _ _ told;
     }

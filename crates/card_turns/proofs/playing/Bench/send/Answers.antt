@@ -7,7 +7,7 @@ use Rattle.card_turns.specs.Plays.{BringsNoFault}
 use Rattle.card_turns.specs.Turns.{Wears}
 use Rattle.card_turns.proofs.BlockGuesses.{block-compares, block-counts, block-pays}
 use Rattle.card_turns.proofs.GuessesPaid.{paid-few}
-use Rattle.card_turns.proofs.PlayedTurns.{hears_nothing, plays_cut}
+use Rattle.card_turns.proofs.PlayedTurns.{hears_nothing, plays_cut, still-lit}
 use Rattle.card_turns.proofs.Wearing.{wears-shown}
 use Rattle.card_turns.proofs.playing.Bench.send.Goals as goal
 
@@ -40,7 +40,8 @@ returns-in-Ok g c =
     c.in-Ok.ensures.stage c.in-Ok.ensures.compares) good.faults c.in-Ok.ensures.writes in
     let more = c.in-Ok.ensures.advances.more in
     let cut = c.in-Ok.ensures.advances.cut.cut in
-    rw (← old) (search (rules, lit, guesses, wears, more, cut))
+    let still = still-lit c.in-On.powered.card.facts c.block.new.self.card.facts c.in-Ok.ensures.advances in
+    rw (← old) (search (rules, lit, guesses, wears, more, cut, still))
 
 pub invariant_of-self-in-Ok : goal.invariant_of-self-in-Ok
 invariant_of-self-in-Ok g c =

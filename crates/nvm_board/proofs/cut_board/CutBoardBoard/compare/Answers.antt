@@ -1,6 +1,6 @@
 use Rattle.std.proofs.Common.{refl, rules}
 use Rattle.nvm_board.specs.Ram.{ram_facts}
-use Rattle.nvm_board.proofs.WithArm.{answered_armed, lost_armed}
+use Rattle.nvm_board.proofs.WithArm.{answered_armed, lost_armed, aim_stays_armed}
 use Rattle.nvm_board.proofs.cut_board.CutBoardBoard.compare.Goals as goal
 
 pub returns-clause-compares : goal.returns-clause-compares
@@ -10,7 +10,8 @@ returns-clause-compares c = record {
       c.compare.ensures.light;
   worn = lost_armed c.args.self.now.arm (ram_facts c.args.self.now.ram) (ram_facts c.compare.new.self) _ refl
       c.compare.ensures.worn;
-  cut = search rules;
+  cut = aim_stays_armed c.args.self.now.arm (ram_facts c.args.self.now.ram) (ram_facts c.compare.new.self)
+      c.compare.ensures.writes c.compare.ensures.cut;
   words = search rules;
   writes = search rules;
   compared = search rules;

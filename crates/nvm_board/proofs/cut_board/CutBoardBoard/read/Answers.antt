@@ -1,6 +1,6 @@
 use Rattle.std.proofs.Common.{refl, rules}
 use Rattle.nvm_board.specs.Ram.{ram_facts}
-use Rattle.nvm_board.proofs.WithArm.{answered_armed, lost_armed}
+use Rattle.nvm_board.proofs.WithArm.{answered_armed, lost_armed, aim_stays_armed}
 use Rattle.nvm_board.proofs.cut_board.CutBoardBoard.read.Goals as goal
 
 pub returns-clause-tells : goal.returns-clause-tells
@@ -10,7 +10,8 @@ returns-clause-tells c = record {
       c.read.ensures.light;
   worn = lost_armed c.args.self.now.arm (ram_facts c.args.self.now.ram) (ram_facts c.read.new.self) _ refl
       c.read.ensures.worn;
-  cut = search rules;
+  cut = aim_stays_armed c.args.self.now.arm (ram_facts c.args.self.now.ram) (ram_facts c.read.new.self)
+      c.read.ensures.writes c.read.ensures.cut;
   words = search rules;
   writes = search rules;
   compares = search rules;

@@ -66,7 +66,7 @@ returns-clause-store g c =
     (always _ _ (run-gate _ _ c.self.view_is c.self.invariant works c.requires.idle at c.args.words.now c.requires.place
     _ c.write-answer.ensures.torn))
     (idle-within _ _ c.self.view_is c.self.invariant works c.requires.idle)
-    (write_costs _ _ _ answered.cut answered.counted answered.counted_err answered.compares answered.matches)
+    (write_costs _ _ _ _ _ answered)
 
 pub returns-clause-dark : goal.returns-clause-dark
 returns-clause-dark g c = on_dark _ _ c.noted.ensures.answer _ _ c.write-answer.ensures.light
