@@ -22,7 +22,7 @@ use Rattle.card_bench.specs.SweptRuns.{SparesCommand}
 use Rattle.card_bench.specs.Tallies.{Finding}
 use Rattle.card_turns.proofs.TurnsTold.{good-block, tells-then}
 use Rattle.card_bench.specs.Sweeps.{CutsStart, CutsStarts, SparesStart, EndsIn, EndsBehindStarts, CutsCommand}
-use Rattle.card_bench.specs.Sweeps.{GivenByRun, off_with, free_of}
+use Rattle.card_bench.specs.Sweeps.{GivenByRun, PlaysOn, off_with, free_of}
 
 -- no start is to be cut
 pub behind_none : (depth : ℕ) (board : Facts) (probe : List Turn) (given : Finding) → depth ≡ 0
@@ -101,6 +101,22 @@ spares-so (came.Free free) reply P X R dark lit spared then holds = absurd holds
 pending-of : (last : BenchState) (left : Facts) → left ≡ record (bench_facts last) { dark = true }
     → left.pending ≡ (bench_facts last).pending
 pending-of last left is = ap (λ (f : Facts). f.pending) is
+
+-- turns played on a board
+pub plays-on : (board left : Facts) (first last : BenchState) (turns : List Turn) (trace : List Item)
+    → board.faults ≡ 0 → board.due ≡ due_of board.pending → first ≡ off_with board
+    → left ≡ record (bench_facts last) { dark = true }
+    → (IsGood first → IsGood last × Runs first turns trace last) → HasCard board.words → PlaysOn board turns trace left
+plays-on board left first last turns trace fine due is left_is plays card =
+    let good : IsGood first =
+    subst (λ (b : BenchState). IsGood b) (sym is) (record { has_card = card; faults = fine; due = due; well = tt }) in
+    let played = plays good in
+    record {
+      last = last;
+      runs = subst (λ (b : BenchState). Runs b turns trace last) is played.1;
+      left_is = left_is;
+      has_card = subst HasCard (sym (ap (λ (f : Facts). f.words) left_is)) played.0.has_card;
+    }
 
 -- whether a board is left in which power was lost, with no cut to come
 module _ (board left : Facts) (first armed last : BenchState) (told : Came) (reply : List ℕ) (number mask : ℕ)

@@ -29,6 +29,13 @@ abbrev pub free_of : BenchState → FreeSpace
 free_of (off facts) = record { blocks = 0; entries = 0 }
 free_of (on powered) = card_space (card_found powered.card)
 
+-- Turns are played on a board, from power off on. What is left is the board, power off.
+pub record PlaysOn (board : Facts) (turns : List Turn) (trace : List Item) (left : Facts) : Type 0 where
+  pub last : BenchState
+  pub runs : Runs (off_with board) turns trace last
+  pub left_is : left ≡ board_left last
+  pub has_card : HasCard left.words
+
 -- The command is cut at this write, with this mask: the preparation runs on the board, the cut is set, and power is
 -- lost while the command runs. No cut is pending afterwards.
 pub record CutsCommand (number mask : ℕ) (board : Facts) (prepare : List Turn) (command : List ℕ)

@@ -18,6 +18,7 @@ pub use card_turns::{Bench, Item, Powered, Turn};
 pub use factory::{factory_board, factory_board_of};
 pub use fault::RunFault;
 pub use image::{NoCard, image_board};
+pub use masks::{mask_at, mask_count, words_to_try};
 pub use script::{run, run_on};
-pub use sweeping::sweep;
+pub use sweeping::{cut_at, play_copy, sweep, sweep_behind};
 pub use tally::{Seen, Sweep, Trace};

@@ -4,7 +4,7 @@ ghost use Rattle.card_bench.specs.Masks.{mask_count_of, words_tried};
 
 /// Returns the number of words to try, at least 1.
 /// `told` is the number that the board reports.
-pub(crate) fn words_to_try(told: u8) -> u8
+pub fn words_to_try(told: u8) -> u8
     requires { told ≤ 16 }
     ensures tried { result ≡ words_tried told }
     ensures some { 1 ≤ result }
@@ -15,7 +15,7 @@ pub(crate) fn words_to_try(told: u8) -> u8
 
 /// Returns the number of masks for a torn write of `words` words.
 /// One word has two masks: none new, and all new. More words also have a mask for each single new word.
-pub(crate) fn mask_count(words: u8) -> u8
+pub fn mask_count(words: u8) -> u8
     requires { words ≤ 16 }
     ensures { result ≡ mask_count_of words }
 {
@@ -23,7 +23,7 @@ pub(crate) fn mask_count(words: u8) -> u8
 }
 
 /// Returns mask `i`: none new, all new, then each single word.
-pub(crate) fn mask_at(words: u8, i: u8) -> u16
+pub fn mask_at(words: u8, i: u8) -> u16
     requires words { words ≤ 16 }
     requires place { i < mask_count_of words }
     ensures none { i ≡ 0 → result ≡ 0 }

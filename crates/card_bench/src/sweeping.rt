@@ -12,7 +12,7 @@ ghost use Rattle.card_bench.specs.declared.sweeping.Stop.TheVariants.{Memory};
 ghost use Rattle.card_bench.specs.PlanParts.{board_of, AreAll, AreAtWrite, IsGivenBy, Sweeps};
 ghost use Rattle.card_bench.specs.SweptRuns.{SparesCommand, IsOneLook, AreAllBehind, AreAllRuns};
 ghost use Rattle.card_bench.specs.Sweeps.{CutsCommand, CutsStart, SparesStart, EndsIn, EndsBehindStarts};
-ghost use Rattle.card_bench.specs.Sweeps.{GivenByRun, free_of};
+ghost use Rattle.card_bench.specs.Sweeps.{GivenByRun, PlaysOn, free_of};
 
 use crate::masks::{mask_at, mask_count, words_to_try};
 use crate::tally::{Sweep, Trace, blank_trace};
@@ -89,6 +89,76 @@ pub fn sweep(
         Ok(()) | Err(Stop::Full) => Ok(sweep),
         Err(Stop::Memory) => Err(AllocError),
     }
+}
+
+/// Returns the board after the command was cut at write `number`, power off.
+/// The cut uses a copy of the board. Returns `None` if the command makes fewer writes.
+///
+/// # Errors
+/// There is too little memory.
+pub fn cut_at(
+    alloc: Global,
+    board: &CutBoard,
+    prepare: &[Turn<'_>],
+    command: &[u8],
+    number: u32,
+    mask: u16,
+) -> Result<Option<CutBoard>, AllocError>
+    requires { 1 ≤ number }
+    ensures cut { IfOk result (λ cut. IfSome cut (λ left. HasCard (cut_facts board.now).words
+        → CutsCommand number mask (cut_facts board.now) prepare.now command.now (cut_facts left))) }
+    ensures spared { IfOk result (λ cut. IfNone cut (HasCard (cut_facts board.now).words
+        → SparesCommand number mask (cut_facts board.now) prepare.now command.now)) }
+{
+    let plan = Plan {
+        alloc,
+        board,
+        prepare,
+        command,
+        probe: &[],
+        depth: 0,
+    };
+    command_cut(plan, number, mask)
+}
+
+/// Tries every run that may follow on a board.
+/// Up to `depth` power-ons are cut, until one makes no write. Each run ends with an uncut power-on and the probe.
+///
+/// # Errors
+/// There is too little memory.
+pub fn sweep_behind(
+    alloc: Global,
+    board: &CutBoard,
+    probe: &[Turn<'_>],
+    depth: u8,
+) -> Result<Sweep, AllocError>
+    ensures sum { IfOk result (λ s. sum_by times_seen s.seen.items ≡ s.runs) }
+    ensures complete { IfOk result (λ s. HasCard (cut_facts board.now).words → s.runs < 2 ^ 32 - 1
+        → CountsRuns (AreAllBehind depth probe.now (cut_facts board.now)) [] s.seen.items) }
+{
+    let mut sweep = Sweep::new(alloc);
+    match cut_starts(alloc, board, probe, depth, &mut sweep) {
+        Ok(()) | Err(Stop::Full) => Ok(sweep),
+        Err(Stop::Memory) => Err(AllocError),
+    }
+}
+
+/// Plays turns on a copy of a board, from power off on.
+/// Returns the result of each turn, and the copy, power off.
+///
+/// # Errors
+/// There is too little memory.
+pub fn play_copy(
+    alloc: Global,
+    board: &CutBoard,
+    turns: &[Turn<'_>],
+) -> Result<(Trace, CutBoard), AllocError>
+    ensures { IfOk result (λ played. HasCard (cut_facts board.now).words
+        → PlaysOn (cut_facts board.now) turns.now played.0.items (cut_facts played.1)) }
+{
+    let mut bench = Bench::new(board.copy(alloc)?);
+    let trace = played(alloc, &mut bench, turns)?;
+    Ok((trace, bench.into_board()))
 }
 
 /// Cuts the command at each of its writes, and continues from there.
