@@ -1,1 +1,4 @@
-mod Counting
+pub mod Turned
+pub mod Put
+pub mod Reported
+pub mod ReadSo

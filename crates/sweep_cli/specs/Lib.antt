@@ -1,1 +1,6 @@
-pub mod Counted
+pub mod Turning
+pub mod Framing
+pub mod Asking
+pub mod Printing
+pub mod Reporting
+pub mod ReportParts

@@ -1,0 +1,10 @@
+use Rattle.std.proofs.Common.{◌+◌}
+use Rattle.command_base.specs.Finding.{HasCard}
+use Rattle.nvm_board.specs.Cut.{cut_facts}
+use Rattle.sweep_cli.specs.ReportParts.{AddsText, sweeping_of}
+use Rattle.sweep_cli.specs.Reporting.{TextsInTurn, IsWrite}
+use Rattle.sweep_cli.proofs.report.push_writes.Given as goal
+
+abbrev pub invariant-loop-writes : goal.invariant-loop-writes
+invariant-loop-writes g l = HasCard (cut_facts l.plan.board.now).words
+    → AddsText (TextsInTurn (λ n. IsWrite (sweeping_of l.plan) (n + 1)) l.writes) l.fn.text.items l.text.items

@@ -1,0 +1,30 @@
+-- What the parts of the program append to the report. No public clause names these.
+use Rattle.std.specs.Prelude.{◌≡◌, ℕ, Bool, true, false, List, ◌++◌}
+use Rattle.card_bench.specs.Masks.{mask_of}
+use Rattle.card_bench.specs.SweptRuns.{SparesCommand}
+use Rattle.nvm_board.specs.Cut.{cut_facts}
+use Rattle.sweep_cli.specs.declared.report.Plan.{Plan}
+use Rattle.sweep_cli.specs.Reporting.{Sweeping, IsCutOrNone}
+
+-- the sweep of a plan
+abbrev pub sweeping_of : Plan → Sweeping
+sweeping_of plan = record {
+  board = cut_facts plan.board.now;
+  prepare = plan.prepare.now;
+  command = plan.command.now;
+  probe = plan.probe.now;
+  depth = plan.depth;
+  part = plan.part;
+}
+
+-- Text was appended, for which this holds.
+pub record AddsText (Is : List ℕ → Type 0) (old new : List ℕ) : Type 0 where
+  pub more : List ℕ
+  pub holds : Is more
+  pub all : new ≡ old ++ more
+
+-- A mask after the first: its cut was appended if it happened, and nothing otherwise.
+abbrev pub AddsMaskText : Sweeping → ℕ → ℕ → ℕ → Bool → List ℕ → List ℕ → Type 0
+AddsMaskText sweeping write words i true old new = AddsText (IsCutOrNone sweeping write words i) old new
+AddsMaskText sweeping write words i false old new =
+    SparesCommand write (mask_of words i) sweeping.board sweeping.prepare sweeping.command × (new ≡ old)

@@ -1,0 +1,160 @@
+-- The report of a sweep, and its parts.
+use Rattle.std.specs.Prelude.{◌≡◌, ◌⊎◌, ◌≤◌, ◌<◌, ◌+◌, ◌-◌, ◌^◌, ◌%◌, ℕ, zero, suc, Bool, true, false, List, [], ◌∷◌}
+use Rattle.std.specs.Prelude.{◌++◌, codes, None, Option}
+use Rattle.std.specs.Io.KnownBytes.{Appends}
+use Rattle.nvm_board.specs.Facts.{Facts}
+use Rattle.nvm_board.specs.declared.cut_board.CutBoard.{CutBoard}
+use Rattle.nvm_board.specs.Cut.{cut_facts, last_torn}
+use Rattle.card_turns.specs.declared.playing.Turn.{Turn}
+use Rattle.card_turns.specs.declared.playing.Item.{Item}
+use Rattle.card_bench.specs.declared.tally.Seen.{Seen}
+use Rattle.card_bench.specs.Masks.{mask_of, mask_count_of, words_tried}
+use Rattle.card_bench.specs.Sweeps.{CutsCommand, PlaysOn}
+use Rattle.card_bench.specs.SweptRuns.{AreAllBehind, SparesCommand}
+use Rattle.card_bench.specs.Tallies.{CountsRuns, IsTally}
+use Rattle.sweep_cli.specs.declared.fault.SweepFault.{SweepFault}
+use Rattle.sweep_cli.specs.declared.fault.SweepFault.TheVariants.{BadLine, Read, Write, Memory}
+use Rattle.sweep_cli.specs.declared.parts.Part.{Part}
+use Rattle.sweep_cli.specs.declared.script.SweepScript.{SweepScript}
+use Rattle.sweep_cli.specs.declared.steps.Step.TheVariants.{Block}
+use Rattle.sweep_cli.specs.Asking.{IsRead, asked_of}
+use Rattle.sweep_cli.specs.Printing.{cut_text, items_text, number_text, results_text}
+use Rattle.sweep_cli.specs.Turning.{AreTurns}
+
+-- the exit status that reports a fault
+abbrev pub exit_status_of : SweepFault → ℕ
+exit_status_of (BadLine number error) = 2
+exit_status_of Read = 3
+exit_status_of Write = 4
+exit_status_of Memory = 5
+
+-- A cut is of a part. The cuts are dealt out in turn, by write and mask.
+abbrev pub IsOfPart : Part → ℕ → ℕ → Type 0
+IsOfPart part write i = (write + i) % part.of ≡ part.index
+
+-- What a sweep tries: on copies of a board, a command after a preparation, power-ons that are cut, and a probe. It
+-- tries one part of the cuts.
+pub record Sweeping : Type 0 where
+  pub board : Facts
+  pub prepare : List Turn
+  pub command : List ℕ
+  pub probe : List Turn
+  pub depth : ℕ
+  pub part : Part
+
+-- The results of all runs after a cut that left this board, each with the number of its runs. At the end of that count
+-- the sweep stops.
+pub record AreResults (depth : ℕ) (probe : List Turn) (board : Facts) (text : List ℕ) : Type 0 where
+  pub runs : ℕ
+  pub seen : List Seen
+  pub tally : IsTally runs seen
+  pub all : runs < 2 ^ 32 - 1 → CountsRuns (AreAllBehind depth probe board) [] seen
+  pub text_is : text ≡ results_text seen
+
+-- The number of runs if the next power-on is cut too, without a probe: two for each device write of that power-on, or
+-- one if it makes none.
+pub record AreStarts (board : Facts) (text : List ℕ) : Type 0 where
+  pub runs : ℕ
+  pub seen : List Seen
+  pub tally : IsTally runs seen
+  pub all : runs < 2 ^ 32 - 1 → CountsRuns (AreAllBehind 1 [] board) [] seen
+  pub text_is : text ≡ codes "starts" ++ number_text runs ++ 10 ∷ []
+
+-- the line before the results of the first mask; the other masks have none
+abbrev pub StartsAt : ℕ → Facts → List ℕ → Type 0
+StartsAt zero board text = AreStarts board text
+StartsAt (suc i) board text = text ≡ []
+
+-- a cut at this device write of `words` words, with mask number i, counted from 0
+pub record IsCutText (sweeping : Sweeping) (write words i : ℕ) (text : List ℕ) : Type 0 where
+  pub left : Facts
+  pub cut : CutsCommand write (mask_of words i) sweeping.board sweeping.prepare sweeping.command left
+  pub starts : List ℕ
+  pub results : List ℕ
+  pub are_starts : StartsAt i left starts
+  pub are_results : AreResults sweeping.depth sweeping.probe left results
+  pub text_is : text ≡ starts ++ cut_text write i (mask_of words i) words ++ results
+
+-- A cut is printed if it is of the part.
+pub record IsCutOrNone (sweeping : Sweeping) (write words i : ℕ) (text : List ℕ) : Type 0 where
+  pub own : IsOfPart sweeping.part write i → IsCutText sweeping write words i text
+  pub other : (IsOfPart sweeping.part write i → ⊥) → text ≡ []
+
+-- the concatenation of `n` texts, in order
+unfoldable pub TextsInTurn : (ℕ → List ℕ → Type 0) → ℕ → List ℕ → Type 0
+TextsInTurn Part zero text = text ≡ []
+TextsInTurn Part (suc n) text =
+    (before last : List ℕ) × TextsInTurn Part n before × Part n last × (text ≡ before ++ last)
+
+-- A device write has the number of words that the board reports after the cut with the first mask.
+pub record HasWords (sweeping : Sweeping) (write words : ℕ) : Type 0 where
+  pub left : CutBoard
+  pub cut : CutsCommand write 0 sweeping.board sweeping.prepare sweeping.command (cut_facts left)
+  pub told : words ≡ words_tried (last_torn left)
+
+-- each cut of a device write, with each mask for its number of words
+pub record IsWrite (sweeping : Sweeping) (write : ℕ) (text : List ℕ) : Type 0 where
+  pub words : ℕ
+  pub has_words : HasWords sweeping write words
+  pub each : TextsInTurn (IsCutOrNone sweeping write words) (mask_count_of words) text
+
+-- The command doesn't make this write: a cut with one of the masks doesn't happen, and no further mask is tried.
+pub record IsLastWrite (sweeping : Sweeping) (write : ℕ) (text : List ℕ) : Type 0 where
+  pub words : ℕ
+  pub masks : ℕ
+  pub few : masks < mask_count_of words
+  pub has_words : 1 ≤ masks → HasWords sweeping write words
+  pub each : TextsInTurn (IsCutOrNone sweeping write words) masks text
+  pub spared : SparesCommand write (mask_of words masks) sweeping.board sweeping.prepare sweeping.command
+
+-- the cuts of a write, made by the command or not
+abbrev pub IsWriteIf : Sweeping → ℕ → Bool → List ℕ → Type 0
+IsWriteIf sweeping write true text = IsWrite sweeping write text
+IsWriteIf sweeping write false text = IsLastWrite sweeping write text
+
+-- each device write, up to the first that the command doesn't make, and the number of them
+pub record AreWrites (sweeping : Sweeping) (text : List ℕ) : Type 0 where
+  pub writes : ℕ
+  pub each : List ℕ
+  pub last : List ℕ
+  pub are_writes : TextsInTurn (λ n. IsWrite sweeping (n + 1)) writes each
+  pub done : IsLastWrite sweeping (writes + 1) last ⊎ ((writes ≡ 2 ^ 32 - 1) × (last ≡ []))
+  pub text_is : text ≡ each ++ last ++ codes "writes" ++ number_text writes ++ 10 ∷ []
+
+-- the items of these turns, and the result of an uncut power-on and the probe after them
+pub record IsFound (sweeping : Sweeping) (turns : List Turn) (text : List ℕ) : Type 0 where
+  pub trace : List Item
+  pub left : Facts
+  pub results : List ℕ
+  pub played : PlaysOn sweeping.board turns trace left
+  pub are_results : AreResults 0 sweeping.probe left results
+  pub text_is : text ≡ items_text trace ++ results
+
+-- The report of a sweep on a board: what is found without the command, what is found after it, and each cut of it.
+pub record IsReport (board : Facts) (script : SweepScript) (part : Part) (text : List ℕ) : Type 0 where
+  pub sweeping : Sweeping
+  pub board_is : sweeping.board ≡ board
+  pub uncut : board.pending ≡ None
+  pub prepare : AreTurns script.prepare.items sweeping.prepare
+  pub command : sweeping.command ≡ script.command
+  pub probe : AreTurns script.probe.items sweeping.probe
+  pub depth : sweeping.depth ≡ script.depth
+  pub part_is : sweeping.part ≡ part
+  pub whole : List Turn
+  pub before : List ℕ
+  pub after : List ℕ
+  pub cuts : List ℕ
+  pub is_before : IsFound sweeping sweeping.prepare before
+  pub is_after : IsFound sweeping whole after
+  pub is_whole : AreTurns (script.prepare.items ++ Block script.command ∷ []) whole
+  pub are_cuts : AreWrites sweeping cuts
+  pub text_is : text ≡ (codes "before" ++ before) ++ (codes "after" ++ after) ++ cuts
+
+-- A script was read to its end, and the report of a sweep of it was written.
+pub record WritesReport (board : Facts) (script left : Option (List ℕ)) (part : Part)
+    (old new : Option (List ℕ)) : Type 0 where
+  pub asked : SweepScript
+  pub read : IsRead script left (asked_of asked)
+  pub text : List ℕ
+  pub is_report : IsReport board asked part text
+  pub written : Appends old new text

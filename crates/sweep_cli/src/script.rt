@@ -1,0 +1,244 @@
+//! A sweep script: the preparation, the command that is cut, and the probe.
+ghost use Rattle.std.specs.Prelude.{◌≡◌, ◌≤◌, ◌++◌, ◌∷◌, [], length, None, Some, true, IfOk, IfSome, IfNone};
+ghost use Rattle.std.specs.Prelude.{MatchResult, OnOk};
+ghost use Rattle.bench_lines.specs.OrderViews.{order_with};
+ghost use Rattle.bench_lines.specs.Orders.{IsOrderSized};
+ghost use Rattle.sweep_cli.specs.Asking.{IsRead, adds, asked_of, begins_command, begins_probe, is_whole, sends};
+ghost use Rattle.sweep_cli.specs.Asking.{sets_depth, take_line, takes, unasked};
+
+use crate::fault::{LineError, SweepFault};
+use crate::frames::{push_command, push_exchange};
+use crate::steps::{OwnBlock, Step, push_block};
+use bench_lines::{GivenBytes, LineBytes, LineEnd, LineFault, Order, SCRIPT_LIMIT, read_line};
+use std::alloc::{AllocError, Global};
+use std::io::BufRead;
+
+/// A section of the script.
+#[derive(Clone, Copy)]
+pub enum Section {
+    /// The lines before the mark of the command. They prepare the card.
+    Prepare,
+    /// The lines after the mark of the command; and whether they had the command.
+    Command(bool),
+    /// The lines after the mark of the probe. They look at the card.
+    Probe,
+}
+
+/// What a sweep script asks for.
+#[derive(Drop)]
+pub struct SweepScript {
+    /// The section of the next line.
+    section: Section,
+    /// The steps before the last block of the command.
+    pub prepare: Vec<Step>,
+    /// The last block of the command. With it the card carries the command out.
+    pub command: OwnBlock,
+    /// The steps after the uncut power-on.
+    pub probe: Vec<Step>,
+    /// The number of power-ons to cut after each cut of the command.
+    pub depth: u8,
+}
+
+impl SweepScript {
+    /// Returns the script before its first line.
+    fn new(alloc: Global) -> Result<SweepScript, AllocError>
+        ensures { IfOk result (λ script. asked_of script ≡ unasked) }
+    {
+        Ok(SweepScript {
+            section: Section::Prepare,
+            prepare: Vec::new(alloc),
+            command: OwnBlock::new(alloc, &[])?,
+            probe: Vec::new(alloc),
+            depth: 1,
+        })
+    }
+
+    /// Takes a line, or returns its fault.
+    #[tactic(auto, unfolding(crate::specs::Asking::take_line))]
+    fn take_line(
+        &mut self,
+        alloc: Global,
+        line: &[u8],
+        given: &mut GivenBytes,
+    ) -> Result<Result<(), LineError>, AllocError>
+        ensures { IfOk result (λ taken. MatchResult taken
+            (λ _. take_line (asked_of self.old) line.now ≡ Some (asked_of self.new))
+            (λ _. take_line (asked_of self.old) line.now ≡ None)) }
+    {
+        if line == b"# command".as_slice() {
+            return Ok(self.begin_command());
+        }
+        if line == b"# probe".as_slice() {
+            return Ok(self.begin_probe());
+        }
+        if let Some(digits) = line.strip_prefix(b"# depth ") {
+            return Ok(self.set_depth(digits));
+        }
+        let Some(order) = Order::parse(line, given) else {
+            return Ok(Err(LineError::NoLine));
+        };
+        self.take_order(alloc, order, given.as_slice())
+    }
+
+    /// Begins the section of the command.
+    fn begin_command(&mut self) -> Result<(), LineError>
+        ensures { MatchResult result
+            (λ _. begins_command (asked_of self.old) self.old.section ≡ Some (asked_of self.new))
+            (λ _. begins_command (asked_of self.old) self.old.section ≡ None) }
+    {
+        match self.section {
+            Section::Prepare => {
+                self.section = Section::Command(false);
+                Ok(())
+            }
+            Section::Command(_) | Section::Probe => Err(LineError::WrongMark),
+        }
+    }
+
+    /// Begins the section of the probe.
+    fn begin_probe(&mut self) -> Result<(), LineError>
+        ensures { MatchResult result
+            (λ _. begins_probe (asked_of self.old) self.old.section ≡ Some (asked_of self.new))
+            (λ _. begins_probe (asked_of self.old) self.old.section ≡ None) }
+    {
+        match self.section {
+            Section::Command(true) => {
+                self.section = Section::Probe;
+                Ok(())
+            }
+            Section::Command(false) => Err(LineError::NoCommand),
+            Section::Prepare | Section::Probe => Err(LineError::WrongMark),
+        }
+    }
+
+    /// Sets the number of power-ons to cut.
+    fn set_depth(&mut self, digits: &[u8]) -> Result<(), LineError>
+        ensures { MatchResult result
+            (λ _. sets_depth (asked_of self.old) digits.now ≡ Some (asked_of self.new))
+            (λ _. sets_depth (asked_of self.old) digits.now ≡ None) }
+    {
+        match digits {
+            [digit] if b'0' <= *digit && *digit <= b'3' => {
+                self.depth = *digit - b'0';
+                Ok(())
+            }
+            _ => Err(LineError::NoDepth),
+        }
+    }
+
+    /// Takes an order; `given` has the bytes of its line.
+    fn take_order(
+        &mut self,
+        alloc: Global,
+        order: Order,
+        given: &[u8],
+    ) -> Result<Result<(), LineError>, AllocError>
+        requires { IsOrderSized (order_with order given.now) }
+        ensures { IfOk result (λ taken. MatchResult taken
+            (λ _. takes (asked_of self.old) (Some (order_with order given.now)) ≡ Some (asked_of self.new))
+            (λ _. takes (asked_of self.old) (Some (order_with order given.now)) ≡ None)) }
+    {
+        match order {
+            Order::Nothing | Order::Free => Ok(Ok(())),
+            Order::Cut { .. } | Order::Lose(_) | Order::Garble(_) => Ok(Err(LineError::SetsFault)),
+            Order::On => self.add(Step::On),
+            Order::Off => self.add(Step::Off),
+            Order::Block => {
+                let block = OwnBlock::new(alloc, given)?;
+                self.add(Step::Block(block))
+            }
+            Order::Apdu => self.send(alloc, given),
+        }
+    }
+
+    /// Appends a step to the preparation or the probe.
+    fn add(&mut self, step: Step) -> Result<Result<(), LineError>, AllocError>
+        ensures { IfOk result (λ taken. MatchResult taken
+            (λ _. adds (asked_of self.old) self.old.section (step ∷ []) ≡ Some (asked_of self.new))
+            (λ _. adds (asked_of self.old) self.old.section (step ∷ []) ≡ None)) }
+    {
+        match self.section {
+            Section::Prepare => self.prepare.push(step)?,
+            Section::Probe => self.probe.push(step)?,
+            Section::Command(_) => return Ok(Err(LineError::NoCommand)),
+        }
+        Ok(Ok(()))
+    }
+
+    /// Takes a command. Between the marks it is the one that is cut.
+    fn send(&mut self, alloc: Global, command: &[u8]) -> Result<Result<(), LineError>, AllocError>
+        requires { IsOrderSized (order_with Order.Apdu command.now) }
+        ensures { IfOk result (λ taken. MatchResult taken
+            (λ _. sends (asked_of self.old) self.old.section command.now ≡ Some (asked_of self.new))
+            (λ _. sends (asked_of self.old) self.old.section command.now ≡ None)) }
+    {
+        match self.section {
+            Section::Prepare => push_exchange(alloc, command, &mut self.prepare)?,
+            Section::Probe => push_exchange(alloc, command, &mut self.probe)?,
+            Section::Command(false) => {
+                self.command = push_command(alloc, command, &mut self.prepare)?;
+                self.section = Section::Command(true);
+            }
+            Section::Command(true) => return Ok(Err(LineError::NoCommand)),
+        }
+        Ok(Ok(()))
+    }
+
+    /// Returns what is missing at the end of the script.
+    fn missing(&self) -> Option<LineError>
+        ensures { IfNone result (is_whole (asked_of self.now) self.now.section self.now.probe.items ≡ true) }
+    {
+        match self.section {
+            Section::Prepare | Section::Command(_) => Some(LineError::NoCommand),
+            Section::Probe => {
+                if self.probe.is_empty() {
+                    Some(LineError::NoProbe)
+                } else {
+                    None
+                }
+            }
+        }
+    }
+}
+
+/// Reads a sweep script to its end.
+///
+/// # Errors
+/// `BadLine` at the first bad line, or at the last line if something is missing; `Read` if the reader fails, or the
+/// script has more than 16,777,216 bytes; `Memory`.
+pub fn read_script<R: BufRead>(alloc: Global, reader: &mut R) -> Result<SweepScript, SweepFault>
+    ensures { IfOk result (λ script. IsRead (R.remaining reader.old) (R.remaining reader.new) (asked_of script)) }
+{
+    let mut script = SweepScript::new(alloc)?;
+    let mut line = LineBytes::new();
+    let mut given = GivenBytes::new();
+    let mut taken = 0;
+    // A script has at most one line a byte, and one more after the last line feed.
+    for number in 1..=SCRIPT_LIMIT + 1 {
+        let end = match read_line(reader, &mut taken, &mut line) {
+            Ok(end) => end,
+            Err(LineFault::Read) => return Err(SweepFault::Read),
+            Err(LineFault::TooMuch) => return Err(SweepFault::Read),
+            Err(LineFault::TooLong) => return Err(SweepFault::BadLine(number, LineError::NoLine)),
+        };
+        if let Err(error) = script.take_line(alloc, &line, &mut given)? {
+            return Err(SweepFault::BadLine(number, error));
+        }
+        match end {
+            LineEnd::LineFeed => {}
+            LineEnd::EndOfScript => return finished(script, number),
+        }
+    }
+    unreachable!()
+}
+
+/// Returns the script, if nothing is missing at its end.
+fn finished(script: SweepScript, number: u32) -> Result<SweepScript, SweepFault>
+    ensures { IfOk result (λ whole. (asked_of whole ≡ asked_of script)
+        × (is_whole (asked_of whole) whole.section whole.probe.items ≡ true)) }
+{
+    match script.missing() {
+        Some(error) => Err(SweepFault::BadLine(number, error)),
+        None => Ok(script),
+    }
+}
