@@ -1,80 +1,132 @@
-"""What the runs of a sweep gave: the table and the picture are made of it."""
+"""What the parts of a sweep found, joined. The table, the picture and the reports show it."""
+from __future__ import annotations
+
+from collections import Counter
 from dataclasses import dataclass, field
+from itertools import islice
 
-from .command import Command
+from .engine import Refused
+from card_words import read_table
+from explaining.commands import OF_PINS
 
-BEFORE, AFTER, UNCHANGED, OTHER = (
-    "as before the command",
-    "as after the command",
-    "as before the command, and as after it",
-    "neither as before nor as after",
-)
+BEFORE, AFTER, UNCHANGED = "as before the command", "as after the command", "as before the command, and as after it"
+TAKEN, OTHER = "with a try taken", "neither as before nor as after"
+COMMAND, PROBE = "# command", "# probe"
+# a command of more bytes goes in two blocks
+FIELD_LIMIT = 254
+# what a run found: the free space, and what each line of the probe printed
+Found = tuple[str, ...]
+
+
+def orders_of(lines: list[str]) -> list[str]:
+    """The lines of a script that are turns of a sweep."""
+    return [it for it in (line.removesuffix("\r") for line in lines) if it and it[0] != "#" and it != "free"]
+
+
+def answer_of(items: list[str]) -> str:
+    """What a line prints, from the items of its turns: a word as "mute", the bytes of its I-blocks, or its block."""
+    words = [it for it in items if it.islower()]
+    inside = [it[6:-2] for it in items if it[2] in "0246" and it[4:6] != "00"]
+    return words[-1] if words else "< " + ("".join(inside) if inside and len(items) > 1 else items[0])
+
+
+def found_of(result: list[str], probe: list[str]) -> Found:
+    """What a run found, from its line of the report. docs/SWEEP.md says how many turns an order is."""
+    items, found = iter(result[3:]), [f"free {result[1]} {result[2]}"]
+    for line in probe:
+        size = 4 + (len(line) > len("apdu ") + 2 * FIELD_LIMIT) if line.startswith("apdu ") else 1
+        found.append(answer_of(list(islice(items, size))))
+    return tuple(found)
+
+
+def cuts_of(lines: list[str]) -> dict[tuple, list[list[str]]]:
+    """The results before and after the command, and of each cut. The key of a cut is its write, the number of its mask,
+    the mask, the words of the write, and the runs of a power-on."""
+    found, starts = {}, 0
+    for word, *rest in map(str.split, lines):
+        if word == "result":
+            found[key].append(rest)
+        elif word == "starts":
+            starts = int(rest[0])
+        elif word != "writes":
+            key = (*map(int, rest), starts) if word == "cut" else (word, *rest[-1:])
+            found[key] = []
+    return found
 
 
 @dataclass
-class Outcome:
-    """What is found of a card, in how many runs, and the cuts of the first of them."""
+class Write:
+    """A device write: its words, the number of pairs that count before it, the masks that tear it, and its kind."""
 
-    found: tuple
-    first: list
-    runs: int = 0
+    words: int
+    pairs: int
+    masks: list[int] = field(default_factory=list)
+    kind: str = "alone"
 
 
-@dataclass
 class Sweep:
-    """A command, its device writes, and what was found behind each cut of them."""
+    """A command, its device writes, and what each cut of them left."""
 
-    command: Command
-    # what the command is answered without a cut, and what is found of the card before it and after it
-    answer: str
-    before: tuple
-    after: tuple
-    depth: int
-    writes: list
-    # the lines that are compared: the free space, and those of the probe that print
-    looks: list
-    # in the order in which they first came
-    outcomes: list = field(default_factory=list)
-    # of each write and mask, how many runs gave each outcome, by its place
-    cells: dict = field(default_factory=dict)
+    def __init__(self, parts: list[dict]):
+        lines = [line.removesuffix("\r") for line in parts[0]["script"].split("\n")]
+        at = lines.index(PROBE)
+        self.depth, self.digits = parts[0]["depth"], orders_of(lines[:at])[-1].removeprefix("apdu ").upper()
+        self.name = read_table()["command"].get(self.digits[:4], "the command")
+        self.looks = ["free", *orders_of(lines[at:])]
+        cuts = {key: results for part in parts for key, results in cuts_of(part["lines"]).items()}
+        ends = {key[0]: (key[-1], cuts.pop(key)[0]) for key in list(cuts) if key[0] in ("before", "after")}
+        self.before, self.after = (found_of(ends[it][1], self.looks[1:]) for it in ("before", "after"))
+        self.answer = answer_of(["00E000E0", ends["after"][0]]).removeprefix("< ")
+        self.writes: list[Write] = []
+        # the runs of each outcome, in order of appearance, its first cut, and the outcomes of each cut
+        self.outcomes: Counter[Found] = Counter()
+        self.first: dict[Found, tuple[int, int]] = {}
+        self.cells: dict[tuple[int, int], dict[Found, int]] = {}
+        for (write, number, mask, words, starts), results in sorted(cuts.items()):
+            if number == 0:
+                self.writes.append(Write(words, max(starts // 2 - 1, 0)))
+            self.writes[-1].masks.append(mask)
+            self.cells[write, mask] = {found_of(it, self.looks[1:]): int(it[0]) for it in results}
+            self.outcomes.update(self.cells[write, mask])
+            for found in self.cells[write, mask]:
+                self.first.setdefault(found, (write, mask))
+        name_kinds(self.writes)
+        self.runs = sum(self.outcomes.values())
 
-    @property
-    def runs(self):
-        return sum(it.runs for it in self.outcomes)
+    def is_charged(self) -> bool:
+        """Whether a card with a try less is a stage of the command: the PIN was right."""
+        return self.digits[:4] in OF_PINS and self.answer == "9000"
 
-    def place_of(self, found, first):
-        """The place of the outcome with what is found; a new one is first seen behind these cuts."""
-        for place, outcome in enumerate(self.outcomes):
-            if outcome.found == found:
-                return place
-        self.outcomes.append(Outcome(found, first))
-        return len(self.outcomes) - 1
+    def allowed(self) -> int:
+        """The number of outcomes that the stages of the command allow."""
+        return len({self.before, self.after}) + self.is_charged()
 
-    def add(self, cut, tally):
-        """Adds what was found behind a cut of the command: of each finding, the number of runs and the first one's cuts."""
-        cell = self.cells[cut] = {}
-        for found, (runs, first) in tally.items():
-            place = self.place_of(found, first)
-            self.outcomes[place].runs += runs
-            cell[place] = runs
+    def meaning(self, found: Found) -> str:
+        """The card that an outcome is."""
+        others = set(self.outcomes) - {self.before, self.after}
+        other = TAKEN if self.is_charged() and len(others) == 1 else OTHER
+        same = UNCHANGED if self.before == self.after else BEFORE
+        return {self.after: AFTER, self.before: same}.get(found, other)
 
-    def meaning(self, place):
-        """Which card an outcome is."""
-        found = self.outcomes[place].found
-        if self.before == self.after == found:
-            return UNCHANGED
-        return {self.before: BEFORE, self.after: AFTER}.get(found, OTHER)
+    def commits(self) -> list[int]:
+        """The writes at which the outcome turns: with no new word it differs from that with all."""
+        ends = [[set(self.cells[number, mask]) for mask in it.masks[:2]] for number, it in enumerate(self.writes, 1)]
+        return [number for number, (old, new) in enumerate(ends, 1) if old != new]
 
-    def commits(self):
-        """The writes at which the outcome turns: with no word of it new it is another than with all."""
-        turns = []
-        for number, write in enumerate(self.writes, 1):
-            old, new = (set(self.cells[number, mask]) for mask in write.masks()[:2])
-            if old != new:
-                turns.append(number)
-        return turns
+    def check(self) -> Sweep:
+        """The sweep, if there was something to cut."""
+        if self.answer in ("mute", "dark"):
+            raise Refused("power is off where the command begins")
+        if not self.writes:
+            raise Refused(f"the command is answered {self.answer} and makes no device write: there is nothing to cut")
+        return self
 
-    def most(self):
-        """How many outcomes the stages allow: the card before the command, the one after it, and for a secret that is shown
-        rightly the one with a try less."""
-        return len({self.before, self.after}) + self.command.has_try_taken(self.answer)
+
+def name_kinds(writes: list[Write]) -> None:
+    """Names writes by what they write. The gate changes the number of pairs that count; pairs come before the gate that
+    raises it; words are new while pairs count; any other write is one word alone, or fills a free block."""
+    pairs = [*(it.pairs for it in writes), 0]
+    rises = [after - before for before, after in zip(pairs, pairs[1:])] + [0]
+    for rise, following, it in zip(rises, rises[1:], writes):
+        lone = "alone" if it.words == 1 else "fill"
+        it.kind = "gate" if rise else "pairs" if following > 0 else "words" if it.pairs else lone

@@ -1,101 +1,87 @@
-"""The table of a sweep, as text."""
+"""The outcomes of a sweep as text, and as JSON."""
+from __future__ import annotations
+
+import json
+from collections.abc import Iterable, Sequence
 from itertools import groupby
+from os.path import commonprefix
 
-# how many characters of a line of the probe are shown, and how many numbers of writes
-SHOWN = 30
-MOST_NUMBERS = 12
+from .outcomes import Sweep
 
-
-def letter(place):
-    """The name of an outcome."""
-    return chr(ord("A") + place) if place < 26 else f"A{place}"
+# how many characters of a probe line, and how many numbers of writes, are shown
+SHOWN, MOST_NUMBERS = 30, 12
 
 
-def counted(number, thing):
+def letters(sweep: Sweep) -> list[str]:
+    """The names of the outcomes, in order of appearance."""
+    return [chr(ord("A") + place) if place < 26 else f"A{place}" for place in range(len(sweep.outcomes))]
+
+
+def counted(number: int, thing: str) -> str:
     """A number of things, with the plural's s."""
     return f"{number:,} {thing}{'s' * (number != 1)}"
 
 
-def cuts_told(cuts):
-    """The cuts of a run: write and mask of the command's, then of each start's."""
-    return ", then start ".join(f"{number} {mask:04X}" for number, mask in cuts)
+def ranges(numbers: Iterable[int]) -> str:
+    """Numbers in order, successive ones as a range; of many the first and the last."""
+    runs = [[it for _, it in run] for _, run in groupby(enumerate(numbers), lambda it: it[1] - it[0])]
+    told = [f"{it[0]}" if len(it) == 1 else f"{it[0]}-{it[-1]}" for it in runs]
+    return ", ".join([*told[: MOST_NUMBERS - 2], "..", told[-1]] if len(told) > MOST_NUMBERS else told)
 
 
-def numbers_told(numbers):
-    """Numbers in order, those that follow one another as a range; of many the first ones and the last."""
-    runs = []
-    for _, run in groupby(enumerate(numbers), lambda it: it[1] - it[0]):
-        run = [number for _, number in run]
-        runs.append(f"{run[0]}" if len(run) == 1 else f"{run[0]}-{run[-1]}")
-    if len(runs) > MOST_NUMBERS:
-        runs = [*runs[: MOST_NUMBERS - 2], "..", runs[-1]]
-    return ", ".join(runs)
-
-
-def rows_told(rows):
+def aligned(rows: Sequence[Sequence[str]]) -> str:
     """Rows of cells, each column as wide as it needs."""
     widths = [max(map(len, column)) for column in zip(*rows)]
-    return ["  ".join(cell.ljust(width) for cell, width in zip(row, widths)).rstrip() for row in rows]
+    return "\n".join("  ".join(cell.ljust(width) for cell, width in zip(row, widths)).rstrip() for row in rows)
 
 
-def writes_told(sweep):
-    """The device writes by what they write and how many words, with their numbers."""
-    kinds = {}
+def head(sweep: Sweep, most: int) -> str:
+    """The command, its writes and its runs."""
+    commits, digits = sweep.commits(), sweep.digits
+    at = f"the outcome turns at {counted(len(commits), 'write')}: {ranges(commits)}"
+    return "\n".join([
+        f"{sweep.name}, answered {sweep.answer}: {digits if len(digits) <= 60 else f'{digits[:44]}..{digits[-8:]}'}",
+        f"{counted(len(sweep.writes), 'device write')}; {at if commits else 'no write turns it'}",
+        f"{counted(sweep.runs, 'run')}, with at most {counted(sweep.depth, 'start')} cut;"
+        f" {counted(len(sweep.outcomes), 'outcome')}, {most} allowed"])
+
+
+def writes(sweep: Sweep) -> str:
+    """The device writes by kind and number of words."""
+    kinds: dict[tuple[str, str], list[int]] = {}
     for number, write in enumerate(sweep.writes, 1):
-        most = "at most " if write.is_most else ""
-        kinds.setdefault((write.kind, most + counted(write.words, "word")), []).append(number)
-    rows = [["writes", "of", "each", "which"]]
-    rows += [[str(len(numbers)), kind, words, numbers_told(numbers)] for (kind, words), numbers in kinds.items()]
-    return rows_told(rows)
+        kinds.setdefault((write.kind, counted(write.words, "word")), []).append(number)
+    rows = [[str(len(it)), kind, words, ranges(it)] for (kind, words), it in kinds.items()]
+    return aligned([["writes", "of", "each", "which"], *rows])
 
 
-def outcomes_told(sweep):
-    """The outcomes in the order in which they first came."""
-    rows = [["outcome", "runs", "first cut", "the card is found"]]
-    for place, outcome in enumerate(sweep.outcomes):
-        rows.append([letter(place), f"{outcome.runs:,}", cuts_told(outcome.first), sweep.meaning(place)])
-    return rows_told(rows)
+def outcomes(sweep: Sweep) -> str:
+    """The outcomes in order of appearance."""
+    rows = [[letter, f"{runs:,}", "{} {:04X}".format(*sweep.first[found]), sweep.meaning(found)]
+            for letter, (found, runs) in zip(letters(sweep), sweep.outcomes.items())]
+    return aligned([["outcome", "runs", "first cut", "the card is found"], *rows])
 
 
-def excerpt(line, start):
-    """A line of the probe from its first difference on."""
-    line = ".." + line[start:] if start else line
-    return line if len(line) <= SHOWN else line[: SHOWN - 2] + ".."
-
-
-def first_difference(variants):
-    """Where these lines begin to differ, at the first digit of a byte; 0 where they are short enough to be shown whole."""
-    if max(map(len, variants)) <= SHOWN:
-        return 0
-    same = 0
-    while len({it[: same + 1] for it in variants}) == 1:
-        same += 1
-    return same - same % 2
-
-
-def differences_told(sweep):
-    """The lines that aren't the same in all outcomes, and what they print in each."""
-    rows = [["line", *(letter(place) for place in range(len(sweep.outcomes)))]]
-    for look, variants in zip(sweep.looks, zip(*(it.found for it in sweep.outcomes))):
+def differences(sweep: Sweep) -> str:
+    """The probe lines whose output differs, from the first difference on."""
+    rows = [["line", *letters(sweep)]]
+    for look, variants in zip(sweep.looks, zip(*sweep.outcomes)):
+        same = len(commonprefix(variants)) & ~1 if max(map(len, variants)) > SHOWN else 0
+        shown = [look, *(".." * bool(same) + it[same:] for it in variants)]
         if len(set(variants)) > 1:
-            start = first_difference(variants)
-            rows.append([excerpt(look, 0), *(excerpt(it, start) for it in variants)])
-    return rows_told(rows) if len(rows) > 1 else []
+            rows.append([it if len(it) <= SHOWN else it[: SHOWN - 2] + ".." for it in shown])
+    return aligned(rows) if len(rows) > 1 else ""
 
 
-def table(sweep, most):
-    """All that is told."""
-    commits = sweep.commits()
-    turns = f"the outcome turns at {counted(len(commits), 'write')}: {numbers_told(commits)}" if commits else "no write turns it"
-    parts = [
-        [
-            f"{sweep.command.name}, answered {sweep.answer}: {sweep.command.shown()}",
-            f"{counted(len(sweep.writes), 'device write')}; {turns}",
-            f"{counted(sweep.runs, 'run')}, with at most {counted(sweep.depth, 'start')} cut;"
-            f" {counted(len(sweep.outcomes), 'outcome')}, {most} allowed",
-        ],
-        writes_told(sweep),
-        outcomes_told(sweep),
-        differences_told(sweep),
-    ]
-    return "\n\n".join("\n".join(lines) for lines in parts if lines)
+def table(sweep: Sweep, most: int) -> str:
+    """The whole text."""
+    return "\n\n".join(filter(None, [head(sweep, most), writes(sweep), outcomes(sweep), differences(sweep)]))
+
+
+def as_json(sweep: Sweep) -> str:
+    """The same for programs."""
+    found = [{"runs": runs, "first": sweep.first[it], "card": sweep.meaning(it), "found": dict(zip(sweep.looks, it))}
+             for it, runs in sweep.outcomes.items()]
+    told = {"command": sweep.digits, "answer": sweep.answer, "depth": sweep.depth, "runs": sweep.runs,
+            "commits": sweep.commits(), "writes": [{"of": it.kind, "words": it.words} for it in sweep.writes]}
+    return json.dumps({**told, "outcomes": found}, indent=1)
