@@ -96,10 +96,9 @@ class Hints:
         owner = path[-1].split("+")[0].lower() if path else ""
         known = self.found.get((crate, name), [])
         exact = [it for it in known if it.modules == path and it.owner is None]
+        # (a method that a trait gives to a type has no hint in a built program)
         owned = [it for it in known if it.owner and it.owner.lower() == owner]
-        # (a method that a trait gives stands in the trait)
-        given = [it for it in known if it.owner and owner.endswith(it.owner.lower())]
-        those = exact or owned or given
+        those = exact or owned
         return max(those, key=lambda it: common(it.modules, path)).attributes if those else None
 
 
