@@ -85,7 +85,8 @@ pub record Runs (first : Desk) (script rest : List ℕ) (n taken : ℕ) (desk : 
 abbrev pub HasRun : Desk → Option (List ℕ) → Option (List ℕ) → ℕ → ℕ → Desk → Option (List ℕ) → Option (List ℕ) → Type 0
 HasRun first None now n taken desk held holds = Unit {0}
 HasRun first (Some script) None n taken desk held holds = ⊥
-HasRun first (Some script) (Some rest) n taken desk held holds = (out : List ℕ) × Runs first script rest n taken desk out
+HasRun first (Some script) (Some rest) n taken desk held holds = (out : List ℕ)
+    × Runs first script rest n taken desk out
     × Appends held holds out
 
 -- nothing was read yet
@@ -219,44 +220,48 @@ module _ (first : Desk) (script rest rest' line : List ℕ) (n taken taken' : �
 
 -- a line that ends with a line feed
 pub goes_on : (first : Desk) (script old new : Option (List ℕ)) (n taken taken' : ℕ) (line : List ℕ) (desk desk' : Desk)
-    (held before holds : Option (List ℕ)) (order : Order) (prints : Print) → HasRun first script old n taken desk held before
+    (held before holds : Option (List ℕ)) (order : Order) (prints : Print)
+    → HasRun first script old n taken desk held before
     → TakesLine old new line LineFeed
     → CountsTaken old new taken taken' → order_of line ≡ Some order → Performs order desk desk' prints
-    → IsGood desk'.bench → Appends before holds (text_of prints) → HasRun first script new (n + 1) taken' desk' held holds
+    → IsGood desk'.bench → Appends before holds (text_of prints)
+    → HasRun first script new (n + 1) taken' desk' held holds
 goes_on first None old new n taken taken' line desk desk' held before holds order prints run takes counted good
     performs well wrote = tt
-goes_on first (Some script) None new n taken taken' line desk desk' held before holds order prints run takes counted good
-    performs well wrote = absurd run
-goes_on first (Some script) (Some rest) None n taken taken' line desk desk' held before holds order prints run takes counted
-    good performs well wrote = absurd counted
-goes_on first (Some script) (Some rest) (Some rest') n taken taken' line desk desk' held before holds order prints run takes
-    counted good performs well wrote = (
+goes_on first (Some script) None new n taken taken' line desk desk' held before holds order prints run takes counted
+    good performs well wrote = absurd run
+goes_on first (Some script) (Some rest) None n taken taken' line desk desk' held before holds order prints run takes
+    counted good performs well wrote = absurd counted
+goes_on first (Some script) (Some rest) (Some rest') n taken taken' line desk desk' held before holds order prints run
+    takes counted good performs well wrote = (
       run.0 ++ text_of prints,
-      next first script rest rest' line n taken taken' desk run.0 run.1 takes.0 takes.1 takes.2 takes.3 desk' order prints
-          counted good performs well,
+      next first script rest rest' line n taken taken' desk run.0 run.1 takes.0 takes.1 takes.2 takes.3 desk' order
+          prints counted good performs well,
       Appends-trans held before holds run.0 (text_of prints) run.2 wrote,
     )
 
 -- the last line: what it prints is written
 whole : (first : Desk) (script rest rest' line : List ℕ) (n taken taken' : ℕ) (desk desk' : Desk) (out : List ℕ)
-    (run : Runs first script rest n taken desk out) (held before holds : Option (List ℕ)) (order : Order) (prints : Print)
+    (run : Runs first script rest n taken desk out) (held before holds : Option (List ℕ)) (order : Order)
+    (prints : Print)
     → rest ≡ line ++ rest' → rest' ≡ [] → IsInLine line
     → Appends held before out → order_of line ≡ Some order → Performs order desk desk' prints → IsGood desk'.bench
     → Appends before holds (text_of prints) → AreOrders (lines script) × HasWritten first held (lines script) holds
-whole first script rest rest' [] n taken taken' desk desk' out run held before holds order prints is none inside held_out
-    good performs well wrote =
+whole first script rest rest' [] n taken taken' desk desk' out run held before holds order prints is none inside
+    held_out good performs well wrote =
     let all : lines script ≡ run.done = last_lines first script rest rest' [] n taken taken' desk out run is none inside
     ∙ append-nil run.done in (
       subst AreOrders (sym all) run.orders,
       (
         out,
-        subst (λ (ls : List (List ℕ)). LinesPrint first ls out) (sym all) (printed first script rest n taken desk out run),
+        subst (λ (ls : List (List ℕ)). LinesPrint first ls out) (sym all)
+            (printed first script rest n taken desk out run),
         subst (Appends held holds) (ap (λ (l : List ℕ). out ++ l) (silent order prints desk desk' good performs)
             ∙ append-nil out) (Appends-trans held before holds out (text_of prints) held_out wrote),
       ),
     )
-whole first script rest rest' (b ∷ l) n taken taken' desk desk' out run held before holds order prints is none inside held_out
-    good performs well wrote =
+whole first script rest rest' (b ∷ l) n taken taken' desk desk' out run held before holds order prints is none inside
+    held_out good performs well wrote =
     let all : lines script ≡ run.done ++ (b ∷ l) ∷ [] =
     last_lines first script rest rest' (b ∷ l) n taken taken' desk out run is none inside
     ∙ ap (λ (e : Bool). run.done ++ cond e [] ((b ∷ l) ∷ [])) (some_bytes b l) in (
@@ -272,32 +277,35 @@ whole first script rest rest' (b ∷ l) n taken taken' desk desk' out run held b
     )
 
 pub is_done : (first : Desk) (script old new : Option (List ℕ)) (n taken taken' : ℕ) (line : List ℕ) (desk desk' : Desk)
-    (held before holds : Option (List ℕ)) (order : Order) (prints : Print) → HasRun first script old n taken desk held before
+    (held before holds : Option (List ℕ)) (order : Order) (prints : Print)
+    → HasRun first script old n taken desk held before
     → TakesLine old new line EndOfScript
     → CountsTaken old new taken taken' → taken' ≤ SCRIPT_LIMIT → order_of line ≡ Some order
     → Performs order desk desk' prints → IsGood desk'.bench → Appends before holds (text_of prints)
     → IfSome script (λ bytes. IsRunToEnd first bytes held holds)
 is_done first None old new n taken taken' line desk desk' held before holds order prints run takes counted within good
     performs well wrote = tt
-is_done first (Some script) None new n taken taken' line desk desk' held before holds order prints run takes counted within
-    good performs well wrote = absurd run
-is_done first (Some script) (Some rest) None n taken taken' line desk desk' held before holds order prints run takes counted
-    within good performs well wrote =
-    absurd counted
-is_done first (Some script) (Some rest) (Some rest') n taken taken' line desk desk' held before holds order prints run takes
+is_done first (Some script) None new n taken taken' line desk desk' held before holds order prints run takes counted
+    within good performs well wrote = absurd run
+is_done first (Some script) (Some rest) None n taken taken' line desk desk' held before holds order prints run takes
     counted within good performs well wrote =
+    absurd counted
+is_done first (Some script) (Some rest) (Some rest') n taken taken' line desk desk' held before holds order prints run
+    takes counted within good performs well wrote =
     let all = whole first script rest rest' line n taken taken' desk desk' run.0 run.1 held before holds
     order prints takes.0 takes.1 takes.2 run.2 good performs well wrote in
     record {
       good = record {
         orders = all.0;
-        size = last_size first script rest rest' line n taken taken' desk run.0 run.1 takes.0 takes.1 takes.2 counted within;
+        size = last_size first script rest rest' line n taken taken' desk run.0 run.1 takes.0 takes.1 takes.2 counted
+            within;
       };
       written = all.1;
     }
 
 -- a bad line
-pub is_bad : (first : Desk) (script old new : Option (List ℕ)) (n taken taken' : ℕ) (line : List ℕ) (end : LineEnd) (desk : Desk)
+pub is_bad : (first : Desk) (script old new : Option (List ℕ)) (n taken taken' : ℕ) (line : List ℕ) (end : LineEnd)
+    (desk : Desk)
     (held holds : Option (List ℕ)) → HasRun first script old n taken desk held holds → TakesLine old new line end
     → CountsTaken old new taken taken' → taken' ≤ SCRIPT_LIMIT
     → order_of line ≡ None → IfSome script (λ bytes. IsRunToLine first (n + 1) bytes held holds)
@@ -320,7 +328,8 @@ is_bad first (Some script) (Some rest) (Some rest') n taken taken' line EndOfScr
     }
 
 -- a line of too many bytes
-pub is_too_long : (first : Desk) (script old new : Option (List ℕ)) (n taken taken' : ℕ) (desk : Desk) (held holds : Option (List ℕ))
+pub is_too_long : (first : Desk) (script old new : Option (List ℕ)) (n taken taken' : ℕ) (desk : Desk)
+    (held holds : Option (List ℕ))
     → HasRun first script old n taken desk held holds → TakesTooMuch old new taken taken' → taken' ≤ SCRIPT_LIMIT
     → IfSome script (λ bytes. IsRunToLine first (n + 1) bytes held holds)
 is_too_long first None old new n taken taken' desk held holds run takes within = tt
@@ -364,10 +373,12 @@ is_too_long first (Some script) (Some rest) (Some rest') n taken taken' desk hel
 -- the bytes of the lines so far
 front_lines : (first : Desk) (script rest : List ℕ) (n taken : ℕ) (desk : Desk) (out : List ℕ)
     (run : Runs first script rest n taken desk out) → lines run.front ≡ run.done
-front_lines first script rest n taken desk out run = ap lines (sym (append-nil run.front)) ∙ run.goes [] ∙ append-nil run.done
+front_lines first script rest n taken desk out run = ap lines (sym (append-nil run.front)) ∙ run.goes []
+    ∙ append-nil run.done
 
 -- no more is read
-pub is_unread : (first : Desk) (script old new : Option (List ℕ)) (n taken taken' : ℕ) (desk : Desk) (held holds : Option (List ℕ))
+pub is_unread : (first : Desk) (script old new : Option (List ℕ)) (n taken taken' : ℕ) (desk : Desk)
+    (held holds : Option (List ℕ))
     → HasRun first script old n taken desk held holds → TakesInto old new taken taken' → taken' ≤ SCRIPT_LIMIT
     → WhereKnown script new (λ bytes left. IsReadInto first bytes left held holds)
 is_unread first None old new n taken taken' desk held holds run takes most = tt
@@ -388,7 +399,8 @@ is_unread first (Some script) (Some rest) (Some rest') n taken taken' desk held 
       omega (arith, sum, size, parts, counted, most);
   written = (
     run.0,
-    subst (λ (ls : List (List ℕ)). LinesPrint first ls run.0) (sym (front_lines first script rest n taken desk run.0 run.1))
+    subst (λ (ls : List (List ℕ)). LinesPrint first ls run.0)
+        (sym (front_lines first script rest n taken desk run.0 run.1))
         (printed first script rest n taken desk run.0 run.1),
     run.2,
   );
@@ -424,19 +436,20 @@ pub is_unwritten : (first : Desk) (script old new : Option (List ℕ)) (n taken 
     → taken' ≤ SCRIPT_LIMIT → order_of line ≡ Some order → Performs order desk desk' prints
     → IsGood desk'.bench → (text_of prints ≡ [] → ⊥) → (size : ℕ) × Appends before holds (take size (text_of prints))
     → WhereKnown script new (λ bytes left. IsRunInto first bytes left held holds)
-is_unwritten first None old new n taken taken' line end desk desk' held before holds order prints run takes counted most good
-    performs well loud began = tt
-is_unwritten first (Some script) None new n taken taken' line end desk desk' held before holds order prints run takes counted
-    most good performs well loud began =
-    absurd run
-is_unwritten first (Some script) (Some rest) None n taken taken' line end desk desk' held before holds order prints run takes
+is_unwritten first None old new n taken taken' line end desk desk' held before holds order prints run takes counted
+    most good performs well loud began = tt
+is_unwritten first (Some script) None new n taken taken' line end desk desk' held before holds order prints run takes
     counted most good performs well loud began =
+    absurd run
+is_unwritten first (Some script) (Some rest) None n taken taken' line end desk desk' held before holds order prints
+    run takes counted most good performs well loud began =
     absurd counted
 is_unwritten first (Some script) (Some rest) (Some rest')
     n taken taken' line LineFeed desk desk' held before holds order prints run takes counted most good
     performs well loud began =
     let front : List ℕ = run.1.front ++ (takes.0 ++ 10 ∷ []) in
-    let goes = fed first script rest rest' line n taken taken' desk run.0 run.1 takes.0 takes.1 takes.2 takes.3 in record {
+    let goes = fed first script rest rest' line n taken taken' desk run.0 run.1 takes.0 takes.1 takes.2 takes.3
+    in record {
       front = front;
       parts = split_on first script rest rest' line n taken taken' desk run.0 run.1 takes.0 takes.1 takes.2 takes.3;
       ended = inl (run.1.front ++ takes.0, sym (append_assoc run.1.front takes.0 (10 ∷ [])));
@@ -508,15 +521,15 @@ is_unanswered first (Some script) (Some rest) None n taken taken' line end desk 
     counted most good performs well loud = absurd counted
 is_unanswered first (Some script) (Some rest) (Some rest') n taken taken' line LineFeed desk desk' held before order
     prints run takes counted most good performs well loud = record {
-      into = is_unwritten first (Some script) (Some rest) (Some rest') n taken taken' line LineFeed desk desk' held before
-          before order prints run takes counted most good performs well loud (0, Appends-nil before);
+      into = is_unwritten first (Some script) (Some rest) (Some rest') n taken taken' line LineFeed desk desk' held
+          before before order prints run takes counted most good performs well loud (0, Appends-nil before);
       nothing = refl;
     }
 is_unanswered first (Some script) (Some rest) (Some rest') n taken taken' [] EndOfScript desk desk' held before order
     prints run takes counted most good performs well loud = absurd (loud (silent order prints desk desk' good performs))
 is_unanswered first (Some script) (Some rest) (Some rest') n taken taken' (b ∷ l) EndOfScript desk desk' held before
     order prints run takes counted most good performs well loud = record {
-      into = is_unwritten first (Some script) (Some rest) (Some rest') n taken taken' (b ∷ l) EndOfScript desk desk' held
-          before before order prints run takes counted most good performs well loud (0, Appends-nil before);
+      into = is_unwritten first (Some script) (Some rest) (Some rest') n taken taken' (b ∷ l) EndOfScript desk desk'
+          held before before order prints run takes counted most good performs well loud (0, Appends-nil before);
       nothing = refl;
     }

@@ -26,7 +26,8 @@ returns-clause-counts c =
     let is = c.in_ok-with_pages.ensures.facts in
     let old = cut_facts c.in_ok-with_pages.field-0 in
     just_written c.args.pages old (cut_facts c.in-Ok.board) is c.in-Ok.ensures.power
-    (subst (λ (n : ℕ). WritesAtMost n old (cut_facts c.in-Ok.board)) (new_pages c.args.pages old is) c.in-Ok.ensures.counts)
+    (subst (λ (n : ℕ). WritesAtMost n old (cut_facts c.in-Ok.board)) (new_pages c.args.pages old is)
+    c.in-Ok.ensures.counts)
 
 pub returns-clause-uncut : goal.returns-clause-uncut
 returns-clause-uncut c = none_due _ (returns-clause-counts c).due

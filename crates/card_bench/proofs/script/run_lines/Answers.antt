@@ -81,7 +81,8 @@ returns-in-Err-clause-stopped g c =
           (subst (λ (w : Option (List ℕ)). WhereKnown script left (λ bytes rest. IsRunUnkept first bytes rest held w))
           (sym (c.in-Err.ensures.unkept (ap Err unkept)))
           (is_unanswered _ _ _ _ _ _ _ _ c.in-Ok.end _ _ _ _ _ _ c.loop-number.invariant.so_far c.in-Ok.ensures.line
-          c.in-Ok.ensures.counted c.read_line.ensures.taken good c.perform.ensures.performs c.perform.ensures.good loud))
+          c.in-Ok.ensures.counted c.read_line.ensures.taken good c.perform.ensures.performs c.perform.ensures.good
+          loud))
     ]
 
 pub perform-requires-clause-sized : goal.perform-requires-clause-sized
@@ -133,5 +134,6 @@ loop-number-preserved g c =
           desk held after) number
           (goes_on _ first old new _ _ _ _ _ _ _ _ _ _ _ c.loop-number.invariant.so_far
           (subst (TakesLine old new c.read_line.new.line.items) c.in-LineFeed.is c.in-Ok.ensures.line)
-          c.in-Ok.ensures.counted good c.perform.ensures.performs c.perform.ensures.good c.in_default-answer.ensures.wrote);
+          c.in-Ok.ensures.counted good c.perform.ensures.performs c.perform.ensures.good
+          c.in_default-answer.ensures.wrote);
     }

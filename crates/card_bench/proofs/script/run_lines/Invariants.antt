@@ -9,6 +9,6 @@ invariant-loop-number g l = record {
   taken : l.taken ≤ SCRIPT_LIMIT;
   turns : l.number ≤ l.taken + 1;
   good : IsGood l.desk.desk.bench;
-  so_far : HasRun l.initial.desk.desk (g.R.Read.remaining l.initial.reader) (g.R.Read.remaining l.reader) (l.number - 1) l.taken
-      l.desk.desk (g.W.Write.contents l.initial.writer) (g.W.Write.contents l.writer);
+  so_far : HasRun l.initial.desk.desk (g.R.Read.remaining l.initial.reader) (g.R.Read.remaining l.reader)
+      (l.number - 1) l.taken l.desk.desk (g.W.Write.contents l.initial.writer) (g.W.Write.contents l.writer);
 }
