@@ -1,5 +1,4 @@
--- The files of a card: a tree of dedicated and elementary files (ISO/IEC 7816-4, clause 7; ETSI TS 102 221, clause
--- 8).
+-- The files of a card: a tree of DFs and EFs (ISO/IEC 7816-4, clause 7; ETSI TS 102 221, clause 8).
 use Rattle.std.specs.Prelude.{◌+◌, ◌-◌, ℕ, List, length, Bool, true, false, IsTrue, ◌&&◌, [], ◌∷◌, take, slice_index}
 use Rattle.std.specs.Prelude.{Option, None, unwrap_or, is_some}
 use Rattle.std.specs.List.{splice}
@@ -14,8 +13,6 @@ use Rattle.card_rules.specs.declared.life_cycle.LifeCycle.TheVariants.{Activated
 -- The bytes with new ones written over them from an offset on.
 abbrev pub overwrite : List ℕ → ℕ → List ℕ → List ℕ
 overwrite bytes offset new = splice bytes offset (offset + length new) new
-
--- The tree of dedicated and elementary files (ISO/IEC 7816-4, clause 7; ETSI TS 102 221, clause 8).
 
 -- The content of an EF. A transparent one is a list of bytes. A linear one has a record length, a capacity in
 -- records, and its records in the order of their numbers. A cyclic one has the same, with the newest record first as

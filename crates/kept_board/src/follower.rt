@@ -8,9 +8,8 @@ pub trait Follower {
     /// The runs that it was handed so far, where they are known: those of a file are not.
     ghost handed: { Self → Option (List Run) } = { λ _. None };
 
-    /// Takes the words of one device write, at most 16, from an address on. False if it has not got them all: then it
-    /// is
-    /// handed nothing more.
+    /// Takes the words of one device write, at most 16, from an address on.
+    /// False if it has not got them all: then it is handed nothing more.
     fn take(&mut self, at: usize, words: &[u32]) -> bool
         requires size { length words.now ≤ PAGE_WORDS }
         requires within { at + length words.now ≤ PAGE_WORDS * MOST_PAGES }
