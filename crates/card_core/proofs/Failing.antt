@@ -20,7 +20,7 @@ use Rattle.card_model.specs.CommandTable.{SentBody, Row, asked, asked_by_body, a
 use Rattle.card_model.specs.CommandTable.{row_of}
 use Rattle.card_model.specs.LifeCycleCommands.{no_subject}
 use Rattle.card_model.specs.PinCommands.{attempted, attempted_as, changing, marking, resetting, verifying, no_pin}
-use Rattle.card_model.specs.PinCommands.{pin_of, tries_told, unblocking_of, unusable_by, value_of}
+use Rattle.card_model.specs.PinCommands.{pin_of, tries_status, unblocking_of, unusable_by, value_of}
 use Rattle.card_model.specs.Requests.{Request, select, read_binary, update_binary, create_file, delete_file}
 use Rattle.card_model.specs.Requests.{read_record, update_record, append_record, search_record, increase}
 use Rattle.card_model.specs.Requests.{change_life_cycle, terminate_card_usage, verify, change_reference_data}
@@ -142,7 +142,7 @@ ten-tries : (test : Bool) (pin : Pin) → HasFewTries pin → (if test then pin.
 ten-tries true pin few = few.unblocking_tries
 ten-tries false pin few = let most = few.tries in omega (arith, most)
 
-told-other : (c : Card) (n secret : ℕ) → All HasFewTries c.pins → IsOther (tries_told (tries_of c n secret))
+told-other : (c : Card) (n secret : ℕ) → All HasFewTries c.pins → IsOther (tries_status (tries_of c n secret))
 told-other c n secret few =
     let most = ten-tries (is_unblocking secret) (pin_of c n) (few-pin c n few) in λ is. omega (arith, most, is)
 

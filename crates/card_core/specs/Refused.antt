@@ -6,7 +6,7 @@ use Rattle.card_model.specs.Requests.{Request}
 use Rattle.card_model.specs.Cards.{Card}
 use Rattle.card_model.specs.Sessions.{Session}
 use Rattle.card_model.specs.Behaviours.{Attempt, Outcome, charged_card, is_right, tries_of}
-use Rattle.card_model.specs.PinCommands.{tries_told}
+use Rattle.card_model.specs.PinCommands.{tries_status}
 use Rattle.card_model.specs.Steps.{attempt_of}
 
 -- 9000, or one of the warnings 6282, 6283 and 6285
@@ -17,7 +17,7 @@ IsSuccess status = (status.0 ≡ 0x9000) ⊎ (status.0 ≡ 0x6282) ⊎ (status.0
 abbrev pub ShowsWrongBy : Card → Option Attempt → Sw → Type 0
 ShowsWrongBy c None status = ⊥
 ShowsWrongBy c (Some a) status =
-    (is_right c a ≡ false) × (status ≡ tries_told (tries_of (charged_card c a) a.pin a.secret))
+    (is_right c a ≡ false) × (status ≡ tries_status (tries_of (charged_card c a) a.pin a.secret))
 
 abbrev pub ShowsWrong : Card → Result Request Sw → Sw → Type 0
 ShowsWrong c (Err refusal) status = ⊥

@@ -1,6 +1,6 @@
 -- Refusals that several commands share: by life cycle, access rule and structure of the file, and by Le (ISO/IEC
 -- 7816-4, 5.1, 7.3.1, 7.4.10 and 9.3.3).
-use Rattle.std.specs.Prelude.{Bool, List, map, not, is_none, [], ◌∷◌, unwrap_or, ◌≡◌, ◌≤◌, ℕ, ◌+◌, ◌%◌, ◌==◌, nat_lt}
+use Rattle.std.specs.Prelude.{Bool, List, map, not, is_none, [], ◌∷◌, unwrap_or, ◌≡◌, ◌≤◌, ℕ, ◌==◌, nat_lt}
 use Rattle.std.specs.Prelude.{true, false, ◌&&◌, length, Option, Some, None}
 use Rattle.card_rules.specs.declared.access_mode.AccessBit.{AccessBit}
 use Rattle.card_rules.specs.declared.life_cycle.LifeCycleCommand.{LifeCycleCommand}
@@ -11,6 +11,7 @@ use Rattle.card_model.specs.Cards.{Card, Path, Kind, file_at, identifier, parent
 use Rattle.card_model.specs.Behaviours.{Refusal, Refusals, no_refusals}
 use Rattle.card_model.specs.Sessions.{Session, marks_of, at_elementary_file}
 use Rattle.card_rules.specs.declared.status.Sw.{Sw}
+use Rattle.card_rules.specs.StatusWords.{length_status}
 use Rattle.card_model.specs.declared.requests.Target.{Target}
 use Rattle.card_model.specs.declared.requests.Target.TheVariants.{Current, Short}
 use Rattle.card_model.specs.Reaching.{target_of}
@@ -94,9 +95,9 @@ abbrev pub asks_less : Option ℕ → List ℕ → Bool
 asks_less None found = false
 asks_less (Some le) found = not (le == 0) && nat_lt le (length found)
 
--- The status word 6CXX. XX is the length of the data, at most 256, where 00 means 256.
+-- The status word 6CXX with the length of the data.
 abbrev pub right_length : List ℕ → Sw
-right_length found = record { 0 = 0x6C00 + length found % 256 }
+right_length found = length_status (length found)
 
 -- The refusal of an Le that is too small, with the right length.
 abbrev pub length_refusal : Option ℕ → List ℕ → Refusal

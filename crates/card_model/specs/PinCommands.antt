@@ -1,9 +1,8 @@
 -- Commands on PINs: VERIFY, CHANGE REFERENCE DATA, RESET RETRY COUNTER, ENABLE and DISABLE VERIFICATION REQUIREMENT
 -- (ISO/IEC 7816-4, 11.5 and 11.6).
-use Rattle.std.specs.Prelude.{ℕ, ◌+◌, ◌==◌, Bool, true, false, not, List, [], ◌∷◌, Option, option_map, Some, None}
+use Rattle.std.specs.Prelude.{ℕ, ◌==◌, Bool, true, false, not, List, [], ◌∷◌, Option, option_map, Some, None}
 use Rattle.std.specs.FinSet.{insert, remove}
 use Rattle.std.specs.Option.{option_map_or}
-use Rattle.card_rules.specs.declared.status.Sw.{Sw}
 use Rattle.card_rules.specs.declared.status.TheConstants.Sw.{CONDITIONS_NOT_SATISFIED, DONE, METHOD_BLOCKED}
 use Rattle.card_rules.specs.declared.status.TheConstants.Sw.{REFERENCE_DATA_NOT_USABLE}
 use Rattle.card_model.specs.declared.requests.RequirementChange.{RequirementChange}
@@ -13,6 +12,7 @@ use Rattle.card_model.specs.Behaviours.{attempt_commits, charged_card, is_right,
 use Rattle.card_model.specs.Behaviours.{Outcome, Refusal, Refusals, no_refusals, only_status}
 use Rattle.card_model.specs.Cards.{Card, Pin}
 use Rattle.card_model.specs.Sessions.{Session}
+pub use Rattle.card_rules.specs.StatusWords.{tries_status}
 pub use Rattle.card_model.specs.Behaviours.{Attempt, no_pin, pin_of, unblocking_of, value_of}
 
 -- The value of a disabled PIN only serves to enable it. A PIN that is enabled can't be enabled again.
@@ -80,10 +80,6 @@ marking change n shown = record {
   unverifies = true;
 }
 
--- The status word 63CX, where X is the number of tries left.
-abbrev pub tries_told : ℕ → Sw
-tries_told tries = record { 0 = 0x63C0 + tries }
-
 -- An attempt is refused if no try is left, and then if the PIN's state doesn't allow it. A refused attempt compares
 -- nothing and uses up no try. A query is never refused.
 abbrev pub attempt_refusals : Card → Attempt → Refusals
@@ -113,7 +109,7 @@ attempted_as c s a true = record {
 attempted_as c s a false = record {
   card = charged_card c a;
   session = unverified s a a.unverifies;
-  response = only_status (tries_told (tries_of (charged_card c a) a.pin a.secret));
+  response = only_status (tries_status (tries_of (charged_card c a) a.pin a.secret));
 }
 
 abbrev pub attempted : Card → Session → Attempt → Outcome
@@ -121,7 +117,7 @@ attempted c s a = attempted_as c s a (is_right c a)
 
 -- The effect of a query: the answer gives the tries left of the secret, and nothing changes.
 abbrev pub told_tries : Card → Session → ℕ → ℕ → Outcome
-told_tries c s n secret = record { card = c; session = s; response = only_status (tries_told (tries_of c n secret)) }
+told_tries c s n secret = record { card = c; session = s; response = only_status (tries_status (tries_of c n secret)) }
 
 abbrev pub pin_effect : Card → Session → ℕ → ℕ → Option Attempt → Outcome
 pin_effect c s n secret None = told_tries c s n secret

@@ -1,6 +1,7 @@
 //! Status words (ISO/IEC 7816-4, 5.1.3).
 
 ghost use Rattle.std.specs.Prelude.{◌≡◌, ◌/◌, ◌%◌, ◌∷◌, []};
+ghost use Rattle.card_rules.specs.StatusWords.{length_status, tries_status};
 
 /// The status word that ends each answer (ISO/IEC 7816-4, 5.1.3).
 /// SW1 is its upper byte, SW2 its lower byte.
@@ -55,6 +56,20 @@ impl Sw {
     /// The sum doesn't fit the record (ETSI TS 102 221).
     /// ISO/IEC 7816-4 doesn't have this status word.
     pub const MAXIMUM_REACHED: Sw = Sw(0x9850);
+
+    /// Returns 63CX: X is the number of tries left, at most 15.
+    pub fn tries_left(left: u8) -> Sw
+        ensures { result ≡ tries_status left }
+    {
+        Sw(0x63C0 + u16::from(left))
+    }
+
+    /// Returns 6CXX, the refusal of an Le that is too small: XX is the length of the data. 6C00 means 256 bytes.
+    pub fn right_length(length: usize) -> Sw
+        ensures { result ≡ length_status length }
+    {
+        Sw(0x6C00 + (length % 256) as u16)
+    }
 
     /// Returns SW1 and SW2, in the order of transmission.
     pub const fn to_bytes(self) -> [u8; 2]

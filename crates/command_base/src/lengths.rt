@@ -20,11 +20,10 @@ pub fn asks_less(expected: Option<u8>, response: &ResponseData) -> bool
 }
 
 /// Returns the status word 6CXX with the length of the data.
-/// It is 6C00 for 256 bytes.
 pub fn right_length(response: &ResponseData) -> Sw
     ensures { result ≡ right_length response.now.items }
 {
-    Sw(0x6C00 + (response.len() % MOST_ANSWER_DATA) as u16)
+    Sw::right_length(response.len())
 }
 
 /// Writes the data into an empty answer, if Le is present.

@@ -45,7 +45,7 @@ use Rattle.card_model.specs.Behaviours.{Refusal, first_applying, no_refusals, re
 use Rattle.card_model.specs.Behaviours.{attempt_commits, charged_card, is_right, pin_of, settled_card, tries_of}
 use Rattle.card_model.specs.Behaviours.{tries_commits, value_commits, unblocking_of, value_of, with_pin_of}
 use Rattle.card_model.specs.PinCommands.{attempt_refusals, attempted, attempted_as, changing, marking, resetting}
-use Rattle.card_model.specs.PinCommands.{told_tries, tries_told, unverified, verifying}
+use Rattle.card_model.specs.PinCommands.{told_tries, tries_status, unverified, verifying}
 use Rattle.command_base.specs.CommitWords.{StandsByWord, StandsServed}
 use Rattle.command_base.specs.Served.{Serves}
 use Rattle.card_model.specs.Sessions.{Session, marked}
@@ -424,14 +424,14 @@ module _ (request : Request) (a : Attempt) (asks : IsAttempt request a) (old : M
           ∙ (λ i. outcome (card-is i) (session i) [] DONE)
 
       step-wrong : (left : ℕ) → IsWrong a.secret a.shown left b e
-          → served c s request ≡ outcome (card_in e) (session_in e (y (Wrong left))) [] (tries_told left)
+          → served c s request ≡ outcome (card_in e) (session_in e (y (Wrong left))) [] (tries_status left)
       step-wrong left is =
           let card-is = sym (ap card_of is.same ∙ charged-card b charges) in
           let told = ap (λ (d : Card). tries_of d a.pin a.secret) (sym (charged-card b charges))
           ∙ sym (ap (tries_left a.secret) (pin-in b card-b)) ∙ sym is.left in
           let session = session-wrong a.unverifies in
           step-by false (wrong is.wrong)
-          ∙ (λ i. outcome (card-is i) (session i) [] (tries_told (told i)))
+          ∙ (λ i. outcome (card-is i) (session i) [] (tries_status (told i)))
         where
           session-wrong : (unverifies : Bool)
               → unverified s a unverifies ≡ session_in e (tried_from x a.pin unverifies (Wrong left))
@@ -649,16 +649,16 @@ module _ (request : Request) (n secret : ℕ) (asks : IsQuestion request n secre
   tries-are =
       ap (tries_left secret) (ap (pin_at (committed old)) asks.owned ∙ sym (pin-is (committed old) n card asks.number))
 
-  answer-is : (status : Sw) → status ≡ tries_told (tries_left secret (pin_in old secret))
+  answer-is : (status : Sw) → status ≡ tries_status (tries_left secret (pin_in old secret))
       → served (card_in old) (session_in old x) request ≡ refused (card_in old) (session_in old x) status
   answer-is status told =
       served-done (card_in old) (session_in old x) request
       (ap refused_by (asks.refuses (card_in old) (session_in old x)))
       ∙ asks.does (card_in old) (session_in old x)
-      ∙ ap (refused (card_in old) (session_in old x)) (sym (told ∙ ap tries_told tries-are))
+      ∙ ap (refused (card_in old) (session_in old x)) (sym (told ∙ ap tries_status tries-are))
 
   pub question-answered : (r : Result Sw StoreErr)
-      → IfOk r (λ status. status ≡ tries_told (tries_left secret (pin_in old secret)))
+      → IfOk r (λ status. status ≡ tries_status (tries_left secret (pin_in old secret)))
       → Reads old new (result_err r) → Serves request old x new x [] r
   question-answered (Ok status) told reads =
       declined request old x new

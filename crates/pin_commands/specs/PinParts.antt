@@ -9,7 +9,7 @@ use Rattle.pin_store.specs.declared.errors.Outcome.TheVariants.{Matched, Wrong}
 use Rattle.pin_commands.specs.declared.pins.Usable.{Usable}
 use Rattle.pin_commands.specs.declared.pins.Usable.TheVariants.{WhileEnabled, WhileDisabled, InAnyCase}
 use Rattle.card_model.specs.Behaviours.{Refusal, first_applying}
-use Rattle.card_model.specs.PinCommands.{in_any_case, tries_told, while_disabled, while_enabled}
+use Rattle.card_model.specs.PinCommands.{in_any_case, tries_status, while_disabled, while_enabled}
 use Rattle.card_state.specs.Secrets.{Pin, tries_left}
 
 -- the refusals of a command that presents a secret, by the PINs that it is for
@@ -24,4 +24,4 @@ refused_use usable secret pin =
 
 abbrev pub end_of_attempt : AttemptEnd → Sw
 end_of_attempt Matched = DONE
-end_of_attempt (Wrong left) = tries_told left
+end_of_attempt (Wrong left) = tries_status left

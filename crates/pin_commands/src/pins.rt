@@ -12,7 +12,7 @@ ghost use Rattle.pin_store.specs.Pages.{ArePinPages};
 ghost use Rattle.card_state.specs.Secrets.{Pin, tries_left};
 ghost use Rattle.pin_store.specs.Trials.{pin_in, Charges, TakesTry};
 ghost use Rattle.card_model.specs.Behaviours.{first_applying};
-ghost use Rattle.card_model.specs.PinCommands.{is_enabled_by, tries_told, unusable_by};
+ghost use Rattle.card_model.specs.PinCommands.{is_enabled_by, tries_status, unusable_by};
 ghost use Rattle.command_base.specs.Served.{Serves};
 ghost use Rattle.command_base.specs.Stops.{failure, reply, Checks, FindsOrRefuses};
 ghost use Rattle.pin_commands.specs.PinParts.{end_of_attempt, refused_use, use_refusals};
@@ -152,10 +152,10 @@ fn tell_tries<B: Board>(store: &mut Store<B>, secret: u8) -> Result<Sw, StoreErr
     requires secret { secret < SECRETS }
     requires pages { ArePinPages (committed store.old) }
     ensures { Learns store.old store.new result
-        (λ status. status ≡ tries_told (tries_left secret (pin_in store.old secret))) }
+        (λ status. status ≡ tries_status (tries_left secret (pin_in store.old secret))) }
 {
     let left = tries(store, secret)?;
-    Ok(tries_status(left))
+    Ok(Sw::tries_left(left))
 }
 
 /// Uses up a try of a secret, or returns the refusal.
@@ -191,13 +191,6 @@ fn check_use<B: Board>(store: &mut Store<B>, secret: u8, usable: Usable) -> Resu
     Ok(())
 }
 
-/// Returns the status word with this number of remaining tries.
-fn tries_status(left: u8) -> Sw
-    ensures { result ≡ tries_told left }
-{
-    Sw(0x63C0 + u16::from(left))
-}
-
 /// Ends an attempt on a PIN: updates session, returns status word.
 /// After a wrong value the status word has the remaining tries.
 fn conclude(current: &mut Current, pin: u8, shown: Shown, outcome: Outcome) -> Sw
@@ -208,6 +201,6 @@ fn conclude(current: &mut Current, pin: u8, shown: Shown, outcome: Outcome) -> S
     *current = current.after_attempt(pin, shown, outcome);
     match outcome {
         Outcome::Matched => Sw::DONE,
-        Outcome::Wrong(left) => tries_status(left),
+        Outcome::Wrong(left) => Sw::tries_left(left),
     }
 }

@@ -13,7 +13,7 @@ use Rattle.card_state.specs.laws.FewTries.{changed_few, marked_few, reset_few, v
 use Rattle.card_model.specs.Cards.{Card, Pin, IsProper}
 use Rattle.card_model.specs.Behaviours.{Attempt, charged_card, is_right, no_pin, pin_of, settled_card, tries_of}
 use Rattle.card_model.specs.Behaviours.{with_pin_of, unblocking_of, value_of}
-use Rattle.card_model.specs.PinCommands.{attempted, attempted_as, pin_commits, pin_effect, told_tries, tries_told}
+use Rattle.card_model.specs.PinCommands.{attempted, attempted_as, pin_commits, pin_effect, told_tries, tries_status}
 use Rattle.card_model.specs.PinCommands.{changing, marking, resetting, shows, verifying, is_enabled_by, unusable_by}
 use Rattle.card_model.specs.PinCommands.{while_disabled, while_enabled}
 use Rattle.card_model.specs.Sessions.{Session}
@@ -49,7 +49,7 @@ ten-tries : (test : Bool) (pin : Pin) → HasFewTries pin → (if test then pin.
 ten-tries true pin few = few.unblocking_tries
 ten-tries false pin few = let most = few.tries in omega (arith, most)
 
-told-word : (c : Card) (n secret : ℕ) → IsProper c → IsStatusWord (tries_told (tries_of c n secret))
+told-word : (c : Card) (n secret : ℕ) → IsProper c → IsStatusWord (tries_status (tries_of c n secret))
 told-word c n secret proper =
     let few = ten-tries (is_unblocking secret) (pin_of c n) (few-of c n proper) in omega (arith, few)
 
@@ -71,7 +71,7 @@ fine-attempted_as c s a false proper keeps =
     let still = proper-charged c a proper in
     record {
       card = still;
-      response = short-status (tries_told (tries_of (charged_card c a) a.pin a.secret))
+      response = short-status (tries_status (tries_of (charged_card c a) a.pin a.secret))
           (told-word (charged_card c a) a.pin a.secret still);
     }
 
@@ -82,7 +82,7 @@ module _ (c : Card) (s : Session) (proper : IsProper c) where
   pub fine-told : (n secret : ℕ) → IsFine (told_tries c s n secret)
   fine-told n secret = record {
     card = proper;
-    response = short-status (tries_told (tries_of c n secret)) (told-word c n secret proper);
+    response = short-status (tries_status (tries_of c n secret)) (told-word c n secret proper);
   }
 
 -- the commits of an attempt: where only the tries are renewed, and where a value is, with them
