@@ -18,7 +18,7 @@ use crate::select::{Selector, parse_select};
 use card_model::{
     LifeCycleChange, RecordChoice, RecordPlace, RequirementChange, Returned, Subject, Target,
 };
-use card_rules::{Direction, Sw};
+use card_rules::{Direction, PinNumber, Sw};
 
 /// A command as a value.
 /// `expected` is its Le byte: the number of bytes requested, where 0 means all.
@@ -91,25 +91,25 @@ pub enum Command<'a> {
     /// VERIFY (ISO/IEC 7816-4, 11.5.6) of PIN 1 to 8.
     /// Without a value it asks for the remaining tries.
     Verify {
-        pin: u8,
+        pin: PinNumber,
         shown: Option<&'a [u8; 8]>,
     },
     /// CHANGE REFERENCE DATA (ISO/IEC 7816-4, 11.5.7) of PIN 1 to 8.
     ChangeReferenceData {
-        pin: u8,
+        pin: PinNumber,
         values: Replacement<'a>,
     },
     /// RESET RETRY COUNTER (ISO/IEC 7816-4, 11.5.10) of PIN 1 to 8.
     /// Without a value it asks for the remaining unblocking tries.
     ResetRetryCounter {
-        pin: u8,
+        pin: PinNumber,
         values: Option<Replacement<'a>>,
     },
     /// DISABLE or ENABLE VERIFICATION REQUIREMENT (ISO/IEC 7816-4, 11.5.9 and 11.5.8).
     /// The PIN is 1 to 8, and its value is presented.
     ChangeRequirement {
         change: RequirementChange,
-        pin: u8,
+        pin: PinNumber,
         shown: &'a [u8; 8],
     },
 }

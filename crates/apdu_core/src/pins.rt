@@ -8,7 +8,7 @@ ghost use Rattle.apdu_core.specs.Parsing.{Parses, NamesWhere, ReadsWhere};
 use crate::commands::{Command, Parsed};
 use crate::form::{CommandBody, Operands};
 use card_model::RequirementChange;
-use card_rules::{PINS, Sw};
+use card_rules::{PinNumber, Sw};
 
 /// The presented value, and the new value of the PIN.
 #[derive(Clone, Copy)]
@@ -29,17 +29,16 @@ impl<'a> Replacement<'a> {
     }
 }
 
-/// Returns the PIN, 1 to 8, that P1 and P2 name.
+/// Returns the PIN that P1 and P2 name.
 ///
 /// # Errors
 /// 6A86 if they name none: P1 isn't 00, or P2 isn't 01 to 08.
-fn pin_named(p1: u8, p2: u8) -> Result<u8, Sw>
+fn pin_named(p1: u8, p2: u8) -> Result<PinNumber, Sw>
     ensures { ReadsWhere result (is_pin p1 p2) (λ pin. pin ≡ p2) WRONG_PARAMETERS }
 {
-    if p1 == 0x00 && (1..=PINS).contains(&p2) {
-        Ok(p2)
-    } else {
-        Err(Sw::WRONG_PARAMETERS)
+    match PinNumber::new(p2) {
+        Some(pin) if p1 == 0x00 => Ok(pin),
+        _ => Err(Sw::WRONG_PARAMETERS),
     }
 }
 

@@ -49,24 +49,27 @@ fn obey<B: Board>(lent: &mut Lent<B>, command: &[u8], answer: &mut Answer) -> Re
     ensures space { OnOk (reply result) (lent.new.free ≡ space_in lent.new.store) }
     ensures index { OnOk (reply result) (IsIndex (table_in lent.new.store) lent.new.index) }
 {
-    let command = Command::parse(command)?;
+    let command = match Command::parse(command) {
+        Ok(command) => command,
+        Err(refusal) => return Err(Stop::Refused(refusal)),
+    };
     let state = header_word(&mut lent.store, STATE_WORD)?;
     if state != CARD_IN_USE {
         return Err(Stop::Refused(Sw::CONDITIONS_NOT_SATISFIED));
     }
-    serve(lent, command, answer)
+    serve(lent, &command, answer)
 }
 
 /// Runs a parsed command on a card in use. Each command borrows only the parts that it needs.
 fn serve<B: Board>(
     lent: &mut Lent<B>,
-    command: Command<'_>,
+    command: &Command<'_>,
     answer: &mut Answer,
 ) -> Result<Sw, Stop>
     requires whole { IsWholeCard lent.old }
     requires empty { answer.old.items ≡ [] }
-    requires in_range { IsCommandInRange command }
-    ensures serves { Serves (request_of command.entry) lent.old.store lent.old.current lent.new.store lent.new.current
+    requires in_range { IsCommandInRange command.now }
+    ensures serves { Serves (request_of command.now) lent.old.store lent.old.current lent.new.store lent.new.current
         answer.new.items (reply result) }
     ensures space { OnOk (reply result) (lent.new.free ≡ space_in lent.new.store) }
     ensures index { OnOk (reply result) (IsIndex (table_in lent.new.store) lent.new.index) }
@@ -77,7 +80,7 @@ fn serve<B: Board>(
         free,
         index,
     } = lent;
-    match command {
+    match *command {
         Command::Select {
             selector,
             returned,

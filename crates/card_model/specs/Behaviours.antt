@@ -1,12 +1,12 @@
 -- The behaviour of a command: refusals in their order, the answer, the attempt on a PIN, the commits.
-use Rattle.std.specs.Prelude.{ℕ, ◌/◌, ◌%◌, Bool, List, [], ◌∷◌, ◌++◌, Option, Some, None, if◌then◌else◌, ◌+◌, ◌-◌, ◌&&◌}
+use Rattle.std.specs.Prelude.{ℕ, ◌/◌, ◌%◌, Bool, List, [], ◌∷◌, ◌++◌, Option, Some, None, if◌then◌else◌, ◌-◌, ◌&&◌}
 use Rattle.std.specs.Prelude.{not, nat_eq, true, slice_index_or, slice_set}
 use Rattle.card_rules.specs.declared.status.Sw.{Sw}
 use Rattle.card_model.specs.Cards.{Card, Pin}
 use Rattle.card_model.specs.Sessions.{Session}
 use Rattle.std.specs.Cmp.Lexicographic.{pointwise}
-use Rattle.card_rules.specs.declared.pins.TheConstants.{PINS}
 use Rattle.card_state.specs.Secrets.{charged_pin, kept, tries_left}
+pub use Rattle.card_state.specs.Secrets.{unblocking_of, value_of}
 
 -- The outcome of a command: refusals in their order, and the answer.
 
@@ -95,13 +95,6 @@ pin_of c n = slice_index_or c.pins (n - 1) no_pin
 -- The card with another PIN n.
 abbrev pub with_pin_of : Card → ℕ → Pin → Card
 with_pin_of c n pin = record c { pins = slice_set c.pins (n - 1) pin }
-
--- The number of the value of PIN n among the secrets. `unblocking_of` is that of its unblocking value.
-abbrev pub value_of : ℕ → ℕ
-value_of n = n - 1
-
-abbrev pub unblocking_of : ℕ → ℕ
-unblocking_of n = PINS + (n - 1)
 
 -- A secret of PIN `pin` is presented: its number, and the presented value `shown`. `unusable` gives the refusals that
 -- depend on the PIN's state. After a match the PIN is `becomes`; `renews` is true if more than its tries changes.

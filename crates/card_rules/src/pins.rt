@@ -1,6 +1,6 @@
 //! PIN numbers, and sets of PINs, such as the verified or the disabled ones.
 
-ghost use Rattle.std.specs.Prelude.{◌≡◌, ◌<◌, ◌-◌, ◌↔◌, IsSome, IfSome, List, Bool, length};
+ghost use Rattle.std.specs.Prelude.{◌≡◌, ◌<◌, ◌+◌, ◌-◌, ◌↔◌, IsSome, IfSome, List, Bool, length};
 ghost use Rattle.card_rules.specs.Pins.{IsPinNumber, no_pins, has_pin, with_pin, without_pin};
 ghost use Rattle.card_rules.specs.declared.pins.TheConstants.{PINS};
 
@@ -41,6 +41,21 @@ impl PinNumber {
         }
     }
 
+    /// Returns PIN 1.
+    pub fn first() -> PinNumber
+        ensures { result ≡ 1 }
+    {
+        PinNumber { number: 1 }
+    }
+
+    /// Returns the PIN after this one, or `None` after PIN 8.
+    pub fn next(self) -> Option<PinNumber>
+        ensures valid { IsSome result ↔ self < PINS }
+        ensures value { IfSome result (λ pin. pin ≡ self + 1) }
+    {
+        PinNumber::new(self.get() + 1)
+    }
+
     /// Returns the number, 1 to 8.
     pub fn get(self) -> u8
         ensures value { result ≡ self }
@@ -50,11 +65,11 @@ impl PinNumber {
     }
 
     /// Returns the index of the PIN among all PINs, from 0.
-    fn index(self) -> usize
+    pub fn index(self) -> u8
         ensures value { result ≡ self - 1 }
         ensures in_range { result < PINS }
     {
-        usize::from(self.get() - 1)
+        self.get() - 1
     }
 }
 
@@ -89,7 +104,7 @@ impl PinSet {
     pub fn contains(&self, pin: PinNumber) -> bool
         ensures { result ≡ has_pin self.now pin }
     {
-        let index = pin.index();
+        let index = usize::from(pin.index());
         self.marks[index]
     }
 
@@ -97,14 +112,14 @@ impl PinSet {
     pub fn insert(&mut self, pin: PinNumber)
         ensures { self.new ≡ with_pin self.old pin }
     {
-        self.marks[pin.index()] = true;
+        self.marks[usize::from(pin.index())] = true;
     }
 
     /// Removes the PIN from the set.
     pub fn remove(&mut self, pin: PinNumber)
         ensures { self.new ≡ without_pin self.old pin }
     {
-        self.marks[pin.index()] = false;
+        self.marks[usize::from(pin.index())] = false;
     }
 }
 

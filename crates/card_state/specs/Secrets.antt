@@ -1,5 +1,5 @@
 -- A PIN, its two secrets and its changes (ISO/IEC 7816-4, clause 11, basic security handling).
-use Rattle.std.specs.Prelude.{ℕ, ◌≤◌, ◌-◌, ◌%◌, Bool, true, nat_le, if◌then◌else◌, List}
+use Rattle.std.specs.Prelude.{ℕ, ◌≤◌, ◌+◌, ◌-◌, ◌%◌, Bool, true, nat_le, if◌then◌else◌, List}
 use Rattle.card_rules.specs.declared.pins.TheConstants.{PINS}
 use Rattle.card_state.specs.declared.limits.TheConstants.{TRIES, UNBLOCKING_TRIES}
 
@@ -14,6 +14,13 @@ pub record Pin : Type 0 where
 -- True for an unblocking value. Secrets 0 to 7 are the values of PIN 1 to 8, secrets 8 to 15 their unblocking values.
 abbrev pub is_unblocking : ℕ → Bool
 is_unblocking secret = nat_le PINS secret
+
+-- The number of the value of PIN n among the secrets. `unblocking_of` is that of its unblocking value.
+abbrev pub value_of : ℕ → ℕ
+value_of n = n - 1
+
+abbrev pub unblocking_of : ℕ → ℕ
+unblocking_of n = PINS + (n - 1)
 
 -- The index of the PIN that a secret belongs to. PIN 1 has index 0.
 abbrev pub owner : ℕ → ℕ

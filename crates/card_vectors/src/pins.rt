@@ -1,10 +1,10 @@
 //! The receipt of a PIN's charge. The rows test the commands on PINs, and `script_vectors` power loss in them.
-ghost use Rattle.std.specs.Prelude.{◌<◌};
 ghost use Rattle.undo_journal.specs.Memory.{IsReady};
 
 use crate::fixtures::formatted;
+use card_rules::PinNumber;
 use nvm_board::{Board, RamBoard};
-use pin_store::{Outcome, are_pins, charge, settle};
+use pin_store::{Outcome, Secret, are_pins, charge, settle};
 use std::test::Fail;
 use store_vectors::fixtures::opened;
 use undo_journal::{Store, StoreErr};
@@ -14,14 +14,13 @@ const VALUE: [u8; 8] = [0x31, 0x32, 0x33, 0x34, 0xFF, 0xFF, 0xFF, 0xFF];
 
 /// Returns the secret of a charge's receipt, and its outcome.
 /// It is `None` without PINs or tries.
-fn spends<B: Board>(store: &mut Store<B>, secret: u8) -> Option<(u8, Result<Outcome, StoreErr>)>
+fn spends<B: Board>(store: &mut Store<B>, pin: PinNumber) -> Option<(u8, Result<Outcome, StoreErr>)>
     requires ready { IsReady store.old }
-    requires secret { secret < 8 }
 {
     let Ok(true) = are_pins(store) else {
         return None;
     };
-    let Ok(charged) = charge(store, secret) else {
+    let Ok(charged) = charge(store, Secret::value_of(pin)) else {
         return None;
     };
     Some((charged.secret(), settle(store, charged, &VALUE)))
@@ -30,6 +29,9 @@ fn spends<B: Board>(store: &mut Store<B>, secret: u8) -> Option<(u8, Result<Outc
 #[test]
 fn receipt_tells_its_secret(rt: HostRuntime) -> Result<(), Fail> {
     let mut store = opened(formatted(RamBoard::new(rt.alloc())?)?)?;
-    assert!(rt; spends(&mut store, 5) == Some((5, Ok(Outcome::Matched))));
+    let Some(pin) = PinNumber::new(6) else {
+        return Err(Fail::from("no such PIN"));
+    };
+    assert!(rt; spends(&mut store, pin) == Some((5, Ok(Outcome::Matched))));
     Ok(())
 }

@@ -1,15 +1,30 @@
 -- The PINs that are disabled, as the code finds them, one after another.
-use Rattle.std.specs.Prelude.{map, not, slice_set}
+use Rattle.std.specs.Prelude.{map, not, slice_set, ◌↔◌, Option, Some, None, IsSome, IfSome}
 use Rattle.std.proofs.Common.{◌≡◌, ◌≢◌, ◌<◌, ◌≤◌, ◌+◌, ◌-◌, ℕ, zero, suc, Bool, true, false, List, length, refl, sym}
-use Rattle.std.proofs.Common.{◌∙◌, ap, subst, arith, inl, inr}
+use Rattle.std.proofs.Common.{◌∙◌, ap, subst, arith, inl, inr, true≢false}
 use Rattle.std.proofs.Math.ListN.{length-set}
 use Rattle.std.proofs.lemmas.Bool.Decides.{eqb_tells}
 use Rattle.std.proofs.lemmas.List.{get_or-set_other, get_or-set_same}
 use Rattle.std.specs.List.{range_with_len, slice_index_or}
-use Rattle.card_rules.specs.Pins.{no_pins, with_pin}
+use Rattle.card_rules.specs.Pins.{no_pins, with_pin, IsPinNumber}
+use Rattle.card_rules.specs.declared.pins.TheConstants.{PINS}
 use Rattle.pin_store.specs.Pages.{pin_at, pins_of}
 use Rattle.command_base.specs.Working.{disabled_in}
 use Rattle.command_base.specs.laws.Verified.{by_places}
+
+-- The index of the PIN that comes next, 8 after the last.
+abbrev pub next_index : Option ℕ → ℕ
+next_index None = 8
+next_index (Some pin) = pin - 1
+
+pub index-next : (pin : ℕ) (next : Option ℕ) → IsPinNumber pin → (IsSome next ↔ (pin < PINS))
+    → IfSome next (λ after. after ≡ pin + 1) → next_index next ≡ pin - 1 + 1
+index-next pin (Some after) number valid value = let first = number.first in omega (arith, value, first)
+index-next pin None number valid value =
+    let first = number.first in
+    let last = number.last in
+    let past : ¬ (pin < PINS) = λ lt. absurd (true≢false (sym (valid.1 lt))) in
+    omega (arith, past, first, last)
 
 -- The marks of the first n PINs are told, and no other is marked.
 pub record TellsMarks (m : List ℕ) (n : ℕ) (marks : List Bool) : Type 0 where

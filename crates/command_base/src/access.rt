@@ -1,7 +1,5 @@
 //! Access control: what the rule of a file allows in a session.
-ghost use Rattle.std.specs.Prelude.{◌≡◌, ◌<◌, ◌+◌};
-ghost use Rattle.card_rules.specs.Pins.{with_pin};
-ghost use Rattle.card_rules.specs.declared.pins.TheConstants.{PINS};
+ghost use Rattle.std.specs.Prelude.{◌≡◌};
 ghost use Rattle.undo_journal.specs.StoreCalls.{Learns};
 ghost use Rattle.undo_journal.specs.Memory.{committed, IsReady};
 ghost use Rattle.file_tree.specs.Table.{entry_in, path_of, IsUsed};
@@ -12,7 +10,7 @@ use crate::current::Current;
 use crate::named::Named;
 use card_rules::{AccessBit, PinNumber, PinSet};
 use file_tree::is_allowed_at;
-use pin_store::{PINS, is_enabled};
+use pin_store::{Secret, is_enabled};
 use undo_journal::{Board, Store, StoreErr};
 
 /// Returns the disabled PINs.
@@ -21,22 +19,14 @@ fn disabled_pins<B: Board>(store: &mut Store<B>) -> Result<PinSet, StoreErr>
     ensures { Learns store.old store.new result (λ disabled. disabled ≡ disabled_in (committed store.old)) }
 {
     let mut disabled = PinSet::new();
-    for secret in 0..PINS {
-        if !is_enabled(store, secret)? {
-            insert(&mut disabled, secret);
+    let mut next = Some(PinNumber::first());
+    while let Some(pin) = next {
+        if !is_enabled(store, Secret::value_of(pin))? {
+            disabled.insert(pin);
         }
+        next = pin.next();
     }
     Ok(disabled)
-}
-
-/// Adds the PIN of a secret to a set.
-fn insert(pins: &mut PinSet, secret: u8)
-    requires { secret < PINS }
-    ensures { pins.new ≡ with_pin pins.old (secret + 1) }
-{
-    if let Some(pin) = PinNumber::new(secret + 1) {
-        pins.insert(pin);
-    }
 }
 
 /// Returns true if the file's rule allows `bit` in this session.

@@ -1,6 +1,5 @@
 //! The current files and the verified PINs of a session (ISO/IEC 7816-4, 7.3.1).
 ghost use Rattle.std.specs.Prelude.{◌≡◌};
-ghost use Rattle.card_rules.specs.Pins.{IsPinNumber};
 ghost use Rattle.command_base.specs.CurrentFiles.{current_at, current_by, fresh_current, named_from, pointer_from};
 ghost use Rattle.command_base.specs.CurrentFiles.{pointing_from, tried_from, unverifies};
 
@@ -69,15 +68,14 @@ impl Current {
 
     /// Returns the session after a value of a PIN was presented.
     /// A right value verifies the PIN. A wrong value of the PIN itself removes it from the verified ones.
-    pub fn after_attempt(self, pin: u8, shown: Shown, outcome: Outcome) -> Current
-        requires { IsPinNumber pin }
+    pub fn after_attempt(self, pin: PinNumber, shown: Shown, outcome: Outcome) -> Current
         ensures { result ≡ tried_from self pin (unverifies shown) outcome }
     {
         let mut verified = self.verified;
-        match (PinNumber::new(pin), outcome, shown) {
-            (Some(pin), Outcome::Matched, _) => verified.insert(pin),
-            (Some(pin), Outcome::Wrong(_), Shown::Value) => verified.remove(pin),
-            _ => {}
+        match (outcome, shown) {
+            (Outcome::Matched, _) => verified.insert(pin),
+            (Outcome::Wrong(_), Shown::Value) => verified.remove(pin),
+            (Outcome::Wrong(_), Shown::UnblockingValue) => {}
         }
         Current { verified, ..self }
     }

@@ -488,19 +488,19 @@ module _ (request : Request) (a : Attempt) (asks : IsAttempt request a) (old : M
 -- The exits as the calls tell them: of so many writes after the charge.
 module _ (request : Request) (a : Attempt) (asks : IsAttempt request a) (n : ℕ) (most : most_writes request ≡ 1 + n)
     (old : Memory) (x : Current) (ready : IsReady old) (card : IsCard (committed old))
-    (current : IsCurrent (table_in old) x)
+    (current : IsCurrent (table_in old) x) (secret : ℕ) (named : secret ≡ a.secret)
   where
     abbrev sized : IsMemory (committed old)
     sized = ready.usable.committed_size
 
     -- no try was taken: the attempt is refused, or the charge stopped
-    pub charge-stopped : (b : Memory) (r : Result Sw Stop) (stop : Stop) → IsErrAnd r (λ f. f ≡ stop)
+    stopped-there : (b : Memory) (r : Result Sw Stop) (stop : Stop) → IsErrAnd r (λ f. f ≡ stop)
         → (committed b ≡ committed old) ⊎ Charges a.secret old b
         → (IsSome (refused_at a (pin_in old a.secret)) → OnlyReads old b) → ArePinPages (committed b) → Reports old b
         → b.failed ≡ failure_of stop → WritesAtMost 1 old.facts b.facts → StaysShut old b
         → IfRefused stop (λ refusal. (refused_at a (pin_in old a.secret) ≡ Some refusal) × IsReady b)
         → Serves request old x b x [] (reply r)
-    charge-stopped b r stop is exit kept pages reports failed spends stays said =
+    stopped-there b r stop is exit kept pages reports failed spends stays said =
         subst (λ (result : Result Sw Stop). Serves request old x b x [] (reply result)) (sym (err-is r stop is))
         (by stop failed said)
       where
@@ -515,14 +515,31 @@ module _ (request : Request) (a : Attempt) (asks : IsAttempt request a) (n : ℕ
             let writes : b.facts.writes ≤ old.facts.writes + most_writes request = omega (arith, once, most) in
             exit-charge request a asks old x sized card current b e exit kept pages reports failed spends stays writes
 
+    -- the same by the secret that the calls name
+    pub charge-stopped : (b : Memory) (r : Result Sw Stop) (stop : Stop) → IsErrAnd r (λ f. f ≡ stop)
+        → (committed b ≡ committed old) ⊎ Charges secret old b
+        → (IsSome (refused_with a.unusable secret (pin_in old secret)) → OnlyReads old b) → ArePinPages (committed b)
+        → Reports old b → b.failed ≡ failure_of stop → WritesAtMost 1 old.facts b.facts → StaysShut old b
+        → IfRefused stop (λ refusal. (refused_with a.unusable secret (pin_in old secret) ≡ Some refusal) × IsReady b)
+        → Serves request old x b x [] (reply r)
+    charge-stopped b r stop is exit kept pages reports failed spends stays said =
+        stopped-there b r stop is (subst (λ (k : ℕ). (committed b ≡ committed old) ⊎ Charges k old b) named exit)
+        (subst (λ (k : ℕ). IsSome (refused_with a.unusable k (pin_in old k)) → OnlyReads old b) named kept)
+        pages reports failed spends stays
+        (subst (λ (k : ℕ). IfRefused stop (λ refusal. (refused_with a.unusable k (pin_in old k) ≡ Some refusal)
+        × IsReady b)) named said)
+
     -- a try was taken, and then an end came
     module _ (b e : Memory) (k : ℕ)
-        (got : (k ≡ a.secret) × Charges a.secret old b × (refused_at a (pin_in old a.secret) ≡ None))
+        (taken : (k ≡ secret) × Charges secret old b × (refused_with a.unusable secret (pin_in old secret) ≡ None))
         (pages-b : ArePinPages (committed b)) (costs : WritesAtMost 1 old.facts b.facts) (reports-b : Reports old b)
         (ends : (p : Pin) → IsEnd a.secret p (a.becomes p))
         (exit : (committed e ≡ committed b) ⊎ SetsByMatch k a.shown (a.becomes (pin_in b k)) b e)
         (spends : ComparesOnce n k b.facts e.facts) (pages : ArePinPages (committed e)) (reports : Reports b e)
         (stays : StaysShut old b) (word : EndsByWord a.renews b e) where
+      got : (k ≡ a.secret) × Charges a.secret old b × (refused_at a (pin_in old a.secret) ≡ None)
+      got = subst (λ (s : ℕ). (k ≡ s) × Charges s old b × (refused_with a.unusable s (pin_in old s) ≡ None)) named taken
+
       card-b : IsCard (committed b)
       card-b = exit-card request a asks old x sized card current b got.1.charged.size pages-b
           (charge_keeps_law a.secret a.shown old b (inr got.1) costs)
@@ -644,7 +661,8 @@ module _ (n : ℕ) (number : IsPinNumber n) where
   }
 
 module _ (request : Request) (n secret : ℕ) (asks : IsQuestion request n secret) (old : Memory) (x : Current)
-    (card : IsCard (committed old)) (current : IsCurrent (table_in old) x) (new : Memory) where
+    (card : IsCard (committed old)) (current : IsCurrent (table_in old) x) (named : ℕ) (is : named ≡ secret)
+    (new : Memory) where
   tries-are : tries_left secret (pin_in old secret) ≡ tries_of (card_in old) n secret
   tries-are =
       ap (tries_left secret) (ap (pin_at (committed old)) asks.owned ∙ sym (pin-is (committed old) n card asks.number))
@@ -658,11 +676,11 @@ module _ (request : Request) (n secret : ℕ) (asks : IsQuestion request n secre
       ∙ ap (refused (card_in old) (session_in old x)) (sym (told ∙ ap tries_status tries-are))
 
   pub question-answered : (r : Result Sw StoreErr)
-      → IfOk r (λ status. status ≡ tries_status (tries_left secret (pin_in old secret)))
+      → IfOk r (λ status. status ≡ tries_status (tries_left named (pin_in old named)))
       → Reads old new (result_err r) → Serves request old x new x [] r
   question-answered (Ok status) told reads =
       declined request old x new
       (counts-none request (card_in old) (session_in old x) old.facts new.facts asks.unshown) card status reads.only
-      reads.ready current (answer-is status told)
+      reads.ready current (answer-is status (told ∙ ap (λ (s : ℕ). tries_status (tries_left s (pin_in old s))) is))
   question-answered (Err e) told reads =
       stopped request old x new card x [] e reads.only reads.tells (omega arith)

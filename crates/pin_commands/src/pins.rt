@@ -1,11 +1,9 @@
 //! VERIFY, CHANGE REFERENCE DATA, RESET RETRY COUNTER, DISABLE and ENABLE VERIFICATION REQUIREMENT
 //! (ISO/IEC 7816-4, 11.5 and 11.6). Each permanently uses up a try before it compares anything.
-ghost use Rattle.std.specs.Prelude.{◌≡◌, ◌<◌, ◌+◌, [], Some, option_map, IsSome};
+ghost use Rattle.std.specs.Prelude.{◌≡◌, [], Some, option_map, IsSome};
 ghost use Rattle.std.specs.Result.{result_err};
-ghost use Rattle.nvm_board.specs.declared.board.TheConstants.{SECRETS};
 ghost use Rattle.undo_journal.specs.StoreCalls.{Learns};
 ghost use Rattle.undo_journal.specs.Memory.{committed, IsReady};
-ghost use Rattle.card_rules.specs.Pins.{IsPinNumber};
 ghost use Rattle.card_model.specs.Requests.{change_reference_data as changing, reset_retry_counter as resetting};
 ghost use Rattle.card_model.specs.Requests.{verify as verifying, change_requirement as requiring};
 ghost use Rattle.pin_store.specs.Pages.{ArePinPages};
@@ -20,9 +18,10 @@ ghost use Rattle.command_base.specs.Working.{IsKept};
 ghost use Rattle.command_base.specs.CurrentFiles.{tried_from, unverifies};
 
 use apdu_core::{Replacement, RequirementChange, Sw};
+use card_rules::PinNumber;
 use command_base::{Current, Shown, Stop};
 use pin_store::{
-    Charged, Outcome, PINS, change, charge, is_enabled, reset_counter, set_enabled, settle, tries,
+    Charged, Outcome, Secret, change, charge, is_enabled, reset_counter, set_enabled, settle, tries,
 };
 use undo_journal::{Board, Store, StoreErr};
 
@@ -52,18 +51,18 @@ impl Usable {
 pub fn verify<B: Board>(
     store: &mut Store<B>,
     current: &mut Current,
-    pin: u8,
+    pin: PinNumber,
     shown: Option<&[u8; 8]>,
 ) -> Result<Sw, Stop>
     requires kept { IsKept store.old current.old }
-    requires pin { IsPinNumber pin }
     ensures { Serves (verifying pin (option_map (λ value. value.now) shown.entry)) store.old current.old store.new
         current.new [] (reply result) }
 {
+    let secret = Secret::value_of(pin);
     let Some(shown) = shown else {
-        return Ok(tell_tries(store, pin - 1)?);
+        return Ok(tell_tries(store, secret)?);
     };
-    let charged = take_try(store, pin - 1, Usable::WhileEnabled)?;
+    let charged = take_try(store, secret, Usable::WhileEnabled)?;
     let outcome = settle(store, charged, shown)?;
     Ok(conclude(current, pin, Shown::Value, outcome))
 }
@@ -73,15 +72,15 @@ pub fn verify<B: Board>(
 pub fn change_reference_data<B: Board>(
     store: &mut Store<B>,
     current: &mut Current,
-    pin: u8,
+    pin: PinNumber,
     values: Replacement<'_>,
 ) -> Result<Sw, Stop>
     requires kept { IsKept store.old current.old }
-    requires pin { IsPinNumber pin }
     ensures { Serves (changing pin values.entry.shown.now values.entry.new.now) store.old current.old store.new
         current.new [] (reply result) }
 {
-    let charged = take_try(store, pin - 1, Usable::WhileEnabled)?;
+    let secret = Secret::value_of(pin);
+    let charged = take_try(store, secret, Usable::WhileEnabled)?;
     let outcome = change(store, charged, values.shown, values.new)?;
     Ok(conclude(current, pin, Shown::Value, outcome))
 }
@@ -92,18 +91,18 @@ pub fn change_reference_data<B: Board>(
 pub fn reset_retry_counter<B: Board>(
     store: &mut Store<B>,
     current: &mut Current,
-    pin: u8,
+    pin: PinNumber,
     values: Option<Replacement<'_>>,
 ) -> Result<Sw, Stop>
     requires kept { IsKept store.old current.old }
-    requires pin { IsPinNumber pin }
     ensures { Serves (resetting pin (option_map (λ values. (values.shown.now, values.new.now)) values.entry)) store.old
         current.old store.new current.new [] (reply result) }
 {
+    let secret = Secret::unblocking_value_of(pin);
     let Some(values) = values else {
-        return Ok(tell_tries(store, PINS + (pin - 1))?);
+        return Ok(tell_tries(store, secret)?);
     };
-    let charged = take_try(store, PINS + (pin - 1), Usable::InAnyCase)?;
+    let charged = take_try(store, secret, Usable::InAnyCase)?;
     let outcome = reset_counter(store, charged, values.shown, values.new)?;
     Ok(conclude(current, pin, Shown::UnblockingValue, outcome))
 }
@@ -114,14 +113,14 @@ pub fn change_requirement<B: Board>(
     store: &mut Store<B>,
     current: &mut Current,
     change: RequirementChange,
-    pin: u8,
+    pin: PinNumber,
     shown: &[u8; 8],
 ) -> Result<Sw, Stop>
     requires kept { IsKept store.old current.old }
-    requires pin { IsPinNumber pin }
     ensures { Serves (requiring change pin shown.now) store.old current.old store.new current.new [] (reply result) }
 {
-    let charged = take_try(store, pin - 1, usable_by(change))?;
+    let secret = Secret::value_of(pin);
+    let charged = take_try(store, secret, usable_by(change))?;
     let outcome = set_enabled(store, charged, shown, is_enabled_by(change))?;
     Ok(conclude(current, pin, Shown::Value, outcome))
 }
@@ -147,9 +146,8 @@ fn is_enabled_by(change: RequirementChange) -> bool
 }
 
 /// Returns the status word with the remaining tries of a secret.
-fn tell_tries<B: Board>(store: &mut Store<B>, secret: u8) -> Result<Sw, StoreErr>
+fn tell_tries<B: Board>(store: &mut Store<B>, secret: Secret) -> Result<Sw, StoreErr>
     requires ready { IsReady store.old }
-    requires secret { secret < SECRETS }
     requires pages { ArePinPages (committed store.old) }
     ensures { Learns store.old store.new result
         (λ status. status ≡ tries_status (tries_left secret (pin_in store.old secret))) }
@@ -160,9 +158,12 @@ fn tell_tries<B: Board>(store: &mut Store<B>, secret: u8) -> Result<Sw, StoreErr
 
 /// Uses up a try of a secret, or returns the refusal.
 /// The refusals in order: no tries left; the PIN is disabled, or enabled.
-fn take_try<B: Board>(store: &mut Store<B>, secret: u8, usable: Usable) -> Result<Charged, Stop>
+fn take_try<B: Board>(
+    store: &mut Store<B>,
+    secret: Secret,
+    usable: Usable,
+) -> Result<Charged, Stop>
     requires ready { IsReady store.old }
-    requires secret { secret < SECRETS }
     requires pages { ArePinPages (committed store.old) }
     ensures done { FindsOrRefuses result
         (λ charged. (charged ≡ secret) × Charges secret store.old store.new
@@ -177,9 +178,8 @@ fn take_try<B: Board>(store: &mut Store<B>, secret: u8, usable: Usable) -> Resul
 
 /// Refuses the presentation of a secret before a try is used up.
 /// The refusals in order: no tries left; the PIN is disabled, or enabled.
-fn check_use<B: Board>(store: &mut Store<B>, secret: u8, usable: Usable) -> Result<(), Stop>
+fn check_use<B: Board>(store: &mut Store<B>, secret: Secret, usable: Usable) -> Result<(), Stop>
     requires ready { IsReady store.old }
-    requires secret { secret < SECRETS }
     requires pages { ArePinPages (committed store.old) }
     ensures { Checks store.old store.new (refused_use usable secret (pin_in store.old secret)) result }
 {
@@ -193,8 +193,7 @@ fn check_use<B: Board>(store: &mut Store<B>, secret: u8, usable: Usable) -> Resu
 
 /// Ends an attempt on a PIN: updates session, returns status word.
 /// After a wrong value the status word has the remaining tries.
-fn conclude(current: &mut Current, pin: u8, shown: Shown, outcome: Outcome) -> Sw
-    requires { IsPinNumber pin }
+fn conclude(current: &mut Current, pin: PinNumber, shown: Shown, outcome: Outcome) -> Sw
     ensures session { current.new ≡ tried_from current.old pin (unverifies shown) outcome }
     ensures status { result ≡ end_of_attempt outcome }
 {

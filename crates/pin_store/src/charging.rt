@@ -12,35 +12,31 @@ ghost use Rattle.pin_store.specs.Trials.{pin_in, store_failure, Charges, TakesTr
 use crate::errors::PinErr;
 use crate::layout::PIN_MARK_WORD;
 use crate::putting::put_left;
-use crate::words::{address_of, tries_place};
+use crate::secret::Secret;
 use std::marker::Model;
 use undo_journal::{Board, Store, StoreErr};
 
 /// The receipt of a charge. A try of this secret is used up. `settle`, `change`, `reset_counter` and `set_enabled`
 /// consume it, and only they compare. It can't be copied or dropped.
 pub struct Charged {
-    pub(crate) secret: u8,
+    pub(crate) secret: Secret,
 }
 
 impl Model for Charged {
-    ghost use Rattle.std.specs.Prelude.{ℕ, ◌<◌};
-    ghost use Rattle.nvm_board.specs.declared.board.TheConstants.{SECRETS};
+    ghost use Rattle.std.specs.Prelude.{ℕ};
 
     ghost Value = { ℕ };
 
     ghost view = { λ c. c.secret };
-
-    ghost invariant = { λ c. c.secret < SECRETS };
 }
 
 impl Charged {
-    /// Returns the secret that was charged. Secrets 0 to 7 are the values of PIN 1 to 8, 8 to 15 their unblocking
-    /// values.
+    /// Returns the number of the secret that was charged, as `Secret::number` does.
     pub fn secret(&self) -> u8
         ensures secret { result ≡ self.now }
         ensures in_range { result < SECRETS }
     {
-        self.secret
+        self.secret.number()
     }
 }
 
@@ -48,14 +44,13 @@ impl Charged {
 ///
 /// # Errors
 /// The store's failure: power was lost, or the device failed.
-pub fn tries<B: Board>(store: &mut Store<B>, secret: u8) -> Result<u8, StoreErr>
+pub fn tries<B: Board>(store: &mut Store<B>, secret: Secret) -> Result<u8, StoreErr>
     requires ready { IsReady store.old }
-    requires secret { secret < SECRETS }
     requires pages { ArePinPages (committed store.old) }
     ensures left { IfOk result (λ left. left ≡ tries_left secret (pin_in store.old secret)) }
     ensures store { Reads store.old store.new (result_err result) }
 {
-    let word = store.read(address_of(secret, tries_place(secret)))?;
+    let word = store.read(secret.address_of(secret.tries_place()))?;
     Ok(word as u8)
 }
 
@@ -63,13 +58,12 @@ pub fn tries<B: Board>(store: &mut Store<B>, secret: u8) -> Result<u8, StoreErr>
 ///
 /// # Errors
 /// The store's failure: power was lost, or the device failed.
-pub fn is_enabled<B: Board>(store: &mut Store<B>, secret: u8) -> Result<bool, StoreErr>
+pub fn is_enabled<B: Board>(store: &mut Store<B>, secret: Secret) -> Result<bool, StoreErr>
     requires ready { IsReady store.old }
-    requires secret { secret < SECRETS }
     ensures enabled { IfOk result (λ enabled. enabled ≡ (pin_in store.old secret).enabled) }
     ensures store { Reads store.old store.new (result_err result) }
 {
-    let mark = store.read(address_of(secret, PIN_MARK_WORD))?;
+    let mark = store.read(secret.address_of(PIN_MARK_WORD))?;
     Ok(mark == 1)
 }
 
@@ -79,9 +73,8 @@ pub fn is_enabled<B: Board>(store: &mut Store<B>, secret: u8) -> Result<bool, St
 /// # Errors
 /// `Blocked` if no try is left (`blocked`, `done`). In that state it writes nothing, at any exit (`kept` of `takes`).
 /// The store's failure: power was lost, or the device failed. The try may be used up then, and there is no receipt.
-pub fn charge<B: Board>(store: &mut Store<B>, secret: u8) -> Result<Charged, PinErr>
+pub fn charge<B: Board>(store: &mut Store<B>, secret: Secret) -> Result<Charged, PinErr>
     requires ready { IsReady store.old }
-    requires secret { secret < SECRETS }
     requires pages { ArePinPages (committed store.old) }
     ensures done { IfOk result (λ charged. (charged ≡ secret) × Charges secret store.old store.new) }
     ensures blocked { IsErrOf result Blocked → (tries_left secret (pin_in store.old secret) ≡ 0) × IsReady store.new }

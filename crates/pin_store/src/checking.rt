@@ -6,7 +6,7 @@ ghost use Rattle.undo_journal.specs.Memory.{committed, IsReady};
 ghost use Rattle.pin_store.specs.Pages.{AreAtMost, AreMarks, ArePinPages};
 
 use crate::layout::{PIN_MARK_WORD, PINS, TRIES, UNBLOCKING_TRIES};
-use crate::words::address_of;
+use crate::words::word_address;
 use undo_journal::{Board, Store, StoreErr};
 
 /// Returns true if no PIN's word `place` is above `most`.
@@ -16,7 +16,7 @@ fn are_at_most<B: Board>(store: &mut Store<B>, place: u16, most: u32) -> Result<
     ensures { Learns store.old store.new result (λ few. IsTrue few ↔ AreAtMost most place (committed store.old)) }
 {
     for pin in 0..PINS {
-        let word = store.read(address_of(pin, place))?;
+        let word = store.read(word_address(pin, place))?;
         if word > most {
             return Ok(false);
         }

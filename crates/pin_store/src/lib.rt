@@ -8,6 +8,7 @@ mod errors;
 pub mod laws;
 mod layout;
 mod putting;
+mod secret;
 mod settling;
 mod words;
 
@@ -15,4 +16,5 @@ pub use charging::{Charged, charge, is_enabled, tries};
 pub use checking::{are_marks, are_pins};
 pub use errors::{Outcome, PinErr};
 pub use layout::{FIRST_PIN_PAGE, PIN_MARK_WORD, PINS, TRIES, UNBLOCKING_TRIES};
+pub use secret::Secret;
 pub use settling::{change, reset_counter, set_enabled, settle};

@@ -9,7 +9,8 @@ ghost use Rattle.pin_store.specs.RenewalParts.{renewal_runs, renewal_sets, renew
 ghost use Rattle.pin_store.specs.Trials.{pin_in};
 
 use crate::layout::{PIN_MARK_WORD, TRIES, UNBLOCKING_TRIES};
-use crate::words::{address_of, tries_place, words_of};
+use crate::secret::Secret;
+use crate::words::words_of;
 use undo_journal::{Board, Store, StoreErr, Txn};
 
 /// What a match changes besides the tries of the value.
@@ -25,38 +26,38 @@ pub(crate) enum Renewal<'a> {
 
 /// Sets the tries of a PIN to 3, and its value. In a transaction, it sets words 0, 2 and 3 of the page, in this
 /// order.
-fn set_value<B: Board>(txn: &mut Txn<'_, B>, secret: u8, new: &[u8; 8]) -> Result<(), StoreErr>
+fn set_value<B: Board>(txn: &mut Txn<'_, B>, secret: Secret, new: &[u8; 8]) -> Result<(), StoreErr>
     requires ready { IsOpen (memory_of txn.old) }
     requires room { 3 ≤ room (memory_of txn.old) }
     ensures { SetsIts 3 2 secret (changed_pin new.now) txn.old txn.new result }
 {
     let [first, second] = words_of(new);
-    txn.set_run(address_of(secret, 0), &[u32::from(TRIES)])?;
-    txn.set_run(address_of(secret, 2), &[first, second])
+    txn.set_run(secret.address_of(0), &[u32::from(TRIES)])?;
+    txn.set_run(secret.address_of(2), &[first, second])
 }
 
 /// Sets all tries of a PIN, and its value. The tries are 3, the unblocking tries 10. In a transaction, it sets words
 /// 0 to 3 of the page, in this order.
-fn set_all<B: Board>(txn: &mut Txn<'_, B>, secret: u8, new: &[u8; 8]) -> Result<(), StoreErr>
+fn set_all<B: Board>(txn: &mut Txn<'_, B>, secret: Secret, new: &[u8; 8]) -> Result<(), StoreErr>
     requires ready { IsOpen (memory_of txn.old) }
     requires room { 4 ≤ room (memory_of txn.old) }
     ensures { SetsIts 4 1 secret (reset_pin new.now) txn.old txn.new result }
 {
     let [first, second] = words_of(new);
     txn.set_run(
-        address_of(secret, 0),
+        secret.address_of(0),
         &[u32::from(TRIES), u32::from(UNBLOCKING_TRIES), first, second],
     )
 }
 
 /// Sets the tries of a PIN to 3, and its mark. In a transaction, it sets words 0 and 6 of the page, in this order.
-fn set_mark<B: Board>(txn: &mut Txn<'_, B>, secret: u8, enabled: bool) -> Result<(), StoreErr>
+fn set_mark<B: Board>(txn: &mut Txn<'_, B>, secret: Secret, enabled: bool) -> Result<(), StoreErr>
     requires ready { IsOpen (memory_of txn.old) }
     requires room { 2 ≤ room (memory_of txn.old) }
     ensures { SetsIts 2 2 secret (marked_pin enabled) txn.old txn.new result }
 {
-    txn.set_run(address_of(secret, 0), &[u32::from(TRIES)])?;
-    txn.set_run(address_of(secret, PIN_MARK_WORD), &[mark_of(enabled)])
+    txn.set_run(secret.address_of(0), &[u32::from(TRIES)])?;
+    txn.set_run(secret.address_of(PIN_MARK_WORD), &[mark_of(enabled)])
 }
 
 /// Returns the mark of an enabled or a disabled PIN.
@@ -67,26 +68,30 @@ fn mark_of(enabled: bool) -> u32
 }
 
 /// Lowers the tries of a secret, in one device write. An equal number is allowed.
-pub(crate) fn put_left<B: Board>(store: &mut Store<B>, secret: u8, left: u8) -> Result<(), StoreErr>
+pub(crate) fn put_left<B: Board>(
+    store: &mut Store<B>,
+    secret: Secret,
+    left: u8,
+) -> Result<(), StoreErr>
     requires ready { IsReady store.old }
     requires fewer { left ≤ tries_left secret (pin_in store.old secret) }
     ensures { PutsIts StaysShut 1 secret (with_tries secret left) store.old store.new result }
 {
-    store.put_alone(address_of(secret, tries_place(secret)), u32::from(left))
+    store.put_alone(secret.address_of(secret.tries_place()), u32::from(left))
 }
 
 /// Sets the tries of a PIN to 3, in one device write.
-pub(crate) fn put_tries<B: Board>(store: &mut Store<B>, secret: u8) -> Result<(), StoreErr>
+pub(crate) fn put_tries<B: Board>(store: &mut Store<B>, secret: Secret) -> Result<(), StoreErr>
     requires ready { IsReady store.old }
     ensures { PutsIts StaysShut 1 secret verified_pin store.old store.new result }
 {
-    store.put_alone(address_of(secret, 0), u32::from(TRIES))
+    store.put_alone(secret.address_of(0), u32::from(TRIES))
 }
 
 /// Sets what a match changes, within a transaction.
 fn set_renewed<B: Board>(
     txn: &mut Txn<'_, B>,
-    secret: u8,
+    secret: Secret,
     renewal: Renewal<'_>,
 ) -> Result<(), StoreErr>
     requires ready { IsOpen (memory_of txn.old) }
@@ -104,7 +109,7 @@ fn set_renewed<B: Board>(
 /// Sets what a match changes, in one transaction.
 pub(crate) fn put_renewed<B: Board>(
     store: &mut Store<B>,
-    secret: u8,
+    secret: Secret,
     renewal: Renewal<'_>,
 ) -> Result<(), StoreErr>
     requires ready { IsReady store.old }

@@ -4,7 +4,6 @@ ghost use Rattle.std.specs.Result.{result_err};
 ghost use Rattle.undo_journal.specs.StoreCalls.{Reads, Leaves};
 ghost use Rattle.undo_journal.specs.Commits.{CommitsByGate, StaysShut};
 ghost use Rattle.undo_journal.specs.Memory.{committed, IsReady};
-ghost use Rattle.nvm_board.specs.declared.board.TheConstants.{SECRETS};
 ghost use Rattle.card_rules.specs.declared.pins.TheConstants.{PINS};
 ghost use Rattle.card_state.specs.Secrets.{changed_pin, kept, marked_pin, reset_pin, verified_pin};
 ghost use Rattle.pin_store.specs.RenewalParts.{renewing_writes, renewed_pin};
@@ -14,7 +13,8 @@ ghost use Rattle.pin_store.specs.Trials.{pin_in, Compared, ComparesOnce, EndsTri
 use crate::charging::{Charged, tries};
 use crate::errors::Outcome;
 use crate::putting::{Renewal, put_renewed, put_tries};
-use crate::words::{address_of, bytes_of, kept_place};
+use crate::secret::Secret;
+use crate::words::bytes_of;
 use undo_journal::{Board, Store, StoreErr};
 
 /// VERIFY: compares the presented bytes with the PIN's value. A match sets its tries to 3 in one device write; a
@@ -32,7 +32,7 @@ pub fn settle<B: Board>(
     requires pages { ArePinPages (committed store.old) }
     ensures { EndsTrial StaysShut 1 charged shown.now verified_pin store.old store.new result }
 {
-    let secret = charged.secret();
+    let secret = charged.secret;
     let outcome = compare(store, charged, shown)?;
     if let Outcome::Matched = outcome {
         put_tries(store, secret)?;
@@ -111,7 +111,7 @@ fn renew<B: Board>(
     ensures { EndsTrial CommitsByGate (renewing_writes renewal.entry) charged shown.now (renewed_pin renewal.entry)
         store.old store.new result }
 {
-    let secret = charged.secret();
+    let secret = charged.secret;
     let outcome = compare(store, charged, shown)?;
     if let Outcome::Matched = outcome {
         put_renewed(store, secret, renewal)?;
@@ -137,7 +137,7 @@ fn compare<B: Board>(
     let Charged { secret } = charged;
     let left = tries(store, secret)?;
     let kept = kept(store, secret)?;
-    let right = store.compare(secret, &kept, shown)?;
+    let right = store.compare(secret.number(), &kept, shown)?;
     Ok(outcome_of(right, left))
 }
 
@@ -153,14 +153,13 @@ fn outcome_of(right: bool, left: u8) -> Outcome
 }
 
 /// Returns the stored bytes of a secret.
-fn kept<B: Board>(store: &mut Store<B>, secret: u8) -> Result<[u8; 8], StoreErr>
+fn kept<B: Board>(store: &mut Store<B>, secret: Secret) -> Result<[u8; 8], StoreErr>
     requires ready { IsReady store.old }
-    requires secret { secret < SECRETS }
     ensures kept { IfOk result (λ bytes. bytes ≡ kept secret (pin_in store.old secret)) }
     ensures store { Reads store.old store.new (result_err result) }
 {
-    let place = kept_place(secret);
-    let first = store.read(address_of(secret, place))?;
-    let second = store.read(address_of(secret, place + 1))?;
+    let place = secret.kept_place();
+    let first = store.read(secret.address_of(place))?;
+    let second = store.read(secret.address_of(place + 1))?;
     Ok(bytes_of(first, second))
 }

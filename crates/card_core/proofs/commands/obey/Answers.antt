@@ -11,10 +11,7 @@ use Rattle.command_base.specs.laws.Readings.{index_still, kept_still}
 use Rattle.command_base.specs.laws.SpaceKept.{space-same}
 use Rattle.command_base.specs.laws.Stopping.{err-is, none-failed, reply-failed}
 use Rattle.undo_journal.specs.laws.Calls.{reads_same}
-use Rattle.command_base.specs.declared.stop.Stop.{Stop}
-use Rattle.command_base.specs.declared.stop.Stop.TheVariants.{Refused}
 use Rattle.command_base.specs.Stops.{reply}
-use Rattle.command_base.specs.laws.Answering.{ok_anyway}
 use Rattle.card_core.proofs.commands.obey.Goals as goal
 
 pub returns-in_err-state-clause-carries : goal.returns-in_err-state-clause-carries
@@ -24,7 +21,7 @@ returns-in_err-state-clause-carries g c =
     let new = c.header_word.new.store in
     let bytes = c.args.command.now in
     subst (λ (r : Result Sw StoreErr). CarriesOut bytes old x new x c.args.answer.now.items r) (sym (err-is _ _
-    (reply-failed _ _ c.from_residual-in_err-state.ensures.1)))
+    (reply-failed _ _ c.from_residual.ensures.1)))
     (subst (λ (text : List ℕ). CarriesOut bytes old x new x text (Err c.in_err-state.field-0.0))
     (sym c.requires.empty) (failed-reading bytes old new x c.requires.whole.kept x c.in_err-state.field-0.0
     c.in_err-state.ensures.store.only c.in_err-state.ensures.store.tells))
@@ -38,42 +35,40 @@ returns-then-state-ne-CARD_IN_USE-clause-carries g c =
     let told = in-use-is (committed old) ∙ ap (λ (n : ℕ). n == 0) (sym c.in_ok-state.ensures.told) in
     let ended = told ∙ ne_eqb _ _ c.if-state-ne-CARD_IN_USE.true in
     subst (λ (text : List ℕ). CarriesOut bytes old x new x text (Ok CONDITIONS_NOT_SATISFIED)) (sym c.requires.empty)
-    (use-ended bytes old new x c.requires.whole.kept (request_of c.in_ok-command.command) c.in_ok-command.ensures.asked
+    (use-ended bytes old new x c.requires.whole.kept (request_of c.in-Ok.command) c.in-Ok.ensures.asked
     ended c.in_ok-state.ensures.store.only c.in_ok-state.ensures.store.ready)
 
 pub returns-clause-carries : goal.returns-clause-carries
 returns-clause-carries g c =
     let old = c.args.lent.now.store in
     let x = c.args.lent.now.current in
-    let request = request_of c.in_ok-command.command in
+    let request = request_of c.in-Ok.command in
     let told = in-use-is (committed old) ∙ ap (λ (n : ℕ). n == 0) (sym c.in_ok-state.ensures.told) in
     let in_use = told ∙ ap (λ (n : ℕ). n == 0) c.if-state-ne-CARD_IN_USE.false in
     carried c.args.command.now old c.serve.new.lent.store x c.serve.new.lent.current c.serve.new.answer.items
-    (reply c.serve.result) request c.in_ok-command.ensures.asked in_use
+    (reply c.serve.result) request c.in-Ok.ensures.asked in_use
     (serves-after request old c.header_word.new.store
     c.serve.new.lent.store x c.serve.new.lent.current c.serve.new.answer.items
     (reply c.serve.result) c.in_ok-state.ensures.store.only c.serve.ensures.serves)
 
 pub returns-in_err-state-clause-space : goal.returns-in_err-state-clause-space
-returns-in_err-state-clause-space g c = none-failed _ _ _ c.from_residual-in_err-state.ensures.1
+returns-in_err-state-clause-space g c = none-failed _ _ _ c.from_residual.ensures.1
 
-pub returns-in_err-command-clause-carries : goal.returns-in_err-command-clause-carries
-returns-in_err-command-clause-carries g c =
+pub returns-in-Err-clause-carries : goal.returns-in-Err-clause-carries
+returns-in-Err-clause-carries g c =
     let old = c.args.lent.now.store in
     let x = c.args.lent.now.current in
     let bytes = c.args.command.now in
-    let status = c.in_err-command.field-0.0 in
-    subst (λ (r : Result Sw Stop). CarriesOut bytes old x old x c.args.answer.now.items (reply r))
-    (sym (err-is _ (Refused status) c.from_residual.ensures.1))
-    (subst (λ (text : List ℕ). CarriesOut bytes old x old x text (Ok status)) (sym c.requires.empty)
-    (refused-by-form bytes old old x c.requires.whole.kept status c.in_err-command.ensures.asked
-    (reads_same old) c.requires.whole.kept.ready))
+    let status = c.in-Err.refusal in
+    subst (λ (text : List ℕ). CarriesOut bytes old x old x text (Ok status)) (sym c.requires.empty)
+    (refused-by-form bytes old old x c.requires.whole.kept status c.in-Err.ensures.asked
+    (reads_same old) c.requires.whole.kept.ready)
 
-pub returns-in_err-command-clause-space : goal.returns-in_err-command-clause-space
-returns-in_err-command-clause-space g c = ok_anyway _ _ c.requires.whole.space
+pub returns-in-Err-clause-space : goal.returns-in-Err-clause-space
+returns-in-Err-clause-space g c = c.requires.whole.space
 
-pub returns-in_err-command-clause-index : goal.returns-in_err-command-clause-index
-returns-in_err-command-clause-index g c = ok_anyway _ _ c.requires.whole.index
+pub returns-in-Err-clause-index : goal.returns-in-Err-clause-index
+returns-in-Err-clause-index g c = c.requires.whole.index
 
 pub serve-requires-clause-whole : goal.serve-requires-clause-whole
 serve-requires-clause-whole g c =
@@ -88,7 +83,7 @@ serve-requires-clause-whole g c =
     }
 
 pub returns-in_err-state-clause-index : goal.returns-in_err-state-clause-index
-returns-in_err-state-clause-index g c = none-failed _ _ _ c.from_residual-in_err-state.ensures.1
+returns-in_err-state-clause-index g c = none-failed _ _ _ c.from_residual.ensures.1
 
 pub returns-then-state-ne-CARD_IN_USE-clause-index : goal.returns-then-state-ne-CARD_IN_USE-clause-index
 returns-then-state-ne-CARD_IN_USE-clause-index g c =

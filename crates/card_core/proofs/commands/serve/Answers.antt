@@ -147,18 +147,12 @@ unfolding commits
 returns-in-TerminateCardUsage-clause-space g c =
     space_left _ _ _ _ _ _ _ _ c.terminate_card_usage.ensures (refl, tt) c.requires.whole.space
 
-pub verify-requires-clause-pin : goal.verify-requires-clause-pin
-verify-requires-clause-pin g c = subst IsCommandInRange c.in-Verify.is c.requires.in_range
-
 pub returns-in-Verify-clause-serves : goal.returns-in-Verify-clause-serves
 returns-in-Verify-clause-serves g c = silent _ _ _ _ _ _ _ c.in-Verify.is _ c.requires.empty c.verify.ensures
 
 pub returns-in-Verify-clause-space : goal.returns-in-Verify-clause-space
 unfolding commits
 returns-in-Verify-clause-space g c = space_left _ _ _ _ _ _ _ _ c.verify.ensures (pin-files _ _) c.requires.whole.space
-
-pub change_reference_data-requires-clause-pin : goal.change_reference_data-requires-clause-pin
-change_reference_data-requires-clause-pin g c = subst IsCommandInRange c.in-ChangeReferenceData.is c.requires.in_range
 
 pub returns-in-ChangeReferenceData-clause-serves : goal.returns-in-ChangeReferenceData-clause-serves
 returns-in-ChangeReferenceData-clause-serves g c =
@@ -172,9 +166,6 @@ returns-in-ChangeReferenceData-clause-space g c =
     space_left _ _ _ _ _ _ _ _ c.change_reference_data.ensures (attempt-files (card_in c.args.lent.now.store) attempt)
     c.requires.whole.space
 
-pub reset_retry_counter-requires-clause-pin : goal.reset_retry_counter-requires-clause-pin
-reset_retry_counter-requires-clause-pin g c = subst IsCommandInRange c.in-ResetRetryCounter.is c.requires.in_range
-
 pub returns-in-ResetRetryCounter-clause-serves : goal.returns-in-ResetRetryCounter-clause-serves
 returns-in-ResetRetryCounter-clause-serves g c =
     silent _ _ _ _ _ _ _ c.in-ResetRetryCounter.is _ c.requires.empty c.reset_retry_counter.ensures
@@ -183,9 +174,6 @@ pub returns-in-ResetRetryCounter-clause-space : goal.returns-in-ResetRetryCounte
 unfolding commits
 returns-in-ResetRetryCounter-clause-space g c =
     space_left _ _ _ _ _ _ _ _ c.reset_retry_counter.ensures (pin-files _ _) c.requires.whole.space
-
-pub change_requirement-requires-clause-pin : goal.change_requirement-requires-clause-pin
-change_requirement-requires-clause-pin g c = subst IsCommandInRange c.in-ChangeRequirement.is c.requires.in_range
 
 pub returns-in-ChangeRequirement-clause-serves : goal.returns-in-ChangeRequirement-clause-serves
 returns-in-ChangeRequirement-clause-serves g c =

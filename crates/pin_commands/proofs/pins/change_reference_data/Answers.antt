@@ -6,21 +6,27 @@ use Rattle.pin_commands.proofs.pins.change_reference_data.Goals as goal
 
 pub returns-in_err-charged : goal.returns-in_err-charged
 returns-in_err-charged g c =
-    charge-stopped _ _ (changes c.args.pin c.requires.pin c.args.values.shown.now c.args.values.new.now) 5
+    charge-stopped _ _ (changes c.args.pin c.value_of-secret.ensures.in_range c.args.values.shown.now
+    c.args.values.new.now) 5
     refl c.args.store.now c.args.current.now
-    c.requires.kept.ready c.requires.kept.card c.requires.kept.current c.take_try.new.store _ c.in_err-charged.field-0.0
+    c.requires.kept.ready c.requires.kept.card c.requires.kept.current
+    c.value_of-secret.result c.value_of-secret.ensures.secret c.take_try.new.store _ c.in_err-charged.field-0.0
     c.from_residual.ensures.1 c.take_try.ensures.takes.any_exit c.take_try.ensures.takes.kept
-    c.take_try.ensures.takes.pages c.take_try.ensures.takes.store.reports c.in_err-charged.ensures.takes.store.tells
+    c.take_try.ensures.takes.pages c.take_try.ensures.takes.store.reports
+    c.in_err-charged.ensures.takes.store.tells
     c.take_try.ensures.takes.store.writes c.take_try.ensures.takes.shut c.in_err-charged.ensures.done
 
 pub returns-in_err-outcome : goal.returns-in_err-outcome
 returns-in_err-outcome g c =
-    let first = c.requires.pin.first in
-    let last = c.requires.pin.last in
+    let first = c.value_of-secret.ensures.in_range.first in
+    let last = c.value_of-secret.ensures.in_range.last in
     let small : c.args.pin - 1 < 8 = omega (arith, first, last) in
-    end-torn _ _ (changes c.args.pin c.requires.pin c.args.values.shown.now c.args.values.new.now) 5
+    end-torn _ _ (changes c.args.pin c.value_of-secret.ensures.in_range c.args.values.shown.now
+    c.args.values.new.now) 5
     refl c.args.store.now c.args.current.now c.requires.kept.ready c.requires.kept.card
-    c.requires.kept.current c.take_try.new.store c.change.new.store c.in_ok-charged.charged
+    c.requires.kept.current
+    c.value_of-secret.result c.value_of-secret.ensures.secret c.take_try.new.store c.change.new.store
+    c.in_ok-charged.charged
     c.in_ok-charged.ensures.done c.take_try.ensures.takes.pages c.take_try.ensures.takes.store.writes
     c.take_try.ensures.takes.store.reports (λ p. changed_ends (c.args.pin - 1) c.args.values.new.now p small)
     c.change.ensures.any_exit c.change.ensures.spends c.change.ensures.pages c.change.ensures.store.reports
@@ -30,12 +36,15 @@ returns-in_err-outcome g c =
 
 pub returns : goal.returns
 returns g c =
-    let first = c.requires.pin.first in
-    let last = c.requires.pin.last in
+    let first = c.value_of-secret.ensures.in_range.first in
+    let last = c.value_of-secret.ensures.in_range.last in
     let small : c.args.pin - 1 < 8 = omega (arith, first, last) in
-    end-made _ _ (changes c.args.pin c.requires.pin c.args.values.shown.now c.args.values.new.now) 5
+    end-made _ _ (changes c.args.pin c.value_of-secret.ensures.in_range c.args.values.shown.now
+    c.args.values.new.now) 5
     refl c.args.store.now c.args.current.now c.requires.kept.ready c.requires.kept.card
-    c.requires.kept.current c.take_try.new.store c.change.new.store c.in_ok-charged.charged
+    c.requires.kept.current
+    c.value_of-secret.result c.value_of-secret.ensures.secret c.take_try.new.store c.change.new.store
+    c.in_ok-charged.charged
     c.in_ok-charged.ensures.done c.take_try.ensures.takes.pages c.take_try.ensures.takes.store.writes
     c.take_try.ensures.takes.store.reports (λ p. changed_ends (c.args.pin - 1) c.args.values.new.now p small)
     c.change.ensures.any_exit c.change.ensures.spends c.change.ensures.pages c.change.ensures.store.reports
@@ -44,14 +53,8 @@ returns g c =
     c.conclude.new.current c.conclude.ensures.session
     c.conclude.result c.conclude.ensures.status
 
-pub take_try-requires-clause-secret : goal.take_try-requires-clause-secret
-take_try-requires-clause-secret g c = let last = c.requires.pin.last in omega (arith, last)
-
 pub take_try-requires-clause-pages : goal.take_try-requires-clause-pages
 take_try-requires-clause-pages g c = c.requires.kept.card.pins
 
 pub change-requires-clause-pages : goal.change-requires-clause-pages
 change-requires-clause-pages g c = c.take_try.ensures.takes.pages
-
-pub conclude-requires : goal.conclude-requires
-conclude-requires g c = c.requires.pin

@@ -11,31 +11,34 @@ use Rattle.pin_commands.proofs.pins.change_requirement.Goals as goal
 
 pub returns-in_err-charged : goal.returns-in_err-charged
 returns-in_err-charged g c =
-    let was = pin_in c.args.store.now (c.args.pin - 1) in
-    charge-stopped _ _ (requires_or_not c.args.pin c.requires.pin c.args.change c.args.shown.now)
+    let was = pin_in c.args.store.now c.value_of-secret.result in
+    charge-stopped _ _ (requires_or_not c.args.pin c.value_of-secret.ensures.in_range c.args.change c.args.shown.now)
     5 refl c.args.store.now c.args.current.now c.requires.kept.ready c.requires.kept.card c.requires.kept.current
+    c.value_of-secret.result c.value_of-secret.ensures.secret
     c.take_try.new.store _ c.in_err-charged.field-0.0 c.from_residual.ensures.1 c.take_try.ensures.takes.any_exit
-    (kept-by (c.args.pin - 1) _ _ c.usable_by.ensures was _ _ c.take_try.ensures.takes.kept)
+    (kept-by c.value_of-secret.result _ _ c.usable_by.ensures was _ _ c.take_try.ensures.takes.kept)
     c.take_try.ensures.takes.pages
     c.take_try.ensures.takes.store.reports c.in_err-charged.ensures.takes.store.tells
     c.take_try.ensures.takes.store.writes
     c.take_try.ensures.takes.shut (refused-by
-    (c.args.pin - 1) _ _ c.usable_by.ensures was _ _ c.in_err-charged.ensures.done)
+    c.value_of-secret.result _ _ c.usable_by.ensures was _ _ c.in_err-charged.ensures.done)
 
 pub returns-in_err-outcome : goal.returns-in_err-outcome
 returns-in_err-outcome g c =
-    let first = c.requires.pin.first in
-    let last = c.requires.pin.last in
+    let first = c.value_of-secret.ensures.in_range.first in
+    let last = c.value_of-secret.ensures.in_range.last in
     let small : c.args.pin - 1 < 8 = omega (arith, first, last) in
-    let was = pin_in c.args.store.now (c.args.pin - 1) in
+    let was = pin_in c.args.store.now c.value_of-secret.result in
     let b = c.take_try.new.store in
     let e = c.set_enabled.new.store in
     let exit = subst (λ (on : Bool). (committed e ≡ committed b)
     ⊎ SetsByMatch c.in_ok-charged.charged c.args.shown.now (marked_pin on (pin_in b c.in_ok-charged.charged)) b e)
     c.is_enabled_by.ensures c.set_enabled.ensures.any_exit in
-    end-torn _ _ (requires_or_not c.args.pin c.requires.pin c.args.change c.args.shown.now) 5 refl c.args.store.now
-    c.args.current.now c.requires.kept.ready c.requires.kept.card c.requires.kept.current b e c.in_ok-charged.charged
-    (taken-by (c.args.pin - 1) _ _ c.usable_by.ensures was _ _ _ c.in_ok-charged.ensures.done)
+    end-torn _ _ (requires_or_not c.args.pin c.value_of-secret.ensures.in_range c.args.change c.args.shown.now) 5
+    refl c.args.store.now
+    c.args.current.now c.requires.kept.ready c.requires.kept.card c.requires.kept.current
+    c.value_of-secret.result c.value_of-secret.ensures.secret b e c.in_ok-charged.charged
+    (taken-by c.value_of-secret.result _ _ c.usable_by.ensures was _ _ _ c.in_ok-charged.ensures.done)
     c.take_try.ensures.takes.pages c.take_try.ensures.takes.store.writes
     c.take_try.ensures.takes.store.reports (λ p. marked_ends (c.args.pin - 1)
     (is_enabled_by c.args.change) p small) exit
@@ -47,10 +50,10 @@ returns-in_err-outcome g c =
 
 pub returns : goal.returns
 returns g c =
-    let first = c.requires.pin.first in
-    let last = c.requires.pin.last in
+    let first = c.value_of-secret.ensures.in_range.first in
+    let last = c.value_of-secret.ensures.in_range.last in
     let small : c.args.pin - 1 < 8 = omega (arith, first, last) in
-    let was = pin_in c.args.store.now (c.args.pin - 1) in
+    let was = pin_in c.args.store.now c.value_of-secret.result in
     let b = c.take_try.new.store in
     let e = c.set_enabled.new.store in
     let exit = subst (λ (on : Bool). (committed e ≡ committed b)
@@ -59,9 +62,11 @@ returns g c =
     let ended = subst (λ (on : Bool). EndsByOutcome c.in_ok-charged.charged c.args.shown.now
     (marked_pin on (pin_in b c.in_ok-charged.charged)) b e c.in_ok-outcome.outcome) c.is_enabled_by.ensures
     c.in_ok-outcome.ensures.done in
-    end-made _ _ (requires_or_not c.args.pin c.requires.pin c.args.change c.args.shown.now) 5 refl c.args.store.now
-    c.args.current.now c.requires.kept.ready c.requires.kept.card c.requires.kept.current b e c.in_ok-charged.charged
-    (taken-by (c.args.pin - 1) _ _ c.usable_by.ensures was _ _ _ c.in_ok-charged.ensures.done)
+    end-made _ _ (requires_or_not c.args.pin c.value_of-secret.ensures.in_range c.args.change c.args.shown.now) 5
+    refl c.args.store.now
+    c.args.current.now c.requires.kept.ready c.requires.kept.card c.requires.kept.current
+    c.value_of-secret.result c.value_of-secret.ensures.secret b e c.in_ok-charged.charged
+    (taken-by c.value_of-secret.result _ _ c.usable_by.ensures was _ _ _ c.in_ok-charged.ensures.done)
     c.take_try.ensures.takes.pages c.take_try.ensures.takes.store.writes
     c.take_try.ensures.takes.store.reports (λ p. marked_ends (c.args.pin - 1)
     (is_enabled_by c.args.change) p small) exit
@@ -72,14 +77,8 @@ returns g c =
     c.conclude.new.current c.conclude.ensures.session
     c.conclude.result c.conclude.ensures.status
 
-pub take_try-requires-clause-secret : goal.take_try-requires-clause-secret
-take_try-requires-clause-secret g c = let last = c.requires.pin.last in omega (arith, last)
-
 pub take_try-requires-clause-pages : goal.take_try-requires-clause-pages
 take_try-requires-clause-pages g c = c.requires.kept.card.pins
 
 pub set_enabled-requires-clause-pages : goal.set_enabled-requires-clause-pages
 set_enabled-requires-clause-pages g c = c.take_try.ensures.takes.pages
-
-pub conclude-requires : goal.conclude-requires
-conclude-requires g c = c.requires.pin

@@ -14,19 +14,19 @@ returns-in_default g c =
     let none = ap (option_map (λ (values : Replacement). (values.shown.now, values.new.now))) c.in_default.is in
     subst (λ (values : Option (List ℕ × List ℕ)). Serves (reset_retry_counter c.args.pin values) c.args.store.now
     c.args.current.now c.tell_tries.new.store c.args.current.now [] (Ok c.in_ok-tell_tries.field-0)) (sym none)
-    (question-answered _ c.args.pin (8 + (c.args.pin - 1)) (asks-unblocking c.args.pin c.requires.pin) c.args.store.now
+    (question-answered _ c.args.pin (8 + (c.args.pin - 1)) (asks-unblocking c.args.pin
+    c.unblocking_value_of-secret.ensures.in_range) c.args.store.now
     c.args.current.now c.requires.kept.card c.requires.kept.current
+    c.unblocking_value_of-secret.result c.unblocking_value_of-secret.ensures.secret
     c.tell_tries.new.store (Ok c.in_ok-tell_tries.field-0)
     c.in_ok-tell_tries.ensures.told c.in_ok-tell_tries.ensures.store)
 
 pub returns-in_err-tell_tries : goal.returns-in_err-tell_tries
 returns-in_err-tell_tries g c =
     handed (reset_retry_counter c.args.pin _) c.args.store.now c.args.current.now
-    c.tell_tries.new.store c.requires.kept.card c.args.current.now [] _ _ (reply-failed _ _ c.from_residual.ensures.1)
+    c.tell_tries.new.store c.requires.kept.card c.args.current.now [] _ _ (reply-failed _ _
+    c.from_residual.ensures.1)
     c.in_err-tell_tries.ensures.store (omega arith)
-
-pub tell_tries-requires-clause-secret : goal.tell_tries-requires-clause-secret
-tell_tries-requires-clause-secret g c = let last = c.requires.pin.last in omega (arith, last)
 
 pub tell_tries-requires-clause-pages : goal.tell_tries-requires-clause-pages
 tell_tries-requires-clause-pages g c = c.requires.kept.card.pins
@@ -37,11 +37,15 @@ returns-in_err-charged g c =
     subst (λ (shown : Option (List ℕ × List ℕ)). Serves
     (reset_retry_counter c.args.pin shown) c.args.store.now c.args.current.now
     c.take_try.new.store c.args.current.now [] (reply c.from_residual-in_err-charged.result)) (sym some)
-    (charge-stopped _ _ (resets c.args.pin c.requires.pin c.in-Some.values.shown.now c.in-Some.values.new.now) 4
+    (charge-stopped _ _ (resets c.args.pin c.unblocking_value_of-secret.ensures.in_range c.in-Some.values.shown.now
+    c.in-Some.values.new.now) 4
     refl c.args.store.now c.args.current.now
-    c.requires.kept.ready c.requires.kept.card c.requires.kept.current c.take_try.new.store _ c.in_err-charged.field-0.0
+    c.requires.kept.ready c.requires.kept.card c.requires.kept.current
+    c.unblocking_value_of-secret.result c.unblocking_value_of-secret.ensures.secret c.take_try.new.store _
+    c.in_err-charged.field-0.0
     c.from_residual-in_err-charged.ensures.1 c.take_try.ensures.takes.any_exit c.take_try.ensures.takes.kept
-    c.take_try.ensures.takes.pages c.take_try.ensures.takes.store.reports c.in_err-charged.ensures.takes.store.tells
+    c.take_try.ensures.takes.pages c.take_try.ensures.takes.store.reports
+    c.in_err-charged.ensures.takes.store.tells
     c.take_try.ensures.takes.store.writes c.take_try.ensures.takes.shut c.in_err-charged.ensures.done)
 
 pub returns-in_err-outcome : goal.returns-in_err-outcome
@@ -51,9 +55,12 @@ returns-in_err-outcome g c =
     subst (λ (shown : Option (List ℕ × List ℕ)). Serves
     (reset_retry_counter c.args.pin shown) c.args.store.now c.args.current.now
     c.reset_counter.new.store c.args.current.now [] (reply c.from_residual-in_err-outcome.result)) (sym some)
-    (end-torn _ _ (resets c.args.pin c.requires.pin c.in-Some.values.shown.now c.in-Some.values.new.now) 4
+    (end-torn _ _ (resets c.args.pin c.unblocking_value_of-secret.ensures.in_range c.in-Some.values.shown.now
+    c.in-Some.values.new.now) 4
     refl c.args.store.now c.args.current.now c.requires.kept.ready c.requires.kept.card
-    c.requires.kept.current c.take_try.new.store c.reset_counter.new.store c.in_ok-charged.charged
+    c.requires.kept.current
+    c.unblocking_value_of-secret.result c.unblocking_value_of-secret.ensures.secret c.take_try.new.store
+    c.reset_counter.new.store c.in_ok-charged.charged
     c.in_ok-charged.ensures.done c.take_try.ensures.takes.pages c.take_try.ensures.takes.store.writes
     c.take_try.ensures.takes.store.reports (λ p. reset_ends (8 + (c.args.pin - 1)) c.in-Some.values.new.now p large)
     c.reset_counter.ensures.any_exit c.reset_counter.ensures.spends c.reset_counter.ensures.pages
@@ -68,9 +75,12 @@ returns g c =
     subst (λ (shown : Option (List ℕ × List ℕ)). Serves
     (reset_retry_counter c.args.pin shown) c.args.store.now c.args.current.now
     c.reset_counter.new.store c.conclude.new.current [] (Ok c.conclude.result)) (sym some)
-    (end-made _ _ (resets c.args.pin c.requires.pin c.in-Some.values.shown.now c.in-Some.values.new.now) 4
+    (end-made _ _ (resets c.args.pin c.unblocking_value_of-secret.ensures.in_range c.in-Some.values.shown.now
+    c.in-Some.values.new.now) 4
     refl c.args.store.now c.args.current.now c.requires.kept.ready c.requires.kept.card
-    c.requires.kept.current c.take_try.new.store c.reset_counter.new.store c.in_ok-charged.charged
+    c.requires.kept.current
+    c.unblocking_value_of-secret.result c.unblocking_value_of-secret.ensures.secret c.take_try.new.store
+    c.reset_counter.new.store c.in_ok-charged.charged
     c.in_ok-charged.ensures.done c.take_try.ensures.takes.pages c.take_try.ensures.takes.store.writes
     c.take_try.ensures.takes.store.reports (λ p. reset_ends (8 + (c.args.pin - 1)) c.in-Some.values.new.now p large)
     c.reset_counter.ensures.any_exit c.reset_counter.ensures.spends
@@ -80,14 +90,8 @@ returns g c =
     c.conclude.new.current c.conclude.ensures.session
     c.conclude.result c.conclude.ensures.status)
 
-pub take_try-requires-clause-secret : goal.take_try-requires-clause-secret
-take_try-requires-clause-secret g c = let last = c.requires.pin.last in omega (arith, last)
-
 pub take_try-requires-clause-pages : goal.take_try-requires-clause-pages
 take_try-requires-clause-pages g c = c.requires.kept.card.pins
 
 pub reset_counter-requires-clause-pages : goal.reset_counter-requires-clause-pages
 reset_counter-requires-clause-pages g c = c.take_try.ensures.takes.pages
-
-pub conclude-requires : goal.conclude-requires
-conclude-requires g c = c.requires.pin

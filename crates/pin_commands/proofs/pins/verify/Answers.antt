@@ -13,8 +13,10 @@ returns-in_default g c =
     let none = ap (option_map (λ (value : Bor (List ℕ)). value.now)) c.in_default.is in
     subst (λ (shown : Option (List ℕ)). Serves (verify c.args.pin shown) c.args.store.now c.args.current.now
     c.tell_tries.new.store c.args.current.now [] (Ok c.in_ok-tell_tries.field-0)) (sym none)
-    (question-answered _ c.args.pin (c.args.pin - 1) (asks-value c.args.pin c.requires.pin) c.args.store.now
+    (question-answered _ c.args.pin (c.args.pin - 1) (asks-value c.args.pin c.value_of-secret.ensures.in_range)
+    c.args.store.now
     c.args.current.now c.requires.kept.card c.requires.kept.current
+    c.value_of-secret.result c.value_of-secret.ensures.secret
     c.tell_tries.new.store (Ok c.in_ok-tell_tries.field-0)
     c.in_ok-tell_tries.ensures.told c.in_ok-tell_tries.ensures.store)
 
@@ -24,9 +26,6 @@ returns-in_err-tell_tries g c =
     c.args.current.now [] _ _ (reply-failed _ _ c.from_residual.ensures.1)
     c.in_err-tell_tries.ensures.store (omega arith)
 
-pub tell_tries-requires-clause-secret : goal.tell_tries-requires-clause-secret
-tell_tries-requires-clause-secret g c = let last = c.requires.pin.last in omega (arith, last)
-
 pub tell_tries-requires-clause-pages : goal.tell_tries-requires-clause-pages
 tell_tries-requires-clause-pages g c = c.requires.kept.card.pins
 
@@ -35,23 +34,28 @@ returns-in_err-charged g c =
     let some = ap (option_map (λ (value : Bor (List ℕ)). value.now)) c.in-Some.is in
     subst (λ (shown : Option (List ℕ)). Serves (verify c.args.pin shown) c.args.store.now c.args.current.now
     c.take_try.new.store c.args.current.now [] (reply c.from_residual-in_err-charged.result)) (sym some)
-    (charge-stopped _ _ (verifies c.args.pin c.requires.pin c.in-Some.shown.now) 1 refl c.args.store.now
+    (charge-stopped _ _ (verifies c.args.pin c.value_of-secret.ensures.in_range c.in-Some.shown.now) 1 refl
+    c.args.store.now
     c.args.current.now
-    c.requires.kept.ready c.requires.kept.card c.requires.kept.current c.take_try.new.store _ c.in_err-charged.field-0.0
+    c.requires.kept.ready c.requires.kept.card c.requires.kept.current
+    c.value_of-secret.result c.value_of-secret.ensures.secret c.take_try.new.store _ c.in_err-charged.field-0.0
     c.from_residual-in_err-charged.ensures.1 c.take_try.ensures.takes.any_exit c.take_try.ensures.takes.kept
-    c.take_try.ensures.takes.pages c.take_try.ensures.takes.store.reports c.in_err-charged.ensures.takes.store.tells
+    c.take_try.ensures.takes.pages c.take_try.ensures.takes.store.reports
+    c.in_err-charged.ensures.takes.store.tells
     c.take_try.ensures.takes.store.writes c.take_try.ensures.takes.shut c.in_err-charged.ensures.done)
 
 pub returns-in_err-outcome : goal.returns-in_err-outcome
 returns-in_err-outcome g c =
-    let first = c.requires.pin.first in
-    let last = c.requires.pin.last in
+    let first = c.value_of-secret.ensures.in_range.first in
+    let last = c.value_of-secret.ensures.in_range.last in
     let small : c.args.pin - 1 < 8 = omega (arith, first, last) in
     let some = ap (option_map (λ (value : Bor (List ℕ)). value.now)) c.in-Some.is in
     subst (λ (shown : Option (List ℕ)). Serves (verify c.args.pin shown) c.args.store.now c.args.current.now
     c.settle.new.store c.args.current.now [] (reply c.from_residual-in_err-outcome.result)) (sym some)
-    (end-torn _ _ (verifies c.args.pin c.requires.pin c.in-Some.shown.now) 1 refl c.args.store.now c.args.current.now
-    c.requires.kept.ready c.requires.kept.card c.requires.kept.current c.take_try.new.store c.settle.new.store
+    (end-torn _ _ (verifies c.args.pin c.value_of-secret.ensures.in_range c.in-Some.shown.now) 1 refl
+    c.args.store.now c.args.current.now
+    c.requires.kept.ready c.requires.kept.card c.requires.kept.current
+    c.value_of-secret.result c.value_of-secret.ensures.secret c.take_try.new.store c.settle.new.store
     c.in_ok-charged.charged c.in_ok-charged.ensures.done c.take_try.ensures.takes.pages
     c.take_try.ensures.takes.store.writes
     c.take_try.ensures.takes.store.reports (λ p. verified_ends (c.args.pin - 1) p small) c.settle.ensures.any_exit
@@ -62,14 +66,16 @@ returns-in_err-outcome g c =
 
 pub returns : goal.returns
 returns g c =
-    let first = c.requires.pin.first in
-    let last = c.requires.pin.last in
+    let first = c.value_of-secret.ensures.in_range.first in
+    let last = c.value_of-secret.ensures.in_range.last in
     let small : c.args.pin - 1 < 8 = omega (arith, first, last) in
     let some = ap (option_map (λ (value : Bor (List ℕ)). value.now)) c.in-Some.is in
     subst (λ (shown : Option (List ℕ)). Serves (verify c.args.pin shown) c.args.store.now c.args.current.now
     c.settle.new.store c.conclude.new.current [] (Ok c.conclude.result)) (sym some)
-    (end-made _ _ (verifies c.args.pin c.requires.pin c.in-Some.shown.now) 1 refl c.args.store.now c.args.current.now
-    c.requires.kept.ready c.requires.kept.card c.requires.kept.current c.take_try.new.store c.settle.new.store
+    (end-made _ _ (verifies c.args.pin c.value_of-secret.ensures.in_range c.in-Some.shown.now) 1 refl
+    c.args.store.now c.args.current.now
+    c.requires.kept.ready c.requires.kept.card c.requires.kept.current
+    c.value_of-secret.result c.value_of-secret.ensures.secret c.take_try.new.store c.settle.new.store
     c.in_ok-charged.charged c.in_ok-charged.ensures.done c.take_try.ensures.takes.pages
     c.take_try.ensures.takes.store.writes
     c.take_try.ensures.takes.store.reports (λ p. verified_ends (c.args.pin - 1) p small) c.settle.ensures.any_exit
@@ -79,14 +85,8 @@ returns g c =
     c.conclude.new.current c.conclude.ensures.session
     c.conclude.result c.conclude.ensures.status)
 
-pub take_try-requires-clause-secret : goal.take_try-requires-clause-secret
-take_try-requires-clause-secret g c = let last = c.requires.pin.last in omega (arith, last)
-
 pub take_try-requires-clause-pages : goal.take_try-requires-clause-pages
 take_try-requires-clause-pages g c = c.requires.kept.card.pins
 
 pub settle-requires-clause-pages : goal.settle-requires-clause-pages
 settle-requires-clause-pages g c = c.take_try.ensures.takes.pages
-
-pub conclude-requires : goal.conclude-requires
-conclude-requires g c = c.requires.pin

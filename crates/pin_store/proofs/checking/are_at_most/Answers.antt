@@ -5,18 +5,15 @@ use Rattle.undo_journal.specs.Memory.{Memory, committed, current}
 use Rattle.undo_journal.specs.laws.Calls.{reads_same, reads_then}
 use Rattle.undo_journal.specs.laws.Told.{reads_handed, reads_on, reads_so_far}
 use Rattle.card_rules.specs.declared.pins.TheConstants.{PINS}
-use Rattle.card_state.specs.Secrets.{owner}
 use Rattle.pin_store.specs.Pages.{pin_page, pin_word}
 use Rattle.pin_store.proofs.checking.are_at_most.Goals as goal
 
 -- the word that was read is that of the PIN's page
-read-word : (a b : Memory) (pin place at word : ℕ) → OnlyReads a b → committed b ≡ current b → pin < PINS
-    → at ≡ address (pin_page (owner pin)) place → word ≡ slice_index (current b) at
-    → word ≡ pin_word (committed a) pin place
-read-word a b pin place at word reads same small is read =
-    let here : at ≡ address (pin_page pin) place = omega (arith, is, small) in
+read-word : (a b : Memory) (pin place at word : ℕ) → OnlyReads a b → committed b ≡ current b
+    → at ≡ address (pin_page pin) place → word ≡ slice_index (current b) at → word ≡ pin_word (committed a) pin place
+read-word a b pin place at word reads same is read =
     let words : current b ≡ committed a = sym same ∙ reads.keeps.committed_words in
-    read ∙ (λ i. slice_index (words i) (here i))
+    read ∙ (λ i. slice_index (words i) (is i))
 
 pub loop-pin-init : goal.loop-pin-init
 loop-pin-init g c = record {
@@ -28,9 +25,8 @@ loop-pin-init g c = record {
 pub loop-pin-preserved : goal.loop-pin-preserved
 loop-pin-preserved g c =
     let m = committed c.args.store.now in
-    let small : c.loop-pin.pin < PINS = omega (arith, c.loop-pin-test.true) in
     let word = read-word c.args.store.now c.loop-pin.store c.loop-pin.pin c.args.place _ _ c.loop-pin.invariant.reads
-    c.loop-pin.invariant.ready.same small c.address_of.ensures c.in_ok-word.ensures.word in
+    c.loop-pin.invariant.ready.same c.word_address.ensures c.in_ok-word.ensures.word in
     let here : pin_word m c.loop-pin.pin c.args.place ≤ c.args.most = omega (arith, word, c.if-word-most.false) in
     record {
       ready = (c.in_ok-word.ensures.store c.loop-pin.invariant.ready.idle).ready;
@@ -50,7 +46,7 @@ pub returns-then-word-most : goal.returns-then-word-most
 returns-then-word-most g c =
     let small : c.loop-pin.pin < PINS = omega (arith, c.loop-pin-test.true) in
     let word = read-word c.args.store.now c.loop-pin.store c.loop-pin.pin c.args.place _ _ c.loop-pin.invariant.reads
-    c.loop-pin.invariant.ready.same small c.address_of.ensures c.in_ok-word.ensures.word in record {
+    c.loop-pin.invariant.ready.same c.word_address.ensures c.in_ok-word.ensures.word in record {
       told = (
         λ no. absurd (true≢false (sym no)),
         λ all. let few = all.each c.loop-pin.pin small in absurd (omega (arith, word, few, c.if-word-most.true)),

@@ -1,4 +1,6 @@
 use Rattle.std.proofs.Common.{◌≡◌, List, ℕ, sym, ◌∙◌, ap, inr, subst}
+use Rattle.std.specs.Prelude.{if◌then◌else◌}
+use Rattle.nvm_board.specs.Facts.{raised}
 use Rattle.undo_journal.specs.laws.Calls.{reads_then}
 use Rattle.pin_store.specs.declared.errors.Outcome.{Outcome}
 use Rattle.card_state.specs.Secrets.{kept, owner}
@@ -45,7 +47,7 @@ returns-in_err-right-clause-store g c =
 
 pub returns-in_err-right-clause-spends : goal.returns-in_err-right-clause-spends
 returns-in_err-right-clause-spends g c =
-    compares_after c.args.charged c.charged.inside.secret _ _ c.compare.new.self c.charged.view_is
+    compares_after c.args.charged c.number.result _ _ c.compare.new.self (c.number.ensures.value ∙ c.charged.view_is)
     (reads_then _ _ _ c.tries.ensures.store.only c.kept.ensures.store.only)
     c.compare.ensures.words c.compare.ensures.writes c.compare.ensures.cut c.in_err-right.ensures.compared_err
     c.in_err-right.ensures.matched_err
@@ -64,10 +66,10 @@ returns-clause-store g c =
 
 pub returns-clause-spends : goal.returns-clause-spends
 returns-clause-spends g c =
-    compares_after c.args.charged c.charged.inside.secret _ _ c.compare.new.self c.charged.view_is
+    compares_after c.args.charged c.number.result _ _ c.compare.new.self (c.number.ensures.value ∙ c.charged.view_is)
     (reads_then _ _ _ c.tries.ensures.store.only c.kept.ensures.store.only)
     c.compare.ensures.words c.compare.ensures.writes c.compare.ensures.cut (inr c.in_ok-right.ensures.compared)
-    (rises_if c.in_ok-right.right c.charged.inside.secret _ _ c.in_ok-right.ensures.matched)
+    (rises_if c.in_ok-right.right c.number.result _ _ c.in_ok-right.ensures.matched)
 
 pub returns-clause-done : goal.returns-clause-done
 returns-clause-done g c =
@@ -75,10 +77,15 @@ returns-clause-done g c =
     c.in_ok-kept.ensures.kept
     ∙ ap (λ (m : List ℕ). kept c.charged.inside.secret (pin_at m (owner c.charged.inside.secret)))
     c.tries.ensures.store.only.keeps.committed_words in
+    let before = c.kept.new.store.facts in
     subst (λ (o : Outcome). Compared c.args.charged c.args.shown.now c.args.store.now c.compare.new.self o)
     (sym c.outcome_of.ensures)
     (compared_by c.in_ok-right.right c.args.charged c.charged.inside.secret c.in_ok-left.left c.args.shown.now
     c.in_ok-kept.kept _ _ _ c.charged.view_is
     (reads_then _ _ _ c.tries.ensures.store.only c.kept.ensures.store.only) read c.in_ok-right.ensures.equal
-    c.in_ok-left.ensures.left c.in_ok-right.ensures.compared c.in_ok-right.ensures.matched c.compare.ensures.writes
+    c.in_ok-left.ensures.left
+    (c.in_ok-right.ensures.compared ∙ ap (raised before.compares) c.number.ensures.value)
+    (c.in_ok-right.ensures.matched
+    ∙ ap (λ (s : ℕ). if c.in_ok-right.right then raised before.matches s else before.matches) c.number.ensures.value)
+    c.compare.ensures.writes
     c.compare.ensures.keeps.committed_words)

@@ -20,10 +20,10 @@ returns-in_err-outcome g c = record {
 
 pub returns-in_err-put_renewed : goal.returns-in_err-put_renewed
 returns-in_err-put_renewed g c = record {
-  any_exit = matched_sets_or_not (renewing_writes c.args.renewal) c.args.charged c.secret-secret.result
+  any_exit = matched_sets_or_not (renewing_writes c.args.renewal) c.args.charged c.charged.inside.secret
       c.args.shown.now
       (renewed_pin c.args.renewal) _ _ _
-      c.secret-secret.ensures.secret (match_told c.args.charged c.args.shown.now c.args.store.now c.compare.new.store
+      c.charged.view_is (match_told c.args.charged c.args.shown.now c.args.store.now c.compare.new.store
       c.in_ok-outcome.outcome c.in-Matched.is c.in_ok-outcome.ensures.done) c.compare.ensures.kept
       c.put_renewed.ensures.store.writes
       c.put_renewed.ensures.any_exit;
@@ -40,19 +40,19 @@ returns-in_err-put_renewed g c = record {
 
 pub returns-in_ok-put_renewed : goal.returns-in_ok-put_renewed
 returns-in_ok-put_renewed g c = record {
-  any_exit = matched_sets_or_not (renewing_writes c.args.renewal) c.args.charged c.secret-secret.result
+  any_exit = matched_sets_or_not (renewing_writes c.args.renewal) c.args.charged c.charged.inside.secret
       c.args.shown.now
       (renewed_pin c.args.renewal) _ _ _
-      c.secret-secret.ensures.secret (match_told c.args.charged c.args.shown.now c.args.store.now c.compare.new.store
+      c.charged.view_is (match_told c.args.charged c.args.shown.now c.args.store.now c.compare.new.store
       c.in_ok-outcome.outcome c.in-Matched.is c.in_ok-outcome.ensures.done) c.compare.ensures.kept
       c.put_renewed.ensures.store.writes
       c.put_renewed.ensures.any_exit;
   done = end_told c.args.charged c.args.shown.now
       (renewed_pin c.args.renewal (pin_in c.args.store.now c.args.charged))
       c.args.store.now c.put_renewed.new.store c.in_ok-outcome.outcome c.in-Matched.is
-      (matched_sets (renewing_writes c.args.renewal) c.args.charged c.secret-secret.result c.args.shown.now
+      (matched_sets (renewing_writes c.args.renewal) c.args.charged c.charged.inside.secret c.args.shown.now
       (renewed_pin c.args.renewal) _ _ _
-      c.secret-secret.ensures.secret (match_told c.args.charged c.args.shown.now c.args.store.now c.compare.new.store
+      c.charged.view_is (match_told c.args.charged c.args.shown.now c.args.store.now c.compare.new.store
       c.in_ok-outcome.outcome c.in-Matched.is c.in_ok-outcome.ensures.done) c.compare.ensures.kept
       c.put_renewed.ensures.store.writes
       c.in_ok-put_renewed.ensures.done);

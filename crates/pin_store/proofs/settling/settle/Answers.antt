@@ -19,8 +19,8 @@ returns-in_err-outcome g c = record {
 
 pub returns-in_err-put_tries : goal.returns-in_err-put_tries
 returns-in_err-put_tries g c = record {
-  any_exit = matched_sets_or_not 1 c.args.charged c.secret-secret.result c.args.shown.now verified_pin _ _ _
-      c.secret-secret.ensures.secret (match_told c.args.charged c.args.shown.now c.args.store.now c.compare.new.store
+  any_exit = matched_sets_or_not 1 c.args.charged c.charged.inside.secret c.args.shown.now verified_pin _ _ _
+      c.charged.view_is (match_told c.args.charged c.args.shown.now c.args.store.now c.compare.new.store
       c.in_ok-outcome.outcome c.in-Matched.is c.in_ok-outcome.ensures.done) c.compare.ensures.kept
       c.put_tries.ensures.store.writes
       c.put_tries.ensures.any_exit;
@@ -35,16 +35,16 @@ returns-in_err-put_tries g c = record {
 
 pub returns-in_ok-put_tries : goal.returns-in_ok-put_tries
 returns-in_ok-put_tries g c = record {
-  any_exit = matched_sets_or_not 1 c.args.charged c.secret-secret.result c.args.shown.now verified_pin _ _ _
-      c.secret-secret.ensures.secret (match_told c.args.charged c.args.shown.now c.args.store.now c.compare.new.store
+  any_exit = matched_sets_or_not 1 c.args.charged c.charged.inside.secret c.args.shown.now verified_pin _ _ _
+      c.charged.view_is (match_told c.args.charged c.args.shown.now c.args.store.now c.compare.new.store
       c.in_ok-outcome.outcome c.in-Matched.is c.in_ok-outcome.ensures.done) c.compare.ensures.kept
       c.put_tries.ensures.store.writes
       c.put_tries.ensures.any_exit;
   done = end_told c.args.charged c.args.shown.now (verified_pin
       (pin_in c.args.store.now c.args.charged)) c.args.store.now
       c.put_tries.new.store c.in_ok-outcome.outcome c.in-Matched.is
-      (matched_sets 1 c.args.charged c.secret-secret.result c.args.shown.now verified_pin _ _ _
-      c.secret-secret.ensures.secret (match_told c.args.charged c.args.shown.now c.args.store.now c.compare.new.store
+      (matched_sets 1 c.args.charged c.charged.inside.secret c.args.shown.now verified_pin _ _ _
+      c.charged.view_is (match_told c.args.charged c.args.shown.now c.args.store.now c.compare.new.store
       c.in_ok-outcome.outcome c.in-Matched.is c.in_ok-outcome.ensures.done) c.compare.ensures.kept
       c.put_tries.ensures.store.writes
       c.in_ok-put_tries.ensures.done);
