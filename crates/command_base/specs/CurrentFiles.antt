@@ -7,6 +7,8 @@ use Rattle.card_rules.specs.Pins.{no_pins, with_pin, without_pin}
 use Rattle.pin_store.specs.declared.errors.Outcome.{Outcome as AttemptEnd}
 use Rattle.pin_store.specs.declared.errors.Outcome.TheVariants.{Matched, Wrong}
 use Rattle.file_tree.specs.declared.entry.Entry.{Entry}
+use Rattle.file_tree.specs.declared.kinds.EntryKind.TheVariants.{Dedicated}
+use Rattle.file_tree.specs.Kinds.{kind_byte}
 use Rattle.command_base.specs.declared.current.Current.{Current}
 use Rattle.command_base.specs.declared.current.Shown.{Shown}
 use Rattle.command_base.specs.declared.current.Shown.TheVariants.{Value, UnblockingValue}
@@ -18,8 +20,8 @@ fresh_current = record { df = 0; ef = None; pointer = None; verified = no_pins }
 -- the session after the file of entry `e` becomes current, by its kind and parent; the verified PINs stay
 abbrev pub current_by : Current → ℕ → ℕ → ℕ → Current
 current_by x e kind parent = record x {
-  df = if kind == 1 then e else parent;
-  ef = if kind == 1 then None else Some e;
+  df = if kind == kind_byte Dedicated then e else parent;
+  ef = if kind == kind_byte Dedicated then None else Some e;
   pointer = None;
 }
 

@@ -4,6 +4,8 @@ use Rattle.card_model.specs.declared.requests.Target.{Target}
 use Rattle.card_rules.specs.declared.status.Sw.{Sw}
 use Rattle.card_rules.specs.declared.status.TheConstants.Sw.{ACCESS_DENIED, CONDITIONS_NOT_SATISFIED, WRONG_STRUCTURE}
 use Rattle.file_tree.specs.declared.entry.Entry.{Entry}
+use Rattle.file_tree.specs.declared.kinds.EntryKind.TheVariants as kinds
+use Rattle.file_tree.specs.Kinds.{kind_byte}
 use Rattle.card_model.specs.RecordCommands.{has_records, is_cyclic, is_linear}
 use Rattle.file_tree.specs.Table.{table, entry_in, path_of}
 use Rattle.command_base.specs.declared.current.Current.{Current}
@@ -26,10 +28,10 @@ fits Cyclic kind = is_cyclic kind
 
 -- the same, for the kind of an entry
 abbrev pub fits_kind : Structure → ℕ → Bool
-fits_kind Bytes kind = kind == 2
-fits_kind Records kind = kind == 3 || kind == 4
-fits_kind Linear kind = kind == 3
-fits_kind Cyclic kind = kind == 4
+fits_kind Bytes kind = kind == kind_byte kinds.Transparent
+fits_kind Records kind = kind == kind_byte kinds.Linear || kind == kind_byte kinds.Cyclic
+fits_kind Linear kind = kind == kind_byte kinds.Linear
+fits_kind Cyclic kind = kind == kind_byte kinds.Cyclic
 
 -- the refusal of a command by its file, from three findings: it is barred, its structure fits, its rule permits
 abbrev pub file_refusal : Bool → Bool → Bool → Option Sw

@@ -1,6 +1,8 @@
 -- The template of a file, from its entry. No public clause names these definitions.
 use Rattle.std.specs.Prelude.{◌≢◌, ◌==◌, ◌&&◌, ℕ, nat_le, if◌then◌else◌, List, [], length, Option, Some, None}
 use Rattle.file_tree.specs.declared.entry.Entry.{Entry}
+use Rattle.file_tree.specs.declared.kinds.EntryKind.TheVariants as entry_kinds
+use Rattle.file_tree.specs.Kinds.{kind_byte}
 use Rattle.file_tree.specs.Entries.{life_told, name_of, rule_of}
 use Rattle.file_tree.specs.Table.{IsFileEntry}
 use Rattle.card_model.specs.declared.requests.Returned.{Returned}
@@ -15,7 +17,7 @@ use Rattle.card_model.specs.Templates.{fcp_text}
 
 -- a used entry whose file has a template
 pub record IsToldEntry (entry : Entry) : Type 0 where
-  pub used : entry.kind ≢ 0
+  pub used : entry.kind ≢ kind_byte entry_kinds.Free
   pub file : IsFileEntry entry
 
 -- the parts of the template, from the entry of the file
@@ -35,9 +37,10 @@ records_in_entry entry = record {
 
 abbrev pub kind_in_entry : Entry → FileKind
 kind_in_entry entry =
-    if entry.kind == 1 then kinds.Df (name_in_entry entry) else
-    if entry.kind == 2 then kinds.Transparent (short_in_entry entry) entry.size else
-    if entry.kind == 3 then kinds.Linear (short_in_entry entry) (records_in_entry entry) else
+    if entry.kind == kind_byte entry_kinds.Dedicated then kinds.Df (name_in_entry entry) else
+    if entry.kind == kind_byte entry_kinds.Transparent
+    then kinds.Transparent (short_in_entry entry) entry.size else
+    if entry.kind == kind_byte entry_kinds.Linear then kinds.Linear (short_in_entry entry) (records_in_entry entry) else
     kinds.Cyclic (short_in_entry entry) (records_in_entry entry)
 
 abbrev pub parameters_in : Entry → Fcp

@@ -2,6 +2,8 @@
 use Rattle.std.specs.Prelude.{◌≡◌, ◌≤◌, ℕ, Bool, not, List, length, map, option_map, IfSome}
 use Rattle.undo_journal.specs.Memory.{Memory, committed, IsReady}
 use Rattle.file_tree.specs.declared.entry.Entry.{Entry}
+use Rattle.file_tree.specs.declared.kinds.EntryKind.TheVariants.{Dedicated}
+use Rattle.file_tree.specs.Kinds.{kind_byte}
 use Rattle.card_state.specs.declared.space.FreeSpace.{FreeSpace}
 use Rattle.file_tree.specs.Table.{table, entry_in, path_of, IsChild}
 use Rattle.command_base.specs.declared.current.Current.{Current}
@@ -18,7 +20,7 @@ pub record IsElementary (t : List Entry) (df e : ℕ) : Type 0 where
 -- The current files are a dedicated file and, if present, an elementary file in it. The set of verified PINs has eight
 -- flags.
 pub record IsCurrent (t : List Entry) (x : Current) : Type 0 where
-  pub df : (entry_in t x.df).kind ≡ 1
+  pub df : (entry_in t x.df).kind ≡ kind_byte Dedicated
   pub ef : IfSome x.ef (IsElementary t x.df)
   pub marks : length x.verified ≡ 8
 
