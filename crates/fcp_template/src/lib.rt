@@ -8,7 +8,5 @@ mod reading;
 mod tag;
 mod writing;
 
-pub use card_model::FcpFault;
-pub use card_state::{DfName, Fcp, FileKind, Records, ShortIdentifier};
 pub use reading::parse;
 pub use writing::write;

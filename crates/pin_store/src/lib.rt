@@ -15,6 +15,6 @@ mod words;
 pub use charging::{Charged, charge, is_enabled, tries};
 pub use checking::{are_marks, are_pins};
 pub use errors::{Outcome, PinErr};
-pub use layout::{FIRST_PIN_PAGE, PIN_MARK_WORD, PINS, TRIES, UNBLOCKING_TRIES};
+pub use layout::{FIRST_PIN_PAGE, PIN_MARK_WORD, PINS};
 pub use secret::Secret;
 pub use settling::{change, reset_counter, set_enabled, settle};
