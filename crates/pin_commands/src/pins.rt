@@ -60,11 +60,11 @@ pub fn verify<B: Board>(
 {
     let secret = Secret::value_of(pin);
     let Some(shown) = shown else {
-        return Ok(tell_tries(store, secret)?);
+        return Ok(query_tries(store, secret)?);
     };
-    let charged = take_try(store, secret, Usable::WhileEnabled)?;
+    let charged = use_up_try(store, secret, Usable::WhileEnabled)?;
     let outcome = settle(store, charged, shown)?;
-    Ok(conclude(current, pin, Shown::Value, outcome))
+    Ok(end_attempt(current, pin, Shown::Value, outcome))
 }
 
 /// CHANGE REFERENCE DATA: replaces the presented value, and verifies the PIN.
@@ -80,9 +80,9 @@ pub fn change_reference_data<B: Board>(
         current.new [] (reply result) }
 {
     let secret = Secret::value_of(pin);
-    let charged = take_try(store, secret, Usable::WhileEnabled)?;
+    let charged = use_up_try(store, secret, Usable::WhileEnabled)?;
     let outcome = change(store, charged, values.shown, values.new)?;
-    Ok(conclude(current, pin, Shown::Value, outcome))
+    Ok(end_attempt(current, pin, Shown::Value, outcome))
 }
 
 /// RESET RETRY COUNTER: sets a new value and resets the tries.
@@ -100,11 +100,11 @@ pub fn reset_retry_counter<B: Board>(
 {
     let secret = Secret::unblocking_value_of(pin);
     let Some(values) = values else {
-        return Ok(tell_tries(store, secret)?);
+        return Ok(query_tries(store, secret)?);
     };
-    let charged = take_try(store, secret, Usable::InAnyCase)?;
+    let charged = use_up_try(store, secret, Usable::InAnyCase)?;
     let outcome = reset_counter(store, charged, values.shown, values.new)?;
-    Ok(conclude(current, pin, Shown::UnblockingValue, outcome))
+    Ok(end_attempt(current, pin, Shown::UnblockingValue, outcome))
 }
 
 /// DISABLE or ENABLE VERIFICATION REQUIREMENT: changes the requirement, with the PIN's value.
@@ -120,9 +120,9 @@ pub fn change_requirement<B: Board>(
     ensures { Serves (requiring change pin shown.now) store.old current.old store.new current.new [] (reply result) }
 {
     let secret = Secret::value_of(pin);
-    let charged = take_try(store, secret, usable_by(change))?;
+    let charged = use_up_try(store, secret, usable_by(change))?;
     let outcome = set_enabled(store, charged, shown, is_enabled_by(change))?;
-    Ok(conclude(current, pin, Shown::Value, outcome))
+    Ok(end_attempt(current, pin, Shown::Value, outcome))
 }
 
 /// Returns which PINs a change of the requirement is for.
@@ -146,7 +146,7 @@ fn is_enabled_by(change: RequirementChange) -> bool
 }
 
 /// Returns the status word with the remaining tries of a secret.
-fn tell_tries<B: Board>(store: &mut Store<B>, secret: Secret) -> Result<Sw, StoreErr>
+fn query_tries<B: Board>(store: &mut Store<B>, secret: Secret) -> Result<Sw, StoreErr>
     requires ready { IsReady store.old }
     requires pages { ArePinPages (committed store.old) }
     ensures { Learns store.old store.new result
@@ -158,7 +158,7 @@ fn tell_tries<B: Board>(store: &mut Store<B>, secret: Secret) -> Result<Sw, Stor
 
 /// Uses up a try of a secret, or returns the refusal.
 /// The refusals in order: no tries left; the PIN is disabled, or enabled.
-fn take_try<B: Board>(
+fn use_up_try<B: Board>(
     store: &mut Store<B>,
     secret: Secret,
     usable: Usable,
@@ -193,7 +193,7 @@ fn check_use<B: Board>(store: &mut Store<B>, secret: Secret, usable: Usable) -> 
 
 /// Ends an attempt on a PIN: updates session, returns status word.
 /// After a wrong value the status word has the remaining tries.
-fn conclude(current: &mut Current, pin: PinNumber, shown: Shown, outcome: Outcome) -> Sw
+fn end_attempt(current: &mut Current, pin: PinNumber, shown: Shown, outcome: Outcome) -> Sw
     ensures session { current.new ≡ tried_from current.old pin (unverifies shown) outcome }
     ensures status { result ≡ end_of_attempt outcome }
 {

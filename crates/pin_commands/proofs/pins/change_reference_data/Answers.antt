@@ -10,11 +10,11 @@ returns-in_err-charged g c =
     c.args.values.new.now) 5
     refl c.args.store.now c.args.current.now
     c.requires.kept.ready c.requires.kept.card c.requires.kept.current
-    c.value_of-secret.result c.value_of-secret.ensures.secret c.take_try.new.store _ c.in_err-charged.field-0.0
-    c.from_residual.ensures.1 c.take_try.ensures.takes.any_exit c.take_try.ensures.takes.kept
-    c.take_try.ensures.takes.pages c.take_try.ensures.takes.store.reports
+    c.value_of-secret.result c.value_of-secret.ensures.secret c.use_up_try.new.store _ c.in_err-charged.field-0.0
+    c.from_residual.ensures.1 c.use_up_try.ensures.takes.any_exit c.use_up_try.ensures.takes.kept
+    c.use_up_try.ensures.takes.pages c.use_up_try.ensures.takes.store.reports
     c.in_err-charged.ensures.takes.store.tells
-    c.take_try.ensures.takes.store.writes c.take_try.ensures.takes.shut c.in_err-charged.ensures.done
+    c.use_up_try.ensures.takes.store.writes c.use_up_try.ensures.takes.shut c.in_err-charged.ensures.done
 
 pub returns-in_err-outcome : goal.returns-in_err-outcome
 returns-in_err-outcome g c =
@@ -25,12 +25,12 @@ returns-in_err-outcome g c =
     c.args.values.new.now) 5
     refl c.args.store.now c.args.current.now c.requires.kept.ready c.requires.kept.card
     c.requires.kept.current
-    c.value_of-secret.result c.value_of-secret.ensures.secret c.take_try.new.store c.change.new.store
+    c.value_of-secret.result c.value_of-secret.ensures.secret c.use_up_try.new.store c.change.new.store
     c.in_ok-charged.charged
-    c.in_ok-charged.ensures.done c.take_try.ensures.takes.pages c.take_try.ensures.takes.store.writes
-    c.take_try.ensures.takes.store.reports (λ p. changed_ends (c.args.pin - 1) c.args.values.new.now p small)
+    c.in_ok-charged.ensures.done c.use_up_try.ensures.takes.pages c.use_up_try.ensures.takes.store.writes
+    c.use_up_try.ensures.takes.store.reports (λ p. changed_ends (c.args.pin - 1) c.args.values.new.now p small)
     c.change.ensures.any_exit c.change.ensures.spends c.change.ensures.pages c.change.ensures.store.reports
-    c.take_try.ensures.takes.shut c.change.ensures.by_gate _
+    c.use_up_try.ensures.takes.shut c.change.ensures.by_gate _
     c.in_err-outcome.field-0.0 (reply-failed _ _ c.from_residual-in_err-outcome.ensures.1)
     c.in_err-outcome.ensures.store.tells
 
@@ -43,18 +43,18 @@ returns g c =
     c.args.values.new.now) 5
     refl c.args.store.now c.args.current.now c.requires.kept.ready c.requires.kept.card
     c.requires.kept.current
-    c.value_of-secret.result c.value_of-secret.ensures.secret c.take_try.new.store c.change.new.store
+    c.value_of-secret.result c.value_of-secret.ensures.secret c.use_up_try.new.store c.change.new.store
     c.in_ok-charged.charged
-    c.in_ok-charged.ensures.done c.take_try.ensures.takes.pages c.take_try.ensures.takes.store.writes
-    c.take_try.ensures.takes.store.reports (λ p. changed_ends (c.args.pin - 1) c.args.values.new.now p small)
+    c.in_ok-charged.ensures.done c.use_up_try.ensures.takes.pages c.use_up_try.ensures.takes.store.writes
+    c.use_up_try.ensures.takes.store.reports (λ p. changed_ends (c.args.pin - 1) c.args.values.new.now p small)
     c.change.ensures.any_exit c.change.ensures.spends c.change.ensures.pages c.change.ensures.store.reports
-    c.take_try.ensures.takes.shut c.change.ensures.by_gate c.in_ok-outcome.outcome
+    c.use_up_try.ensures.takes.shut c.change.ensures.by_gate c.in_ok-outcome.outcome
     c.in_ok-outcome.ensures.done c.in_ok-outcome.ensures.store.ready c.in_ok-charged.ensures.takes.counted
-    c.conclude.new.current c.conclude.ensures.session
-    c.conclude.result c.conclude.ensures.status
+    c.end_attempt.new.current c.end_attempt.ensures.session
+    c.end_attempt.result c.end_attempt.ensures.status
 
-pub take_try-requires-clause-pages : goal.take_try-requires-clause-pages
-take_try-requires-clause-pages g c = c.requires.kept.card.pins
+pub use_up_try-requires-clause-pages : goal.use_up_try-requires-clause-pages
+use_up_try-requires-clause-pages g c = c.requires.kept.card.pins
 
 pub change-requires-clause-pages : goal.change-requires-clause-pages
-change-requires-clause-pages g c = c.take_try.ensures.takes.pages
+change-requires-clause-pages g c = c.use_up_try.ensures.takes.pages

@@ -15,12 +15,12 @@ returns-in_err-charged g c =
     charge-stopped _ _ (requires_or_not c.args.pin c.value_of-secret.ensures.in_range c.args.change c.args.shown.now)
     5 refl c.args.store.now c.args.current.now c.requires.kept.ready c.requires.kept.card c.requires.kept.current
     c.value_of-secret.result c.value_of-secret.ensures.secret
-    c.take_try.new.store _ c.in_err-charged.field-0.0 c.from_residual.ensures.1 c.take_try.ensures.takes.any_exit
-    (kept-by c.value_of-secret.result _ _ c.usable_by.ensures was _ _ c.take_try.ensures.takes.kept)
-    c.take_try.ensures.takes.pages
-    c.take_try.ensures.takes.store.reports c.in_err-charged.ensures.takes.store.tells
-    c.take_try.ensures.takes.store.writes
-    c.take_try.ensures.takes.shut (refused-by
+    c.use_up_try.new.store _ c.in_err-charged.field-0.0 c.from_residual.ensures.1 c.use_up_try.ensures.takes.any_exit
+    (kept-by c.value_of-secret.result _ _ c.usable_by.ensures was _ _ c.use_up_try.ensures.takes.kept)
+    c.use_up_try.ensures.takes.pages
+    c.use_up_try.ensures.takes.store.reports c.in_err-charged.ensures.takes.store.tells
+    c.use_up_try.ensures.takes.store.writes
+    c.use_up_try.ensures.takes.shut (refused-by
     c.value_of-secret.result _ _ c.usable_by.ensures was _ _ c.in_err-charged.ensures.done)
 
 pub returns-in_err-outcome : goal.returns-in_err-outcome
@@ -29,7 +29,7 @@ returns-in_err-outcome g c =
     let last = c.value_of-secret.ensures.in_range.last in
     let small : c.args.pin - 1 < 8 = omega (arith, first, last) in
     let was = pin_in c.args.store.now c.value_of-secret.result in
-    let b = c.take_try.new.store in
+    let b = c.use_up_try.new.store in
     let e = c.set_enabled.new.store in
     let exit = subst (λ (on : Bool). (committed e ≡ committed b)
     ⊎ SetsByMatch c.in_ok-charged.charged c.args.shown.now (marked_pin on (pin_in b c.in_ok-charged.charged)) b e)
@@ -39,11 +39,11 @@ returns-in_err-outcome g c =
     c.args.current.now c.requires.kept.ready c.requires.kept.card c.requires.kept.current
     c.value_of-secret.result c.value_of-secret.ensures.secret b e c.in_ok-charged.charged
     (taken-by c.value_of-secret.result _ _ c.usable_by.ensures was _ _ _ c.in_ok-charged.ensures.done)
-    c.take_try.ensures.takes.pages c.take_try.ensures.takes.store.writes
-    c.take_try.ensures.takes.store.reports (λ p. marked_ends (c.args.pin - 1)
+    c.use_up_try.ensures.takes.pages c.use_up_try.ensures.takes.store.writes
+    c.use_up_try.ensures.takes.store.reports (λ p. marked_ends (c.args.pin - 1)
     (is_enabled_by c.args.change) p small) exit
     c.set_enabled.ensures.spends c.set_enabled.ensures.pages c.set_enabled.ensures.store.reports
-    c.take_try.ensures.takes.shut
+    c.use_up_try.ensures.takes.shut
     c.set_enabled.ensures.by_gate _
     c.in_err-outcome.field-0.0 (reply-failed _ _ c.from_residual-in_err-outcome.ensures.1)
     c.in_err-outcome.ensures.store.tells
@@ -54,7 +54,7 @@ returns g c =
     let last = c.value_of-secret.ensures.in_range.last in
     let small : c.args.pin - 1 < 8 = omega (arith, first, last) in
     let was = pin_in c.args.store.now c.value_of-secret.result in
-    let b = c.take_try.new.store in
+    let b = c.use_up_try.new.store in
     let e = c.set_enabled.new.store in
     let exit = subst (λ (on : Bool). (committed e ≡ committed b)
     ⊎ SetsByMatch c.in_ok-charged.charged c.args.shown.now (marked_pin on (pin_in b c.in_ok-charged.charged)) b e)
@@ -67,18 +67,18 @@ returns g c =
     c.args.current.now c.requires.kept.ready c.requires.kept.card c.requires.kept.current
     c.value_of-secret.result c.value_of-secret.ensures.secret b e c.in_ok-charged.charged
     (taken-by c.value_of-secret.result _ _ c.usable_by.ensures was _ _ _ c.in_ok-charged.ensures.done)
-    c.take_try.ensures.takes.pages c.take_try.ensures.takes.store.writes
-    c.take_try.ensures.takes.store.reports (λ p. marked_ends (c.args.pin - 1)
+    c.use_up_try.ensures.takes.pages c.use_up_try.ensures.takes.store.writes
+    c.use_up_try.ensures.takes.store.reports (λ p. marked_ends (c.args.pin - 1)
     (is_enabled_by c.args.change) p small) exit
     c.set_enabled.ensures.spends c.set_enabled.ensures.pages c.set_enabled.ensures.store.reports
-    c.take_try.ensures.takes.shut
+    c.use_up_try.ensures.takes.shut
     c.set_enabled.ensures.by_gate c.in_ok-outcome.outcome
     ended c.in_ok-outcome.ensures.store.ready c.in_ok-charged.ensures.takes.counted
-    c.conclude.new.current c.conclude.ensures.session
-    c.conclude.result c.conclude.ensures.status
+    c.end_attempt.new.current c.end_attempt.ensures.session
+    c.end_attempt.result c.end_attempt.ensures.status
 
-pub take_try-requires-clause-pages : goal.take_try-requires-clause-pages
-take_try-requires-clause-pages g c = c.requires.kept.card.pins
+pub use_up_try-requires-clause-pages : goal.use_up_try-requires-clause-pages
+use_up_try-requires-clause-pages g c = c.requires.kept.card.pins
 
 pub set_enabled-requires-clause-pages : goal.set_enabled-requires-clause-pages
-set_enabled-requires-clause-pages g c = c.take_try.ensures.takes.pages
+set_enabled-requires-clause-pages g c = c.use_up_try.ensures.takes.pages

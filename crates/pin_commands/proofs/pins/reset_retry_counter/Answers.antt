@@ -13,40 +13,40 @@ pub returns-in_default : goal.returns-in_default
 returns-in_default g c =
     let none = ap (option_map (λ (values : Replacement). (values.shown.now, values.new.now))) c.in_default.is in
     subst (λ (values : Option (List ℕ × List ℕ)). Serves (reset_retry_counter c.args.pin values) c.args.store.now
-    c.args.current.now c.tell_tries.new.store c.args.current.now [] (Ok c.in_ok-tell_tries.field-0)) (sym none)
+    c.args.current.now c.query_tries.new.store c.args.current.now [] (Ok c.in_ok-query_tries.field-0)) (sym none)
     (question-answered _ c.args.pin (8 + (c.args.pin - 1)) (asks-unblocking c.args.pin
     c.unblocking_value_of-secret.ensures.in_range) c.args.store.now
     c.args.current.now c.requires.kept.card c.requires.kept.current
     c.unblocking_value_of-secret.result c.unblocking_value_of-secret.ensures.secret
-    c.tell_tries.new.store (Ok c.in_ok-tell_tries.field-0)
-    c.in_ok-tell_tries.ensures.told c.in_ok-tell_tries.ensures.store)
+    c.query_tries.new.store (Ok c.in_ok-query_tries.field-0)
+    c.in_ok-query_tries.ensures.told c.in_ok-query_tries.ensures.store)
 
-pub returns-in_err-tell_tries : goal.returns-in_err-tell_tries
-returns-in_err-tell_tries g c =
+pub returns-in_err-query_tries : goal.returns-in_err-query_tries
+returns-in_err-query_tries g c =
     handed (reset_retry_counter c.args.pin _) c.args.store.now c.args.current.now
-    c.tell_tries.new.store c.requires.kept.card c.args.current.now [] _ _ (reply-failed _ _
+    c.query_tries.new.store c.requires.kept.card c.args.current.now [] _ _ (reply-failed _ _
     c.from_residual.ensures.1)
-    c.in_err-tell_tries.ensures.store (omega arith)
+    c.in_err-query_tries.ensures.store (omega arith)
 
-pub tell_tries-requires-clause-pages : goal.tell_tries-requires-clause-pages
-tell_tries-requires-clause-pages g c = c.requires.kept.card.pins
+pub query_tries-requires-clause-pages : goal.query_tries-requires-clause-pages
+query_tries-requires-clause-pages g c = c.requires.kept.card.pins
 
 pub returns-in_err-charged : goal.returns-in_err-charged
 returns-in_err-charged g c =
     let some = ap (option_map (λ (values : Replacement). (values.shown.now, values.new.now))) c.in-Some.is in
     subst (λ (shown : Option (List ℕ × List ℕ)). Serves
     (reset_retry_counter c.args.pin shown) c.args.store.now c.args.current.now
-    c.take_try.new.store c.args.current.now [] (reply c.from_residual-in_err-charged.result)) (sym some)
+    c.use_up_try.new.store c.args.current.now [] (reply c.from_residual-in_err-charged.result)) (sym some)
     (charge-stopped _ _ (resets c.args.pin c.unblocking_value_of-secret.ensures.in_range c.in-Some.values.shown.now
     c.in-Some.values.new.now) 4
     refl c.args.store.now c.args.current.now
     c.requires.kept.ready c.requires.kept.card c.requires.kept.current
-    c.unblocking_value_of-secret.result c.unblocking_value_of-secret.ensures.secret c.take_try.new.store _
+    c.unblocking_value_of-secret.result c.unblocking_value_of-secret.ensures.secret c.use_up_try.new.store _
     c.in_err-charged.field-0.0
-    c.from_residual-in_err-charged.ensures.1 c.take_try.ensures.takes.any_exit c.take_try.ensures.takes.kept
-    c.take_try.ensures.takes.pages c.take_try.ensures.takes.store.reports
+    c.from_residual-in_err-charged.ensures.1 c.use_up_try.ensures.takes.any_exit c.use_up_try.ensures.takes.kept
+    c.use_up_try.ensures.takes.pages c.use_up_try.ensures.takes.store.reports
     c.in_err-charged.ensures.takes.store.tells
-    c.take_try.ensures.takes.store.writes c.take_try.ensures.takes.shut c.in_err-charged.ensures.done)
+    c.use_up_try.ensures.takes.store.writes c.use_up_try.ensures.takes.shut c.in_err-charged.ensures.done)
 
 pub returns-in_err-outcome : goal.returns-in_err-outcome
 returns-in_err-outcome g c =
@@ -59,12 +59,12 @@ returns-in_err-outcome g c =
     c.in-Some.values.new.now) 4
     refl c.args.store.now c.args.current.now c.requires.kept.ready c.requires.kept.card
     c.requires.kept.current
-    c.unblocking_value_of-secret.result c.unblocking_value_of-secret.ensures.secret c.take_try.new.store
+    c.unblocking_value_of-secret.result c.unblocking_value_of-secret.ensures.secret c.use_up_try.new.store
     c.reset_counter.new.store c.in_ok-charged.charged
-    c.in_ok-charged.ensures.done c.take_try.ensures.takes.pages c.take_try.ensures.takes.store.writes
-    c.take_try.ensures.takes.store.reports (λ p. reset_ends (8 + (c.args.pin - 1)) c.in-Some.values.new.now p large)
+    c.in_ok-charged.ensures.done c.use_up_try.ensures.takes.pages c.use_up_try.ensures.takes.store.writes
+    c.use_up_try.ensures.takes.store.reports (λ p. reset_ends (8 + (c.args.pin - 1)) c.in-Some.values.new.now p large)
     c.reset_counter.ensures.any_exit c.reset_counter.ensures.spends c.reset_counter.ensures.pages
-    c.reset_counter.ensures.store.reports c.take_try.ensures.takes.shut c.reset_counter.ensures.by_gate _
+    c.reset_counter.ensures.store.reports c.use_up_try.ensures.takes.shut c.reset_counter.ensures.by_gate _
     c.in_err-outcome.field-0.0 (reply-failed _ _ c.from_residual-in_err-outcome.ensures.1)
     c.in_err-outcome.ensures.store.tells)
 
@@ -74,24 +74,24 @@ returns g c =
     let some = ap (option_map (λ (values : Replacement). (values.shown.now, values.new.now))) c.in-Some.is in
     subst (λ (shown : Option (List ℕ × List ℕ)). Serves
     (reset_retry_counter c.args.pin shown) c.args.store.now c.args.current.now
-    c.reset_counter.new.store c.conclude.new.current [] (Ok c.conclude.result)) (sym some)
+    c.reset_counter.new.store c.end_attempt.new.current [] (Ok c.end_attempt.result)) (sym some)
     (end-made _ _ (resets c.args.pin c.unblocking_value_of-secret.ensures.in_range c.in-Some.values.shown.now
     c.in-Some.values.new.now) 4
     refl c.args.store.now c.args.current.now c.requires.kept.ready c.requires.kept.card
     c.requires.kept.current
-    c.unblocking_value_of-secret.result c.unblocking_value_of-secret.ensures.secret c.take_try.new.store
+    c.unblocking_value_of-secret.result c.unblocking_value_of-secret.ensures.secret c.use_up_try.new.store
     c.reset_counter.new.store c.in_ok-charged.charged
-    c.in_ok-charged.ensures.done c.take_try.ensures.takes.pages c.take_try.ensures.takes.store.writes
-    c.take_try.ensures.takes.store.reports (λ p. reset_ends (8 + (c.args.pin - 1)) c.in-Some.values.new.now p large)
+    c.in_ok-charged.ensures.done c.use_up_try.ensures.takes.pages c.use_up_try.ensures.takes.store.writes
+    c.use_up_try.ensures.takes.store.reports (λ p. reset_ends (8 + (c.args.pin - 1)) c.in-Some.values.new.now p large)
     c.reset_counter.ensures.any_exit c.reset_counter.ensures.spends
-    c.reset_counter.ensures.pages c.reset_counter.ensures.store.reports c.take_try.ensures.takes.shut
+    c.reset_counter.ensures.pages c.reset_counter.ensures.store.reports c.use_up_try.ensures.takes.shut
     c.reset_counter.ensures.by_gate c.in_ok-outcome.outcome
     c.in_ok-outcome.ensures.done c.in_ok-outcome.ensures.store.ready c.in_ok-charged.ensures.takes.counted
-    c.conclude.new.current c.conclude.ensures.session
-    c.conclude.result c.conclude.ensures.status)
+    c.end_attempt.new.current c.end_attempt.ensures.session
+    c.end_attempt.result c.end_attempt.ensures.status)
 
-pub take_try-requires-clause-pages : goal.take_try-requires-clause-pages
-take_try-requires-clause-pages g c = c.requires.kept.card.pins
+pub use_up_try-requires-clause-pages : goal.use_up_try-requires-clause-pages
+use_up_try-requires-clause-pages g c = c.requires.kept.card.pins
 
 pub reset_counter-requires-clause-pages : goal.reset_counter-requires-clause-pages
-reset_counter-requires-clause-pages g c = c.take_try.ensures.takes.pages
+reset_counter-requires-clause-pages g c = c.use_up_try.ensures.takes.pages

@@ -12,37 +12,37 @@ pub returns-in_default : goal.returns-in_default
 returns-in_default g c =
     let none = ap (option_map (λ (value : Bor (List ℕ)). value.now)) c.in_default.is in
     subst (λ (shown : Option (List ℕ)). Serves (verify c.args.pin shown) c.args.store.now c.args.current.now
-    c.tell_tries.new.store c.args.current.now [] (Ok c.in_ok-tell_tries.field-0)) (sym none)
+    c.query_tries.new.store c.args.current.now [] (Ok c.in_ok-query_tries.field-0)) (sym none)
     (question-answered _ c.args.pin (c.args.pin - 1) (asks-value c.args.pin c.value_of-secret.ensures.in_range)
     c.args.store.now
     c.args.current.now c.requires.kept.card c.requires.kept.current
     c.value_of-secret.result c.value_of-secret.ensures.secret
-    c.tell_tries.new.store (Ok c.in_ok-tell_tries.field-0)
-    c.in_ok-tell_tries.ensures.told c.in_ok-tell_tries.ensures.store)
+    c.query_tries.new.store (Ok c.in_ok-query_tries.field-0)
+    c.in_ok-query_tries.ensures.told c.in_ok-query_tries.ensures.store)
 
-pub returns-in_err-tell_tries : goal.returns-in_err-tell_tries
-returns-in_err-tell_tries g c =
-    handed (verify c.args.pin _) c.args.store.now c.args.current.now c.tell_tries.new.store c.requires.kept.card
+pub returns-in_err-query_tries : goal.returns-in_err-query_tries
+returns-in_err-query_tries g c =
+    handed (verify c.args.pin _) c.args.store.now c.args.current.now c.query_tries.new.store c.requires.kept.card
     c.args.current.now [] _ _ (reply-failed _ _ c.from_residual.ensures.1)
-    c.in_err-tell_tries.ensures.store (omega arith)
+    c.in_err-query_tries.ensures.store (omega arith)
 
-pub tell_tries-requires-clause-pages : goal.tell_tries-requires-clause-pages
-tell_tries-requires-clause-pages g c = c.requires.kept.card.pins
+pub query_tries-requires-clause-pages : goal.query_tries-requires-clause-pages
+query_tries-requires-clause-pages g c = c.requires.kept.card.pins
 
 pub returns-in_err-charged : goal.returns-in_err-charged
 returns-in_err-charged g c =
     let some = ap (option_map (λ (value : Bor (List ℕ)). value.now)) c.in-Some.is in
     subst (λ (shown : Option (List ℕ)). Serves (verify c.args.pin shown) c.args.store.now c.args.current.now
-    c.take_try.new.store c.args.current.now [] (reply c.from_residual-in_err-charged.result)) (sym some)
+    c.use_up_try.new.store c.args.current.now [] (reply c.from_residual-in_err-charged.result)) (sym some)
     (charge-stopped _ _ (verifies c.args.pin c.value_of-secret.ensures.in_range c.in-Some.shown.now) 1 refl
     c.args.store.now
     c.args.current.now
     c.requires.kept.ready c.requires.kept.card c.requires.kept.current
-    c.value_of-secret.result c.value_of-secret.ensures.secret c.take_try.new.store _ c.in_err-charged.field-0.0
-    c.from_residual-in_err-charged.ensures.1 c.take_try.ensures.takes.any_exit c.take_try.ensures.takes.kept
-    c.take_try.ensures.takes.pages c.take_try.ensures.takes.store.reports
+    c.value_of-secret.result c.value_of-secret.ensures.secret c.use_up_try.new.store _ c.in_err-charged.field-0.0
+    c.from_residual-in_err-charged.ensures.1 c.use_up_try.ensures.takes.any_exit c.use_up_try.ensures.takes.kept
+    c.use_up_try.ensures.takes.pages c.use_up_try.ensures.takes.store.reports
     c.in_err-charged.ensures.takes.store.tells
-    c.take_try.ensures.takes.store.writes c.take_try.ensures.takes.shut c.in_err-charged.ensures.done)
+    c.use_up_try.ensures.takes.store.writes c.use_up_try.ensures.takes.shut c.in_err-charged.ensures.done)
 
 pub returns-in_err-outcome : goal.returns-in_err-outcome
 returns-in_err-outcome g c =
@@ -55,11 +55,11 @@ returns-in_err-outcome g c =
     (end-torn _ _ (verifies c.args.pin c.value_of-secret.ensures.in_range c.in-Some.shown.now) 1 refl
     c.args.store.now c.args.current.now
     c.requires.kept.ready c.requires.kept.card c.requires.kept.current
-    c.value_of-secret.result c.value_of-secret.ensures.secret c.take_try.new.store c.settle.new.store
-    c.in_ok-charged.charged c.in_ok-charged.ensures.done c.take_try.ensures.takes.pages
-    c.take_try.ensures.takes.store.writes
-    c.take_try.ensures.takes.store.reports (λ p. verified_ends (c.args.pin - 1) p small) c.settle.ensures.any_exit
-    c.settle.ensures.spends c.settle.ensures.pages c.settle.ensures.store.reports c.take_try.ensures.takes.shut
+    c.value_of-secret.result c.value_of-secret.ensures.secret c.use_up_try.new.store c.settle.new.store
+    c.in_ok-charged.charged c.in_ok-charged.ensures.done c.use_up_try.ensures.takes.pages
+    c.use_up_try.ensures.takes.store.writes
+    c.use_up_try.ensures.takes.store.reports (λ p. verified_ends (c.args.pin - 1) p small) c.settle.ensures.any_exit
+    c.settle.ensures.spends c.settle.ensures.pages c.settle.ensures.store.reports c.use_up_try.ensures.takes.shut
     c.settle.ensures.by_gate _
     c.in_err-outcome.field-0.0 (reply-failed _ _ c.from_residual-in_err-outcome.ensures.1)
     c.in_err-outcome.ensures.store.tells)
@@ -71,22 +71,22 @@ returns g c =
     let small : c.args.pin - 1 < 8 = omega (arith, first, last) in
     let some = ap (option_map (λ (value : Bor (List ℕ)). value.now)) c.in-Some.is in
     subst (λ (shown : Option (List ℕ)). Serves (verify c.args.pin shown) c.args.store.now c.args.current.now
-    c.settle.new.store c.conclude.new.current [] (Ok c.conclude.result)) (sym some)
+    c.settle.new.store c.end_attempt.new.current [] (Ok c.end_attempt.result)) (sym some)
     (end-made _ _ (verifies c.args.pin c.value_of-secret.ensures.in_range c.in-Some.shown.now) 1 refl
     c.args.store.now c.args.current.now
     c.requires.kept.ready c.requires.kept.card c.requires.kept.current
-    c.value_of-secret.result c.value_of-secret.ensures.secret c.take_try.new.store c.settle.new.store
-    c.in_ok-charged.charged c.in_ok-charged.ensures.done c.take_try.ensures.takes.pages
-    c.take_try.ensures.takes.store.writes
-    c.take_try.ensures.takes.store.reports (λ p. verified_ends (c.args.pin - 1) p small) c.settle.ensures.any_exit
-    c.settle.ensures.spends c.settle.ensures.pages c.settle.ensures.store.reports c.take_try.ensures.takes.shut
+    c.value_of-secret.result c.value_of-secret.ensures.secret c.use_up_try.new.store c.settle.new.store
+    c.in_ok-charged.charged c.in_ok-charged.ensures.done c.use_up_try.ensures.takes.pages
+    c.use_up_try.ensures.takes.store.writes
+    c.use_up_try.ensures.takes.store.reports (λ p. verified_ends (c.args.pin - 1) p small) c.settle.ensures.any_exit
+    c.settle.ensures.spends c.settle.ensures.pages c.settle.ensures.store.reports c.use_up_try.ensures.takes.shut
     c.settle.ensures.by_gate c.in_ok-outcome.outcome
     c.in_ok-outcome.ensures.done c.in_ok-outcome.ensures.store.ready c.in_ok-charged.ensures.takes.counted
-    c.conclude.new.current c.conclude.ensures.session
-    c.conclude.result c.conclude.ensures.status)
+    c.end_attempt.new.current c.end_attempt.ensures.session
+    c.end_attempt.result c.end_attempt.ensures.status)
 
-pub take_try-requires-clause-pages : goal.take_try-requires-clause-pages
-take_try-requires-clause-pages g c = c.requires.kept.card.pins
+pub use_up_try-requires-clause-pages : goal.use_up_try-requires-clause-pages
+use_up_try-requires-clause-pages g c = c.requires.kept.card.pins
 
 pub settle-requires-clause-pages : goal.settle-requires-clause-pages
-settle-requires-clause-pages g c = c.take_try.ensures.takes.pages
+settle-requires-clause-pages g c = c.use_up_try.ensures.takes.pages

@@ -7,7 +7,7 @@ use Rattle.pin_store.specs.declared.errors.PinErr.{PinErr}
 use Rattle.pin_store.specs.declared.errors.PinErr.TheVariants as pin_err
 use Rattle.command_base.specs.Stops.{failure_of, stop_of_pin}
 use Rattle.command_base.specs.laws.Stopping.{changes-stopped}
-use Rattle.pin_commands.proofs.pins.take_try.Goals as goal
+use Rattle.pin_commands.proofs.pins.use_up_try.Goals as goal
 
 -- what stops a charge: no try is left, or the store failed
 charge-failed : {T : Type 0} (a b : Memory) (told : Result T PinErr) (e : PinErr) → told ≡ Err e
