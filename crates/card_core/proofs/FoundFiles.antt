@@ -31,7 +31,7 @@ use Rattle.command_base.specs.Standing.{card_of, card_pins, IsAnyCard, IsCard}
 use Rattle.command_base.specs.Working.{IsCurrent, IsElementary, session_of}
 use Rattle.command_base.specs.laws.CardLaws.{any_tree}
 use Rattle.command_base.specs.laws.FoundLaws.{proper-card}
-use Rattle.card_core.specs.WellFormed.{HasCurrentFiles, HasEightBytes, IsWellFormed}
+use Rattle.card_model.specs.WellFormed.{HasCurrentFiles, HasEightBytes, IsWellFormed}
 
 -- A path is no longer than its steps.
 short-path : (t : List Entry) (n e : ℕ) → length (path_in t n e) ≤ n

@@ -8,4 +8,3 @@ pub mod ShownSessions
 pub mod StartParts
 pub mod Lending
 pub mod Refused
-pub mod WellFormed

@@ -18,7 +18,7 @@ ghost use Rattle.card_core.specs.Starting.{IsNewFound, KeepsFormat, KeepsFoundUn
 ghost use Rattle.card_core.specs.Starting.{RenamesLast, RollsBackUnlessOld, TakesAllPages, power_on_writes};
 ghost use Rattle.card_core.specs.Running.{Starts, StartStopsBy, Steps, FailsIn, IsCutIn, card_found, memory_failure};
 ghost use Rattle.command_base.specs.CommandWrites.{writes_of};
-ghost use Rattle.card_core.specs.WellFormed.{HasCurrentFiles};
+ghost use Rattle.card_model.specs.WellFormed.{HasCurrentFiles};
 ghost use Rattle.card_model.specs.Steps.{IsStage, ChangesNothing};
 ghost use Rattle.command_base.specs.CommitWords.{StandsAsked};
 ghost use Rattle.card_model.specs.Behaviours.{answer_bytes};

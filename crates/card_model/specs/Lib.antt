@@ -16,4 +16,5 @@ pub mod Sessions
 pub mod Steps
 pub mod TemplateGrammar
 pub mod Templates
+pub mod WellFormed
 pub mod laws

@@ -4,7 +4,7 @@ use Rattle.card_core.specs.declared.state.CardState.{CardState}
 use Rattle.card_core.specs.declared.state.CardState.TheVariants.{Working}
 use Rattle.card_core.specs.Running.{card_found, Running}
 use Rattle.card_core.specs.ShownSessions.{session_while}
-use Rattle.card_core.specs.WellFormed.{HasCurrentFiles}
+use Rattle.card_model.specs.WellFormed.{HasCurrentFiles}
 use Rattle.command_base.specs.Standing.{card_of}
 use Rattle.command_base.specs.Working.{table_in}
 use Rattle.card_core.proofs.FoundFiles.{current-files}
