@@ -9,7 +9,7 @@ use crate::commands::{Command, Parsed};
 use crate::form::{CommandBody, Operands};
 use byteorder::{BigEndian, ByteOrder};
 use card_model::Target;
-use card_rules::Sw;
+use card_state::Sw;
 
 /// An elementary file, and an offset of 0 to 32,767 bytes.
 #[derive(Clone, Copy)]

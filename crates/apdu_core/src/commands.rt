@@ -18,7 +18,7 @@ use crate::select::{Selector, parse_select};
 use card_model::{
     LifeCycleChange, RecordChoice, RecordPlace, RequirementChange, Returned, Subject, Target,
 };
-use card_rules::{Direction, PinNumber, Sw};
+use card_state::{Direction, PinNumber, Sw};
 
 /// A command as a value.
 /// `expected` is its Le byte: the number of bytes requested, where 0 means all.

@@ -17,8 +17,8 @@ pub use binary::BinaryPlace;
 pub use card_model::{
     LifeCycleChange, RecordChoice, RecordPlace, RequirementChange, Returned, Subject, Target,
 };
-pub use card_rules::Sw;
-use card_rules::limits::MOST_ANSWER_DATA;
+pub use card_state::Sw;
+use card_state::limits::MOST_ANSWER_DATA;
 pub use commands::Command;
 pub use path::FilePath;
 pub use pins::Replacement;

@@ -7,7 +7,7 @@ use crate::commands::{Command, Parsed};
 use crate::files::subject_of;
 use crate::form::{CommandBody, Operands};
 use card_model::LifeCycleChange;
-use card_rules::Sw;
+use card_state::Sw;
 
 /// Parses a command that changes a life cycle, after its instruction.
 ///

@@ -10,8 +10,8 @@ use crate::form::{CommandBody, Operands};
 use crate::path::FilePath;
 use byteorder::{BigEndian, ByteOrder};
 use card_model::Returned;
-use card_rules::Sw;
-use card_rules::limits::MOST_NAME_BYTES;
+use card_state::Sw;
+use card_state::limits::MOST_NAME_BYTES;
 
 /// How SELECT names a file (ISO/IEC 7816-4, 11.2.2).
 #[derive(Clone, Copy)]

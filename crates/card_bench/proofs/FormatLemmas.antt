@@ -1,5 +1,6 @@
 -- Formatting a new board succeeds: no cut is due, and no count stands at its end.
-use Rattle.std.specs.Prelude.{◌≡◌, ◌<◌, ◌≤◌, ◌-◌, ◌*◌, ℕ, zero, suc, true, false, List, Option, None, Some, Err, Contains, length}
+use Rattle.std.specs.Prelude.{◌≡◌, ◌<◌, ◌≤◌, ◌-◌, ◌*◌, ℕ, zero, suc, true, false}
+use Rattle.std.specs.Prelude.{List, Option, None, Some, Err, Contains, length}
 use Rattle.std.specs.Prelude.{replicate, slice_index_or, refl}
 use Rattle.std.proofs.Common.{arith, inl, inr, subst, sym, ap, ◌∙◌, true≢false}
 use Rattle.nvm_board.specs.declared.board.Arm.{Arm}

@@ -10,7 +10,7 @@ use Rattle.command_base.specs.Comparing.{comparisons, ComparesAsked}
 use Rattle.command_base.specs.Counting.{CountsAnswered}
 use Rattle.card_model.specs.Steps.{IsStage, carried_out}
 use Rattle.command_base.specs.laws.CompareLaws.{asked-none}
-use Rattle.card_rules.specs.declared.status.Sw.{Sw}
+use Rattle.card_state.specs.declared.status.Sw.{Sw}
 use Rattle.undo_journal.specs.declared.error.StoreErr.{StoreErr}
 use Rattle.undo_journal.specs.declared.error.StoreErr.TheVariants.{PowerLost, Fault}
 use Rattle.undo_journal.specs.Memory.{Memory, IsReady}

@@ -31,7 +31,7 @@ use Rattle.file_tree.specs.laws.Paths.{path-zero}
 use Rattle.file_tree.specs.laws.Nodes.{Node, node-used, node-free}
 use Rattle.file_tree.specs.laws.Costs.{space_counted}
 use Rattle.file_tree.specs.laws.Contents.{content-some}
-use Rattle.card_rules.specs.declared.pins.TheConstants.{PINS}
+use Rattle.card_state.specs.declared.pins.TheConstants.{PINS}
 use Rattle.pin_store.specs.Pages.{bytes_of_words, pin_at, pin_page, pin_word, unmarked_pins_of, ArePinPages, AreEnabled}
 use Rattle.card_state.specs.Secrets.{enabled_pin}
 use Rattle.pin_store.specs.laws.AllPins.{enabled_marks, enabled_unmarked}

@@ -9,8 +9,8 @@ use Rattle.std.proofs.lemmas.List.{length-append}
 use Rattle.std.proofs.lemmas.Bool.Decides.{eqb_tells}
 use Rattle.std.proofs.lemmas.List.Elements.{All-map}
 use Rattle.std.proofs.lemmas.List.FromFn.{length-map-range_with_len}
-use Rattle.card_rules.specs.Rule.{is_rule}
-use Rattle.card_rules.specs.declared.pins.TheConstants.{PINS}
+use Rattle.card_state.specs.Rule.{is_rule}
+use Rattle.card_state.specs.declared.pins.TheConstants.{PINS}
 use Rattle.card_state.specs.FileTrees.{Body, File, Kind, Path, dedicated, elementary, parent, short_of}
 use Rattle.card_state.specs.FileTrees.{exists, file_at, is_dedicated}
 use Rattle.card_state.specs.Secrets.{enabled_pin}

@@ -3,11 +3,11 @@ use Rattle.std.specs.Prelude.{◌==◌, ◌||◌, ℕ, List, [], ◌∷◌, ◌+
 use Rattle.std.specs.Prelude.{true, false, Result, Ok, Err}
 use Rattle.std.specs.FinMap.{insert, retain_keys}
 use Rattle.std.specs.List.{starts_with}
-use Rattle.card_rules.specs.declared.access_mode.AccessBit.{AccessBit}
-use Rattle.card_rules.specs.declared.access_mode.AccessBit.TheVariants.{CreateDf, CreateEf, DeleteChild, DeleteSelf}
-use Rattle.card_rules.specs.declared.status.TheConstants.Sw.{DONE, CONDITIONS_NOT_SATISFIED, FILE_NOT_FOUND}
-use Rattle.card_rules.specs.declared.status.TheConstants.Sw.{FILE_EXISTS, NAME_EXISTS, NO_ROOM, WRONG_DATA}
-use Rattle.card_rules.specs.declared.life_cycle.LifeCycle.TheVariants.{Activated}
+use Rattle.card_state.specs.declared.access_mode.AccessBit.{AccessBit}
+use Rattle.card_state.specs.declared.access_mode.AccessBit.TheVariants.{CreateDf, CreateEf, DeleteChild, DeleteSelf}
+use Rattle.card_state.specs.declared.status.TheConstants.Sw.{DONE, CONDITIONS_NOT_SATISFIED, FILE_NOT_FOUND}
+use Rattle.card_state.specs.declared.status.TheConstants.Sw.{FILE_EXISTS, NAME_EXISTS, NO_ROOM, WRONG_DATA}
+use Rattle.card_state.specs.declared.life_cycle.LifeCycle.TheVariants.{Activated}
 use Rattle.card_model.specs.declared.fault.FcpFault.{FcpFault}
 use Rattle.card_state.specs.declared.fcp.Fcp.{Fcp}
 use Rattle.card_state.specs.declared.fcp.FileKind.{FileKind}

@@ -2,11 +2,11 @@
 use Rattle.std.specs.Prelude.{◌+◌, ◌-◌, ◌==◌, ℕ, Bool, true, false, not, ◌&&◌, ◌||◌, nat_le, if◌then◌else◌, List, []}
 use Rattle.std.specs.Prelude.{◌∷◌, ◌++◌, length, slice_set, Option, None, Some, unwrap_or, ◌^◌, nat_lt}
 use Rattle.std.specs.FinMap.{insert}
-use Rattle.card_rules.specs.declared.status.Sw.{Sw}
-use Rattle.card_rules.specs.declared.status.TheConstants.Sw.{DONE, END_REACHED, RECORD_NOT_FOUND, NO_ROOM, WRONG_LENGTH}
-use Rattle.card_rules.specs.declared.status.TheConstants.Sw.{MAXIMUM_REACHED}
-use Rattle.card_rules.specs.declared.access_mode.AccessBit.TheVariants.{Append, Read, Update}
-use Rattle.card_rules.specs.declared.direction.Direction.{Direction}
+use Rattle.card_state.specs.declared.status.Sw.{Sw}
+use Rattle.card_state.specs.declared.status.TheConstants.Sw.{DONE, END_REACHED, RECORD_NOT_FOUND, NO_ROOM, WRONG_LENGTH}
+use Rattle.card_state.specs.declared.status.TheConstants.Sw.{MAXIMUM_REACHED}
+use Rattle.card_state.specs.declared.access_mode.AccessBit.TheVariants.{Append, Read, Update}
+use Rattle.card_state.specs.declared.direction.Direction.{Direction}
 use Rattle.card_model.specs.declared.requests.Target.{Target}
 use Rattle.card_model.specs.declared.requests.Target.TheVariants.{Current, Short}
 use Rattle.card_model.specs.declared.requests.RecordPlace.{RecordPlace}

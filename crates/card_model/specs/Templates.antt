@@ -1,6 +1,6 @@
 -- The template that SELECT returns: a file's control parameters and their one encoding (ISO/IEC 7816-4, 7.4.3).
 use Rattle.std.specs.Prelude.{ℕ, ◌≢◌, ◌*◌, ◌/◌, ◌%◌, ⊤, List, [], ◌∷◌, ◌++◌, length, Some, None, Option}
-use Rattle.card_rules.specs.LifeCycle.{life_cycle_byte}
+use Rattle.card_state.specs.LifeCycle.{life_cycle_byte}
 use Rattle.card_state.specs.declared.fcp.Fcp.{Fcp}
 use Rattle.card_state.specs.declared.fcp.FileKind.{FileKind}
 use Rattle.card_state.specs.declared.fcp.FileKind.TheVariants.{Df, Transparent, Linear, Cyclic}

@@ -2,8 +2,8 @@
 -- and short identifiers, and its PINs; and that the current files of a session are in its tree.
 use Rattle.std.specs.Prelude.{◌≡◌, ◌≤◌, ◌++◌, ◌∷◌, [], ◌&&◌, not, ℕ, List, length, All, Some, IfSome, IsTrue}
 use Rattle.std.specs.FinMap.{get}
-use Rattle.card_rules.specs.Rule.{is_rule}
-use Rattle.card_rules.specs.declared.pins.TheConstants.{PINS}
+use Rattle.card_state.specs.Rule.{is_rule}
+use Rattle.card_state.specs.declared.pins.TheConstants.{PINS}
 use Rattle.card_state.specs.FileTrees.{Path, File, Tree, IsTree, dedicated, exists, file_at, is_dedicated, parent}
 use Rattle.card_state.specs.FileTrees.{short_of}
 use Rattle.card_state.specs.Secrets.{Pin}

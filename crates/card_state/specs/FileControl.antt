@@ -4,8 +4,8 @@ use Rattle.card_state.specs.declared.fcp.FileKind.{FileKind}
 use Rattle.card_state.specs.declared.fcp.FileKind.TheVariants.{Df, Transparent, Linear, Cyclic}
 use Rattle.card_state.specs.declared.fcp.ShortIdentifier.{ShortIdentifier}
 use Rattle.card_state.specs.declared.fcp.ShortIdentifier.TheVariants.{Absent, Empty, Given}
-use Rattle.card_rules.specs.declared.life_cycle.LifeCycle.TheVariants.{Terminated}
-use Rattle.card_rules.specs.Rule.{is_rule}
+use Rattle.card_state.specs.declared.life_cycle.LifeCycle.TheVariants.{Terminated}
+use Rattle.card_state.specs.Rule.{is_rule}
 use Rattle.card_state.specs.declared.fcp.Fcp.{Fcp}
 use Rattle.card_state.specs.declared.fcp.Records.{Records}
 

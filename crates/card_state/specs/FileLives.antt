@@ -2,13 +2,13 @@
 -- 7816-4, 7.4.10).
 use Rattle.std.specs.Prelude.{Bool, true, false, ◌||◌, if◌then◌else◌, List, length, map, take, Option, None}
 use Rattle.std.specs.List.{list_any, range_with_len}
-use Rattle.card_rules.specs.LifeCycle.{state_after}
-use Rattle.card_rules.specs.declared.life_cycle.LifeCycle.{LifeCycle}
-use Rattle.card_rules.specs.declared.life_cycle.LifeCycle.TheVariants.{Creation, Initialisation, Deactivated, Activated}
-use Rattle.card_rules.specs.declared.life_cycle.LifeCycle.TheVariants.{Terminated}
-use Rattle.card_rules.specs.declared.life_cycle.LifeCycleCommand.{LifeCycleCommand}
-use Rattle.card_rules.specs.declared.access_mode.AccessBit.{AccessBit}
-use Rattle.card_rules.specs.Rule.{allows}
+use Rattle.card_state.specs.LifeCycle.{state_after}
+use Rattle.card_state.specs.declared.life_cycle.LifeCycle.{LifeCycle}
+use Rattle.card_state.specs.declared.life_cycle.LifeCycle.TheVariants.{Creation, Initialisation, Deactivated, Activated}
+use Rattle.card_state.specs.declared.life_cycle.LifeCycle.TheVariants.{Terminated}
+use Rattle.card_state.specs.declared.life_cycle.LifeCycleCommand.{LifeCycleCommand}
+use Rattle.card_state.specs.declared.access_mode.AccessBit.{AccessBit}
+use Rattle.card_state.specs.Rule.{allows}
 use Rattle.card_state.specs.FileTrees.{File, Path, Tree, file_at}
 
 -- A deactivated or terminated file bars itself and all files below it.

@@ -5,8 +5,8 @@ use Rattle.std.specs.List.{splice}
 use Rattle.std.specs.Ordering.{nat_cmp}
 use Rattle.std.specs.Cmp.Lexicographic.{slice_cmp}
 use Rattle.std.specs.FinMap.{FinMap, get}
-use Rattle.card_rules.specs.declared.life_cycle.LifeCycle.{LifeCycle}
-use Rattle.card_rules.specs.declared.life_cycle.LifeCycle.TheVariants.{Activated}
+use Rattle.card_state.specs.declared.life_cycle.LifeCycle.{LifeCycle}
+use Rattle.card_state.specs.declared.life_cycle.LifeCycle.TheVariants.{Activated}
 
 -- Replacing some of a list's bytes.
 

@@ -3,8 +3,8 @@
 use Rattle.std.specs.Prelude.{◌-◌, ◌&&◌, ℕ, Bool, List, [], ◌∷◌, length, take, nat_le, slice_index_or, zero, suc, ◌+◌}
 use Rattle.std.specs.Prelude.{◌*◌, ◌/◌, ◌%◌, ◌^◌, drop, reverse, nat_eq}
 use Rattle.std.specs.List.{filter, list_any, range_with_len, starts_with}
-use Rattle.card_rules.specs.declared.direction.Direction.{Direction}
-use Rattle.card_rules.specs.declared.direction.Direction.TheVariants.{Forward, Backward}
+use Rattle.card_state.specs.declared.direction.Direction.{Direction}
+use Rattle.card_state.specs.declared.direction.Direction.TheVariants.{Forward, Backward}
 
 -- Lists of records (ETSI TS 102 221, 8.2.2).
 

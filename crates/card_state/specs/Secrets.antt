@@ -1,6 +1,6 @@
 -- A PIN, its two secrets and its changes (ISO/IEC 7816-4, clause 11, basic security handling).
 use Rattle.std.specs.Prelude.{ℕ, ◌≤◌, ◌+◌, ◌-◌, ◌%◌, Bool, true, nat_le, if◌then◌else◌, List}
-use Rattle.card_rules.specs.declared.pins.TheConstants.{PINS}
+use Rattle.card_state.specs.declared.pins.TheConstants.{PINS}
 use Rattle.card_state.specs.declared.limits.TheConstants.{TRIES, UNBLOCKING_TRIES}
 
 -- A PIN: its value and tries, its unblocking value and tries. `enabled` is true if verification is required.

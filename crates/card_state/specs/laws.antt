@@ -1,6 +1,8 @@
 -- Laws of the definitions, with their proofs.
+pub mod DisabledPins
 pub mod FewTries
 pub mod Finding
 pub mod Numbers
 pub mod Orders
+pub mod Rules
 pub mod Spelling

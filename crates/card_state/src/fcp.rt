@@ -2,8 +2,8 @@
 
 ghost use Rattle.std.specs.Prelude.{◌≡◌, ◌≤◌, length, Some, None, nat_le, ◌&&◌, if◌then◌else◌};
 
-use card_rules::limits::MOST_NAME_BYTES;
-use card_rules::{Compact, LifeCycle};
+use crate::limits::MOST_NAME_BYTES;
+use crate::{Compact, LifeCycle};
 use std::marker::Model;
 
 /// The file control parameters of one file. The name is borrowed from the text it was read from.

@@ -2,7 +2,7 @@
 ghost use Rattle.undo_journal.specs.Memory.{IsReady};
 
 use crate::fixtures::formatted;
-use card_rules::PinNumber;
+use card_state::PinNumber;
 use nvm_board::{Board, RamBoard};
 use pin_store::{Outcome, Secret, are_pins, charge, settle};
 use std::test::Fail;

@@ -1,7 +1,7 @@
 -- What the rule of a file allows in a session, by the marks of the PINs that the code keeps and reads.
 use Rattle.std.specs.Prelude.{map, not}
 use Rattle.std.proofs.Common.{◌≡◌, ℕ, List, length, sym, ◌∙◌, ap}
-use Rattle.card_rules.specs.declared.access_mode.AccessBit.{AccessBit}
+use Rattle.card_state.specs.declared.access_mode.AccessBit.{AccessBit}
 use Rattle.file_tree.specs.declared.entry.Entry.{Entry}
 use Rattle.card_state.specs.FileTrees.{Tree}
 use Rattle.file_tree.specs.Entries.{is_allowed_by}

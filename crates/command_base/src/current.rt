@@ -4,7 +4,7 @@ ghost use Rattle.command_base.specs.CurrentFiles.{current_at, current_by, fresh_
 ghost use Rattle.command_base.specs.CurrentFiles.{pointing_from, tried_from, unverifies};
 
 use apdu_core::Target;
-use card_rules::{PinNumber, PinSet};
+use card_state::{PinNumber, PinSet};
 use file_tree::{Entry, EntryHead};
 use pin_store::Outcome;
 

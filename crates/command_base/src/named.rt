@@ -17,7 +17,7 @@ use crate::access::allows;
 use crate::current::Current;
 use crate::stop::Stop;
 use apdu_core::{Sw, Target};
-use card_rules::AccessBit;
+use card_state::AccessBit;
 use file_tree::{Entry, EntryKind, find_short, is_barred_at, read_entry};
 use undo_journal::{Board, Store, StoreErr};
 

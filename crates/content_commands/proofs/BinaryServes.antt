@@ -5,10 +5,10 @@ use Rattle.std.proofs.Common.{Some, None, refl, sym, ◌∙◌, ap, ap₂, subst
 use Rattle.std.specs.FinMap.{insert}
 use Rattle.nvm_board.specs.Facts.{IsMemory}
 use Rattle.nvm_board.specs.laws.Sizes.{memory_same}
-use Rattle.card_rules.specs.declared.status.Sw.{Sw}
-use Rattle.card_rules.specs.declared.status.TheConstants.Sw.{DONE}
-use Rattle.card_rules.specs.declared.access_mode.AccessBit.{AccessBit}
-use Rattle.card_rules.specs.declared.access_mode.AccessBit.TheVariants.{Read, Update}
+use Rattle.card_state.specs.declared.status.Sw.{Sw}
+use Rattle.card_state.specs.declared.status.TheConstants.Sw.{DONE}
+use Rattle.card_state.specs.declared.access_mode.AccessBit.{AccessBit}
+use Rattle.card_state.specs.declared.access_mode.AccessBit.TheVariants.{Read, Update}
 use Rattle.undo_journal.specs.declared.error.StoreErr.{StoreErr}
 use Rattle.undo_journal.specs.StoreCalls.{OnlyReads}
 use Rattle.undo_journal.specs.Commits.{CommitsByGate}

@@ -3,9 +3,9 @@ use Rattle.std.proofs.Common.{◌≡◌, ◌⊎◌, ◌≤◌, ◌+◌, ◌++◌
 use Rattle.std.proofs.Common.{None, Some, Result, Ok, refl, sym, ◌∙◌, ap, subst, arith}
 use Rattle.std.specs.Result.{IsErrAnd}
 use Rattle.nvm_board.specs.Facts.{IsMemory}
-use Rattle.card_rules.specs.declared.access_mode.AccessBit.TheVariants.{Update}
-use Rattle.card_rules.specs.declared.status.Sw.{Sw}
-use Rattle.card_rules.specs.declared.status.TheConstants.Sw.{DONE}
+use Rattle.card_state.specs.declared.access_mode.AccessBit.TheVariants.{Update}
+use Rattle.card_state.specs.declared.status.Sw.{Sw}
+use Rattle.card_state.specs.declared.status.TheConstants.Sw.{DONE}
 use Rattle.undo_journal.specs.declared.error.StoreErr.{StoreErr}
 use Rattle.undo_journal.specs.StoreCalls.{Changes, OnlyReads, Reads}
 use Rattle.undo_journal.specs.Commits.{CommitsByGate}

@@ -3,12 +3,12 @@ use Rattle.std.proofs.Common.{◌≡◌, ◌==◌, ◌&&◌, ℕ, Bool, true, fa
 use Rattle.std.proofs.Common.{None, Ok, if◌then◌else◌, refl, sym, ◌∙◌, ap, subst}
 use Rattle.std.specs.FinSet.{empty}
 use Rattle.nvm_board.specs.Facts.{IsMemory}
-use Rattle.card_rules.specs.declared.access_mode.AccessBit.TheVariants.{Read}
-use Rattle.card_rules.specs.declared.status.Sw.{Sw}
-use Rattle.card_rules.specs.declared.status.TheConstants.Sw.{DONE, RECORD_NOT_FOUND}
+use Rattle.card_state.specs.declared.access_mode.AccessBit.TheVariants.{Read}
+use Rattle.card_state.specs.declared.status.Sw.{Sw}
+use Rattle.card_state.specs.declared.status.TheConstants.Sw.{DONE, RECORD_NOT_FOUND}
 use Rattle.card_model.specs.declared.requests.Target.{Target}
 use Rattle.card_model.specs.declared.requests.Target.TheVariants.{Current, Short}
-use Rattle.card_rules.specs.declared.direction.Direction.{Direction}
+use Rattle.card_state.specs.declared.direction.Direction.{Direction}
 use Rattle.card_model.specs.declared.requests.RecordChoice.{RecordChoice}
 use Rattle.card_model.specs.declared.requests.RecordChoice.TheVariants.{Next, Previous, At}
 use Rattle.card_model.specs.declared.requests.RecordPlace.{RecordPlace}

@@ -5,9 +5,9 @@ use Rattle.std.proofs.Common.{length, Option, Some, None, Result, Ok, if◌then�
 use Rattle.std.proofs.Common.{inl, inr, ⊎_elim}
 use Rattle.std.specs.Result.{IsErrAnd}
 use Rattle.nvm_board.specs.Facts.{IsMemory}
-use Rattle.card_rules.specs.declared.access_mode.AccessBit.TheVariants.{Append, Update}
-use Rattle.card_rules.specs.declared.status.Sw.{Sw}
-use Rattle.card_rules.specs.declared.status.TheConstants.Sw.{DONE, NO_ROOM, RECORD_NOT_FOUND, WRONG_LENGTH}
+use Rattle.card_state.specs.declared.access_mode.AccessBit.TheVariants.{Append, Update}
+use Rattle.card_state.specs.declared.status.Sw.{Sw}
+use Rattle.card_state.specs.declared.status.TheConstants.Sw.{DONE, NO_ROOM, RECORD_NOT_FOUND, WRONG_LENGTH}
 use Rattle.undo_journal.specs.declared.error.StoreErr.{StoreErr}
 use Rattle.undo_journal.specs.StoreCalls.{Changes, OnlyReads}
 use Rattle.undo_journal.specs.Commits.{CommitsByGate}

@@ -2,9 +2,9 @@
 use Rattle.std.specs.Prelude.{◌≡◌, ◌⊎◌, ◌+◌, ◌*◌, ◌==◌, ◌&&◌, ℕ, Bool, true, false, not}
 use Rattle.std.specs.Prelude.{nat_le, if◌then◌else◌}
 use Rattle.std.specs.Prelude.{◌-◌, ◌++◌, ◌∷◌, slice_set, List, [], length, Option, None, Some}
-use Rattle.card_rules.specs.declared.access_mode.AccessBit.TheVariants.{Update}
-use Rattle.card_rules.specs.declared.status.Sw.{Sw}
-use Rattle.card_rules.specs.declared.status.TheConstants.Sw.{NO_ROOM, RECORD_NOT_FOUND, WRONG_LENGTH}
+use Rattle.card_state.specs.declared.access_mode.AccessBit.TheVariants.{Update}
+use Rattle.card_state.specs.declared.status.Sw.{Sw}
+use Rattle.card_state.specs.declared.status.TheConstants.Sw.{NO_ROOM, RECORD_NOT_FOUND, WRONG_LENGTH}
 use Rattle.card_model.specs.declared.requests.Target.{Target}
 use Rattle.file_tree.specs.declared.entry.Entry.{Entry}
 use Rattle.file_tree.specs.Entries.{entry_capacity}

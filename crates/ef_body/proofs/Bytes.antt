@@ -8,8 +8,8 @@ use Rattle.std.specs.Prelude.{◌≡◌, ◌<◌, ◌≤◌, ◌+◌, ◌-◌, �
 use Rattle.std.specs.Prelude.{List, [], ◌∷◌, ◌++◌, length}
 use Rattle.std.specs.Prelude.{take, drop, min}
 use Rattle.std.specs.Prelude.{Option, Some, None, IsTrue, if◌then◌else◌, nat_le, nat_lt}
-use Rattle.card_rules.specs.declared.status.Sw.{Sw}
-use Rattle.card_rules.specs.declared.status.TheConstants.Sw.{WRONG_OFFSET, NO_ROOM}
+use Rattle.card_state.specs.declared.status.Sw.{Sw}
+use Rattle.card_state.specs.declared.status.TheConstants.Sw.{WRONG_OFFSET, NO_ROOM}
 use Rattle.block_chain.specs.Chains.{chain_of, chain_bytes, bytes_of}
 use Rattle.block_chain.specs.ChainChanges.{AppendsSome, Overwrites}
 use Rattle.card_state.specs.FileTrees.{overwrite}

@@ -5,8 +5,8 @@ use Rattle.std.proofs.lemmas.List.{take_all}
 use Rattle.std.specs.Prelude.{◌≡◌, ◌<◌, ◌≤◌, ◌+◌, ◌^◌, ℕ, Bool, true, false, List, ◌∷◌}
 use Rattle.std.specs.Prelude.{[], length, All, Option, Some, None, option_map, if◌then◌else◌, nat_le, min}
 use Rattle.std.specs.Prelude.{Result, Ok, Err, IsErrAnd}
-use Rattle.card_rules.specs.declared.status.Sw.{Sw}
-use Rattle.card_rules.specs.declared.status.TheConstants.Sw.{RECORD_NOT_FOUND, MAXIMUM_REACHED}
+use Rattle.card_state.specs.declared.status.Sw.{Sw}
+use Rattle.card_state.specs.declared.status.TheConstants.Sw.{RECORD_NOT_FOUND, MAXIMUM_REACHED}
 use Rattle.undo_journal.specs.declared.error.StoreErr.{StoreErr}
 use Rattle.block_chain.specs.ChainChanges.{AppendsSome}
 use Rattle.ef_body.specs.declared.error.BodyErr.{BodyErr}

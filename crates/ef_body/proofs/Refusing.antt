@@ -4,7 +4,7 @@ use Rattle.std.proofs.lemmas.Bool.{le-leb}
 use Rattle.std.specs.Prelude.{◌≡◌, ◌≤◌, ◌↔◌, ◌&&◌, ℕ, Bool, true, false, List, length, IsTrue, Option, Some, None}
 use Rattle.std.specs.Prelude.{Result, Ok, Err, IsErrAnd, OnOk, option_map}
 use Rattle.std.specs.Result.{result_err}
-use Rattle.card_rules.specs.declared.status.Sw.{Sw}
+use Rattle.card_state.specs.declared.status.Sw.{Sw}
 use Rattle.undo_journal.specs.declared.error.StoreErr.{StoreErr}
 use Rattle.undo_journal.specs.laws.Told.{told_is}
 use Rattle.ef_body.specs.declared.error.BodyErr.{BodyErr}

@@ -6,8 +6,8 @@ ghost use Rattle.undo_journal.specs.Commits.{CommitsByGate};
 ghost use Rattle.undo_journal.specs.Memory.{committed, IsReady};
 ghost use Rattle.undo_journal.specs.StoreCalls.{OnlyReads, Reads, Changes};
 ghost use Rattle.ef_body.specs.declared.layout.TheConstants.{RECORD_WRITES};
-ghost use Rattle.card_rules.specs.declared.status.Sw.{Sw};
-ghost use Rattle.card_rules.specs.declared.status.TheConstants.Sw.{NO_ROOM};
+ghost use Rattle.card_state.specs.declared.status.Sw.{Sw};
+ghost use Rattle.card_state.specs.declared.status.TheConstants.Sw.{NO_ROOM};
 ghost use Rattle.card_state.specs.RecordLists.{front};
 ghost use Rattle.ef_body.specs.Refusals.{missing_record, unraised, why_failed};
 ghost use Rattle.ef_body.specs.Bodies.{cyclic_body_records, IsCyclic};
@@ -21,7 +21,7 @@ use crate::slot::{FreeSlot, RecordSlot};
 use crate::writing::put_front;
 use arrayvec::ArrayVec;
 use block_chain::Chain;
-use card_rules::Sw;
+use card_state::Sw;
 use undo_journal::{Board, Store, StoreErr};
 
 /// The body of a cyclic EF. It has the chain of its blocks, the record length in bytes (1 to 255), and the capacity

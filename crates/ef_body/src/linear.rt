@@ -15,7 +15,7 @@ use crate::error::{BodyErr, from_store};
 use crate::record_body::RecordBody;
 use crate::slot::FreeSlot;
 use block_chain::Chain;
-use card_rules::Sw;
+use card_state::Sw;
 use undo_journal::{Board, Store};
 
 /// The body of a linear EF. It has the chain of its blocks, the record length in bytes (1 to 255), and the capacity

@@ -11,7 +11,7 @@ use crate::cyclic::Cyclic;
 use crate::error::{BodyErr, from_store};
 use crate::slot::RecordSlot;
 use arrayvec::ArrayVec;
-use card_rules::{Direction, Sw};
+use card_state::{Direction, Sw};
 use undo_journal::{Board, Store};
 
 /// A body of records, in the slots of a ring. Record 1 is the first of a linear EF, the newest of a cyclic one.

@@ -12,7 +12,7 @@ use crate::cyclic::Cyclic;
 use crate::layout::MOST_RECORD_BYTES;
 use crate::slot::RecordSlot;
 use arrayvec::ArrayVec;
-use card_rules::Direction;
+use card_state::Direction;
 use undo_journal::{Board, Store, StoreErr};
 
 /// Whether a text begins at a place of a record. Its first byte rules out most places.

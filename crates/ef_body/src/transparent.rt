@@ -14,7 +14,7 @@ use crate::error::{BodyErr, from_store};
 use crate::writing::put_bytes;
 use arrayvec::ArrayVec;
 use block_chain::{Chain, read_bytes};
-use card_rules::Sw;
+use card_state::Sw;
 use undo_journal::{Board, Store};
 
 /// The body of a transparent EF. It has a chain, and a size of 1 to 32,767 bytes.

@@ -5,12 +5,12 @@ use Rattle.std.specs.Prelude.{IsTrue}
 use Rattle.std.proofs.lemmas.Bool.Decides.{nat_tests}
 use Rattle.std.proofs.lemmas.Grind.{common_steps}
 use Rattle.std.proofs.lemmas.List.{length-append}
-use Rattle.card_rules.specs.declared.life_cycle.LifeCycle.{LifeCycle}
-use Rattle.card_rules.specs.declared.life_cycle.LifeCycle.TheVariants.{Creation, Initialisation, Deactivated, Activated}
-use Rattle.card_rules.specs.declared.life_cycle.LifeCycle.TheVariants.{Terminated}
-use Rattle.card_rules.specs.LifeCycle.{life_cycle_byte}
-use Rattle.card_rules.specs.Rule.{is_rule}
-use Rattle.card_rules.specs.laws.Rules.{length-rule}
+use Rattle.card_state.specs.declared.life_cycle.LifeCycle.{LifeCycle}
+use Rattle.card_state.specs.declared.life_cycle.LifeCycle.TheVariants.{Creation, Initialisation, Deactivated, Activated}
+use Rattle.card_state.specs.declared.life_cycle.LifeCycle.TheVariants.{Terminated}
+use Rattle.card_state.specs.LifeCycle.{life_cycle_byte}
+use Rattle.card_state.specs.Rule.{is_rule}
+use Rattle.card_state.specs.laws.Rules.{length-rule}
 use Rattle.card_state.specs.declared.fcp.Fcp.{Fcp}
 use Rattle.card_state.specs.declared.fcp.FileKind.{FileKind}
 use Rattle.card_state.specs.declared.fcp.FileKind.TheVariants as kinds

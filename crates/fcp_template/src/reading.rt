@@ -13,16 +13,15 @@ ghost use Rattle.card_model.specs.TemplateGrammar.{is_missing, is_twice, has_unk
 ghost use Rattle.card_model.specs.TemplateGrammar.{◌>>=◌ as and_then, record_file_of, kind_read, fcp_of, meaning};
 ghost use Rattle.card_model.specs.TemplateGrammar.{FcpReads, fcp_read};
 ghost use Rattle.card_state.specs.FileControl.{IsShort, IsSize, IsDfName, IsRecords, IsKind, IsCreatable};
-ghost use Rattle.card_rules.specs.declared.life_cycle.LifeCycle.TheVariants.{Terminated};
+ghost use Rattle.card_state.specs.declared.life_cycle.LifeCycle.TheVariants.{Terminated};
 
 use crate::descriptor::{DF, SHAREABLE_DF, descriptor_of};
 use crate::object::{Object, objects_of};
 use crate::tag::{Tag, is_tag};
 use card_model::{Descriptor, FcpFault, Structure};
-use card_rules::identifiers::{CURRENT_FILE, MASTER_FILE, RESERVED};
-use card_rules::limits::{MOST_BYTES, MOST_RECORD_BYTES, MOST_RECORDS, MOST_SHORT};
-use card_rules::{Compact, LifeCycle};
-use card_state::{DfName, Fcp, FileKind, Records, ShortIdentifier};
+use card_state::identifiers::{CURRENT_FILE, MASTER_FILE, RESERVED};
+use card_state::limits::{MOST_BYTES, MOST_RECORD_BYTES, MOST_RECORDS, MOST_SHORT};
+use card_state::{Compact, DfName, Fcp, FileKind, LifeCycle, Records, ShortIdentifier};
 
 /// Returns the file control parameters of a text.
 /// Its objects may have any order.

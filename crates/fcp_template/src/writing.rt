@@ -13,7 +13,7 @@ use crate::descriptor::{
 use crate::object::BODY_LIMIT;
 use crate::tag::{TEMPLATE, Tag};
 use arrayvec::ArrayVec;
-use card_rules::limits::MOST_ANSWER_DATA;
+use card_state::limits::MOST_ANSWER_DATA;
 use card_state::{Fcp, FileKind, Records, ShortIdentifier};
 
 /// The bytes of a template's objects.

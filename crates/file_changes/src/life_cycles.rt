@@ -6,7 +6,7 @@ ghost use Rattle.undo_journal.specs.Undo.{IsDataAddress};
 ghost use Rattle.undo_journal.specs.Commits.{CommitsByGate};
 ghost use Rattle.undo_journal.specs.Memory.{committed, IsReady};
 ghost use Rattle.undo_journal.specs.StoreCalls.{Learns, OnlyReads, Changes};
-ghost use Rattle.card_rules.specs.LifeCycle.{life_cycle_byte};
+ghost use Rattle.card_state.specs.LifeCycle.{life_cycle_byte};
 ghost use Rattle.card_state.specs.FileLives.{life_at, next_life};
 ghost use Rattle.file_tree.specs.States.{with_card_terminated, ChangesLife};
 ghost use Rattle.file_tree.specs.Table.{table, entry_in, path_of};
@@ -16,7 +16,7 @@ ghost use Rattle.file_tree.specs.StoredFiles.{HasFile};
 
 use crate::writing::two_bytes;
 use block_chain::HEADER_PAGE;
-use card_rules::{LifeCycle, LifeCycleCommand};
+use card_state::{LifeCycle, LifeCycleCommand};
 use file_tree::{CARD_TERMINATED, Entry, STATE_WORD, entry_address, is_below_barred, read_entry};
 use undo_journal::{Board, PAGE_WORDS, Store, StoreErr};
 

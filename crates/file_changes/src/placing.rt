@@ -7,8 +7,7 @@ ghost use Rattle.file_changes.specs.CreationParts.{TellsPlace};
 
 use crate::refusing::{first_free, is_deepest};
 use block_chain::free_up_to;
-use card_rules::Sw;
-use card_state::Fcp;
+use card_state::{Fcp, Sw};
 use file_tree::blocks_for;
 use undo_journal::{Board, Store, StoreErr};
 

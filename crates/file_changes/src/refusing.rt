@@ -3,7 +3,7 @@
 ghost use Rattle.std.specs.Prelude.{◌≡◌, ◌≢◌, ◌↔◌, IsTrue, if◌then◌else◌, Some, None};
 ghost use Rattle.undo_journal.specs.Memory.{committed, IsReady};
 ghost use Rattle.undo_journal.specs.StoreCalls.{Learns};
-ghost use Rattle.card_rules.specs.declared.status.TheConstants.Sw.{FILE_EXISTS, NAME_EXISTS, WRONG_DATA};
+ghost use Rattle.card_state.specs.declared.status.TheConstants.Sw.{FILE_EXISTS, NAME_EXISTS, WRONG_DATA};
 ghost use Rattle.card_state.specs.FileControl.{IsShort, IsCreatable};
 ghost use Rattle.file_tree.specs.Table.{ancestor, table, path_of};
 ghost use Rattle.file_tree.specs.Trees.{tree_of};
@@ -13,8 +13,7 @@ ghost use Rattle.file_changes.specs.CreationRefusals.{taken_refusal};
 ghost use Rattle.file_tree.specs.StoredFiles.{HasFile};
 ghost use Rattle.file_changes.specs.CreationParts.{TellsFreeEntry};
 
-use card_rules::Sw;
-use card_state::{Fcp, ShortIdentifier};
+use card_state::{Fcp, ShortIdentifier, Sw};
 use file_tree::{DEEPEST, ENTRIES_END, Index, find_name, find_short, read_entry_head};
 use undo_journal::{Board, Store, StoreErr};
 

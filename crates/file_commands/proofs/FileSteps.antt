@@ -1,10 +1,10 @@
 -- What DELETE FILE and CREATE FILE do, on any card.
 use Rattle.std.proofs.Common.{◌≡◌, ◌==◌, ◌||◌, ℕ, Bool, true, false, not, List, [], ◌∷◌, ◌++◌, length, Option, Some}
 use Rattle.std.proofs.Common.{None, is_none, unwrap_or, Result, Ok, Err, if◌then◌else◌, ◌∙◌, ap, refl}
-use Rattle.card_rules.specs.declared.status.Sw.{Sw}
-use Rattle.card_rules.specs.declared.status.TheConstants.Sw.{ACCESS_DENIED, CONDITIONS_NOT_SATISFIED, DONE}
-use Rattle.card_rules.specs.declared.status.TheConstants.Sw.{FILE_NOT_FOUND}
-use Rattle.card_rules.specs.declared.status.TheConstants.Sw.{FILE_EXISTS, NAME_EXISTS, NO_ROOM, WRONG_DATA}
+use Rattle.card_state.specs.declared.status.Sw.{Sw}
+use Rattle.card_state.specs.declared.status.TheConstants.Sw.{ACCESS_DENIED, CONDITIONS_NOT_SATISFIED, DONE}
+use Rattle.card_state.specs.declared.status.TheConstants.Sw.{FILE_NOT_FOUND}
+use Rattle.card_state.specs.declared.status.TheConstants.Sw.{FILE_EXISTS, NAME_EXISTS, NO_ROOM, WRONG_DATA}
 use Rattle.card_model.specs.declared.fault.FcpFault.{FcpFault}
 use Rattle.card_state.specs.declared.fcp.Fcp.{Fcp}
 use Rattle.card_model.specs.TemplateGrammar.{fcp_read}
@@ -24,7 +24,7 @@ use Rattle.command_base.specs.NamedFiles.{file_refusal}
 use Rattle.card_model.specs.laws.Guarding.{served-done, served-refused}
 use Rattle.card_model.specs.Guards.{allowed}
 use Rattle.card_state.specs.FileLives.{has_barred_above, is_barred}
-use Rattle.card_rules.specs.declared.access_mode.AccessBit.TheVariants.{DeleteChild, DeleteSelf}
+use Rattle.card_state.specs.declared.access_mode.AccessBit.TheVariants.{DeleteChild, DeleteSelf}
 
 module _ (c : Card) (s : Session) (subject : Subject) where
   -- the refusals by their tests: no file, the master file, and then what the file calls for

@@ -3,7 +3,7 @@ ghost use Rattle.std.specs.Prelude.{◌≡◌, ◌||◌, [], true, option_map, S
 ghost use Rattle.undo_journal.specs.StoreCalls.{Learns};
 ghost use Rattle.undo_journal.specs.Memory.{committed};
 ghost use Rattle.card_model.specs.Requests.{create_file as creation, delete_file as deletion};
-ghost use Rattle.card_rules.specs.declared.access_mode.AccessBit.TheVariants.{DeleteChild, DeleteSelf};
+ghost use Rattle.card_state.specs.declared.access_mode.AccessBit.TheVariants.{DeleteChild, DeleteSelf};
 ghost use Rattle.file_tree.specs.Indexes.{IsIndex};
 ghost use Rattle.card_state.specs.FileLives.{is_barred as is_barred_in};
 ghost use Rattle.file_tree.specs.Table.{entry_in, path_of, IsUsed};
@@ -18,8 +18,7 @@ ghost use Rattle.command_base.specs.Working.{card_in, session_in, space_in, tabl
 ghost use Rattle.command_base.specs.NamedFiles.{file_refusal};
 
 use apdu_core::{Subject, Sw};
-use card_rules::AccessBit;
-use card_state::{Fcp, FileKind};
+use card_state::{AccessBit, Fcp, FileKind};
 use command_base::{Current, Findings, Named, Stop, allows};
 use fcp_template::parse;
 use file_changes::{Creation, create, delete};

@@ -15,7 +15,7 @@ ghost use Rattle.command_base.specs.Working.{card_in, session_in, table_in, IsKe
 
 use crate::files::find_subject;
 use apdu_core::{LifeCycleChange, Subject, Sw};
-use card_rules::{AccessBit, LifeCycle, LifeCycleCommand};
+use card_state::{AccessBit, LifeCycle, LifeCycleCommand};
 use command_base::{Current, Named, Stop, allows};
 use file_changes::{next_life_cycle, set_life_cycle, terminate_card};
 use file_tree::{Entry, EntryKind, Index, read_entry};

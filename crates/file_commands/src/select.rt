@@ -18,7 +18,7 @@ ghost use Rattle.card_model.specs.Guards.{IsGiven};
 use crate::templates::template_of;
 use apdu_core::{Answer, FilePath, Returned, Selector, Sw};
 use arrayvec::ArrayVec;
-use card_rules::LifeCycle;
+use card_state::LifeCycle;
 use command_base::{Current, Stop, asks_less, give, right_length};
 use file_tree::{
     Entry, Index, find_name, find_parent, find_path, find_path_from_master, read_entry,

@@ -2,11 +2,11 @@
 use Rattle.std.specs.Prelude.{Bool, ℕ, ◌+◌, ◌*◌, ◌/◌, ◌%◌, ◌==◌, nat_le, if◌then◌else◌, List, map, take, replicate}
 use Rattle.std.specs.Prelude.{slice_index, slice_range, Option, None, Some, unwrap_or}
 use Rattle.std.specs.List.{flat_map, range_with_len}
-use Rattle.card_rules.specs.LifeCycle.{life_cycle_at}
-use Rattle.card_rules.specs.declared.life_cycle.LifeCycle.{LifeCycle}
-use Rattle.card_rules.specs.declared.life_cycle.LifeCycle.TheVariants.{Activated}
-use Rattle.card_rules.specs.declared.access_mode.AccessBit.{AccessBit}
-use Rattle.card_rules.specs.Rule.{allows}
+use Rattle.card_state.specs.LifeCycle.{life_cycle_at}
+use Rattle.card_state.specs.declared.life_cycle.LifeCycle.{LifeCycle}
+use Rattle.card_state.specs.declared.life_cycle.LifeCycle.TheVariants.{Activated}
+use Rattle.card_state.specs.declared.access_mode.AccessBit.{AccessBit}
+use Rattle.card_state.specs.Rule.{allows}
 use Rattle.block_chain.specs.declared.chain.Extent.{Extent}
 use Rattle.block_chain.specs.BlockWords.{word_bytes}
 use Rattle.file_tree.specs.declared.entry.Entry.{Entry}

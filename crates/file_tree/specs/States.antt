@@ -1,8 +1,8 @@
 -- Changes of life cycle states in a memory (ISO/IEC 7816-9; ISO/IEC 7816-4, 7.4.10).
 use Rattle.std.specs.Prelude.{◌≡◌, ◌≢◌, ℕ, List, slice_set, ◌==◌, ◌||◌, zero, suc, Bool, false, if◌then◌else◌}
 use Rattle.std.specs.FinMap.{insert}
-use Rattle.card_rules.specs.LifeCycle.{life_cycle_byte}
-use Rattle.card_rules.specs.declared.life_cycle.LifeCycle.{LifeCycle}
+use Rattle.card_state.specs.LifeCycle.{life_cycle_byte}
+use Rattle.card_state.specs.declared.life_cycle.LifeCycle.{LifeCycle}
 use Rattle.nvm_board.specs.Facts.{address}
 use Rattle.block_chain.specs.declared.layout.TheConstants.{HEADER_PAGE}
 use Rattle.block_chain.specs.Chains.{free_chain}

@@ -2,8 +2,8 @@
 use Rattle.std.specs.Prelude.{◌≡◌, ◌≢◌, ◌⊎◌, ◌<◌, ◌≤◌, ◌*◌, ◌==◌, ℕ, zero, suc, if◌then◌else◌, List, [], ◌∷◌, ◌++◌}
 use Rattle.std.specs.Prelude.{map, length, slice_index_or, IsTrue, IsSome, All}
 use Rattle.std.specs.List.{range_with_len, filter_map, count_by}
-use Rattle.card_rules.specs.LifeCycle.{life_cycle_at}
-use Rattle.card_rules.specs.Rule.{is_rule}
+use Rattle.card_state.specs.LifeCycle.{life_cycle_at}
+use Rattle.card_state.specs.Rule.{is_rule}
 use Rattle.block_chain.specs.BlockWords.{page_words}
 use Rattle.block_chain.specs.declared.chain.Extent.{Extent}
 use Rattle.file_tree.specs.declared.entry.Entry.{Entry}

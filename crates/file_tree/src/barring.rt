@@ -13,7 +13,7 @@ ghost use Rattle.file_tree.specs.StoredFiles.{HasFile};
 use crate::entry::Entry;
 use crate::layout::DEEPEST;
 use crate::reading::read_entry_head;
-use card_rules::{AccessBit, LifeCycle, PinSet, allows};
+use card_state::{AccessBit, LifeCycle, PinSet, allows};
 use undo_journal::{Board, Store, StoreErr};
 
 /// Returns true if this state bars a file and its descendants.

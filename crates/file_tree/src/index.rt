@@ -79,8 +79,8 @@ impl Index {
         }
     }
 
-    /// Fills an empty index from a table of entries, in place, since it is long. It returns false if two children of one
-    /// DF have the same identifier.
+    /// Fills an empty index from a table of entries, in place, since it is long.
+    /// It returns false if two children of one DF have the same identifier.
     pub(crate) fn fill(&mut self, entries: &[Entry]) -> bool
         requires empty { self.old.places.items ≡ [] }
         requires size { length entries.now ≤ 64 }

@@ -3,7 +3,7 @@
 ghost use Rattle.nvm_board.specs.Facts.{IsMemory};
 ghost use Rattle.std.specs.Prelude.{◌≡◌, ◌≢◌, ◌-◌, ◌&&◌, ℕ, List, ◌∷◌, ◌++◌, length, take, Some, None, false, IsTrue};
 ghost use Rattle.std.specs.FinMap.{get};
-ghost use Rattle.card_rules.specs.declared.identifiers.TheConstants.{MASTER_FILE};
+ghost use Rattle.card_state.specs.declared.identifiers.TheConstants.{MASTER_FILE};
 ghost use Rattle.block_chain.specs.Chains.{free_chain};
 ghost use Rattle.block_chain.specs.ChainChanges.{OnlyContent};
 ghost use Rattle.file_tree.specs.declared.layout.TheConstants.{FIRST_ENTRY_PAGE, DEEPEST, MOST_FILE_BLOCKS};

@@ -5,8 +5,8 @@ ghost use Rattle.nvm_board.specs.Facts.{address};
 ghost use Rattle.file_tree.specs.declared.layout.TheConstants.{FIRST_ENTRY_PAGE};
 
 use block_chain::BLOCK_BYTES;
-use card_rules::limits::MOST_BYTES;
 pub use card_state::limits::ENTRIES;
+use card_state::limits::MOST_BYTES;
 use undo_journal::PAGE_WORDS;
 
 /// The page of entry 0, the MF's. Each entry has a page of its own.

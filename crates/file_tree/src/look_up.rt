@@ -16,7 +16,7 @@ use crate::index::Index;
 use crate::kinds::EntryKind;
 use crate::layout::ENTRIES_END;
 use crate::reading::{read_entry, read_entry_head};
-use card_rules::identifiers::MASTER_FILE;
+use card_state::identifiers::MASTER_FILE;
 use undo_journal::{Board, Store, StoreErr};
 
 /// The result of a lookup: the entry's number, or `None`.

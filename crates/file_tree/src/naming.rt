@@ -18,7 +18,7 @@ use crate::kinds::EntryKind;
 use crate::layout::ENTRIES_END;
 use crate::look_up::Reached;
 use crate::reading::{read_entry, read_entry_head};
-use card_rules::limits::MOST_NAME_BYTES;
+use card_state::limits::MOST_NAME_BYTES;
 use undo_journal::{Board, Store, StoreErr};
 
 /// Returns true for the entry of a DF with this name.

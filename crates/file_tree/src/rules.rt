@@ -6,9 +6,9 @@ ghost use Rattle.file_tree.specs.Table.{IsFileEntry, IsEntry};
 
 use crate::entry::Entry;
 use crate::kinds::EntryKind;
-use card_rules::identifiers::{CURRENT_FILE, RESERVED};
-use card_rules::limits::{MOST_BYTES, MOST_RECORD_BYTES, MOST_RECORDS, MOST_SHORT};
-use card_rules::{Compact, LifeCycle};
+use card_state::identifiers::{CURRENT_FILE, RESERVED};
+use card_state::limits::{MOST_BYTES, MOST_RECORD_BYTES, MOST_RECORDS, MOST_SHORT};
+use card_state::{Compact, LifeCycle};
 
 /// Returns true for the body of a transparent EF. It has 1 to 32,767 bytes and no records.
 fn is_transparent_body(entry: &Entry) -> bool

@@ -10,7 +10,7 @@ use crate::entry::{Entry, ExtentList};
 use crate::kinds::EntryKind;
 use crate::layout::DEEPEST;
 use crate::rules::are_entries;
-use card_rules::identifiers::MASTER_FILE;
+use card_state::identifiers::MASTER_FILE;
 
 /// Returns the parent of an entry's file. Past the table it is 0.
 fn parent_of(entries: &[Entry], e: u8) -> u8

@@ -143,8 +143,8 @@ fn list_entries<B: Board, const N: usize>(
     Ok(true)
 }
 
-/// Returns the free space of a memory with valid entries, by their extents and the number of free ones. It returns `None`
-/// if the blocks aren't laid out properly.
+/// Returns the free space of a memory with valid entries, by their extents and the number of free ones.
+/// It returns `None` if the blocks aren't laid out properly.
 fn find_free<B: Board>(
     store: &mut Store<B>,
     laid: &[Extent],

@@ -14,9 +14,9 @@ use Rattle.std.specs.Ordering.{nat_cmp}
 use Rattle.nvm_board.specs.Facts.{IsMemory}
 use Rattle.nvm_board.specs.laws.Sizes.{memory_same}
 use Rattle.nvm_board.specs.Facts.{raised}
-use Rattle.card_rules.specs.declared.status.Sw.{Sw}
-use Rattle.card_rules.specs.declared.status.TheConstants.Sw.{DONE, METHOD_BLOCKED}
-use Rattle.card_rules.specs.Pins.{IsPinNumber, with_pin, without_pin}
+use Rattle.card_state.specs.declared.status.Sw.{Sw}
+use Rattle.card_state.specs.declared.status.TheConstants.Sw.{DONE, METHOD_BLOCKED}
+use Rattle.card_state.specs.Pins.{IsPinNumber, with_pin, without_pin}
 use Rattle.undo_journal.specs.declared.error.StoreErr.{StoreErr}
 use Rattle.undo_journal.specs.StoreCalls.{OnlyReads, Reads}
 use Rattle.undo_journal.specs.Commits.{CommitsByGate, StaysShut}

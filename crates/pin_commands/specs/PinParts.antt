@@ -1,9 +1,9 @@
 -- The checks and the end of a PIN command (ISO/IEC 7816-4, 11.5). No public clause names these.
 use Rattle.std.specs.Prelude.{◌==◌, ℕ}
 use Rattle.std.specs.Prelude.{◌∷◌, List, Option}
-use Rattle.card_rules.specs.declared.status.Sw.{Sw}
-use Rattle.card_rules.specs.declared.status.TheConstants.Sw.{DONE}
-use Rattle.card_rules.specs.declared.status.TheConstants.Sw.{METHOD_BLOCKED}
+use Rattle.card_state.specs.declared.status.Sw.{Sw}
+use Rattle.card_state.specs.declared.status.TheConstants.Sw.{DONE}
+use Rattle.card_state.specs.declared.status.TheConstants.Sw.{METHOD_BLOCKED}
 use Rattle.pin_store.specs.declared.errors.Outcome.{Outcome as AttemptEnd}
 use Rattle.pin_store.specs.declared.errors.Outcome.TheVariants.{Matched, Wrong}
 use Rattle.pin_commands.specs.declared.pins.Usable.{Usable}

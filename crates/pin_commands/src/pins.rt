@@ -18,7 +18,7 @@ ghost use Rattle.command_base.specs.Working.{IsKept};
 ghost use Rattle.command_base.specs.CurrentFiles.{tried_from, unverifies};
 
 use apdu_core::{Replacement, RequirementChange, Sw};
-use card_rules::PinNumber;
+use card_state::PinNumber;
 use command_base::{Current, Shown, Stop};
 use pin_store::{
     Charged, Outcome, Secret, change, charge, is_enabled, reset_counter, set_enabled, settle, tries,

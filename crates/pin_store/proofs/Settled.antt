@@ -76,14 +76,16 @@ compares_none secret a b reads = record {
 
 -- a comparison after reads
 pub compares_after : (secret named : ℕ) (a b c : Memory) → named ≡ secret → OnlyReads a b
-    → c.facts.words ≡ b.facts.words → c.facts.writes ≡ b.facts.writes → AimStays b.facts c.facts → RisesAt b.facts.compares named c.facts.compares
+    → c.facts.words ≡ b.facts.words → c.facts.writes ≡ b.facts.writes → AimStays b.facts c.facts
+    → RisesAt b.facts.compares named c.facts.compares
     → RisesAt b.facts.matches named c.facts.matches → ComparesOnce 0 secret a.facts c.facts
 compares_after secret named a b c is reads words writes cut compared matched =
     let family : ℕ → Type 0 = λ s. ComparesOnce 0 s a.facts c.facts in
     subst family is (record {
       writes = omega (arith, writes, reads.board.writes);
       more = omega (arith, writes, reads.board.writes);
-      cut = aims_kept a.facts c.facts (words ∙ reads.board.words) (aims_stay a.facts b.facts c.facts reads.board.cut cut);
+      cut = aims_kept a.facts c.facts (words ∙ reads.board.words)
+          (aims_stay a.facts b.facts c.facts reads.board.cut cut);
       compares = subst (λ (l : List ℕ). RisesAt l named c.facts.compares) reads.board.compares compared;
       matches = subst (λ (l : List ℕ). RisesAt l named c.facts.matches) reads.board.matches matched;
     })

@@ -1,6 +1,6 @@
 //! The place of the PINs in the memory, and their numbers of tries.
 
-pub use card_rules::PINS;
+pub use card_state::PINS;
 pub use card_state::limits::{TRIES, UNBLOCKING_TRIES};
 
 /// The page of PIN 1. Those of the other PINs follow. Words 0 and 1 are the tries and the unblocking tries, words 2

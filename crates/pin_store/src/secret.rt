@@ -2,13 +2,13 @@
 ghost use Rattle.std.specs.Prelude.{◌≡◌, ◌<◌, if◌then◌else◌};
 ghost use Rattle.nvm_board.specs.Facts.{address};
 ghost use Rattle.nvm_board.specs.declared.board.TheConstants.{PAGE_WORDS, SECRETS};
-ghost use Rattle.card_rules.specs.Pins.{IsPinNumber};
+ghost use Rattle.card_state.specs.Pins.{IsPinNumber};
 ghost use Rattle.card_state.specs.Secrets.{is_unblocking, owner, unblocking_of, value_of};
 ghost use Rattle.pin_store.specs.Pages.{pin_page};
 
 use crate::layout::PINS;
 use crate::words::word_address;
-use card_rules::PinNumber;
+use card_state::PinNumber;
 use std::marker::Model;
 
 /// A secret that a user presents: the value of a PIN, or its unblocking value.

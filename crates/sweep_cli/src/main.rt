@@ -48,7 +48,14 @@ fn sweep_card(rt: &HostRuntime, options: &Options) -> u8 {
     let Ok(mut reader) = BufReader::new(rt.alloc(), rt.reader()) else {
         return SweepFault::Memory.status();
     };
-    match report(rt.alloc(), &board, options.part, &mut reader, &mut io::writer(rt), rt) {
+    match report(
+        rt.alloc(),
+        &board,
+        options.part,
+        &mut reader,
+        &mut io::writer(rt),
+        rt,
+    ) {
         Ok(()) => 0,
         Err(fault) => {
             let _ = rt.eprintln(&fault);

@@ -8,10 +8,10 @@ use Rattle.std.proofs.Common.{arith, ap, sym, ◌∙◌, refl, lit<, true≢fals
 use Rattle.std.proofs.lemmas.List.{length-append, get_or_push}
 use Rattle.std.specs.FinMap.{get, retain_keys, get-retain_keys}
 use Rattle.std.specs.FinMap.{slice_cmp-IsAntisymmetric, nat_cmp-IsAntisymmetric}
-use Rattle.card_rules.specs.declared.status.TheConstants.Sw.{DONE}
-use Rattle.card_rules.specs.declared.life_cycle.LifeCycle.{LifeCycle}
-use Rattle.card_rules.specs.declared.life_cycle.LifeCycle.TheVariants.{Creation, Initialisation, Deactivated}
-use Rattle.card_rules.specs.declared.life_cycle.LifeCycle.TheVariants.{Activated, Terminated}
+use Rattle.card_state.specs.declared.status.TheConstants.Sw.{DONE}
+use Rattle.card_state.specs.declared.life_cycle.LifeCycle.{LifeCycle}
+use Rattle.card_state.specs.declared.life_cycle.LifeCycle.TheVariants.{Creation, Initialisation, Deactivated}
+use Rattle.card_state.specs.declared.life_cycle.LifeCycle.TheVariants.{Activated, Terminated}
 use Rattle.card_model.specs.declared.fault.FcpFault.{FcpFault}
 use Rattle.card_state.specs.declared.fcp.Fcp.{Fcp}
 use Rattle.card_model.specs.TemplateGrammar.{fcp_read}

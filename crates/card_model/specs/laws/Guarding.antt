@@ -3,9 +3,9 @@
 use Rattle.std.proofs.Common.{◌≡◌, Bool, true, false, not, List, [], ◌∷◌, Option, Some, None, is_none, unwrap_or}
 use Rattle.std.proofs.Common.{if◌then◌else◌, refl, ◌∙◌, ap}
 use Rattle.std.specs.FinMap.{get}
-use Rattle.card_rules.specs.declared.access_mode.AccessBit.{AccessBit}
-use Rattle.card_rules.specs.declared.status.Sw.{Sw}
-use Rattle.card_rules.specs.declared.status.TheConstants.Sw.{ACCESS_DENIED, CONDITIONS_NOT_SATISFIED, WRONG_STRUCTURE}
+use Rattle.card_state.specs.declared.access_mode.AccessBit.{AccessBit}
+use Rattle.card_state.specs.declared.status.Sw.{Sw}
+use Rattle.card_state.specs.declared.status.TheConstants.Sw.{ACCESS_DENIED, CONDITIONS_NOT_SATISFIED, WRONG_STRUCTURE}
 use Rattle.card_model.specs.declared.requests.Target.{Target}
 use Rattle.card_model.specs.Requests.{Request}
 use Rattle.card_state.specs.FileLives.{is_barred}

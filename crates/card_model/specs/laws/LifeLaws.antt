@@ -2,11 +2,11 @@
 use Rattle.std.specs.Prelude.{◌≡◌, ◌<◌, ◌==◌, true, [], ◌∷◌, None}
 use Rattle.std.proofs.Common.{arith, refl, lit<}
 use Rattle.std.proofs.lemmas.Bool.{not-false}
-use Rattle.card_rules.specs.declared.access_mode.AccessBit.{AccessBit}
-use Rattle.card_rules.specs.declared.life_cycle.LifeCycle.{LifeCycle}
-use Rattle.card_rules.specs.declared.status.TheConstants.Sw.{DONE}
-use Rattle.card_rules.specs.LifeCycle.{life_cycle_byte}
-use Rattle.card_rules.specs.Rule.{allows}
+use Rattle.card_state.specs.declared.access_mode.AccessBit.{AccessBit}
+use Rattle.card_state.specs.declared.life_cycle.LifeCycle.{LifeCycle}
+use Rattle.card_state.specs.declared.status.TheConstants.Sw.{DONE}
+use Rattle.card_state.specs.LifeCycle.{life_cycle_byte}
+use Rattle.card_state.specs.Rule.{allows}
 use Rattle.card_model.specs.declared.requests.Subject.{Subject}
 use Rattle.card_model.specs.declared.requests.Subject.TheVariants as subjects
 use Rattle.card_model.specs.declared.requests.LifeCycleChange.{LifeCycleChange}

@@ -3,7 +3,7 @@ use Rattle.std.specs.Prelude.{◌≡◌, ◌≤◌, ◌-◌, ◌++◌, ◌&&◌,
 use Rattle.std.specs.Prelude.{Option, Some, None, if◌then◌else◌}
 use Rattle.std.proofs.Common.{arith, refl, inl, inr, lit<}
 use Rattle.std.proofs.lemmas.List.Elements.{All-set}
-use Rattle.card_rules.specs.declared.status.TheConstants.Sw.{DONE}
+use Rattle.card_state.specs.declared.status.TheConstants.Sw.{DONE}
 use Rattle.card_model.specs.Requests.{IsStatusWord, Request, verify, change_reference_data, reset_retry_counter}
 use Rattle.card_model.specs.Requests.{change_requirement}
 use Rattle.card_model.specs.declared.requests.RequirementChange.{RequirementChange}

@@ -7,9 +7,9 @@ use Rattle.std.proofs.lemmas.Bool.{and_parts, eqb-true, leb-false, leb-true, not
 use Rattle.std.proofs.lemmas.List.{length-append}
 use Rattle.std.proofs.lemmas.List.Elements.{All-nil, All-cons, All-push, All-take, All-set}
 use Rattle.std.proofs.lemmas.List.Elements.{All-filter, All-from_get_or, All-weaker}
-use Rattle.card_rules.specs.declared.direction.Direction.{Direction}
-use Rattle.card_rules.specs.declared.direction.Direction.TheVariants.{Backward, Forward}
-use Rattle.card_rules.specs.declared.status.TheConstants.Sw.{DONE}
+use Rattle.card_state.specs.declared.direction.Direction.{Direction}
+use Rattle.card_state.specs.declared.direction.Direction.TheVariants.{Backward, Forward}
+use Rattle.card_state.specs.declared.status.TheConstants.Sw.{DONE}
 use Rattle.card_model.specs.declared.requests.Target.{Target}
 use Rattle.card_model.specs.declared.requests.RecordPlace.{RecordPlace}
 use Rattle.card_model.specs.declared.requests.RecordChoice.{RecordChoice}

@@ -8,9 +8,9 @@ use Rattle.std.proofs.Math.Nat.{div-mul-le_self}
 use Rattle.std.proofs.lemmas.Bool.{leb-true}
 use Rattle.std.proofs.lemmas.List.{length-replicate}
 use Rattle.std.proofs.lemmas.List.Elements.{All-head, All-replicate, All-tail, All-take, All-drop}
-use Rattle.card_rules.specs.declared.life_cycle.LifeCycle.{LifeCycle}
-use Rattle.card_rules.specs.Rule.{is_rule}
-use Rattle.card_rules.specs.laws.Rules.{length-rule}
+use Rattle.card_state.specs.declared.life_cycle.LifeCycle.{LifeCycle}
+use Rattle.card_state.specs.Rule.{is_rule}
+use Rattle.card_state.specs.laws.Rules.{length-rule}
 use Rattle.card_model.specs.declared.fault.FcpFault.{FcpFault}
 use Rattle.card_model.specs.declared.fault.FcpFault.TheVariants.{Missing, Twice, Value}
 use Rattle.card_state.specs.declared.fcp.Fcp.{Fcp}

@@ -5,8 +5,8 @@ use Rattle.std.proofs.lemmas.List.FromFn.{get_or-range_with_len, length-range_wi
 use Rattle.std.specs.Prelude.{◌≡◌, ◌<◌, ◌≤◌, ◌+◌, ◌-◌, ℕ, Bool, true, false, cond, List, [], ◌∷◌, length}
 use Rattle.std.specs.Prelude.{slice_index}
 use Rattle.std.specs.List.{filter, range_with_len}
-use Rattle.card_rules.specs.declared.direction.Direction.{Direction}
-use Rattle.card_rules.specs.declared.direction.Direction.TheVariants.{Forward, Backward}
+use Rattle.card_state.specs.declared.direction.Direction.{Direction}
+use Rattle.card_state.specs.declared.direction.Direction.TheVariants.{Forward, Backward}
 use Rattle.card_state.specs.RecordLists.{numbers_on}
 
 -- how many numbers are looked at

@@ -7,7 +7,7 @@ use Rattle.std.specs.Option.{option_map_or}
 use Rattle.std.proofs.lemmas.List.{length-take-le, take_all}
 use Rattle.std.proofs.lemmas.Bool.{lt-ltb, le-ltb, ne_eqb, cases_lt, cases_eq}
 use Rattle.nvm_board.specs.Facts.{IsMemory}
-use Rattle.card_rules.specs.declared.status.TheConstants.Sw.{DONE, END_REACHED}
+use Rattle.card_state.specs.declared.status.TheConstants.Sw.{DONE, END_REACHED}
 use Rattle.block_chain.specs.declared.chain.Extent.{Extent}
 use Rattle.block_chain.specs.Chains.{chain, bytes_of, IsChain}
 use Rattle.block_chain.specs.Layout.{blocks_of, IsExtent}

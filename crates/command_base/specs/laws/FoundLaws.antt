@@ -33,7 +33,7 @@ use Rattle.file_tree.specs.laws.Costs.{all_extents, extent_of-some}
 use Rattle.file_tree.specs.laws.Nodes.{entry_found, used_small}
 use Rattle.file_tree.specs.laws.Paths.{identifier_path}
 use Rattle.file_tree.specs.laws.Tables.{entry_in-table, entry_of-free, entry_of-used, length-table}
-use Rattle.card_rules.specs.declared.pins.TheConstants.{PINS}
+use Rattle.card_state.specs.declared.pins.TheConstants.{PINS}
 use Rattle.pin_store.specs.Pages.{pin_at, pins_of, unmarked_pins_of, ArePinPages}
 use Rattle.card_state.specs.Secrets.{Pin, HasFewTries, enabled_pin}
 use Rattle.file_tree.specs.Formats.{is_format_2}

@@ -4,8 +4,8 @@ use Rattle.std.specs.Prelude.{List, [], ◌∷◌, ◌++◌, length, take, nat_l
 use Rattle.std.specs.Prelude.{is_none, unwrap_or}
 use Rattle.std.proofs.Common.{refl, sym, ◌∙◌, ap, arith, inl, inr, true≢false}
 use Rattle.std.proofs.lemmas.Bool.Decides.{eqb_tells, leb_tells}
-use Rattle.card_rules.specs.declared.status.Sw.{Sw}
-use Rattle.card_rules.specs.declared.status.TheConstants.Sw.{FILE_EXISTS, NAME_EXISTS, WRONG_DATA}
+use Rattle.card_state.specs.declared.status.Sw.{Sw}
+use Rattle.card_state.specs.declared.status.TheConstants.Sw.{FILE_EXISTS, NAME_EXISTS, WRONG_DATA}
 use Rattle.card_state.specs.declared.fcp.Fcp.{Fcp}
 use Rattle.card_state.specs.declared.fcp.FileKind.{FileKind}
 use Rattle.card_state.specs.declared.fcp.FileKind.TheVariants as kinds

@@ -15,10 +15,10 @@ use Rattle.std.proofs.Common.{get_or-set_same, get_or-set_other, length-set}
 use Rattle.std.proofs.lemmas.Bool.{cases_lt}
 use Rattle.std.proofs.lemmas.Bool.Decides.{eqb_tells}
 use Rattle.nvm_board.specs.Facts.{address, IsMemory}
-use Rattle.card_rules.specs.LifeCycle.{life_cycle_at, life_cycle_byte}
-use Rattle.card_rules.specs.declared.life_cycle.LifeCycle.{LifeCycle}
-use Rattle.card_rules.specs.declared.life_cycle.LifeCycle.TheVariants.{Creation, Initialisation, Deactivated, Activated}
-use Rattle.card_rules.specs.declared.life_cycle.LifeCycle.TheVariants.{Terminated}
+use Rattle.card_state.specs.LifeCycle.{life_cycle_at, life_cycle_byte}
+use Rattle.card_state.specs.declared.life_cycle.LifeCycle.{LifeCycle}
+use Rattle.card_state.specs.declared.life_cycle.LifeCycle.TheVariants.{Creation, Initialisation, Deactivated, Activated}
+use Rattle.card_state.specs.declared.life_cycle.LifeCycle.TheVariants.{Terminated}
 use Rattle.block_chain.specs.declared.layout.TheConstants.{HEADER_PAGE, FREE_HEAD_WORD}
 use Rattle.block_chain.specs.declared.chain.Extent.{Extent}
 use Rattle.block_chain.specs.Chains.{bytes_of, free_chain}

@@ -9,12 +9,12 @@ use Rattle.std.proofs.lemmas.List.{take-replicate, drop-replicate}
 use Rattle.std.proofs.lemmas.Bool.Decides.{eqb_tells}
 use Rattle.std.proofs.Math.Seq.{take-append_seam}
 use Rattle.std.proofs.Math.Nat.{div-mul-le_self, div-add-mod, mod-eq_of_lt, mul_comm}
-use Rattle.card_rules.specs.LifeCycle.{life_cycle_at, life_cycle_byte}
-use Rattle.card_rules.specs.Rule.{is_rule}
-use Rattle.card_rules.specs.RuleFacts.{length-rule}
-use Rattle.card_rules.specs.declared.life_cycle.LifeCycle.{LifeCycle}
-use Rattle.card_rules.specs.declared.life_cycle.LifeCycle.TheVariants.{Creation, Initialisation, Deactivated}
-use Rattle.card_rules.specs.declared.life_cycle.LifeCycle.TheVariants.{Activated, Terminated}
+use Rattle.card_state.specs.LifeCycle.{life_cycle_at, life_cycle_byte}
+use Rattle.card_state.specs.Rule.{is_rule}
+use Rattle.card_state.specs.RuleFacts.{length-rule}
+use Rattle.card_state.specs.declared.life_cycle.LifeCycle.{LifeCycle}
+use Rattle.card_state.specs.declared.life_cycle.LifeCycle.TheVariants.{Creation, Initialisation, Deactivated}
+use Rattle.card_state.specs.declared.life_cycle.LifeCycle.TheVariants.{Activated, Terminated}
 use Rattle.card_state.specs.declared.fcp.Fcp.{Fcp}
 use Rattle.card_state.specs.declared.fcp.FileKind.{FileKind}
 use Rattle.card_state.specs.declared.fcp.FileKind.TheVariants as kinds

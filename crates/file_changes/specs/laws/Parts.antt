@@ -1,6 +1,7 @@
 -- The part of a table that goes, entry by entry.
 use Rattle.std.specs.Prelude.{◌≡◌, ◌≢◌, ◌↔◌, ◌==◌, ◌<◌, ◌≤◌, ◌+◌, ◌++◌, ◌&&◌, ℕ, zero, suc, Bool, true, false, not}
-use Rattle.std.specs.Prelude.{cond, if◌then◌else◌, IsTrue, List, [], ◌∷◌, map, length, replicate, slice_index_or, slice_set}
+use Rattle.std.specs.Prelude.{cond, if◌then◌else◌, IsTrue, List, [], ◌∷◌}
+use Rattle.std.specs.Prelude.{map, length, replicate, slice_index_or, slice_set}
 use Rattle.std.specs.Prelude.{Option, None, Some, is_some}
 use Rattle.std.specs.List.{range_with_len, cons_option, sum_by}
 use Rattle.std.proofs.Common.{refl, sym, ◌∙◌, ap, subst, arith, inl, inr, below_more, true≢false}

@@ -6,7 +6,7 @@ use Rattle.std.specs.Prelude.{List, length, None, Some}
 use Rattle.std.proofs.Common.{refl, sym, ◌∙◌, ap, arith, inl, inr, true≢false}
 use Rattle.std.proofs.lemmas.Bool.Decides.{eqb_tells}
 use Rattle.std.proofs.lemmas.Bool.{lt-ltb, le-ltb}
-use Rattle.card_rules.specs.declared.status.TheConstants.Sw.{NO_ROOM, CONDITIONS_NOT_SATISFIED}
+use Rattle.card_state.specs.declared.status.TheConstants.Sw.{NO_ROOM, CONDITIONS_NOT_SATISFIED}
 use Rattle.card_state.specs.declared.fcp.FileKind.{FileKind}
 use Rattle.card_state.specs.FileControl.{size_of_kind}
 use Rattle.block_chain.specs.Chains.{free_chain}

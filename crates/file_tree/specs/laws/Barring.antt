@@ -8,8 +8,8 @@ use Rattle.std.proofs.lemmas.List.{length-append, take-append-le}
 use Rattle.std.proofs.lemmas.List.Folds.{list_any-append}
 use Rattle.std.proofs.lemmas.List.FromFn.{map-range_with_len_more}
 use Rattle.std.proofs.Math.Seq.{take-append_seam}
-use Rattle.card_rules.specs.Rule.{allows}
-use Rattle.card_rules.specs.declared.access_mode.AccessBit.{AccessBit}
+use Rattle.card_state.specs.Rule.{allows}
+use Rattle.card_state.specs.declared.access_mode.AccessBit.{AccessBit}
 use Rattle.file_tree.specs.declared.entry.Entry.{Entry}
 use Rattle.card_state.specs.FileTrees.{Path, File, Tree, file_at}
 use Rattle.file_tree.specs.Entries.{file_of, is_allowed_by, life_told, rule_of}

@@ -4,7 +4,7 @@ use Rattle.std.specs.Prelude.{◌++◌, Bool, if◌then◌else◌, Option, None,
 use Rattle.std.proofs.Common.{refl, sym, ◌∙◌, ap, ap₂, subst, arith, inl, inr}
 use Rattle.std.proofs.lemmas.Bool.Decides.{eqb_tells}
 use Rattle.std.proofs.lemmas.List.Elements.{All-contains}
-use Rattle.card_rules.specs.declared.life_cycle.LifeCycle.{LifeCycle}
+use Rattle.card_state.specs.declared.life_cycle.LifeCycle.{LifeCycle}
 use Rattle.file_tree.specs.declared.entry.Entry.{Entry}
 use Rattle.file_tree.specs.declared.steps.Place.{Place}
 use Rattle.file_tree.specs.declared.index.Index.{Index}

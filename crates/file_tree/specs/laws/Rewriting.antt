@@ -10,8 +10,8 @@ use Rattle.std.proofs.Common.{refl, sym, ◌∙◌, ap, ap₂, subst, arith, inl
 use Rattle.std.proofs.lemmas.Bool.{cases_lt}
 use Rattle.std.specs.FinMap.{insert}
 use Rattle.nvm_board.specs.declared.board.TheConstants.{PAGE_WORDS}
-use Rattle.card_rules.specs.LifeCycle.{life_cycle_at}
-use Rattle.card_rules.specs.declared.life_cycle.LifeCycle.TheVariants.{Activated}
+use Rattle.card_state.specs.LifeCycle.{life_cycle_at}
+use Rattle.card_state.specs.declared.life_cycle.LifeCycle.TheVariants.{Activated}
 use Rattle.block_chain.specs.declared.chain.Extent.{Extent}
 use Rattle.block_chain.specs.Counts.{count, IsNotIn}
 use Rattle.block_chain.specs.BlockWords.{word}

@@ -1,4 +1,5 @@
-use Rattle.std.proofs.Common.{◌≡◌, ◌+◌, ◌-◌, ℕ, List, Option, Some, None, IfSome, Err, inl, inr, subst, sym, ◌∙◌, ap, arith}
+use Rattle.std.proofs.Common.{◌≡◌, ◌+◌, ◌-◌, ℕ, List, Option, Some, None, IfSome, Err}
+use Rattle.std.proofs.Common.{inl, inr, subst, sym, ◌∙◌, ap, arith}
 use Rattle.bench_lines.specs.declared.reading.LineFault.TheVariants.{Read, TooLong, TooMuch}
 use Rattle.card_bench.specs.declared.fault.RunFault.{RunFault}
 use Rattle.card_bench.specs.ScriptEndings.{IsRunToLine, IsRunUnkept, RunStopsBy}

@@ -1,7 +1,7 @@
 use Rattle.std.proofs.Common.{◌≡◌, ℕ, List, Option, Some, None, IfSome, option_map, sym, ◌∙◌, ap, subst}
 use Rattle.std.proofs.Common.{if◌then◌else◌, rules}
 use Rattle.std.specs.Option.{is_none}
-use Rattle.card_rules.specs.declared.status.Sw.{Sw}
+use Rattle.card_state.specs.declared.status.Sw.{Sw}
 use Rattle.card_model.specs.Guards.{file_refusals, missing, allowed}
 use Rattle.card_model.specs.Behaviours.{refused_by}
 use Rattle.undo_journal.specs.Memory.{committed}

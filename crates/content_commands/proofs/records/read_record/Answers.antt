@@ -1,5 +1,5 @@
 use Rattle.std.proofs.Common.{◌≡◌, ◌≤◌, lit<, ℕ, List, length, refl, sym, not, ◌==◌, ◌&&◌, ◌∙◌, ap, subst, arith}
-use Rattle.card_rules.specs.declared.status.TheConstants.Sw.{DONE}
+use Rattle.card_state.specs.declared.status.TheConstants.Sw.{DONE}
 use Rattle.undo_journal.specs.Memory.{committed}
 use Rattle.undo_journal.specs.laws.Calls.{reads_then}
 use Rattle.undo_journal.specs.laws.Told.{reads_on}

@@ -1,7 +1,7 @@
 use Rattle.file_tree.specs.Formats.{block_count}
 use Rattle.std.proofs.Common.{◌≡◌, Option, None, ◌∙◌, ap}
 use Rattle.undo_journal.specs.Memory.{committed}
-use Rattle.card_rules.specs.declared.status.Sw.{Sw}
+use Rattle.card_state.specs.declared.status.Sw.{Sw}
 use Rattle.card_state.specs.declared.fcp.Fcp.{Fcp}
 use Rattle.file_changes.specs.declared.placing.Place.{Place}
 use Rattle.file_changes.specs.declared.placing.Place.TheVariants.{At, Refused}

@@ -1,7 +1,7 @@
 use Rattle.std.proofs.Common.{◌≡◌, ◌||◌, ℕ, Bool, List, true, sym, ◌∙◌, ap, rules}
 use Rattle.undo_journal.specs.Memory.{committed}
 use Rattle.undo_journal.specs.laws.Calls.{reads_then}
-use Rattle.card_rules.specs.declared.access_mode.AccessBit.TheVariants.{DeleteChild, DeleteSelf}
+use Rattle.card_state.specs.declared.access_mode.AccessBit.TheVariants.{DeleteChild, DeleteSelf}
 use Rattle.card_state.specs.FileTrees.{Tree}
 use Rattle.card_state.specs.FileLives.{is_barred}
 use Rattle.file_tree.specs.Table.{table, path_of}

@@ -3,7 +3,7 @@ use Rattle.undo_journal.specs.Memory.{committed}
 use Rattle.file_changes.specs.Creations.{TellsCreation}
 use Rattle.file_changes.specs.declared.creating.Creation.{Creation}
 use Rattle.file_tree.specs.laws.Nodes.{used_small}
-use Rattle.card_rules.specs.declared.status.TheConstants.Sw.{DONE}
+use Rattle.card_state.specs.declared.status.TheConstants.Sw.{DONE}
 use Rattle.card_model.specs.Requests.{create_file}
 use Rattle.command_base.specs.declared.current.Current.{Current}
 use Rattle.command_base.specs.Served.{Serves}

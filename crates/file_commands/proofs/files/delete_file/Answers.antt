@@ -2,8 +2,8 @@ use Rattle.std.proofs.Common.{[], Result, Ok, None, refl, sym, ◌∙◌, ap, su
 use Rattle.undo_journal.specs.declared.error.StoreErr.{StoreErr}
 use Rattle.undo_journal.specs.Memory.{committed}
 use Rattle.undo_journal.specs.laws.Memory.{reports_then}
-use Rattle.card_rules.specs.declared.status.Sw.{Sw}
-use Rattle.card_rules.specs.declared.status.TheConstants.Sw.{DONE}
+use Rattle.card_state.specs.declared.status.Sw.{Sw}
+use Rattle.card_state.specs.declared.status.TheConstants.Sw.{DONE}
 use Rattle.card_model.specs.Requests.{delete_file}
 use Rattle.file_tree.specs.declared.entry.Entry.{Entry}
 use Rattle.command_base.specs.Served.{Serves}

@@ -6,7 +6,7 @@ use Rattle.file_tree.specs.declared.entry.Entry.{Entry}
 use Rattle.file_tree.specs.Table.{table, entry_in, path_of, IsUsed}
 use Rattle.file_tree.specs.laws.Nodes.{used_small}
 use Rattle.file_tree.specs.laws.Paths.{parent_used, path-zero}
-use Rattle.card_rules.specs.declared.status.Sw.{Sw}
+use Rattle.card_state.specs.declared.status.Sw.{Sw}
 use Rattle.card_model.specs.FileCommands.{delete_refusals}
 use Rattle.card_model.specs.Behaviours.{refused_by}
 use Rattle.command_base.specs.Standing.{card_of}

@@ -1,5 +1,5 @@
 use Rattle.std.proofs.Common.{◌∙◌}
-use Rattle.card_rules.specs.Rule.{allows}
+use Rattle.card_state.specs.Rule.{allows}
 use Rattle.file_tree.proofs.barring.is_allowed_at.Goals as goal
 
 pub returns : goal.returns

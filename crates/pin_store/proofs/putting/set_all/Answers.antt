@@ -3,7 +3,7 @@ use Rattle.nvm_board.specs.Facts.{address}
 use Rattle.nvm_board.specs.Torn.{written}
 use Rattle.undo_journal.specs.Lent.{memory_of}
 use Rattle.undo_journal.specs.Memory.{current}
-use Rattle.card_rules.specs.declared.pins.TheConstants.{PINS}
+use Rattle.card_state.specs.declared.pins.TheConstants.{PINS}
 use Rattle.card_state.specs.declared.limits.TheConstants.{TRIES, UNBLOCKING_TRIES}
 use Rattle.card_state.specs.Secrets.{owner, reset_pin}
 use Rattle.pin_store.specs.Pages.{pin_page, pin_at, SetsPin}

@@ -4,7 +4,7 @@ use Rattle.nvm_board.specs.Facts.{address}
 use Rattle.nvm_board.specs.Torn.{written}
 use Rattle.undo_journal.specs.Lent.{memory_of}
 use Rattle.undo_journal.specs.Memory.{current}
-use Rattle.card_rules.specs.declared.pins.TheConstants.{PINS}
+use Rattle.card_state.specs.declared.pins.TheConstants.{PINS}
 use Rattle.pin_store.specs.declared.layout.TheConstants.{PIN_MARK_WORD}
 use Rattle.card_state.specs.declared.limits.TheConstants.{TRIES}
 use Rattle.card_state.specs.Secrets.{owner, marked_pin}

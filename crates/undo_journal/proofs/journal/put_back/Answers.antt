@@ -58,7 +58,8 @@ returns g c =
       writes = record {
         writes = omega (arith, told.writes.writes, second.writes, first.writes);
         more = omega (arith, told.writes.more, second.writes, first.writes);
-        cut = aims_then _ _ _ (aims_kept _ _ (second.words ∙ first.words) (aims_stay _ _ _ first.cut second.cut)) told.writes.cut;
+        cut = aims_then _ _ _ (aims_kept _ _ (second.words ∙ first.words) (aims_stay _ _ _ first.cut second.cut))
+            told.writes.cut;
         compares = told.writes.compares ∙ second.compares ∙ first.compares;
         matches = told.writes.matches ∙ second.matches ∙ first.matches;
       };

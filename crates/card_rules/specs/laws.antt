@@ -1,3 +1,0 @@
--- Laws of the definitions, with their proofs.
-pub mod Rules
-pub mod DisabledPins
