@@ -1,5 +1,5 @@
-//! Tests of script runs, with text worked out by hand: ends of scripts, commands cut at each write, and failing readers
-//! and writers.
+//! Tests of runs of scripts and of sweeps, with text and counts worked out by hand: ends of scripts, commands cut at each
+//! write, failing readers and writers, and the runs of a sweep.
 #![tactic(auto)]
 
 #[cfg(test)]
@@ -8,3 +8,5 @@ mod cuts;
 mod readers;
 #[cfg(test)]
 mod scripts;
+#[cfg(test)]
+mod sweeping;
