@@ -20,5 +20,5 @@ pub use layout::{
     MOST_BLOCKS, WORD_BYTES,
 };
 pub use lengthening::link_pages;
-pub use reading::{byte_at, read_bytes};
+pub use reading::{block_at, byte_at, read_bytes};
 pub use walk::lay;

@@ -26,7 +26,10 @@ fn byte_of(word: u32, place: u16) -> u8
 }
 
 /// Returns block k of a chain, with one device read per link.
-fn block_at<B: Board>(store: &mut Store<B>, first: u16, k: u16) -> Result<u16, StoreErr>
+///
+/// # Errors
+/// The store's failure: power was lost, or the device failed.
+pub fn block_at<B: Board>(store: &mut Store<B>, first: u16, k: u16) -> Result<u16, StoreErr>
     requires ready { IsReady store.old }
     requires leads { Leads (committed store.old) first (chain (committed store.old) first) 0 }
     requires within { k < length (chain (committed store.old) first) }

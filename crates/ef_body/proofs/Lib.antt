@@ -6,3 +6,5 @@ pub mod Increasing
 pub mod Bytes
 pub mod Finding
 pub mod Calling
+pub mod Resting
+pub mod Passing

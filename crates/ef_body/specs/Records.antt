@@ -1,5 +1,5 @@
 -- Records in slots (ETSI TS 102 221, 8.2.2). A slot is as long as a record, and slots are adjacent.
-use Rattle.std.specs.Prelude.{◌+◌, ◌-◌, ◌*◌, ◌%◌, ℕ, List, map}
+use Rattle.std.specs.Prelude.{◌+◌, ◌*◌, ◌%◌, ℕ, List, map}
 use Rattle.std.specs.Prelude.{slice_range}
 use Rattle.std.specs.List.{range_with_len}
 

@@ -2,6 +2,7 @@
 //! newest first (cyclic) (ISO/IEC 7816-4, 7.3 and 11.3 to 11.4; ETSI TS 102 221, 8.2.2).
 #![tactic(auto)]
 
+mod chain_block;
 mod cyclic;
 mod error;
 pub mod laws;

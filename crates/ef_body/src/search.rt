@@ -1,5 +1,5 @@
 //! Searching records for a string.
-ghost use Rattle.std.specs.Prelude.{◌≡◌, ◌≤◌, ◌<◌, ◌+◌, ◌-◌, ◌++◌, ◌∷◌, [], cond, drop, nat_eq, length};
+ghost use Rattle.std.specs.Prelude.{◌≡◌, ◌≤◌, ◌<◌, ◌+◌, ◌-◌, ◌++◌, ◌∷◌, [], ℕ, cond, drop, false, nat_eq, length, OnOk};
 ghost use Rattle.std.specs.Prelude.{slice_index};
 ghost use Rattle.std.specs.List.{starts_with};
 ghost use Rattle.undo_journal.specs.Memory.{committed, IsReady};
@@ -7,22 +7,39 @@ ghost use Rattle.undo_journal.specs.StoreCalls.{Learns};
 ghost use Rattle.card_state.specs.RecordLists.{record_of, stands_in, numbers_on, records_found};
 ghost use Rattle.ef_body.specs.Bodies.{cyclic_body_records, IsCyclic};
 ghost use Rattle.ef_body.specs.BodyCalls.{ReadsInto};
+ghost use Rattle.ef_body.specs.ReadParts.{IsBlockOf};
 
+use crate::chain_block::ChainBlock;
 use crate::cyclic::Cyclic;
 use crate::layout::MOST_RECORD_BYTES;
 use crate::slot::RecordSlot;
 use arrayvec::ArrayVec;
 use card_state::Direction;
+use memchr::memchr;
 use undo_journal::{Board, Store, StoreErr};
 
-/// Whether a text begins at a place of a record. Its first byte rules out most places.
+/// Returns the first place from one on where a text may begin: the next one with its first byte, or else the end.
+fn next_place(text: &[u8], bytes: &[u8], from: usize) -> usize
+    requires { from ≤ length bytes.now }
+    ensures from { from ≤ result }
+    ensures within { result ≤ length bytes.now }
+    ensures passed { (k : ℕ) → from ≤ k → k < result
+        → starts_with nat_eq (drop k bytes.now) text.now ≡ false }
+{
+    let Some(first) = text.first() else {
+        return from;
+    };
+    match memchr(*first, &bytes[from..]) {
+        Some(place) => from + place,
+        None => bytes.len(),
+    }
+}
+
+/// Returns true if a text begins at a place of a record.
 fn begins_at(text: &[u8], bytes: &[u8], at: usize) -> bool
     requires { at < length bytes.now }
     ensures { result ≡ starts_with nat_eq (drop at bytes.now) text.now }
 {
-    if !text.is_empty() && text[0] != bytes[at] {
-        return false;
-    }
     bytes[at..].starts_with(text)
 }
 
@@ -30,31 +47,37 @@ fn begins_at(text: &[u8], bytes: &[u8], at: usize) -> bool
 fn stands(text: &[u8], bytes: &[u8]) -> bool
     ensures { result ≡ stands_in text.now bytes.now }
 {
-    for at in 0..bytes.len() {
+    let mut at = next_place(text, bytes, 0);
+    while at < bytes.len() {
         if begins_at(text, bytes, at) {
             return true;
         }
+        at = next_place(text, bytes, at + 1);
     }
     false
 }
 
-/// Returns true if the record of a number contains the string.
+/// Returns true if the record of a number contains the string. `block` is a block of the chain, and becomes the one in
+/// which the record begins.
 fn record_holds<B: Board>(
     body: Cyclic,
     store: &mut Store<B>,
     number: u16,
     text: &[u8],
+    block: &mut ChainBlock,
 ) -> Result<bool, StoreErr>
     requires ready { IsReady store.old }
     requires body { IsCyclic (committed store.old) body }
     requires first { 1 ≤ number }
     requires last { number ≤ body.records }
-    ensures { Learns store.old store.new result (λ holds. holds
+    requires block { IsBlockOf (committed store.old) body.chain block.old }
+    ensures block { OnOk result (IsBlockOf (committed store.old) body.chain block.new) }
+    ensures holds { Learns store.old store.new result (λ holds. holds
         ≡ stands_in text.now (record_of (cyclic_body_records (committed store.old) body) number)) }
 {
     let mut bytes = ArrayVec::<u8, MOST_RECORD_BYTES>::new();
     let slot = RecordSlot { ring: body, number };
-    slot.read(store, &mut bytes)?;
+    slot.read_from(store, block, &mut bytes)?;
     Ok(stands(text, &bytes))
 }
 
@@ -120,10 +143,11 @@ impl RecordSlot {
             store.old store.new numbers.new.items result }
     {
         numbers.clear();
+        let mut block = ChainBlock::first_of(self.ring.chain);
         let steps = steps_of(direction, self.number, self.ring.records);
         for step in 0..steps {
             let number = number_at(direction, self.number, self.ring.records, step);
-            let holds = record_holds(self.ring, store, number, text)?;
+            let holds = record_holds(self.ring, store, number, text, &mut block)?;
             note(numbers, number, holds);
         }
         Ok(())

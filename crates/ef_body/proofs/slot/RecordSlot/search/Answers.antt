@@ -7,7 +7,9 @@ use Rattle.undo_journal.specs.laws.Calls.{reads_same, reads_then}
 use Rattle.undo_journal.specs.laws.Told.{reads_on, reads_handed, reads_so_far}
 use Rattle.card_state.specs.RecordLists.{record_of, stands_in, numbers_on}
 use Rattle.ef_body.specs.Bodies.{cyclic_body_records, IsCyclic}
+use Rattle.ef_body.specs.ReadParts.{IsBlockOf}
 use Rattle.ef_body.specs.laws.Rings.{length-cyclic}
+use Rattle.ef_body.proofs.Resting.{first_is, has_blocks}
 use Rattle.ef_body.proofs.Finding.{found_some, filter-next}
 use Rattle.card_state.specs.laws.Finding.{steps_few, filter-few}
 use Rattle.ef_body.proofs.slot.RecordSlot.search.Goals as goal
@@ -16,6 +18,9 @@ pub loop-step-init : goal.loop-step-init
 loop-step-init g c = record {
   ready = c.requires.ready;
   reads = reads_same _;
+  block = first_is (committed c.args.store.now) c.args.self.ring.chain c.requires.body.slots.chain.leads
+      c.first_of-block.result c.first_of-block.ensures.number c.first_of-block.ensures.page
+      (has_blocks (committed c.args.store.now) c.args.self.ring c.requires.body);
   so_far = c.clear.ensures;
 }
 
@@ -23,6 +28,11 @@ pub record_holds-requires-clause-body : goal.record_holds-requires-clause-body
 record_holds-requires-clause-body g c =
     subst (λ (m : List ℕ). IsCyclic m c.args.self.ring) (sym c.loop-step.invariant.reads.keeps.committed_words)
     c.requires.body
+
+pub record_holds-requires-clause-block : goal.record_holds-requires-clause-block
+record_holds-requires-clause-block g c =
+    subst (λ (m : List ℕ). IsBlockOf m c.args.self.ring.chain c.loop-step.block)
+    (sym c.loop-step.invariant.reads.keeps.committed_words) c.loop-step.invariant.block
 
 pub note-requires : goal.note-requires
 note-requires g c =
@@ -54,15 +64,17 @@ loop-step-preserved g c =
     let lt : c.loop-step.step < length numbers = omega (arith, steps, c.loop-step-test.true) in
     let number = c.number_at-number.ensures.number in
     let holds : c.in_ok-holds.holds ≡ test (slice_index numbers c.loop-step.step) =
-    c.in_ok-holds.ensures.told
+    c.in_ok-holds.ensures.holds.told
     ∙ ap (λ (l : List ℕ). stands_in c.args.text.now (record_of (cyclic_body_records l body) c.number_at-number.result))
     c.loop-step.invariant.reads.keeps.committed_words ∙ ap test number in
     let here : cond c.in_ok-holds.holds (c.number_at-number.result ∷ []) []
     ≡ cond (test (slice_index numbers c.loop-step.step)) (slice_index numbers c.loop-step.step ∷ []) [] =
     ap₂ (λ (b : Bool) (n : ℕ). cond b (n ∷ []) []) holds number in
     record {
-      ready = c.in_ok-holds.ensures.store.ready;
-      reads = reads_then _ _ _ c.loop-step.invariant.reads c.record_holds.ensures.store.only;
+      ready = c.in_ok-holds.ensures.holds.store.ready;
+      reads = reads_then _ _ _ c.loop-step.invariant.reads c.record_holds.ensures.holds.store.only;
+      block = subst (λ (l : List ℕ). IsBlockOf l body.chain c.record_holds.new.block)
+          c.loop-step.invariant.reads.keeps.committed_words c.in_ok-holds.ensures.block;
       so_far = c.note.ensures ∙ ap₂ (λ (front back : List ℕ). front ++ back) c.loop-step.invariant.so_far here
           ∙ sym (filter-next test numbers c.loop-step.step lt);
     }
@@ -74,7 +86,7 @@ returns-in_err-holds g c = record {
       (cyclic_body_records (committed c.args.store.now) c.args.self.ring) _ (length-cyclic (committed c.args.store.now)
       c.args.self.ring c.requires.body) c.loop-step.invariant.so_far;
   store = reads_handed _ _ _ _ c.from_residual.ensures.1
-      (reads_on _ _ _ _ c.loop-step.invariant.reads c.in_err-holds.ensures.store);
+      (reads_on _ _ _ _ c.loop-step.invariant.reads c.in_err-holds.ensures.holds.store);
 }
 
 pub returns : goal.returns
