@@ -9,6 +9,7 @@ pub mod FreeTold
 pub mod ScriptLines
 pub mod ScriptInWorld
 pub mod ReaderSays
+pub mod Digits
 pub mod Written
 pub mod TallyLemmas
 pub mod CompleteSweeps

@@ -97,7 +97,7 @@ impl<B: Socket> Desk<B> {
             Came::Lost => write_line(writer, b"lost\n"),
             Came::Answer => print_bytes(writer, self.ends.reader.answer(), text),
             Came::Block => print_bytes(writer, &self.ends.blocks.toward_reader, text),
-            Came::Free(free) => print_free(writer, free, text),
+            Came::Free(free) => print_free(writer, free),
         }
     }
 }

@@ -1,6 +1,7 @@
 //! Writes the output of script lines.
-ghost use Rattle.std.specs.Prelude.{◌≡◌, ◌≤◌, ℕ, length, take, IfErr, OnErr, OnOk};
+ghost use Rattle.std.specs.Prelude.{◌≡◌, ◌≤◌, ◌<◌, ℕ, length, take, slice_index, IfErr, OnErr, OnOk};
 ghost use Rattle.std.specs.Io.KnownBytes.{Appends};
+ghost use Rattle.hex.specs.Hex.{upper_digits};
 ghost use Rattle.card_bench.specs.Printouts.{prints_bytes, prints_free, text_of};
 
 use crate::fault::RunFault;
@@ -13,9 +14,6 @@ use t1_link::LONGEST_ANSWER;
 /// The answer to reset of the card.
 pub(crate) const ATR: &[u8] = b"atr 3B808131FE458B\n";
 
-/// The hexadecimal digits.
-const DIGITS: &[u8; 16] = b"0123456789ABCDEF";
-
 /// The most bytes that the card sends at once.
 /// They are those of an answer, as a block has no more.
 const BYTES_ROOM: usize = LONGEST_ANSWER;
@@ -25,7 +23,13 @@ const BYTES_ROOM: usize = LONGEST_ANSWER;
 const PRINTED_ROOM: usize = 2 + 2 * BYTES_ROOM + 1;
 
 /// The buffer for the text of bytes. Its contents between lines have no meaning.
-pub(crate) type PrintedText = ArrayVec<u8, PRINTED_ROOM>;
+pub(crate) type PrintedText = [u8; PRINTED_ROOM];
+
+/// A new buffer.
+pub(crate) const NO_TEXT: PrintedText = [0; PRINTED_ROOM];
+
+/// The space for the line of the free space. Each of its two numbers has at most 40 digits, as `itoa` promises.
+const FREE_ROOM: usize = 96;
 
 /// Writes bytes of the card as a line of hexadecimal digits.
 pub(crate) fn print_bytes<W: Write>(
@@ -40,44 +44,58 @@ pub(crate) fn print_bytes<W: Write>(
         × Appends (W.contents writer.old) (W.contents writer.new) (take size (text_of (prints_bytes bytes.now)))) }
     ensures fault { IfErr result (λ fault. fault ≡ RunFault.Write) }
 {
-    spell(bytes, text);
-    write_line(writer, text)
+    let size = spell(bytes, text);
+    write_line(writer, &text[..size])
 }
 
 /// Writes the free space as a line.
-// Not inlined, so that other lines don't pay for its buffer of numbers.
+// Not inlined, so that other lines don't pay for its buffers.
 #[inline(never)]
-pub(crate) fn print_free<W: Write>(
-    writer: &mut W,
-    free: FreeSpace,
-    text: &mut PrintedText,
-) -> Result<(), RunFault>
+pub(crate) fn print_free<W: Write>(writer: &mut W, free: FreeSpace) -> Result<(), RunFault>
     ensures wrote { OnOk result (Appends (W.contents writer.old) (W.contents writer.new) (text_of (prints_free free))) }
     ensures began { OnErr result ((size : ℕ)
         × Appends (W.contents writer.old) (W.contents writer.new) (take size (text_of (prints_free free)))) }
     ensures fault { IfErr result (λ fault. fault ≡ RunFault.Write) }
 {
-    tell(free, text);
-    write_line(writer, text)
+    let mut text = ArrayVec::new();
+    tell(free, &mut text);
+    write_line(writer, &text)
 }
 
-/// Formats bytes of the card as a line.
-fn spell(bytes: &[u8], line: &mut PrintedText)
+/// Formats bytes of the card as a line, and returns its size.
+fn spell(bytes: &[u8], text: &mut PrintedText) -> usize
     requires { length bytes.now ≤ BYTES_ROOM }
-    ensures { line.new.items ≡ text_of (prints_bytes bytes.now) }
+    ensures within { result ≤ PRINTED_ROOM }
+    ensures text { take result text.new ≡ text_of (prints_bytes bytes.now) }
 {
-    line.clear();
-    line.push(b'<');
-    line.push(b' ');
-    for byte in bytes {
-        line.push(DIGITS[usize::from(*byte / 16)]);
-        line.push(DIGITS[usize::from(*byte % 16)]);
+    text[0] = b'<';
+    text[1] = b' ';
+    for i in 0..bytes.len() {
+        let at = 2 + 2 * i;
+        text[at] = digit_of(bytes[i] / 16);
+        text[at + 1] = digit_of(bytes[i] % 16);
     }
-    line.push(b'\n');
+    let end = 2 + 2 * bytes.len();
+    text[end] = b'\n';
+    end + 1
+}
+
+/// Returns the hexadecimal digit of a number.
+// It is calculated, as the compiler then spells many bytes at once; from a table it takes them one by one.
+#[tactic(auto, using(crate::proofs::Digits::decimal_digit, crate::proofs::Digits::letter_digit))]
+fn digit_of(number: u8) -> u8
+    requires { number < 16 }
+    ensures { result ≡ slice_index upper_digits number }
+{
+    if number < 10 {
+        b'0' + number
+    } else {
+        b'A' + (number - 10)
+    }
 }
 
 /// Formats the free space as a line.
-fn tell(free: FreeSpace, line: &mut PrintedText)
+fn tell(free: FreeSpace, line: &mut ArrayVec<u8, FREE_ROOM>)
     ensures { line.new.items ≡ text_of (prints_free free) }
 {
     let mut blocks = Buffer::new();

@@ -9,7 +9,7 @@ ghost use Rattle.command_base.specs.Finding.{HasCard};
 use crate::desk::Desk;
 use crate::factory::factory_board;
 use crate::fault::RunFault;
-use crate::printing::PrintedText;
+use crate::printing::NO_TEXT;
 use bench_lines::{GivenBytes, LineBytes, LineEnd, LineFault, Order, SCRIPT_LIMIT, read_line};
 use kept_board::Followed;
 use nvm_board::{Armed, Faultless, has_no_fault};
@@ -97,7 +97,7 @@ fn run_lines<B: Armed + Faultless + Followed, R: BufRead, W: Write>(
 {
     let mut line = LineBytes::new();
     let mut given = GivenBytes::new();
-    let mut text = PrintedText::new();
+    let mut text = NO_TEXT;
     let mut taken = 0;
     // A script has at most as many lines as bytes, and one more without a line feed.
     for number in 1..=SCRIPT_LIMIT + 1 {

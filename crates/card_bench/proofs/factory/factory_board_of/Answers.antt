@@ -1,4 +1,4 @@
-use Rattle.std.proofs.Common.{ℕ, ◌-◌, refl, subst}
+use Rattle.std.proofs.Common.{ℕ, refl, subst}
 use Rattle.nvm_board.specs.Cut.{cut_facts}
 use Rattle.undo_journal.specs.Spending.{WritesAtMost}
 use Rattle.card_core.specs.Factory.{factory_card}

@@ -1,32 +1,39 @@
-use Rattle.std.proofs.Common.{◌≡◌, ◌≤◌, ◌++◌, ℕ, List, [], ◌∷◌, length, drop, sym, ◌∙◌, ap, arith}
-use Rattle.std.proofs.Common.{append_assoc, append-nil}
-use Rattle.std.proofs.lemmas.List.{drop_all}
-use Rattle.hex.specs.Hex.{encode_upper, encode_with, upper_digits}
-use Rattle.hex.proofs.Pairs.{encode_with-drop}
+use Rattle.std.proofs.Common.{◌≡◌, ◌++◌, ◌∙◌, ap, arith, length, List, ℕ}
+use Rattle.std.proofs.lemmas.List.{length-set}
+use Rattle.hex.specs.Hex.{encode_upper}
+use Rattle.card_bench.specs.declared.printing.TheConstants.{PRINTED_ROOM}
+use Rattle.hex.proofs.Pairs.{take-two_writes}
+use Rattle.card_bench.proofs.Digits.{spelled_more, spelled_all}
 use Rattle.card_bench.proofs.printing.spell.Goals as goal
 
--- nothing is left to be spelled
-spelled : (items bytes text : List ℕ) (i : ℕ) → length bytes ≤ i
-    → items ++ encode_upper (drop i bytes) ≡ text → items ≡ text
-unfolding encode_with
-spelled items bytes text i all e = sym (append-nil items)
-    ∙ ap (λ (l : List ℕ). items ++ encode_upper l) (sym (drop_all i bytes all)) ∙ e
-
-pub loop-byte-preserved : goal.loop-byte-preserved
-loop-byte-preserved c =
-    let step = encode_with-drop upper_digits c.args.bytes.now c.loop-byte.byte-index c.loop-byte-test.true in
-    let size = c.loop-byte.invariant.size in
-    let first = c.push-in-loop-byte.ensures.len in
-    let second = c.push-in-loop-byte-2.ensures.len in
+pub loop-i-init : goal.loop-i-init
+loop-i-init c =
+    let long : length c.args.text.now ≡ PRINTED_ROOM = omega arith in
     record {
-      size = omega (arith, size, first, second);
-      so_far = rw (c.push-in-loop-byte-2.ensures.items, c.push-in-loop-byte.ensures.items, append_assoc, append_assoc)
-          (rw (c.from.ensures, c.from-in-loop-byte.ensures)
-          (rw step at c.loop-byte.invariant.so_far));
+      within = omega arith;
+      size = length-set _ _ _ ∙ length-set _ _ _ ∙ long;
+      so_far = ap (λ (l : List ℕ). l ++ encode_upper c.args.bytes.now)
+          (take-two_writes c.args.text.now 0 60 32 (omega (arith, long)));
     }
 
-pub returns : goal.returns
-returns c =
-    c.push-3.ensures.items
-    ∙ ap (λ (l : List ℕ). l ++ 10 ∷ [])
-    (spelled _ _ _ c.loop-byte.byte-index c.loop-byte-test.false c.loop-byte.invariant.so_far)
+pub loop-i-preserved : goal.loop-i-preserved
+loop-i-preserved c =
+    let size = c.loop-i.invariant.size in
+    record {
+      within = omega (arith, c.loop-i-test.true);
+      size = length-set _ _ _ ∙ length-set _ _ _ ∙ size;
+      so_far = spelled_more c.loop-i.text c.args.bytes.now _ c.loop-i.i _ _ c.loop-i-test.true (omega (
+        arith,
+        size,
+        c.loop-i-test.true,
+        c.requires,
+      )) c.digit_of.ensures c.digit_of-in-loop-i.ensures c.loop-i.invariant.so_far;
+    }
+
+pub returns-clause-text : goal.returns-clause-text
+returns-clause-text c =
+    let size = c.loop-i.invariant.size in
+    let within = c.loop-i.invariant.within in
+    let all : c.loop-i.i ≡ length c.args.bytes.now = omega (arith, within, c.loop-i-test.false) in
+    spelled_all c.loop-i.text c.args.bytes.now _ c.loop-i.i all (omega (arith, size, c.requires))
+    c.loop-i.invariant.so_far

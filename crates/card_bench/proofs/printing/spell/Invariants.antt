@@ -1,9 +1,11 @@
-use Rattle.std.proofs.Common.{◌≡◌, ◌+◌, ◌*◌, ◌++◌, codes, drop, length}
+use Rattle.std.proofs.Common.{◌≡◌, ◌≤◌, ◌+◌, ◌*◌, ◌++◌, codes, drop, take, length}
 use Rattle.hex.specs.Hex.{encode_upper}
+use Rattle.card_bench.specs.declared.printing.TheConstants.{PRINTED_ROOM}
 use Rattle.card_bench.proofs.printing.spell.Given as goal
 
-abbrev pub invariant-loop-byte : goal.invariant-loop-byte
-invariant-loop-byte l = record {
-  size : length l.line.items ≡ 2 + 2 * l.byte-index;
-  so_far : l.line.items ++ encode_upper (drop l.byte-index l.bytes) ≡ codes "< " ++ encode_upper l.bytes;
+abbrev pub invariant-loop-i : goal.invariant-loop-i
+invariant-loop-i l = record {
+  within : l.i ≤ length l.bytes;
+  size : length l.text ≡ PRINTED_ROOM;
+  so_far : take (2 + 2 * l.i) l.text ++ encode_upper (drop l.i l.bytes) ≡ codes "< " ++ encode_upper l.bytes;
 }

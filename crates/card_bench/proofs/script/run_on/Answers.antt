@@ -1,5 +1,4 @@
-use Rattle.std.proofs.Common.{Option, List, ℕ, OnOk, IfErr, IfSome, subst}
-use Rattle.card_bench.specs.declared.fault.RunFault.{RunFault}
+use Rattle.std.proofs.Common.{OnOk, IfErr, IfSome, subst}
 use Rattle.card_bench.specs.ScriptEndings.{IsRunToEnd, RunStopsBy}
 use Rattle.card_bench.specs.Exchanges.{Desk}
 use Rattle.card_bench.proofs.FormatLemmas.{desk_is}
