@@ -1,5 +1,6 @@
 -- Hexadecimal digits, and bytes as their text.
-use Rattle.std.proofs.Common.{◌≡◌, ◌<◌, ◌≤◌, ◌+◌, ◌-◌, ◌*◌, ◌/◌, ◌%◌, ◌++◌, ℕ, zero, suc, List, [], ◌∷◌, length, drop, take}
+use Rattle.std.proofs.Common.{◌≡◌, ◌<◌, ◌≤◌, ◌+◌, ◌-◌, ◌*◌, ◌/◌, ◌%◌, ◌++◌, ℕ}
+use Rattle.std.proofs.Common.{zero, suc, List, [], ◌∷◌, length, drop, take}
 use Rattle.std.proofs.Common.{slice_index, slice_set, refl, sym, ◌∙◌, ap, arith}
 use Rattle.std.proofs.lemmas.List.{append_assoc, append-nil, drop_all, take_more_set}
 use Rattle.hex.specs.Hex.{encode_upper, encode_with, upper_digits}

@@ -32,7 +32,8 @@ impl RecordSlot {
         self.read_from(store, &mut block, bytes)
     }
 
-    /// Reads the record, as `read` does. `block` is a block of the chain, and becomes the one in which the record begins.
+    /// Reads the record, as `read` does.
+    /// `block` is a block of the chain, and becomes the one in which the record begins.
     /// So the next read need not follow the links from the first block again.
     ///
     /// # Errors
