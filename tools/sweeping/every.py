@@ -72,26 +72,27 @@ def cases(script: str) -> Iterator[tuple[int, str]]:
                     shown[it.p2] = it.data[-8:].hex()
 
 
-def row(sweeper: Sweeper, depth: int | None, case: tuple[int, str]) -> list[str]:
-    """The row of a command."""
+def row(sweeper: Sweeper, depth: int | None, case: tuple[int, str]) -> tuple[list[str], str]:
+    """The row of a command, and why its outcomes aren't allowed."""
     began = time.monotonic()
     it = Sweep([sweeper.part(case[1], depth, 1, 1)])
     found = [len(it.writes), f"{it.runs:,}", len(it.outcomes), it.allowed() if it.writes else 0]
-    return [str(case[0]), it.name, it.answer[-4:], *map(str, found), f"{time.monotonic() - began:.1f}"]
+    return [str(case[0]), it.name, it.answer[-4:], *map(str, found), f"{time.monotonic() - began:.1f}"], it.fault()
 
 
 def report_all(options: Namespace) -> int:
     """Sweeps every command of a script, writes the reports, and gives the exit status."""
     script, sweeper = options.files[0], Sweeper()
     chosen = [it for it in cases(script.read()) if not options.only or it[0] in options.only]
-    rows = side_by_side(options.jobs, "commands", lambda case: row(sweeper, options.depth, case), chosen)
+    swept = side_by_side(options.jobs, "commands", lambda case: row(sweeper, options.depth, case), chosen)
+    rows = [it for it, _ in swept]
     show(aligned([HEAD, *rows]))
     if options.markdown:
         options.markdown.writelines(f"| {' | '.join(it)} |\n" for it in [HEAD, ["---"] * len(HEAD), *rows])
     tests = [Case(script.name, int(line), f"line {line}: {name}", 1) for line, name, *_ in rows]
-    for it, (_, name, _, _, _, found, allowed, _) in zip(tests, rows):
-        if int(found) > int(allowed):
-            it.differences.append(Difference(it.line, name, reason=f"{found} outcomes, where {allowed} are allowed"))
+    for it, ((_, name, *_), fault) in zip(tests, swept):
+        if fault:
+            it.differences.append(Difference(it.line, name, reason=fault))
             print(f"sweep: line {it.line}: {it.differences[0].reason}", file=sys.stderr)
     if options.junit:
         options.junit.write(junit([tests]))

@@ -12,10 +12,17 @@ from explaining.commands import OF_PINS
 BEFORE, AFTER, UNCHANGED = "as before the command", "as after the command", "as before the command, and as after it"
 TAKEN, OTHER = "with a try taken", "neither as before nor as after"
 COMMAND, PROBE = "# command", "# probe"
+# commands that show a PIN's tries, or those of its unblocking value, and what they print
+VALUE, UNBLOCKING, RESET, TRIES = "0020", "002C", "002C", "< 63C"
 # a command of more bytes goes in two blocks
 FIELD_LIMIT = 254
 # what a run found: the free space, and what each line of the probe printed
 Found = tuple[str, ...]
+
+
+def counted(number: int, thing: str) -> str:
+    """A number of things, with the plural's s."""
+    return f"{number:,} {thing}{'s' * (number != 1)}"
 
 
 def orders_of(lines: list[str]) -> list[str]:
@@ -97,16 +104,32 @@ class Sweep:
         """Whether a card with a try less is a stage of the command: the PIN was right."""
         return self.digits[:4] in OF_PINS and self.answer == "9000"
 
+    def is_taken(self, found: Found) -> bool:
+        """Whether an outcome is that stage: the probe asks for the tries, one is missing, and nothing before differs."""
+        asked = f"apdu {UNBLOCKING if self.digits[:4] == RESET else VALUE}00{self.digits[6:8]}"
+        if not self.is_charged() or asked not in self.looks:
+            return False
+        at = self.looks.index(asked)
+        tries = [int(it[at][-1], 16) for it in (found, self.before) if it[at].startswith(TRIES)]
+        return len(tries) == 2 and tries[0] + 1 == tries[1] and found[:at] == self.before[:at]
+
     def allowed(self) -> int:
-        """The number of outcomes that the stages of the command allow."""
+        """The number of stages of the command."""
         return len({self.before, self.after}) + self.is_charged()
+
+    def fault(self, most: int | None = None) -> str:
+        """Why the outcomes aren't allowed, or nothing: each is a stage of the command, or there are at most so many."""
+        others = sum(self.meaning(it) == OTHER for it in self.outcomes)
+        if most is None:
+            return f"{counted(others, 'outcome')} that no stage of the command has" if others else ""
+        told = f"{counted(len(self.outcomes), 'outcome')}, where {most} {'is' if most == 1 else 'are'} allowed"
+        return told if len(self.outcomes) > most else ""
 
     def meaning(self, found: Found) -> str:
         """The card that an outcome is."""
-        others = set(self.outcomes) - {self.before, self.after}
-        other = TAKEN if self.is_charged() and len(others) == 1 else OTHER
-        same = UNCHANGED if self.before == self.after else BEFORE
-        return {self.after: AFTER, self.before: same}.get(found, other)
+        if found in (self.before, self.after):
+            return UNCHANGED if self.before == self.after else BEFORE if found == self.before else AFTER
+        return TAKEN if self.is_taken(found) else OTHER
 
     def commits(self) -> list[int]:
         """The writes at which the outcome turns: with no new word it differs from that with all."""

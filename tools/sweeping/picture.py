@@ -3,8 +3,8 @@ from __future__ import annotations
 
 from xml.sax.saxutils import escape
 
-from .outcomes import AFTER, BEFORE, UNCHANGED, Sweep
-from .table import counted, letters, ranges
+from .outcomes import AFTER, BEFORE, UNCHANGED, Sweep, counted
+from .table import letters, ranges
 from svg import rect, text
 
 # The palette of Okabe and Ito, which the colour-blind can tell apart.

@@ -6,7 +6,7 @@ from collections.abc import Iterable, Sequence
 from itertools import groupby
 from os.path import commonprefix
 
-from .outcomes import Sweep
+from .outcomes import Sweep, counted
 
 # how many characters of a probe line, and how many numbers of writes, are shown
 SHOWN, MOST_NUMBERS = 30, 12
@@ -15,11 +15,6 @@ SHOWN, MOST_NUMBERS = 30, 12
 def letters(sweep: Sweep) -> list[str]:
     """The names of the outcomes, in order of appearance."""
     return [chr(ord("A") + place) if place < 26 else f"A{place}" for place in range(len(sweep.outcomes))]
-
-
-def counted(number: int, thing: str) -> str:
-    """A number of things, with the plural's s."""
-    return f"{number:,} {thing}{'s' * (number != 1)}"
 
 
 def ranges(numbers: Iterable[int]) -> str:
