@@ -29,7 +29,7 @@ abbrev pub free_of : BenchState → FreeSpace
 free_of (off facts) = record { blocks = 0; entries = 0 }
 free_of (on powered) = card_space (card_found powered.card)
 
--- Turns are played on a board, from power off on. What is left is the board, power off.
+-- Turns are played on a board. Power is off before the first turn, and after the last one.
 pub record PlaysOn (board : Facts) (turns : List Turn) (trace : List Item) (left : Facts) : Type 0 where
   pub last : BenchState
   pub runs : Runs (off_with board) turns trace last

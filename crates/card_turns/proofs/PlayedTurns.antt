@@ -1,22 +1,25 @@
 -- Turns played one after another.
-use Rattle.std.specs.Prelude.{◌≡◌, ◌+◌, ◌≤◌, ℕ, true, List, [], ◌∷◌, ◌++◌, refl}
-use Rattle.std.proofs.Common.{arith, sym, subst, inl, inr}
-use Rattle.nvm_board.specs.Facts.{Facts}
+use Rattle.std.specs.Prelude.{◌≡◌, ◌≢◌, ◌⊎◌, ◌+◌, ◌≤◌, ℕ, true, List, [], ◌∷◌, ◌++◌, refl}
+use Rattle.std.proofs.Common.{ap, arith, sym, subst, inl, inr, ⊎_elim}
+use Rattle.nvm_board.specs.Facts.{Facts, Fails, Steady}
 use Rattle.card_turns.specs.declared.playing.Turn.{Turn}
 use Rattle.card_turns.specs.declared.playing.Item.{Item}
 use Rattle.t1_link.specs.CardTable.{link_step}
 use Rattle.undo_journal.specs.Spending.{Advances}
+use Rattle.card_core.specs.declared.state.CardState.{CardState}
+use Rattle.card_core.specs.declared.state.CardState.TheVariants as state
 use Rattle.card_core.specs.declared.state.CardState.TheVariants.{Working}
 use Rattle.command_base.specs.Comparing.{comparisons}
 use Rattle.command_base.specs.declared.spending.TheConstants.{COMMAND_WRITES}
 use Rattle.command_base.specs.Finding.{HasCard}
-use Rattle.card_core.specs.Running.{card_found}
+use Rattle.card_core.specs.Running.{Running, card_found}
 use Rattle.command_base.specs.laws.ShownLaws.{ComparesOrStays}
-use Rattle.card_turns.specs.declared.playing.Item.TheVariants.{Dark, Mute}
+use Rattle.card_turns.specs.declared.playing.Item.TheVariants.{Dark, Mute, Reply}
 use Rattle.card_turns.specs.BenchStates.{BenchState, off, on, bench_facts}
-use Rattle.card_turns.specs.CardBlocks.{Powered, BlockStands, IsCutAt, IsBlockStage}
+use Rattle.card_turns.specs.CardBlocks.{Powered, BlockStands, FailsAt, IsCutAt, IsBlockStage, Replies}
+use Rattle.card_turns.specs.Guessing.{GuessesFew}
 use Rattle.card_turns.specs.Plays.{BringsNoFault, Plays, PlaysAll, PlaysBlock}
-use Rattle.card_turns.specs.Turns.{CountsLosses, GoodTurn, Runs, Spends, dark_of, darks}
+use Rattle.card_turns.specs.Turns.{CountsLosses, GoodTurn, Runs, Spends, Wears, dark_of, darks}
 use Rattle.card_turns.proofs.FewGuesses.{pays-nothing, pays-on}
 use Rattle.card_turns.proofs.GuessesPaid.{ArePaid, paid-few}
 use Rattle.card_turns.proofs.Wearing.{aims-off, wears-shown, wears-writing}
@@ -103,11 +106,6 @@ plays_more old between new turns trace turn item all more =
       });
     }
 
--- where no cut, fault or write was counted the words are as they were
-pub still-lit : (old new : Facts) → Advances old new → new.cuts ≡ old.cuts + 0 → 0 ≡ 0 → new.faults ≡ old.faults
-    → new.writes ≡ old.writes → new.words ≡ old.words
-still-lit old new advances cuts none fine same = advances.cut.still (omega (arith, cuts, fine, same))
-
 -- a block in which power was lost, which is then turned off
 pub plays_cut : (old new : Powered) (got out : List ℕ) → IsCutAt old got new out → HasCard new.card.facts.words
     → IsBlockStage old (link_step old.link got).reaction (card_found new.card)
@@ -133,6 +131,53 @@ plays_cut old new got out cut found stage paid shown writes advances stands = re
   wears = λ good.
       wears-shown COMMAND_WRITES (card_found old.card) (card_found new.card) old.card.facts
       (record new.card.facts { dark = true }) shown good.faults writes;
+}
+
+-- no power was lost, and faults may have risen
+keeps_power : (a b : Facts) → b.cuts ≡ a.cuts → b.due ≡ a.due → a.faults ≤ b.faults → Advances a b → Spends 0 a b
+keeps_power a b cuts due faults advances = record {
+  cuts = omega (arith, cuts);
+  due = inl (omega (arith, due));
+  faults = faults;
+  more = advances.more;
+  cut = advances.cut.cut;
+  still = λ none fine same. advances.cut.still (omega (arith, cuts, fine, same));
+}
+
+-- the counts of a card that isn't dark, after a block that it answers
+answered-counts : (s : CardState) (a b : Facts) → s ≢ state.Dark → (s ≡ Working → Steady a b ⊎ Fails a b)
+    → (s ≡ state.Failed → b ≡ a) → Advances a b → Spends 0 a b
+answered-counts state.Working a b lit power same advances =
+    ⊎_elim (λ p. let faults = p.faults in keeps_power a b p.cuts p.due (omega (arith, faults)) advances)
+    (λ p. let faults = p.faults in keeps_power a b p.cuts p.due (omega (arith, faults)) advances) (power refl)
+answered-counts state.Failed a b lit power same advances =
+    let is : b ≡ a = same refl in
+    let faults : b.faults ≡ a.faults = ap (λ (f : Facts). f.faults) is in
+    keeps_power a b (ap (λ (f : Facts). f.cuts) is) (ap (λ (f : Facts). f.due) is) (omega (arith, faults)) advances
+answered-counts state.Dark a b lit power same advances = absurd (lit refl)
+
+-- without a fault the card replies as the model
+replied : (old new : Powered) (got out : List ℕ) → Replies old got new out ⊎ FailsAt old got new out
+    → new.card.facts.faults ≡ old.card.facts.faults → Replies old got new out
+replied old new got out answer same =
+    ⊎_elim (λ r. r) (λ f. let risen = f.power.faults in absurd (omega (arith, same, risen))) answer
+
+-- a block that is answered
+pub plays_replied : (old new : Powered) (got out : List ℕ) → old.card.state ≢ state.Dark → HasCard new.card.facts.words
+    → (old.card.state ≡ Working → Replies old got new out ⊎ FailsAt old got new out)
+    → (old.card.state ≡ state.Failed → new.card ≡ old.card) → Advances old.card.facts new.card.facts
+    → GuessesFew (on old) (on new)
+    → (BringsNoFault (on old) (on new) → Wears COMMAND_WRITES old.card.facts new.card.facts)
+    → PlaysBlock (on old) got (Reply out) (on new)
+plays_replied old new got out lit found replies failed advances guesses wears = record {
+  has_card = λ before. found;
+  counts = answered-counts old.card.state old.card.facts new.card.facts lit
+      (λ is. ⊎_elim (λ r. inl r.power) (λ f. inr f.power) (replies is))
+      (λ is. ap (λ (r : Running). r.facts) (failed is)) advances;
+  well = λ good. (replied old new got out (replies good.well) good.faults).state;
+  guesses = guesses;
+  one = λ before good. replied old new got out (replies good.well) good.faults;
+  wears = wears;
 }
 
 -- a block to a card without power

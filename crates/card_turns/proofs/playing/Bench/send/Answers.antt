@@ -7,7 +7,7 @@ use Rattle.card_turns.specs.Plays.{BringsNoFault}
 use Rattle.card_turns.specs.Turns.{Wears}
 use Rattle.card_turns.proofs.BlockGuesses.{block-compares, block-counts, block-pays}
 use Rattle.card_turns.proofs.GuessesPaid.{paid-few}
-use Rattle.card_turns.proofs.PlayedTurns.{hears_nothing, plays_cut, still-lit}
+use Rattle.card_turns.proofs.PlayedTurns.{hears_nothing, plays_cut, plays_replied}
 use Rattle.card_turns.proofs.Wearing.{wears-shown}
 use Rattle.card_turns.proofs.playing.Bench.send.Goals as goal
 
@@ -38,10 +38,9 @@ returns-in-Ok g c =
     c.in-On.powered.card.facts c.block.new.self.card.facts
     (block-compares c.in-On.powered c.block.new.self (link_step c.in-On.powered.link c.args.block.now).reaction
     c.in-Ok.ensures.stage c.in-Ok.ensures.compares) good.faults c.in-Ok.ensures.writes in
-    let more = c.in-Ok.ensures.advances.more in
-    let cut = c.in-Ok.ensures.advances.cut.cut in
-    let still = still-lit c.in-On.powered.card.facts c.block.new.self.card.facts c.in-Ok.ensures.advances in
-    rw (← old) (search (rules, lit, guesses, wears, more, cut, still))
+    rw (← old) (plays_replied c.in-On.powered c.block.new.self c.args.block.now c.block.new.out lit
+    c.in-Ok.ensures.has_card c.in-Ok.ensures.replies (λ is. (c.in-Ok.ensures.failed is).1) c.in-Ok.ensures.advances
+    guesses wears)
 
 pub invariant_of-self-in-Ok : goal.invariant_of-self-in-Ok
 invariant_of-self-in-Ok g c =
