@@ -2,3 +2,5 @@ pub mod Turned
 pub mod Put
 pub mod Reported
 pub mod ReadSo
+pub mod PartWritten
+pub mod Stopped

@@ -7,7 +7,7 @@ use Rattle.bench_lines.specs.Orders as order
 use Rattle.bench_lines.specs.Scripts.{TakesLine}
 use Rattle.bench_lines.specs.declared.reading.LineEnd.TheVariants.{LineFeed, EndOfScript}
 use Rattle.sweep_cli.specs.declared.script.Section.{Section}
-use Rattle.sweep_cli.specs.declared.script.Section.TheVariants.{Prepare, Command, Probe}
+use Rattle.sweep_cli.specs.declared.script.Section.TheVariants.{Prepare, Command, AfterCommand, Probe}
 use Rattle.sweep_cli.specs.declared.script.SweepScript.{SweepScript}
 use Rattle.sweep_cli.specs.declared.steps.Step.{Step}
 use Rattle.sweep_cli.specs.declared.steps.Step.TheVariants.{On, Off, Block}
@@ -38,15 +38,16 @@ asked_of s = record {
 
 -- the mark of the command
 abbrev pub begins_command : Asked → Section → Option Asked
-begins_command asked Prepare = Some (record asked { section = Command false })
-begins_command asked (Command has_come) = None
+begins_command asked Prepare = Some (record asked { section = Command })
+begins_command asked Command = None
+begins_command asked AfterCommand = None
 begins_command asked Probe = None
 
 -- the mark of the probe, after the command
 abbrev pub begins_probe : Asked → Section → Option Asked
 begins_probe asked Prepare = None
-begins_probe asked (Command false) = None
-begins_probe asked (Command true) = Some (record asked { section = Probe })
+begins_probe asked Command = None
+begins_probe asked AfterCommand = Some (record asked { section = Probe })
 begins_probe asked Probe = None
 
 -- a digit 0 (48) to 3: the number of power-ons to cut
@@ -58,18 +59,19 @@ sets_depth asked digits = None
 -- steps of the preparation or the probe
 abbrev pub adds : Asked → Section → List Step → Option Asked
 adds asked Prepare steps = Some (record asked { prepare = asked.prepare ++ steps })
-adds asked (Command has_come) steps = None
+adds asked Command steps = None
+adds asked AfterCommand steps = None
 adds asked Probe steps = Some (record asked { probe = asked.probe ++ steps })
 
 -- A command. Between the marks it is the one that is cut; all its blocks but the last are sent before.
 abbrev pub sends : Asked → Section → List ℕ → Option Asked
 sends asked Prepare bytes = adds asked Prepare (exchange bytes)
-sends asked (Command false) bytes = Some (record asked {
-  section = Command true;
+sends asked Command bytes = Some (record asked {
+  section = AfterCommand;
   prepare = asked.prepare ++ steps_before bytes;
   command = last_command_block bytes;
 })
-sends asked (Command true) bytes = None
+sends asked AfterCommand bytes = None
 sends asked Probe bytes = adds asked Probe (exchange bytes)
 
 -- An order. Each result has the free space anyway, and only the sweep sets faults.
@@ -101,11 +103,12 @@ ReadsLines (suc n) old new asked =
     × TakesLine between new line LineFeed × (take_line before line ≡ Some asked)
 
 -- true if nothing is missing at the end: there is a probe, and so a command
-abbrev pub is_whole : Asked → Section → List Step → Bool
-is_whole asked Probe (step ∷ steps) = true
-is_whole asked Probe [] = false
-is_whole asked (Command has_come) steps = false
-is_whole asked Prepare steps = false
+abbrev pub is_whole : Section → List Step → Bool
+is_whole Probe (step ∷ steps) = true
+is_whole Probe [] = false
+is_whole AfterCommand steps = false
+is_whole Command steps = false
+is_whole Prepare steps = false
 
 -- a script was read to its end, and asks for this
 pub record IsRead (old new : Option (List ℕ)) (asked : Asked) : Type 0 where
@@ -116,4 +119,4 @@ pub record IsRead (old new : Option (List ℕ)) (asked : Asked) : Type 0 where
   pub others : ReadsLines number old between before
   pub last : TakesLine between new line EndOfScript
   pub takes : take_line before line ≡ Some asked
-  pub whole : is_whole asked asked.section asked.probe ≡ true
+  pub whole : is_whole asked.section asked.probe ≡ true

@@ -3,4 +3,5 @@ pub mod Framing
 pub mod Asking
 pub mod Printing
 pub mod Reporting
+pub mod SweepEndings
 pub mod ReportParts

@@ -23,7 +23,7 @@ pub record AddsText (Is : List ℕ → Type 0) (old new : List ℕ) : Type 0 whe
   pub holds : Is more
   pub all : new ≡ old ++ more
 
--- A mask after the first: its cut was appended if it happened, and nothing otherwise.
+-- A mask after the first: its cut was appended if it is of the part and happened, and nothing otherwise.
 abbrev pub AddsMaskText : Sweeping → ℕ → ℕ → ℕ → Bool → List ℕ → List ℕ → Type 0
 AddsMaskText sweeping write words i true old new = AddsText (IsCutOrNone sweeping write words i) old new
 AddsMaskText sweeping write words i false old new =

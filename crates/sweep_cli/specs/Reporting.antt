@@ -1,6 +1,6 @@
 -- The report of a sweep, and its parts.
 use Rattle.std.specs.Prelude.{◌≡◌, ◌⊎◌, ◌≤◌, ◌<◌, ◌+◌, ◌-◌, ◌^◌, ◌%◌, ℕ, zero, suc, Bool, true, false, List, [], ◌∷◌}
-use Rattle.std.specs.Prelude.{◌++◌, codes, None, Option}
+use Rattle.std.specs.Prelude.{◌++◌, codes, Option}
 use Rattle.std.specs.Io.KnownBytes.{Appends}
 use Rattle.nvm_board.specs.Facts.{Facts}
 use Rattle.nvm_board.specs.declared.cut_board.CutBoard.{CutBoard}
@@ -86,7 +86,7 @@ TextsInTurn Part zero text = text ≡ []
 TextsInTurn Part (suc n) text =
     (before last : List ℕ) × TextsInTurn Part n before × Part n last × (text ≡ before ++ last)
 
--- A device write has the number of words that the board reports after the cut with the first mask.
+-- The board after the cut with the first mask reports a number of words. No clause ties that number to the write.
 pub record HasWords (sweeping : Sweeping) (write words : ℕ) : Type 0 where
   pub left : CutBoard
   pub cut : CutsCommand write 0 sweeping.board sweeping.prepare sweeping.command (cut_facts left)
@@ -134,7 +134,6 @@ pub record IsFound (sweeping : Sweeping) (turns : List Turn) (text : List ℕ) :
 pub record IsReport (board : Facts) (script : SweepScript) (part : Part) (text : List ℕ) : Type 0 where
   pub sweeping : Sweeping
   pub board_is : sweeping.board ≡ board
-  pub uncut : board.pending ≡ None
   pub prepare : AreTurns script.prepare.items sweeping.prepare
   pub command : sweeping.command ≡ script.command
   pub probe : AreTurns script.probe.items sweeping.probe

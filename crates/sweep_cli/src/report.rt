@@ -1,6 +1,7 @@
 //! The report of a sweep.
-ghost use Rattle.std.specs.Prelude.{◌≡◌, ◌≢◌, ◌≤◌, ◌<◌, ◌++◌, ◌∷◌, [], None, OnOk, IfOk, IfErr};
-ghost use Rattle.std.specs.Prelude.{codes};
+ghost use Rattle.std.specs.Prelude.{◌≡◌, ◌≢◌, ◌≤◌, ◌<◌, ◌++◌, ◌∷◌, [], None, OnOk, OnErr, IfOk, IfErr};
+ghost use Rattle.std.specs.Prelude.{codes, take, ℕ};
+ghost use Rattle.std.specs.Io.KnownBytes.{Appends};
 ghost use Rattle.nvm_board.specs.Cut.{cut_facts};
 ghost use Rattle.command_base.specs.Finding.{HasCard};
 ghost use Rattle.card_bench.specs.Masks.{mask_count_of};
@@ -9,6 +10,7 @@ ghost use Rattle.sweep_cli.specs.ReportParts.{AddsText, AddsMaskText, sweeping_o
 ghost use Rattle.sweep_cli.specs.Printing.{number_text};
 ghost use Rattle.sweep_cli.specs.Reporting.{AreResults, AreStarts, AreWrites, IsCutOrNone, IsFound};
 ghost use Rattle.sweep_cli.specs.Reporting.{IsReport, IsWriteIf, WritesReport};
+ghost use Rattle.sweep_cli.specs.SweepEndings.{SweepStopsBy};
 
 use crate::fault::SweepFault;
 use crate::lines::{push_cut, push_number, push_results, push_trace};
@@ -206,7 +208,7 @@ fn swept(
 /// Reads a sweep script, sweeps on copies of the board, and then writes the report.
 ///
 /// # Errors
-/// `BadLine`, `Read` and `Memory` before anything is written, `Write` if the writer fails.
+/// `BadLine`, `Read` and `Memory` before anything is written, `Write` if the writer fails, or takes nothing.
 pub fn report<R: BufRead, W: Write>(
     alloc: Global,
     board: &CutBoard,
@@ -220,12 +222,34 @@ pub fn report<R: BufRead, W: Write>(
     // The text is the report of a sweep of the script that was read.
     ensures told { OnOk result (WritesReport (cut_facts board.now) (R.remaining reader.old) (R.remaining reader.new)
         part (W.contents writer.old) (W.contents writer.new)) }
+    // A bad line is the first one. `Read` occurs within a line. At `Write` the first bytes of the report are written.
+    ensures stopped { IfErr result (λ fault. SweepStopsBy (cut_facts board.now) part fault
+        (R.remaining reader.old) (R.remaining reader.new) (W.contents writer.old) (W.contents writer.new)) }
     ensures unwritten { IfErr result (λ fault. fault ≢ SweepFault.Write
         → W.contents writer.new ≡ W.contents writer.old) }
 {
     let script = read_script(alloc, reader)?;
     let text = swept(alloc, board, &script, part, progress)?;
-    match writer.write_all(&text) {
+    write_text(writer, &text)?;
+    Ok(())
+}
+
+/// Writes the whole text, and flushes.
+fn write_text<W: Write>(writer: &mut W, text: &[u8]) -> Result<(), SweepFault>
+    ensures wrote { OnOk result (Appends (W.contents writer.old) (W.contents writer.new) text.now) }
+    ensures began { OnErr result
+        ((size : ℕ) × Appends (W.contents writer.old) (W.contents writer.new) (take size text.now)) }
+    ensures fault { IfErr result (λ fault. fault ≡ SweepFault.Write) }
+{
+    // `write_all` doesn't say what it wrote before it failed.
+    let mut written = 0;
+    while written < text.len() {
+        match writer.write(&text[written..]) {
+            Ok(0) | Err(_) => return Err(SweepFault::Write),
+            Ok(count) => written += count,
+        }
+    }
+    match writer.flush() {
         Ok(()) => Ok(()),
         Err(_) => Err(SweepFault::Write),
     }

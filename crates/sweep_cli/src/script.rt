@@ -1,10 +1,11 @@
 //! A sweep script: the preparation, the command that is cut, and the probe.
-ghost use Rattle.std.specs.Prelude.{◌≡◌, ◌≤◌, ◌++◌, ◌∷◌, [], length, None, Some, true, IfOk, IfSome, IfNone};
-ghost use Rattle.std.specs.Prelude.{MatchResult, OnOk};
+ghost use Rattle.std.specs.Prelude.{◌≡◌, ◌≤◌, ◌++◌, ◌∷◌, [], length, None, Some, true, false};
+ghost use Rattle.std.specs.Prelude.{IfErr, IfNone, IfOk, IfSome, MatchResult, OnOk};
 ghost use Rattle.bench_lines.specs.OrderViews.{order_with};
 ghost use Rattle.bench_lines.specs.Orders.{IsOrderSized};
 ghost use Rattle.sweep_cli.specs.Asking.{IsRead, adds, asked_of, begins_command, begins_probe, is_whole, sends};
 ghost use Rattle.sweep_cli.specs.Asking.{sets_depth, take_line, takes, unasked};
+ghost use Rattle.sweep_cli.specs.SweepEndings.{ReadingStopsBy};
 
 use crate::fault::{LineError, SweepFault};
 use crate::frames::{push_command, push_exchange};
@@ -18,8 +19,10 @@ use std::io::BufRead;
 pub enum Section {
     /// The lines before the mark of the command. They prepare the card.
     Prepare,
-    /// The lines after the mark of the command; and whether they had the command.
-    Command(bool),
+    /// The lines after the mark of the command, up to the command.
+    Command,
+    /// The lines after the command.
+    AfterCommand,
     /// The lines after the mark of the probe. They look at the card.
     Probe,
 }
@@ -88,10 +91,10 @@ impl SweepScript {
     {
         match self.section {
             Section::Prepare => {
-                self.section = Section::Command(false);
+                self.section = Section::Command;
                 Ok(())
             }
-            Section::Command(_) | Section::Probe => Err(LineError::WrongMark),
+            Section::Command | Section::AfterCommand | Section::Probe => Err(LineError::WrongMark),
         }
     }
 
@@ -102,11 +105,11 @@ impl SweepScript {
             (λ _. begins_probe (asked_of self.old) self.old.section ≡ None) }
     {
         match self.section {
-            Section::Command(true) => {
+            Section::AfterCommand => {
                 self.section = Section::Probe;
                 Ok(())
             }
-            Section::Command(false) => Err(LineError::NoCommand),
+            Section::Command => Err(LineError::NoCommand),
             Section::Prepare | Section::Probe => Err(LineError::WrongMark),
         }
     }
@@ -160,7 +163,7 @@ impl SweepScript {
         match self.section {
             Section::Prepare => self.prepare.push(step)?,
             Section::Probe => self.probe.push(step)?,
-            Section::Command(_) => return Ok(Err(LineError::NoCommand)),
+            Section::Command | Section::AfterCommand => return Ok(Err(LineError::NoCommand)),
         }
         Ok(Ok(()))
     }
@@ -175,21 +178,24 @@ impl SweepScript {
         match self.section {
             Section::Prepare => push_exchange(alloc, command, &mut self.prepare)?,
             Section::Probe => push_exchange(alloc, command, &mut self.probe)?,
-            Section::Command(false) => {
+            Section::Command => {
                 self.command = push_command(alloc, command, &mut self.prepare)?;
-                self.section = Section::Command(true);
+                self.section = Section::AfterCommand;
             }
-            Section::Command(true) => return Ok(Err(LineError::NoCommand)),
+            Section::AfterCommand => return Ok(Err(LineError::NoCommand)),
         }
         Ok(Ok(()))
     }
 
     /// Returns what is missing at the end of the script.
     fn missing(&self) -> Option<LineError>
-        ensures { IfNone result (is_whole (asked_of self.now) self.now.section self.now.probe.items ≡ true) }
+        ensures whole { IfNone result (is_whole self.now.section self.now.probe.items ≡ true) }
+        ensures missing { IfSome result (λ _. is_whole self.now.section self.now.probe.items ≡ false) }
     {
         match self.section {
-            Section::Prepare | Section::Command(_) => Some(LineError::NoCommand),
+            Section::Prepare | Section::Command | Section::AfterCommand => Some(
+                LineError::NoCommand,
+            ),
             Section::Probe => {
                 if self.probe.is_empty() {
                     Some(LineError::NoProbe)
@@ -207,7 +213,9 @@ impl SweepScript {
 /// `BadLine` at the first bad line, or at the last line if something is missing; `Read` if the reader fails, or the
 /// script has more than 16,777,216 bytes; `Memory`.
 pub fn read_script<R: BufRead>(alloc: Global, reader: &mut R) -> Result<SweepScript, SweepFault>
-    ensures { IfOk result (λ script. IsRead (R.remaining reader.old) (R.remaining reader.new) (asked_of script)) }
+    ensures read { IfOk result (λ script. IsRead (R.remaining reader.old) (R.remaining reader.new) (asked_of script)) }
+    ensures stopped { IfErr result (λ fault.
+        ReadingStopsBy fault (R.remaining reader.old) (R.remaining reader.new)) }
 {
     let mut script = SweepScript::new(alloc)?;
     let mut line = LineBytes::new();
@@ -234,8 +242,10 @@ pub fn read_script<R: BufRead>(alloc: Global, reader: &mut R) -> Result<SweepScr
 
 /// Returns the script, if nothing is missing at its end.
 fn finished(script: SweepScript, number: u32) -> Result<SweepScript, SweepFault>
-    ensures { IfOk result (λ whole. (asked_of whole ≡ asked_of script)
-        × (is_whole (asked_of whole) whole.section whole.probe.items ≡ true)) }
+    ensures whole { IfOk result (λ whole. (asked_of whole ≡ asked_of script)
+        × (is_whole whole.section whole.probe.items ≡ true)) }
+    ensures missing { IfErr result (λ fault. (error : LineError) × (fault ≡ SweepFault.BadLine number error)
+        × (is_whole script.section script.probe.items ≡ false)) }
 {
     match script.missing() {
         Some(error) => Err(SweepFault::BadLine(number, error)),

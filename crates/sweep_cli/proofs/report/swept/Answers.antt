@@ -14,7 +14,6 @@ returns g c =
     record {
       sweeping = _;
       board_is = refl;
-      uncut = c.requires.uncut;
       prepare = are-turns-same _ _ _ _ c.deref-2.ensures.value c.deref-4.ensures.value c.in_ok-prepare.ensures;
       command = c.as_slice-2.ensures;
       probe = are-turns-same _ _ _ _ c.deref-3.ensures.value c.deref-5.ensures.value c.in_ok-probe.ensures;
