@@ -2,6 +2,8 @@ pub mod Turning
 pub mod Framing
 pub mod Asking
 pub mod Printing
+pub mod CommandLineParts
+pub mod ExitStatuses
 pub mod Reporting
 pub mod SweepEndings
 pub mod ReportParts

@@ -12,21 +12,12 @@ use Rattle.card_bench.specs.Masks.{mask_of, mask_count_of, words_tried}
 use Rattle.card_bench.specs.Sweeps.{CutsCommand, PlaysOn}
 use Rattle.card_bench.specs.SweptRuns.{AreAllBehind, SparesCommand}
 use Rattle.card_bench.specs.Tallies.{CountsRuns, IsTally}
-use Rattle.sweep_cli.specs.declared.fault.SweepFault.{SweepFault}
-use Rattle.sweep_cli.specs.declared.fault.SweepFault.TheVariants.{BadLine, Read, Write, Memory}
 use Rattle.sweep_cli.specs.declared.parts.Part.{Part}
 use Rattle.sweep_cli.specs.declared.script.SweepScript.{SweepScript}
 use Rattle.sweep_cli.specs.declared.steps.Step.TheVariants.{Block}
 use Rattle.sweep_cli.specs.Asking.{IsRead, asked_of}
 use Rattle.sweep_cli.specs.Printing.{cut_text, items_text, number_text, results_text}
 use Rattle.sweep_cli.specs.Turning.{AreTurns}
-
--- the exit status that reports a fault
-abbrev pub exit_status_of : SweepFault → ℕ
-exit_status_of (BadLine number error) = 2
-exit_status_of Read = 3
-exit_status_of Write = 4
-exit_status_of Memory = 5
 
 -- A cut is of a part. The cuts are dealt out in turn, by write and mask.
 abbrev pub IsOfPart : Part → ℕ → ℕ → Type 0

@@ -1,4 +1,5 @@
-//! Why a script is not swept.
+//! Why the program has no report.
+use crate::swept_board::BoardFault;
 use std::alloc::AllocError;
 use thiserror::Error;
 
@@ -55,7 +56,7 @@ impl From<AllocError> for SweepFault {
 
 impl SweepFault {
     ghost use Rattle.std.specs.Prelude.{◌≡◌};
-    ghost use Rattle.sweep_cli.specs.Reporting.{exit_status_of};
+    ghost use Rattle.sweep_cli.specs.ExitStatuses.{exit_status_of};
 
     /// Returns the exit status that reports it: 2 to 5.
     pub fn status(&self) -> u8
@@ -66,6 +67,48 @@ impl SweepFault {
             SweepFault::Read => 3,
             SweepFault::Write => 4,
             SweepFault::Memory => 5,
+        }
+    }
+}
+
+/// Why the program has no report.
+#[derive(Debug, Drop, Error)]
+pub enum ProgramFault {
+    /// The command line has an unknown word, or lacks a path.
+    #[error("usage: sweep_cli [--card FILE] [I/N] < SCRIPT")]
+    Usage,
+    /// There is no board to sweep.
+    #[error("error card: {0}")]
+    NoBoard(BoardFault),
+    /// The script is not swept, or its report isn't written.
+    #[error("{0}")]
+    NoReport(SweepFault),
+}
+
+impl From<BoardFault> for ProgramFault {
+    fn from(fault: BoardFault) -> ProgramFault {
+        ProgramFault::NoBoard(fault)
+    }
+}
+
+impl From<SweepFault> for ProgramFault {
+    fn from(fault: SweepFault) -> ProgramFault {
+        ProgramFault::NoReport(fault)
+    }
+}
+
+impl ProgramFault {
+    ghost use Rattle.std.specs.Prelude.{◌≡◌};
+    ghost use Rattle.sweep_cli.specs.ExitStatuses.{program_status_of};
+
+    /// Returns the exit status that reports it: 1 to 6.
+    pub fn status(&self) -> u8
+        ensures { result ≡ program_status_of self.now }
+    {
+        match self {
+            ProgramFault::Usage => 1,
+            ProgramFault::NoBoard(fault) => fault.status(),
+            ProgramFault::NoReport(fault) => fault.status(),
         }
     }
 }

@@ -2,6 +2,9 @@
 //! With `--card FILE` it sweeps the card in FILE, which it only reads. With `I/N` it tries part I of N of the cuts.
 #![tactic(auto)]
 
+ghost use Rattle.std.specs.Prelude.{◌≡◌, MatchResult};
+ghost use Rattle.sweep_cli.specs.ExitStatuses.{program_status_of};
+
 mod fault;
 mod frames;
 mod lines;
@@ -12,7 +15,7 @@ mod script;
 mod steps;
 mod swept_board;
 
-use fault::SweepFault;
+use fault::{ProgramFault, SweepFault};
 use options::{Options, read_words};
 use report::report;
 use std::env;
@@ -20,45 +23,47 @@ use std::io::{self, BufReader, ErrorKind};
 use std::process::ExitCode;
 use swept_board::swept_board;
 
-/// The exit status for unknown words on the command line.
-const USAGE: u8 = 1;
-
-/// Returns what the command line asks for, or the exit status.
-fn asked(rt: &HostRuntime) -> Result<Options, u8> {
+/// Returns what the command line asks for.
+fn asked(rt: &HostRuntime) -> Result<Options, ProgramFault> {
     match env::args(rt) {
         Ok(mut words) => {
             let _program = words.next();
-            read_words(words).ok_or(USAGE)
+            read_words(words).ok_or(ProgramFault::Usage)
         }
-        Err(error) if error.kind() == ErrorKind::OutOfMemory => Err(SweepFault::Memory.status()),
-        Err(_) => Err(USAGE),
+        Err(error) if error.kind() == ErrorKind::OutOfMemory => {
+            Err(ProgramFault::NoReport(SweepFault::Memory))
+        }
+        Err(_) => Err(ProgramFault::Usage),
     }
 }
 
-/// Sweeps, and returns the exit status.
-/// Standard error names the fault; the status reports it even if standard error fails.
-fn sweep_card(rt: &HostRuntime, options: &Options) -> u8 {
-    let board = match swept_board(rt, options.card.as_deref()) {
-        Ok(board) => board,
-        Err(fault) => {
-            let _ = rt.eprintln(format_args!("error card: {fault}"));
-            return fault.status();
-        }
-    };
+/// Sweeps the card that the command line names, by the script from standard input.
+fn sweep_card(rt: &HostRuntime) -> Result<(), ProgramFault> {
+    let options = asked(rt)?;
+    let board = swept_board(rt, options.card.as_deref())?;
     let Ok(mut reader) = BufReader::new(rt.alloc(), rt.reader()) else {
-        return SweepFault::Memory.status();
+        return Err(ProgramFault::NoReport(SweepFault::Memory));
     };
-    match report(
+    report(
         rt.alloc(),
         &board,
         options.part,
         &mut reader,
         &mut io::writer(rt),
         rt,
-    ) {
+    )?;
+    Ok(())
+}
+
+/// Returns the exit status: 0, or that of the fault, which it names on standard error.
+fn status_at_end(rt: &impl Eprint, ended: &Result<(), ProgramFault>) -> u8
+    ensures { MatchResult ended.now (λ _. result ≡ 0) (λ fault. result ≡ program_status_of fault) }
+{
+    match ended {
         Ok(()) => 0,
         Err(fault) => {
-            let _ = rt.eprintln(&fault);
+            // The exit status reports the fault even if standard error fails.
+            let _ = rt.eprintln(fault);
             fault.status()
         }
     }
@@ -66,13 +71,6 @@ fn sweep_card(rt: &HostRuntime, options: &Options) -> u8 {
 
 /// Sweeps the script from standard input. The exit status is 0, or that of the fault.
 fn main(rt: HostRuntime) -> ExitCode {
-    match asked(&rt) {
-        Ok(options) => ExitCode::from(sweep_card(&rt, &options)),
-        Err(status) => {
-            if status == USAGE {
-                let _ = rt.eprintln(&"usage: sweep_cli [--card FILE] [I/N] < SCRIPT");
-            }
-            ExitCode::from(status)
-        }
-    }
+    let ended = sweep_card(&rt);
+    ExitCode::from(status_at_end(&rt, &ended))
 }

@@ -10,7 +10,8 @@ pub struct Part {
 }
 
 impl Part {
-    ghost use Rattle.std.specs.Prelude.{◌≡◌, ◌↔◌, IsTrue};
+    ghost use Rattle.std.specs.Prelude.{◌≡◌, ◌↔◌, ◌+◌, ℕ, IfNone, IfSome, IsTrue};
+    ghost use Rattle.sweep_cli.specs.CommandLineParts.{IsPartText};
     ghost use Rattle.sweep_cli.specs.Reporting.{IsOfPart};
 
     /// Returns the whole sweep.
@@ -21,7 +22,10 @@ impl Part {
     }
 
     /// Returns the part that a word as `2/4` names. It counts from 1.
-    pub fn parse(words: &str) -> Option<Part> {
+    pub fn parse(words: &str) -> Option<Part>
+        ensures part { IfSome result (λ part. IsPartText words.now (part.index + 1) part.of) }
+        ensures none { IfNone result ((number of : ℕ) → IsPartText words.now number of → ⊥) }
+    {
         let (number, of) = words.split_once('/')?;
         let number = number.parse::<u32>().ok()?;
         let of = of.parse::<u32>().ok()?;

@@ -44,8 +44,12 @@ impl From<AllocError> for BoardFault {
 }
 
 impl BoardFault {
+    ghost use Rattle.sweep_cli.specs.ExitStatuses.{board_status_of};
+
     /// Returns the exit status that reports it: 5 or 6.
-    pub fn status(&self) -> u8 {
+    pub fn status(&self) -> u8
+        ensures { result ≡ board_status_of self.now }
+    {
         match self {
             BoardFault::Memory => 5,
             BoardFault::Open(_)
