@@ -3,7 +3,7 @@ ghost use Rattle.std.specs.Prelude.{IfOk};
 ghost use Rattle.command_base.specs.Finding.{HasCard};
 ghost use Rattle.kept_board.specs.Kept.{kept_facts};
 
-use crate::kept_file::{KeptFile, PAGE_BYTES};
+use crate::kept_file::{CardBoard, KeptFile, PAGE_BYTES};
 use crate::options::CardOptions;
 use card_bench::{NoCard, factory_board_of, image_board};
 use kept_board::KeptBoard;
@@ -39,7 +39,7 @@ pub enum CardFault {
 }
 
 /// Returns the card in the file, or the factory card in a new file.
-pub fn open_card(rt: &HostRuntime, options: &CardOptions) -> Result<KeptBoard<KeptFile>, CardFault>
+pub fn open_card(rt: &HostRuntime, options: &CardOptions) -> Result<CardBoard, CardFault>
     ensures { IfOk result (λ board. HasCard (kept_facts board).words) }
 {
     let path = options.path.as_str();
@@ -55,7 +55,7 @@ fn read_card(
     alloc: Global,
     mut file: File,
     options: &CardOptions,
-) -> Result<KeptBoard<KeptFile>, CardFault>
+) -> Result<CardBoard, CardFault>
     ensures { IfOk result (λ board. HasCard (kept_facts board).words) }
 {
     lock(&file)?;
@@ -66,7 +66,10 @@ fn read_card(
     check_size(size, options)?;
     let words = words_in(alloc, &mut file, size)?;
     match image_board(alloc, words) {
-        Ok(board) => Ok(KeptBoard::new(board, KeptFile::new(file, size, options.sync))),
+        Ok(board) => {
+            let file = KeptFile::new(file, size, options.sync);
+            Ok(KeptBoard::new(board, Some(file)))
+        }
         Err(NoCard::Memory) => Err(CardFault::Memory),
         Err(NoCard::Size) => Err(CardFault::Size(size)),
         Err(NoCard::Start(_)) => Err(CardFault::NoCard),
@@ -75,7 +78,7 @@ fn read_card(
 
 /// Makes a file with the factory card, whole or not at all.
 /// It is written under another name first, and renamed once the disk has it.
-fn make_card(rt: &HostRuntime, options: &CardOptions) -> Result<KeptBoard<KeptFile>, CardFault>
+fn make_card(rt: &HostRuntime, options: &CardOptions) -> Result<CardBoard, CardFault>
     ensures { IfOk result (λ board. HasCard (kept_facts board).words) }
 {
     let pages = options.new_pages();
@@ -106,7 +109,8 @@ fn make_card(rt: &HostRuntime, options: &CardOptions) -> Result<KeptBoard<KeptFi
         return Err(CardFault::Make(error));
     }
     let size = (PAGE_BYTES * usize::from(pages)) as u64;
-    Ok(KeptBoard::new(board, KeptFile::new(file, size, options.sync)))
+    let file = KeptFile::new(file, size, options.sync);
+    Ok(KeptBoard::new(board, Some(file)))
 }
 
 /// Writes a board's words to the new file, and renames it once the disk has them.

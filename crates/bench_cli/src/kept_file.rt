@@ -2,7 +2,7 @@
 ghost use Rattle.std.specs.Prelude.{◌≤◌, length};
 ghost use Rattle.nvm_board.specs.declared.board.TheConstants.{PAGE_WORDS};
 
-use kept_board::Follower;
+use kept_board::{Follower, KeptBoard};
 use nvm_board::PAGE_WORDS;
 use std::fs::File;
 use std::os::unix::fs::{FileExt, MetadataExt};
@@ -36,6 +36,10 @@ impl KeptFile {
         }
     }
 }
+
+/// The board of a card in a file, or of one in memory alone.
+// Both have one type: the compiler would make a copy of all that runs a script for each of two.
+pub type CardBoard = KeptBoard<KeptFile>;
 
 impl Follower for KeptFile {
     fn take(&mut self, at: usize, words: &[u32]) -> bool {

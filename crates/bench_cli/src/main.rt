@@ -2,15 +2,19 @@
 //! With `--card FILE` it runs the script on the card in FILE.
 #![tactic(auto)]
 
-ghost use Rattle.std.specs.Prelude.{◌≡◌, MatchResult};
+ghost use Rattle.std.specs.Prelude.{◌≡◌, MatchResult, IfOk};
+ghost use Rattle.command_base.specs.Finding.{HasCard};
+ghost use Rattle.kept_board.specs.Kept.{kept_facts};
 ghost use Rattle.card_bench.specs.Faults.{status_of};
 
 mod card_file;
 mod kept_file;
 mod options;
 
-use card_bench::{RunFault, run, run_on};
+use card_bench::{RunFault, factory_board, run_on};
 use card_file::{CardFault, open_card};
+use kept_board::KeptBoard;
+use kept_file::CardBoard;
 use options::{Asked, read_words};
 use std::env;
 use std::io::{self, BufReader, ErrorKind};
@@ -59,6 +63,31 @@ fn asked(rt: &HostRuntime) -> Result<Asked, RunFault> {
     }
 }
 
+/// Why there is no card to run a script on.
+enum NoBoard {
+    /// The run fails before it reads a line.
+    Run(RunFault),
+    /// The file is not taken as a card's.
+    Card(CardFault),
+}
+
+/// Returns the board with the card that the command line asks for.
+fn board_of(rt: &HostRuntime, asked: Asked) -> Result<CardBoard, NoBoard>
+    ensures { IfOk result (λ board. HasCard (kept_facts board).words) }
+{
+    match asked {
+        Asked::Factory => match factory_board(rt.alloc()) {
+            Ok(board) => Ok(KeptBoard::new(board, None)),
+            Err(_) => Err(NoBoard::Run(RunFault::Memory)),
+        },
+        Asked::Unknown => Err(NoBoard::Card(CardFault::Usage)),
+        Asked::Card(options) => match open_card(rt, &options) {
+            Ok(board) => Ok(board),
+            Err(fault) => Err(NoBoard::Card(fault)),
+        },
+    }
+}
+
 /// Runs the script from standard input. The exit status is 0, or that of the fault.
 fn main(rt: HostRuntime) -> ExitCode {
     let Ok(mut reader) = BufReader::new(rt.alloc(), rt.reader()) else {
@@ -66,11 +95,10 @@ fn main(rt: HostRuntime) -> ExitCode {
     };
     let ran = match asked(&rt) {
         Err(fault) => Err(fault),
-        Ok(Asked::Factory) => run(rt.alloc(), &mut reader, &mut io::writer(&rt)),
-        Ok(Asked::Unknown) => return refuse(&rt, &CardFault::Usage),
-        Ok(Asked::Card(options)) => match open_card(&rt, &options) {
+        Ok(asked) => match board_of(&rt, asked) {
             Ok(board) => run_on(board, &mut reader, &mut io::writer(&rt)),
-            Err(fault) => return refuse(&rt, &fault),
+            Err(NoBoard::Run(fault)) => Err(fault),
+            Err(NoBoard::Card(fault)) => return refuse(&rt, &fault),
         },
     };
     ExitCode::from(status_at_end(&rt, &ran))

@@ -11,6 +11,11 @@ abbrev pub and_run : Option (List Run) → Run → Option (List Run)
 and_run None run = None
 and_run (Some runs) run = Some (runs ++ run ∷ [])
 
+-- the runs that a follower was handed, where there is one and they are known
+abbrev pub handed_to : {F : Type 0} → (F → Option (List Run)) → Option F → Option (List Run)
+handed_to handed None = None
+handed_to handed (Some follower) = handed follower
+
 -- the run that a write of some words, from an address on, leaves in a memory
 abbrev pub run_in : List ℕ → ℕ → ℕ → Run
 run_in words at size = record { at = at; words = slice_range words at (at + size) }

@@ -7,23 +7,23 @@ use crate::followed::Followed;
 use crate::follower::Follower;
 use nvm_board::{Armed, Board, CutBoard, DeviceErr, Faultless, PAGE_WORDS, Socket, WornOut};
 
-/// A board in working memory that can be cut. Its follower is handed the words of each device write, once, in order, as
-/// the write left them: of a torn one too. A follower that fails changes nothing of the board, and is handed nothing
-/// more.
+/// A board in working memory that can be cut, and its follower, if it has one. The follower is handed the words of each
+/// device write, once, in order, as the write left them: of a torn one too. A follower that fails changes nothing of the
+/// board, and is handed nothing more.
 #[derive(Drop)]
 pub struct KeptBoard<F: Follower> {
     cut: CutBoard,
-    follower: F,
+    follower: Option<F>,
     follows: bool,
 }
 
 impl<F: Follower> KeptBoard<F> {
     ghost use Rattle.std.specs.Prelude.{true};
-    ghost use Rattle.kept_board.specs.Handed.{HandsOn};
+    ghost use Rattle.kept_board.specs.Handed.{HandsOn, handed_to};
     ghost use Rattle.kept_board.specs.Kept.{kept_facts};
 
-    /// The board, and a follower that has its words already.
-    pub fn new(cut: CutBoard, follower: F) -> KeptBoard<F>
+    /// The board, and a follower that has its words already, or none.
+    pub fn new(cut: CutBoard, follower: Option<F>) -> KeptBoard<F>
         ensures facts { kept_facts result ≡ cut_facts cut }
         ensures follower { result.follower ≡ follower }
         ensures follows { result.follows ≡ true }
@@ -35,16 +35,20 @@ impl<F: Follower> KeptBoard<F> {
         }
     }
 
-    /// Hands on the words of a write.
+    /// Hands on the words of a write. It isn't inlined, so that a board without a follower doesn't pay for it.
+    #[inline(never)]
     fn hand_on(&mut self, at: usize, size: usize)
         requires size { size ≤ PAGE_WORDS }
         requires within { at + size ≤ length (cut_facts self.old.cut).words }
         ensures cut { self.new.cut ≡ self.old.cut }
         ensures handed { HandsOn self.old.follows at size (cut_facts self.old.cut).words
-            (F.handed self.old.follower) (F.handed self.new.follower) }
+            (handed_to F.handed self.old.follower) (handed_to F.handed self.new.follower) }
     {
-        if self.follows {
-            self.follows = self.follower.take(at, &self.cut.words()[at..at + size]);
+        if !self.follows {
+            return;
+        }
+        if let Some(follower) = &mut self.follower {
+            self.follows = follower.take(at, &self.cut.words()[at..at + size]);
         }
     }
 }
@@ -56,7 +60,7 @@ impl<F: Follower> Board for KeptBoard<F> {
     ghost use Rattle.nvm_board.specs.Facts.{address};
     ghost use Rattle.nvm_board.specs.Cut.{cut_facts, WritesOrTears};
     ghost use Rattle.nvm_board.specs.laws.Counts.{cut_is_board};
-    ghost use Rattle.kept_board.specs.Handed.{HandsOn};
+    ghost use Rattle.kept_board.specs.Handed.{HandsOn, handed_to};
     ghost use Rattle.kept_board.specs.Kept.{kept_facts};
 
     ghost facts = { kept_facts };
@@ -77,9 +81,13 @@ impl<F: Follower> Board for KeptBoard<F> {
         requires { FitsPage page first words.now (cut_facts self.old.cut) }
         ensures writes { WritesOrTears (address page first) words.now self.old.cut self.new.cut result }
         ensures handed { HandsOn self.old.follows (address page first) (length words.now)
-            (cut_facts self.new.cut).words (F.handed self.old.follower) (F.handed self.new.follower) }
+            (cut_facts self.new.cut).words (handed_to F.handed self.old.follower)
+            (handed_to F.handed self.new.follower) }
     {
         let result = self.cut.write(page, first, words);
+        if self.follower.is_none() {
+            return result;
+        }
         let at = usize::from(PAGE_WORDS) * usize::from(page) + usize::from(first);
         self.hand_on(at, words.len());
         result

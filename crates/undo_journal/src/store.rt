@@ -183,6 +183,7 @@ impl<B: Board> Store<B> {
     ///
     /// # Errors
     /// The store's failure: power was lost, or the device failed, in this call or in an earlier one.
+    #[inline(always)]
     pub fn write_plain(&mut self, page: u16, first: u8, words: &[u32]) -> Result<(), StoreErr>
         requires idle { IsIdle self.old }
         requires some { 0 < length words.now }
