@@ -1,1 +1,2 @@
 pub mod TagParts
+pub mod ObjectParts

@@ -1,7 +1,8 @@
 //! Data objects, and the templates that consist of them.
 
-ghost use Rattle.std.specs.Prelude.{◌≡◌, ℕ, List, [], ◌++◌, ◌≤◌, length, IfSome, IfNone};
-ghost use Rattle.card_model.specs.TemplateGrammar.{DataObject, object_text, objects_text, IsTemplate};
+ghost use Rattle.std.specs.Prelude.{◌≡◌, ℕ, List, [], ◌++◌, ◌<◌, length, IfSome, IfNone};
+ghost use Rattle.card_model.specs.TemplateGrammar.{DataObject, object_text, objects_text};
+ghost use Rattle.fcp_template.specs.ObjectParts.{IsBody};
 
 use crate::tag::TEMPLATE;
 use arrayvec::ArrayVec;
@@ -51,15 +52,18 @@ impl Default for Object<'_> {
 pub(crate) const BODY_LIMIT: usize = 127;
 
 /// The most objects of a template: each has at least two bytes.
-const MOST_OBJECTS: usize = BODY_LIMIT / 2;
+pub(crate) const MOST_OBJECTS: usize = BODY_LIMIT / 2;
 
-/// The objects of a template.
-pub(crate) type Objects<'a> = ArrayVec<Object<'a>, MOST_OBJECTS>;
+/// The number of tags of the table. A template with more objects is refused, whatever they are.
+pub(crate) const FEW_OBJECTS: usize = 10;
 
-/// Returns the objects of a text, if it is a template.
-pub(crate) fn objects_of(text: &[u8]) -> Option<Objects<'_>>
-    ensures template { IfSome result (λ os. IsTemplate text.now os.items) }
-    ensures none { IfNone result ((os : List DataObject) → IsTemplate text.now os → ⊥) }
+/// At most N objects of a template.
+pub(crate) type Objects<'a, const N: usize> = ArrayVec<Object<'a>, N>;
+
+/// Returns the bytes of the objects in a text, if its tag and its length are those of a template.
+pub(crate) fn body_of(text: &[u8]) -> Option<&[u8]>
+    ensures body { IfSome result (λ body. IsBody text.now body.now) }
+    ensures none { IfNone result ((body : List ℕ) → IsBody text.now body → ⊥) }
 {
     let [TEMPLATE, length, body @ ..] = text else {
         return None;
@@ -67,18 +71,20 @@ pub(crate) fn objects_of(text: &[u8]) -> Option<Objects<'_>>
     if body.len() != usize::from(*length) || body.len() > BODY_LIMIT {
         return None;
     }
-    split(body)
+    Some(body)
 }
 
-/// Returns the objects that fill the bytes exactly, if any do.
-fn split(bytes: &[u8]) -> Option<Objects<'_>>
-    requires { length bytes.now ≤ 0x7F }
+/// Returns the objects that fill the bytes exactly, if any do, and if they are at most N.
+pub(crate) fn split<const N: usize>(bytes: &[u8]) -> Option<Objects<'_, N>>
     ensures filled { IfSome result (λ os. bytes.now ≡ objects_text os.items) }
-    ensures none { IfNone result ((os : List DataObject) → bytes.now ≡ objects_text os → ⊥) }
+    ensures none { IfNone result ((os : List DataObject) → bytes.now ≡ objects_text os → N < length os) }
 {
     let mut objects = Objects::new();
     let mut rest = bytes;
     while !rest.is_empty() {
+        if objects.is_full() {
+            return None;
+        }
         let (object, after) = split_first(rest)?;
         objects.push(object);
         rest = after;

@@ -1,9 +1,11 @@
 //! Reads templates.
 
-ghost use Rattle.std.specs.Prelude.{◌≡◌, ◌≢◌, ◌%◌, ◌==◌, ◌&&◌, ◌||◌, Result, IfOk, IfSome, is_some, nat_le, not};
+ghost use Rattle.std.specs.Prelude.{◌≡◌, ◌≢◌, ◌≤◌, ◌%◌, ◌==◌, ◌&&◌, ◌||◌, Result, IfOk, IfSome, is_some, length};
+ghost use Rattle.std.specs.Prelude.{nat_le, not};
 ghost use Rattle.std.specs.Option.{option_copied};
 ghost use Rattle.card_model.specs.declared.fault.FcpFault.{FcpFault};
 ghost use Rattle.card_state.specs.declared.fcp.Fcp.{Fcp};
+ghost use Rattle.fcp_template.specs.ObjectParts.{BodyReads};
 ghost use Rattle.fcp_template.specs.TagParts.{tag_byte};
 ghost use Rattle.card_model.specs.TemplateGrammar.{is_tag, identifier_of, name_read, short_read, number_read, size_of};
 ghost use Rattle.card_model.specs.TemplateGrammar.{records_read, life_cycle_of, rule_read, descriptor_of, has};
@@ -16,7 +18,7 @@ ghost use Rattle.card_state.specs.FileControl.{IsShort, IsSize, IsDfName, IsReco
 ghost use Rattle.card_state.specs.declared.life_cycle.LifeCycle.TheVariants.{Terminated};
 
 use crate::descriptor::{DF, SHAREABLE_DF, descriptor_of};
-use crate::object::{Object, objects_of};
+use crate::object::{FEW_OBJECTS, MOST_OBJECTS, Object, body_of, split};
 use crate::tag::{Tag, is_tag};
 use card_model::{Descriptor, FcpFault, Structure};
 use card_state::identifiers::{CURRENT_FILE, MASTER_FILE, RESERVED};
@@ -42,7 +44,33 @@ pub fn parse(text: &[u8]) -> Result<Fcp<'_>, FcpFault>
     // The same, as a function of the definitions.
     ensures value { result ≡ fcp_read text.now }
 {
-    match objects_of(text) {
+    match body_of(text) {
+        Some(body) => parse_body(body),
+        None => Err(FcpFault::Shape),
+    }
+}
+
+/// Returns what the objects in bytes read as.
+fn parse_body(body: &[u8]) -> Result<Fcp<'_>, FcpFault>
+    requires { length body.now ≤ 0x7F }
+    ensures reads { BodyReads body.now result }
+    ensures ranges { IfOk result IsCreatable }
+{
+    match split::<FEW_OBJECTS>(body) {
+        Some(objects) => meaning(&objects),
+        None => parse_many(body),
+    }
+}
+
+/// Returns the same, however many the objects are.
+// It isn't inlined, so that a template of few objects doesn't pay for the places of all that may be.
+#[inline(never)]
+fn parse_many(body: &[u8]) -> Result<Fcp<'_>, FcpFault>
+    requires { length body.now ≤ 0x7F }
+    ensures reads { BodyReads body.now result }
+    ensures ranges { IfOk result IsCreatable }
+{
+    match split::<MOST_OBJECTS>(body) {
         Some(objects) => meaning(&objects),
         None => Err(FcpFault::Shape),
     }
