@@ -2,16 +2,20 @@
 use Rattle.std.proofs.Common.{◌≡◌, ◌≢◌, ◌⊎◌, ◌<◌, ◌≤◌, ◌+◌, ◌/◌, ◌%◌, ◌==◌, ◌&&◌, ℕ, Bool, true, false, not, nat_le}
 use Rattle.std.proofs.Common.{List, [], ◌∷◌, ◌-◌, length, length-append, length-set, length-take, take, slice_index}
 use Rattle.std.proofs.Common.{Some, None, if◌then◌else◌, sym, ◌∙◌, ap, arith, ⊎_elim}
+use Rattle.std.proofs.Math.Nat.{mod-lt}
 use Rattle.std.proofs.lemmas.Bool.{le-leb, leb-false}
 use Rattle.nvm_board.specs.Facts.{IsMemory}
 use Rattle.block_chain.specs.BlockWords.{page_words}
 use Rattle.block_chain.specs.laws.Words.{index-page_words}
-use Rattle.block_chain.specs.Chains.{chain_bytes}
+use Rattle.block_chain.specs.Chains.{chain_bytes, chain_of}
+use Rattle.block_chain.specs.laws.Bytes.{leads_blocks, length-bytes_of}
+use Rattle.card_state.specs.RecordLists.{record_of}
 use Rattle.ef_body.specs.declared.cyclic.Cyclic.{Cyclic as Ring}
 use Rattle.ef_body.specs.declared.slot.RecordSlot.{RecordSlot}
 use Rattle.ef_body.specs.Bodies.{cyclic_body_records, number_told, start_told, IsCyclic}
 use Rattle.ef_body.specs.Records.{linear_order, newest_first}
-use Rattle.ef_body.specs.laws.Lists.{in_order-ring, length-newest_first}
+use Rattle.ef_body.specs.laws.Lists.{at-newest_first, in_order-ring, length-newest_first}
+use Rattle.ef_body.specs.laws.Slots.{length-slot, slot-within}
 use Rattle.file_tree.specs.declared.entry.Entry.{Entry}
 use Rattle.card_state.specs.FileTrees.{Body, Kind, transparent, linear, cyclic, dedicated, elementary}
 use Rattle.file_tree.specs.Entries.{file_of, free_entry, entry_capacity, name_of}
@@ -210,6 +214,32 @@ has-slot slot = λ i. le-leb 1 slot.number slot.from_first i && le-leb slot.numb
 pub slot-few : (m : List ℕ) (slot : RecordSlot) → IsCyclic m slot.ring → slot.number ≤ 254
 slot-few m slot is =
     let few = count-few m slot.ring is in let last = slot.to_last in omega (arith, few, last)
+
+-- its bytes are as many as those of each slot
+pub slot-long : (m : List ℕ) (slot : RecordSlot) → IsMemory m → IsCyclic m slot.ring
+    → length (record_of (cyclic_body_records m slot.ring) slot.number) ≡ slot.ring.record_length
+slot-long m slot sized is =
+    let ring = slot.ring in
+    let size = ring.record_length in
+    let bytes = chain_bytes m ring.chain in
+    let start = start_told m ring.told_at in
+    let number = number_told m ring.told_at in
+    let few = is.slots.few in
+    let room = is.slots.room in
+    let most = is.number in
+    let first = is.start in
+    let told = is.told in
+    let from = slot.from_first in
+    let to = slot.to_last in
+    let there : slot.number - 1 < number = omega (arith, few, most, first, told, from, to) in
+    let place = (start + (slot.number - 1)) % ring.capacity in
+    let small : place < ring.capacity = mod-lt (omega (arith, room)) in
+    let long = length-bytes_of m (chain_of m ring.chain) sized
+    (leads_blocks m ring.chain.first 0 (chain_of m ring.chain) is.slots.chain.leads) in
+    let within = slot-within size place ring.capacity small in
+    let fits = is.slots.fits in
+    ap (λ (l : List ℕ). length l) (at-newest_first size ring.capacity bytes start number (slot.number - 1) [] there)
+    ∙ length-slot size bytes place (omega (arith, long, within, fits))
 
 -- as many records as there is room for
 pub replaced-fits : (m : List ℕ) (ring : Ring) → IsCyclic m ring → (wraps : Bool) (n : ℕ) (bytes : List ℕ)

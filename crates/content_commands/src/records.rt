@@ -87,12 +87,11 @@ pub fn read_record<B: Board>(
     let file = find_records(store, current, target, READING)?;
     let pointer = current.pointer_at(target);
     let slot = file.find_chosen(pointer, choice)?;
-    let mut bytes = ResponseData::new();
-    slot.read(store, &mut bytes)?;
-    if is_other_length(expected, &bytes) {
-        return Err(Stop::Refused(right_length(&bytes)));
+    let length = file.ring.record_length;
+    if is_other_length(expected, length) {
+        return Err(Stop::Refused(Sw::right_length(usize::from(length))));
     }
-    give(Some(expected), &bytes, answer);
+    slot.read(store, answer)?;
     let after = pointer_after(pointer, choice, slot.number);
     *current = current.pointing(target, file.number, after);
     Ok(Sw::DONE)
@@ -177,10 +176,10 @@ pub fn search_record<B: Board>(
 }
 
 /// Returns true if Le is neither 00 nor the record length.
-fn is_other_length(expected: u8, bytes: &ResponseData) -> bool
-    ensures { result ≡ (not (expected == 0) && not (expected == length bytes.now.items)) }
+fn is_other_length(expected: u8, record_length: u16) -> bool
+    ensures { result ≡ (not (expected == 0) && not (expected == record_length)) }
 {
-    expected != 0 && usize::from(expected) != bytes.len()
+    expected != 0 && u16::from(expected) != record_length
 }
 
 /// Returns the record pointer after a search: the first match, or unchanged.
