@@ -1,15 +1,16 @@
 -- The first free blocks, as they are filled one by one.
-use Rattle.std.proofs.Common.{◌≡◌, ◌+◌, ◌<◌, ◌≤◌, ℕ, List, length, slice_index, take, replicate, refl, sym, ◌∙◌, ap}
+use Rattle.std.proofs.Common.{◌≡◌, ◌+◌, ◌-◌, ◌<◌, ◌≤◌, ℕ, List, length, slice_index, take, replicate, refl, sym, ◌∙◌, ap}
 use Rattle.std.proofs.Common.{subst, inl, arith, get_or-take}
 use Rattle.std.proofs.lemmas.List.{length-replicate, length-take-le}
 use Rattle.nvm_board.specs.Facts.{address, IsMemory}
 use Rattle.nvm_board.specs.declared.board.TheConstants.{MOST_PAGES}
 use Rattle.nvm_board.specs.Torn.{Torn}
 use Rattle.nvm_board.specs.laws.Torn.{IsMixture-Torn}
-use Rattle.block_chain.specs.declared.layout.TheConstants.{BLOCK_WORDS}
+use Rattle.block_chain.specs.declared.chain.FreeRun.{FreeRun}
+use Rattle.block_chain.specs.declared.layout.TheConstants.{BLOCK_WORDS, FREE_HEAD}
 use Rattle.block_chain.specs.BlockWords.{link, IsBlock}
 use Rattle.block_chain.specs.Chains.{HasFree, free_chain}
-use Rattle.block_chain.specs.ChainChanges.{OnlyContent}
+use Rattle.block_chain.specs.ChainChanges.{IsFirstFree, OnlyContent}
 use Rattle.block_chain.specs.laws.Chains.{block_same, leads_block, leads_next, leads_small}
 use Rattle.block_chain.specs.laws.Filling.{fill_more}
 
@@ -55,3 +56,20 @@ module _ (m : List ℕ) (n : ℕ) (free : HasFree m) (sized_m : IsMemory m) (eno
       let next = next_to_fill after only in
       let small = leads_small m _ (free_chain m) (i + 1) sized_m free.leads in
       omega (arith, next, small)
+
+-- all of them, where there is one
+pub first_run : (m : List ℕ) (n : ℕ) (run : FreeRun) → HasFree m → IsMemory m → n ≤ length (free_chain m) → 1 ≤ n
+    → run.chain.first ≡ slice_index m FREE_HEAD → run.chain.last ≡ slice_index (free_chain m) (n - 1)
+    → run.rest ≡ slice_index (free_chain m) n → IsFirstFree m n run
+first_run m n run free sized enough some first last rest =
+    let ps = free_chain m in
+    let behind : n - 1 + 1 ≡ n = omega arith in
+    let within : n - 1 < length ps = omega (arith, some, enough) in
+    record {
+      first = first;
+      last = last;
+      block = subst (λ (q : ℕ). IsBlock m q) (sym last) (leads_block m _ 0 ps (n - 1) free.leads within);
+      after = rest ∙ ap (λ (k : ℕ). slice_index ps k) (sym behind)
+          ∙ sym (leads_next m _ ps (n - 1) free.leads within) ∙ ap (link m) (sym last);
+      small = let next = leads_small m _ ps n sized free.leads in omega (arith, rest, next);
+    }

@@ -2,10 +2,11 @@
 use Rattle.std.specs.Prelude.{◌≡◌, ◌≢◌, ◌⊎◌, ◌==◌, ◌<◌, ◌≤◌, ◌+◌, ◌-◌, ◌/◌, ℕ, zero, suc, if◌then◌else◌, List, ◌++◌}
 use Rattle.std.specs.Prelude.{length, slice_index, take, drop}
 use Rattle.std.specs.List.{splice}
-use Rattle.nvm_board.specs.declared.board.TheConstants.{PAGE_WORDS}
+use Rattle.nvm_board.specs.declared.board.TheConstants.{MOST_PAGES, PAGE_WORDS}
 use Rattle.block_chain.specs.declared.layout.TheConstants.{BLOCK_BYTES, FREE_HEAD, HEADER_PAGE, FREE_HEAD_WORD}
 use Rattle.block_chain.specs.declared.chain.Chain.{Chain}
-use Rattle.block_chain.specs.BlockWords.{word, link}
+use Rattle.block_chain.specs.declared.chain.FreeRun.{FreeRun}
+use Rattle.block_chain.specs.BlockWords.{word, link, IsBlock}
 use Rattle.block_chain.specs.Layout.{IsOf}
 use Rattle.block_chain.specs.Counts.{IsNotIn}
 use Rattle.block_chain.specs.Chains.{free_chain, bytes_of, IsChain, laid}
@@ -21,6 +22,14 @@ pub record OnlyContent (m : List ℕ) (ps : List ℕ) (after : List ℕ) : Type 
   pub size : length after ≡ length m
   pub others : (page place : ℕ) → place < PAGE_WORDS → (place ≡ 0) ⊎ IsNotIn page ps
       → word after page place ≡ word m page place
+
+-- The first n free blocks, of which at least one is asked for, and the page of the free block after them, or 0.
+pub record IsFirstFree (m : List ℕ) (n : ℕ) (run : FreeRun) : Type 0 where
+  pub first : run.chain.first ≡ slice_index m FREE_HEAD
+  pub last : run.chain.last ≡ slice_index (free_chain m) (n - 1)
+  pub block : IsBlock m run.chain.last
+  pub after : run.rest ≡ link m run.chain.last
+  pub small : run.rest < MOST_PAGES
 
 -- The first n free blocks become a chain. The other ones stay free.
 pub record Takes (m : List ℕ) (n : ℕ) (c : Chain) (after : List ℕ) : Type 0 where

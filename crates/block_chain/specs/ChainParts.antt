@@ -5,9 +5,9 @@ use Rattle.nvm_board.specs.Facts.{address}
 use Rattle.undo_journal.specs.StoreCalls.{OnlyReads}
 use Rattle.undo_journal.specs.Memory.{Memory, Joins}
 use Rattle.nvm_board.specs.declared.board.TheConstants.{MOST_PAGES}
-use Rattle.block_chain.specs.Chains.{Leads, chain, free_chain}
+use Rattle.block_chain.specs.Chains.{Leads, chain}
 use Rattle.block_chain.specs.Counts.{count, IsNotIn}
-use Rattle.block_chain.specs.BlockWords.{word, link, IsBlock, word_bytes}
+use Rattle.block_chain.specs.BlockWords.{word, word_bytes}
 use Rattle.block_chain.specs.declared.chain.Chain.{Chain}
 use Rattle.block_chain.specs.declared.layout.TheConstants.{FREE_HEAD, FIRST_BLOCK_PAGE, BLOCK_WORDS}
 use Rattle.block_chain.specs.declared.walk.Walked.{Walked}
@@ -16,14 +16,6 @@ use Rattle.block_chain.specs.declared.walk.Walked.{Walked}
 abbrev pub byte_over : ℕ → List ℕ → ℕ → ℕ → ℕ
 byte_over offset bytes at byte =
     if nat_le offset at && nat_lt at (offset + length bytes) then slice_index bytes (at - offset) else byte
-
--- The first n free blocks, and the page of the free block after them, or 0.
-pub record IsFirstFree (m : List ℕ) (n : ℕ) (c : Chain) (rest : ℕ) : Type 0 where
-  pub first : c.first ≡ slice_index m FREE_HEAD
-  pub last : c.last ≡ slice_index (free_chain m) (n - 1)
-  pub block : IsBlock m c.last
-  pub after : rest ≡ link m c.last
-  pub small : rest < MOST_PAGES
 
 -- One content word of a block takes its bytes from those that are written from an offset on.
 pub record PutsWord (m : List ℕ) (page k offset : ℕ) (bytes after : List ℕ) : Type 0 where

@@ -3,7 +3,7 @@ ghost use Rattle.std.specs.Prelude.{◌≡◌, ◌↔◌, ◌+◌, ◌-◌, ◌*
 ghost use Rattle.std.specs.Prelude.{slice_index, ◌%◌, ◌==◌, if◌then◌else◌, IsTrue};
 ghost use Rattle.undo_journal.specs.Undo.{IsDataAddress};
 ghost use Rattle.std.specs.Result.{result_err};
-ghost use Rattle.block_chain.specs.ChainChanges.{touched_blocks, touched_words, OnlyContent, Overwrites};
+ghost use Rattle.block_chain.specs.ChainChanges.{touched_blocks, touched_words, IsFirstFree, OnlyContent, Overwrites};
 ghost use Rattle.undo_journal.specs.Memory.{committed, current, room, CountsCommit, EndsAt, ContinuesRun, InRuns};
 ghost use Rattle.undo_journal.specs.Memory.{IsOpen, IsReady};
 ghost use Rattle.block_chain.specs.declared.layout.TheConstants.{BLOCK_BYTES, BLOCK_WORDS, FILE_BYTES};
@@ -17,7 +17,7 @@ ghost use Rattle.nvm_board.specs.declared.board.TheConstants.{MOST_PAGES};
 ghost use Rattle.nvm_board.specs.Torn.{Torn, written};
 ghost use Rattle.undo_journal.specs.Lent.{memory_of};
 
-use crate::chain::Chain;
+use crate::chain::{Chain, FreeRun};
 use crate::layout::{BLOCK_BYTES, BLOCK_WORDS, WORD_BYTES};
 use crate::words::{next, read_head, read_link, walk};
 use undo_journal::{Board, PAGE_WORDS, Store, StoreErr, Txn};
@@ -190,15 +190,18 @@ fn fill_block<B: Board>(
     store.write_plain(page, 1, words)
 }
 
-/// Fills the first n free blocks with a byte. It takes one device write per block. No other word changes, at any
-/// exit.
+/// Fills the first n free blocks with a byte, and returns them. It takes one device write per block. No other word
+/// changes, at any exit.
 ///
 /// # Errors
 /// The store's failure: power was lost, or the device failed. Then the content of these blocks is undefined.
-pub fn fill<B: Board>(store: &mut Store<B>, n: u16, byte: u8) -> Result<(), StoreErr>
+// It isn't inlined: the loop keeps its values in registers that way.
+#[inline(never)]
+pub fn fill<B: Board>(store: &mut Store<B>, n: u16, byte: u8) -> Result<FreeRun, StoreErr>
     requires ready { IsReady store.old }
     requires free { HasFree (committed store.old) }
     requires enough { n ≤ length (free_chain (committed store.old)) }
+    ensures found { IfOk result (λ run. 1 ≤ n → IsFirstFree (committed store.old) n run) }
     ensures any_exit { OnlyContent (committed store.old)
         (take n (free_chain (committed store.old))) (committed store.new) }
     ensures done { OnOk result (bytes_of (committed store.new) (take n (free_chain (committed store.old)))
@@ -208,10 +211,16 @@ pub fn fill<B: Board>(store: &mut Store<B>, n: u16, byte: u8) -> Result<(), Stor
 {
     let word = u32::from_be_bytes([byte; 4]);
     let words = [word; BLOCK_WORDS as usize];
-    let mut page = read_head(store)?;
+    let first = read_head(store)?;
+    let mut last = 0;
+    let mut page = first;
     for _i in 0..n {
         fill_block(store, page, &words)?;
+        last = page;
         page = read_link(store, page)?;
     }
-    Ok(())
+    Ok(FreeRun {
+        chain: Chain { first, last },
+        rest: page,
+    })
 }

@@ -17,3 +17,12 @@ pub struct Extent {
     /// The number of its blocks.
     pub blocks: u16,
 }
+
+/// Free blocks from the first one on, as a chain that is not taken yet.
+#[derive(Clone, Copy)]
+pub struct FreeRun {
+    /// The first and the last of them.
+    pub chain: Chain,
+    /// The page of the free block after them, or 0.
+    pub rest: u16,
+}

@@ -3,14 +3,14 @@ ghost use Rattle.std.specs.Prelude.{◌≡◌, ◌+◌, ◌*◌, ◌<◌, ◌≤
 ghost use Rattle.std.specs.Result.{result_err};
 ghost use Rattle.undo_journal.specs.Memory.{committed, current, room, IsReady, IsOpen};
 ghost use Rattle.undo_journal.specs.Lent.{memory_of};
-ghost use Rattle.undo_journal.specs.StoreCalls.{Reads, ReadsIn, SetsIn};
+ghost use Rattle.undo_journal.specs.StoreCalls.{Reads, SetsIn};
 ghost use Rattle.block_chain.specs.Chains.{free_chain, HasFree, AreApart};
-ghost use Rattle.block_chain.specs.ChainChanges.{Takes, GivesBack};
-ghost use Rattle.block_chain.specs.ChainParts.{IsFirstFree, first_block, joined_chains};
+ghost use Rattle.block_chain.specs.ChainChanges.{Takes, GivesBack, IsFirstFree};
+ghost use Rattle.block_chain.specs.ChainParts.{first_block, joined_chains};
 
-use crate::chain::Chain;
+use crate::chain::{Chain, FreeRun};
 use crate::layout::FREE_HEAD;
-use crate::words::{head, next, read_head, read_link, walk};
+use crate::words::{head, read_head, read_link};
 use undo_journal::{Board, PAGE_WORDS, Store, StoreErr, Txn};
 
 /// Returns the number of free blocks. It takes one device read for the head and one per free block.
@@ -32,59 +32,22 @@ pub fn free_count<B: Board>(store: &mut Store<B>) -> Result<u16, StoreErr>
     Ok(count)
 }
 
-/// How many blocks are free, counted up to so many: one device read a free block that is counted.
-///
-/// # Errors
-/// What the store answers: power was lost, or the device failed.
-pub fn free_up_to<B: Board>(store: &mut Store<B>, most: u16) -> Result<u16, StoreErr>
-    requires ready { IsReady store.old }
-    requires free { HasFree (committed store.old) }
-    ensures least { IfOk result (λ count. count ≤ length (free_chain (committed store.old))) }
-    ensures few { IfOk result (λ count. count < most → count ≡ length (free_chain (committed store.old))) }
-    ensures store { Reads store.old store.new (result_err result) }
-{
-    let mut page = read_head(store)?;
-    for count in 0..most {
-        if page == 0 {
-            return Ok(count);
-        }
-        page = read_link(store, page)?;
-    }
-    Ok(most)
-}
-
-/// The chain of the first n free blocks, and the page of the free block after them, or 0.
-fn first_free<B: Board>(txn: &mut Txn<'_, B>, n: u16) -> Result<(Chain, u16), StoreErr>
-    requires ready { IsOpen (memory_of txn.old) }
-    requires free { HasFree (current (memory_of txn.old)) }
-    requires some { 1 ≤ n }
-    requires enough { n ≤ length (free_chain (current (memory_of txn.old))) }
-    ensures found { IfOk result (λ found. IsFirstFree (current (memory_of txn.old)) n found.0 found.1) }
-    ensures store { ReadsIn txn.old txn.new (result_err result) }
-{
-    let first = head(txn)?;
-    let last = walk(txn, first, n - 1)?;
-    let rest = next(txn, last)?;
-    Ok((Chain { first, last }, rest))
-}
-
-/// Takes the first n free blocks as a chain. n is at least 1. Their bytes are unchanged.
+/// Takes the first n free blocks as a chain, which `fill` returned. n is at least 1. Their bytes are unchanged.
 ///
 /// # Errors
 /// The store's failure: power was lost, or the device failed.
-pub fn take<B: Board>(txn: &mut Txn<'_, B>, n: u16) -> Result<Chain, StoreErr>
+pub fn take<B: Board>(txn: &mut Txn<'_, B>, n: u16, run: FreeRun) -> Result<(), StoreErr>
     requires ready { IsOpen (memory_of txn.old) }
     requires free { HasFree (current (memory_of txn.old)) }
     requires some { 1 ≤ n }
     requires enough { n ≤ length (free_chain (current (memory_of txn.old))) }
+    requires first { IsFirstFree (current (memory_of txn.old)) n run }
     requires room { 2 ≤ room (memory_of txn.old) }
-    ensures done { IfOk result (λ chain. Takes (current (memory_of txn.old)) n chain (current (memory_of txn.new))) }
+    ensures done { OnOk result (Takes (current (memory_of txn.old)) n run.chain (current (memory_of txn.new))) }
     ensures store { SetsIn 2 txn.old txn.new (result_err result) }
 {
-    let (chain, rest) = first_free(txn, n)?;
-    txn.set(PAGE_WORDS * chain.last, 0)?;
-    txn.set(FREE_HEAD, u32::from(rest))?;
-    Ok(chain)
+    txn.set(PAGE_WORDS * run.chain.last, 0)?;
+    txn.set(FREE_HEAD, u32::from(run.rest))
 }
 
 /// Gives the blocks of chains back. The last block of each links to the first of the next one, and that of the last

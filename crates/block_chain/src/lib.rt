@@ -13,8 +13,8 @@ mod walk;
 mod words;
 
 pub use bytes::{fill, set_bytes};
-pub use chain::{Chain, Extent};
-pub use free::{free_count, free_up_to, give_back, take};
+pub use chain::{Chain, Extent, FreeRun};
+pub use free::{free_count, give_back, take};
 pub use layout::{
     BLOCK_BYTES, BLOCK_WORDS, FILE_BYTES, FIRST_BLOCK_PAGE, FREE_HEAD, FREE_HEAD_WORD, HEADER_PAGE,
     MOST_BLOCKS, WORD_BYTES,

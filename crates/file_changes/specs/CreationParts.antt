@@ -22,6 +22,7 @@ use Rattle.file_tree.specs.Entries.{entry_of}
 use Rattle.file_tree.specs.Table.{table, entry_in, ancestor, path_of}
 use Rattle.file_tree.specs.Trees.{tree_of}
 use Rattle.card_state.specs.NewFiles.{blank}
+use Rattle.file_changes.specs.Creations.{kind_number}
 use Rattle.file_changes.specs.CreationRefusals.{taken_refusal, place_refusal, creation_refusal}
 
 -- The entry is free, or None if all are in use.
@@ -53,13 +54,6 @@ FindsPlace m df fcp (At e) = (taken_refusal (tree_of m) (path_of (table m) df) f
 -- The bytes, padded with zeros to length n.
 abbrev pub padded : ℕ → List ℕ → List ℕ
 padded n bytes = bytes ++ replicate (n - length bytes) 0
-
--- The number of a kind in an entry.
-abbrev pub kind_number : FileKind → ℕ
-kind_number (kinds.Df name) = 1
-kind_number (kinds.Transparent short size) = 2
-kind_number (kinds.Linear short records) = 3
-kind_number (kinds.Cyclic short records) = 4
 
 -- The record length, 0 for a kind without records.
 abbrev pub record_length_of_kind : FileKind → ℕ

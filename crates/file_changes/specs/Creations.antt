@@ -1,16 +1,25 @@
 -- The result of a creation, and its effect on the tree.
 use Rattle.std.specs.Prelude.{◌≡◌, ℕ, List, [], ◌∷◌, ◌++◌, None, Some}
 use Rattle.card_state.specs.declared.fcp.Fcp.{Fcp}
+use Rattle.card_state.specs.declared.fcp.FileKind.{FileKind}
+use Rattle.card_state.specs.declared.fcp.FileKind.TheVariants as kinds
 use Rattle.file_changes.specs.declared.creating.Creation.{Creation}
 use Rattle.file_changes.specs.declared.creating.Creation.TheVariants.{Created, Refused}
 use Rattle.file_tree.specs.Formats.{block_count}
 use Rattle.card_state.specs.Spaces.{free_space}
-use Rattle.file_tree.specs.Table.{table, path_of, IsUsed}
+use Rattle.file_tree.specs.Table.{table, entry_in, path_of, IsUsed}
 use Rattle.file_tree.specs.Trees.{tree_of}
 use Rattle.file_tree.specs.TreeChanges.{Creates, with_freed}
 use Rattle.file_tree.specs.Indexes.{AddsEntry}
 use Rattle.card_state.specs.NewFiles.{new_file, short_of_new}
 use Rattle.file_changes.specs.CreationRefusals.{creation_refusal}
+
+-- The number of a kind in an entry.
+abbrev pub kind_number : FileKind → ℕ
+kind_number (kinds.Df name) = 1
+kind_number (kinds.Transparent short size) = 2
+kind_number (kinds.Linear short records) = 3
+kind_number (kinds.Cyclic short records) = 4
 
 -- There is a new file in a DF, as its file control parameters describe it.
 abbrev pub CreatesNew : List ℕ → ℕ → Fcp → List ℕ → Type 0
@@ -22,6 +31,8 @@ pub record IsCreated (m : List ℕ) (df : ℕ) (fcp : Fcp) (e blocks : ℕ) (aft
   pub none : creation_refusal (block_count m) (tree_of m) (path_of (table m) df) fcp ≡ None
   pub creates : CreatesNew m df fcp after
   pub used : IsUsed (table after) e
+  pub kind : (entry_in (table after) e).kind ≡ kind_number fcp.kind
+  pub parent : (entry_in (table after) e).parent ≡ df
   pub path : path_of (table after) e ≡ path_of (table m) df ++ fcp.identifier ∷ []
   pub adds : AddsEntry (table m) df fcp.identifier e (table after)
   pub space : free_space (block_count m) (tree_of m)

@@ -9,6 +9,8 @@ ghost use Rattle.undo_journal.specs.StoreCalls.{Learns, OnlyReads, Changes, Sets
 ghost use Rattle.card_state.specs.declared.status.Sw.{Sw};
 ghost use Rattle.card_state.specs.declared.fcp.ShortIdentifier.TheVariants.{Absent};
 ghost use Rattle.card_state.specs.FileControl.{IsCreatable};
+ghost use Rattle.card_state.specs.Spaces.{free_space};
+ghost use Rattle.block_chain.specs.ChainChanges.{IsFirstFree};
 ghost use Rattle.block_chain.specs.Chains.{HasFree, free_chain};
 ghost use Rattle.file_tree.specs.Adding.{AddsByGate};
 ghost use Rattle.file_tree.specs.Formats.{block_count};
@@ -18,20 +20,20 @@ ghost use Rattle.file_tree.specs.Table.{table, entry_in, path_of};
 ghost use Rattle.file_tree.specs.Trees.{tree_of, TreeStands};
 ghost use Rattle.file_tree.specs.TreeChanges.{SameTree};
 ghost use Rattle.file_tree.specs.Indexes.{IsIndex};
-ghost use Rattle.file_changes.specs.Creations.{CreatesNew, TellsCreation};
+ghost use Rattle.file_changes.specs.Creations.{CreatesNew, TellsCreation, kind_number};
 ghost use Rattle.card_state.specs.NewFiles.{low_bits, short_for, short_of_new};
 ghost use Rattle.file_changes.specs.CreationRefusals.{creation_refusal};
 ghost use Rattle.file_tree.specs.StoredFiles.{HasFile};
 ghost use Rattle.file_changes.specs.CreationParts.{FindsPlace, AddsFile, FillsAndAdds, FillsOrAdds};
-ghost use Rattle.file_changes.specs.CreationParts.{entry_for, kind_number, record_length_of_kind, existing_of_kind};
+ghost use Rattle.file_changes.specs.CreationParts.{entry_for, record_length_of_kind, existing_of_kind};
 ghost use Rattle.file_changes.specs.CreationParts.{padded, no_chain, short_option};
 
 use crate::placing::{Place, place_for};
 use crate::refusing::taken;
 use crate::writing::write_entry;
-use block_chain::{fill, take};
+use block_chain::{FreeRun, fill, take};
 use card_state::limits::MOST_SHORT;
-use card_state::{Fcp, FileKind, ShortIdentifier, Sw};
+use card_state::{Fcp, FileKind, FreeSpace, ShortIdentifier, Sw};
 use file_tree::{Entry, EntryKind, Index, blocks_for, find_short};
 use undo_journal::{Board, Store, StoreErr, Txn};
 
@@ -158,18 +160,20 @@ fn entry_for(fcp: &Fcp<'_>, parent: u8, short: u8) -> Entry
     }
 }
 
-/// Writes the entry of a new file, and takes its blocks.
+/// Writes the entry of a new file, and takes its blocks, which are the first free ones.
 fn add_file<B: Board>(
     txn: &mut Txn<'_, B>,
     e: u8,
     entry: Entry,
     blocks: u16,
+    run: FreeRun,
 ) -> Result<(), StoreErr>
     requires ready { IsOpen (memory_of txn.old) }
     requires within { e < 64 }
     requires used { entry.kind ≢ 0 }
     requires free { HasFree (current (memory_of txn.old)) }
     requires enough { blocks ≤ length (free_chain (current (memory_of txn.old))) }
+    requires first { 1 ≤ blocks → IsFirstFree (current (memory_of txn.old)) blocks run }
     requires room { 13 ≤ room (memory_of txn.old) }
     ensures done { OnOk result (AddsFile (current (memory_of txn.old)) e entry blocks (current (memory_of txn.new))) }
     ensures store { SetsIn 13 txn.old txn.new (result_err result) }
@@ -178,10 +182,10 @@ fn add_file<B: Board>(
     if blocks == 0 {
         return write_entry(txn, e, entry);
     }
-    let chain = take(txn, blocks)?;
+    take(txn, blocks, run)?;
     let entry = Entry {
-        first: chain.first,
-        last: chain.last,
+        first: run.chain.first,
+        last: run.chain.last,
         ..entry
     };
     write_entry(txn, e, entry)
@@ -205,9 +209,9 @@ fn write_file<B: Board>(
     ensures by_gate { AddsByGate store.old store.new }
     ensures store { Changes CREATE_WRITES store.old store.new (result_err result) }
 {
-    fill(store, blocks, BLANK)?;
+    let run = fill(store, blocks, BLANK)?;
     let mut txn = store.begin();
-    let work = add_file(&mut txn, e, entry, blocks);
+    let work = add_file(&mut txn, e, entry, blocks, run);
     txn.end(work)
 }
 
@@ -215,23 +219,25 @@ fn write_file<B: Board>(
 fn find_place<B: Board>(
     store: &mut Store<B>,
     index: &Index,
+    free: FreeSpace,
     df: u8,
     fcp: &Fcp<'_>,
 ) -> Result<Place, StoreErr>
     requires df { HasFile store.old df }
     requires index { IsIndex (table (committed store.old)) index.now }
+    requires free { free ≡ free_space (block_count (committed store.old)) (tree_of (committed store.old)) }
     requires fcp { IsCreatable fcp.now }
     ensures { Learns store.old store.new result (FindsPlace (committed store.old) df fcp.now) }
 {
     match taken(store, index, df, fcp)? {
         Some(status) => Ok(Place::Refused(status)),
-        None => place_for(store, df, fcp),
+        None => place_for(store, free, df, fcp),
     }
 }
 
 /// Creates a file in the DF of an entry. Its content is FF throughout, or its existing records are. Its blocks are
-/// filled first; then one transaction takes them and writes its entry. A refusal changes and writes nothing. The
-/// index is updated after the commit.
+/// filled first; then one transaction takes them and writes its entry. `free` is the free space of the tree. A refusal
+/// changes and writes nothing. The index is updated after the commit.
 ///
 /// # Errors
 /// The store's failure: power was lost, or the device failed. The tree is then as before or as after the creation,
@@ -239,11 +245,13 @@ fn find_place<B: Board>(
 pub fn create<B: Board>(
     store: &mut Store<B>,
     index: &mut Index,
+    free: FreeSpace,
     df: u8,
     fcp: &Fcp<'_>,
 ) -> Result<Creation, StoreErr>
     requires ready { IsReady store.old }
     requires tree { TreeStands (committed store.old) }
+    requires free { free ≡ free_space (block_count (committed store.old)) (tree_of (committed store.old)) }
     requires df { (entry_in (table (committed store.old)) df).kind ≡ 1 }
     requires fcp { IsCreatable fcp.now }
     requires index { IsIndex (table (committed store.old)) index.old }
@@ -260,7 +268,7 @@ pub fn create<B: Board>(
     ensures index { MatchResult result (λ creation. IsIndex (table (committed store.new)) index.new)
         (λ error. index.new ≡ index.old) }
 {
-    let entry = match find_place(store, index, df, fcp)? {
+    let entry = match find_place(store, index, free, df, fcp)? {
         Place::At(entry) => entry,
         Place::Refused(status) => return Ok(Creation::Refused(status)),
     };

@@ -1,13 +1,16 @@
 //! The place of a new file.
 
+ghost use Rattle.std.specs.Prelude.{◌≡◌};
 ghost use Rattle.undo_journal.specs.Memory.{committed};
 ghost use Rattle.undo_journal.specs.StoreCalls.{Learns};
+ghost use Rattle.card_state.specs.Spaces.{free_space};
+ghost use Rattle.file_tree.specs.Formats.{block_count};
+ghost use Rattle.file_tree.specs.Trees.{tree_of};
 ghost use Rattle.file_tree.specs.StoredFiles.{HasFile};
 ghost use Rattle.file_changes.specs.CreationParts.{TellsPlace};
 
 use crate::refusing::{first_free, is_deepest};
-use block_chain::free_up_to;
-use card_state::{Fcp, Sw};
+use card_state::{Fcp, FreeSpace, Sw};
 use file_tree::blocks_for;
 use undo_journal::{Board, Store, StoreErr};
 
@@ -21,10 +24,12 @@ pub(crate) enum Place {
 /// The place of a new file in a dedicated file, if there is one.
 pub(crate) fn place_for<B: Board>(
     store: &mut Store<B>,
+    free: FreeSpace,
     df: u8,
     fcp: &Fcp<'_>,
 ) -> Result<Place, StoreErr>
     requires df { HasFile store.old df }
+    requires free { free ≡ free_space (block_count (committed store.old)) (tree_of (committed store.old)) }
     ensures { Learns store.old store.new result (TellsPlace (committed store.old) df fcp.now.kind) }
 {
     let deepest = is_deepest(store, df)?;
@@ -36,8 +41,7 @@ pub(crate) fn place_for<B: Board>(
         return Ok(Place::Refused(Sw::NO_ROOM));
     };
     let blocks = blocks_for(fcp.kind.size());
-    let free = free_up_to(store, blocks)?;
-    if free < blocks {
+    if free.blocks < blocks {
         return Ok(Place::Refused(Sw::NO_ROOM));
     }
     Ok(Place::At(e))

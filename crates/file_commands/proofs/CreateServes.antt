@@ -1,6 +1,6 @@
 -- What CREATE FILE leaves, where nothing refuses the template:
--- first it only reads, then it creates the file, and then it reads the new entry.
-use Rattle.std.proofs.Common.{◌≡◌, ◌⊎◌, ◌≤◌, ◌-◌, ℕ, List, [], Option, Some, None, Result, Ok, refl, sym, ◌∙◌, ap}
+-- first it only reads, then it creates the file.
+use Rattle.std.proofs.Common.{◌≡◌, ◌⊎◌, ◌≤◌, ◌-◌, ℕ, List, [], Some, None, Result, Ok, refl, sym, ◌∙◌, ap}
 use Rattle.std.proofs.Common.{subst, arith, inr, true≢false}
 use Rattle.std.specs.Result.{IsErrAnd}
 use Rattle.nvm_board.specs.Facts.{IsMemory}
@@ -8,23 +8,21 @@ use Rattle.card_state.specs.declared.status.Sw.{Sw}
 use Rattle.card_state.specs.declared.status.TheConstants.Sw.{DONE}
 use Rattle.card_state.specs.declared.fcp.Fcp.{Fcp}
 use Rattle.undo_journal.specs.declared.error.StoreErr.{StoreErr}
-use Rattle.undo_journal.specs.StoreCalls.{Changes, OnlyReads, Reads}
+use Rattle.undo_journal.specs.StoreCalls.{Changes, OnlyReads}
 use Rattle.undo_journal.specs.Spending.{Advances}
-use Rattle.undo_journal.specs.laws.Calls.{advances_by, advances_kept, advances_then}
+use Rattle.undo_journal.specs.laws.Calls.{advances_by}
 use Rattle.file_tree.specs.Adding.{AddsByGate}
 use Rattle.undo_journal.specs.Memory.{Memory, committed, IsReady}
 use Rattle.undo_journal.specs.laws.Calls.{reads_then}
-use Rattle.undo_journal.specs.laws.Told.{changes_after, reads_after}
+use Rattle.undo_journal.specs.laws.Told.{changes_after}
 use Rattle.card_model.specs.Requests.{Request, create_file}
 use Rattle.file_changes.specs.declared.creating.Creation.{Creation}
 use Rattle.file_changes.specs.declared.creating.Creation.TheVariants.{Created, Refused}
-use Rattle.file_tree.specs.declared.entry.Entry.{Entry}
 use Rattle.card_state.specs.declared.space.FreeSpace.{FreeSpace}
 use Rattle.file_tree.specs.TreeChanges.{SameTree}
-use Rattle.file_changes.specs.Creations.{CreatesNew, IsCreated, TellsCreation}
+use Rattle.file_changes.specs.Creations.{kind_number, CreatesNew, IsCreated, TellsCreation}
 use Rattle.file_changes.specs.CreationRefusals.{creation_refusal}
 use Rattle.file_tree.specs.Formats.{block_count}
-use Rattle.card_model.specs.Cards.{card_space}
 use Rattle.file_tree.specs.Table.{table, entry_in, path_of, IsUsed}
 use Rattle.file_tree.specs.Trees.{tree_of}
 use Rattle.command_base.specs.declared.current.Current.{Current}
@@ -32,16 +30,14 @@ use Rattle.file_commands.specs.FileParts.{IsNewFile}
 use Rattle.card_model.specs.Steps.{IsDoing}
 use Rattle.command_base.specs.Served.{Serves}
 use Rattle.command_base.specs.CommandWrites.{creation_writes}
-use Rattle.command_base.specs.Standing.{card_of, IsCard}
-use Rattle.command_base.specs.Working.{card_in, session_in, session_of, space_in, table_in, IsCurrent}
-use Rattle.command_base.specs.CurrentFiles.{current_at}
-use Rattle.card_model.specs.Behaviours.{outcome}
+use Rattle.command_base.specs.Standing.{IsCard}
+use Rattle.command_base.specs.Working.{card_in, session_in, space_in, table_in, IsCurrent}
+use Rattle.command_base.specs.CurrentFiles.{current_at, current_by}
 use Rattle.file_commands.proofs.Creations.{any-creating, any-stage, any-stands, created-current, created-is-card}
 use Rattle.file_commands.proofs.Creations.{created-space, filled-card, filled-stands}
 use Rattle.file_commands.proofs.Creations.{created-step, refused-step, taken-blocks, taken-entries}
 use Rattle.command_base.specs.laws.Serves.{compared-none, declined, torn, written}
 use Rattle.command_base.specs.laws.Stopping.{err-is}
-use Rattle.command_base.specs.CommitWords.{StandsServed}
 use Rattle.command_base.specs.laws.Words.{Went, went-gated}
 
 module _ (old mid made : Memory) (ready : IsReady old) (words : IsCard (committed old)) (x : Current)
@@ -132,58 +128,35 @@ module _ (old mid made : Memory) (ready : IsReady old) (words : IsCard (committe
         taken-entries m m after free (record { blocks = blocks; entries = 1 }) counted refl created.space
         words created-stands
 
-    -- and then the new entry was read
-    module _ (new : Memory) (told : Option StoreErr) (adds : AddsByGate mid made) (n : ℕ)
-        (changes : Changes n mid made None) (few : n ≤ creation_writes) (more : Reads made new told) where
-      still : committed new ≡ after
-      still = more.only.keeps.committed_words
-
-      all : Changes n old new told
-      all = reads_after n old made new told (changes_after n old mid made None reads changes) more
+    module _ (adds : AddsByGate mid made) (n : ℕ) (changes : Changes n mid made None)
+        (few : n ≤ creation_writes) where
+      all : Changes n old made None
+      all = changes_after n old mid made None reads changes
 
       made-it : IsDoing (card_in old) (session_in old x) request (card_in made)
       made-it = any-creating m sized words x template fcp found.told found.unbarred found.permitted created.none after
           (inr created.creates)
 
-      stage : OnlyReads old new ⊎ IsDoing (card_in old) (session_in old x) request (card_in new)
-      stage =
-          inr (subst (λ (l : List ℕ). IsDoing (card_in old) (session_in old x) request (card_of l)) (sym still) made-it)
+      went : Went request old x made
+      went = went-adding adds (inr made-it) (advances_by n old.facts made.facts all.writes)
 
-      went : Went request old x new
-      went =
-          let spends = (changes_after n old mid made None reads changes).writes in
-          let there = went-adding adds (inr made-it) (advances_by n old.facts made.facts spends) in (
-            advances_then old.facts made.facts new.facts there.0 (advances_kept made.facts new.facts more.only.board),
-            λ shut. subst (λ (l : List ℕ). StandsServed (card_in old) (session_in old x) request l)
-                (sym more.only.board.words) (there.1 shut),
-          )
-
-      stands : IsCard (committed new)
-      stands = subst IsCard (sym still) created-stands
-
-      pub created-torn : (r : Result Sw StoreErr) (error : StoreErr) → IsErrAnd r (λ f. f ≡ error) → told ≡ Some error
-          → Serves request old x new x [] r
-      created-torn r error handed stopped =
-          subst (λ (s : Result Sw StoreErr). Serves request old x new x [] s) (sym (err-is r error handed))
-          (torn request old x new x [] error stage stands all.reports (all.tells ∙ stopped) (omega arith)
-          (omega (arith, few, all.writes.writes)) went (compared-none n old.facts new.facts all.writes))
-
-      pub created-done : IsReady new → (entry : Entry) → entry ≡ entry_in (table after) e
-          → Serves request old x new (current_at x e entry) [] (Ok DONE)
-      created-done ready_now entry entry_is =
-          let y = current_at x e (entry_in (table after) e) in
-          let at_file = subst (λ (l : List ℕ). IsCurrent (table l) y) (sym still) (created-current m sized words x
-          template fcp found.told found.unbarred found.permitted e blocks after created current.marks) in
+      pub created-done : IsReady made → (y : Current) → y ≡ current_by x e (kind_number fcp.kind) x.df
+          → Serves request old x made y [] (Ok DONE)
+      created-done ready_now y y_is =
+          let z = current_at x e (entry_in (table after) e) in
+          let there = created in
+          let same : z ≡ y = (λ i. current_by x e (there.kind i) (there.parent i)) ∙ sym y_is in
+          let at_file = created-current m sized words x template fcp found.told found.unbarred found.permitted e blocks
+          after created current.marks in
           let done = created-step m sized words x template fcp found.told found.unbarred found.permitted e blocks after
-          created ∙ (λ i. outcome (card_of (sym still i)) (session_of (table (sym still i)) y) [] DONE) in
-          subst (λ (entry : Entry). Serves request old x new (current_at x e entry) [] (Ok DONE)) (sym entry_is)
-          (written request old x new (λ _. tt) y [] DONE stage stands all.reports ready_now at_file
+          created in
+          subst (λ (y : Current). Serves request old x made y [] (Ok DONE)) same
+          (written request old x made (λ _. tt) z [] DONE (inr made-it) created-stands all.reports ready_now at_file
           (λ never. absurd (true≢false never)) (omega arith)
-          (omega (arith, few, all.writes.writes)) went (compared-none n old.facts new.facts all.writes) done)
+          (omega (arith, few, all.writes.writes)) went (compared-none n old.facts made.facts all.writes) done)
 
       pub created-counts : (free : FreeSpace) → free ≡ space_in old
-          → record { blocks = free.blocks - blocks; entries = free.entries - 1 } ≡ space_in new
+          → record { blocks = free.blocks - blocks; entries = free.entries - 1 } ≡ space_in made
       created-counts free counted =
           created-space m m after free (record { blocks = blocks; entries = 1 }) counted refl created.space
           words created-stands
-          ∙ ap (λ (l : List ℕ). card_space (card_of l)) (sym still)

@@ -16,6 +16,8 @@ ghost use Rattle.command_base.specs.Served.{Serves};
 ghost use Rattle.command_base.specs.Stops.{Looks, reply, Checks};
 ghost use Rattle.command_base.specs.Working.{card_in, session_in, space_in, table_in, IsKept};
 ghost use Rattle.command_base.specs.NamedFiles.{file_refusal};
+ghost use Rattle.command_base.specs.CurrentFiles.{current_by};
+ghost use Rattle.file_changes.specs.Creations.{kind_number};
 
 use apdu_core::{Subject, Sw};
 use card_state::{AccessBit, Fcp, FileKind};
@@ -43,17 +45,33 @@ pub fn create_file<B: Board>(
     ensures index { OnOk (reply result) (IsIndex (table_in store.new) index.new) }
 {
     let fcp = find_new_file(store, current, template)?;
-    let (number, blocks) = match create(store, index, current.df, &fcp)? {
+    let (number, blocks) = match create(store, index, *free, current.df, &fcp)? {
         Creation::Created { entry, blocks } => (entry, blocks),
         Creation::Refused(refusal) => return Err(Stop::Refused(refusal)),
     };
-    let entry = read_entry(store, number)?;
     *free = FreeSpace {
         blocks: free.blocks - blocks,
         entries: free.entries - 1,
     };
-    *current = current.at(number, &entry);
+    *current = current_at(*current, number, &fcp.kind);
     Ok(Sw::DONE)
+}
+
+/// Returns the session after the new file of entry `number` became current. Its parent is the current dedicated file.
+fn current_at(current: Current, number: u8, kind: &FileKind<'_>) -> Current
+    ensures { result ≡ current_by current number (kind_number kind.now) current.df }
+{
+    let (df, ef) = match kind {
+        FileKind::Df { .. } => (number, None),
+        FileKind::Transparent { .. } | FileKind::Linear { .. } | FileKind::Cyclic { .. } =>
+            (current.df, Some(number)),
+    };
+    Current {
+        df,
+        ef,
+        pointer: None,
+        ..current
+    }
 }
 
 /// Returns the file that CREATE FILE creates, or its refusal.

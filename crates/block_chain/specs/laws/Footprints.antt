@@ -10,15 +10,16 @@ use Rattle.nvm_board.specs.declared.board.TheConstants.{PAGE_WORDS}
 use Rattle.block_chain.specs.declared.layout.TheConstants.{FREE_HEAD, FREE_HEAD_WORD, HEADER_PAGE, MOST_BLOCKS}
 use Rattle.block_chain.specs.declared.layout.TheConstants.{BLOCK_BYTES, BLOCK_WORDS}
 use Rattle.block_chain.specs.declared.chain.Extent.{Extent}
+use Rattle.block_chain.specs.declared.chain.FreeRun.{FreeRun}
 use Rattle.nvm_board.specs.laws.Sizes.{memory_same, pages_same}
 use Rattle.block_chain.specs.BlockWords.{word, link, page_words, word_bytes, IsBlock}
 use Rattle.block_chain.specs.Counts.{count, NoneTwice, IsNotIn}
 use Rattle.block_chain.specs.Chains.{Leads, free_chain, bytes_of}
-use Rattle.block_chain.specs.ChainChanges.{OnlyLinks, OnlyContent, KeepsBlocks}
+use Rattle.block_chain.specs.ChainChanges.{IsFirstFree, OnlyLinks, OnlyContent, KeepsBlocks}
 use Rattle.block_chain.specs.Layout.{IsOf, blocks_of, laid_out, IsExtent, AreLaid, SameBytes}
 use Rattle.block_chain.specs.laws.Words.{word-set_other, length-page_words, index-page_words}
 use Rattle.block_chain.specs.laws.Counts.{count-nil, count-other, count-append, count-index}
-use Rattle.block_chain.specs.laws.Chains.{leads_same, pages_are}
+use Rattle.block_chain.specs.laws.Chains.{block_same, leads_same, pages_are}
 use Rattle.block_chain.specs.laws.Bytes.{blocks_same, AreBlocks, leads_blocks, block_in, content_word, index-bytes_of}
 use Rattle.block_chain.specs.laws.Bytes.{length-bytes_of}
 use Rattle.block_chain.specs.laws.Laying.{laid_of, pages_most, laid_out-nil, laid_out-cons}
@@ -156,6 +157,18 @@ not_among m page outside (p ∷ ps) blocks =
 pub no_header : (m ps : List ℕ) → AreBlocks m ps → IsNotIn HEADER_PAGE ps
 no_header m ps blocks =
     not_among m HEADER_PAGE (λ block. let low = block.0 in let z : ⊥ = omega (arith, low) in z) ps blocks
+
+-- the first free blocks stay the first ones where bytes of blocks change
+pub first_free_kept : (m after ps : List ℕ) (n : ℕ) (run : FreeRun) → AreBlocks m ps → OnlyContent m ps after
+    → free_chain after ≡ free_chain m → IsFirstFree m n run → IsFirstFree after n run
+first_free_kept m after ps n run blocks only free found = record {
+  first = found.first
+      ∙ sym (only.others HEADER_PAGE FREE_HEAD_WORD (omega arith) (inr (no_header m ps blocks)));
+  last = found.last ∙ ap (λ (qs : List ℕ). slice_index qs (n - 1)) (sym free);
+  block = block_same m after run.chain.last only.size found.block;
+  after = found.after ∙ sym (only.others run.chain.last 0 (omega arith) (inl refl));
+  small = found.small;
+}
 
 -- An extent whose links stay, and whose blocks are not among these, keeps its bytes where only these blocks' bytes
 -- change.

@@ -21,7 +21,8 @@ use Rattle.file_tree.specs.Trees.{tree_of}
 use Rattle.card_state.specs.NewFiles.{short_for, short_of_new, low_bits, has_name, has_short_given}
 use Rattle.file_changes.specs.CreationRefusals.{taken_refusal}
 use Rattle.file_tree.specs.Naming.{BearsName}
-use Rattle.file_changes.specs.CreationParts.{entry_for, kind_number, short_option}
+use Rattle.file_changes.specs.CreationParts.{entry_for, short_option}
+use Rattle.file_changes.specs.Creations.{kind_number}
 use Rattle.file_tree.specs.laws.Tables.{length-table}
 use Rattle.file_tree.specs.laws.Nodes.{used_small}
 use Rattle.file_tree.specs.laws.Shorts.{short_named}

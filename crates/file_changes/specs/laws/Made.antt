@@ -16,14 +16,17 @@ use Rattle.file_tree.specs.declared.entry.Entry.{Entry}
 use Rattle.card_state.specs.declared.space.FreeSpace.{FreeSpace}
 use Rattle.card_state.specs.FileTrees.{File}
 use Rattle.card_state.specs.Spaces.{blocks_for}
-use Rattle.file_tree.specs.Entries.{file_of}
+use Rattle.file_tree.specs.Entries.{entry_of, file_of}
+use Rattle.file_tree.specs.declared.layout.TheConstants.{FIRST_ENTRY_PAGE}
+use Rattle.file_tree.specs.laws.Tables.{entry_in-table}
+use Rattle.block_chain.specs.BlockWords.{page_words}
 use Rattle.file_tree.specs.Table.{table, entry_in, path_of, free_entries, IsUsed}
 use Rattle.file_tree.specs.Trees.{tree_of, TreeStands}
 use Rattle.file_tree.specs.TreeChanges.{SameTree, Creates, with_freed}
 use Rattle.card_state.specs.NewFiles.{blank, new_file, short_of_new}
 use Rattle.file_changes.specs.CreationRefusals.{first_reason, taken_refusal, place_refusal}
-use Rattle.file_changes.specs.Creations.{CreatesNew, IsCreated}
-use Rattle.file_changes.specs.CreationParts.{entry_for, no_chain, short_option, kind_number, WritesEntry, IsPlaceFor}
+use Rattle.file_changes.specs.Creations.{kind_number, CreatesNew, IsCreated}
+use Rattle.file_changes.specs.CreationParts.{entry_for, no_chain, short_option, WritesEntry, IsPlaceFor}
 use Rattle.file_changes.specs.CreationParts.{TakesAndWrites, FillsAndAdds}
 use Rattle.file_tree.specs.laws.Costs.{space_counted}
 use Rattle.file_tree.specs.laws.Rewriting.{filled}
@@ -90,10 +93,12 @@ module _ (m after : List ℕ) (df n e : ℕ) (fcp : Fcp) (sized : IsMemory m) (s
       → IsUsed (table after) e × (path_of (table after) e ≡ path_of (table mid) df ++ fcp.identifier ∷ [])
       → free_entries (table mid) ≡ free_entries (table after) + 1
       → length (free_chain mid) ≡ length (free_chain after) + blocks
-      → IsMemory after → IsCreated m df fcp e blocks after
-  finish creates there entries chain sized_after =
+      → IsMemory after → (x : Entry) → entry_of (page_words after (FIRST_ENTRY_PAGE + e)) ≡ x
+      → x.kind ≡ kind_number fcp.kind → x.parent ≡ df → IsCreated m df fcp e blocks after
+  finish creates there entries chain sized_after x written kind parent =
       let old = space_counted m sized stands in
       let new = space_counted after sized_after creates.stands in
+      let at : entry_in (table after) e ≡ x = entry_in-table after e place.small ∙ written in
       let count = ap free_entries kept.table in
       let long = ap (λ (ps : List ℕ). length ps) kept.free in
       let a : length (free_chain m) ≡ length (free_chain after) + blocks = omega (arith, chain, long) in
@@ -103,6 +108,8 @@ module _ (m after : List ℕ) (df n e : ℕ) (fcp : Fcp) (sized : IsMemory m) (s
             (place_refusal (block_count m) (tree_of m) (path_of (table m) df) fcp.kind)) none ∙ no_reason;
         creates = creates;
         used = there.0;
+        kind = ap (λ (y : Entry). y.kind) at ∙ kind;
+        parent = ap (λ (y : Entry). y.parent) at ∙ parent;
         path = there.1 ∙ ap (λ (t : List Entry). path_of t df ++ fcp.identifier ∷ []) kept.table;
         adds = created_adds m after e blocks (entry_for fcp df n no_chain) sized stands place.small place.free
             (some_kind fcp.kind) made;
@@ -121,7 +128,8 @@ module _ (m after : List ℕ) (df n e : ℕ) (fcp : Fcp) (sized : IsMemory m) (s
       let entries = df_entries mid after e df x sized_mid kept.stands place.small free_mid (may no_chain) one writes in
       let chain = ap (λ (ps : List ℕ). length ps)
       (df_free mid after e df x sized_mid kept.stands place.small free_mid (may no_chain) one writes) in
-      finish creates there entries (omega (arith, chain, nothing)) (memory_same mid after writes.size sized_mid)
+      finish creates there entries (omega (arith, chain, nothing)) (memory_same mid after writes.size sized_mid) x
+      writes.entry refl refl
 
   after_ef : 2 ≤ kind_number fcp.kind → TakesAndWrites mid e (entry_for fcp df n no_chain) blocks after
       → IsCreated m df fcp e blocks after
@@ -143,7 +151,7 @@ module _ (m after : List ℕ) (df n e : ℕ) (fcp : Fcp) (sized : IsMemory m) (s
       place.small free_mid (may made_ef.chain) high refl made_ef.some enough_mid made_ef.takes made_ef.writes) in
       let cut = length-drop blocks (free_chain mid) in
       finish creates there entries (omega (arith, chain, cut, enough_mid))
-      (memory_same mid after (made_ef.writes.size ∙ made_ef.takes.only.size) sized_mid)
+      (memory_same mid after (made_ef.writes.size ∙ made_ef.takes.only.size) sized_mid) x made_ef.writes.entry refl refl
     where
       enough_bytes : (size : ℕ) → size ≤ BLOCK_BYTES * blocks_for size
       enough_bytes size = omega arith

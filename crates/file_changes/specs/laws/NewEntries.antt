@@ -28,7 +28,8 @@ use Rattle.file_tree.specs.Entries.{file_of, slot, linear_records, cyclic_record
 use Rattle.card_state.specs.Spaces.{blocks_for}
 use Rattle.file_tree.specs.Table.{IsFileEntry, IsRecordBody, HasBody, HasName}
 use Rattle.card_state.specs.NewFiles.{blank, new_file, capacity}
-use Rattle.file_changes.specs.CreationParts.{padded, kind_number, entry_for, short_option}
+use Rattle.file_changes.specs.CreationParts.{padded, entry_for, short_option}
+use Rattle.file_changes.specs.Creations.{kind_number}
 
 -- a new file's entry is a used one
 pub some_kind : (kind : FileKind) → kind_number kind ≢ 0

@@ -1,4 +1,4 @@
-use Rattle.std.proofs.Common.{◌≡◌, ◌+◌, ◌<◌, ℕ, List, take, sym, ◌∙◌, subst, arith}
+use Rattle.std.proofs.Common.{◌≡◌, ◌+◌, ◌-◌, ◌<◌, ℕ, List, slice_index, take, sym, ap, ◌∙◌, subst, arith}
 use Rattle.undo_journal.specs.Memory.{committed}
 use Rattle.block_chain.specs.Chains.{free_chain}
 use Rattle.block_chain.specs.ChainChanges.{OnlyContent}
@@ -6,7 +6,7 @@ use Rattle.block_chain.specs.ChainParts.{filled_word}
 use Rattle.block_chain.specs.laws.Bytes.{leads_blocks, blocks_same}
 use Rattle.block_chain.specs.laws.Chains.{head_small, leads_first}
 use Rattle.block_chain.specs.laws.Filling.{AreFilled, filled_more, first_filled}
-use Rattle.block_chain.proofs.Fills.{block_to_fill, none_filled, only_filled, next_to_fill, next_small}
+use Rattle.block_chain.proofs.Fills.{block_to_fill, first_run, none_filled, only_filled, next_to_fill, next_small}
 use Rattle.undo_journal.specs.laws.Exits.{none_ok}
 use Rattle.undo_journal.specs.laws.Told.{changes_handed, changes_on, changes_within, reads_after, reads_change}
 use Rattle.block_chain.proofs.bytes.fill.Goals as goal
@@ -22,8 +22,9 @@ loop-i-init g c =
       in_range = omega arith;
       only = none_filled m _ (take c.args.n (free_chain m)) read;
       filled = λ k place below low high. absurd (omega (arith, below));
-      page = c.in_ok-page.ensures.page ∙ leads_first m _ (free_chain m) c.requires.free.leads;
-      changes = reads_change 0 _ _ _ c.requires.ready.idle c.in_ok-page.ensures.store;
+      last = λ some. absurd (omega (arith, some));
+      page = c.in_ok-first.ensures.page ∙ leads_first m _ (free_chain m) c.requires.free.leads;
+      changes = reads_change 0 _ _ _ c.requires.ready.idle c.in_ok-first.ensures.store;
       counted = (let none = c.read_head.ensures.store.only.board.writes in omega (arith, none));
     }
 
@@ -66,8 +67,8 @@ read_link-requires-clause-small g c =
     next_small m c.args.n c.requires.free c.requires.ready.usable.committed_size c.requires.enough c.loop-i._i
     c.loop-i.page lt c.loop-i.invariant.page _ only
 
-pub returns-in_err-page-2-clause-any_exit : goal.returns-in_err-page-2-clause-any_exit
-returns-in_err-page-2-clause-any_exit g c =
+pub returns-in_err-page-clause-any_exit : goal.returns-in_err-page-clause-any_exit
+returns-in_err-page-clause-any_exit g c =
     let m = committed c.args.store.now in
     let lt : c.loop-i._i < c.args.n = omega (arith, c.loop-i-test.true) in
     let only = only_filled m c.args.n c.requires.free
@@ -101,19 +102,40 @@ loop-i-preserved g c =
     (subst by_word (sym word) c.loop-i.invariant.filled) in
     record {
       in_range = omega (arith, lt);
+      last = λ _. c.loop-i.invariant.page
+          ∙ ap (λ (k : ℕ). slice_index ps k) (let here : c.loop-i._i ≡ c.loop-i._i + 1 - 1 = omega arith in here);
       only = subst family (sym read) only;
       filled = subst by_byte word (subst by_words (sym read) filled);
-      page = c.in_ok-page-2.ensures.page
+      page = c.in_ok-page.ensures.page
           ∙ next_to_fill m c.args.n c.requires.free c.requires.ready.usable.committed_size c.requires.enough c.loop-i._i
           c.loop-i.page lt c.loop-i.invariant.page _ only;
       changes = reads_after _ _ _ _ _
           (changes_on c.loop-i._i 1 _ _ _ _ _ (omega arith) c.loop-i.invariant.changes c.in_ok-fill_block.ensures.store)
-          c.in_ok-page-2.ensures.store;
+          c.in_ok-page.ensures.store;
       counted = (let none = c.read_link.ensures.store.only.board.writes in
           let one = c.in_ok-fill_block.ensures.counted in
           let before = c.loop-i.invariant.counted in
           omega (arith, none, one, before));
     }
+
+pub returns-clause-found : goal.returns-clause-found
+returns-clause-found g c = λ some.
+    let m = committed c.args.store.now in
+    let ps = free_chain m in
+    let all : c.loop-i._i ≡ c.args.n = omega (arith, c.loop-i-test.false, c.loop-i.invariant.in_range) in
+    let last : c.loop-i.last ≡ slice_index ps (c.args.n - 1) =
+    c.loop-i.invariant.last (omega (arith, all, some)) ∙ ap (λ (k : ℕ). slice_index ps (k - 1)) all in
+    first_run m c.args.n _ c.requires.free c.requires.ready.usable.committed_size c.requires.enough some
+    c.in_ok-first.ensures.page last (c.loop-i.invariant.page ∙ ap (λ (k : ℕ). slice_index ps k) all)
+
+pub returns-in_err-first-clause-found : goal.returns-in_err-first-clause-found
+returns-in_err-first-clause-found g c = none_ok _ _ _ c.from_residual.ensures.1
+
+pub returns-in_err-fill_block-clause-found : goal.returns-in_err-fill_block-clause-found
+returns-in_err-fill_block-clause-found g c = none_ok _ _ _ c.from_residual-in_err-fill_block.ensures.1
+
+pub returns-in_err-page-clause-found : goal.returns-in_err-page-clause-found
+returns-in_err-page-clause-found g c = none_ok _ _ _ c.from_residual-in_err-page.ensures.1
 
 pub returns-clause-done : goal.returns-clause-done
 returns-clause-done g c =
@@ -126,13 +148,13 @@ returns-clause-done g c =
     ps c.loop-i.invariant.only.size (leads_blocks m _ 0 ps c.requires.free.leads)) c.requires.enough (omega arith)
     (subst family all c.loop-i.invariant.filled)
 
-pub returns-in_err-page-clause-done : goal.returns-in_err-page-clause-done
-returns-in_err-page-clause-done g c = none_ok _ _ _ c.from_residual.ensures.1
+pub returns-in_err-first-clause-done : goal.returns-in_err-first-clause-done
+returns-in_err-first-clause-done g c = none_ok _ _ _ c.from_residual.ensures.1
 
-pub returns-in_err-page-clause-store : goal.returns-in_err-page-clause-store
-returns-in_err-page-clause-store g c =
+pub returns-in_err-first-clause-store : goal.returns-in_err-first-clause-store
+returns-in_err-first-clause-store g c =
     changes_handed _ _ _ _ _ c.from_residual.ensures.1
-    (reads_change _ _ _ _ c.requires.ready.idle c.in_err-page.ensures.store)
+    (reads_change _ _ _ _ c.requires.ready.idle c.in_err-first.ensures.store)
 
 pub returns-in_err-fill_block-clause-done : goal.returns-in_err-fill_block-clause-done
 returns-in_err-fill_block-clause-done g c = none_ok _ _ _ c.from_residual-in_err-fill_block.ensures.1
@@ -144,31 +166,31 @@ returns-in_err-fill_block-clause-store g c =
     (changes_on c.loop-i._i 1 _ _ _ _ _ (omega (arith, lt)) c.loop-i.invariant.changes
     c.in_err-fill_block.ensures.store)
 
-pub returns-in_err-page-2-clause-done : goal.returns-in_err-page-2-clause-done
-returns-in_err-page-2-clause-done g c = none_ok _ _ _ c.from_residual-in_err-page-2.ensures.1
+pub returns-in_err-page-clause-done : goal.returns-in_err-page-clause-done
+returns-in_err-page-clause-done g c = none_ok _ _ _ c.from_residual-in_err-page.ensures.1
 
-pub returns-in_err-page-2-clause-store : goal.returns-in_err-page-2-clause-store
-returns-in_err-page-2-clause-store g c =
+pub returns-in_err-page-clause-store : goal.returns-in_err-page-clause-store
+returns-in_err-page-clause-store g c =
     let lt : c.loop-i._i < c.args.n = omega (arith, c.loop-i-test.true) in
-    changes_handed _ _ _ _ _ c.from_residual-in_err-page-2.ensures.1
+    changes_handed _ _ _ _ _ c.from_residual-in_err-page.ensures.1
     (reads_after _ _ _ _ _
     (changes_on c.loop-i._i 1 _ _ _ _ _ (omega (arith, lt)) c.loop-i.invariant.changes c.in_ok-fill_block.ensures.store)
-    c.in_err-page-2.ensures.store)
+    c.in_err-page.ensures.store)
 
-pub returns-in_err-page-clause-any_exit : goal.returns-in_err-page-clause-any_exit
-returns-in_err-page-clause-any_exit g c = none_filled _ _ _ c.read_head.ensures.store.only.keeps.committed_words
+pub returns-in_err-first-clause-any_exit : goal.returns-in_err-first-clause-any_exit
+returns-in_err-first-clause-any_exit g c = none_filled _ _ _ c.read_head.ensures.store.only.keeps.committed_words
 
 pub returns-clause-any_exit : goal.returns-clause-any_exit
 returns-clause-any_exit g c = c.loop-i.invariant.only
 
-pub returns-in_err-page-clause-counted : goal.returns-in_err-page-clause-counted
-returns-in_err-page-clause-counted g c = none_ok _ _ _ c.from_residual.ensures.1
+pub returns-in_err-first-clause-counted : goal.returns-in_err-first-clause-counted
+returns-in_err-first-clause-counted g c = none_ok _ _ _ c.from_residual.ensures.1
 
 pub returns-in_err-fill_block-clause-counted : goal.returns-in_err-fill_block-clause-counted
 returns-in_err-fill_block-clause-counted g c = none_ok _ _ _ c.from_residual-in_err-fill_block.ensures.1
 
-pub returns-in_err-page-2-clause-counted : goal.returns-in_err-page-2-clause-counted
-returns-in_err-page-2-clause-counted g c = none_ok _ _ _ c.from_residual-in_err-page-2.ensures.1
+pub returns-in_err-page-clause-counted : goal.returns-in_err-page-clause-counted
+returns-in_err-page-clause-counted g c = none_ok _ _ _ c.from_residual-in_err-page.ensures.1
 
 pub returns-clause-counted : goal.returns-clause-counted
 returns-clause-counted g c =

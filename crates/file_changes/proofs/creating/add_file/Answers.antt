@@ -37,19 +37,22 @@ take-requires-clause-some g c = omega (arith, c.if-blocks-eq0.false)
 pub take-requires-clause-enough : goal.take-requires-clause-enough
 take-requires-clause-enough g c = c.requires.enough
 
+pub take-requires-clause-first : goal.take-requires-clause-first
+take-requires-clause-first g c = c.requires.first (omega (arith, c.if-blocks-eq0.false))
+
 pub take-requires-clause-room : goal.take-requires-clause-room
 take-requires-clause-room g c = omega (arith, c.requires.room)
 
-pub returns-in_err-chain-clause-done : goal.returns-in_err-chain-clause-done
-returns-in_err-chain-clause-done g c = none_ok _ _ _ c.from_residual.ensures.1
+pub returns-in_err-take-clause-done : goal.returns-in_err-take-clause-done
+returns-in_err-take-clause-done g c = none_ok _ _ _ c.from_residual.ensures.1
 
-pub returns-in_err-chain-clause-store : goal.returns-in_err-chain-clause-store
-returns-in_err-chain-clause-store g c =
+pub returns-in_err-take-clause-store : goal.returns-in_err-take-clause-store
+returns-in_err-take-clause-store g c =
     sets_in_handed 13 _ _ _ _ c.from_residual.ensures.1
-    (sets_in_within 2 13 _ _ _ (lit< tt) c.in_err-chain.ensures.store)
+    (sets_in_within 2 13 _ _ _ (lit< tt) c.in_err-take.ensures.store)
 
 pub write_entry-requires-2-clause-ready : goal.write_entry-requires-2-clause-ready
-write_entry-requires-2-clause-ready g c = c.in_ok-chain.ensures.store.ready
+write_entry-requires-2-clause-ready g c = c.in_ok-take.ensures.store.ready
 
 pub write_entry-requires-2-clause-within : goal.write_entry-requires-2-clause-within
 write_entry-requires-2-clause-within g c = c.requires.within
@@ -65,9 +68,9 @@ returns-clause-done g c =
     on_then _ _ c.write_entry-2.result
     (λ written. inr (record {
       between = current (memory_of c.take.new.txn);
-      chain = c.in_ok-chain.chain;
+      chain = c.args.run.chain;
       some = omega (arith, c.if-blocks-eq0.false);
-      takes = c.in_ok-chain.ensures.done;
+      takes = c.in_ok-take.ensures.done;
       writes = written;
     }))
     c.write_entry-2.ensures.done
@@ -79,8 +82,8 @@ returns-clause-store g c =
 pub returns-then-blocks-eq0-clause-runs : goal.returns-then-blocks-eq0-clause-runs
 returns-then-blocks-eq0-clause-runs g c = runs_weaker 1 3 _ _ (lit< tt) c.write_entry.ensures.runs
 
-pub returns-in_err-chain-clause-runs : goal.returns-in_err-chain-clause-runs
-returns-in_err-chain-clause-runs g c = runs_weaker 2 3 _ _ (lit< tt) c.in_err-chain.ensures.store.sets.writes
+pub returns-in_err-take-clause-runs : goal.returns-in_err-take-clause-runs
+returns-in_err-take-clause-runs g c = runs_weaker 2 3 _ _ (lit< tt) c.in_err-take.ensures.store.sets.writes
 
 pub returns-clause-runs : goal.returns-clause-runs
 returns-clause-runs g c =

@@ -173,6 +173,9 @@ returns-in_err-write_file-clause-any_exit g c =
     inr is.creates)
     c.write_file.ensures.any_exit
 
+pub find_place-requires-clause-free : goal.find_place-requires-clause-free
+find_place-requires-clause-free g c = c.requires.free
+
 pub find_place-requires-clause-fcp : goal.find_place-requires-clause-fcp
 find_place-requires-clause-fcp g c = c.requires.fcp
 

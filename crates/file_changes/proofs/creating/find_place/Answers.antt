@@ -6,6 +6,7 @@ use Rattle.card_state.specs.declared.fcp.Fcp.{Fcp}
 use Rattle.file_changes.specs.declared.placing.Place.{Place}
 use Rattle.file_changes.specs.declared.placing.Place.TheVariants.{At, Refused}
 use Rattle.file_changes.specs.CreationRefusals.{taken_refusal, place_refusal, first_reason}
+use Rattle.card_state.specs.Spaces.{free_space}
 use Rattle.file_tree.specs.Table.{path_of}
 use Rattle.file_tree.specs.Trees.{tree_of}
 use Rattle.std.proofs.lemmas.Result.{IfOk-weaker}
@@ -65,4 +66,6 @@ returns-in-None g c = record {
 pub place_for-requires : goal.place_for-requires
 place_for-requires g c = record {
   df = file_still _ _ _ c.taken.ensures.store.only c.in_ok-status.ensures.store.ready c.requires.df;
+  free = c.requires.free ∙ ap (λ (l : List ℕ). free_space (block_count l) (tree_of l))
+      (sym c.taken.ensures.store.only.keeps.committed_words);
 }

@@ -5,8 +5,10 @@ use Rattle.undo_journal.specs.Lent.{memory_of}
 use Rattle.undo_journal.specs.Memory.{committed, current, IsReady}
 use Rattle.block_chain.specs.declared.layout.TheConstants.{BLOCK_BYTES}
 use Rattle.block_chain.specs.Chains.{HasFree, free_chain, bytes_of}
-use Rattle.block_chain.specs.ChainChanges.{OnlyContent}
+use Rattle.block_chain.specs.ChainChanges.{IsFirstFree, OnlyContent}
+use Rattle.block_chain.specs.laws.Bytes.{blocks_take, leads_blocks}
 use Rattle.block_chain.specs.laws.Extents.{laid_has_free}
+use Rattle.block_chain.specs.laws.Footprints.{first_free_kept}
 use Rattle.file_tree.specs.declared.entry.Entry.{Entry}
 use Rattle.file_tree.specs.declared.layout.TheConstants.{CREATE_WRITES}
 use Rattle.card_state.specs.NewFiles.{blank}
@@ -59,6 +61,21 @@ add_file-work-requires-clause-enough g c =
     let free = ap (λ (l : List ℕ). length l) after.free in
     omega (arith, chain, free, c.requires.enough)
 
+pub add_file-work-requires-clause-first : goal.add_file-work-requires-clause-first
+add_file-work-requires-clause-first g c = λ some.
+    let m = committed c.args.store.now in
+    let n = c.args.blocks in
+    let sized = c.requires.ready.usable.committed_size in
+    let after = filled m (committed c.fill.new.store) _ sized c.requires.tree c.fill.ensures.any_exit in
+    let ready : IsReady c.fill.new.store = search rules in
+    let same : current (memory_of c.begin-txn.result) ≡ committed c.fill.new.store =
+    ap current c.begin-txn.ensures.same ∙ sym ready.same in
+    let free = laid_has_free (block_count m) m (extents (table m)) c.requires.tree.blocks in
+    let blocks = blocks_take m n (free_chain m) (leads_blocks m _ 0 (free_chain m) free.leads) in
+    subst (λ (l : List ℕ). IsFirstFree l n c.in_ok-run.run) (sym same)
+    (first_free_kept m (committed c.fill.new.store) (take n (free_chain m)) n c.in_ok-run.run blocks
+    c.fill.ensures.any_exit after.free (c.in_ok-run.ensures.found some))
+
 pub returns-clause-any_exit : goal.returns-clause-any_exit
 returns-clause-any_exit g c =
     let m = committed c.args.store.now in
@@ -67,9 +84,9 @@ returns-clause-any_exit g c =
     ⊎_elim (λ still. inl (left_filled m (take c.args.blocks (free_chain m))
     (committed c.fill.new.store) _ still c.fill.ensures.any_exit))
     (λ adds. inr (filled_and_added m c.args.e c.args.entry c.args.blocks
-    (committed c.fill.new.store) _ c.fill.ensures.any_exit c.in_ok-fill.ensures.done adds))
+    (committed c.fill.new.store) _ c.fill.ensures.any_exit c.in_ok-run.ensures.done adds))
     (ends (λ m after. AddsFile m c.args.e c.args.entry c.args.blocks after) _ c.add_file-work.result _ _
-    (memory_of c.add_file-work.new.txn) _ _ c.begin-txn.ensures.same last c.in_ok-fill.ensures.store.ready
+    (memory_of c.add_file-work.new.txn) _ _ c.begin-txn.ensures.same last c.in_ok-run.ensures.store.ready
     set.store.sets.kept set.done c.end.ensures.any_exit)
 
 pub returns-clause-done : goal.returns-clause-done
@@ -79,31 +96,31 @@ returns-clause-done g c =
     let last = c.store-1.given.1 (sym (set.store.sets.same_store ∙ c.begin-txn.ensures.same_store)) in
     on_then _ _ c.end.result
     (λ adds. filled_and_added m c.args.e c.args.entry c.args.blocks
-    (committed c.fill.new.store) _ c.fill.ensures.any_exit c.in_ok-fill.ensures.done adds)
+    (committed c.fill.new.store) _ c.fill.ensures.any_exit c.in_ok-run.ensures.done adds)
     (ends_done (λ m after. AddsFile m c.args.e c.args.entry c.args.blocks after) c.add_file-work.result c.end.result _ _
-    (memory_of c.add_file-work.new.txn) _ _ c.begin-txn.ensures.same last c.in_ok-fill.ensures.store.ready
+    (memory_of c.add_file-work.new.txn) _ _ c.begin-txn.ensures.same last c.in_ok-run.ensures.store.ready
     set.done c.end.ensures.answered c.end.ensures.done)
 
 pub returns-clause-store : goal.returns-clause-store
 returns-clause-store g c =
     let set = c.add_file-work.ensures in
     let last = c.store-1.given.1 (sym (set.store.sets.same_store ∙ c.begin-txn.ensures.same_store)) in
-    changes_on c.args.blocks 9 CREATE_WRITES _ _ _ _ (omega (arith, c.requires.few)) c.in_ok-fill.ensures.store
+    changes_on c.args.blocks 9 CREATE_WRITES _ _ _ _ (omega (arith, c.requires.few)) c.in_ok-run.ensures.store
     (ends_answered 13 3 9 c.add_file-work.result c.end.result _ _ (memory_of c.add_file-work.new.txn) _ _ (omega arith)
-    c.begin-txn.ensures.same last c.in_ok-fill.ensures.store.ready set.store.sets.taken set.store.sets.reports set.runs
+    c.begin-txn.ensures.same last c.in_ok-run.ensures.store.ready set.store.sets.taken set.store.sets.reports set.runs
     set.store.tells c.end.ensures.store c.end.ensures.answered)
 
-pub returns-in_err-fill-clause-any_exit : goal.returns-in_err-fill-clause-any_exit
-returns-in_err-fill-clause-any_exit g c =
+pub returns-in_err-run-clause-any_exit : goal.returns-in_err-run-clause-any_exit
+returns-in_err-run-clause-any_exit g c =
     inl c.fill.ensures.any_exit
 
-pub returns-in_err-fill-clause-store : goal.returns-in_err-fill-clause-store
-returns-in_err-fill-clause-store g c =
+pub returns-in_err-run-clause-store : goal.returns-in_err-run-clause-store
+returns-in_err-run-clause-store g c =
     changes_handed _ _ _ _ _ c.from_residual.ensures.1
-    (changes_within _ CREATE_WRITES _ _ _ (omega (arith, c.requires.few)) c.in_err-fill.ensures.store)
+    (changes_within _ CREATE_WRITES _ _ _ (omega (arith, c.requires.few)) c.in_err-run.ensures.store)
 
-pub returns-in_err-fill-clause-by_gate : goal.returns-in_err-fill-clause-by_gate
-returns-in_err-fill-clause-by_gate g c =
+pub returns-in_err-run-clause-by_gate : goal.returns-in_err-run-clause-by_gate
+returns-in_err-run-clause-by_gate g c =
     let m = committed c.args.store.now in
     let sized = c.requires.ready.usable.committed_size in
     record {

@@ -4,14 +4,17 @@ use Rattle.std.proofs.Common.{rules, ◌≡◌, ◌≢◌, ℕ, Bool, false, Lis
 use Rattle.std.proofs.Common.{arith, true≢false, inl, inr, refl}
 use Rattle.std.proofs.lemmas.Bool.Decides.{eqb_tells}
 use Rattle.undo_journal.specs.Memory.{committed}
-use Rattle.block_chain.specs.laws.Extents.{laid_has_free}
 use Rattle.file_tree.specs.declared.entry.Entry.{Entry}
 use Rattle.card_state.specs.Spaces.{blocks_for}
-use Rattle.file_tree.specs.Table.{table, ancestor, extents}
+use Rattle.file_tree.specs.Table.{table, ancestor}
 use Rattle.file_changes.specs.CreationParts.{TellsFreeEntry}
 use Rattle.file_changes.specs.laws.Places.{place_deepest, place_none, place_small, place_there}
-use Rattle.block_chain.specs.Chains.{free_chain, HasFree}
-use Rattle.undo_journal.specs.laws.Calls.{reads_then}
+use Rattle.block_chain.specs.Chains.{free_chain}
+use Rattle.card_state.specs.Spaces.{free_space}
+use Rattle.card_state.specs.declared.space.FreeSpace.{FreeSpace}
+use Rattle.file_tree.specs.Trees.{tree_of, TreeStands}
+use Rattle.file_tree.specs.laws.Costs.{space_counted}
+use Rattle.nvm_board.specs.Facts.{IsMemory}
 use Rattle.undo_journal.specs.laws.Told.{reads_handed, reads_on}
 use Rattle.file_changes.proofs.placing.place_for.Goals as goal
 
@@ -28,6 +31,12 @@ free_there : (m : List ℕ) (t : List Entry) (found o : Option ℕ) → t ≡ ta
 free_there m t found o is same told =
     let tells : Option ℕ → List Entry → Type 0 = λ p s. TellsFreeEntry s p in
     subst (λ (s : List Entry). tells o s) is (subst (λ (p : Option ℕ). tells p t) same told)
+
+-- the free blocks of the tree are the free chain
+free_blocks : (m : List ℕ) → IsMemory m → TreeStands m → (free : FreeSpace)
+    → free ≡ free_space (block_count m) (tree_of m) → free.blocks ≡ length (free_chain m)
+free_blocks m sized stands free is =
+    ap (λ (s : FreeSpace). s.blocks) is ∙ ap (λ (s : FreeSpace). s.blocks) (space_counted m sized stands)
 
 pub is_deepest-requires : goal.is_deepest-requires
 is_deepest-requires g c = record { df = c.requires.df }
@@ -69,25 +78,6 @@ returns-in_default g c = record {
   store = reads_on _ _ _ _ c.is_deepest.ensures.store.only c.in_ok-found.ensures.store;
 }
 
-pub free_up_to-requires-clause-ready : goal.free_up_to-requires-clause-ready
-free_up_to-requires-clause-ready g c = c.in_ok-found.ensures.store.ready
-
-pub free_up_to-requires-clause-free : goal.free_up_to-requires-clause-free
-free_up_to-requires-clause-free g c =
-    let m = committed c.args.store.now in
-    let words = c.first_free.ensures.store.only.keeps.committed_words
-    ∙ c.is_deepest.ensures.store.only.keeps.committed_words in
-    subst (λ (l : List ℕ). HasFree l) (sym words)
-    (laid_has_free (block_count m) m (extents (table m)) c.requires.df.tree.blocks)
-
-pub returns-in_err-free : goal.returns-in_err-free
-returns-in_err-free g c = record {
-  told = none_ok _ _ _ c.from_residual-in_err-free.ensures.1;
-  store = reads_handed _ _ _ _ c.from_residual-in_err-free.ensures.1
-      (reads_on _ _ _ _ (reads_then _ _ _ c.is_deepest.ensures.store.only c.first_free.ensures.store.only)
-      c.in_err-free.ensures.store);
-}
-
 pub returns-then-free-blocks : goal.returns-then-free-blocks
 returns-then-free-blocks g c = record {
   told = let m = committed c.args.store.now in
@@ -95,14 +85,11 @@ returns-then-free-blocks g c = record {
       let level = level_zero m (table m) _ _ refl c.if-deepest.false c.in_ok-deepest.ensures.told.1 in
       let free = free_there m _ _ _ (ap table c.is_deepest.ensures.store.only.keeps.committed_words) c.in-Some.is
       c.in_ok-found.ensures.told in
-      let chain = ap (λ (l : List ℕ). length (free_chain l)) (c.first_free.ensures.store.only.keeps.committed_words
-      ∙ c.is_deepest.ensures.store.only.keeps.committed_words) in
-      let count = c.in_ok-free.ensures.few c.if-free-blocks.true in
+      let count = free_blocks m sized c.requires.df.tree c.args.free c.requires.free in
       let blocks = c.blocks_for-blocks.ensures ∙ ap blocks_for c.size.ensures in
       sym (place_small m sized c.requires.df.tree c.args.df c.requires.df.used c.args.fcp.now.kind c.in-Some.e level
-      free (omega (arith, count, chain, blocks, c.if-free-blocks.true)));
-  store = reads_on _ _ _ _ (reads_then _ _ _ c.is_deepest.ensures.store.only c.first_free.ensures.store.only)
-      c.in_ok-free.ensures.store;
+      free (omega (arith, count, blocks, c.if-free-blocks.true)));
+  store = reads_on _ _ _ _ c.is_deepest.ensures.store.only c.in_ok-found.ensures.store;
 }
 
 pub returns : goal.returns
@@ -112,12 +99,9 @@ returns g c = record {
       let level = level_zero m (table m) _ _ refl c.if-deepest.false c.in_ok-deepest.ensures.told.1 in
       let free = free_there m _ _ _ (ap table c.is_deepest.ensures.store.only.keeps.committed_words) c.in-Some.is
       c.in_ok-found.ensures.told in
-      let chain = ap (λ (l : List ℕ). length (free_chain l)) (c.first_free.ensures.store.only.keeps.committed_words
-      ∙ c.is_deepest.ensures.store.only.keeps.committed_words) in
-      let least = c.in_ok-free.ensures.least in
+      let count = free_blocks m sized c.requires.df.tree c.args.free c.requires.free in
       let blocks = c.blocks_for-blocks.ensures ∙ ap blocks_for c.size.ensures in
       place_there m sized c.requires.df.tree c.args.df c.requires.df.used c.args.fcp.now.kind c.in-Some.e level free
-      (omega (arith, least, chain, blocks, c.if-free-blocks.false));
-  store = reads_on _ _ _ _ (reads_then _ _ _ c.is_deepest.ensures.store.only c.first_free.ensures.store.only)
-      c.in_ok-free.ensures.store;
+      (omega (arith, count, blocks, c.if-free-blocks.false));
+  store = reads_on _ _ _ _ c.is_deepest.ensures.store.only c.in_ok-found.ensures.store;
 }

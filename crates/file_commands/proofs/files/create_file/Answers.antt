@@ -1,16 +1,12 @@
-use Rattle.std.proofs.Common.{[], Ok, refl, sym, ◌∙◌, subst, arith}
+use Rattle.std.proofs.Common.{[], refl, sym, ◌∙◌, subst, arith}
 use Rattle.undo_journal.specs.Memory.{committed}
 use Rattle.file_changes.specs.Creations.{TellsCreation}
 use Rattle.file_changes.specs.declared.creating.Creation.{Creation}
-use Rattle.file_tree.specs.laws.Nodes.{used_small}
-use Rattle.card_state.specs.declared.status.TheConstants.Sw.{DONE}
 use Rattle.card_model.specs.Requests.{create_file}
-use Rattle.command_base.specs.declared.current.Current.{Current}
-use Rattle.command_base.specs.Served.{Serves}
 use Rattle.command_base.specs.Working.{card_in, session_in}
-use Rattle.file_commands.proofs.CreateServes.{created-counts, created-done, created-torn, creation-refused}
+use Rattle.file_commands.proofs.CreateServes.{created-counts, created-done, creation-refused}
 use Rattle.file_commands.proofs.CreateServes.{creation-taken}
-use Rattle.file_commands.proofs.CreateServes.{creation-taken-one, creation-torn, creation-used}
+use Rattle.file_commands.proofs.CreateServes.{creation-taken-one, creation-torn}
 use Rattle.file_commands.proofs.FileSteps.{create-refusal}
 use Rattle.command_base.specs.laws.Readings.{index_still}
 use Rattle.command_base.specs.laws.Serves.{halted}
@@ -38,26 +34,6 @@ returns-in-Refused-clause-serves g c =
     c.requires.kept.current c.args.template.now c.in_ok-fcp.fcp found c.find_new_file.ensures.store.only
     c.in-Refused.refusal tells c.create.ensures.idle c.in_ok-entry.ensures.store.ready
 
-pub read_entry-requires-clause-within : goal.read_entry-requires-clause-within
-read_entry-requires-clause-within g c =
-    let found = c.in_ok-fcp.ensures.told in
-    used_small (committed c.create.new.store) c.in-Created.entry
-    (creation-used _ c.find_new_file.new.store
-    c.create.new.store c.requires.kept.ready c.requires.kept.card c.args.current.now c.requires.kept.current
-    c.args.template.now c.in_ok-fcp.fcp found c.find_new_file.ensures.store.only c.in-Created.entry
-    c.in-Created.blocks c.in_ok-entry.field-0 c.in_ok-entry.ensures.done c.in-Created.is)
-
-pub returns-in_err-entry-2-clause-serves : goal.returns-in_err-entry-2-clause-serves
-returns-in_err-entry-2-clause-serves g c =
-    let found = c.in_ok-fcp.ensures.told in
-    created-torn _ c.find_new_file.new.store
-    c.create.new.store c.requires.kept.ready c.requires.kept.card c.args.current.now c.requires.kept.current
-    c.args.template.now c.in_ok-fcp.fcp found c.find_new_file.ensures.store.only c.in-Created.entry
-    c.in-Created.blocks c.in_ok-entry.field-0 c.in_ok-entry.ensures.done c.in-Created.is c.read_entry.new.store _
-    c.create.ensures.by_gate _
-    c.in_ok-entry.ensures.store (omega arith) c.in_err-entry-2.ensures.store _ _
-    (reply-failed _ _ c.from_residual-in_err-entry-2.ensures.1) refl
-
 pub overflow_sub-free : goal.overflow_sub-free
 overflow_sub-free g c =
     let found = c.in_ok-fcp.ensures.told in
@@ -74,38 +50,14 @@ overflow_sub-free-2 g c =
     found c.find_new_file.ensures.store.only c.in-Created.entry c.in-Created.blocks c.in_ok-entry.field-0
     c.in_ok-entry.ensures.done c.in-Created.is c.args.free.now c.requires.space
 
-pub returns-clause-serves : goal.returns-clause-serves
-returns-clause-serves g c =
-    let old = c.args.store.now in
-    let x = c.args.current.now in
-    let new = c.read_entry.new.store in
-    let found = c.in_ok-fcp.ensures.told in
-    subst (λ (y : Current). Serves (create_file c.args.template.now) old x new y [] (Ok DONE)) (sym c.at.ensures)
-    (created-done old c.find_new_file.new.store c.create.new.store c.requires.kept.ready c.requires.kept.card x
-    c.requires.kept.current c.args.template.now c.in_ok-fcp.fcp found c.find_new_file.ensures.store.only
-    c.in-Created.entry c.in-Created.blocks c.in_ok-entry.field-0 c.in_ok-entry.ensures.done c.in-Created.is
-    new _ c.create.ensures.by_gate _ c.in_ok-entry.ensures.store (omega arith) c.in_ok-entry-2.ensures.store
-    c.in_ok-entry-2.ensures.store.ready c.in_ok-entry-2.entry
-    c.in_ok-entry-2.ensures.entry)
-
-pub returns-clause-space : goal.returns-clause-space
-returns-clause-space g c =
-    let found = c.in_ok-fcp.ensures.told in
-    created-counts _ c.find_new_file.new.store
-    c.create.new.store c.requires.kept.ready c.requires.kept.card c.args.current.now c.requires.kept.current
-    c.args.template.now c.in_ok-fcp.fcp found c.find_new_file.ensures.store.only c.in-Created.entry
-    c.in-Created.blocks c.in_ok-entry.field-0 c.in_ok-entry.ensures.done c.in-Created.is c.read_entry.new.store _
-    c.create.ensures.by_gate _
-    c.in_ok-entry.ensures.store (omega arith) c.in_ok-entry-2.ensures.store c.args.free.now c.requires.space
+pub create-requires-clause-free : goal.create-requires-clause-free
+create-requires-clause-free g c =
+    c.requires.space ∙ sym (space-same c.args.store.now c.find_new_file.new.store
+    c.find_new_file.ensures.store.only.keeps.committed_words)
 
 pub create-requires-clause-index : goal.create-requires-clause-index
 create-requires-clause-index g c =
     index_still c.args.store.now c.find_new_file.new.store _ c.find_new_file.ensures.store.only c.requires.index
-
-pub returns-clause-index : goal.returns-clause-index
-returns-clause-index g c =
-    index_still c.create.new.store c.read_entry.new.store _ c.in_ok-entry-2.ensures.store.only
-    c.in_ok-entry.ensures.index
 
 pub returns-in_err-fcp-clause-serves : goal.returns-in_err-fcp-clause-serves
 returns-in_err-fcp-clause-serves g c =
@@ -132,8 +84,24 @@ returns-in_err-entry-clause-space g c = none-failed _ _ _ c.from_residual-in_err
 pub returns-in_err-entry-clause-index : goal.returns-in_err-entry-clause-index
 returns-in_err-entry-clause-index g c = none-failed _ _ _ c.from_residual-in_err-entry.ensures.1
 
-pub returns-in_err-entry-2-clause-space : goal.returns-in_err-entry-2-clause-space
-returns-in_err-entry-2-clause-space g c = none-failed _ _ _ c.from_residual-in_err-entry-2.ensures.1
+pub returns-clause-serves : goal.returns-clause-serves
+returns-clause-serves g c =
+    let found = c.in_ok-fcp.ensures.told in
+    created-done c.args.store.now c.find_new_file.new.store c.create.new.store c.requires.kept.ready
+    c.requires.kept.card c.args.current.now
+    c.requires.kept.current c.args.template.now c.in_ok-fcp.fcp found c.find_new_file.ensures.store.only
+    c.in-Created.entry c.in-Created.blocks c.in_ok-entry.field-0 c.in_ok-entry.ensures.done c.in-Created.is
+    c.create.ensures.by_gate _ c.in_ok-entry.ensures.store (omega arith) c.in_ok-entry.ensures.store.ready _
+    c.current_at.ensures
 
-pub returns-in_err-entry-2-clause-index : goal.returns-in_err-entry-2-clause-index
-returns-in_err-entry-2-clause-index g c = none-failed _ _ _ c.from_residual-in_err-entry-2.ensures.1
+pub returns-clause-space : goal.returns-clause-space
+returns-clause-space g c =
+    let found = c.in_ok-fcp.ensures.told in
+    created-counts _ c.find_new_file.new.store
+    c.create.new.store c.requires.kept.ready c.requires.kept.card c.args.current.now c.requires.kept.current
+    c.args.template.now c.in_ok-fcp.fcp found c.find_new_file.ensures.store.only c.in-Created.entry
+    c.in-Created.blocks c.in_ok-entry.field-0 c.in_ok-entry.ensures.done c.in-Created.is
+    c.create.ensures.by_gate _ c.in_ok-entry.ensures.store (omega arith) c.args.free.now c.requires.space
+
+pub returns-clause-index : goal.returns-clause-index
+returns-clause-index g c = c.in_ok-entry.ensures.index
