@@ -1,5 +1,12 @@
 -- What turns at the desk are to a script: power off, and a block straight to the card's end.
-use Rattle.std.proofs.Common.{◌≡◌, ◌∙◌, List, ℕ, None, Bor}
+use Rattle.std.proofs.Common.{◌≡◌, ◌∙◌, ap, Bool, List, ℕ, None, Some, Bor}
+use Rattle.t1_link.specs.ReaderTable.{Reader, fresh_reader}
+use Rattle.card_turns.specs.TurnResults.{is_started}
+use Rattle.card_turns.specs.Plays.{TellsItem}
+use Rattle.card_turns.specs.declared.turn_result.TurnResult.{TurnResult}
+use Rattle.card_turns.specs.declared.turn_result.TurnResult.TheVariants as turned
+use Rattle.card_bench.specs.DeskParts.{reader_there}
+use Rattle.card_turns.specs.declared.playing.Turn.{Turn}
 use Rattle.card_turns.specs.declared.playing.Turn.TheVariants as turn
 use Rattle.card_turns.specs.declared.playing.Item.{Item}
 use Rattle.card_turns.specs.declared.playing.Item.TheVariants.{Atr, Quiet, Mute, Dark, Reply}
@@ -40,4 +47,45 @@ block_taken old new got prints taken = record {
   reader = taken.reader ∙ none-started old.bench new.bench got.now taken.came taken.turn.one;
   line = taken.line;
   printed = taken.printed;
+}
+
+-- a turn at the desk, from its result at the bench
+pub turn-taken : (r : TurnResult) (answer block : List ℕ) (taken : Turn) (old new : Desk) (prints : Print)
+    (started : Bool) (reader : Reader) → started ≡ is_started r → reader ≡ fresh_reader
+    → TellsItem r block (λ i. GoodTurn old.bench taken i new.bench) → TellsItem r block (λ i. prints ≡ shown i)
+    → new.reader ≡ reader_there started reader → new.line ≡ old.line → TakesTurn taken old new prints
+turn-taken turned.Atr answer block taken old new prints started reader said fresh good printed there line = record {
+  came = Atr;
+  turn = good;
+  reader = there ∙ ap (λ (b : Bool). reader_there b reader) said ∙ ap (λ (r : Reader). Some r) fresh;
+  line = line;
+  printed = printed;
+}
+turn-taken turned.Quiet answer block taken old new prints started reader said fresh good printed there line = record {
+  came = Quiet;
+  turn = good;
+  reader = there ∙ ap (λ (b : Bool). reader_there b reader) said;
+  line = line;
+  printed = printed;
+}
+turn-taken turned.Mute answer block taken old new prints started reader said fresh good printed there line = record {
+  came = Mute;
+  turn = good;
+  reader = there ∙ ap (λ (b : Bool). reader_there b reader) said;
+  line = line;
+  printed = printed;
+}
+turn-taken turned.Dark answer block taken old new prints started reader said fresh good printed there line = record {
+  came = Dark;
+  turn = good;
+  reader = there ∙ ap (λ (b : Bool). reader_there b reader) said;
+  line = line;
+  printed = printed;
+}
+turn-taken turned.Reply answer block taken old new prints started reader said fresh good printed there line = record {
+  came = Reply block;
+  turn = good;
+  reader = there ∙ ap (λ (b : Bool). reader_there b reader) said;
+  line = line;
+  printed = printed;
 }

@@ -14,8 +14,8 @@ use Rattle.card_turns.specs.declared.playing.Item.TheVariants as item
 use Rattle.card_state.specs.declared.space.FreeSpace.{FreeSpace}
 use Rattle.card_turns.specs.BenchStates.{BenchState, IsWell, bench_facts, IsArmed}
 use Rattle.command_base.specs.Finding.{HasCard}
-use Rattle.card_turns.specs.declared.came.Came.{Came}
-use Rattle.card_turns.specs.declared.came.Came.TheVariants as came
+use Rattle.card_turns.specs.declared.turn_result.TurnResult.{TurnResult}
+use Rattle.card_turns.specs.declared.turn_result.TurnResult.TheVariants as turned
 use Rattle.card_turns.specs.Plays.{IsGood, TellsItem}
 use Rattle.card_turns.specs.Turns.{GoodTurn, Runs}
 use Rattle.card_bench.specs.SweptRuns.{SparesCommand}
@@ -61,7 +61,7 @@ behind_more depth number mask board between probe given more cut rest = record {
 }
 
 -- a look at a board
-pub ends-in : (board : Facts) (probe : List Turn) (first started last : BenchState) (told : Came) (reply : List ℕ)
+pub ends-in : (board : Facts) (probe : List Turn) (first started last : BenchState) (told : TurnResult) (reply : List ℕ)
     (trace : List Item) (free : FreeSpace) → board.faults ≡ 0 → board.due ≡ due_of board.pending → first
     ≡ off_with board → (IsGood first → IsGood started × TellsItem told reply (λ i. GoodTurn first turn.On i started))
     → (IsWell started → free ≡ free_of started)
@@ -82,20 +82,17 @@ ends-in board probe first started last told reply trace free fine due is start s
     }) on.1
 
 -- of what came, be it that power was lost or not
-spares-so : (told : Came) (reply : List ℕ) (P : Item → Type 0) (X R : Type 0) (dark : Bool)
-    → (dark ≡ false → told ≡ came.Dark → ⊥) → (dark ≡ false) ⊎ X → ((i : Item) → (i ≢ item.Dark) ⊎ X → P i → R)
+spares-so : (told : TurnResult) (reply : List ℕ) (P : Item → Type 0) (X R : Type 0) (dark : Bool)
+    → (dark ≡ false → told ≡ turned.Dark → ⊥) → (dark ≡ false) ⊎ X → ((i : Item) → (i ≢ item.Dark) ⊎ X → P i → R)
     → TellsItem told reply P → R
-spares-so came.Nothing reply P X R dark lit spared then holds = then item.Quiet (inl (λ e. cc)) holds
-spares-so came.Atr reply P X R dark lit spared then holds = then item.Atr (inl (λ e. cc)) holds
-spares-so came.Mute reply P X R dark lit spared then holds = then item.Mute (inl (λ e. cc)) holds
-spares-so came.Dark reply P X R dark lit spared then holds = elim spared [
+spares-so turned.Atr reply P X R dark lit spared then holds = then item.Atr (inl (λ e. cc)) holds
+spares-so turned.Quiet reply P X R dark lit spared then holds = then item.Quiet (inl (λ e. cc)) holds
+spares-so turned.Mute reply P X R dark lit spared then holds = then item.Mute (inl (λ e. cc)) holds
+spares-so turned.Dark reply P X R dark lit spared then holds = elim spared [
   | inl is ↦ absurd (lit is refl)
   | inr more ↦ then item.Dark (inr more) holds
 ]
-spares-so came.Lost reply P X R dark lit spared then holds = absurd holds
-spares-so came.Answer reply P X R dark lit spared then holds = absurd holds
-spares-so came.Block reply P X R dark lit spared then holds = then (item.Reply reply) (inl (λ e. cc)) holds
-spares-so (came.Free free) reply P X R dark lit spared then holds = absurd holds
+spares-so turned.Reply reply P X R dark lit spared then holds = then (item.Reply reply) (inl (λ e. cc)) holds
 
 -- the board of a bench that is left
 pending-of : (last : BenchState) (left : Facts) → left ≡ record (bench_facts last) { dark = true }
@@ -119,9 +116,9 @@ plays-on board left first last turns trace fine due is left_is plays card =
     }
 
 -- whether a board is left in which power was lost, with no cut to come
-module _ (board left : Facts) (first armed last : BenchState) (told : Came) (reply : List ℕ) (number mask : ℕ)
+module _ (board left : Facts) (first armed last : BenchState) (told : TurnResult) (reply : List ℕ) (number mask : ℕ)
     (dark : Bool) (fine : board.faults ≡ 0) (due : board.due ≡ due_of board.pending) (is : first ≡ off_with board)
-    (left_is : left ≡ record (bench_facts last) { dark = true }) (lit : dark ≡ false → told ≡ came.Dark → ⊥)
+    (left_is : left ≡ record (bench_facts last) { dark = true }) (lit : dark ≡ false → told ≡ turned.Dark → ⊥)
     (spared : (dark ≡ false) ⊎ (is_some left.pending ≡ true)) (card : HasCard board.words) where
   first-good : IsGood first
   first-good = subst (λ (b : BenchState). IsGood b) (sym is)
@@ -173,9 +170,9 @@ module _ (board left : Facts) (first armed last : BenchState) (told : Came) (rep
       }) (plays (arms before.0)).1
 
 -- the board that is left where power was lost, with no cut to come
-module _ (board left : Facts) (first armed last : BenchState) (told : Came) (reply : List ℕ) (number mask : ℕ)
+module _ (board left : Facts) (first armed last : BenchState) (told : TurnResult) (reply : List ℕ) (number mask : ℕ)
     (fine : board.faults ≡ 0) (due : board.due ≡ due_of board.pending) (is : first ≡ off_with board)
-    (left_is : left ≡ record (bench_facts last) { dark = true }) (dark : told ≡ came.Dark)
+    (left_is : left ≡ record (bench_facts last) { dark = true }) (dark : told ≡ turned.Dark)
     (fired : left.pending ≡ None) (card : HasCard board.words) where
   first-well : IsGood first
   first-well = subst (λ (b : BenchState). IsGood b) (sym is)
@@ -197,7 +194,7 @@ module _ (board left : Facts) (first armed last : BenchState) (told : Came) (rep
         arm = subst (λ (b : BenchState). IsArmed number mask b armed) is arm;
         good = good;
         good_left = played.0;
-        cut = subst (λ (t : Came). TellsItem t reply (λ i. GoodTurn armed turn.On i last)) dark played.1;
+        cut = subst (λ (t : TurnResult). TellsItem t reply (λ i. GoodTurn armed turn.On i last)) dark played.1;
         left_is = left_is;
         fired = fired;
         has_card = left-card played.0;
@@ -223,7 +220,7 @@ module _ (board left : Facts) (first armed last : BenchState) (told : Came) (rep
         good = good;
         good_left = played.0;
         cut = good-block armed last command item.Dark
-            (subst (λ (t : Came). TellsItem t reply (λ i. GoodTurn armed (turn.Block command) i last)) dark played.1);
+            (subst (λ (t : TurnResult). TellsItem t reply (λ i. GoodTurn armed (turn.Block command) i last)) dark played.1);
         left_is = left_is;
         fired = fired;
         has_card = left-card played.0;

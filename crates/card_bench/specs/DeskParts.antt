@@ -1,8 +1,9 @@
 -- The state of a `Desk`, from its fields.
 use Rattle.std.specs.Prelude.{ℕ, Bool, true, false, List, Option, None, Some}
 use Rattle.t1_link.specs.ReaderTable.{Reader}
-use Rattle.card_turns.specs.declared.came.Came.{Came}
-use Rattle.card_turns.specs.declared.came.Came.TheVariants.{Nothing, Atr, Mute, Dark, Lost, Answer, Block, Free}
+use Rattle.card_bench.specs.declared.line_result.LineResult.{LineResult}
+use Rattle.card_bench.specs.declared.line_result.LineResult.TheVariants.{Nothing, Atr, Mute, Dark, Lost, Answer}
+use Rattle.card_bench.specs.declared.line_result.LineResult.TheVariants.{Block, Free}
 use Rattle.card_bench.specs.Exchanges.{Desk}
 use Rattle.card_bench.specs.Printouts.{Print, prints_atr, prints_bytes, prints_dark, prints_free, prints_lost}
 use Rattle.card_bench.specs.Printouts.{prints_mute, prints_nothing}
@@ -18,7 +19,7 @@ reader_there false reader = None
 reader_there true reader = Some reader
 
 -- the output of a result, with the answer to the last command and the last returned block
-abbrev pub print_of : Came → List ℕ → List ℕ → Print
+abbrev pub print_of : LineResult → List ℕ → List ℕ → Print
 print_of Nothing answer block = prints_nothing
 print_of Atr answer block = prints_atr
 print_of Mute answer block = prints_mute

@@ -1,12 +1,10 @@
 //! The desk of a script: a bench, the reader's end of the link, and the line between the ends.
-ghost use Rattle.std.specs.Prelude.{◌≡◌, ◌≢◌, ◌≤◌, ◌⊎◌, ℕ, List, None, Err, length, take, true, false};
+ghost use Rattle.std.specs.Prelude.{◌≡◌, ◌≢◌, ◌≤◌, ◌⊎◌, ℕ, None, Err, length, take, true, false};
 ghost use Rattle.std.specs.Prelude.{IfErr, OnErr, OnOk};
 ghost use Rattle.std.specs.Io.KnownBytes.{Appends};
 ghost use Rattle.bench_lines.specs.declared.order.TheConstants.{COMMAND_LIMIT};
 ghost use Rattle.card_turns.specs.BenchStates.{bench_facts, off};
 ghost use Rattle.card_bench.specs.DeskParts.{print_of};
-ghost use Rattle.card_bench.specs.Exchanges.{printed_by};
-ghost use Rattle.card_bench.specs.ExchangeParts.{ended_of};
 ghost use Rattle.bench_lines.specs.OrderViews.{order_with};
 ghost use Rattle.bench_lines.specs.Orders.{IsOrderSized};
 ghost use Rattle.card_bench.specs.Performing.{Performs, PerformsCommand, TakesTurn, free_shown};
@@ -16,9 +14,10 @@ ghost use Rattle.card_bench.specs.Printouts.{prints_nothing, text_of};
 use crate::exchange::{Blocks, Ending, Ends, exchange};
 use crate::fault::RunFault;
 use crate::line::Line;
+use crate::line_result::LineResult;
 use crate::printing::{ATR, PrintedText, print_bytes, print_free, write_line};
 use bench_lines::Order;
-use card_turns::{Bench, Came, Turn};
+use card_turns::{Bench, Turn};
 use kept_board::Followed;
 use nvm_board::{Armed, Faultless, Socket};
 use std::io::Write;
@@ -32,7 +31,7 @@ pub(crate) struct Desk<B: Socket> {
     /// True while the two ends are in step, so that commands go.
     in_step: bool,
     /// The result of the last line.
-    came: Came,
+    came: LineResult,
 }
 
 impl<B: Socket> Model for Desk<B> {
@@ -72,7 +71,7 @@ impl<B: Socket> Desk<B> {
                 },
             },
             in_step: false,
-            came: Came::Nothing,
+            came: LineResult::Nothing,
         }
     }
 
@@ -90,14 +89,14 @@ impl<B: Socket> Desk<B> {
         ensures speaks { OnErr result (self.now.prints ≢ prints_nothing) }
     {
         match self.came {
-            Came::Nothing => Ok(()),
-            Came::Atr => write_line(writer, ATR),
-            Came::Mute => write_line(writer, b"mute\n"),
-            Came::Dark => write_line(writer, b"dark\n"),
-            Came::Lost => write_line(writer, b"lost\n"),
-            Came::Answer => print_bytes(writer, self.ends.reader.answer(), text),
-            Came::Block => print_bytes(writer, &self.ends.blocks.toward_reader, text),
-            Came::Free(free) => print_free(writer, free),
+            LineResult::Nothing => Ok(()),
+            LineResult::Atr => write_line(writer, ATR),
+            LineResult::Mute => write_line(writer, b"mute\n"),
+            LineResult::Dark => write_line(writer, b"dark\n"),
+            LineResult::Lost => write_line(writer, b"lost\n"),
+            LineResult::Answer => print_bytes(writer, self.ends.reader.answer(), text),
+            LineResult::Block => print_bytes(writer, &self.ends.blocks.toward_reader, text),
+            LineResult::Free(free) => print_free(writer, free),
         }
     }
 }
@@ -125,7 +124,7 @@ impl<B: Socket + Followed> Desk<B> {
         ensures fault { IfErr result (λ fault. (fault ≡ RunFault.Write) ⊎ (fault ≡ RunFault.Unkept)) }
         ensures speaks { OnErr result (self.now.prints ≢ prints_nothing) }
     {
-        if !matches!(self.came, Came::Nothing) && !self.ends.bench.board().follows() {
+        if !matches!(self.came, LineResult::Nothing) && !self.ends.bench.board().follows() {
             return Err(RunFault::Unkept);
         }
         self.print(writer, text)
@@ -141,7 +140,7 @@ impl<B: Armed + Faultless> Desk<B> {
         ensures good { IsGood self.new.desk.bench }
         ensures performs { Performs (order_with order given.now) self.old.desk self.new.desk self.new.prints }
     {
-        self.came = Came::Nothing;
+        self.came = LineResult::Nothing;
         match order {
             Order::Nothing => {}
             Order::On => self.turn(Turn::On),
@@ -162,12 +161,13 @@ impl<B: Armed + Faultless> Desk<B> {
         ensures good { IsGood self.new.desk.bench }
         ensures taken { TakesTurn turn.entry self.old.desk self.new.desk self.new.prints }
     {
-        self.came = self
+        let turned = self
             .ends
             .bench
             .turn_well(turn, &mut self.ends.blocks.toward_reader);
-        self.in_step = self.came.is_started();
+        self.in_step = turned.is_started();
         self.ends.reader.reset();
+        self.came = LineResult::of_turn(turned);
     }
 
     /// Reports the free space, valid while the board has no fault.
@@ -177,8 +177,8 @@ impl<B: Armed + Faultless> Desk<B> {
         ensures free { self.new.prints ≡ free_shown self.old.desk.bench }
     {
         match self.ends.bench.free() {
-            Some(free) => self.came = Came::Free(free),
-            None => self.came = Came::Mute,
+            Some(free) => self.came = LineResult::Free(free),
+            None => self.came = LineResult::Mute,
         }
     }
 
@@ -192,11 +192,11 @@ impl<B: Armed + Faultless> Desk<B> {
         ensures performs { PerformsCommand self.old.desk.bench self.old.desk command.now self.new.desk self.new.prints }
     {
         if !self.ends.bench.is_on() {
-            self.came = Came::Mute;
+            self.came = LineResult::Mute;
             return;
         }
         if !self.in_step {
-            self.came = Came::Lost;
+            self.came = LineResult::Lost;
             return;
         }
         let ending = exchange(&mut self.ends, command);
@@ -204,17 +204,6 @@ impl<B: Armed + Faultless> Desk<B> {
             Ending::Answered | Ending::SetBack => true,
             Ending::Lost | Ending::Dark => false,
         };
-        self.came = came_of(ending);
-    }
-}
-
-/// Returns the result of a command, from the end of its exchange.
-fn came_of(ending: Ending) -> Came
-    ensures { (answer reply : List ℕ) → print_of result answer reply ≡ printed_by (ended_of ending answer) }
-{
-    match ending {
-        Ending::Answered => Came::Answer,
-        Ending::SetBack | Ending::Lost => Came::Lost,
-        Ending::Dark => Came::Dark,
+        self.came = LineResult::of_command(ending);
     }
 }

@@ -9,7 +9,7 @@ ghost use Rattle.card_bench.specs.ExchangeParts.{ended_of, ends_of, flow_of, fol
 ghost use Rattle.card_turns.specs.Plays.{IsGood};
 
 use crate::line::Line;
-use card_turns::{Bench, Came, Turn};
+use card_turns::{Bench, Turn, TurnResult};
 use nvm_board::{Faultless, Socket};
 use std::ops::ControlFlow;
 use t1_link::{BlockBytes, Next, ReaderEnd};
@@ -116,9 +116,9 @@ fn pass<B: Socket + Faultless>(ends: &mut Ends<B>, toward: Toward) -> ControlFlo
                 Turn::Block(&ends.blocks.toward_card),
                 &mut ends.blocks.toward_reader,
             ) {
-                Came::Block => ControlFlow::Continue(Toward::Reader),
-                Came::Dark => ControlFlow::Break(Ending::Dark),
-                _ => unreachable!(),
+                TurnResult::Reply => ControlFlow::Continue(Toward::Reader),
+                // Power was on, so only its loss leaves a block without a reply.
+                _ => ControlFlow::Break(Ending::Dark),
             }
         }
         Toward::Reader => {

@@ -37,8 +37,5 @@ pub fn factory_board_of(alloc: Global, pages: u16) -> Result<CutBoard, AllocErro
     ensures uncut { IfOk result (λ board. (cut_facts board).pending ≡ None) }
 {
     // A new board has no pending cut, so it takes all writes.
-    match format(CutBoard::with_pages(alloc, pages)?) {
-        Ok(board) => Ok(board),
-        Err(_) => unreachable!(),
-    }
+    Ok(format(CutBoard::with_pages(alloc, pages)?).unwrap())
 }

@@ -8,6 +8,7 @@ mod fault;
 mod image;
 pub mod laws;
 mod line;
+mod line_result;
 mod masks;
 mod printing;
 mod script;

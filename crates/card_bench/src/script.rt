@@ -111,13 +111,12 @@ fn run_lines<B: Armed + Faultless + Followed, R: BufRead, W: Write>(
             return Err(RunFault::BadLine(number));
         };
         desk.perform(order, given.as_slice());
-        if let Err(fault) = desk.answer(writer, &mut text) {
-            return Err(fault);
-        }
+        desk.answer(writer, &mut text)?;
         match end {
             LineEnd::LineFeed => {}
             LineEnd::EndOfScript => return Ok(()),
         }
     }
-    unreachable!()
+    // More lines than that are more bytes than a script has.
+    Err(RunFault::Read)
 }

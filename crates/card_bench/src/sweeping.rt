@@ -17,7 +17,7 @@ ghost use Rattle.card_bench.specs.Sweeps.{GivenByRun, PlaysOn, free_of};
 use crate::masks::{mask_at, mask_count, words_to_try};
 use crate::tally::{Sweep, Trace, blank_trace};
 use card_core::FreeSpace;
-use card_turns::{Bench, Came, Turn};
+use card_turns::{Bench, Turn, TurnResult};
 use nvm_board::CutBoard;
 use std::alloc::{AllocError, Global};
 use t1_link::BlockBytes;
@@ -208,8 +208,8 @@ fn command_cut(plan: Plan<'_>, k: u32, mask: u16) -> Result<Option<CutBoard>, Al
     let _ = played(plan.alloc, &mut bench, plan.prepare)?;
     bench.arm_well(k, mask);
     let mut reply = BlockBytes::new();
-    let came = bench.turn_well(Turn::Block(plan.command), &mut reply);
-    Ok(cut_board(matches!(came, Came::Dark), bench.into_board()))
+    let turned = bench.turn_well(Turn::Block(plan.command), &mut reply);
+    Ok(cut_board(matches!(turned, TurnResult::Dark), bench.into_board()))
 }
 
 /// Returns the board if power was lost and no cut is pending.
@@ -270,8 +270,8 @@ fn start_cut(
     let mut bench = Bench::new(board.copy(alloc)?);
     bench.arm_well(k, mask);
     let mut reply = BlockBytes::new();
-    let came = bench.turn_well(Turn::On, &mut reply);
-    Ok(cut_board(matches!(came, Came::Dark), bench.into_board()))
+    let turned = bench.turn_well(Turn::On, &mut reply);
+    Ok(cut_board(matches!(turned, TurnResult::Dark), bench.into_board()))
 }
 
 /// Counts one run: an uncut power-on, and the probe.

@@ -3,39 +3,33 @@ use Rattle.std.specs.Prelude.{◌≡◌, List, ℕ}
 use Rattle.std.proofs.Common.{◌∙◌, refl, sym}
 use Rattle.core.specs.Borrow.{Bor}
 use Rattle.nvm_board.specs.Aims.{due_of}
-use Rattle.card_turns.specs.declared.came.Came.{Came}
-use Rattle.card_turns.specs.declared.came.Came.TheVariants as came
 use Rattle.card_turns.specs.declared.playing.Item.{Item}
 use Rattle.card_turns.specs.declared.playing.Item.TheVariants as item
 use Rattle.card_turns.specs.declared.playing.Turn.{Turn}
 use Rattle.card_turns.specs.declared.playing.Turn.TheVariants as turn
+use Rattle.card_turns.specs.declared.turn_result.TurnResult.{TurnResult}
+use Rattle.card_turns.specs.declared.turn_result.TurnResult.TheVariants as turned
 use Rattle.card_turns.specs.BenchStates.{BenchState, off, on, bench_facts, IsOn}
 use Rattle.card_turns.specs.Plays.{BringsNoFault, IsGood, Plays, PlaysBlock, TellsItem}
 use Rattle.card_turns.specs.Turns.{GoodBlock, GoodTurn, TakesBlock}
 
 -- what holds of the item holds of it in other words
-pub tells-so : (told : Came) (block : List ℕ) (P Q : Item → Type 0) → ((i : Item) → P i → Q i) → TellsItem told block P
+pub tells-so : (told : TurnResult) (block : List ℕ) (P Q : Item → Type 0) → ((i : Item) → P i → Q i) → TellsItem told block P
     → TellsItem told block Q
-tells-so came.Nothing block P Q weaker holds = weaker item.Quiet holds
-tells-so came.Atr block P Q weaker holds = weaker item.Atr holds
-tells-so came.Mute block P Q weaker holds = weaker item.Mute holds
-tells-so came.Dark block P Q weaker holds = weaker item.Dark holds
-tells-so came.Lost block P Q weaker holds = absurd holds
-tells-so came.Answer block P Q weaker holds = absurd holds
-tells-so came.Block block P Q weaker holds = weaker (item.Reply block) holds
-tells-so (came.Free free) block P Q weaker holds = absurd holds
+tells-so turned.Atr block P Q weaker holds = weaker item.Atr holds
+tells-so turned.Quiet block P Q weaker holds = weaker item.Quiet holds
+tells-so turned.Mute block P Q weaker holds = weaker item.Mute holds
+tells-so turned.Dark block P Q weaker holds = weaker item.Dark holds
+tells-so turned.Reply block P Q weaker holds = weaker (item.Reply block) holds
 
 -- what follows whatever the item is
-pub tells-then : (told : Came) (block : List ℕ) (P : Item → Type 0) (R : Type 0) → ((i : Item) → P i → R)
+pub tells-then : (told : TurnResult) (block : List ℕ) (P : Item → Type 0) (R : Type 0) → ((i : Item) → P i → R)
     → TellsItem told block P → R
-tells-then came.Nothing block P R then holds = then item.Quiet holds
-tells-then came.Atr block P R then holds = then item.Atr holds
-tells-then came.Mute block P R then holds = then item.Mute holds
-tells-then came.Dark block P R then holds = then item.Dark holds
-tells-then came.Lost block P R then holds = absurd holds
-tells-then came.Answer block P R then holds = absurd holds
-tells-then came.Block block P R then holds = then (item.Reply block) holds
-tells-then (came.Free free) block P R then holds = absurd holds
+tells-then turned.Atr block P R then holds = then item.Atr holds
+tells-then turned.Quiet block P R then holds = then item.Quiet holds
+tells-then turned.Mute block P R then holds = then item.Mute holds
+tells-then turned.Dark block P R then holds = then item.Dark holds
+tells-then turned.Reply block P R then holds = then (item.Reply block) holds
 
 -- a block is a turn
 pub plays-block : (old new : BenchState) (got : Bor (List ℕ)) (i : Item) → PlaysBlock old got.now i new
@@ -54,7 +48,7 @@ pub good-block : (old new : BenchState) (got : Bor (List ℕ)) (i : Item) → Go
 good-block old new got i good = record { one = good.one; counts = good.counts; wears = good.wears }
 
 -- a turn on a board that counts no fault
-module _ (told : Came) (block : List ℕ) (old new : BenchState) (t : Turn) (faults : (bench_facts new).faults ≡ 0)
+module _ (told : TurnResult) (block : List ℕ) (old new : BenchState) (t : Turn) (faults : (bench_facts new).faults ≡ 0)
     (due : (bench_facts new).due ≡ due_of (bench_facts new).pending) (good : IsGood old) where
   none : BringsNoFault old new
   none = record { faults = faults ∙ sym good.faults; well = good.well }
@@ -84,15 +78,12 @@ replies-on (off facts) new got block power takes = absurd power
 replies-on (on powered) (off facts) got block power takes = absurd takes
 replies-on (on powered) (on after) got block power takes = tt
 
--- or power is lost
-pub heard-so : (told : Came) (block got : List ℕ) (old new : BenchState) → IsOn old
-    → TellsItem told block (λ i. TakesBlock old got i new) → (told ≡ came.Block → ⊥) → (told ≡ came.Dark → ⊥) → ⊥
-heard-so told block got (off facts) new power takes other lit = absurd power
-heard-so came.Nothing block got (on powered) new power takes other lit = takes
-heard-so came.Atr block got (on powered) new power takes other lit = takes
-heard-so came.Mute block got (on powered) new power takes other lit = takes
-heard-so came.Dark block got (on powered) new power takes other lit = lit refl
-heard-so came.Lost block got (on powered) new power takes other lit = takes
-heard-so came.Answer block got (on powered) new power takes other lit = takes
-heard-so came.Block block got (on powered) new power takes other lit = other refl
-heard-so (came.Free free) block got (on powered) new power takes other lit = takes
+-- with power on, a block without a reply is one in which power was lost
+pub lost-so : (told : TurnResult) (block got : List ℕ) (old new : BenchState) → IsOn old
+    → TellsItem told block (λ i. GoodBlock old got i new) → (told ≡ turned.Reply → ⊥) → GoodBlock old got item.Dark new
+lost-so told block got (off facts) new power good silent = absurd power
+lost-so turned.Atr block got (on powered) new power good silent = absurd good.one
+lost-so turned.Quiet block got (on powered) new power good silent = absurd good.one
+lost-so turned.Mute block got (on powered) new power good silent = absurd good.one
+lost-so turned.Dark block got (on powered) new power good silent = good
+lost-so turned.Reply block got (on powered) new power good silent = absurd (silent refl)

@@ -3,10 +3,10 @@ use Rattle.std.specs.Prelude.{◌≡◌, ℕ, List}
 use Rattle.nvm_board.specs.Aims.{due_of}
 use Rattle.command_base.specs.declared.spending.TheConstants.{COMMAND_WRITES}
 use Rattle.card_turns.specs.declared.playing.Turn.{Turn}
-use Rattle.card_turns.specs.declared.came.Came.{Came}
-use Rattle.card_turns.specs.declared.came.Came.TheVariants as came
 use Rattle.card_turns.specs.declared.playing.Item.{Item}
 use Rattle.card_turns.specs.declared.playing.Item.TheVariants.{Atr, Quiet, Mute, Dark, Reply}
+use Rattle.card_turns.specs.declared.turn_result.TurnResult.{TurnResult}
+use Rattle.card_turns.specs.declared.turn_result.TurnResult.TheVariants as turned
 use Rattle.card_turns.specs.BenchStates.{BenchState, bench_facts, BenchHasCard, IsWell}
 use Rattle.card_turns.specs.Guessing.{GuessesFew}
 use Rattle.card_turns.specs.Turns.{CountsLosses, OneTurn, Runs, Spends, TakesBlock, Wears, dark_of, darks, turn_writes}
@@ -24,15 +24,12 @@ pub record IsGood (b : BenchState) : Type 0 where
   pub well : IsWell b
 
 -- The result of a turn, for which `Holds` is true. A returned block is in a buffer.
-abbrev pub TellsItem : Came → List ℕ → (Item → Type 0) → Type 0
-TellsItem came.Nothing block Holds = Holds Quiet
-TellsItem came.Atr block Holds = Holds Atr
-TellsItem came.Mute block Holds = Holds Mute
-TellsItem came.Dark block Holds = Holds Dark
-TellsItem came.Lost block Holds = ⊥
-TellsItem came.Answer block Holds = ⊥
-TellsItem came.Block block Holds = Holds (Reply block)
-TellsItem (came.Free free) block Holds = ⊥
+abbrev pub TellsItem : TurnResult → List ℕ → (Item → Type 0) → Type 0
+TellsItem turned.Atr block Holds = Holds Atr
+TellsItem turned.Quiet block Holds = Holds Quiet
+TellsItem turned.Mute block Holds = Holds Mute
+TellsItem turned.Dark block Holds = Holds Dark
+TellsItem turned.Reply block Holds = Holds (Reply block)
 
 -- One turn.
 pub record Plays (old : BenchState) (turn : Turn) (item : Item) (new : BenchState) : Type 0 where

@@ -7,8 +7,8 @@ ghost use Rattle.card_turns.specs.Guessing.{GuessesFew};
 ghost use Rattle.card_turns.specs.Plays.{Plays, PlaysBlock, BringsNoFault, IsGood, TellsItem};
 ghost use Rattle.card_turns.specs.Turns.{CountsLosses, GoodTurn, Runs, darks};
 
-use crate::came::Came;
 use crate::powered::Powered;
+use crate::turn_result::TurnResult;
 use card_core::{FreeSpace, StartFault};
 use core::mem::replace_with;
 use nvm_board::{Armed, Faultless, Socket, has_no_fault};
@@ -26,7 +26,7 @@ pub enum Turn<'a> {
     Block(&'a [u8]),
 }
 
-/// The result of a turn.
+/// The result of a turn, with its block.
 #[derive(Drop)]
 pub enum Item {
     /// The card booted, and gave its answer to reset.
@@ -123,39 +123,38 @@ impl<B: Socket> Bench<B> {
         }
     }
 
-    /// Plays a turn, and keeps what comes of it.
+    /// Plays a turn, and returns its result with the block.
     fn item(&mut self, turn: Turn<'_>) -> Item
         ensures { Plays self.old turn.entry result self.new }
     {
         let mut reply = BlockBytes::new();
         match self.turn(turn, &mut reply) {
-            Came::Nothing => Item::Quiet,
-            Came::Atr => Item::Atr,
-            Came::Mute => Item::Mute,
-            Came::Dark => Item::Dark,
-            Came::Block => Item::Reply(reply),
-            Came::Lost | Came::Answer | Came::Free(_) => unreachable!(),
+            TurnResult::Atr => Item::Atr,
+            TurnResult::Quiet => Item::Quiet,
+            TurnResult::Mute => Item::Mute,
+            TurnResult::Dark => Item::Dark,
+            TurnResult::Reply => Item::Reply(reply),
         }
     }
 
     /// Plays a turn, and writes a returned block into the buffer.
     // Inlined into its callers, like the two calls below, so that a known turn needs no branch at run time.
     #[inline(always)]
-    fn turn(&mut self, turn: Turn<'_>, reply: &mut BlockBytes) -> Came
+    fn turn(&mut self, turn: Turn<'_>, reply: &mut BlockBytes) -> TurnResult
         ensures { TellsItem result reply.new (λ item. Plays self.old turn.entry item self.new) }
     {
         match turn {
             Turn::On => self.turn_on(),
             Turn::Off => {
                 self.turn_off();
-                Came::Nothing
+                TurnResult::Quiet
             }
             Turn::Block(block) => self.send(block, reply),
         }
     }
 
     /// Powers the card on, after power off if it is on. No block returns.
-    fn turn_on(&mut self) -> Came
+    fn turn_on(&mut self) -> TurnResult
         ensures { (reply : List ℕ) → TellsItem result reply (λ item. Plays self.old Turn.On item self.new) }
     {
         replace_with(&mut self.power, (), Power::start)
@@ -170,16 +169,16 @@ impl<B: Socket> Bench<B> {
 
     /// Sends a block to the card's end of the link.
     #[inline(always)]
-    fn send(&mut self, block: &[u8], reply: &mut BlockBytes) -> Came
+    fn send(&mut self, block: &[u8], reply: &mut BlockBytes) -> TurnResult
         ensures { TellsItem result reply.new (λ item. PlaysBlock self.old block.now item self.new) }
     {
         match &mut self.power {
-            Power::Off(_) => Came::Mute,
+            Power::Off(_) => TurnResult::Mute,
             Power::On(powered) => match powered.block(block, reply) {
-                Ok(()) => Came::Block,
+                Ok(()) => TurnResult::Reply,
                 Err(_) => {
                     replace_with(&mut self.power, (), Power::darken);
-                    Came::Dark
+                    TurnResult::Dark
                 }
             },
         }
@@ -259,13 +258,13 @@ impl<B: Socket + Faultless> Bench<B> {
 
     /// Plays a turn on a board without faults (`turn`).
     #[inline(always)]
-    pub fn turn_well(&mut self, turn: Turn<'_>, reply: &mut BlockBytes) -> Came
+    pub fn turn_well(&mut self, turn: Turn<'_>, reply: &mut BlockBytes) -> TurnResult
         ensures { IsGood self.old
             → IsGood self.new × TellsItem result reply.new (λ item. GoodTurn self.old turn.entry item self.new) }
     {
-        let came = self.turn(turn, reply);
+        let turned = self.turn(turn, reply);
         self.has_no_fault();
-        came
+        turned
     }
 
     /// Proves that the board has no fault, and set cuts are due.
@@ -303,24 +302,25 @@ impl<B: Socket> Power<B> {
     }
 
     /// Powers the card on, after power off if it is on.
-    fn start(self, _: ()) -> (Power<B>, Came)
+    fn start(self, _: ()) -> (Power<B>, TurnResult)
         ensures plays { (reply : List ℕ) → TellsItem result.1 reply
             (λ item. Plays (power_state B.facts self) Turn.On item (power_state B.facts result.0)) }
         ensures kept { IsPowerKept B.facts result.0 }
     {
         let mut board = self.into_dark_board();
         let Ok(()) = board.light() else {
-            return (Power::Off(board), Came::Mute);
+            return (Power::Off(board), TurnResult::Mute);
         };
         match Powered::start(board) {
-            Ok(powered) => (Power::On(powered), Came::Atr),
+            Ok(powered) => (Power::On(powered), TurnResult::Atr),
             Err((mut board, fault)) => {
                 board.power_off();
-                let came = match fault {
-                    StartFault::PowerLost => Came::Dark,
-                    StartFault::Fault | StartFault::BadJournal | StartFault::Damaged => Came::Mute,
+                let turned = match fault {
+                    StartFault::PowerLost => TurnResult::Dark,
+                    StartFault::Fault | StartFault::BadJournal | StartFault::Damaged =>
+                        TurnResult::Mute,
                 };
-                (Power::Off(board), came)
+                (Power::Off(board), turned)
             }
         }
     }

@@ -5,13 +5,13 @@ use Rattle.card_bench.specs.Exchanges.{power_lost, toward_reader}
 use Rattle.card_bench.specs.declared.exchange.Toward.{Toward}
 use Rattle.card_bench.specs.ExchangeParts.{ends_of, next_block}
 use Rattle.card_bench.specs.Exchanges.{Passes}
-use Rattle.card_turns.specs.Turns.{GoodTurn, TakesBlock}
+use Rattle.card_turns.specs.Turns.{GoodBlock, GoodTurn}
 use Rattle.card_bench.proofs.ExchangeRuns.{takes_there}
-use Rattle.card_turns.proofs.TurnsTold.{good-block, heard-so, replies-on, tells-so}
+use Rattle.card_turns.proofs.TurnsTold.{good-block, lost-so, replies-on, tells-so}
 use Rattle.card_bench.proofs.exchange.pass.Goals as goal
 
-pub returns-in-Block-clause-passes : goal.returns-in-Block-clause-passes
-returns-in-Block-clause-passes g c =
+pub returns-in-Reply-clause-passes : goal.returns-in-Reply-clause-passes
+returns-in-Reply-clause-passes g c =
     let put = c.put.new.block in
     let came = sym c.put.ensures.arrives ∙ ap (λ (b : Bool). if b then Some put else None) c.if-not-put.false
     ∙ ap (λ (got : List ℕ). Some got) (sym c.deref.ensures.0) in
@@ -21,14 +21,14 @@ returns-in-Block-clause-passes g c =
     (Ok (toward_reader c.turn_well.new.reply)))
     (sym c.in-Card.is)
     (takes_there _ _ _ _ _ _ c.deref.result.now (Ok (toward_reader c.turn_well.new.reply)) c.put.ensures.after came
-    (good-block _ _ c.deref.result _ (c.in-Block.ensures c.requires.good).1))
+    (good-block _ _ c.deref.result _ (c.in-Reply.ensures c.requires.good).1))
 
-pub returns-in-Block-clause-power : goal.returns-in-Block-clause-power
-returns-in-Block-clause-power g c =
-    replies-on _ _ c.deref.result.now c.turn_well.new.reply c.requires.power (c.in-Block.ensures c.requires.good).1.one
+pub returns-in-Reply-clause-power : goal.returns-in-Reply-clause-power
+returns-in-Reply-clause-power g c =
+    replies-on _ _ c.deref.result.now c.turn_well.new.reply c.requires.power (c.in-Reply.ensures c.requires.good).1.one
 
-pub returns-in-Dark-clause-passes : goal.returns-in-Dark-clause-passes
-returns-in-Dark-clause-passes g c =
+pub returns-in_default-clause-passes : goal.returns-in_default-clause-passes
+returns-in_default-clause-passes g c =
     let put = c.put.new.block in
     let came = sym c.put.ensures.arrives ∙ ap (λ (b : Bool). if b then Some put else None) c.if-not-put.false
     ∙ ap (λ (got : List ℕ). Some got) (sym c.deref.ensures.0) in
@@ -37,13 +37,7 @@ returns-in-Dark-clause-passes g c =
     (record { bench = c.turn_well.new.self; reader = c.args.ends.now.reader; line = c.put.new.self }) (Err power_lost))
     (sym c.in-Card.is)
     (takes_there _ _ _ _ _ _ c.deref.result.now (Err power_lost) c.put.ensures.after came
-    (good-block _ _ c.deref.result _ (c.in-Dark.ensures c.requires.good).1))
-
-pub unreachable-unreachable : goal.unreachable-unreachable
-unreachable-unreachable g c =
-    let block = c.turn_well.new.reply in
-    let turned = (c.turn_well.ensures c.requires.good).1 in
-    heard-so c.turn_well.result block c.deref.result.now _ _ c.requires.power
-    (tells-so c.turn_well.result block (λ i. GoodTurn _ (turn.Block c.deref.result) i _)
-    (λ i. TakesBlock _ c.deref.result.now i _) (λ i good. good.one) turned)
-    c.in_default.not-Block c.in_default.not-Dark
+    (lost-so c.turn_well.result c.turn_well.new.reply c.deref.result.now _ _ c.requires.power
+    (tells-so c.turn_well.result c.turn_well.new.reply (λ i. GoodTurn _ (turn.Block c.deref.result) i _)
+    (λ i. GoodBlock _ c.deref.result.now i _) (good-block _ _ c.deref.result)
+    (c.turn_well.ensures c.requires.good).1) c.in_default.not-Reply))

@@ -1,5 +1,6 @@
-use Rattle.std.proofs.Common.{◌≡◌, ◌+◌, ◌-◌, ℕ, List, Option, Some, None, IfSome, Err}
+use Rattle.std.proofs.Common.{◌≡◌, ◌+◌, ◌-◌, ℕ, List, Option, Some, None, IfErr, IfSome, Result, Ok, Err}
 use Rattle.std.proofs.Common.{inl, inr, subst, sym, ◌∙◌, ap, arith}
+use Rattle.std.specs.Prelude.{IsErrAnd}
 use Rattle.bench_lines.specs.declared.reading.LineFault.TheVariants.{Read, TooLong, TooMuch}
 use Rattle.card_bench.specs.declared.fault.RunFault.{RunFault}
 use Rattle.card_bench.specs.ScriptEndings.{IsRunToLine, IsRunUnkept, RunStopsBy}
@@ -40,11 +41,12 @@ returns-in-Err-TooMuch-clause-stopped g c =
     is_unread _ _ _ _ _ _ _ _ _ _ c.loop-number.invariant.so_far
     (c.in-Err-TooMuch.ensures.stopped (λ e. much-apart (sym c.in-Err-TooMuch.field-0-is ∙ e))) c.read_line.ensures.taken
 
-pub unreachable-unreachable : goal.unreachable-unreachable
-unreachable-unreachable g c =
+-- a script has no more lines than bytes
+pub returns-clause-stopped : goal.returns-clause-stopped
+returns-clause-stopped g c =
     let turns = c.loop-number.invariant.turns in
     let taken = c.loop-number.invariant.taken in
-    omega (arith, turns, taken, c.loop-number-test.false)
+    absurd (omega (arith, turns, taken, c.loop-number-test.false))
 
 pub returns-in_default-clause-stopped : goal.returns-in_default-clause-stopped
 returns-in_default-clause-stopped g c =
@@ -58,8 +60,13 @@ returns-in_default-clause-stopped g c =
     (is_bad _ script _ _ (c.loop-number.number - 1) _ _ c.read_line.new.line.items c.in-Ok.end _ held holds
     c.loop-number.invariant.so_far c.in-Ok.ensures.line c.in-Ok.ensures.counted c.read_line.ensures.taken bad)
 
-pub returns-in-Err-clause-stopped : goal.returns-in-Err-clause-stopped
-returns-in-Err-clause-stopped g c =
+-- what holds of a fault holds of the result that it became
+passed_on : {T E : Type 0} (r : Result T E) (e : E) (P : E → Type 0) → IsErrAnd r (λ f. f ≡ e) → P e → IfErr r P
+passed_on (Ok v) e P is holds = absurd is
+passed_on (Err f) e P is holds = subst P (sym is) holds
+
+pub returns-in_err-answer-clause-stopped : goal.returns-in_err-answer-clause-stopped
+returns-in_err-answer-clause-stopped g c =
     let order = order_with c.in-Some.order c.as_slice.result.now in
     let good : order_of c.read_line.new.line.items ≡ Some order =
     ap order_of (sym c.deref.ensures.0) ∙ sym c.in-Some.ensures
@@ -70,21 +77,24 @@ returns-in-Err-clause-stopped g c =
     let held = g.W.Write.contents c.args.writer.now in
     let before = g.W.Write.contents c.loop-number.writer in
     let after = g.W.Write.contents c.answer.new.writer in
-    let loud = speaks c.perform.new.self.prints c.in-Err.ensures.speaks in
-    elim c.in-Err.ensures.fault [
+    let loud = speaks c.perform.new.self.prints c.in_err-answer.ensures.speaks in
+    let stops : RunStopsBy first c.in_err-answer.field-0.0 script left held after =
+    elim c.in_err-answer.ensures.fault [
       | inl write ↦
           subst (λ (f : RunFault). RunStopsBy first f script left held after) (sym write)
           (is_unwritten _ _ _ _ _ _ _ _ c.in-Ok.end _ _ _ _ _ _ _ c.loop-number.invariant.so_far c.in-Ok.ensures.line
           c.in-Ok.ensures.counted c.read_line.ensures.taken good c.perform.ensures.performs c.perform.ensures.good
-          loud (c.in-Err.ensures.unwritten (ap Err write)))
+          loud (c.in_err-answer.ensures.unwritten (ap Err write)))
       | inr unkept ↦
           subst (λ (f : RunFault). RunStopsBy first f script left held after) (sym unkept)
           (subst (λ (w : Option (List ℕ)). WhereKnown script left (λ bytes rest. IsRunUnkept first bytes rest held w))
-          (sym (c.in-Err.ensures.unkept (ap Err unkept)))
+          (sym (c.in_err-answer.ensures.unkept (ap Err unkept)))
           (is_unanswered _ _ _ _ _ _ _ _ c.in-Ok.end _ _ _ _ _ _ c.loop-number.invariant.so_far c.in-Ok.ensures.line
           c.in-Ok.ensures.counted c.read_line.ensures.taken good c.perform.ensures.performs c.perform.ensures.good
           loud))
-    ]
+    ] in
+    passed_on _ c.in_err-answer.field-0.0 (λ (f : RunFault). RunStopsBy first f script left held after)
+    c.from_residual.ensures.1 stops
 
 pub perform-requires-clause-sized : goal.perform-requires-clause-sized
 perform-requires-clause-sized g c =
@@ -105,7 +115,7 @@ returns-in-EndOfScript-clause-done g c =
     is_done _ _ old new _ _ _ _ _ _ _ _ _ _ _ c.loop-number.invariant.so_far
     (subst (TakesLine old new c.read_line.new.line.items) c.in-EndOfScript.is c.in-Ok.ensures.line)
     c.in-Ok.ensures.counted c.read_line.ensures.taken good c.perform.ensures.performs c.perform.ensures.good
-    c.in_default-answer.ensures.wrote
+    c.in_ok-answer.ensures.wrote
 
 pub loop-number-init : goal.loop-number-init
 loop-number-init g c =
@@ -136,5 +146,5 @@ loop-number-preserved g c =
           (goes_on _ first old new _ _ _ _ _ _ _ _ _ _ _ c.loop-number.invariant.so_far
           (subst (TakesLine old new c.read_line.new.line.items) c.in-LineFeed.is c.in-Ok.ensures.line)
           c.in-Ok.ensures.counted good c.perform.ensures.performs c.perform.ensures.good
-          c.in_default-answer.ensures.wrote);
+          c.in_ok-answer.ensures.wrote);
     }

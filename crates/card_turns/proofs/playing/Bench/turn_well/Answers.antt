@@ -3,4 +3,4 @@ use Rattle.card_turns.proofs.playing.Bench.turn_well.Goals as goal
 
 pub returns : goal.returns
 returns g c = λ good.
-    good-turn _ _ _ _ _ c.has_no_fault.ensures.faults c.has_no_fault.ensures.due good c.turn-came.ensures
+    good-turn _ _ _ _ _ c.has_no_fault.ensures.faults c.has_no_fault.ensures.due good c.turn-turned.ensures

@@ -2,8 +2,8 @@ use Rattle.std.proofs.Common.{ap, refl, subst, sym, ◌∙◌}
 use Rattle.nvm_board.specs.Facts.{Facts}
 use Rattle.card_turns.proofs.FewGuesses.{writing-compares}
 use Rattle.card_turns.proofs.PowerTurns.{starts, stays_mute, ends_dark, ends_mute}
-use Rattle.card_turns.specs.declared.came.Came.{Came}
 use Rattle.card_turns.specs.declared.playing.Turn.TheVariants.{On}
+use Rattle.card_turns.specs.declared.turn_result.TurnResult.{TurnResult}
 use Rattle.card_turns.specs.BenchStates.{off}
 use Rattle.card_turns.specs.BenchViews.{power_state, HasEachCount}
 use Rattle.card_turns.specs.Plays.{Plays, TellsItem}
@@ -57,14 +57,14 @@ returns-after-fault-clause-plays g c =
     let spent = c.in-Err.ensures.writes_err in
     λ reply. elim c.match-fault.branch [
       | in-PowerLost w ↦
-          subst (λ (told : Came). TellsItem told reply (λ i. Plays old On i (off new))) (sym w.came-is)
+          subst (λ (told : TurnResult). TellsItem told reply (λ i. Plays old On i (off new))) (sym w.turned-is)
           (ends_dark old dark c.into_dark_board-board.ensures
           lit lights (g.met.B.Board.is_board c.light.new.self).sized stopped new c.in-Err.ensures.found_err
           c.in-Err.ensures.kept_err
           c.power_off.ensures
           spent c.in-Err.fault w.in-PowerLost.is c.in-Err.ensures.stopped)
       | in-Fault w ↦
-          subst (λ (told : Came). TellsItem told reply (λ i. Plays old On i (off new))) (sym w.came-is)
+          subst (λ (told : TurnResult). TellsItem told reply (λ i. Plays old On i (off new))) (sym w.turned-is)
           (ends_mute old dark c.into_dark_board-board.ensures
           lit lights (g.met.B.Board.is_board c.light.new.self).sized stopped new c.in-Err.ensures.found_err
           c.in-Err.ensures.kept_err
