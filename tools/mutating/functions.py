@@ -6,7 +6,8 @@ from dataclasses import dataclass
 from functools import lru_cache
 from pathlib import Path
 
-HEAD = re.compile(r"^( *)(?:pub(?:\(\w+\))? )?(?:final )?(const )?fn (\w+)")
+HEAD = re.compile(r"^( *)(pub )?(?:pub\(\w+\) )?(?:final )?(const )?fn (\w+)")
+BLOCK = re.compile(r"(?:pub )?(?:impl|trait)\b")
 
 
 @dataclass(frozen=True)
@@ -19,6 +20,8 @@ class Function:
     end: int
     # other functions and constants may be computed by its body
     is_const: bool
+    # other crates may call it, and it has an `ensures` of its own
+    is_promise: bool
 
     def has(self, path: str, line: int) -> bool:
         """True for a line of it, or of a file of its own proof."""
@@ -39,8 +42,23 @@ def functions_in(path: str, text: str) -> list[Function]:
         end = at
         if not (line.endswith("}") and line.count("{") == line.count("}")):
             end = next((it for it in range(at, len(lines)) if lines[it] == f"{head[1]}}}"), at)
-        found.append(Function(path, head[3], at + 1, end + 1, bool(head[2])))
+        is_open = bool(head[2]) or implements_trait(lines, at)
+        is_promise = is_open and has_ensures(lines[at : end + 1], head[1])
+        found.append(Function(path, head[4], at + 1, end + 1, bool(head[3]), is_promise))
     return found
+
+
+def implements_trait(lines: list[str], at: int) -> bool:
+    """True if the innermost block of methods before a line implements a trait."""
+    if not lines[at].startswith(" "):
+        return False
+    return " for " in next((it for it in reversed(lines[:at]) if BLOCK.match(it)), "")
+
+
+def has_ensures(lines: list[str], indent: str) -> bool:
+    """True if a function has an `ensures` before its body, which begins with a brace in the column of its head."""
+    head = lines[: lines.index(f"{indent}{{")] if f"{indent}{{" in lines else []
+    return any(it.lstrip().startswith("ensures") for it in head)
 
 
 @lru_cache(maxsize=None)
