@@ -5,7 +5,7 @@ from __future__ import annotations
 from .edits import Edit
 
 # the mutants of a check: each takes memory beside the others
-MOST = 12
+MOST = 24
 
 
 def fits(edit: Edit, group: list[Edit]) -> bool:

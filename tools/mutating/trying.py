@@ -1,7 +1,6 @@
 """Checks of a copy of the repository with mutants in its sources."""
 from __future__ import annotations
 
-import contextlib
 import os
 import re
 import shutil
@@ -32,15 +31,35 @@ class Verdict:
     said: str
 
 
-def copy_tree(top: Path, room: Path) -> None:
-    """Copies the sources, and the libraries that earlier checks have built: these save proving the crates below."""
-    for name in ("crates.txt", "HANDLES"):
-        shutil.copy(top / name, room)
+def stands_on(top: Path, name: str) -> set[str]:
+    """A crate, and all those of the repository that it stands on."""
+    listed = re.findall(r"^(\w+)[^:\n]*:(.*)$", (top / "crates.txt").read_text(encoding="utf-8"), re.M)
+    below = {crate: libraries.split() for crate, libraries in listed}
+    found: set[str] = set()
+    left = [name]
+    while left:
+        crate = left.pop()
+        if crate in below and crate not in found:
+            found.add(crate)
+            left.extend(below[crate])
+    return found
+
+
+def copy_crate(top: Path, room: Path, name: str) -> None:
+    """Copies a crate, those below it, and the libraries that earlier checks have built: these save proving the crates
+    below."""
+    copied = stands_on(top, name)
+    lines = (top / "crates.txt").read_text(encoding="utf-8").splitlines(keepends=True)
+    kept = [line for line in lines if re.split(r"\W", line)[0] in copied]
+    (room / "crates.txt").write_text("".join(kept), encoding="utf-8")
+    shutil.copy(top / "HANDLES", room)
     subprocess.run(["git", "init", "--quiet", str(room)], check=True)
-    for crate in (folder for folder in (top / "crates").iterdir() if folder.is_dir()):
+    for crate in copied:
         for part in (*PARTS, "out/rlib"):
-            if (crate / part).is_dir():
-                shutil.copytree(crate / part, room / "crates" / crate.name / part, copy_function=link_proof)
+            source = top / "crates" / crate / part
+            if source.is_dir():
+                copy = shutil.copy2 if part in PARTS else link
+                shutil.copytree(source, room / "crates" / crate / part, copy_function=copy)
 
 
 def run(folder: Path, *words: str) -> str:
@@ -49,13 +68,18 @@ def run(folder: Path, *words: str) -> str:
     return subprocess.run(["rt", *words], cwd=folder, check=False, **how).stdout
 
 
+def link(one: str, other: str) -> str:
+    """Links a file that a build replaces and never changes."""
+    try:
+        os.link(one, other)
+    except OSError:
+        return shutil.copy2(one, other)
+    return other
+
+
 def link_proof(one: str, other: str) -> str:
     """Links what was proved, which a check replaces and never changes, and copies all else."""
-    with contextlib.suppress(OSError):
-        if one.endswith(".oantt"):
-            os.link(one, other)
-            return other
-    return shutil.copy2(one, other)
+    return link(one, other) if one.endswith(".oantt") else shutil.copy2(one, other)
 
 
 class Crate:
