@@ -1,6 +1,6 @@
 pub mod Faults
 pub mod Prints
-pub mod DeskParts
+pub mod DeskStates
 pub mod Exchanges
 pub mod ExchangeWorlds
 pub mod Lines

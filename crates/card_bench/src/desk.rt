@@ -4,7 +4,9 @@ ghost use Rattle.std.specs.Prelude.{IfErr, OnErr, OnOk};
 ghost use Rattle.std.specs.Io.KnownBytes.{Appends};
 ghost use Rattle.bench_lines.specs.declared.order.TheConstants.{COMMAND_LIMIT};
 ghost use Rattle.card_turns.specs.BenchStates.{bench_facts, off};
-ghost use Rattle.card_bench.specs.DeskParts.{print_of};
+ghost use Rattle.card_bench.specs.DeskStates.{print_of};
+ghost use Rattle.card_bench.specs.Exchanges.{printed_by};
+ghost use Rattle.card_bench.specs.ExchangeParts.{ended_of};
 ghost use Rattle.bench_lines.specs.OrderViews.{order_with};
 ghost use Rattle.bench_lines.specs.Orders.{IsOrderSized};
 ghost use Rattle.card_bench.specs.Performing.{Performs, PerformsCommand, TakesTurn, free_shown};
@@ -22,11 +24,11 @@ use kept_board::Followed;
 use nvm_board::{Armed, Faultless, Socket};
 use std::io::Write;
 use std::marker::Model;
-use t1_link::{BlockBytes, ReaderEnd};
+use t1_link::{AnswerBytes, BlockBytes, ReaderEnd};
 
 /// A bench, the reader's end, and the line. Pending faults of the line survive a power-off.
 #[derive(Drop)]
-pub(crate) struct Desk<B: Socket> {
+pub struct Desk<B: Socket> {
     ends: Ends<B>,
     /// True while the two ends are in step, so that commands go.
     in_step: bool,
@@ -39,7 +41,7 @@ impl<B: Socket> Model for Desk<B> {
     ghost use Rattle.std.specs.Prelude.{◌≢◌, IsTrue};
     ghost use Rattle.t1_link.specs.declared.reader_end.Phase.TheVariants.{Busy};
     ghost use Rattle.card_model.specs.Sessions.{session_code};
-    ghost use Rattle.card_bench.specs.DeskParts.{DeskState, print_of, reader_there};
+    ghost use Rattle.card_bench.specs.DeskStates.{DeskState, print_of, reader_there};
 
     ghost Value = { DeskState };
 
@@ -55,10 +57,11 @@ impl<B: Socket> Model for Desk<B> {
 
 impl<B: Socket> Desk<B> {
     /// Returns a desk with this board, power off, and a perfect line.
-    pub(crate) fn new(board: B) -> Desk<B>
+    pub fn new(board: B) -> Desk<B>
         ensures bench { result.desk.bench ≡ off (record (B.facts board) { dark = true }) }
         ensures reader { result.desk.reader ≡ None }
         ensures line { result.desk.line ≡ record { lose = None; garble = None } }
+        ensures prints { result.prints ≡ prints_nothing }
     {
         Desk {
             ends: Ends {
@@ -73,6 +76,30 @@ impl<B: Socket> Desk<B> {
             in_step: false,
             came: LineResult::Nothing,
         }
+    }
+
+    /// The board, as it is.
+    pub fn board(&self) -> &B
+        ensures { B.facts result.now ≡ bench_facts self.now.desk.bench }
+    {
+        self.ends.bench.board()
+    }
+
+    /// Returns the result of the last line, and copies its bytes, if it has any, into the buffer.
+    pub fn tell(&self, bytes: &mut AnswerBytes) -> Came
+        ensures { print_of result bytes.new.items bytes.new.items ≡ self.now.prints }
+    {
+        bytes.clear();
+        match self.came {
+            Came::Answer => bytes
+                .try_extend_from_slice(self.ends.reader.answer())
+                .unwrap(),
+            Came::Block => bytes
+                .try_extend_from_slice(&self.ends.blocks.toward_reader)
+                .unwrap(),
+            _ => {}
+        }
+        self.came
     }
 
     /// Prints the result of the last line, and flushes. Without output it doesn't use the writer.
@@ -134,7 +161,7 @@ impl<B: Socket + Followed> Desk<B> {
 impl<B: Armed + Faultless> Desk<B> {
     /// Runs the order of a line, with its bytes. `print` prints the result.
     #[tactic(auto, using(crate::proofs::DeskTurns::off_taken, crate::proofs::DeskTurns::block_taken))]
-    pub(crate) fn perform(&mut self, order: Order, given: &[u8])
+    pub fn perform(&mut self, order: Order, given: &[u8])
         requires sized { IsOrderSized (order_with order given.now) }
         requires good { IsGood self.old.desk.bench }
         ensures good { IsGood self.new.desk.bench }

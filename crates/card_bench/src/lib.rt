@@ -15,7 +15,9 @@ mod script;
 mod sweeping;
 mod tally;
 
-pub use card_turns::{Bench, Item, Powered, Turn};
+pub use bench_lines::{COMMAND_LIMIT, Order};
+pub use card_turns::{Bench, Came, Item, Powered, Turn};
+pub use desk::Desk;
 pub use factory::{factory_board, factory_board_of};
 pub use fault::RunFault;
 pub use image::{NoCard, image_board};

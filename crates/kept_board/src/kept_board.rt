@@ -35,6 +35,20 @@ impl<F: Follower> KeptBoard<F> {
         }
     }
 
+    /// The words, with power on or off.
+    pub fn words(&self) -> &[u32]
+        ensures { result.now ≡ (kept_facts self.now).words }
+    {
+        self.cut.words()
+    }
+
+    /// Returns the follower, as it is.
+    pub fn follower(&self) -> &F
+        ensures { result.now ≡ self.now.follower }
+    {
+        &self.follower
+    }
+
     /// Hands on the words of a write. It isn't inlined, so that a board without a follower doesn't pay for it.
     #[inline(never)]
     fn hand_on(&mut self, at: usize, size: usize)

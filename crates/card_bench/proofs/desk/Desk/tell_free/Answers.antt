@@ -1,6 +1,6 @@
 use Rattle.std.specs.Prelude.{◌≡◌}
 use Rattle.std.proofs.Common.{subst, sym}
-use Rattle.card_bench.specs.DeskParts.{DeskState}
+use Rattle.card_bench.specs.DeskStates.{DeskState}
 use Rattle.card_bench.specs.Performing.{free_shown}
 use Rattle.card_turns.specs.Plays.{IsGood}
 use Rattle.card_bench.specs.Printouts.{prints_free, prints_mute}
