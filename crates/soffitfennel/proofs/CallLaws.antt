@@ -1,0 +1,96 @@
+-- What the result of an order is to a call from C.
+use Rattle.std.specs.Prelude.{◌≡◌, ℕ, ℤ, List, Option, None, Some, Result, Ok, Err}
+use Rattle.std.proofs.Common.{◌∙◌, ap, subst, inl, inr}
+use Rattle.bench_lines.specs.Orders.{Order, Free}
+use Rattle.card_bench.specs.Printouts.{Print}
+use Rattle.soffitfennel.specs.SessionStates.{SessionState}
+use Rattle.soffitfennel.specs.declared.session.Outcome.{Outcome}
+use Rattle.soffitfennel.specs.declared.session.Outcome.TheVariants as outcome
+use Rattle.soffitfennel.specs.declared.session.Told.{Told}
+use Rattle.soffitfennel.specs.Telling.{AnswersOrder, CallRuns, Copies, ReportsSpace, ReturnsSpace, Tells, TellsBytes}
+use Rattle.soffitfennel.specs.Telling.{outcome_number, print_outcome, told_print}
+
+abbrev why-of : Result Told Outcome → Outcome
+why-of (Ok told) = outcome.Done
+why-of (Err why) = why
+
+abbrev IsAnswer : Result Told Outcome → Type 0
+IsAnswer (Ok told) = Unit {0}
+IsAnswer (Err why) = ⊥
+
+-- a result
+told-runs : (order : Order) (was now : Option SessionState) (told : Told) (result : Outcome) (Holds : Print → Type 0)
+    (Fails : Type 0) → AnswersOrder order was now (Ok told) → result ≡ print_outcome (told_print told)
+    → Holds (told_print told) → CallRuns order was now result Holds Fails
+told-runs order None now told result Holds Fails answers is holds = absurd (subst IsAnswer answers.1 tt)
+told-runs order (Some was) None told result Holds Fails answers is holds = absurd answers
+told-runs order (Some was) (Some now) told result Holds Fails answers is holds =
+    inl (answers.0, is ∙ ap print_outcome answers.1, subst Holds answers.1 holds, answers.2)
+
+-- none, as there is no card, writes are left, or one was lost
+failed-runs : (order : Order) (was now : Option SessionState) (why : Outcome) (Holds : Print → Type 0) (Fails : Type 0)
+    → AnswersOrder order was now (Err why) → Fails → CallRuns order was now why Holds Fails
+failed-runs order None now why Holds Fails answers fails = (answers.0, ap why-of answers.1, fails)
+failed-runs order (Some was) None why Holds Fails answers fails = absurd answers
+failed-runs order (Some was) (Some now) why Holds Fails answers fails =
+    inr (fails, answers)
+
+-- the outcome alone is returned
+pub told_tells : (order : Order) (was now : Option SessionState) (told : Told) (result : Outcome) (number : ℤ)
+    → AnswersOrder order was now (Ok told) → result ≡ print_outcome (told_print told)
+    → number ≡ outcome_number result → Tells order was now number
+told_tells order was now told result number answers is numbered = record {
+  result = result;
+  number_is = numbered;
+  runs = told-runs order was now told result (λ prints. Unit {0}) (Unit {0}) answers is tt;
+}
+
+pub failed_tells : (order : Order) (was now : Option SessionState) (why : Outcome) (number : ℤ)
+    → AnswersOrder order was now (Err why) → number ≡ outcome_number why → Tells order was now number
+failed_tells order was now why number answers numbered = record {
+  result = why;
+  number_is = numbered;
+  runs = failed-runs order was now why (λ prints. Unit {0}) (Unit {0}) answers tt;
+}
+
+-- bytes are copied out
+pub told_copies : (order : Order) (was now : Option SessionState) (told : Told) (result : Outcome) (new : List ℕ)
+    (size : ℕ) (number : ℤ) → AnswersOrder order was now (Ok told) → Copies new size (told_print told)
+    → result ≡ print_outcome (told_print told) → number ≡ outcome_number result
+    → TellsBytes order was now new size number
+told_copies order was now told result new size number answers copies is numbered = record {
+  result = result;
+  number_is = numbered;
+  runs = told-runs order was now told result (Copies new size) (size ≡ 0) answers is copies;
+}
+
+pub failed_copies : (order : Order) (was now : Option SessionState) (why : Outcome) (new : List ℕ) (size : ℕ)
+    (number : ℤ) → AnswersOrder order was now (Err why) → size ≡ 0 → number ≡ outcome_number why
+    → TellsBytes order was now new size number
+failed_copies order was now why new size number answers none numbered = record {
+  result = why;
+  number_is = numbered;
+  runs = failed-runs order was now why (Copies new size) (size ≡ 0) answers none;
+}
+
+-- the free space is returned
+pub told_space : (was now : Option SessionState) (told : Told) (result : Outcome) (blocks entries : ℕ) (number : ℤ)
+    → AnswersOrder Free was now (Ok told) → ReportsSpace blocks entries (told_print told)
+    → result ≡ print_outcome (told_print told) → number ≡ outcome_number result
+    → ReturnsSpace was now blocks entries number
+told_space was now told result blocks entries number answers space is numbered = record {
+  result = result;
+  number_is = numbered;
+  runs = told-runs Free was now told result (ReportsSpace blocks entries) ((blocks ≡ 0) × (entries ≡ 0)) answers is
+      space;
+}
+
+pub failed_space : (was now : Option SessionState) (why : Outcome) (blocks entries : ℕ) (number : ℤ)
+    → AnswersOrder Free was now (Err why) → blocks ≡ 0 → entries ≡ 0 → number ≡ outcome_number why
+    → ReturnsSpace was now blocks entries number
+failed_space was now why blocks entries number answers no_blocks no_entries numbered = record {
+  result = why;
+  number_is = numbered;
+  runs = failed-runs Free was now why (ReportsSpace blocks entries) ((blocks ≡ 0) × (entries ≡ 0)) answers
+      (no_blocks, no_entries);
+}

@@ -1,0 +1,89 @@
+-- Writes that are copied out of a log and collected, and the bytes of a write.
+use Rattle.std.specs.Prelude.{◌≡◌, ◌≤◌, ◌<◌, ◌+◌, ◌-◌, ◌⊎◌, ◌++◌, ℕ, zero, suc, List, [], ◌∷◌, length, take, drop, map}
+use Rattle.std.specs.Prelude.{min, get_or}
+use Rattle.std.specs.Int.{w32, to_be_bytes}
+use Rattle.std.proofs.Common.{◌∙◌, ap, arith, subst, sym}
+use Rattle.std.proofs.lemmas.List.{drop_min, flat_map_more, length-drop, take_all, take_more, take_rest}
+use Rattle.kept_board.specs.Kept.{kept_facts}
+use Rattle.kept_board.specs.declared.kept_board.KeptBoard.{KeptBoard}
+use Rattle.bench_lines.specs.Orders.{Order}
+use Rattle.card_turns.specs.BenchStates.{bench_facts}
+use Rattle.card_turns.specs.Plays.{IsGood}
+use Rattle.card_bench.specs.Exchanges.{Desk}
+use Rattle.card_bench.specs.Performing.{Performs}
+use Rattle.card_bench.specs.Printouts.{Print}
+use Rattle.soffitfennel.specs.LoggedWrites.{fresh_count, image_bytes, run_of, writes_since}
+use Rattle.soffitfennel.specs.SessionStates.{SessionState}
+use Rattle.soffitfennel.specs.Telling.{IsPerformed, LogsWrites, LosesWrites}
+use Rattle.soffitfennel.specs.declared.write_log.WriteLog.{WriteLog}
+
+module _ {X : Type 0} where
+  -- the items of two lists in a row, from an index on
+  drop_both : (front back : List X) (n : ℕ) → drop n front ++ drop (n - length front) back ≡ drop n (front ++ back)
+  drop_both front back zero =
+      let none : 0 - length front ≡ 0 = omega arith in ap (λ (k : ℕ). front ++ drop k back) none
+  drop_both [] back (suc n) = let all : suc n - 0 ≡ suc n = omega arith in ap (λ (k : ℕ). drop k back) all
+  drop_both (x ∷ front) back (suc n) =
+      let fewer : suc n - suc (length front) ≡ n - length front = omega arith in
+      ap (λ (k : ℕ). drop n front ++ drop k back) fewer ∙ drop_both front back n
+
+  -- the items from an index on, as a slice has them
+  abbrev pub rest : ℕ → List X → List X
+  rest k xs = take (length xs - k) (drop k xs)
+
+  pub length-rest : (k : ℕ) (xs : List X) → length (rest k xs) ≡ length xs - k
+  length-rest k xs = ap length (take_rest xs k) ∙ length-drop k xs
+
+  -- they are the rest of the first list, and the rest of the second one
+  pub copied : (front back : List X) (n k a b : ℕ) → k ≡ min n (length front) → length (rest k front) ≤ a
+      → length (rest (n - k) back) ≤ b → take a (rest k front) ++ take b (rest (n - k) back) ≡ drop n (front ++ back)
+  copied front back n k a b least in_front in_back =
+      let fewer : n - k ≡ n - length front = omega (arith, least) in
+      ap (λ (l : List X). l ++ take b (rest (n - k) back)) (take_all a (rest k front) in_front ∙ take_rest front k)
+      ∙ ap (λ (l : List X). drop k front ++ l) (take_all b (rest (n - k) back) in_back ∙ take_rest back (n - k))
+      ∙ ap (λ (j : ℕ). drop j front ++ drop (n - k) back) least
+      ∙ ap (λ (l : List X). l ++ drop (n - k) back) (drop_min n front)
+      ∙ ap (λ (j : ℕ). drop n front ++ drop j back) fewer ∙ drop_both front back n
+
+-- the bytes of one word more
+pub image_more : (words : List ℕ) (i : ℕ) → i < length words
+    → image_bytes (take i words) ++ to_be_bytes w32 (get_or words i 0) ≡ image_bytes (take (i + 1) words)
+image_more words i within = flat_map_more (to_be_bytes w32) [] (take i words) (get_or words i 0)
+    ∙ ap image_bytes (sym (take_more words i 0 within))
+
+-- the writes that are collected from a log, by the state before and that in the session's fields
+pub logs_at : (was inside now : SessionState) (log : WriteLog) (board : KeptBoard WriteLog) → inside ≡ was
+    → log ≡ board.follower → kept_facts board ≡ bench_facts now.desk.bench → now.count ≡ log.count
+    → now.untaken ≡ map run_of (writes_since inside.count log) → LogsWrites was.count now
+logs_at was inside now log board viewed follower facts count untaken = record {
+  board = board;
+  facts = facts;
+  count = count ∙ ap (λ (l : WriteLog). l.count) follower;
+  untaken = untaken ∙ ap (λ (l : WriteLog). map run_of (writes_since inside.count l)) follower
+      ∙ ap (λ (s : SessionState). map run_of (writes_since s.count board.follower)) viewed;
+}
+
+pub loses_at : (was inside now : SessionState) (log : WriteLog) (board : KeptBoard WriteLog) → inside ≡ was
+    → log ≡ board.follower → kept_facts board ≡ bench_facts now.desk.bench
+    → (length log.writes.items < fresh_count inside.count log.count) ⊎ (inside.room < fresh_count inside.count log.count)
+    → LosesWrites was.count was.room now
+loses_at was inside now log board viewed follower facts many = record {
+  board = board;
+  facts = facts;
+  many = subst (λ (s : SessionState). (length board.follower.writes.items < fresh_count s.count board.follower.count)
+      ⊎ (s.room < fresh_count s.count board.follower.count)) viewed
+      (subst (λ (l : WriteLog). (length l.writes.items < fresh_count inside.count l.count)
+      ⊎ (inside.room < fresh_count inside.count l.count)) follower many);
+}
+
+-- an order that the desk has run, by the state after the writes are collected
+pub performed : (order : Order) (was now : SessionState) (desk : Desk) (prints : Print) → was.untaken ≡ []
+    → Performs order was.desk desk prints → IsGood desk.bench → now.desk ≡ desk → now.prints ≡ prints
+    → now.room ≡ was.room → IsPerformed order was now
+performed order was now desk prints taken performs good desk_is prints_is room = record {
+  taken = taken;
+  performs = subst (λ (d : Desk). Performs order was.desk d now.prints) (sym desk_is)
+      (subst (λ (p : Print). Performs order was.desk desk p) (sym prints_is) performs);
+  good = subst (λ (d : Desk). IsGood d.bench) (sym desk_is) good;
+  room = room;
+}

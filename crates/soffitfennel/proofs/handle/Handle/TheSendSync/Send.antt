@@ -1,0 +1,30 @@
+-- A handle goes to another thread with its card.
+use Rattle.std.proofs.Common.{Option, None, Some}
+use mir.Raw.{raw}
+use base.Shift.{Keyless}
+use denote.Memory.{lone}
+use denote.RawPtr.{Ptr}
+use denote.Struct.Struct.{exits_of}
+use denote.Struct.Owning.{shape, fields, to}
+use denote.Param.Send.{IsSend, AllSend, owning_send, struct_send, sendable}
+use Rattle.std.proofs.Crossing as heap
+use Rattle.std.specs.declared.alloc.Global.{Global}
+use Rattle.std.specs.contracts.impls.GlobalAllocator.TheImpl.{ghosts}
+use Rattle.std_alloc.proofs.SendSync.{quiet, lies}
+use Rattle.std.proofs.alloc.Global.TheSendSync as handle
+use Rattle.soffitfennel.specs.OwningParts.{card_owns}
+use Rattle.soffitfennel.specs.contracts.session.Session as session
+use Rattle.soffitfennel.proofs.session.Session.TheSendSync.{the_send as session_send}
+use Rattle.soffitfennel.specs.contracts.handle.Handle.{the_row, the_type}
+
+card_keyless : (a : Global) (p : Ptr) (x : Option session.the_row.Denot)
+    → Keyless (card_owns (ghosts.dealloc_token a) session.the_row p x)
+card_keyless a p None = λ e. tt
+card_keyless a p (Some x) =
+    (lies session.the_row session_send p x, heap.frees.frees a (raw (lone session.the_row.mir)) p)
+
+pub send : IsSend the_row
+send =
+    let all : AllSend (fields the_type) = (search sendable, (handle.the_field_send, tt)) in
+    owning_send the_type all (λ d. card_keyless d.alloc d.at d.value)
+    (λ k. quiet (to the_type) (exits_of k (fields the_type)) ((struct_send (shape the_type) all).leaving k))

@@ -1,0 +1,4 @@
+pub mod LoggedWrites
+pub mod OwningParts
+pub mod SessionStates
+pub mod Telling

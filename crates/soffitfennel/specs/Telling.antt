@@ -1,0 +1,213 @@
+-- The outcome of a call from C, and its bytes.
+use Rattle.std.specs.Prelude.{◌≡◌, ◌≢◌, ◌≤◌, ◌<◌, ◌*◌, ◌⊎◌, ℕ, ℤ, pos, Bool, List, [], ◌∷◌, Option, None, Some}
+use Rattle.std.specs.Prelude.{Result, Ok, Err, length, take, map}
+use Rattle.nvm_board.specs.Facts.{IsMemory}
+use Rattle.nvm_board.specs.Given.{board_with}
+use Rattle.kept_board.specs.Handed.{Run}
+use Rattle.kept_board.specs.Kept.{kept_facts}
+use Rattle.kept_board.specs.declared.kept_board.KeptBoard.{KeptBoard}
+use Rattle.card_core.specs.Factory.{factory_card}
+use Rattle.command_base.specs.Finding.{Finds, HasCard}
+use Rattle.bench_lines.specs.Orders.{Order, IsOrderSized, Free}
+use Rattle.card_turns.specs.BenchStates.{bench_facts}
+use Rattle.card_turns.specs.Plays.{IsGood}
+use Rattle.card_bench.specs.DeskStates.{print_of}
+use Rattle.card_bench.specs.Performing.{Performs}
+use Rattle.card_bench.specs.Prints.{IsJustWritten, desk_of}
+use Rattle.card_bench.specs.Printouts.{Print}
+use Rattle.card_bench.specs.Printouts.{prints_nothing, prints_atr, prints_mute, prints_dark, prints_lost, prints_bytes}
+use Rattle.card_bench.specs.Printouts.{prints_free}
+use Rattle.soffitfennel.specs.SessionStates.{SessionState, begun_at}
+use Rattle.soffitfennel.specs.LoggedWrites.{fresh_count, image_bytes, log_room, run_of, writes_since}
+use Rattle.soffitfennel.specs.declared.session.Outcome.{Outcome}
+use Rattle.soffitfennel.specs.declared.session.Outcome.TheVariants as outcome
+use Rattle.soffitfennel.specs.declared.session.Told.{Told}
+use Rattle.soffitfennel.specs.declared.session.TheConstants.{ROOM}
+use Rattle.soffitfennel.specs.declared.write.Write.{Write}
+use Rattle.soffitfennel.specs.declared.write.TheConstants.{WORD_BYTES}
+use Rattle.soffitfennel.specs.declared.write_log.WriteLog.{WriteLog}
+
+-- the number that C sees
+abbrev pub outcome_number : Outcome → ℤ
+outcome_number outcome.Done = pos 0
+outcome_number outcome.Mute = pos 1
+outcome_number outcome.Dark = pos 2
+outcome_number outcome.Lost = pos 3
+outcome_number outcome.Size = pos 4
+outcome_number outcome.Memory = pos 5
+outcome_number outcome.NoCard = pos 6
+outcome_number outcome.Untaken = pos 7
+outcome_number outcome.Overrun = pos 8
+outcome_number outcome.Absent = pos 9
+
+-- the outcome of an output
+abbrev pub print_outcome : Print → Outcome
+print_outcome prints_nothing = outcome.Done
+print_outcome prints_atr = outcome.Done
+print_outcome prints_mute = outcome.Mute
+print_outcome prints_dark = outcome.Dark
+print_outcome prints_lost = outcome.Lost
+print_outcome (prints_bytes bytes) = outcome.Done
+print_outcome (prints_free free) = outcome.Done
+
+-- the output that a result and its bytes are
+abbrev pub told_print : Told → Print
+told_print told = print_of told.came told.bytes.items told.bytes.items
+
+-- The writes of an order are those that the log of the card's board has since an earlier count.
+pub record LogsWrites (earlier : ℕ) (now : SessionState) : Type 0 where
+  pub board : KeptBoard WriteLog
+  pub facts : kept_facts board ≡ bench_facts now.desk.bench
+  pub count : now.count ≡ board.follower.count
+  pub untaken : now.untaken ≡ map run_of (writes_since earlier board.follower)
+
+-- The log of the card's board has lost a write since an earlier count, or it has more than there is room for.
+pub record LosesWrites (earlier room : ℕ) (now : SessionState) : Type 0 where
+  pub board : KeptBoard WriteLog
+  pub facts : kept_facts board ≡ bench_facts now.desk.bench
+  pub many : (length board.follower.writes.items < fresh_count earlier board.follower.count)
+      ⊎ (room < fresh_count earlier board.follower.count)
+
+-- An order runs. The memory has a card state after it, and the board had no fault.
+pub record IsPerformed (order : Order) (was now : SessionState) : Type 0 where
+  pub taken : was.untaken ≡ []
+  pub performs : Performs order was.desk now.desk now.prints
+  pub good : IsGood now.desk.bench
+  pub room : now.room ≡ was.room
+
+-- writes of an earlier order are left, so nothing is done
+pub record HasUntaken (was now : SessionState) : Type 0 where
+  pub some : was.untaken ≢ []
+  pub same : now ≡ was
+
+-- the result of an order is the output, and its writes are logged; or writes were left; or one was lost
+abbrev pub TellsResult : Order → SessionState → SessionState → Result Told Outcome → Type 0
+TellsResult order was now (Ok told) = IsPerformed order was now × (told_print told ≡ now.prints) × LogsWrites was.count now
+TellsResult order was now (Err why) = ((why ≡ outcome.Untaken) × HasUntaken was now)
+    ⊎ ((why ≡ outcome.Overrun) × IsPerformed order was now × LosesWrites was.count was.room now)
+
+-- An order to a card. Without a card nothing is done.
+abbrev pub AnswersOrder : Order → Option SessionState → Option SessionState → Result Told Outcome → Type 0
+AnswersOrder order None now result = (now ≡ None) × (result ≡ Err outcome.Absent)
+AnswersOrder order (Some was) None result = ⊥
+AnswersOrder order (Some was) (Some now) result = TellsResult order was now result
+
+-- A call that runs an order: its outcome is that of the output, for which `Holds` is true; or writes were left, one was
+-- lost, or there is no card, for which `Fails` is.
+abbrev pub CallRuns : Order → Option SessionState → Option SessionState → Outcome → (Print → Type 0) → Type 0 → Type 0
+CallRuns order None now result Holds Fails = (now ≡ None) × (result ≡ outcome.Absent) × Fails
+CallRuns order (Some was) None result Holds Fails = ⊥
+CallRuns order (Some was) (Some now) result Holds Fails =
+    (IsPerformed order was now × (result ≡ print_outcome now.prints) × Holds now.prints × LogsWrites was.count now)
+    ⊎ (Fails × (((result ≡ outcome.Untaken) × HasUntaken was now)
+    ⊎ ((result ≡ outcome.Overrun) × IsPerformed order was now × LosesWrites was.count was.room now)))
+
+-- the buffer begins with these bytes, and their number is returned
+pub record CopiesOut (bytes new : List ℕ) (size : ℕ) : Type 0 where
+  pub size_is : size ≡ length bytes
+  pub copied : take (length bytes) new ≡ bytes
+
+-- the bytes of an output are in the buffer
+abbrev pub Copies : List ℕ → ℕ → Print → Type 0
+Copies new size prints_nothing = size ≡ 0
+Copies new size prints_atr = size ≡ 0
+Copies new size prints_mute = size ≡ 0
+Copies new size prints_dark = size ≡ 0
+Copies new size prints_lost = size ≡ 0
+Copies new size (prints_bytes bytes) = CopiesOut bytes new size
+Copies new size (prints_free free) = size ≡ 0
+
+-- the free space is returned, or zeros
+abbrev pub ReportsSpace : ℕ → ℕ → Print → Type 0
+ReportsSpace blocks entries prints_nothing = (blocks ≡ 0) × (entries ≡ 0)
+ReportsSpace blocks entries prints_atr = (blocks ≡ 0) × (entries ≡ 0)
+ReportsSpace blocks entries prints_mute = (blocks ≡ 0) × (entries ≡ 0)
+ReportsSpace blocks entries prints_dark = (blocks ≡ 0) × (entries ≡ 0)
+ReportsSpace blocks entries prints_lost = (blocks ≡ 0) × (entries ≡ 0)
+ReportsSpace blocks entries (prints_bytes bytes) = (blocks ≡ 0) × (entries ≡ 0)
+ReportsSpace blocks entries (prints_free free) = (blocks ≡ free.blocks) × (entries ≡ free.entries)
+
+-- a call that runs an order without bytes
+pub record Tells (order : Order) (was now : Option SessionState) (number : ℤ) : Type 0 where
+  pub result : Outcome
+  pub number_is : number ≡ outcome_number result
+  pub runs : CallRuns order was now result (λ prints. Unit {0}) (Unit {0})
+
+-- a call that runs an order, and copies its bytes out
+pub record TellsBytes (order : Order) (was now : Option SessionState) (new : List ℕ) (size : ℕ) (number : ℤ) : Type 0 where
+  pub result : Outcome
+  pub number_is : number ≡ outcome_number result
+  pub runs : CallRuns order was now result (Copies new size) (size ≡ 0)
+
+-- a call that returns the free space
+pub record ReturnsSpace (was now : Option SessionState) (blocks entries : ℕ) (number : ℤ) : Type 0 where
+  pub result : Outcome
+  pub number_is : number ≡ outcome_number result
+  pub runs : CallRuns Free was now result (ReportsSpace blocks entries) ((blocks ≡ 0) × (entries ≡ 0))
+
+-- a size or a number is out of its range, and nothing was done
+pub record Refuses (was now : Option SessionState) (number : ℤ) : Type 0 where
+  pub number_is : number ≡ outcome_number outcome.Size
+  pub same : now ≡ was
+
+-- the bytes and the buffer have their sizes
+abbrev pub FitsCall : Order → List ℕ → Type 0
+FitsCall order out = IsOrderSized order × (ROOM ≤ length out)
+
+-- the first state of a card of these words
+abbrev pub inserted : List ℕ → Bool → SessionState
+inserted words kept = begun_at (board_with words) (log_room kept)
+
+-- the factory card on a new board of 896 blocks, with power off
+pub record IsFactoryFresh (s : SessionState) : Type 0 where
+  pub words : List ℕ
+  pub desk : s.desk ≡ desk_of (record (bench_facts s.desk.bench) { words = words })
+  pub card : Finds words (factory_card 896)
+  pub counts : IsJustWritten (bench_facts s.desk.bench)
+  pub unkept : s.room ≡ 0
+
+-- why words are refused
+pub record RefusesWords (words : List ℕ) (number : ℤ) : Type 0 where
+  pub size : number ≡ outcome_number outcome.Size → ¬ IsMemory words
+  pub none : number ≡ outcome_number outcome.NoCard → ¬ HasCard words
+
+-- the words of a card are read, if there is a card and enough memory
+abbrev pub ReadsWords : {V : Type 0} → (V → List ℕ) → Option SessionState → Result V Outcome → Type 0
+ReadsWords items None result = result ≡ Err outcome.Absent
+ReadsWords items (Some now) (Ok read) = items read ≡ (bench_facts now.desk.bench).words
+ReadsWords items (Some now) (Err why) = why ≡ outcome.Memory
+
+-- A call that copies a card's words out: all of them, or none for one of three reasons.
+abbrev pub TellsWords : Option SessionState → List ℕ → List ℕ → ℕ → ℤ → Type 0
+TellsWords None old new size number = (size ≡ 0) × (number ≡ outcome_number outcome.Absent)
+TellsWords (Some now) old new size number = let words = (bench_facts now.desk.bench).words in
+    ((number ≡ outcome_number outcome.Done) × CopiesOut words new size)
+    ⊎ ((number ≡ outcome_number outcome.Size) × (size ≡ length words) × (length old < length words))
+    ⊎ ((number ≡ outcome_number outcome.Memory) × (size ≡ 0))
+
+-- a write is the oldest one that the caller has not taken, or there is none
+abbrev pub TakesOldest : SessionState → SessionState → Option Write → Type 0
+TakesOldest was now None = (was.untaken ≡ []) × (now ≡ was)
+TakesOldest was now (Some write) =
+    (was.untaken ≡ run_of write ∷ now.untaken) × (now ≡ record was { untaken = now.untaken })
+
+-- the oldest write of a handle's card, if there is a card
+abbrev pub TakesFrom : Option SessionState → Option SessionState → Result (Option Write) Outcome → Type 0
+TakesFrom None now result = (now ≡ None) × (result ≡ Err outcome.Absent)
+TakesFrom (Some was) None result = ⊥
+TakesFrom (Some was) (Some now) (Ok write) = TakesOldest was now write
+TakesFrom (Some was) (Some now) (Err why) = ⊥
+
+-- the offset and the bytes in the image of the oldest of these writes, which are the others with it; or no bytes
+abbrev pub CopiesOldest : List Run → List Run → List ℕ → ℕ → ℕ → Type 0
+CopiesOldest [] rest new offset size = (rest ≡ []) × (offset ≡ 0) × (size ≡ 0)
+CopiesOldest (run ∷ others) rest new offset size =
+    (rest ≡ others) × (offset ≡ WORD_BYTES * run.at) × CopiesOut (image_bytes run.words) new size
+
+-- A call that takes a write, with enough room for its bytes: the oldest one, and all else stays.
+abbrev pub TakesWrite : Option SessionState → Option SessionState → List ℕ → ℕ → ℕ → ℤ → Type 0
+TakesWrite None now new offset size number =
+    (now ≡ None) × (number ≡ outcome_number outcome.Absent) × (offset ≡ 0) × (size ≡ 0)
+TakesWrite (Some was) None new offset size number = ⊥
+TakesWrite (Some was) (Some now) new offset size number = (number ≡ outcome_number outcome.Done)
+    × CopiesOldest was.untaken now.untaken new offset size × (now ≡ record was { untaken = now.untaken })

@@ -1,0 +1,385 @@
+//! The card as a library for C: a card is a pointer that the caller keeps, and doesn't look behind.
+#![tactic(auto)]
+
+mod handle;
+mod held;
+mod session;
+mod write;
+mod write_log;
+
+ghost use Rattle.std.specs.Prelude.{◌≡◌, ◌≢◌, ◌≤◌, ◌<◌, None, Some, pos, [], length, IfSome};
+ghost use Rattle.bench_lines.specs.Orders.{IsOrderSized, On, Off, Apdu, Block, Cut, Lose, Garble};
+ghost use Rattle.bench_lines.specs.OrderViews.{order_with};
+ghost use Rattle.command_base.specs.Finding.{HasCard};
+ghost use Rattle.nvm_board.specs.Cut.{cut_facts};
+ghost use Rattle.soffitfennel.specs.SessionStates.{begun_at};
+ghost use Rattle.soffitfennel.specs.Telling.{AnswersOrder, FitsCall, IsFactoryFresh, ReadsWords, Refuses, RefusesWords};
+ghost use Rattle.soffitfennel.specs.Telling.{ReturnsSpace, TakesFrom, TakesWrite, Tells, TellsBytes, TellsWords};
+ghost use Rattle.soffitfennel.specs.Telling.{inserted, outcome_number};
+ghost use Rattle.soffitfennel.specs.LoggedWrites.{log_room};
+ghost use Rattle.soffitfennel.specs.declared.write.TheConstants.{WRITE_BYTES};
+
+use crate::handle::Handle;
+use crate::session::{
+    Outcome, Session, Told, block_fits, board_of, command_fits, copy, number_fits,
+};
+use crate::write::{WRITE_BYTES, Write};
+use card_bench::{Order, factory_board};
+use core::mem::replace_with;
+use nvm_board::CutBoard;
+use std::alloc::Global;
+
+/// An order with its bytes, and the allocator of the card that runs it.
+#[derive(Drop)]
+struct Asked<'a> {
+    alloc: Global,
+    order: Order,
+    given: &'a [u8],
+}
+
+/// Runs an order on the card of a handle.
+fn run(card: Handle, asked: Asked<'_>) -> (Handle, Result<Told, Outcome>)
+    requires { IsOrderSized (order_with asked.order asked.given.now) }
+    ensures { AnswersOrder (order_with asked.entry.order asked.entry.given.now) card.value result.0.value
+        result.1 }
+{
+    match card.into_session() {
+        Some(mut session) => {
+            let told = session.perform(asked.order, asked.given);
+            (Handle::of(session), told)
+        }
+        None => (Handle::empty(asked.alloc), Err(Outcome::Absent)),
+    }
+}
+
+/// Runs an order on the card of a handle that the caller keeps.
+fn perform(alloc: Global, card: &mut Handle, order: Order, given: &[u8]) -> Result<Told, Outcome>
+    requires { IsOrderSized (order_with order given.now) }
+    ensures { AnswersOrder (order_with order given.now) card.old.value card.new.value result }
+{
+    let asked = Asked {
+        alloc,
+        order,
+        given,
+    };
+    replace_with(card, asked, run)
+}
+
+/// Runs an order without bytes, and returns the number of its outcome.
+#[tactic(auto, using(crate::proofs::CallLaws::told_tells, crate::proofs::CallLaws::failed_tells))]
+fn run_order(alloc: Global, card: &mut Handle, order: Order) -> i32
+    requires { IsOrderSized (order_with order []) }
+    ensures { Tells (order_with order []) card.old.value card.new.value result }
+{
+    match perform(alloc, card, order, &[]) {
+        Ok(told) => told.outcome().number(),
+        Err(outcome) => outcome.number(),
+    }
+}
+
+/// Runs an order with bytes, copies the result's bytes out, and returns the number of its outcome.
+#[tactic(auto, using(crate::proofs::CallLaws::told_copies, crate::proofs::CallLaws::failed_copies))]
+fn exchange(
+    alloc: Global,
+    card: &mut Handle,
+    order: Order,
+    given: &[u8],
+    out: &mut [u8],
+    size: &mut usize,
+) -> i32
+    requires { FitsCall (order_with order given.now) out.old }
+    ensures { TellsBytes (order_with order given.now) card.old.value card.new.value out.new size.new result }
+{
+    match perform(alloc, card, order, given) {
+        Ok(told) => {
+            *size = told.copy_out(out);
+            told.outcome().number()
+        }
+        Err(outcome) => {
+            *size = 0;
+            outcome.number()
+        }
+    }
+}
+
+/// Returns a copy of the words of a handle's card.
+fn read_words(card: Handle, alloc: Global) -> (Handle, Result<Vec<u32>, Outcome>)
+    ensures same { result.0.value ≡ card.value }
+    ensures reads { ReadsWords (λ words. words.items) card.value result.1 }
+{
+    match card.into_session() {
+        Some(session) => {
+            let read = match session.words(alloc) {
+                Ok(words) => Ok(words),
+                Err(_) => Err(Outcome::Memory),
+            };
+            (Handle::of(session), read)
+        }
+        None => (Handle::empty(alloc), Err(Outcome::Absent)),
+    }
+}
+
+/// Ends the card of a handle, and puts another one in its place.
+fn exchange_card(card: Handle, session: Box<Session>) -> (Handle, ())
+    ensures { result.0.value ≡ Some session.value }
+{
+    drop(card.into_session());
+    (Handle::of(session), ())
+}
+
+/// Ends the card of a handle.
+fn end_card(card: Handle, alloc: Global) -> (Handle, ())
+    ensures { result.0.value ≡ None }
+{
+    drop(card.into_session());
+    (Handle::empty(alloc), ())
+}
+
+/// Takes the oldest write of a handle's card.
+fn take_write(card: Handle, alloc: Global) -> (Handle, Result<Option<Write>, Outcome>)
+    ensures { TakesFrom card.value result.0.value result.1 }
+{
+    match card.into_session() {
+        Some(mut session) => {
+            let write = session.take_write();
+            (Handle::of(session), Ok(write))
+        }
+        None => (Handle::empty(alloc), Err(Outcome::Absent)),
+    }
+}
+
+/// Puts a card on a board behind a handle, if there is memory for it.
+fn put(alloc: Global, card: &mut Handle, board: CutBoard, kept: bool) -> Outcome
+    requires { HasCard (cut_facts board).words }
+    ensures done { result ≡ Outcome.Done → card.new.value ≡ Some (begun_at (cut_facts board) (log_room kept)) }
+    ensures undone { result ≢ Outcome.Done → (result ≡ Outcome.Memory) × (card.new.value ≡ card.old.value) }
+{
+    let Ok(session) = Session::new(alloc, board, kept) else {
+        return Outcome::Memory;
+    };
+    match Box::new(alloc, session) {
+        Ok(made) => {
+            replace_with(card, made, exchange_card);
+            Outcome::Done
+        }
+        Err(_) => Outcome::Memory,
+    }
+}
+
+/// Makes the factory card, with power off, in place of the handle's card.
+#[unsafe(no_mangle)]
+pub extern "C" fn soffitfennel_factory(alloc: Global, card: &mut Handle) -> i32
+    ensures done { result ≡ pos 0 → IfSome card.new.value IsFactoryFresh }
+    ensures undone { result ≢ pos 0 → (result ≡ outcome_number Outcome.Memory)
+        × (card.new.value ≡ card.old.value) }
+{
+    match factory_board(alloc) {
+        Ok(board) => put(alloc, card, board, false).number(),
+        Err(_) => Outcome::Memory.number(),
+    }
+}
+
+/// Makes the card whose memory has these words, with power off, in place of the handle's card.
+/// The caller takes the writes of a kept card.
+#[unsafe(no_mangle)]
+pub extern "C" fn soffitfennel_insert(
+    alloc: Global,
+    card: &mut Handle,
+    words: &[u32],
+    kept: bool,
+) -> i32
+    ensures done { result ≡ pos 0 → card.new.value ≡ Some (inserted words.now kept) }
+    ensures undone { result ≢ pos 0 → (card.new.value ≡ card.old.value) × RefusesWords words.now result }
+{
+    match board_of(alloc, words) {
+        Ok(board) => put(alloc, card, board, kept).number(),
+        Err(outcome) => outcome.number(),
+    }
+}
+
+/// Switches power on, after power off if it is on.
+#[unsafe(no_mangle)]
+pub extern "C" fn soffitfennel_power_on(alloc: Global, card: &mut Handle) -> i32
+    ensures { Tells On card.old.value card.new.value result }
+{
+    run_order(alloc, card, Order::On)
+}
+
+/// Switches power off.
+#[unsafe(no_mangle)]
+pub extern "C" fn soffitfennel_power_off(alloc: Global, card: &mut Handle) -> i32
+    ensures { Tells Off card.old.value card.new.value result }
+{
+    run_order(alloc, card, Order::Off)
+}
+
+/// Sends a command through both ends of the link.
+#[unsafe(no_mangle)]
+pub extern "C" fn soffitfennel_command(
+    alloc: Global,
+    card: &mut Handle,
+    command: &[u8],
+    answer: &mut [u8],
+    size: &mut usize,
+) -> i32
+    ensures fits { FitsCall (Apdu command.now) answer.old
+        → TellsBytes (Apdu command.now) card.old.value card.new.value answer.new size.new result }
+    ensures unfit { ¬ FitsCall (Apdu command.now) answer.old
+        → Refuses card.old.value card.new.value result × (size.new ≡ 0) }
+{
+    if !command_fits(command, answer) {
+        *size = 0;
+        return Outcome::Size.number();
+    }
+    exchange(alloc, card, Order::Apdu, command, answer, size)
+}
+
+/// Sends a block of T=1 to the card's end of the link.
+#[unsafe(no_mangle)]
+pub extern "C" fn soffitfennel_block(
+    alloc: Global,
+    card: &mut Handle,
+    block: &[u8],
+    reply: &mut [u8],
+    size: &mut usize,
+) -> i32
+    ensures fits { FitsCall (Block block.now) reply.old
+        → TellsBytes (Block block.now) card.old.value card.new.value reply.new size.new result }
+    ensures unfit { ¬ FitsCall (Block block.now) reply.old
+        → Refuses card.old.value card.new.value result × (size.new ≡ 0) }
+{
+    if !block_fits(block, reply) {
+        *size = 0;
+        return Outcome::Size.number();
+    }
+    exchange(alloc, card, Order::Block, block, reply, size)
+}
+
+/// Sets a power cut for a later device write.
+#[unsafe(no_mangle)]
+pub extern "C" fn soffitfennel_cut(alloc: Global, card: &mut Handle, number: u32, mask: u16) -> i32
+    ensures fits { IsOrderSized (Cut number mask)
+        → Tells (Cut number mask) card.old.value card.new.value result }
+    ensures unfit { ¬ IsOrderSized (Cut number mask) → Refuses card.old.value card.new.value result }
+{
+    if !number_fits(number) {
+        return Outcome::Size.number();
+    }
+    run_order(alloc, card, Order::Cut { number, mask })
+}
+
+/// Sets the block that the line loses.
+#[unsafe(no_mangle)]
+pub extern "C" fn soffitfennel_lose(alloc: Global, card: &mut Handle, number: u32) -> i32
+    ensures fits { IsOrderSized (Lose number) → Tells (Lose number) card.old.value card.new.value result }
+    ensures unfit { ¬ IsOrderSized (Lose number) → Refuses card.old.value card.new.value result }
+{
+    if !number_fits(number) {
+        return Outcome::Size.number();
+    }
+    run_order(alloc, card, Order::Lose(number))
+}
+
+/// Sets the block that the line garbles.
+#[unsafe(no_mangle)]
+pub extern "C" fn soffitfennel_garble(alloc: Global, card: &mut Handle, number: u32) -> i32
+    ensures fits { IsOrderSized (Garble number) → Tells (Garble number) card.old.value card.new.value result }
+    ensures unfit { ¬ IsOrderSized (Garble number) → Refuses card.old.value card.new.value result }
+{
+    if !number_fits(number) {
+        return Outcome::Size.number();
+    }
+    run_order(alloc, card, Order::Garble(number))
+}
+
+/// Returns the free space: unused blocks of the memory, and unused entries of the file table.
+#[tactic(auto, using(crate::proofs::CallLaws::told_space, crate::proofs::CallLaws::failed_space))]
+#[unsafe(no_mangle)]
+pub extern "C" fn soffitfennel_free(
+    alloc: Global,
+    card: &mut Handle,
+    blocks: &mut u16,
+    entries: &mut u16,
+) -> i32
+    ensures { ReturnsSpace card.old.value card.new.value blocks.new entries.new result }
+{
+    match perform(alloc, card, Order::Free, &[]) {
+        Ok(told) => {
+            let space = told.space();
+            *blocks = space.blocks;
+            *entries = space.entries;
+            told.outcome().number()
+        }
+        Err(outcome) => {
+            *blocks = 0;
+            *entries = 0;
+            outcome.number()
+        }
+    }
+}
+
+/// Copies the memory's words out, and returns their number.
+#[unsafe(no_mangle)]
+pub extern "C" fn soffitfennel_words(
+    alloc: Global,
+    card: &mut Handle,
+    words: &mut [u32],
+    size: &mut usize,
+) -> i32
+    ensures same { card.new.value ≡ card.old.value }
+    ensures reads { TellsWords card.old.value words.old words.new size.new result }
+{
+    match replace_with(card, alloc, read_words) {
+        Ok(read) => {
+            *size = read.len();
+            if words.len() < read.len() {
+                return Outcome::Size.number();
+            }
+            words[..read.len()].copy_from_slice(&read);
+            Outcome::Done.number()
+        }
+        Err(outcome) => {
+            *size = 0;
+            outcome.number()
+        }
+    }
+}
+
+/// Takes the oldest write that the caller has not taken: its offset in the image, and its bytes. None is left if there
+/// are no bytes.
+#[unsafe(no_mangle)]
+pub extern "C" fn soffitfennel_write(
+    alloc: Global,
+    card: &mut Handle,
+    offset: &mut usize,
+    bytes: &mut [u8],
+    size: &mut usize,
+) -> i32
+    ensures takes { WRITE_BYTES ≤ length bytes.old
+        → TakesWrite card.old.value card.new.value bytes.new offset.new size.new result }
+    ensures unfit { length bytes.old < WRITE_BYTES → Refuses card.old.value card.new.value result
+        × (offset.new ≡ 0) × (size.new ≡ 0) }
+{
+    *offset = 0;
+    *size = 0;
+    if bytes.len() < WRITE_BYTES {
+        return Outcome::Size.number();
+    }
+    match replace_with(card, alloc, take_write) {
+        Ok(Some(write)) => {
+            *offset = write.offset();
+            *size = copy(&write.bytes(), bytes);
+            Outcome::Done.number()
+        }
+        Ok(None) => Outcome::Done.number(),
+        Err(outcome) => outcome.number(),
+    }
+}
+
+/// Ends the handle's card, frees its memory, and sets the handle to null.
+#[unsafe(no_mangle)]
+pub extern "C" fn soffitfennel_remove(alloc: Global, card: &mut Handle)
+    ensures { card.new.value ≡ None }
+{
+    replace_with(card, alloc, end_card);
+}
