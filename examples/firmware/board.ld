@@ -1,0 +1,13 @@
+/* The memory of the image: code and constants, data, heap and stack. */
+ENTRY(start)
+SECTIONS
+{
+    . = 0x40080000;
+    .text : { *(.text.start) *(.text .text.*) }
+    .rodata : { *(.rodata .rodata.*) }
+    .data : { *(.data .data.*) }
+    .bss : { *(.bss .bss.*) *(COMMON) }
+    .heap (NOLOAD) : ALIGN(16) { heap_begin = .; . += 0x12000; heap_end = .; }
+    .stack (NOLOAD) : ALIGN(16) { stack_begin = .; . += 0x10000; stack_end = .; }
+    /DISCARD/ : { *(.comment) *(.note .note.*) *(.eh_frame .eh_frame_hdr) }
+}
