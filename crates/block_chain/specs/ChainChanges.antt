@@ -79,8 +79,8 @@ pub record LinksAlone (first end : ℕ) (m after : List ℕ) : Type 0 where
   pub others : (page place : ℕ) → place < PAGE_WORDS → (place ≢ 0) ⊎ (page < first) ⊎ (end ≤ page)
       → word after page place ≡ word m page place
 
--- The first pages of a run, up to page `made`, are linked, each to the next and the last to `rest`. The others link as
--- before.
+-- The pages of a run before page `made` are linked: each to the next, the run's last one to `rest`. Those from `made`
+-- on link as before.
 pub record LinksFirst (first end rest : ℕ) (m after : List ℕ) : Type 0 where
   pub made : ℕ
   pub linked : (page : ℕ) → first ≤ page → page < made → link after page ≡ (if page + 1 == end then rest else page + 1)

@@ -1,4 +1,4 @@
--- The card, and when it is well formed (ISO/IEC 7816-4, clause 7; ETSI TS 102 221, clause 8).
+-- The card, and when it is proper (ISO/IEC 7816-4, clause 7; ETSI TS 102 221, clause 8).
 use Rattle.std.specs.Prelude.{ℕ, Bool, List, ◌≡◌, ◌<◌, ◌≤◌, ◌*◌, length, All, Option, Some, None}
 use Rattle.std.specs.FinMap.{insert, get}
 use Rattle.card_state.specs.declared.space.FreeSpace.{FreeSpace}
@@ -86,7 +86,7 @@ pub record IsProperFile (file : File) : Type 0 where
   pub rule_size : length file.rule ≤ 8
   pub kind : IsProperKind file.kind
 
--- A well-formed card: each file is well formed, an identifier is two bytes, no PIN has too many tries left.
+-- A proper card: each file is proper, an identifier is two bytes, no PIN has too many tries left.
 pub record IsProper (c : Card) : Type 0 where
   pub files : (path : Path) (file : File) → get c.tree path ≡ Some file → IsProperFile file
   pub identifiers : (path : Path) (file : File) → get c.tree path ≡ Some file → identifier path < 65536

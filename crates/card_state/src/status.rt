@@ -57,7 +57,7 @@ impl Sw {
     /// ISO/IEC 7816-4 doesn't have this status word.
     pub const MAXIMUM_REACHED: Sw = Sw(0x9850);
 
-    /// Returns 63CX: X is the number of tries left, at most 15.
+    /// Returns 63CX: X is the number of tries left, up to 15.
     pub fn tries_left(left: u8) -> Sw
         ensures { result ≡ tries_status left }
     {

@@ -18,7 +18,7 @@ use card_state::Direction;
 use memchr::memchr;
 use undo_journal::{Board, Store, StoreErr};
 
-/// Returns the first place from one on where a text may begin: the next one with its first byte, or else the end.
+/// Returns the first place, `from` or a later one, where a text may begin: one with its first byte, or else the end.
 fn next_place(text: &[u8], bytes: &[u8], from: usize) -> usize
     requires { from ≤ length bytes.now }
     ensures from { from ≤ result }

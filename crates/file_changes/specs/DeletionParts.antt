@@ -39,7 +39,7 @@ abbrev pub extents_in : Option Entry → List Extent
 extents_in None = []
 extents_in (Some x) = cons_option (extent_of x) []
 
--- of each entry of a part, whether a file has it
+-- The marks say of each entry of a part whether it is used.
 abbrev pub GoesWith : List Bool → List Entry → Type 0
 GoesWith goes part = (f : ℕ) → f < 64 → IsTrue (slice_index_or goes f false) ↔ ((entry_in part f).kind ≢ 0)
 

@@ -59,8 +59,8 @@ fn read_used<B: Board>(store: &mut Store<B>, e: u8) -> Result<Entry, StoreErr>
     read_entry(store, e)
 }
 
-/// Returns the number of the entry after the last used one, or 1 if there is none. It reads a word of each entry, from
-/// the last one down.
+/// Returns a number, 1 to 64, from which on all entries are free.
+/// It reads a word of each entry, from the last one down, and stops at the last used one.
 ///
 /// # Errors
 /// The store's failure: power was lost, or the device failed.

@@ -87,7 +87,8 @@ fn share_short(e: usize, one: &Entry, other: &Entry) -> bool
     one.short != 0 && one.short == other.short && e > 0 && one.parent == other.parent
 }
 
-/// Returns true if no later used entry has the same short identifier. A file without one isn't compared.
+/// Returns true if no later used entry of the same DF has the same short identifier.
+/// A file without one isn't compared.
 fn has_own_short(entries: &[Entry], e: usize) -> bool
     requires { e < length entries.now }
     ensures { IsTrue result ↔ HasOwnShort entries.now e }

@@ -8,7 +8,7 @@ pub record Served : Type 0 where
   pub card : Card
   pub session : Session
 
--- the card is well formed, as a card state after recovery always is
+-- the card is proper, as a card state after recovery always is
 abbrev pub IsProperState : Served → Type 0
 IsProperState s = IsProper s.card
 

@@ -31,7 +31,7 @@ impl Model for Secret {
 }
 
 impl Secret {
-    /// Returns the value of a PIN.
+    /// Returns the secret that is the value of this PIN.
     pub fn value_of(pin: PinNumber) -> Secret
         ensures secret { result ≡ value_of pin }
         ensures in_range { IsPinNumber pin }
@@ -41,7 +41,7 @@ impl Secret {
         }
     }
 
-    /// Returns the unblocking value of a PIN.
+    /// Returns the secret that is the unblocking value of this PIN.
     pub fn unblocking_value_of(pin: PinNumber) -> Secret
         ensures secret { result ≡ unblocking_of pin }
         ensures in_range { IsPinNumber pin }
