@@ -120,6 +120,33 @@ def half(lines: list[str]) -> int:
     return 0
 
 
+def expected(lines: list[str]) -> list[str]:
+    """What rows print."""
+    return [it.removeprefix("= ") for it in lines if it.startswith("= ") and not it.startswith("= status")]
+
+
+def orders(lines: list[str]) -> str:
+    """The script of rows."""
+    return "\n".join(it for it in lines if not it.startswith("= "))
+
+
+def on_more_pages(line: str) -> str:
+    """A printed line, where the card has 4,096 pages and not 1,024."""
+    words = line.split()
+    return f"free {int(words[1]) + 3072} {words[2]}" if words[0] == "free" else line
+
+
+def on_other_cards(checks: Checks, bench: Bench, name: str, lines: list[str]) -> None:
+    """Runs the rows on a card of format 1, which the first power-on migrates, and on one of 4,096 pages."""
+    bench.image.unlink(missing_ok=True)
+    bench.run("\n")
+    bench.image.write_bytes(b"TSC1" + bench.image.read_bytes()[4:])
+    checks.compare(f"{name} on a migrated card", expected(lines), bench.run(f"on\noff\n{orders(lines)}")[1][1:])
+    bench.image.unlink()
+    came = bench.run(orders(lines), "--pages", "4096")[1]
+    checks.compare(f"{name} on 4,096 pages", [on_more_pages(it) for it in expected(lines)], came)
+
+
 def in_two_runs(checks: Checks, bench: Bench, name: str, lines: list[str]) -> None:
     """Runs the rows in two halves on one file: they print what one run prints."""
     place = half(lines)
@@ -127,16 +154,14 @@ def in_two_runs(checks: Checks, bench: Bench, name: str, lines: list[str]) -> No
         return
     bench.image.unlink(missing_ok=True)
     for part, some in enumerate((lines[:place], lines[place:]), 1):
-        wanted = [it.removeprefix("= ") for it in some if it.startswith("= ") and not it.startswith("= status")]
-        script = "\n".join(it for it in some if not it.startswith("= "))
-        checks.compare(f"{name}, run {part} of two", wanted, bench.run(script + "\n" * (part == 1))[1])
+        checks.compare(f"{name}, run {part} of two", expected(some), bench.run(orders(some) + "\n" * (part == 1))[1])
 
 
 def check(checks: Checks, program: str, folder: Path) -> None:
     """Each script on a card in a file: printed as without it, and the card is as the reader shows."""
     bench = Bench(program, folder / "card.image")
     for name, lines in scripts():
-        script = "\n".join(it for it in lines if not it.startswith("= "))
+        script = orders(lines)
         bench.image.unlink(missing_ok=True)
         plain = subprocess.run([program], input=script.encode("latin-1"), capture_output=True)
         status, printed, told = bench.run(script)
@@ -145,3 +170,4 @@ def check(checks: Checks, program: str, folder: Path) -> None:
         agrees(checks, bench, name)
         if name.endswith(".rows"):
             in_two_runs(checks, bench, name, lines)
+            on_other_cards(checks, bench, name, lines)
