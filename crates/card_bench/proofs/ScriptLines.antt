@@ -14,6 +14,9 @@ use Rattle.bench_lines.specs.declared.reading.LineEnd.TheVariants.{LineFeed, End
 use Rattle.bench_lines.specs.Orders.{Nothing, Order, order_of}
 use Rattle.bench_lines.specs.Scripts.{AreOrders, CountsTaken, FailsAtLine, IsInLine, TakesInto, TakesLine, TakesTooMuch}
 use Rattle.bench_lines.specs.Scripts.{WhereKnown}
+use Rattle.nvm_board.specs.Facts.{Facts}
+use Rattle.card_turns.specs.BenchStates.{bench_facts}
+use Rattle.card_bench.specs.ScriptEndings.{StopsUnkept}
 use Rattle.bench_lines.specs.laws.TextLines.{IsLong, lines-last, lines-line, lines-long, order_of-empty, order_of-long}
 use Rattle.bench_lines.specs.laws.TextLines.{order_of-none, orders-more, strip-within}
 use Rattle.card_bench.specs.ScriptEndings.{HasWritten, IsReadInto, IsRunInto, IsRunToEnd, IsRunToLine, IsRunUnkept}
@@ -533,3 +536,33 @@ is_unanswered first (Some script) (Some rest) (Some rest') n taken taken' (b ∷
           held before before order prints run takes counted most good performs well loud (0, Appends-nil before);
       nothing = refl;
     }
+
+-- and this is its board then
+pub is_unanswered_by : (facts : Facts) (first : Desk) (script old new : Option (List ℕ)) (n taken taken' : ℕ)
+    (line : List ℕ) (end : LineEnd) (desk desk' : Desk) (held before : Option (List ℕ)) (order : Order) (prints : Print)
+    → facts ≡ bench_facts desk'.bench → HasRun first script old n taken desk held before → TakesLine old new line end
+    → CountsTaken old new taken taken'
+    → taken' ≤ SCRIPT_LIMIT → order_of line ≡ Some order → Performs order desk desk' prints
+    → IsGood desk'.bench → (text_of prints ≡ [] → ⊥) → StopsUnkept first facts script new held before
+unfolding is_unanswered
+is_unanswered_by facts first None old new n taken taken' line end desk desk' held before order prints is run takes
+    counted most good performs well loud = tt
+is_unanswered_by facts first (Some script) None new n taken taken' line end desk desk' held before order prints is run
+    takes counted most good performs well loud = absurd run
+is_unanswered_by facts first (Some script) (Some rest) None n taken taken' line end desk desk' held before order prints
+    is run takes counted most good performs well loud = absurd counted
+is_unanswered_by facts first (Some script) (Some rest) (Some rest') n taken taken' line LineFeed desk desk' held before
+    order prints is run takes counted most good performs well loud = (
+      is_unanswered first (Some script) (Some rest) (Some rest') n taken taken' line LineFeed desk desk' held before
+          order prints run takes counted most good performs well loud,
+      sym is,
+    )
+is_unanswered_by facts first (Some script) (Some rest) (Some rest') n taken taken' [] EndOfScript desk desk' held before
+    order prints is run takes counted most good performs well loud =
+    absurd (loud (silent order prints desk desk' good performs))
+is_unanswered_by facts first (Some script) (Some rest) (Some rest') n taken taken' (b ∷ l) EndOfScript desk desk' held
+    before order prints is run takes counted most good performs well loud = (
+      is_unanswered first (Some script) (Some rest) (Some rest') n taken taken' (b ∷ l) EndOfScript desk desk' held
+          before order prints run takes counted most good performs well loud,
+      sym is,
+    )

@@ -2,6 +2,8 @@
 use Rattle.std.specs.Prelude.{◌≡◌, ◌≢◌, ◌⊎◌, ◌≤◌, ℕ, List, [], ◌∷◌, ◌++◌, length, take, Option, IfSome}
 use Rattle.std.specs.Io.KnownBytes.{Appends}
 use Rattle.std.specs.Str.Lines.{lines}
+use Rattle.nvm_board.specs.Facts.{Facts}
+use Rattle.card_turns.specs.BenchStates.{bench_facts}
 use Rattle.card_bench.specs.declared.fault.RunFault.{RunFault}
 use Rattle.card_bench.specs.declared.fault.RunFault.TheVariants.{BadLine, Read, Write, Memory, Unkept}
 use Rattle.bench_lines.specs.declared.reading.TheConstants.{SCRIPT_LIMIT}
@@ -59,6 +61,12 @@ pub record IsRunInto (first : Desk) (script left : List ℕ) (old new : Option (
 pub record IsRunUnkept (first : Desk) (script left : List ℕ) (old new : Option (List ℕ)) : Type 0 where
   pub into : IsRunInto first script left old new
   pub nothing : into.size ≡ 0
+
+-- The run stopped since the follower of a board with these facts failed. They are those after the line without an
+-- answer, if the script's bytes are known.
+abbrev pub StopsUnkept : Desk → Facts → Option (List ℕ) → Option (List ℕ) → Option (List ℕ) → Option (List ℕ) → Type 0
+StopsUnkept first facts script left old new = WhereKnown script left (λ bytes rest.
+    (stop : IsRunUnkept first bytes rest old new) × (bench_facts stop.into.last.bench ≡ facts))
 
 -- The end of a run by its fault, if the script's bytes are known. A bad line is the first one, and the lines before it
 -- ran. A failing reader stops within a line, and a failing writer within the output of a line. If the follower of the

@@ -147,7 +147,8 @@ impl<B: Socket + Followed> Desk<B> {
         ensures unkept { result ≡ Err RunFault.Unkept → W.contents writer.new ≡ W.contents writer.old }
         ensures kept { OnOk result (self.now.prints ≢ prints_nothing → (board : B)
             × (B.facts board ≡ bench_facts self.now.desk.bench) × (B.has_kept board ≡ true)) }
-        ensures behind { result ≡ Err RunFault.Unkept → (board : B) × (B.has_kept board ≡ false) }
+        ensures behind { result ≡ Err RunFault.Unkept → (board : B)
+            × (B.facts board ≡ bench_facts self.now.desk.bench) × (B.has_kept board ≡ false) }
         ensures fault { IfErr result (λ fault. (fault ≡ RunFault.Write) ⊎ (fault ≡ RunFault.Unkept)) }
         ensures speaks { OnErr result (self.now.prints ≢ prints_nothing) }
     {

@@ -1,6 +1,6 @@
 //! Runs a script, from its first line to its last.
 ghost use Rattle.std.specs.Prelude.{◌≡◌, ◌≢◌, false, Err, IfSome, IfErr, OnOk};
-ghost use Rattle.card_bench.specs.ScriptEndings.{IsRunToEnd, RunStopsBy};
+ghost use Rattle.card_bench.specs.ScriptEndings.{IsRunToEnd, RunStopsBy, StopsUnkept};
 ghost use Rattle.card_bench.specs.Exchanges.{Desk as DeskValue};
 ghost use Rattle.card_bench.specs.Prints.{IsFirstDesk, desk_of};
 ghost use Rattle.card_turns.specs.Plays.{IsGood};
@@ -73,7 +73,10 @@ pub fn run_on<B: Armed + Faultless + Followed + Drop, R: BufRead, W: Write>(
         RunStopsBy (desk_of (B.facts board)) fault (R.remaining reader.old) (R.remaining reader.new)
         (W.contents writer.old) (W.contents writer.new)) }
     ensures memory { result ≢ Err RunFault.Memory }
-    ensures behind { result ≡ Err RunFault.Unkept → (board : B) × (B.has_kept board ≡ false) }
+    // The board that lacks a write is that of the line without an answer.
+    ensures behind { result ≡ Err RunFault.Unkept → (left : B) × (B.has_kept left ≡ false)
+        × StopsUnkept (desk_of (B.facts board)) (B.facts left) (R.remaining reader.old) (R.remaining reader.new)
+        (W.contents writer.old) (W.contents writer.new) }
 {
     has_no_fault(&board);
     let mut desk = Desk::new(board);
@@ -93,7 +96,9 @@ fn run_lines<B: Armed + Faultless + Followed, R: BufRead, W: Write>(
         RunStopsBy desk.old.desk fault (R.remaining reader.old) (R.remaining reader.new)
         (W.contents writer.old) (W.contents writer.new)) }
     ensures memory { result ≢ Err RunFault.Memory }
-    ensures behind { result ≡ Err RunFault.Unkept → (board : B) × (B.has_kept board ≡ false) }
+    ensures behind { result ≡ Err RunFault.Unkept → (left : B) × (B.has_kept left ≡ false)
+        × StopsUnkept desk.old.desk (B.facts left) (R.remaining reader.old) (R.remaining reader.new)
+        (W.contents writer.old) (W.contents writer.new) }
 {
     let mut line = LineBytes::new();
     let mut given = GivenBytes::new();

@@ -3,12 +3,12 @@ use Rattle.std.proofs.Common.{inl, inr, subst, sym, ◌∙◌, ap, arith}
 use Rattle.std.specs.Prelude.{IsErrAnd}
 use Rattle.bench_lines.specs.declared.reading.LineFault.TheVariants.{Read, TooLong, TooMuch}
 use Rattle.card_bench.specs.declared.fault.RunFault.{RunFault}
-use Rattle.card_bench.specs.ScriptEndings.{IsRunToLine, IsRunUnkept, RunStopsBy}
+use Rattle.card_bench.specs.ScriptEndings.{IsRunToLine, IsRunUnkept, RunStopsBy, StopsUnkept}
 use Rattle.bench_lines.specs.OrderViews.{order_with}
 use Rattle.bench_lines.specs.Orders.{order_of}
 use Rattle.bench_lines.specs.Scripts.{TakesLine, WhereKnown}
 use Rattle.card_bench.proofs.ScriptLines.{begins_run, goes_on, is_done, is_bad, is_too_long, is_unread}
-use Rattle.card_bench.proofs.ScriptLines.{is_unanswered, is_unwritten}
+use Rattle.card_bench.proofs.ScriptLines.{is_unanswered, is_unanswered_by, is_unwritten}
 use Rattle.card_bench.proofs.ScriptLines.{speaks, HasRun}
 use Rattle.bench_lines.specs.laws.SizedOrders.{order_of-in_range}
 use Rattle.card_bench.proofs.script.run_lines.Goals as goal
@@ -95,6 +95,26 @@ returns-in_err-answer-clause-stopped g c =
     ] in
     passed_on _ c.in_err-answer.field-0.0 (λ (f : RunFault). RunStopsBy first f script left held after)
     c.from_residual.ensures.1 stops
+
+pub returns-in-Err-clause-behind : goal.returns-in-Err-clause-behind
+returns-in-Err-clause-behind g c = λ unkept.
+    let order = order_with c.in-Some.order c.as_slice.result.now in
+    let good : order_of c.read_line.new.line.items ≡ Some order =
+    ap order_of (sym c.deref.ensures.0) ∙ sym c.in-Some.ensures
+    ∙ ap (λ (l : List ℕ). Some (order_with c.in-Some.order l)) (sym c.as_slice.ensures) in
+    let script = g.R.Read.remaining c.args.reader.now in
+    let left = g.R.Read.remaining c.read_line.new.reader in
+    let held = g.W.Write.contents c.args.writer.now in
+    let behind = c.in-Err.ensures.behind unkept in
+    let loud = speaks c.perform.new.self.prints c.in-Err.ensures.speaks in (
+      behind.0,
+      behind.2,
+      subst (λ (w : Option (List ℕ)). StopsUnkept c.args.desk.now.desk (g.B.Board.facts behind.0) script left held w)
+          (sym (c.in-Err.ensures.unkept unkept))
+          (is_unanswered_by _ _ _ _ _ _ _ _ _ c.in-Ok.end _ _ _ _ _ _ behind.1 c.loop-number.invariant.so_far
+          c.in-Ok.ensures.line c.in-Ok.ensures.counted c.read_line.ensures.taken good c.perform.ensures.performs
+          c.perform.ensures.good loud),
+    )
 
 pub perform-requires-clause-sized : goal.perform-requires-clause-sized
 perform-requires-clause-sized g c =

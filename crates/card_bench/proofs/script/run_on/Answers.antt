@@ -1,5 +1,5 @@
 use Rattle.std.proofs.Common.{OnOk, IfErr, IfSome, subst}
-use Rattle.card_bench.specs.ScriptEndings.{IsRunToEnd, RunStopsBy}
+use Rattle.card_bench.specs.ScriptEndings.{IsRunToEnd, RunStopsBy, StopsUnkept}
 use Rattle.card_bench.specs.Exchanges.{Desk}
 use Rattle.card_bench.proofs.FormatLemmas.{desk_is}
 use Rattle.card_bench.proofs.script.run_on.Goals as goal
@@ -19,3 +19,15 @@ returns-clause-stopped g c =
     subst (λ (d : Desk). IfErr c.run_lines.result (λ fault. RunStopsBy d fault (g.R.Read.remaining c.args.reader.now)
     (g.R.Read.remaining c.run_lines.new.reader) (g.W.Write.contents c.args.writer.now)
     (g.W.Write.contents c.run_lines.new.writer))) first c.run_lines.ensures.stopped
+
+pub returns-clause-behind : goal.returns-clause-behind
+returns-clause-behind g c = λ unkept.
+    let first = desk_is c.new-desk.result.desk (g.B.Board.facts c.args.board) c.new-desk.ensures.bench
+    c.new-desk.ensures.reader c.new-desk.ensures.line in
+    let behind = c.run_lines.ensures.behind unkept in (
+      behind.0,
+      behind.1,
+      subst (λ (d : Desk). StopsUnkept d (g.B.Board.facts behind.0) (g.R.Read.remaining c.args.reader.now)
+          (g.R.Read.remaining c.run_lines.new.reader) (g.W.Write.contents c.args.writer.now)
+          (g.W.Write.contents c.run_lines.new.writer)) first behind.2,
+    )
