@@ -2,8 +2,6 @@
 use Rattle.std.specs.Prelude.{◌≡◌, ◌⊎◌, ◌≤◌, ◌<◌, ◌+◌, ◌-◌, ◌/◌, ◌%◌, ◌^◌, ℕ, zero, suc, List, [], ◌∷◌, ◌++◌}
 use Rattle.std.proofs.Common.{refl, sym, subst, inl, inr, arith}
 use Rattle.std.proofs.lemmas.List.{append-nil}
-use Rattle.nvm_board.specs.declared.cut_board.CutBoard.{CutBoard}
-use Rattle.nvm_board.specs.Cut.{cut_facts, last_torn}
 use Rattle.nvm_board.specs.Facts.{Facts}
 use Rattle.card_turns.specs.declared.playing.Turn.{Turn}
 use Rattle.card_bench.specs.declared.tally.Seen.{Seen}
@@ -104,15 +102,17 @@ counts-cut depth i probe board left old between new some cut behind =
     (λ all these. record { left = left; cut = cut; behind = these }) behind)
 
 -- the command is cut at a write by one mask more
-pub counts-mask : (depth number words i : ℕ) (board : Facts) (left : CutBoard) (prepare : List Turn) (command : List ℕ)
-    (probe : List Turn) (old between new : List Seen) → (i ≡ 0 → words ≡ words_tried (last_torn left))
-    → CountsRuns (InTurn (AreOfMask board prepare command probe depth number words) i) old between
-    → CutsCommand number (mask_of words i) board prepare command (cut_facts left)
-    → CountsRuns (AreAllBehind depth probe (cut_facts left)) between new
-    → CountsRuns (InTurn (AreOfMask board prepare command probe depth number words) (i + 1)) old new
-counts-mask depth number words i board left prepare command probe old between new told some cut behind =
-    counts-next (AreOfMask board prepare command probe depth number words) i old between new some
-    (counts-weaker (AreAllBehind depth probe (cut_facts left)) (AreOfMask board prepare command probe depth number
+pub counts-mask : {B : Type 0} (facts : B → Facts) (torn : B
+    → ℕ) (depth number words i : ℕ) (board : Facts) (left : B) (prepare : List Turn) (command : List ℕ)
+    (probe : List Turn) (old between new : List Seen) → (i ≡ 0 → words ≡ words_tried (torn left))
+    → CountsRuns (InTurn (AreOfMask facts torn board prepare command probe depth number words) i) old between
+    → CutsCommand number (mask_of words i) board prepare command (facts left)
+    → CountsRuns (AreAllBehind depth probe (facts left)) between new
+    → CountsRuns (InTurn (AreOfMask facts torn board prepare command probe depth number words) (i + 1)) old new
+counts-mask facts torn depth number words i board left prepare command probe old between new told some cut behind =
+    counts-next (AreOfMask facts torn board prepare command probe depth number words) i old between new some
+    (counts-weaker (AreAllBehind depth probe (facts left))
+        (AreOfMask facts torn board prepare command probe depth number
     words i) between new (λ all these. record { left = left; cut = cut; words_told = told; behind = these }) behind)
 
 -- a mask by what is told of it
@@ -149,41 +149,46 @@ counts-swept depth i probe board old new more some done each =
     new (λ all parts. are-behind-cuts depth i probe board all more some done parts) each
 
 -- the command is cut at a write by each mask
-pub counts-write : (depth number words i : ℕ) (board : Facts) (prepare : List Turn) (command : List ℕ)
+pub counts-write : {B : Type 0} (facts : B → Facts) (torn : B
+    → ℕ) (depth number words i : ℕ) (board : Facts) (prepare : List Turn) (command : List ℕ)
     (probe : List Turn) (old new : List Seen) → 1 ≤ words → words ≤ 16 → i ≡ mask_count_of words
-    → CountsRuns (InTurn (AreOfMask board prepare command probe depth number words) i) old new
-    → CountsRuns (AreOfWrite board prepare command probe depth number) old new
-counts-write depth number words i board prepare command probe old new some fit end each =
-    counts-weaker (InTurn (AreOfMask board prepare command probe depth number words) i)
-    (AreOfWrite board prepare command probe depth number) old new
+    → CountsRuns (InTurn (AreOfMask facts torn board prepare command probe depth number words) i) old new
+    → CountsRuns (AreOfWrite facts torn board prepare command probe depth number) old new
+counts-write facts torn depth number words i board prepare command probe old new some fit end each =
+    counts-weaker (InTurn (AreOfMask facts torn board prepare command probe depth number words) i)
+    (AreOfWrite facts torn board prepare command probe depth number) old new
     (λ all parts. record {
       words = words;
       some = some;
       fit = fit;
-      each = subst (λ (n : ℕ). InTurn (AreOfMask board prepare command probe depth number words) n all) end parts;
+      each = subst (λ (n : ℕ). InTurn
+          (AreOfMask facts torn board prepare command probe depth number words) n all) end parts;
     })
     each
 
 -- the command doesn't make this write
-pub counts-last : (depth number words i : ℕ) (board : Facts) (prepare : List Turn) (command : List ℕ)
+pub counts-last : {B : Type 0} (facts : B → Facts) (torn : B
+    → ℕ) (depth number words i : ℕ) (board : Facts) (prepare : List Turn) (command : List ℕ)
     (probe : List Turn) (old new : List Seen) → i < mask_count_of words
-    → CountsRuns (InTurn (AreOfMask board prepare command probe depth number words) i) old new
+    → CountsRuns (InTurn (AreOfMask facts torn board prepare command probe depth number words) i) old new
     → SparesCommand number (mask_of words i) board prepare command
-    → CountsRuns (AreOfLastWrite board prepare command probe depth number) old new
-counts-last depth number words i board prepare command probe old new few each spared =
-    counts-weaker (InTurn (AreOfMask board prepare command probe depth number words) i)
-    (AreOfLastWrite board prepare command probe depth number) old new
+    → CountsRuns (AreOfLastWrite facts torn board prepare command probe depth number) old new
+counts-last facts torn depth number words i board prepare command probe old new few each spared =
+    counts-weaker (InTurn (AreOfMask facts torn board prepare command probe depth number words) i)
+    (AreOfLastWrite facts torn board prepare command probe depth number) old new
     (λ all parts. record { words = words; masks = i; few = few; each = parts; spared = spared }) each
 
 -- all writes of the command, and the one that it doesn't make
-pub counts-command : (depth writes : ℕ) (board : Facts) (prepare : List Turn) (command : List ℕ) (probe : List Turn)
-    (old between new : List Seen) → CountsRuns (InTurn (λ n. AreOfWrite board prepare command probe depth
+pub counts-command : {B : Type 0} (facts : B → Facts) (torn : B
+    → ℕ) (depth writes : ℕ) (board : Facts) (prepare : List Turn) (command : List ℕ) (probe : List Turn)
+    (old between new : List Seen) → CountsRuns (InTurn (λ n. AreOfWrite facts torn board prepare command probe depth
     (n + 1)) writes)
-    old between → CountsRuns (AreOfLastWrite board prepare command probe depth (writes + 1)) between new
-    → CountsRuns (AreAllRuns board prepare command probe depth) old new
-counts-command depth writes board prepare command probe old between new each last =
-    counts-both (InTurn (λ n. AreOfWrite board prepare command probe depth (n + 1)) writes)
-    (AreOfLastWrite board prepare command probe depth (writes + 1)) (AreAllRuns board prepare command probe depth) old
+    old between → CountsRuns (AreOfLastWrite facts torn board prepare command probe depth (writes + 1)) between new
+    → CountsRuns (AreAllRuns facts torn board prepare command probe depth) old new
+counts-command facts torn depth writes board prepare command probe old between new each last =
+    counts-both (InTurn (λ n. AreOfWrite facts torn board prepare command probe depth (n + 1)) writes)
+    (AreOfLastWrite facts torn board prepare command probe depth (writes + 1))
+        (AreAllRuns facts torn board prepare command probe depth) old
     between new (λ before end parts one. record {
       writes = writes;
       before = before;
@@ -194,13 +199,14 @@ counts-command depth writes board prepare command probe old between new each las
     }) each last
 
 -- and where all numbers are used up
-pub counts-command-full : (depth writes : ℕ) (board : Facts) (prepare : List Turn) (command : List ℕ)
+pub counts-command-full : {B : Type 0} (facts : B → Facts) (torn : B
+    → ℕ) (depth writes : ℕ) (board : Facts) (prepare : List Turn) (command : List ℕ)
     (probe : List Turn) (old new : List Seen) → writes ≡ 2 ^ 32 - 1
-    → CountsRuns (InTurn (λ n. AreOfWrite board prepare command probe depth (n + 1)) writes) old new
-    → CountsRuns (AreAllRuns board prepare command probe depth) old new
-counts-command-full depth writes board prepare command probe old new full each =
-    counts-weaker (InTurn (λ n. AreOfWrite board prepare command probe depth (n + 1)) writes)
-    (AreAllRuns board prepare command probe depth) old new
+    → CountsRuns (InTurn (λ n. AreOfWrite facts torn board prepare command probe depth (n + 1)) writes) old new
+    → CountsRuns (AreAllRuns facts torn board prepare command probe depth) old new
+counts-command-full facts torn depth writes board prepare command probe old new full each =
+    counts-weaker (InTurn (λ n. AreOfWrite facts torn board prepare command probe depth (n + 1)) writes)
+    (AreAllRuns facts torn board prepare command probe depth) old new
     (λ all parts. record {
       writes = writes;
       before = all;

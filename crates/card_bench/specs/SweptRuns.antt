@@ -1,8 +1,6 @@
 -- All runs of a sweep, in order, and the finding of each.
 use Rattle.std.specs.Prelude.{◌≡◌, ◌⊎◌, ◌≤◌, ◌≢◌, ◌<◌, ◌+◌, ◌-◌, ◌/◌, ◌%◌, ◌^◌, ℕ, zero, suc, true, List, [], ◌∷◌}
 use Rattle.std.specs.Prelude.{◌++◌, is_some}
-use Rattle.nvm_board.specs.declared.cut_board.CutBoard.{CutBoard}
-use Rattle.nvm_board.specs.Cut.{cut_facts, last_torn}
 use Rattle.nvm_board.specs.Facts.{Facts}
 use Rattle.card_turns.specs.declared.playing.Turn.{Turn}
 use Rattle.card_turns.specs.declared.playing.Item.{Item}
@@ -60,37 +58,40 @@ AreAllBehind (suc depth) probe board all =
     (SparesStart 1 0 board × IsOneLook probe board all) ⊎ AreBehindStart (AreAllBehind depth probe) board all
 
 -- The runs after a cut of the command at this write with mask number i, counted from 0. The board after the first mask
--- reports the number of words of its torn write, which gives the masks to try.
-pub record AreOfMask (board : Facts) (prepare : List Turn) (command : List ℕ) (probe : List Turn)
+-- reports the number of words of its torn write, which gives the masks to try. `facts` and `torn` are the facts of a
+-- board, and the number of words of its last torn write.
+pub record AreOfMask {B : Type 0} (facts : B → Facts) (torn : B
+    → ℕ) (board : Facts) (prepare : List Turn) (command : List ℕ) (probe : List Turn)
     (depth number words i : ℕ) (all : List Finding) : Type 0 where
-  pub left : CutBoard
-  pub cut : CutsCommand number (mask_of words i) board prepare command (cut_facts left)
-  pub words_told : i ≡ 0 → words ≡ words_tried (last_torn left)
-  pub behind : AreAllBehind depth probe (cut_facts left) all
+  pub left : B
+  pub cut : CutsCommand number (mask_of words i) board prepare command (facts left)
+  pub words_told : i ≡ 0 → words ≡ words_tried (torn left)
+  pub behind : AreAllBehind depth probe (facts left) all
 
 -- The command is cut at this write with each mask, for the number of words that the board reports.
-pub record AreOfWrite (board : Facts) (prepare : List Turn) (command : List ℕ) (probe : List Turn) (depth number : ℕ)
-    (all : List Finding) : Type 0 where
+pub record AreOfWrite {B : Type 0} (facts : B → Facts) (torn : B → ℕ) (board : Facts) (prepare : List Turn)
+    (command : List ℕ) (probe : List Turn) (depth number : ℕ) (all : List Finding) : Type 0 where
   pub words : ℕ
   pub some : 1 ≤ words
   pub fit : words ≤ 16
-  pub each : InTurn (AreOfMask board prepare command probe depth number words) (mask_count_of words) all
+  pub each : InTurn (AreOfMask facts torn board prepare command probe depth number words) (mask_count_of words) all
 
 -- The command doesn't make this write: a cut with one of the masks doesn't happen, and no further mask is tried.
-pub record AreOfLastWrite (board : Facts) (prepare : List Turn) (command : List ℕ) (probe : List Turn)
-    (depth number : ℕ) (all : List Finding) : Type 0 where
+pub record AreOfLastWrite {B : Type 0} (facts : B → Facts) (torn : B → ℕ) (board : Facts) (prepare : List Turn)
+    (command : List ℕ) (probe : List Turn) (depth number : ℕ) (all : List Finding) : Type 0 where
   pub words : ℕ
   pub masks : ℕ
   pub few : masks < mask_count_of words
-  pub each : InTurn (AreOfMask board prepare command probe depth number words) masks all
+  pub each : InTurn (AreOfMask facts torn board prepare command probe depth number words) masks all
   pub spared : SparesCommand number (mask_of words masks) board prepare command
 
 -- All runs: the command is cut at each of its writes. (There are at most 4,294,967,295 of them.)
-pub record AreAllRuns (board : Facts) (prepare : List Turn) (command : List ℕ) (probe : List Turn) (depth : ℕ)
-    (all : List Finding) : Type 0 where
+pub record AreAllRuns {B : Type 0} (facts : B → Facts) (torn : B → ℕ) (board : Facts) (prepare : List Turn)
+    (command : List ℕ) (probe : List Turn) (depth : ℕ) (all : List Finding) : Type 0 where
   pub writes : ℕ
   pub before : List Finding
   pub last : List Finding
-  pub each : InTurn (λ n. AreOfWrite board prepare command probe depth (n + 1)) writes before
-  pub done : AreOfLastWrite board prepare command probe depth (writes + 1) last ⊎ ((writes ≡ 2 ^ 32 - 1) × (last ≡ []))
+  pub each : InTurn (λ n. AreOfWrite facts torn board prepare command probe depth (n + 1)) writes before
+  pub done : AreOfLastWrite facts torn board prepare command probe depth (writes + 1) last ⊎ ((writes ≡ 2 ^ 32 - 1)
+      × (last ≡ []))
   pub all_are : all ≡ before ++ last

@@ -12,6 +12,7 @@ mod line_result;
 mod masks;
 mod printing;
 mod script;
+mod sweepable;
 mod sweeping;
 mod tally;
 
@@ -23,5 +24,6 @@ pub use fault::RunFault;
 pub use image::{NoCard, image_board};
 pub use masks::{mask_at, mask_count, words_to_try};
 pub use script::{run, run_on};
+pub use sweepable::Sweepable;
 pub use sweeping::{cut_at, play_copy, sweep, sweep_behind};
 pub use tally::{Seen, Sweep, Trace};

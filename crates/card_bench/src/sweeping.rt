@@ -15,6 +15,7 @@ ghost use Rattle.card_bench.specs.Sweeps.{CutsCommand, CutsStart, SparesStart, E
 ghost use Rattle.card_bench.specs.Sweeps.{GivenByRun, PlaysOn, free_of};
 
 use crate::masks::{mask_at, mask_count, words_to_try};
+use crate::sweepable::Sweepable;
 use crate::tally::{Sweep, Trace, blank_trace};
 use card_core::FreeSpace;
 use card_turns::{Bench, Turn, TurnResult};
@@ -25,10 +26,10 @@ use t1_link::BlockBytes;
 /// The plan of a sweep: preparation, command, and probe.
 /// Each run uses a copy of the board.
 /// Between command and probe up to `depth` power-ons are cut.
-#[derive(Clone, Copy)]
-struct Plan<'a> {
+#[derive(Drop)]
+struct Plan<'a, B: Sweepable> {
     alloc: Global,
-    board: &'a CutBoard,
+    board: &'a B,
     prepare: &'a [Turn<'a>],
     command: &'a [u8],
     probe: &'a [Turn<'a>],
@@ -59,22 +60,23 @@ impl From<AllocError> for Stop {
 ///
 /// # Errors
 /// There is too little memory.
-pub fn sweep(
+pub fn sweep<B: Sweepable + Drop>(
     alloc: Global,
-    board: &CutBoard,
+    board: &B,
     prepare: &[Turn<'_>],
     command: &[u8],
     probe: &[Turn<'_>],
     depth: u8,
 ) -> Result<Sweep, AllocError>
-    requires { (cut_facts board.now).pending ≡ None }
+    requires { (B.facts board.now).pending ≡ None }
     ensures sum { IfOk result (λ s. sum_by times_seen s.seen.items ≡ s.runs) }
     ensures different { IfOk result (λ s. AllPairs (λ a b. a ≢ b) (findings s.seen.items)) }
-    ensures runs { IfOk result (λ s. HasCard (cut_facts board.now).words
-        → All (GivenByRun (cut_facts board.now) prepare.now command.now probe.now depth) (findings s.seen.items)) }
+    ensures runs { IfOk result (λ s. HasCard (B.facts board.now).words
+        → All (GivenByRun (B.facts board.now) prepare.now command.now probe.now depth) (findings s.seen.items)) }
     // The tally is that of the possible runs, in order. docs/SWEEP.md says what is open.
-    ensures complete { IfOk result (λ s. HasCard (cut_facts board.now).words → s.runs < 2 ^ 32 - 1
-        → CountsRuns (AreAllRuns (cut_facts board.now) prepare.now command.now probe.now depth) [] s.seen.items) }
+    ensures complete { IfOk result (λ s. HasCard (B.facts board.now).words → s.runs < 2 ^ 32 - 1
+        → CountsRuns (AreAllRuns B.facts B.torn (B.facts board.now) prepare.now command.now probe.now depth) []
+        s.seen.items) }
 {
     let mut sweep = Sweep::new(alloc);
     let plan = Plan {
@@ -85,7 +87,7 @@ pub fn sweep(
         probe,
         depth,
     };
-    match cut_command(plan, &mut sweep) {
+    match cut_command(&plan, &mut sweep) {
         Ok(()) | Err(Stop::Full) => Ok(sweep),
         Err(Stop::Memory) => Err(AllocError),
     }
@@ -118,7 +120,7 @@ pub fn cut_at(
         probe: &[],
         depth: 0,
     };
-    command_cut(plan, number, mask)
+    command_cut(&plan, number, mask)
 }
 
 /// Tries every run that may follow on a board.
@@ -162,8 +164,9 @@ pub fn play_copy(
 }
 
 /// Cuts the command at each of its writes, and continues from there.
-fn cut_command(plan: Plan<'_>, sweep: &mut Sweep) -> Result<(), Stop>
-    ensures { Sweeps (board_of plan.entry).words (IsGivenBy plan.entry) (λ _. AreAll plan.entry)
+fn cut_command<B: Sweepable + Drop>(plan: &Plan<'_, B>, sweep: &mut Sweep) -> Result<(), Stop>
+    ensures { Sweeps (board_of B.facts plan.now).words (IsGivenBy B.facts plan.now)
+        (λ _. AreAll B.facts B.torn plan.now)
         sweep.old sweep.new result }
 {
     for whole in 0..u32::MAX {
@@ -176,9 +179,14 @@ fn cut_command(plan: Plan<'_>, sweep: &mut Sweep) -> Result<(), Stop>
 
 /// Cuts the command at write `k` with each mask, and continues.
 /// Returns true if the command makes that write.
-fn cut_write(plan: Plan<'_>, k: u32, sweep: &mut Sweep) -> Result<bool, Stop>
+fn cut_write<B: Sweepable + Drop>(
+    plan: &Plan<'_, B>,
+    k: u32,
+    sweep: &mut Sweep,
+) -> Result<bool, Stop>
     requires { 1 ≤ k }
-    ensures { Sweeps (board_of plan.entry).words (IsGivenBy plan.entry) (AreAtWrite plan.entry k)
+    ensures { Sweeps (board_of B.facts plan.now).words (IsGivenBy B.facts plan.now)
+        (AreAtWrite B.facts B.torn plan.now k)
         sweep.old sweep.new result }
 {
     let Some(torn) = command_cut(plan, k, 0)? else {
@@ -197,12 +205,16 @@ fn cut_write(plan: Plan<'_>, k: u32, sweep: &mut Sweep) -> Result<bool, Stop>
 
 /// Returns the board after the command was cut at write `k`.
 /// Returns `None` if the command makes fewer writes.
-fn command_cut(plan: Plan<'_>, k: u32, mask: u16) -> Result<Option<CutBoard>, AllocError>
+fn command_cut<B: Sweepable + Drop>(
+    plan: &Plan<'_, B>,
+    k: u32,
+    mask: u16,
+) -> Result<Option<B>, AllocError>
     requires { 1 ≤ k }
-    ensures cut { IfOk result (λ cut. IfSome cut (λ left. HasCard (board_of plan.entry).words
-        → CutsCommand k mask (board_of plan.entry) plan.entry.prepare.now plan.entry.command.now (cut_facts left))) }
-    ensures spared { IfOk result (λ cut. IfNone cut (HasCard (board_of plan.entry).words
-        → SparesCommand k mask (board_of plan.entry) plan.entry.prepare.now plan.entry.command.now)) }
+    ensures cut { IfOk result (λ cut. IfSome cut (λ left. HasCard (board_of B.facts plan.now).words
+        → CutsCommand k mask (board_of B.facts plan.now) plan.now.prepare.now plan.now.command.now (B.facts left))) }
+    ensures spared { IfOk result (λ cut. IfNone cut (HasCard (board_of B.facts plan.now).words
+        → SparesCommand k mask (board_of B.facts plan.now) plan.now.prepare.now plan.now.command.now)) }
 {
     let mut bench = Bench::new(plan.board.copy(plan.alloc)?);
     let _ = played(plan.alloc, &mut bench, plan.prepare)?;
@@ -213,9 +225,9 @@ fn command_cut(plan: Plan<'_>, k: u32, mask: u16) -> Result<Option<CutBoard>, Al
 }
 
 /// Returns the board if power was lost and no cut is pending.
-fn cut_board(is_dark: bool, board: CutBoard) -> Option<CutBoard>
-    ensures cut { IfSome result (λ left. (left ≡ board) × (is_dark ≡ true) × ((cut_facts left).pending ≡ None)) }
-    ensures spared { IfNone result ((is_dark ≡ false) ⊎ (is_some (cut_facts board).pending ≡ true)) }
+fn cut_board<B: Sweepable + Drop>(is_dark: bool, board: B) -> Option<B>
+    ensures cut { IfSome result (λ left. (left ≡ board) × (is_dark ≡ true) × ((B.facts left).pending ≡ None)) }
+    ensures spared { IfNone result ((is_dark ≡ false) ⊎ (is_some (B.facts board).pending ≡ true)) }
 {
     if is_dark && !board.pending() {
         Some(board)
@@ -226,15 +238,15 @@ fn cut_board(is_dark: bool, board: CutBoard) -> Option<CutBoard>
 
 /// Cuts up to `depth` power-ons, then runs the probe.
 /// It cuts no more after a power-on without writes.
-fn cut_starts(
+fn cut_starts<B: Sweepable + Drop>(
     alloc: Global,
-    board: &CutBoard,
+    board: &B,
     probe: &[Turn<'_>],
     depth: u8,
     sweep: &mut Sweep,
 ) -> Result<(), Stop>
-    ensures { Sweeps (cut_facts board.now).words (EndsBehindStarts depth (cut_facts board.now) probe.now)
-        (λ _. AreAllBehind depth probe.now (cut_facts board.now)) sweep.old sweep.new result }
+    ensures { Sweeps (B.facts board.now).words (EndsBehindStarts depth (B.facts board.now) probe.now)
+        (λ _. AreAllBehind depth probe.now (B.facts board.now)) sweep.old sweep.new result }
 {
     if depth == 0 {
         return look(alloc, board, probe, sweep);
@@ -255,17 +267,17 @@ fn cut_starts(
 
 /// Returns the board after a power-on that was cut at write `k`.
 /// Returns `None` if power-on makes fewer writes.
-fn start_cut(
+fn start_cut<B: Sweepable + Drop>(
     alloc: Global,
-    board: &CutBoard,
+    board: &B,
     k: u32,
     mask: u16,
-) -> Result<Option<CutBoard>, AllocError>
+) -> Result<Option<B>, AllocError>
     requires { 1 ≤ k }
-    ensures cut { IfOk result (λ cut. IfSome cut (λ left. HasCard (cut_facts board.now).words
-        → CutsStart k mask (cut_facts board.now) (cut_facts left))) }
-    ensures spared { IfOk result (λ cut. IfNone cut (HasCard (cut_facts board.now).words
-        → SparesStart k mask (cut_facts board.now))) }
+    ensures cut { IfOk result (λ cut. IfSome cut (λ left. HasCard (B.facts board.now).words
+        → CutsStart k mask (B.facts board.now) (B.facts left))) }
+    ensures spared { IfOk result (λ cut. IfNone cut (HasCard (B.facts board.now).words
+        → SparesStart k mask (B.facts board.now))) }
 {
     let mut bench = Bench::new(board.copy(alloc)?);
     bench.arm_well(k, mask);
@@ -275,9 +287,14 @@ fn start_cut(
 }
 
 /// Counts one run: an uncut power-on, and the probe.
-fn look(alloc: Global, board: &CutBoard, probe: &[Turn<'_>], sweep: &mut Sweep) -> Result<(), Stop>
-    ensures { Sweeps (cut_facts board.now).words (EndsIn (cut_facts board.now) probe.now)
-        (λ _. IsOneLook probe.now (cut_facts board.now)) sweep.old sweep.new result }
+fn look<B: Sweepable + Drop>(
+    alloc: Global,
+    board: &B,
+    probe: &[Turn<'_>],
+    sweep: &mut Sweep,
+) -> Result<(), Stop>
+    ensures { Sweeps (B.facts board.now).words (EndsIn (B.facts board.now) probe.now)
+        (λ _. IsOneLook probe.now (B.facts board.now)) sweep.old sweep.new result }
 {
     if sweep.is_full() {
         return Err(Stop::Full);
@@ -292,9 +309,9 @@ fn look(alloc: Global, board: &CutBoard, probe: &[Turn<'_>], sweep: &mut Sweep) 
 }
 
 /// Plays turns, and returns the result of each.
-fn played(
+fn played<B: Sweepable>(
     alloc: Global,
-    bench: &mut Bench<CutBoard>,
+    bench: &mut Bench<B>,
     turns: &[Turn<'_>],
 ) -> Result<Trace, AllocError>
     ensures { IfOk result (λ trace. IsGood bench.old
@@ -306,7 +323,7 @@ fn played(
 }
 
 /// Returns the free space; zero with power off.
-fn free_space_of(bench: &Bench<CutBoard>) -> FreeSpace
+fn free_space_of<B: Sweepable>(bench: &Bench<B>) -> FreeSpace
     ensures { IsWell bench.now → result ≡ free_of bench.now }
 {
     match bench.free() {

@@ -7,10 +7,10 @@ use Rattle.card_bench.proofs.CompleteSweeps.{counts-whole, counts-swept}
 use Rattle.card_bench.proofs.sweeping.+cut_starts.Goals as goal
 
 pub loop-i-init : goal.loop-i-init
-loop-i-init t c = record { so_far = λ card. adds-none _ _; counted = λ card. counts-none _ _ }
+loop-i-init g t c = record { so_far = λ card. adds-none _ _; counted = λ card. counts-none _ _ }
 
 pub loop-i-preserved : goal.loop-i-preserved
-loop-i-preserved t c =
+loop-i-preserved g t c =
     let cut = rw c.in-Some.is at c.in_ok-cut.ensures.cut in
     let more : 0 < c.args.depth = omega arith in
     record {
@@ -22,7 +22,7 @@ loop-i-preserved t c =
     }
 
 pub returns-then-depth-eq0 : goal.returns-then-depth-eq0
-returns-then-depth-eq0 t c = record {
+returns-then-depth-eq0 g t c = record {
   given = λ card.
       adds-weaker _ _ _ _ (λ given end. behind_none _ _ _ _ c.if-depth-eq0.true end) (c.look.ensures.given card);
   complete = IfOk-weaker c.look.result _ _
@@ -32,14 +32,14 @@ returns-then-depth-eq0 t c = record {
 }
 
 pub returns-in_err-cut : goal.returns-in_err-cut
-returns-in_err-cut t c = record {
+returns-in_err-cut g t c = record {
   given = c.loop-i.invariant.so_far;
   complete = search rules;
   full = search rules;
 }
 
 pub returns-then-i-eq0 : goal.returns-then-i-eq0
-returns-then-i-eq0 t c = record {
+returns-then-i-eq0 g t c = record {
   given = λ card.
       let whole = rw c.in_default.is at c.in_ok-cut.ensures.spared in
       let number : c.loop-i.i / 2 + 1 ≡ 1 = omega (arith, c.if-i-eq0.true) in
@@ -57,7 +57,7 @@ returns-then-i-eq0 t c = record {
 }
 
 pub returns-else-i-eq0 : goal.returns-else-i-eq0
-returns-else-i-eq0 t c = record {
+returns-else-i-eq0 g t c = record {
   given = c.loop-i.invariant.so_far;
   complete = λ card.
       let whole = rw c.in_default.is at c.in_ok-cut.ensures.spared in
@@ -68,7 +68,7 @@ returns-else-i-eq0 t c = record {
 }
 
 pub returns-in_err-cut_starts : goal.returns-in_err-cut_starts
-returns-in_err-cut_starts t c = record {
+returns-in_err-cut_starts g t c = record {
   given = λ card.
       let cut = rw c.in-Some.is at c.in_ok-cut.ensures.cut in
       let more : 0 < c.args.depth = omega arith in
@@ -80,7 +80,7 @@ returns-in_err-cut_starts t c = record {
 }
 
 pub returns : goal.returns
-returns t c = record {
+returns g t c = record {
   given = c.loop-i.invariant.so_far;
   complete = λ card.
       let more : 0 < c.args.depth = omega arith in

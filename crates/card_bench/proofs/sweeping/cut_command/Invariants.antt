@@ -6,9 +6,10 @@ use Rattle.card_bench.specs.SweptRuns.{InTurn}
 use Rattle.card_bench.proofs.sweeping.cut_command.Given as goal
 
 abbrev pub invariant-loop-whole : goal.invariant-loop-whole
-invariant-loop-whole l = record {
-  so_far : HasCard (board_of l.plan).words
-      → Adds (IsGivenBy l.plan) (findings l.fn.sweep.seen.items) (findings l.sweep.seen.items);
-  counted : HasCard (board_of l.plan).words
-      → CountsRuns (InTurn (λ n. AreAtWrite l.plan (n + 1) true) l.whole) l.fn.sweep.seen.items l.sweep.seen.items;
+invariant-loop-whole g l = record {
+  so_far : HasCard (board_of g.B.Board.facts l.plan).words
+      → Adds (IsGivenBy g.B.Board.facts l.plan) (findings l.fn.sweep.seen.items) (findings l.sweep.seen.items);
+  counted : HasCard (board_of g.B.Board.facts l.plan).words
+      → CountsRuns (InTurn (λ n. AreAtWrite g.B.Board.facts g.B.Sweepable.torn l.plan
+      (n + 1) true) l.whole) l.fn.sweep.seen.items l.sweep.seen.items;
 }

@@ -5,9 +5,11 @@ use Rattle.card_bench.specs.SweptRuns.{InTurn, AreOfMask}
 use Rattle.card_bench.proofs.sweeping.cut_write.Given as goal
 
 abbrev pub invariant-loop-i : goal.invariant-loop-i
-invariant-loop-i l = record {
-  so_far : HasCard (board_of l.plan).words
-      → Adds (IsGivenBy l.plan) (findings l.fn.sweep.seen.items) (findings l.sweep.seen.items);
-  counted : HasCard (board_of l.plan).words → CountsRuns (InTurn (AreOfMask (board_of l.plan) l.plan.prepare.now
+invariant-loop-i g l = record {
+  so_far : HasCard (board_of g.B.Board.facts l.plan).words
+      → Adds (IsGivenBy g.B.Board.facts l.plan) (findings l.fn.sweep.seen.items) (findings l.sweep.seen.items);
+  counted : HasCard (board_of g.B.Board.facts l.plan).words
+      → CountsRuns (InTurn (AreOfMask g.B.Board.facts g.B.Sweepable.torn
+      (board_of g.B.Board.facts l.plan) l.plan.prepare.now
       l.plan.command.now l.plan.probe.now l.plan.depth l.k l.words) l.i) l.fn.sweep.seen.items l.sweep.seen.items;
 }
