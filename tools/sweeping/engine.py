@@ -1,29 +1,27 @@
 """Runs the program that sweeps (crates/sweep_cli) in parts, and checks that the parts belong together."""
-from __future__ import annotations
-
 import re
 import signal
 import subprocess
 import sys
-from collections.abc import Callable
-from concurrent.futures import ThreadPoolExecutor
+from collections import Counter
+from collections.abc import Callable, Sequence
+from functools import lru_cache
 from hashlib import sha256
+from multiprocessing.pool import ThreadPool
 from pathlib import Path
 
 from script_lines import fault
 
 TOP = Path(__file__).resolve().parents[2]
+COMMAND, PROBE = "# command", "# probe"
 DEPTH = re.compile(r"^# depth ([0-3])\r?$", re.MULTILINE)
-# a comment that was meant to begin a part of the script
-NEARLY_A_MARK = re.compile(r"#\s*(command|probe)\b", re.IGNORECASE)
-# small parts keep all processors busy to the end, and show progress
-PARTS_A_JOB = 4
-
+NO_LINE = re.compile(r"error line (\d+): it is no line of a script")
 
 class Refused(Exception):
     """Why an input can't be swept, for a person."""
 
 
+@lru_cache
 def program(*options: str) -> str:
     """The path of a program of the repository, which is built first if there is none."""
     done = subprocess.run([TOP / "tools/program", *options], stdout=subprocess.PIPE, text=True)
@@ -38,24 +36,25 @@ def ran(script: str, *words: str) -> list[str]:
     if done.returncode == 0:
         return done.stdout.splitlines()
     said = (done.stderr.splitlines() or [f"the program ended with status {done.returncode}"])[-1]
-    if said.startswith("error line ") and said.endswith("no line of a script"):
-        number = int(said.split(" ")[2].rstrip(":"))
-        said += f": {fault(script.split(chr(10))[number - 1].encode('latin-1'), number, True)}"
-    raise Refused(said)
+    bad = NO_LINE.fullmatch(said)
+    why = [fault(script.split("\n")[int(bad[1]) - 1].encode("latin-1"), int(bad[1]), True)] if bad else []
+    # a comment that was meant to begin a part of the script
+    why += [f"line {number} is '{line}'" for number, line in enumerate(script.splitlines(), 1)
+            if line not in (COMMAND, PROBE) and re.fullmatch(r"#\s*(command|probe)\s*", line, re.IGNORECASE)]
+    raise Refused(": ".join([said, *why]))
 
 
-def side_by_side(jobs: int, what: str, work: Callable, tasks: list) -> list:
+def side_by_side(jobs: int, what: str, work: Callable, tasks: Sequence) -> list:
     """The results of tasks, in order; `jobs` tasks run at a time. A terminal shows the progress."""
     done, is_seen = [], sys.stderr.isatty()
-    with ThreadPoolExecutor(jobs) as pool:
-        try:
-            for it in pool.map(work, tasks):
+    try:
+        with ThreadPool(jobs) as pool:
+            for it in pool.imap(work, tasks):
                 done.append(it)
                 told = f"\r\033[Ksweep: {len(done)} of {len(tasks)} {what}"
                 print(told * is_seen, end="", file=sys.stderr, flush=True)
-        finally:
-            pool.shutdown(cancel_futures=True)
-            print("\r\033[K" * is_seen, end="", file=sys.stderr, flush=True)
+    finally:
+        print("\r\033[K" * is_seen, end="", file=sys.stderr, flush=True)
     return done
 
 
@@ -65,37 +64,24 @@ def show(text: str) -> None:
     print(text, flush=True)
 
 
-class Sweeper:
-    """The program that sweeps, on the factory card or on copies of the card in a file. It only reads the file."""
-
-    def __init__(self, card: str | None = None):
-        self.card, self.words = card, [program("--sweep"), *(["--card", card] if card else [])]
-
-    def part(self, script: str, depth: int | None, part: int, of: int) -> dict:
-        """One part of a sweep: what it is of, and the lines of its report."""
-        for number, line in enumerate(script.splitlines(), 1):
-            near = NEARLY_A_MARK.fullmatch(line)
-            if near and line != f"# {near[1].lower()}":
-                raise Refused(f"line {number} is '{line}': write '# {near[1].lower()}'")
-        depth = int([1, *DEPTH.findall(script)][-1]) if depth is None else depth
-        lines = ran(script.removesuffix("\n") + f"\n# depth {depth}", *self.words, f"{part}/{of}")
-        # a file that changes between two parts gives them different sums
-        card = sha256(Path(self.card).read_bytes()).hexdigest() if self.card else ""
-        return {"script": script, "card": card, "depth": depth, "part": part, "parts": of, "lines": lines}
-
-    def parts(self, script: str, depth: int | None, jobs: int) -> list[dict]:
-        """All parts of a sweep."""
-        of = jobs * PARTS_A_JOB
-        return side_by_side(jobs, "parts", lambda part: self.part(script, depth, part, of), list(range(1, of + 1)))
+def sweep_part(script: str, depth: int | None, card: str | None, part: int, of: int) -> dict:
+    """One part of a sweep of the factory card, or of copies of the card in a file: what it is of, and its report."""
+    depth = int([1, *DEPTH.findall(script)][-1]) if depth is None else depth
+    whole = script.removesuffix("\n") + f"\n# depth {depth}"
+    words = [program("--sweep"), *(["--card", card] if card else []), f"{part}/{of}"]
+    lines = ran(whole, *words)
+    # a file that changes between two parts gives them different sums
+    summed = sha256(Path(card).read_bytes()).hexdigest() if card else ""
+    return {"script": script, "card": summed, "depth": depth, "parts": of, "part": part, "lines": lines}
 
 
 def check_parts(parts: list[dict]) -> list[dict]:
     """The parts, if they are of one sweep and whole, and none is missing or comes twice."""
-    of, numbers = parts[0]["parts"], [it["part"] for it in parts]
+    of, times = parts[0]["parts"], Counter(it["part"] for it in parts)
     short = [it["part"] for it in parts if not ["", *it["lines"]][-1].startswith("writes ")]
     wrong = [f"part {it} of {of} is cut short" for it in short]
-    wrong += [f"part {it} of {of} comes twice" for it in sorted(set(numbers)) if numbers.count(it) > 1]
-    wrong += [f"part {it} of {of} is missing" for it in range(1, of + 1) if it not in numbers]
+    wrong += [f"part {it} of {of} comes twice" for it in sorted(times) if times[it] > 1]
+    wrong += [f"part {it} of {of} is missing" for it in range(1, of + 1) if it not in times]
     if any(it[key] != parts[0][key] for it in parts for key in ("script", "card", "depth", "parts")):
         wrong = ["the parts are not of one sweep: script, card, depth or number of parts differ"]
     if wrong:

@@ -1,18 +1,16 @@
 """Sweeps every command of a script in its place. The lines before it prepare the card. The probe looks at all that the
 command touches: the free space, the tries of PINs, and the template and contents of files."""
-from __future__ import annotations
-
-import sys
 import time
 from argparse import Namespace
 from collections.abc import Iterator
+from functools import partial
 
-from .engine import Sweeper, program, ran, show, side_by_side
-from .outcomes import COMMAND, PROBE, Sweep
-from .table import aligned
+from .engine import COMMAND, PROBE, program, ran, show, side_by_side, sweep_part
+from .outcomes import Sweep, aligned
 from explaining.commands import OF_PINS, Command
-from explaining.files import CARRIED_OUT, Files
+from explaining.files import CARRIED_OUT, Files, Path
 from explaining.templates import Template
+from explaining.twin import select
 from script_lines import ORDERS_THAT_PRINT
 from testing.reading import Case, Difference
 from testing.reports import junit
@@ -21,19 +19,14 @@ CREATE, DELETE, SHOWING = "00E0", "00E4", ("0020", "0024")
 HEAD = ["line", "command", "answer", "writes", "runs", "outcomes", "allowed", "s"]
 
 
-def select(path: tuple[str, ...]) -> str:
-    """SELECT of a file by its path, with its template."""
-    return f"00A40804{2 * len(path):02X}{''.join(path)}00" if path else "00A40004023F0000"
-
-
 def reads(file: Template) -> list[str]:
-    """The commands that read the contents of a file."""
+    """The lines that read the contents of a file."""
     if file.kind == "transparent":
-        return [f"00B0{at:04X}00" for at in range(0, file.size, 256)]
-    return [f"00B2{number:02X}0400" for number in range(1, file.capacity + 1)] if file.record_length else []
+        return [f"apdu 00B0{at:04X}00" for at in range(0, file.size, 256)]
+    return [f"apdu 00B2{number:02X}0400" for number in range(1, file.capacity + 1)] if file.record_length else []
 
 
-def touched(files: Files, it: Command) -> dict[tuple[str, ...], Template]:
+def touched(files: Files, it: Command) -> dict[Path, Template]:
     """The files that a command touches: the new one, those that go, or its target."""
     if it.key == CREATE:
         return {(*files.directory, Template(it.data).identifier): Template(it.data)}
@@ -46,15 +39,14 @@ def probe(files: Files, it: Command, shown: dict[int, str]) -> list[str]:
     """The probe of a command. It verifies the PINs that were verified before."""
     of = touched(files, it)
     above = sorted({at[:size] for at in of for size in range(len(at))} - set(of))
-    pins = sorted({*shown, *([it.p2] if it.key in OF_PINS else [])})
-    lines = [f"002000{pin:02X}" for pin in pins] + list(map(select, above))
-    lines += [f"002000{pin:02X}08{value}" for pin, value in shown.items()]
+    lines = [f"apdu 002000{pin:02X}" for pin in sorted({*shown, *([it.p2] if it.key in OF_PINS else [])})]
+    lines += [*map(select, above), *(f"apdu 002000{pin:02X}08{value}" for pin, value in shown.items())]
     return lines + [line for at, file in of.items() for line in (select(at), *reads(file))]
 
 
 def cases(script: str) -> Iterator[tuple[int, str]]:
     """Each command by its line, with the sweep script that cuts it in its place."""
-    lines = [it.removesuffix("\r") for it in script.split("\n")]
+    lines = script.replace("\r\n", "\n").split("\n")
     printed, files, shown = iter(ran(script, program())), Files(), {}
     for number, line in enumerate(lines, 1):
         order, _, digits = line.partition(" ")
@@ -64,36 +56,31 @@ def cases(script: str) -> Iterator[tuple[int, str]]:
             shown = {}
         if order == "apdu":
             it = Command(bytes.fromhex(digits))
-            looks = [f"apdu {look}" for look in probe(files, it, shown)]
-            yield number, "\n".join([*lines[: number - 1], COMMAND, line, PROBE, *looks])
+            yield number, "\n".join([*lines[: number - 1], COMMAND, line, PROBE, *probe(files, it, shown)])
             if answer[-4:] in CARRIED_OUT and not it.fault:
                 files.carried_out(it)
-                if it.key in SHOWING and it.data:
-                    shown[it.p2] = it.data[-8:].hex()
+                shown |= {it.p2: it.data[-8:].hex()} if it.key in SHOWING and it.data else {}
 
 
-def row(sweeper: Sweeper, depth: int | None, case: tuple[int, str]) -> tuple[list[str], str]:
+def row(depth: int | None, case: tuple[int, str]) -> tuple[list[str], str]:
     """The row of a command, and why its outcomes aren't allowed."""
     began = time.monotonic()
-    it = Sweep([sweeper.part(case[1], depth, 1, 1)])
-    found = [len(it.writes), f"{it.runs:,}", len(it.outcomes), it.allowed() if it.writes else 0]
+    it = Sweep([sweep_part(case[1], depth, None, 1, 1)])
+    found = [len(it.writes), f"{it.runs:,}", len(it.outcomes), it.allowed if it.writes else 0]
     return [str(case[0]), it.name, it.answer[-4:], *map(str, found), f"{time.monotonic() - began:.1f}"], it.fault()
 
 
-def report_all(options: Namespace) -> int:
-    """Sweeps every command of a script, writes the reports, and gives the exit status."""
-    script, sweeper = options.files[0], Sweeper()
+def report_all(options: Namespace) -> str:
+    """Sweeps every command of a script, writes the reports, and gives the reason if outcomes aren't allowed."""
+    script = options.files[0]
     chosen = [it for it in cases(script.read()) if not options.only or it[0] in options.only]
-    swept = side_by_side(options.jobs, "commands", lambda case: row(sweeper, options.depth, case), chosen)
+    swept = side_by_side(options.jobs, "commands", partial(row, options.depth), chosen)
     rows = [it for it, _ in swept]
-    show(aligned([HEAD, *rows]))
+    show(aligned(HEAD, *rows))
     if options.markdown:
         options.markdown.writelines(f"| {' | '.join(it)} |\n" for it in [HEAD, ["---"] * len(HEAD), *rows])
-    tests = [Case(script.name, int(line), f"line {line}: {name}", 1) for line, name, *_ in rows]
-    for it, ((_, name, *_), fault) in zip(tests, swept):
-        if fault:
-            it.differences.append(Difference(it.line, name, reason=fault))
-            print(f"sweep: line {it.line}: {it.differences[0].reason}", file=sys.stderr)
     if options.junit:
-        options.junit.write(junit([tests]))
-    return int(any(it.differences for it in tests))
+        options.junit.write(junit([[Case(script.name, int(line), f"line {line}: {name}", 1,
+                                         [Difference(int(line), name, reason=fault)] if fault else [])
+                                    for (line, name, *_), fault in swept]]))
+    return "; ".join(f"line {line}: {fault}" for (line, *_), fault in swept if fault)

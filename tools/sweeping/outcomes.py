@@ -1,33 +1,25 @@
-"""What the parts of a sweep found, joined. The table, the picture and the reports show it."""
-from __future__ import annotations
-
+"""What the parts of a sweep found, joined, as text and as JSON. docs/SWEEP.md describes the lines of a part."""
+import json
 from collections import Counter
-from dataclasses import dataclass, field
-from itertools import islice
+from collections.abc import Iterable, Iterator, Sequence
+from itertools import groupby, islice
+from os.path import commonprefix
 
-from .engine import Refused
+from .engine import PROBE, Refused
 from card_words import read_table
 from explaining.commands import OF_PINS
+from explaining.templates import count
 
 BEFORE, AFTER, UNCHANGED = "as before the command", "as after the command", "as before the command, and as after it"
 TAKEN, OTHER = "with a try taken", "neither as before nor as after"
-COMMAND, PROBE = "# command", "# probe"
-# commands that show a PIN's tries, or those of its unblocking value, and what they print
-VALUE, UNBLOCKING, RESET, TRIES = "0020", "002C", "002C", "< 63C"
+# the commands that show the tries of a PIN and of its unblocking value; RESET RETRY COUNTER uses the latter
+VALUE, UNBLOCKING = "0020", "002C"
 # a command of more bytes goes in two blocks
 FIELD_LIMIT = 254
+# how many characters of a line, and how many numbers of writes, are shown
+SHOWN, MOST_DIGITS, MOST_NUMBERS = 30, 60, 12
 # what a run found: the free space, and what each line of the probe printed
 Found = tuple[str, ...]
-
-
-def counted(number: int, thing: str) -> str:
-    """A number of things, with the plural's s."""
-    return f"{number:,} {thing}{'s' * (number != 1)}"
-
-
-def orders_of(lines: list[str]) -> list[str]:
-    """The lines of a script that are turns of a sweep."""
-    return [it for it in (line.removesuffix("\r") for line in lines) if it and it[0] != "#" and it != "free"]
 
 
 def answer_of(items: list[str]) -> str:
@@ -37,119 +29,148 @@ def answer_of(items: list[str]) -> str:
     return words[-1] if words else "< " + ("".join(inside) if inside and len(items) > 1 else items[0])
 
 
-def found_of(result: list[str], probe: list[str]) -> Found:
-    """What a run found, from its line of the report. docs/SWEEP.md says how many turns an order is."""
-    items, found = iter(result[3:]), [f"free {result[1]} {result[2]}"]
-    for line in probe:
-        size = 4 + (len(line) > len("apdu ") + 2 * FIELD_LIMIT) if line.startswith("apdu ") else 1
-        found.append(answer_of(list(islice(items, size))))
-    return tuple(found)
-
-
-def cuts_of(lines: list[str]) -> dict[tuple, list[list[str]]]:
-    """The results before and after the command, and of each cut. The key of a cut is its write, the number of its mask,
-    the mask, the words of the write, and the runs of a power-on."""
-    found, starts = {}, 0
+def records(lines: list[str]) -> Iterator[dict]:
+    """The results of a report, each with its stage or cut, and the writes. Recovery writes each pair and the gate."""
+    starts = 0
     for word, *rest in map(str.split, lines):
         if word == "result":
-            found[key].append(rest)
+            yield {**of, "runs": int(rest[0]), "found": " ".join(["free", *rest[1:]])}
         elif word == "starts":
             starts = int(rest[0])
+        elif word == "cut":
+            of = dict(zip(("write", "number", "mask", "words"), map(int, rest)))
+            if of["number"] == 0:
+                yield {"write": of["write"], "words": of["words"], "pairs": max(starts // 2 - 1, 0)}
         elif word != "writes":
-            key = (*map(int, rest), starts) if word == "cut" else (word, *rest[-1:])
-            found[key] = []
-    return found
+            of = {"stage": word, "turns": " ".join(rest)}
 
 
-@dataclass
-class Write:
-    """A device write: its words, the number of pairs that count before it, the masks that tear it, and its kind."""
-
-    words: int
-    pairs: int
-    masks: list[int] = field(default_factory=list)
-    kind: str = "alone"
+def name_kinds(writes: list[dict]) -> None:
+    """Names writes by what they write. The gate changes the number of pairs that count; pairs come before the gate that
+    raises it; words are new while pairs count; any other write is one word alone, or fills a free block."""
+    pairs = [*(it["pairs"] for it in writes), 0]
+    rises = [after - before for before, after in zip(pairs, pairs[1:])] + [0]
+    for rise, following, it in zip(rises, rises[1:], writes):
+        lone = "alone" if it["words"] == 1 else "fill"
+        it["kind"] = "gate" if rise else "pairs" if following > 0 else "words" if it["pairs"] else lone
 
 
 class Sweep:
     """A command, its device writes, and what each cut of them left."""
 
     def __init__(self, parts: list[dict]):
-        lines = [line.removesuffix("\r") for line in parts[0]["script"].split("\n")]
-        at = lines.index(PROBE)
-        self.depth, self.digits = parts[0]["depth"], orders_of(lines[:at])[-1].removeprefix("apdu ").upper()
+        script = parts[0]["script"].replace("\r\n", "\n")
+        lines = [it for part in parts for it in records(part["lines"])]
+        orders = [it for it in script.split("\n") if it == PROBE or it and it[0] != "#" and it != "free"]
+        self.looks = ["free", *orders[orders.index(PROBE) + 1 :]]
+        self.digits = orders[orders.index(PROBE) - 1].removeprefix("apdu ").upper()
         self.name = read_table()["command"].get(self.digits[:4], "the command")
-        self.looks = ["free", *orders_of(lines[at:])]
-        cuts = {key: results for part in parts for key, results in cuts_of(part["lines"]).items()}
-        ends = {key[0]: (key[-1], cuts.pop(key)[0]) for key in list(cuts) if key[0] in ("before", "after")}
-        self.before, self.after = (found_of(ends[it][1], self.looks[1:]) for it in ("before", "after"))
-        self.answer = answer_of(["00E000E0", ends["after"][0]]).removeprefix("< ")
-        self.writes: list[Write] = []
-        # the runs of each outcome, in order of appearance, its first cut, and the outcomes of each cut
-        self.outcomes: Counter[Found] = Counter()
-        self.first: dict[Found, tuple[int, int]] = {}
-        self.cells: dict[tuple[int, int], dict[Found, int]] = {}
-        for (write, number, mask, words, starts), results in sorted(cuts.items()):
-            if number == 0:
-                self.writes.append(Write(words, max(starts // 2 - 1, 0)))
-            self.writes[-1].masks.append(mask)
-            self.cells[write, mask] = {found_of(it, self.looks[1:]): int(it[0]) for it in results}
-            self.outcomes.update(self.cells[write, mask])
-            for found in self.cells[write, mask]:
-                self.first.setdefault(found, (write, mask))
+        self.writes = sorted((it for it in lines if "pairs" in it), key=lambda it: it["write"])
         name_kinds(self.writes)
-        self.runs = sum(self.outcomes.values())
+        self.depth = parts[0]["depth"]
+        stages = {it["stage"]: it for it in lines if "stage" in it}
+        self.before, self.after = (self.found(stages[it]) for it in ("before", "after"))
+        self.answer = answer_of(["00E000E0", stages["after"]["turns"].split()[-1]]).removeprefix("< ")
+        # whether a card with a try less is a stage of the command too: the PIN was right
+        self.is_charged = self.digits[:4] in OF_PINS and self.answer == "9000"
+        self.allowed = len({self.before, self.after}) + self.is_charged
+        # of each outcome, in order of appearance, its runs, its letter and its first cut; and the outcomes of each cut
+        self.outcomes: Counter[Found] = Counter()
+        self.letters: dict[Found, str] = {}
+        self.first: dict[Found, tuple[int, int]] = {}
+        self.cells: dict[tuple[int, int], Counter[Found]] = {}
+        for it in sorted((it for it in lines if "mask" in it), key=lambda it: (it["write"], it["number"])):
+            found, cut = self.found(it), (it["write"], it["mask"])
+            place = len(self.letters)
+            self.letters.setdefault(found, chr(ord("A") + place) if place < 26 else f"A{place}")
+            self.first.setdefault(found, cut)
+            self.outcomes[found] += it["runs"]
+            self.cells.setdefault(cut, Counter())[found] += it["runs"]
+        self.runs = self.outcomes.total()
 
-    def is_charged(self) -> bool:
-        """Whether a card with a try less is a stage of the command: the PIN was right."""
-        return self.digits[:4] in OF_PINS and self.answer == "9000"
+    def found(self, result: dict) -> Found:
+        """What a run found, from a line of the report: three words of free space, then the items of each probe line."""
+        items = iter(result["found"].split())
+        free = " ".join(islice(items, 3))
+        sizes = (4 + (len(it) > len("apdu ") + 2 * FIELD_LIMIT) if it[0] == "a" else 1 for it in self.looks[1:])
+        return (free, *(answer_of(list(islice(items, size))) for size in sizes))
 
-    def is_taken(self, found: Found) -> bool:
-        """Whether an outcome is that stage: the probe asks for the tries, one is missing, and nothing before differs."""
-        asked = f"apdu {UNBLOCKING if self.digits[:4] == RESET else VALUE}00{self.digits[6:8]}"
-        if not self.is_charged() or asked not in self.looks:
-            return False
-        at = self.looks.index(asked)
-        tries = [int(it[at][-1], 16) for it in (found, self.before) if it[at].startswith(TRIES)]
-        return len(tries) == 2 and tries[0] + 1 == tries[1] and found[:at] == self.before[:at]
-
-    def allowed(self) -> int:
-        """The number of stages of the command."""
-        return len({self.before, self.after}) + self.is_charged()
+    def meaning(self, found: Found) -> str:
+        """The card that an outcome is. Where a try less is a stage, the probe asks for the tries: one is missing, and
+        nothing before differs."""
+        if found in (self.before, self.after):
+            return UNCHANGED if self.before == self.after else BEFORE if found == self.before else AFTER
+        asked = f"apdu {UNBLOCKING if self.digits[:4] == UNBLOCKING else VALUE}00{self.digits[6:8]}"
+        at = self.looks.index(asked) if self.is_charged and asked in self.looks else 0
+        with_one_less = {f"< 63C{tries:X}": f"< 63C{tries - 1:X}" for tries in range(1, 16)}
+        return TAKEN if found[: at + 1] == (*self.before[:at], with_one_less.get(self.before[at])) else OTHER
 
     def fault(self, most: int | None = None) -> str:
         """Why the outcomes aren't allowed, or nothing: each is a stage of the command, or there are at most so many."""
-        others = sum(self.meaning(it) == OTHER for it in self.outcomes)
+        others, came = sum(self.meaning(it) == OTHER for it in self.outcomes), len(self.outcomes)
         if most is None:
-            return f"{counted(others, 'outcome')} that no stage of the command has" if others else ""
-        told = f"{counted(len(self.outcomes), 'outcome')}, where {most} {'is' if most == 1 else 'are'} allowed"
-        return told if len(self.outcomes) > most else ""
-
-    def meaning(self, found: Found) -> str:
-        """The card that an outcome is."""
-        if found in (self.before, self.after):
-            return UNCHANGED if self.before == self.after else BEFORE if found == self.before else AFTER
-        return TAKEN if self.is_taken(found) else OTHER
+            return f"{count(others, 'outcome')} that no stage of the command has" if others else ""
+        return f"{count(came, 'outcome')}, where {most} {'is' if most == 1 else 'are'} allowed" if came > most else ""
 
     def commits(self) -> list[int]:
         """The writes at which the outcome turns: with no new word it differs from that with all."""
-        ends = [[set(self.cells[number, mask]) for mask in it.masks[:2]] for number, it in enumerate(self.writes, 1)]
-        return [number for number, (old, new) in enumerate(ends, 1) if old != new]
+        ends = {it["write"]: (0, 2 ** it["words"] - 1) for it in self.writes}
+        return [it for it, masks in ends.items() if len({frozenset(self.cells[it, mask]) for mask in masks}) == 2]
 
-    def check(self) -> Sweep:
-        """The sweep, if there was something to cut."""
+    def check(self) -> None:
+        """Refuses a sweep that had nothing to cut."""
         if self.answer in ("mute", "dark"):
             raise Refused("power is off where the command begins")
         if not self.writes:
             raise Refused(f"the command is answered {self.answer} and makes no device write: there is nothing to cut")
-        return self
 
 
-def name_kinds(writes: list[Write]) -> None:
-    """Names writes by what they write. The gate changes the number of pairs that count; pairs come before the gate that
-    raises it; words are new while pairs count; any other write is one word alone, or fills a free block."""
-    pairs = [*(it.pairs for it in writes), 0]
-    rises = [after - before for before, after in zip(pairs, pairs[1:])] + [0]
-    for rise, following, it in zip(rises, rises[1:], writes):
-        lone = "alone" if it.words == 1 else "fill"
-        it.kind = "gate" if rise else "pairs" if following > 0 else "words" if it.pairs else lone
+def ranges(numbers: Iterable[int]) -> str:
+    """Numbers in order, successive ones as a range; of many the first and the last."""
+    runs = [[it for _, it in run] for _, run in groupby(enumerate(numbers), lambda it: it[1] - it[0])]
+    told = [f"{it[0]}" if len(it) == 1 else f"{it[0]}-{it[-1]}" for it in runs]
+    return ", ".join([*told[: MOST_NUMBERS - 2], "..", told[-1]] if len(told) > MOST_NUMBERS else told)
+
+
+def aligned(*rows: Sequence[str]) -> str:
+    """Rows of cells, each column as wide as it needs; nothing for a head alone."""
+    widths = [max(map(len, column)) for column in zip(*rows)]
+    return "\n".join("  ".join(map(str.ljust, row, widths)).rstrip() for row in rows) if len(rows) > 1 else ""
+
+
+def differences(sweep: Sweep) -> list[list[str]]:
+    """The probe lines whose output differs, from the first difference on."""
+    rows = [["line", *sweep.letters.values()]]
+    for look, variants in zip(sweep.looks, zip(*sweep.outcomes)):
+        same = len(commonprefix(variants)) & ~1 if max(map(len, variants)) > SHOWN else 0
+        shown = [look, *(".." * bool(same) + it[same:] for it in variants)]
+        if len(set(variants)) > 1:
+            rows.append([it if len(it) <= SHOWN else it[: SHOWN - 2] + ".." for it in shown])
+    return rows
+
+
+def table(sweep: Sweep, most: int) -> str:
+    """The sweep as text: the command, its writes by kind and number of words, and its outcomes."""
+    commits, digits, kinds = sweep.commits(), sweep.digits, {}
+    for it in sweep.writes:
+        kinds.setdefault((it["kind"], count(it["words"], "word")), []).append(it["write"])
+    turns = f"the outcome turns at {count(len(commits), 'write')}: {ranges(commits)}"
+    head = [f"{sweep.name}, answered {sweep.answer}: "
+            + (digits if len(digits) <= MOST_DIGITS else f"{digits[: MOST_DIGITS - 16]}..{digits[-8:]}"),
+            f"{count(len(sweep.writes), 'device write')}; {turns if commits else 'no write turns it'}",
+            f"{count(sweep.runs, 'run')}, with at most {count(sweep.depth, 'start')} cut;"
+            f" {count(len(sweep.outcomes), 'outcome')}, {most} allowed"]
+    writes = [[str(len(it)), *kind, ranges(it)] for kind, it in kinds.items()]
+    outcomes = [[letter, f"{sweep.outcomes[it]:,}", "{} {:04X}".format(*sweep.first[it]), sweep.meaning(it)]
+                for it, letter in sweep.letters.items()]
+    return "\n\n".join(filter(None, [
+        "\n".join(head), aligned(["writes", "of", "each", "which"], *writes),
+        aligned(["outcome", "runs", "first cut", "the card is found"], *outcomes), aligned(*differences(sweep))]))
+
+
+def as_json(sweep: Sweep) -> str:
+    """The same for programs."""
+    found = [{"runs": runs, "first": sweep.first[it], "card": sweep.meaning(it), "found": dict(zip(sweep.looks, it))}
+             for it, runs in sweep.outcomes.items()]
+    told = {key: getattr(sweep, key) for key in ("answer", "depth", "runs", "writes")}
+    return json.dumps({"command": sweep.digits, **told, "commits": sweep.commits(), "outcomes": found}, indent=1)
