@@ -1,4 +1,5 @@
 """Runs the program that sweeps (crates/sweep_cli) in parts, and checks that the parts belong together."""
+import json
 import re
 import signal
 import subprocess
@@ -14,7 +15,6 @@ from script_lines import fault
 
 TOP = Path(__file__).resolve().parents[2]
 COMMAND, PROBE = "# command", "# probe"
-DEPTH = re.compile(r"^# depth ([0-3])\r?$", re.MULTILINE)
 NO_LINE = re.compile(r"error line (\d+): it is no line of a script")
 
 class Refused(Exception):
@@ -66,23 +66,21 @@ def show(text: str) -> None:
 
 def sweep_part(script: str, depth: int | None, card: str | None, part: int, of: int) -> dict:
     """One part of a sweep of the factory card, or of copies of the card in a file: what it is of, and its report."""
-    depth = int([1, *DEPTH.findall(script)][-1]) if depth is None else depth
-    whole = script.removesuffix("\n") + f"\n# depth {depth}"
+    whole = script if depth is None else script.removesuffix("\n") + f"\n# depth {depth}"
     words = [program("--sweep"), *(["--card", card] if card else []), f"{part}/{of}"]
-    lines = ran(whole, *words)
+    lines = [json.loads(line) for line in ran(whole, *words)]
     # a file that changes between two parts gives them different sums
     summed = sha256(Path(card).read_bytes()).hexdigest() if card else ""
-    return {"script": script, "card": summed, "depth": depth, "parts": of, "part": part, "lines": lines}
+    return {"script": whole, "card": summed, "parts": of, "part": part, "lines": lines}
 
 
 def check_parts(parts: list[dict]) -> list[dict]:
     """The parts, if they are of one sweep and whole, and none is missing or comes twice."""
     of, times = parts[0]["parts"], Counter(it["part"] for it in parts)
-    short = [it["part"] for it in parts if not ["", *it["lines"]][-1].startswith("writes ")]
-    wrong = [f"part {it} of {of} is cut short" for it in short]
+    wrong = [f"part {it['part']} of {of} is cut short" for it in parts if "writes" not in [{}, *it["lines"]][-1]]
     wrong += [f"part {it} of {of} comes twice" for it in sorted(times) if times[it] > 1]
     wrong += [f"part {it} of {of} is missing" for it in range(1, of + 1) if it not in times]
-    if any(it[key] != parts[0][key] for it in parts for key in ("script", "card", "depth", "parts")):
+    if any(it[key] != parts[0][key] for it in parts for key in ("script", "card", "parts")):
         wrong = ["the parts are not of one sweep: script, card, depth or number of parts differ"]
     if wrong:
         raise Refused("; ".join(wrong))

@@ -1,7 +1,7 @@
 """What the parts of a sweep found, joined, as text and as JSON. docs/SWEEP.md describes the lines of a part."""
 import json
 from collections import Counter
-from collections.abc import Iterable, Iterator, Sequence
+from collections.abc import Iterable, Sequence
 from itertools import groupby, islice
 from os.path import commonprefix
 
@@ -29,45 +29,16 @@ def answer_of(items: list[str]) -> str:
     return words[-1] if words else "< " + ("".join(inside) if inside and len(items) > 1 else items[0])
 
 
-def records(lines: list[str]) -> Iterator[dict]:
-    """The results of a report, each with its stage or cut, and the writes. Recovery writes each pair and the gate."""
-    starts = 0
-    for word, *rest in map(str.split, lines):
-        if word == "result":
-            yield {**of, "runs": int(rest[0]), "found": " ".join(["free", *rest[1:]])}
-        elif word == "starts":
-            starts = int(rest[0])
-        elif word == "cut":
-            of = dict(zip(("write", "number", "mask", "words"), map(int, rest)))
-            if of["number"] == 0:
-                yield {"write": of["write"], "words": of["words"], "pairs": max(starts // 2 - 1, 0)}
-        elif word != "writes":
-            of = {"stage": word, "turns": " ".join(rest)}
-
-
-def name_kinds(writes: list[dict]) -> None:
-    """Names writes by what they write. The gate changes the number of pairs that count; pairs come before the gate that
-    raises it; words are new while pairs count; any other write is one word alone, or fills a free block."""
-    pairs = [*(it["pairs"] for it in writes), 0]
-    rises = [after - before for before, after in zip(pairs, pairs[1:])] + [0]
-    for rise, following, it in zip(rises, rises[1:], writes):
-        lone = "alone" if it["words"] == 1 else "fill"
-        it["kind"] = "gate" if rise else "pairs" if following > 0 else "words" if it["pairs"] else lone
-
-
 class Sweep:
     """A command, its device writes, and what each cut of them left."""
 
     def __init__(self, parts: list[dict]):
-        script = parts[0]["script"].replace("\r\n", "\n")
-        lines = [it for part in parts for it in records(part["lines"])]
+        script, lines = parts[0]["script"].replace("\r\n", "\n"), [line for part in parts for line in part["lines"]]
         orders = [it for it in script.split("\n") if it == PROBE or it and it[0] != "#" and it != "free"]
         self.looks = ["free", *orders[orders.index(PROBE) + 1 :]]
         self.digits = orders[orders.index(PROBE) - 1].removeprefix("apdu ").upper()
         self.name = read_table()["command"].get(self.digits[:4], "the command")
-        self.writes = sorted((it for it in lines if "pairs" in it), key=lambda it: it["write"])
-        name_kinds(self.writes)
-        self.depth = parts[0]["depth"]
+        self.writes, self.depth = [it for it in lines if "kind" in it], lines[-1]["depth"]
         stages = {it["stage"]: it for it in lines if "stage" in it}
         self.before, self.after = (self.found(stages[it]) for it in ("before", "after"))
         self.answer = answer_of(["00E000E0", stages["after"]["turns"].split()[-1]]).removeprefix("< ")

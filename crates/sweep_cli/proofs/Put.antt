@@ -25,28 +25,30 @@ puts-both Is Next Both old between new both some next = record {
   all = next.all ∙ ap (λ (l : List ℕ). l ++ next.more) some.all ∙ append_assoc old some.more next.more;
 }
 
--- this text
-pub puts-text : (text old new : List ℕ) → new ≡ old ++ text → AddsText (λ t. t ≡ text) old new
-puts-text text old new all = record { more = text; holds = refl; all = all }
-
 -- nothing yet
-pub in-turn-none : (Part : ℕ → List ℕ → Type 0) (old : List ℕ) → AddsText (TextsInTurn Part 0) old old
+pub in-turn-none : (IsText : ℕ → List ℕ → Type 0) (old : List ℕ) → AddsText (TextsInTurn IsText 0) old old
 unfolding TextsInTurn
-in-turn-none Part old = record { more = []; holds = refl; all = sym (append-nil old) }
+in-turn-none IsText old = record { more = []; holds = refl; all = sym (append-nil old) }
 
 -- one more
-pub in-turn-next : (Part : ℕ → List ℕ → Type 0) (n : ℕ) (old between new : List ℕ)
-    → AddsText (TextsInTurn Part n) old between → AddsText (Part n) between new
-    → AddsText (TextsInTurn Part (n + 1)) old new
+pub in-turn-next : (IsText : ℕ → List ℕ → Type 0) (n : ℕ) (old between new : List ℕ)
+    → AddsText (TextsInTurn IsText n) old between → AddsText (IsText n) between new
+    → AddsText (TextsInTurn IsText (n + 1)) old new
 unfolding TextsInTurn
-in-turn-next Part n old between new some next =
-    let more : AddsText (TextsInTurn Part (suc n)) old new =
-    puts-both (TextsInTurn Part n) (Part n) (TextsInTurn Part (suc n)) old between new
-    (λ one two parts part. (one, two, parts, part, refl)) some next in
+in-turn-next IsText n old between new some next =
+    let more : AddsText (TextsInTurn IsText (suc n)) old new =
+    puts-both (TextsInTurn IsText n) (IsText n) (TextsInTurn IsText (suc n)) old between new
+    (λ one two texts text. (one, two, texts, text, refl)) some next in
     let same : suc n ≡ n + 1 = omega arith in
-    subst (λ (m : ℕ). AddsText (TextsInTurn Part m) old new) same more
+    subst (λ (m : ℕ). AddsText (TextsInTurn IsText m) old new) same more
 
 -- three texts, one behind the other
 pub three-parts : (old one two three : List ℕ) → ((old ++ one) ++ two) ++ three ≡ old ++ ((one ++ two) ++ three)
 three-parts old one two three =
     ap (λ (l : List ℕ). l ++ three) (append_assoc old one two) ∙ append_assoc old (one ++ two) three
+
+-- four texts, one after the other
+pub four-parts : (old one two three four : List ℕ)
+    → (((old ++ one) ++ two) ++ three) ++ four ≡ old ++ (((one ++ two) ++ three) ++ four)
+four-parts old one two three four =
+    ap (λ (l : List ℕ). l ++ four) (three-parts old one two three) ∙ append_assoc old ((one ++ two) ++ three) four

@@ -1,15 +1,18 @@
 -- What is printed of a sweep, put together from its parts.
 use Rattle.std.specs.Prelude.{◌≡◌, ◌⊎◌, ◌≤◌, ◌+◌, ◌-◌, ◌^◌, ℕ, zero, suc, List, [], ◌∷◌, ◌++◌, codes}
-use Rattle.std.proofs.Common.{refl, sym, ◌∙◌, ap, subst, arith, append_assoc, append-nil}
+use Rattle.std.proofs.Common.{refl, sym, ◌∙◌, ap, subst, arith, append-nil}
 use Rattle.nvm_board.specs.Facts.{Facts}
+use Rattle.card_turns.specs.declared.playing.Turn.{Turn}
 use Rattle.card_bench.specs.Masks.{mask_of}
 use Rattle.card_bench.specs.Sweeps.{CutsCommand}
-use Rattle.card_bench.specs.SweptRuns.{SparesCommand}
+use Rattle.sweep_cli.specs.declared.device_writes.DeviceWrite.{DeviceWrite}
+use Rattle.sweep_cli.specs.DeviceWrites.{kinds_text, pairs_first, pairs_second, write_kind, write_text}
 use Rattle.sweep_cli.specs.ReportParts.{AddsText}
-use Rattle.sweep_cli.specs.Printing.{cut_text, number_text}
-use Rattle.sweep_cli.specs.Reporting.{AreResults, AreStarts, AreWrites, TextsInTurn, IsCutOrNone, IsLastWrite}
-use Rattle.sweep_cli.specs.Reporting.{IsOfPart, IsWrite, StartsAt, Sweeping}
-use Rattle.sweep_cli.proofs.Put.{three-parts}
+use Rattle.sweep_cli.specs.Printing.{cut_head, total_text}
+use Rattle.sweep_cli.specs.Reporting.{AreKindsOrNone, AreResults, AreWrites, HasSections, IsCutOrNone, IsDeviceWrite}
+use Rattle.sweep_cli.specs.Reporting.{IsFound, IsLastWrite, IsOfPart, IsSparedBy, IsWrite, Sweeping, TextsInTurn}
+use Rattle.sweep_cli.specs.Reporting.{WritesInTurn}
+use Rattle.sweep_cli.proofs.Put.{four-parts, three-parts}
 
 -- a mask by what is told of it
 pub mask-is : (words i mask : ℕ) → (i ≡ 0 → mask ≡ 0) → (i ≡ 1 → mask + 1 ≡ 2 ^ words)
@@ -18,10 +21,11 @@ mask-is words zero mask none all single = none refl
 mask-is words (suc zero) mask none all single = omega (arith, all refl)
 mask-is words (suc (suc bit)) mask none all single = single bit (omega arith)
 
--- before a later mask nothing is printed of the next start
-starts-none : (i : ℕ) (board : Facts) → 1 ≤ i → StartsAt i board []
-starts-none zero board later = absurd (omega (arith, later))
-starts-none (suc i) board later = refl
+-- the same results, whose lines begin with a head that is said otherwise
+pub results-under : (head other : List ℕ) (depth : ℕ) (probe : List Turn) (board : Facts) (text : List ℕ)
+    → head ≡ other → AreResults head depth probe board text → AreResults other depth probe board text
+results-under head other depth probe board text same results =
+    subst (λ (h : List ℕ). AreResults h depth probe board text) same results
 
 -- a cut that is none of the part
 pub none-put : (sweeping : Sweeping) (write words i : ℕ) (old : List ℕ) → (IsOfPart sweeping.part write i → ⊥)
@@ -32,61 +36,30 @@ none-put sweeping write words i old other = record {
   all = sym (append-nil old);
 }
 
--- the cut by the first mask
-pub first-put : (sweeping : Sweeping) (write words : ℕ) (left : Facts) (old one between new : List ℕ)
-    → IsOfPart sweeping.part write 0
-    → CutsCommand write 0 sweeping.board sweeping.prepare sweeping.command left
-    → AddsText (AreStarts left) old one → between ≡ one ++ cut_text write 0 0 words
-    → AddsText (AreResults sweeping.depth sweeping.probe left) between new
-    → AddsText (IsCutOrNone sweeping write words 0) old new
-first-put sweeping write words left old one between new own cut starts text behind = record {
-  more = (starts.more ++ cut_text write 0 0 words) ++ behind.more;
-  holds = record {
-    own = λ _. record {
-      left = left;
-      cut = cut;
-      starts = starts.more;
-      results = behind.more;
-      are_starts = starts.holds;
-      are_results = behind.holds;
-      text_is = refl;
-    };
-    other = λ others. absurd (others own);
-  };
-  all = behind.all ∙ ap (λ (l : List ℕ). l ++ behind.more)
-      (text ∙ ap (λ (l : List ℕ). l ++ cut_text write 0 0 words) starts.all)
-      ∙ three-parts old starts.more (cut_text write 0 0 words) behind.more;
-}
-
--- the cut by a later mask
-pub mask-put : (sweeping : Sweeping) (write words i mask : ℕ) (left : Facts) (old between new : List ℕ) → 1 ≤ i
+-- the cut with this mask
+pub cut-put : (sweeping : Sweeping) (write words i mask : ℕ) (left : Facts) (old new : List ℕ)
     → mask ≡ mask_of words i → IsOfPart sweeping.part write i
     → CutsCommand write mask sweeping.board sweeping.prepare sweeping.command left
-    → between ≡ old ++ cut_text write i mask words
-    → AddsText (AreResults sweeping.depth sweeping.probe left) between new
+    → AddsText (AreResults (cut_head write i mask) sweeping.depth sweeping.probe left) old new
     → AddsText (IsCutOrNone sweeping write words i) old new
-mask-put sweeping write words i mask left old between new later same own cut text behind = record {
-  more = cut_text write i (mask_of words i) words ++ behind.more;
+cut-put sweeping write words i mask left old new same own cut results = record {
+  more = results.more;
   holds = record {
     own = λ _. record {
       left = left;
       cut = subst (λ (m : ℕ). CutsCommand write m sweeping.board sweeping.prepare sweeping.command left) same cut;
-      starts = [];
-      results = behind.more;
-      are_starts = starts-none i left later;
-      are_results = behind.holds;
-      text_is = refl;
+      results = subst
+          (λ (m : ℕ). AreResults (cut_head write i m) sweeping.depth sweeping.probe left results.more) same
+          results.holds;
     };
     other = λ others. absurd (others own);
   };
-  all = behind.all ∙ ap (λ (l : List ℕ). l ++ behind.more)
-      (text ∙ ap (λ (m : ℕ). old ++ cut_text write i m words) same)
-      ∙ append_assoc old (cut_text write i (mask_of words i) words) behind.more;
+  all = results.all;
 }
 
 -- a write that others made, as its first mask shows
 pub unmade-put : (sweeping : Sweeping) (write : ℕ) (old : List ℕ)
-    → SparesCommand write 0 sweeping.board sweeping.prepare sweeping.command
+    → IsSparedBy sweeping write 0
     → AddsText (IsLastWrite sweeping write) old old
 unfolding TextsInTurn
 unmade-put sweeping write old spared = record {
@@ -102,20 +75,13 @@ unmade-put sweeping write old spared = record {
   all = sym (append-nil old);
 }
 
--- how many writes there are behind all of them
-totalled : (old each last total number end : List ℕ)
-    → ((((old ++ each) ++ last) ++ total) ++ number) ++ end ≡ old ++ ((((each ++ last) ++ total) ++ number) ++ end)
-totalled old each last total number end =
-    ap (λ (l : List ℕ). (l ++ number) ++ end) (three-parts old each last total)
-    ∙ three-parts old ((each ++ last) ++ total) number end
-
 -- all writes, up to the first that others made
 pub writes-put : (sweeping : Sweeping) (writes : ℕ) (old each last new : List ℕ)
     → AddsText (TextsInTurn (λ n. IsWrite sweeping (n + 1)) writes) old each
     → AddsText (λ t. IsLastWrite sweeping (writes + 1) t ⊎ ((writes ≡ 2 ^ 32 - 1) × (t ≡ []))) each last
-    → new ≡ last ++ codes "writes" ++ number_text writes ++ 10 ∷ [] → AddsText (AreWrites sweeping) old new
+    → new ≡ last ++ total_text writes sweeping.depth → AddsText (AreWrites sweeping) old new
 writes-put sweeping writes old each last new some end text = record {
-  more = some.more ++ end.more ++ codes "writes" ++ number_text writes ++ 10 ∷ [];
+  more = some.more ++ end.more ++ total_text writes sweeping.depth;
   holds = record {
     writes = writes;
     each = some.more;
@@ -124,17 +90,64 @@ writes-put sweeping writes old each last new some end text = record {
     done = end.holds;
     text_is = refl;
   };
-  all = text ∙ ap (λ (l : List ℕ). l ++ codes "writes" ++ number_text writes ++ 10 ∷ [])
+  all = text ∙ ap (λ (l : List ℕ). l ++ total_text writes sweeping.depth)
       (end.all ∙ ap (λ (l : List ℕ). l ++ end.more) some.all)
-      ∙ totalled old some.more end.more (codes "writes") (number_text writes) (10 ∷ []);
+      ∙ three-parts old some.more end.more (total_text writes sweeping.depth);
 }
 
--- the text of a report, from the text behind each of its parts
-pub report-text : (t0 t1 t2 t3 text before after cuts : List ℕ) → t0 ≡ codes "before" → t1 ≡ t0 ++ before
-    → t2 ≡ t1 ++ codes "after" → t3 ≡ t2 ++ after → text ≡ t3 ++ cuts
-    → text ≡ (codes "before" ++ before) ++ (codes "after" ++ after) ++ cuts
-report-text t0 t1 t2 t3 text before after cuts e0 e1 e2 e3 e4 =
-    e4 ∙ ap (λ (l : List ℕ). l ++ cuts)
-    (e3 ∙ ap (λ (l : List ℕ). l ++ after)
-    (e2 ∙ ap (λ (l : List ℕ). l ++ codes "after") (e1 ∙ ap (λ (l : List ℕ). l ++ before) e0))
-    ∙ append_assoc (codes "before" ++ before) (codes "after") after)
+-- no device write yet
+pub writes-none : (sweeping : Sweeping) (all : List DeviceWrite) → all ≡ [] → WritesInTurn sweeping 0 all
+unfolding WritesInTurn
+writes-none sweeping all is = is
+
+-- one device write more
+pub writes-next : (sweeping : Sweeping) (n : ℕ) (before all : List DeviceWrite) (it : DeviceWrite)
+    → WritesInTurn sweeping n before → IsDeviceWrite sweeping (n + 1) it → all ≡ before ++ it ∷ []
+    → WritesInTurn sweeping (n + 1) all
+unfolding WritesInTurn
+writes-next sweeping n before all it some next pushed =
+    let more : WritesInTurn sweeping (suc n) all = (before, it, some, next, pushed) in
+    let same : suc n ≡ n + 1 = omega arith in
+    subst (λ (m : ℕ). WritesInTurn sweeping m all) same more
+
+-- the sections of a report, one after the other
+pub sections-put : (sweeping : Sweeping) (whole : List Turn) (old one two three new : List ℕ)
+    → AddsText (IsFound sweeping (codes "before") sweeping.prepare) old one
+    → AddsText (IsFound sweeping (codes "after") whole) one two → AddsText (AreKindsOrNone sweeping) two three
+    → AddsText (AreWrites sweeping) three new → AddsText (HasSections sweeping whole) old new
+sections-put sweeping whole old one two three new before after kinds cuts = record {
+  more = before.more ++ after.more ++ kinds.more ++ cuts.more;
+  holds = record {
+    before = before.more;
+    after = after.more;
+    kinds = kinds.more;
+    cuts = cuts.more;
+    is_before = before.holds;
+    is_after = after.holds;
+    are_kinds = kinds.holds;
+    are_cuts = cuts.holds;
+    text_is = refl;
+  };
+  all = cuts.all ∙ ap (λ (l : List ℕ). l ++ cuts.more)
+      (kinds.all ∙ ap (λ (l : List ℕ). l ++ kinds.more)
+      (after.all ∙ ap (λ (l : List ℕ). l ++ after.more) before.all))
+      ∙ four-parts old before.more after.more kinds.more cuts.more;
+}
+
+-- the sections of a report that begins with them
+pub sections-first : (sweeping : Sweeping) (whole : List Turn) (old new : List ℕ) → old ≡ []
+    → AddsText (HasSections sweeping whole) old new → HasSections sweeping whole new
+sections-first sweeping whole old new none some =
+    subst (HasSections sweeping whole) (sym (some.all ∙ ap (λ (l : List ℕ). l ++ some.more) none)) some.holds
+
+-- the line of the next device write
+pub kinds-next : (number : ℕ) (it : DeviceWrite) (later : List DeviceWrite) → kinds_text number (it ∷ later)
+    ≡ write_text number it.words (write_kind it (pairs_first later) (pairs_second later))
+    ++ kinds_text (number + 1) later
+unfolding kinds_text
+kinds-next number it later = refl
+
+-- no line after the last device write
+pub kinds-none : (number : ℕ) → kinds_text number [] ≡ []
+unfolding kinds_text
+kinds-none number = refl

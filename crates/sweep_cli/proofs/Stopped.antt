@@ -4,7 +4,7 @@ use Rattle.std.proofs.Common.{◌∙◌, sym, subst}
 use Rattle.nvm_board.specs.Facts.{Facts}
 use Rattle.sweep_cli.specs.declared.fault.SweepFault.{SweepFault}
 use Rattle.sweep_cli.specs.declared.fault.SweepFault.TheVariants.{BadLine, Read, Write, Memory}
-use Rattle.sweep_cli.specs.declared.parts.Part.{Part}
+use Rattle.sweep_cli.specs.declared.parts.SweepPart.{SweepPart}
 use Rattle.sweep_cli.specs.SweepEndings.{ReadingStopsBy, SweepStopsBy, WritesInto}
 
 -- too little memory, while the script is read
@@ -14,7 +14,7 @@ memory-passed (Ok t) script left is = tt
 memory-passed (Err e) script left is = subst (λ (f : SweepFault). ReadingStopsBy f script left) (sym is) tt
 
 -- too little memory, while the report is made
-pub memory-ends : {T : Type 0} (r : Result T SweepFault) (board : Facts) (part : Part)
+pub memory-ends : {T : Type 0} (r : Result T SweepFault) (board : Facts) (part : SweepPart)
     (script left old new : Option (List ℕ))
     → IsErrAnd r (λ fault. fault ≡ Memory) → IfErr r (λ fault. SweepStopsBy board part fault script left old new)
 memory-ends (Ok t) board part script left old new is = tt
@@ -22,7 +22,7 @@ memory-ends (Err e) board part script left old new is =
     subst (λ (f : SweepFault). SweepStopsBy board part f script left old new) (sym is) tt
 
 -- a fault of the reading ends the program's work
-reading-ends : (board : Facts) (part : Part) (fault : SweepFault) (script left old new : Option (List ℕ))
+reading-ends : (board : Facts) (part : SweepPart) (fault : SweepFault) (script left old new : Option (List ℕ))
     → ReadingStopsBy fault script left → SweepStopsBy board part fault script left old new
 reading-ends board part (BadLine number error) script left old new stops = stops
 reading-ends board part Read script left old new stops = stops
@@ -30,7 +30,7 @@ reading-ends board part Write script left old new stops = absurd stops
 reading-ends board part Memory script left old new stops = tt
 
 -- the same, passed on
-pub reading-passed : {T : Type 0} (r : Result T SweepFault) (fault : SweepFault) (board : Facts) (part : Part)
+pub reading-passed : {T : Type 0} (r : Result T SweepFault) (fault : SweepFault) (board : Facts) (part : SweepPart)
     (script left old new : Option (List ℕ)) → IsErrAnd r (λ passed. passed ≡ fault)
     → ReadingStopsBy fault script left → IfErr r (λ passed. SweepStopsBy board part passed script left old new)
 reading-passed (Ok t) fault board part script left old new is stops = tt
@@ -39,7 +39,7 @@ reading-passed (Err e) fault board part script left old new is stops =
     (reading-ends board part fault script left old new stops)
 
 -- a writer that failed within the report, passed on
-pub write-passed : {T : Type 0} (r : Result T SweepFault) (fault : SweepFault) (board : Facts) (part : Part)
+pub write-passed : {T : Type 0} (r : Result T SweepFault) (fault : SweepFault) (board : Facts) (part : SweepPart)
     (script left old new : Option (List ℕ)) → IsErrAnd r (λ passed. passed ≡ fault) → fault ≡ Write
     → WritesInto board script left part old new
     → IfErr r (λ passed. SweepStopsBy board part passed script left old new)

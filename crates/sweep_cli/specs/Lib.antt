@@ -2,6 +2,7 @@ pub mod Turning
 pub mod Framing
 pub mod Asking
 pub mod Printing
+pub mod DeviceWrites
 pub mod CommandLineParts
 pub mod ExitStatuses
 pub mod Reporting

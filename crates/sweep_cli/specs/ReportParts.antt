@@ -1,10 +1,9 @@
 -- What the parts of the program append to the report. No public clause names these.
 use Rattle.std.specs.Prelude.{◌≡◌, ℕ, Bool, true, false, List, ◌++◌}
 use Rattle.card_bench.specs.Masks.{mask_of}
-use Rattle.card_bench.specs.SweptRuns.{SparesCommand}
 use Rattle.nvm_board.specs.Cut.{cut_facts}
-use Rattle.sweep_cli.specs.declared.report.Plan.{Plan}
-use Rattle.sweep_cli.specs.Reporting.{Sweeping, IsCutOrNone}
+use Rattle.sweep_cli.specs.declared.plan.Plan.{Plan}
+use Rattle.sweep_cli.specs.Reporting.{Sweeping, IsCutOrNone, IsSparedBy}
 
 -- the sweep of a plan
 abbrev pub sweeping_of : Plan → Sweeping
@@ -27,4 +26,4 @@ pub record AddsText (Is : List ℕ → Type 0) (old new : List ℕ) : Type 0 whe
 abbrev pub AddsMaskText : Sweeping → ℕ → ℕ → ℕ → Bool → List ℕ → List ℕ → Type 0
 AddsMaskText sweeping write words i true old new = AddsText (IsCutOrNone sweeping write words i) old new
 AddsMaskText sweeping write words i false old new =
-    SparesCommand write (mask_of words i) sweeping.board sweeping.prepare sweeping.command × (new ≡ old)
+    IsSparedBy sweeping write (mask_of words i) × (new ≡ old)

@@ -12,16 +12,22 @@ use Rattle.card_bench.specs.Masks.{mask_of, mask_count_of, words_tried}
 use Rattle.card_bench.specs.Sweeps.{CutsCommand, PlaysOn}
 use Rattle.card_bench.specs.SweptRuns.{AreAllBehind, SparesCommand}
 use Rattle.card_bench.specs.Tallies.{CountsRuns, IsTally}
-use Rattle.sweep_cli.specs.declared.parts.Part.{Part}
+use Rattle.sweep_cli.specs.declared.device_writes.DeviceWrite.{DeviceWrite}
+use Rattle.sweep_cli.specs.declared.parts.SweepPart.{SweepPart}
 use Rattle.sweep_cli.specs.declared.script.SweepScript.{SweepScript}
 use Rattle.sweep_cli.specs.declared.steps.Step.TheVariants.{Block}
 use Rattle.sweep_cli.specs.Asking.{IsRead, asked_of}
-use Rattle.sweep_cli.specs.Printing.{cut_text, items_text, number_text, results_text}
+use Rattle.sweep_cli.specs.DeviceWrites.{kinds_text, pairs_counting}
+use Rattle.sweep_cli.specs.Printing.{cut_head, results_text, stage_head, total_text}
 use Rattle.sweep_cli.specs.Turning.{AreTurns}
 
 -- A cut is of a part. The cuts are dealt out in turn, by write and mask.
-abbrev pub IsOfPart : Part → ℕ → ℕ → Type 0
+abbrev pub IsOfPart : SweepPart → ℕ → ℕ → Type 0
 IsOfPart part write i = (write + i) % part.of ≡ part.index
+
+-- the first part has the kinds of the device writes too
+abbrev pub IsFirstPart : SweepPart → Type 0
+IsFirstPart part = part.index ≡ 0
 
 -- What a sweep tries: on copies of a board, a command after a preparation, power-ons that are cut, and a probe. It
 -- tries one part of the cuts.
@@ -31,40 +37,22 @@ pub record Sweeping : Type 0 where
   pub command : List ℕ
   pub probe : List Turn
   pub depth : ℕ
-  pub part : Part
+  pub part : SweepPart
 
 -- The results of all runs after a cut that left this board, each with the number of its runs. At the end of that count
--- the sweep stops.
-pub record AreResults (depth : ℕ) (probe : List Turn) (board : Facts) (text : List ℕ) : Type 0 where
+-- the sweep stops. Each line begins with the head.
+pub record AreResults (head : List ℕ) (depth : ℕ) (probe : List Turn) (board : Facts) (text : List ℕ) : Type 0 where
   pub runs : ℕ
   pub seen : List Seen
   pub tally : IsTally runs seen
   pub all : runs < 2 ^ 32 - 1 → CountsRuns (AreAllBehind depth probe board) [] seen
-  pub text_is : text ≡ results_text seen
-
--- The number of runs if the next power-on is cut too, without a probe: two for each device write of that power-on, or
--- one if it makes none.
-pub record AreStarts (board : Facts) (text : List ℕ) : Type 0 where
-  pub runs : ℕ
-  pub seen : List Seen
-  pub tally : IsTally runs seen
-  pub all : runs < 2 ^ 32 - 1 → CountsRuns (AreAllBehind 1 [] board) [] seen
-  pub text_is : text ≡ codes "starts" ++ number_text runs ++ 10 ∷ []
-
--- the line before the results of the first mask; the other masks have none
-abbrev pub StartsAt : ℕ → Facts → List ℕ → Type 0
-StartsAt zero board text = AreStarts board text
-StartsAt (suc i) board text = text ≡ []
+  pub text_is : text ≡ results_text head seen
 
 -- a cut at this device write of `words` words, with mask number i, counted from 0
 pub record IsCutText (sweeping : Sweeping) (write words i : ℕ) (text : List ℕ) : Type 0 where
   pub left : Facts
   pub cut : CutsCommand write (mask_of words i) sweeping.board sweeping.prepare sweeping.command left
-  pub starts : List ℕ
-  pub results : List ℕ
-  pub are_starts : StartsAt i left starts
-  pub are_results : AreResults sweeping.depth sweeping.probe left results
-  pub text_is : text ≡ starts ++ cut_text write i (mask_of words i) words ++ results
+  pub results : AreResults (cut_head write i (mask_of words i)) sweeping.depth sweeping.probe left text
 
 -- A cut is printed if it is of the part.
 pub record IsCutOrNone (sweeping : Sweeping) (write words i : ℕ) (text : List ℕ) : Type 0 where
@@ -73,15 +61,19 @@ pub record IsCutOrNone (sweeping : Sweeping) (write words i : ℕ) (text : List 
 
 -- the concatenation of `n` texts, in order
 unfoldable pub TextsInTurn : (ℕ → List ℕ → Type 0) → ℕ → List ℕ → Type 0
-TextsInTurn Part zero text = text ≡ []
-TextsInTurn Part (suc n) text =
-    (before last : List ℕ) × TextsInTurn Part n before × Part n last × (text ≡ before ++ last)
+TextsInTurn IsText zero text = text ≡ []
+TextsInTurn IsText (suc n) text =
+    (before last : List ℕ) × TextsInTurn IsText n before × IsText n last × (text ≡ before ++ last)
 
 -- The board after the cut with the first mask reports a number of words. No clause ties that number to the write.
 pub record HasWords (sweeping : Sweeping) (write words : ℕ) : Type 0 where
   pub left : CutBoard
   pub cut : CutsCommand write 0 sweeping.board sweeping.prepare sweeping.command (cut_facts left)
   pub told : words ≡ words_tried (last_torn left)
+
+-- the command makes fewer writes, so that a cut with this mask doesn't happen
+abbrev pub IsSparedBy : Sweeping → ℕ → ℕ → Type 0
+IsSparedBy sweeping write mask = SparesCommand write mask sweeping.board sweeping.prepare sweeping.command
 
 -- each cut of a device write, with each mask for its number of words
 pub record IsWrite (sweeping : Sweeping) (write : ℕ) (text : List ℕ) : Type 0 where
@@ -96,7 +88,7 @@ pub record IsLastWrite (sweeping : Sweeping) (write : ℕ) (text : List ℕ) : T
   pub few : masks < mask_count_of words
   pub has_words : 1 ≤ masks → HasWords sweeping write words
   pub each : TextsInTurn (IsCutOrNone sweeping write words) masks text
-  pub spared : SparesCommand write (mask_of words masks) sweeping.board sweeping.prepare sweeping.command
+  pub spared : IsSparedBy sweeping write (mask_of words masks)
 
 -- the cuts of a write, made by the command or not
 abbrev pub IsWriteIf : Sweeping → ℕ → Bool → List ℕ → Type 0
@@ -110,19 +102,64 @@ pub record AreWrites (sweeping : Sweeping) (text : List ℕ) : Type 0 where
   pub last : List ℕ
   pub are_writes : TextsInTurn (λ n. IsWrite sweeping (n + 1)) writes each
   pub done : IsLastWrite sweeping (writes + 1) last ⊎ ((writes ≡ 2 ^ 32 - 1) × (last ≡ []))
-  pub text_is : text ≡ each ++ last ++ codes "writes" ++ number_text writes ++ 10 ∷ []
+  pub text_is : text ≡ each ++ last ++ total_text writes sweeping.depth
+
+-- A device write: the number of words that the board reports after the cut with the first mask, and the number of pairs
+-- that count there. The next power-on is cut at each of its writes, which shows that number.
+pub record IsDeviceWrite (sweeping : Sweeping) (write : ℕ) (it : DeviceWrite) : Type 0 where
+  pub left : CutBoard
+  pub cut : CutsCommand write 0 sweeping.board sweeping.prepare sweeping.command (cut_facts left)
+  pub words_are : it.words ≡ words_tried (last_torn left)
+  pub runs : ℕ
+  pub seen : List Seen
+  pub tally : IsTally runs seen
+  pub all : runs < 2 ^ 32 - 1 → CountsRuns (AreAllBehind 1 [] (cut_facts left)) [] seen
+  pub pairs_are : it.pairs ≡ pairs_counting runs
+
+-- the first `n` device writes, in order
+unfoldable pub WritesInTurn : Sweeping → ℕ → List DeviceWrite → Type 0
+WritesInTurn sweeping zero all = all ≡ []
+WritesInTurn sweeping (suc n) all = (before : List DeviceWrite) × (it : DeviceWrite) × WritesInTurn sweeping n before
+    × IsDeviceWrite sweeping (n + 1) it × (all ≡ before ++ it ∷ [])
+
+-- all device writes of the command
+pub record AreDeviceWrites (sweeping : Sweeping) (all : List DeviceWrite) : Type 0 where
+  pub writes : ℕ
+  pub each : WritesInTurn sweeping writes all
+  pub done : IsSparedBy sweeping (writes + 1) 0 ⊎ (writes ≡ 2 ^ 32 - 1)
+
+-- the kinds of the device writes
+pub record AreKinds (sweeping : Sweeping) (text : List ℕ) : Type 0 where
+  pub all : List DeviceWrite
+  pub are : AreDeviceWrites sweeping all
+  pub text_is : text ≡ kinds_text 1 all
+
+-- Only the first part has the kinds.
+pub record AreKindsOrNone (sweeping : Sweeping) (text : List ℕ) : Type 0 where
+  pub first : IsFirstPart sweeping.part → AreKinds sweeping text
+  pub later : (IsFirstPart sweeping.part → ⊥) → text ≡ []
 
 -- the items of these turns, and the result of an uncut power-on and the probe after them
-pub record IsFound (sweeping : Sweeping) (turns : List Turn) (text : List ℕ) : Type 0 where
+pub record IsFound (sweeping : Sweeping) (stage : List ℕ) (turns : List Turn) (text : List ℕ) : Type 0 where
   pub trace : List Item
   pub left : Facts
-  pub results : List ℕ
   pub played : PlaysOn sweeping.board turns trace left
-  pub are_results : AreResults 0 sweeping.probe left results
-  pub text_is : text ≡ items_text trace ++ results
+  pub results : AreResults (stage_head stage trace) 0 sweeping.probe left text
 
--- The report of a sweep on a board: what is found without the command, what is found after it, and each cut of it.
-pub record IsReport (board : Facts) (script : SweepScript) (part : Part) (text : List ℕ) : Type 0 where
+-- What is found without the command, what is found after it, the kinds of its writes, and each cut of it.
+pub record HasSections (sweeping : Sweeping) (whole : List Turn) (text : List ℕ) : Type 0 where
+  pub before : List ℕ
+  pub after : List ℕ
+  pub kinds : List ℕ
+  pub cuts : List ℕ
+  pub is_before : IsFound sweeping (codes "before") sweeping.prepare before
+  pub is_after : IsFound sweeping (codes "after") whole after
+  pub are_kinds : AreKindsOrNone sweeping kinds
+  pub are_cuts : AreWrites sweeping cuts
+  pub text_is : text ≡ before ++ after ++ kinds ++ cuts
+
+-- the report of a sweep on a board
+pub record IsReport (board : Facts) (script : SweepScript) (part : SweepPart) (text : List ℕ) : Type 0 where
   pub sweeping : Sweeping
   pub board_is : sweeping.board ≡ board
   pub prepare : AreTurns script.prepare.items sweeping.prepare
@@ -131,17 +168,11 @@ pub record IsReport (board : Facts) (script : SweepScript) (part : Part) (text :
   pub depth : sweeping.depth ≡ script.depth
   pub part_is : sweeping.part ≡ part
   pub whole : List Turn
-  pub before : List ℕ
-  pub after : List ℕ
-  pub cuts : List ℕ
-  pub is_before : IsFound sweeping sweeping.prepare before
-  pub is_after : IsFound sweeping whole after
   pub is_whole : AreTurns (script.prepare.items ++ Block script.command ∷ []) whole
-  pub are_cuts : AreWrites sweeping cuts
-  pub text_is : text ≡ (codes "before" ++ before) ++ (codes "after" ++ after) ++ cuts
+  pub sections : HasSections sweeping whole text
 
 -- A script was read to its end, and the report of a sweep of it was written.
-pub record WritesReport (board : Facts) (script left : Option (List ℕ)) (part : Part)
+pub record WritesReport (board : Facts) (script left : Option (List ℕ)) (part : SweepPart)
     (old new : Option (List ℕ)) : Type 0 where
   pub asked : SweepScript
   pub read : IsRead script left (asked_of asked)

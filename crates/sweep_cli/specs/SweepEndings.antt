@@ -7,7 +7,7 @@ use Rattle.bench_lines.specs.declared.reading.LineEnd.TheVariants.{EndOfScript}
 use Rattle.nvm_board.specs.Facts.{Facts}
 use Rattle.sweep_cli.specs.declared.fault.SweepFault.{SweepFault}
 use Rattle.sweep_cli.specs.declared.fault.SweepFault.TheVariants.{BadLine, Read, Write, Memory}
-use Rattle.sweep_cli.specs.declared.parts.Part.{Part}
+use Rattle.sweep_cli.specs.declared.parts.SweepPart.{SweepPart}
 use Rattle.sweep_cli.specs.declared.script.SweepScript.{SweepScript}
 use Rattle.sweep_cli.specs.Asking.{Asked, IsRead, ReadsLines, asked_of, is_whole, take_line}
 use Rattle.sweep_cli.specs.Reporting.{IsReport}
@@ -65,7 +65,7 @@ ReadingStopsBy Write old new = ⊥
 ReadingStopsBy Memory old new = Unit {0}
 
 -- A script was read to its end, and the first bytes of the report of a sweep of it were written.
-pub record WritesInto (board : Facts) (script left : Option (List ℕ)) (part : Part)
+pub record WritesInto (board : Facts) (script left : Option (List ℕ)) (part : SweepPart)
     (old new : Option (List ℕ)) : Type 0 where
   pub asked : SweepScript
   pub read : IsRead script left (asked_of asked)
@@ -75,7 +75,7 @@ pub record WritesInto (board : Facts) (script left : Option (List ℕ)) (part : 
   pub begun : Appends old new (take size text)
 
 -- The end of the program's work by its fault: that of the reading, or a writer that fails within the report.
-abbrev pub SweepStopsBy : Facts → Part → SweepFault → Option (List ℕ) → Option (List ℕ) → Option (List ℕ)
+abbrev pub SweepStopsBy : Facts → SweepPart → SweepFault → Option (List ℕ) → Option (List ℕ) → Option (List ℕ)
     → Option (List ℕ) → Type 0
 SweepStopsBy board part (BadLine number error) script left old new = StopsAtLine number script left
 SweepStopsBy board part Read script left old new = StopsInLine script left

@@ -1,85 +1,93 @@
-//! The lines of a report.
-ghost use Rattle.std.specs.Prelude.{◌≡◌, ◌++◌, ◌∷◌, OnOk};
-ghost use Rattle.sweep_cli.specs.Printing.{cut_text, item_text, items_text, number_text, result_text, results_text};
+//! The lines of a report. Each is a JSON object.
+ghost use Rattle.std.specs.Prelude.{◌≡◌, ◌++◌, OnOk, IfOk, string_bytes};
+ghost use Rattle.sweep_cli.specs.Printing.{cut_head, item_text, items_text, result_text, results_text};
+ghost use Rattle.sweep_cli.specs.Printing.{stage_head, total_text};
 
 use card_bench::{Item, Seen};
-use itoa::Buffer;
 use std::alloc::{AllocError, Global};
 
-/// Appends a space and a number.
-pub fn push_number(text: &mut Vec<u8>, number: u32) -> Result<(), AllocError>
-    ensures { OnOk result (text.new.items ≡ text.old.items ++ number_text number) }
-{
-    let mut digits = Buffer::new();
-    text.push(b' ')?;
-    text.extend_from_slice(digits.format(number).as_bytes())
-}
-
 /// Appends a space and the item of a turn.
-fn push_item(alloc: Global, text: &mut Vec<u8>, item: &Item) -> Result<(), AllocError>
-    ensures { OnOk result (text.new.items ≡ text.old.items ++ item_text item.now) }
+fn push_item(alloc: Global, text: &mut String, item: &Item) -> Result<(), AllocError>
+    ensures { OnOk result (string_bytes text.new ≡ string_bytes text.old ++ item_text item.now) }
 {
     match item {
-        Item::Atr => text.extend_from_slice(b" atr"),
-        Item::Quiet => text.extend_from_slice(b" off"),
-        Item::Mute => text.extend_from_slice(b" mute"),
-        Item::Dark => text.extend_from_slice(b" dark"),
+        Item::Atr => text.push_str(" atr"),
+        Item::Quiet => text.push_str(" off"),
+        Item::Mute => text.push_str(" mute"),
+        Item::Dark => text.push_str(" dark"),
         Item::Reply(block) => {
             let digits = hex::encode_upper(alloc, block.as_slice())?;
-            text.push(b' ')?;
-            text.extend_from_slice(digits.as_bytes())
+            text.push_str(" ")?;
+            text.push_str(&digits)
         }
     }
 }
 
-/// Appends the items of turns, and ends the line.
-pub fn push_trace(alloc: Global, text: &mut Vec<u8>, trace: &[Item]) -> Result<(), AllocError>
-    ensures { OnOk result (text.new.items ≡ text.old.items ++ items_text trace.now) }
+/// Appends the items of turns.
+fn push_items(alloc: Global, text: &mut String, trace: &[Item]) -> Result<(), AllocError>
+    ensures { OnOk result (string_bytes text.new ≡ string_bytes text.old ++ items_text trace.now) }
 {
     for item in trace {
         push_item(alloc, text, item)?;
     }
-    text.push(b'\n')?;
     Ok(())
 }
 
-/// Appends a result.
-fn push_result(alloc: Global, text: &mut Vec<u8>, seen: &Seen) -> Result<(), AllocError>
-    ensures { OnOk result (text.new.items ≡ text.old.items ++ result_text seen.now) }
+/// Returns how the lines of a stage begin: its name, and the items of the turns up to it.
+pub fn stage_head(alloc: Global, stage: &str, trace: &[Item]) -> Result<String, AllocError>
+    ensures { IfOk result (λ head. string_bytes head ≡ stage_head stage.now trace.now) }
 {
-    text.extend_from_slice(b"result")?;
-    push_number(text, seen.count)?;
-    push_number(text, u32::from(seen.free.blocks))?;
-    push_number(text, u32::from(seen.free.entries))?;
-    push_trace(alloc, text, &seen.trace)
+    let mut head = format!(in alloc; "{{\"stage\": \"{stage}\", \"turns\": \"")?;
+    push_items(alloc, &mut head, trace)?;
+    head.push_str("\", ")?;
+    Ok(head)
 }
 
-/// Appends results.
-pub fn push_results(alloc: Global, text: &mut Vec<u8>, results: &[Seen]) -> Result<(), AllocError>
-    ensures { OnOk result (text.new.items ≡ text.old.items ++ results_text results.now) }
+/// Returns how the lines of a cut begin. `i` is the number of the mask from 0.
+pub fn cut_head(alloc: Global, write: u32, i: u8, mask: u16) -> Result<String, AllocError>
+    ensures { IfOk result (λ head. string_bytes head ≡ cut_head write i mask) }
+{
+    format!(in alloc; "{{\"write\": {write}, \"number\": {i}, \"mask\": {mask}, ")
+}
+
+/// Appends the line of a result.
+#[tactic(auto, unfolding(crate::specs::Printing::result_text))]
+fn push_result(alloc: Global, text: &mut String, head: &str, seen: &Seen) -> Result<(), AllocError>
+    ensures { OnOk result (string_bytes text.new ≡ string_bytes text.old ++ result_text head.now seen.now) }
+{
+    let runs = seen.count;
+    let blocks = seen.free.blocks;
+    let entries = seen.free.entries;
+    let line = format!(in alloc; "{head}\"runs\": {runs}, \"found\": \"free {blocks} {entries}")?;
+    text.push_str(&line)?;
+    push_items(alloc, text, &seen.trace)?;
+    text.push_str("\"}\n")
+}
+
+/// Appends the lines of results.
+pub fn push_results(
+    alloc: Global,
+    text: &mut String,
+    head: &str,
+    results: &[Seen],
+) -> Result<(), AllocError>
+    ensures { OnOk result (string_bytes text.new ≡ string_bytes text.old ++ results_text head.now results.now) }
 {
     for seen in results {
-        push_result(alloc, text, seen)?;
+        push_result(alloc, text, head, seen)?;
     }
     Ok(())
 }
 
-/// Appends the line before the results of a cut.
-/// `i` is the number of the mask from 0, `words` that of the words of the write.
-pub fn push_cut(
-    text: &mut Vec<u8>,
-    write: u32,
-    i: u8,
-    mask: u16,
-    words: u8,
+/// Appends the last line of a report: the number of device writes, and the depth.
+pub fn push_total(
+    alloc: Global,
+    text: &mut String,
+    writes: u32,
+    depth: u8,
 ) -> Result<(), AllocError>
-    ensures { OnOk result (text.new.items ≡ text.old.items ++ cut_text write i mask words) }
+    ensures { OnOk result (string_bytes text.new ≡ string_bytes text.old ++ total_text writes depth) }
 {
-    text.extend_from_slice(b"cut")?;
-    push_number(text, write)?;
-    push_number(text, u32::from(i))?;
-    push_number(text, u32::from(mask))?;
-    push_number(text, u32::from(words))?;
-    text.push(b'\n')?;
-    Ok(())
+    let line = format!(in alloc; "{{\"writes\": {writes}, \"depth\": {depth}}}\n")?;
+    text.push_str(&line)
 }

@@ -5,11 +5,13 @@
 ghost use Rattle.std.specs.Prelude.{◌≡◌, MatchResult};
 ghost use Rattle.sweep_cli.specs.ExitStatuses.{program_status_of};
 
+mod device_writes;
 mod fault;
 mod frames;
 mod lines;
 mod options;
 mod parts;
+mod plan;
 pub mod report;
 mod script;
 mod steps;

@@ -3,26 +3,26 @@ ghost use Rattle.std.specs.Prelude.{◌<◌};
 
 /// One of `of` parts of a sweep, counted from 0.
 #[derive(Clone, Copy)]
-pub struct Part {
+pub struct SweepPart {
     index: u32,
     of: u32,
     ghost below: { index < of },
 }
 
-impl Part {
+impl SweepPart {
     ghost use Rattle.std.specs.Prelude.{◌≡◌, ◌↔◌, ◌+◌, ℕ, IfNone, IfSome, IsTrue};
     ghost use Rattle.sweep_cli.specs.CommandLineParts.{IsPartText};
-    ghost use Rattle.sweep_cli.specs.Reporting.{IsOfPart};
+    ghost use Rattle.sweep_cli.specs.Reporting.{IsFirstPart, IsOfPart};
 
     /// Returns the whole sweep.
-    pub fn whole() -> Part
+    pub fn whole() -> SweepPart
         ensures { (result.index ≡ 0) × (result.of ≡ 1) }
     {
-        Part { index: 0, of: 1 }
+        SweepPart { index: 0, of: 1 }
     }
 
     /// Returns the part that a word as `2/4` names. It counts from 1.
-    pub fn parse(words: &str) -> Option<Part>
+    pub fn parse(words: &str) -> Option<SweepPart>
         ensures part { IfSome result (λ part. IsPartText words.now (part.index + 1) part.of) }
         ensures none { IfNone result ((number of : ℕ) → IsPartText words.now number of → ⊥) }
     {
@@ -32,10 +32,17 @@ impl Part {
         if number == 0 || of < number {
             return None;
         }
-        Some(Part {
+        Some(SweepPart {
             index: number - 1,
             of,
         })
+    }
+
+    /// Returns true for the first part.
+    pub fn is_first(self) -> bool
+        ensures { IsTrue result ↔ IsFirstPart self }
+    {
+        self.index == 0
     }
 
     /// Returns true if a cut is of the part. The cuts are dealt out in turn, by write and mask.

@@ -1,4 +1,4 @@
-use Rattle.std.proofs.Common.{List, rules, subst, take, ℕ}
+use Rattle.std.proofs.Common.{List, rules, string_bytes, subst, take, ℕ}
 use Rattle.std.specs.Io.KnownBytes.{Appends}
 use Rattle.sweep_cli.proofs.Stopped.{memory-ends, reading-passed, write-passed}
 use Rattle.sweep_cli.proofs.report.report.Goals as goal
@@ -7,7 +7,7 @@ pub returns-clause-told : goal.returns-clause-told
 returns-clause-told g c = record {
   asked = c.in_ok-script.script;
   read = c.in_ok-script.ensures.read;
-  text = c.in_ok-text.text.items;
+  text = string_bytes c.in_ok-text.text;
   is_report = c.in_ok-text.ensures;
   written = search rules;
 }
@@ -29,8 +29,8 @@ returns-in_err-write_text-clause-stopped g c =
     c.in_err-write_text.ensures.fault (record {
       asked = c.in_ok-script.script;
       read = c.in_ok-script.ensures.read;
-      text = c.in_ok-text.text.items;
+      text = string_bytes c.in_ok-text.text;
       is_report = c.in_ok-text.ensures;
       size = began.0;
-      begun = subst (λ (t : List ℕ). Appends old new (take began.0 t)) c.deref.ensures.value began.1;
+      begun = subst (λ (t : List ℕ). Appends old new (take began.0 t)) c.as_bytes.ensures.value began.1;
     })

@@ -4,13 +4,14 @@ use Rattle.sweep_cli.specs.ReportParts.{sweeping_of}
 use Rattle.sweep_cli.specs.Reporting.{IsCutOrNone}
 use Rattle.sweep_cli.proofs.Put.{in-turn-next, in-turn-none}
 use Rattle.sweep_cli.proofs.Reported.{unmade-put}
-use Rattle.sweep_cli.proofs.report.push_write.Goals as goal
+use Rattle.sweep_cli.proofs.plan.push_write.Goals as goal
 
 pub loop-i-init : goal.loop-i-init
 loop-i-init c = λ card.
     let cut = rw c.in-Some.is at c.in_ok-left.ensures.cut in
-    let Part = IsCutOrNone (sweeping_of c.args.plan) c.args.write c.words_to_try-words.result in
-    in-turn-next Part 0 _ _ _ (in-turn-none Part _) (c.in_ok-push_first.ensures (cut card))
+    let IsText = IsCutOrNone (sweeping_of c.args.plan) c.args.write c.words_to_try-words.result in
+    in-turn-next IsText 0 _ _ _ (in-turn-none IsText _)
+    (c.in_ok-push_first.ensures (cut card) c.words_to_try-words.result)
 
 pub loop-i-preserved : goal.loop-i-preserved
 loop-i-preserved c = λ card.

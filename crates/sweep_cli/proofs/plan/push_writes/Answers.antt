@@ -1,7 +1,7 @@
 use Rattle.std.proofs.Common.{◌≡◌, ◌-◌, ◌^◌, [], append-nil, arith, inl, inr, refl, sym}
 use Rattle.sweep_cli.proofs.Put.{in-turn-next, in-turn-none, on-ok, puts-weaker}
 use Rattle.sweep_cli.proofs.Reported.{writes-put}
-use Rattle.sweep_cli.proofs.report.push_writes.Goals as goal
+use Rattle.sweep_cli.proofs.plan.push_writes.Goals as goal
 
 pub loop-writes-init : goal.loop-writes-init
 loop-writes-init g c = λ card. in-turn-none _ _

@@ -1,17 +1,16 @@
 use Rattle.std.proofs.Common.{◌∙◌, sym, true≢false}
 use Rattle.nvm_board.specs.Cut.{cut_facts}
 use Rattle.sweep_cli.specs.ReportParts.{sweeping_of}
-use Rattle.sweep_cli.proofs.Reported.{mask-is, mask-put, none-put}
-use Rattle.sweep_cli.proofs.report.push_mask.Goals as goal
+use Rattle.sweep_cli.proofs.Reported.{cut-put, mask-is, none-put}
+use Rattle.sweep_cli.proofs.plan.push_mask.Goals as goal
 
 pub returns : goal.returns
 returns c = λ card.
     let cut = rw c.in-Some.is at c.in_ok-left.ensures.cut in
     let told = c.mask_at-mask.ensures in
-    mask-put (sweeping_of c.args.plan) c.args.write c.args.words c.args.i _ (cut_facts c.in-Some.left) _ _ _
-    c.requires.later (mask-is c.args.words c.args.i _ told.none told.all told.single)
-    (c.has.ensures.0 c.if-not-has.false) (cut card) c.in_ok-push_cut.ensures
-    (c.in_ok-push_behind.ensures (cut card).has_card)
+    cut-put (sweeping_of c.args.plan) c.args.write c.args.words c.args.i _ (cut_facts c.in-Some.left) _ _
+    (mask-is c.args.words c.args.i _ told.none told.all told.single)
+    (c.has.ensures.0 c.if-not-has.false) (cut card) (c.in_ok-push_cut.ensures (cut card).has_card)
 
 pub returns-then-not-has : goal.returns-then-not-has
 returns-then-not-has c = λ card. none-put (sweeping_of c.args.plan) c.args.write c.args.words c.args.i _

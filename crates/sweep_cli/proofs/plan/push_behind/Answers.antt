@@ -1,15 +1,15 @@
-use Rattle.std.proofs.Common.{◌++◌, ◌∙◌, List, ap, refl}
+use Rattle.std.proofs.Common.{◌++◌, ◌∙◌, List, ap, refl, string_bytes}
 use Rattle.card_bench.specs.declared.tally.Seen.{Seen}
 use Rattle.sweep_cli.specs.Printing.{results_text}
 use Rattle.sweep_cli.proofs.Put.{on-ok}
-use Rattle.sweep_cli.proofs.report.push_behind.Goals as goal
+use Rattle.sweep_cli.proofs.plan.push_behind.Goals as goal
 
 pub returns : goal.returns
 returns c =
     let found = c.in_ok-found.found in
     on-ok c.push_results.result _ _
     (λ written card. record {
-      more = results_text found.seen.items;
+      more = results_text c.args.head.now found.seen.items;
       holds = record {
         runs = found.runs;
         seen = found.seen.items;
@@ -17,6 +17,7 @@ returns c =
         all = c.in_ok-found.ensures.complete card;
         text_is = refl;
       };
-      all = written ∙ ap (λ (l : List Seen). c.args.text.now.items ++ results_text l) c.deref.ensures.value;
+      all = written ∙ ap (λ (l : List Seen). string_bytes c.args.text.now ++ results_text c.args.head.now l)
+          c.deref.ensures.value;
     })
     c.push_results.ensures

@@ -1,10 +1,11 @@
-use Rattle.std.proofs.Common.{◌+◌}
+use Rattle.std.proofs.Common.{◌+◌, string_bytes}
 use Rattle.command_base.specs.Finding.{HasCard}
 use Rattle.nvm_board.specs.Cut.{cut_facts}
 use Rattle.sweep_cli.specs.ReportParts.{AddsText, sweeping_of}
 use Rattle.sweep_cli.specs.Reporting.{TextsInTurn, IsWrite}
-use Rattle.sweep_cli.proofs.report.push_writes.Given as goal
+use Rattle.sweep_cli.proofs.plan.push_writes.Given as goal
 
 abbrev pub invariant-loop-writes : goal.invariant-loop-writes
 invariant-loop-writes g l = HasCard (cut_facts l.plan.board.now).words
-    → AddsText (TextsInTurn (λ n. IsWrite (sweeping_of l.plan) (n + 1)) l.writes) l.fn.text.items l.text.items
+    → AddsText (TextsInTurn (λ n. IsWrite (sweeping_of l.plan) (n + 1)) l.writes) (string_bytes l.fn.text)
+    (string_bytes l.text)

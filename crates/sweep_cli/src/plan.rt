@@ -1,0 +1,216 @@
+//! The plan of a sweep, and the parts of its report.
+ghost use Rattle.std.specs.Prelude.{◌≡◌, ◌≤◌, ◌<◌, ◌/◌, ◌-◌, ℕ, OnOk, IfOk, IfSome, IfNone, string_bytes};
+ghost use Rattle.nvm_board.specs.Cut.{cut_facts};
+ghost use Rattle.command_base.specs.Finding.{HasCard};
+ghost use Rattle.card_bench.specs.Masks.{mask_count_of};
+ghost use Rattle.card_bench.specs.Sweeps.{CutsCommand};
+ghost use Rattle.sweep_cli.specs.Printing.{cut_head};
+ghost use Rattle.sweep_cli.specs.ReportParts.{AddsText, AddsMaskText, sweeping_of};
+ghost use Rattle.sweep_cli.specs.Reporting.{AreDeviceWrites, AreKindsOrNone, AreResults, AreWrites, IsCutOrNone};
+ghost use Rattle.sweep_cli.specs.Reporting.{IsDeviceWrite, IsFound, IsSparedBy, IsWriteIf};
+
+use crate::device_writes::{DeviceWrite, push_kinds};
+use crate::lines::{cut_head, push_results, push_total, stage_head};
+use crate::parts::SweepPart;
+use card_bench::{Turn, cut_at, mask_at, mask_count, play_copy, sweep_behind, words_to_try};
+use nvm_board::CutBoard;
+use std::alloc::{AllocError, Global};
+
+/// The plan of a sweep. Each run uses a copy of the board.
+#[derive(Clone, Copy)]
+pub struct Plan<'a> {
+    pub alloc: Global,
+    pub board: &'a CutBoard,
+    pub prepare: &'a [Turn<'a>],
+    pub command: &'a [u8],
+    pub probe: &'a [Turn<'a>],
+    pub depth: u8,
+    pub part: SweepPart,
+}
+
+/// Appends the results of all runs after a cut that left this board. Each line begins with `head`.
+fn push_behind(
+    plan: Plan<'_>,
+    left: &CutBoard,
+    depth: u8,
+    head: &str,
+    text: &mut String,
+) -> Result<(), AllocError>
+    ensures { OnOk result (HasCard (cut_facts left.now).words
+        → AddsText (AreResults head.now depth plan.entry.probe.now (cut_facts left.now))
+        (string_bytes text.old) (string_bytes text.new)) }
+{
+    let found = sweep_behind(plan.alloc, left, plan.probe, depth)?;
+    push_results(plan.alloc, text, head, &found.seen)
+}
+
+/// Appends the result of the probe after turns on a copy of the board.
+pub fn push_stage(
+    plan: Plan<'_>,
+    stage: &str,
+    turns: &[Turn<'_>],
+    text: &mut String,
+) -> Result<(), AllocError>
+    ensures { OnOk result (HasCard (cut_facts plan.entry.board.now).words
+        → AddsText (IsFound (sweeping_of plan.entry) stage.now turns.now)
+        (string_bytes text.old) (string_bytes text.new)) }
+{
+    let (trace, left) = play_copy(plan.alloc, plan.board, turns)?;
+    let head = stage_head(plan.alloc, stage, &trace)?;
+    push_behind(plan, &left, 0, &head, text)
+}
+
+/// Appends the results of a cut that left this board.
+fn push_cut(
+    plan: Plan<'_>,
+    write: u32,
+    i: u8,
+    mask: u16,
+    left: &CutBoard,
+    text: &mut String,
+) -> Result<(), AllocError>
+    ensures { OnOk result (HasCard (cut_facts left.now).words
+        → AddsText (AreResults (cut_head write i mask) plan.entry.depth plan.entry.probe.now (cut_facts left.now))
+        (string_bytes text.old) (string_bytes text.new)) }
+{
+    let head = cut_head(plan.alloc, write, i, mask)?;
+    push_behind(plan, left, plan.depth, &head, text)
+}
+
+/// Appends the cut of a device write with the first mask, if it is of the part.
+/// That cut left the board `left`.
+fn push_first(
+    plan: Plan<'_>,
+    write: u32,
+    left: &CutBoard,
+    text: &mut String,
+) -> Result<(), AllocError>
+    ensures { OnOk result (CutsCommand write 0 (cut_facts plan.entry.board.now) plan.entry.prepare.now
+        plan.entry.command.now (cut_facts left.now) → (words : ℕ)
+        → AddsText (IsCutOrNone (sweeping_of plan.entry) write words 0)
+        (string_bytes text.old) (string_bytes text.new)) }
+{
+    if !plan.part.has(write, 0) {
+        return Ok(());
+    }
+    push_cut(plan, write, 0, 0, left, text)
+}
+
+/// Appends the cut of a device write with mask `i`, if it is of the part.
+/// Returns false if that cut doesn't happen.
+fn push_mask(
+    plan: Plan<'_>,
+    write: u32,
+    words: u8,
+    i: u8,
+    text: &mut String,
+) -> Result<bool, AllocError>
+    requires write { 1 ≤ write }
+    requires words { words ≤ 16 }
+    requires later { 1 ≤ i }
+    requires place { i < mask_count_of words }
+    ensures { IfOk result (λ came. HasCard (cut_facts plan.entry.board.now).words
+        → AddsMaskText (sweeping_of plan.entry) write words i came (string_bytes text.old) (string_bytes text.new)) }
+{
+    if !plan.part.has(write, i) {
+        return Ok(true);
+    }
+    let mask = mask_at(words, i);
+    let Some(left) = cut_at(
+        plan.alloc,
+        plan.board,
+        plan.prepare,
+        plan.command,
+        write,
+        mask,
+    )?
+    else {
+        return Ok(false);
+    };
+    push_cut(plan, write, i, mask, &left, text)?;
+    Ok(true)
+}
+
+/// Appends the cuts of a device write that are of the part.
+/// Returns true if the command makes that write.
+fn push_write(plan: Plan<'_>, write: u32, text: &mut String) -> Result<bool, AllocError>
+    requires { 1 ≤ write }
+    ensures { IfOk result (λ made. HasCard (cut_facts plan.entry.board.now).words
+        → AddsText (IsWriteIf (sweeping_of plan.entry) write made) (string_bytes text.old) (string_bytes text.new)) }
+{
+    let Some(left) = cut_at(plan.alloc, plan.board, plan.prepare, plan.command, write, 0)? else {
+        return Ok(false);
+    };
+    let words = words_to_try(left.torn_words());
+    push_first(plan, write, &left, text)?;
+    for i in 1..mask_count(words) {
+        if !push_mask(plan, write, words, i, text)? {
+            return Ok(false);
+        }
+    }
+    Ok(true)
+}
+
+/// Appends the cuts of the part, and the number of device writes.
+pub fn push_writes(
+    plan: Plan<'_>,
+    progress: &impl Eprint,
+    text: &mut String,
+) -> Result<(), AllocError>
+    ensures { OnOk result (HasCard (cut_facts plan.entry.board.now).words
+        → AddsText (AreWrites (sweeping_of plan.entry)) (string_bytes text.old) (string_bytes text.new)) }
+{
+    for writes in 0..u32::MAX {
+        // The progress is for people: the sweep continues even if standard error fails.
+        let _ = progress.eprintln(format_args!("write {}", writes + 1));
+        if !push_write(plan, writes + 1, text)? {
+            return push_total(plan.alloc, text, writes, plan.depth);
+        }
+    }
+    push_total(plan.alloc, text, u32::MAX, plan.depth)
+}
+
+/// Returns this device write of the command. Returns `None` if the command makes fewer writes.
+fn device_write(plan: Plan<'_>, write: u32) -> Result<Option<DeviceWrite>, AllocError>
+    requires { 1 ≤ write }
+    ensures made { IfOk result (λ made. IfSome made (λ it. HasCard (cut_facts plan.entry.board.now).words
+        → IsDeviceWrite (sweeping_of plan.entry) write it)) }
+    ensures spared { IfOk result (λ made. IfNone made (HasCard (cut_facts plan.entry.board.now).words
+        → IsSparedBy (sweeping_of plan.entry) write 0)) }
+{
+    let Some(left) = cut_at(plan.alloc, plan.board, plan.prepare, plan.command, write, 0)? else {
+        return Ok(None);
+    };
+    let starts = sweep_behind(plan.alloc, &left, &[], 1)?;
+    Ok(Some(DeviceWrite {
+        words: words_to_try(left.torn_words()),
+        pairs: (starts.runs / 2).saturating_sub(1),
+    }))
+}
+
+/// Returns the device writes of the command.
+fn device_writes(plan: Plan<'_>) -> Result<Vec<DeviceWrite>, AllocError>
+    ensures { IfOk result (λ made. HasCard (cut_facts plan.entry.board.now).words
+        → AreDeviceWrites (sweeping_of plan.entry) made.items) }
+{
+    let mut made = Vec::new(plan.alloc);
+    for writes in 0..u32::MAX {
+        let Some(write) = device_write(plan, writes + 1)? else {
+            return Ok(made);
+        };
+        made.push(write)?;
+    }
+    Ok(made)
+}
+
+/// Appends the kinds of the device writes, if this is the first part.
+pub fn push_first_part(plan: Plan<'_>, text: &mut String) -> Result<(), AllocError>
+    ensures { OnOk result (HasCard (cut_facts plan.entry.board.now).words
+        → AddsText (AreKindsOrNone (sweeping_of plan.entry)) (string_bytes text.old) (string_bytes text.new)) }
+{
+    if !plan.part.is_first() {
+        return Ok(());
+    }
+    let made = device_writes(plan)?;
+    push_kinds(plan.alloc, text, &made)
+}
