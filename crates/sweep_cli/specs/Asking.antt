@@ -6,6 +6,8 @@ use Rattle.bench_lines.specs.Orders.{Order, begins_with, order_of}
 use Rattle.bench_lines.specs.Orders as order
 use Rattle.bench_lines.specs.Scripts.{TakesLine}
 use Rattle.bench_lines.specs.declared.reading.LineEnd.TheVariants.{LineFeed, EndOfScript}
+use Rattle.sweep_cli.specs.declared.fault.LineStop.{LineStop}
+use Rattle.sweep_cli.specs.declared.fault.LineStop.TheVariants.{Bad, Memory}
 use Rattle.sweep_cli.specs.declared.script.Section.{Section}
 use Rattle.sweep_cli.specs.declared.script.Section.TheVariants.{Prepare, Command, AfterCommand, Probe}
 use Rattle.sweep_cli.specs.declared.script.SweepScript.{SweepScript}
@@ -35,6 +37,11 @@ asked_of s = record {
   probe = s.probe.items;
   depth = s.depth;
 }
+
+-- A line is refused only if a script can't have it there. (With too little memory nothing is said.)
+abbrev pub Refuses : LineStop → Option Asked → Type 0
+Refuses (Bad error) taken = taken ≡ None
+Refuses Memory taken = Unit {0}
 
 -- the mark of the command
 abbrev pub begins_command : Asked → Section → Option Asked

@@ -1,6 +1,6 @@
 //! Why the program has no report.
 use crate::swept_board::BoardFault;
-use std::alloc::AllocError;
+use std::alloc::{AllocError, AllocFailed};
 use thiserror::Error;
 
 /// The fault of a line of a sweep script.
@@ -24,6 +24,37 @@ pub enum LineError {
     /// The probe has no line.
     #[error("the probe is empty, so nothing would look at the card")]
     NoProbe,
+}
+
+/// Why a line is not taken.
+#[derive(Debug, Clone, Copy)]
+pub enum LineStop {
+    /// The line is bad.
+    Bad(LineError),
+    /// There is too little memory.
+    Memory,
+}
+
+impl From<AllocError> for LineStop {
+    ghost use Rattle.std.specs.Prelude.{◌≡◌};
+    ghost use Rattle.sweep_cli.specs.declared.fault.LineStop.TheVariants.{Memory};
+
+    ghost from_gives = { λ _ stop. stop ≡ Memory };
+
+    fn from(_: AllocError) -> LineStop {
+        LineStop::Memory
+    }
+}
+
+impl<T: Drop> From<AllocFailed<T>> for LineStop {
+    ghost use Rattle.std.specs.Prelude.{◌≡◌};
+    ghost use Rattle.sweep_cli.specs.declared.fault.LineStop.TheVariants.{Memory};
+
+    ghost from_gives = { λ _ stop. stop ≡ Memory };
+
+    fn from(_: AllocFailed<T>) -> LineStop {
+        LineStop::Memory
+    }
 }
 
 /// Why a script is not swept.

@@ -1,16 +1,16 @@
 //! A sweep script: the preparation, the command that is cut, and the probe.
-ghost use Rattle.std.specs.Prelude.{◌≡◌, ◌≤◌, ◌++◌, ◌∷◌, [], length, None, Some, true, false};
+ghost use Rattle.std.specs.Prelude.{◌≡◌, ◌≢◌, ◌≤◌, ◌++◌, ◌∷◌, [], length, None, Some, true, false};
 ghost use Rattle.std.specs.Prelude.{IfErr, IfNone, IfOk, IfSome, MatchResult, OnOk};
 ghost use Rattle.bench_lines.specs.OrderViews.{order_with};
 ghost use Rattle.bench_lines.specs.Orders.{IsOrderSized};
-ghost use Rattle.sweep_cli.specs.Asking.{IsRead, adds, asked_of, begins_command, begins_probe, is_whole, sends};
-ghost use Rattle.sweep_cli.specs.Asking.{sets_depth, take_line, takes, unasked};
+ghost use Rattle.sweep_cli.specs.Asking.{IsRead, Refuses, adds, asked_of, begins_command, begins_probe, is_whole};
+ghost use Rattle.sweep_cli.specs.Asking.{sends, sets_depth, take_line, takes, unasked};
 ghost use Rattle.sweep_cli.specs.SweepEndings.{ReadingStopsBy};
 
-use crate::fault::{LineError, SweepFault};
+use crate::fault::{LineError, LineStop, SweepFault};
 use crate::frames::{push_command, push_exchange};
 use crate::steps::{OwnBlock, Step, push_block};
-use bench_lines::{GivenBytes, LineBytes, LineEnd, LineFault, Order, SCRIPT_LIMIT, read_line};
+use bench_lines::{GivenBytes, LineBytes, LineEnd, LineFault, Order, read_line};
 use std::alloc::{AllocError, Global};
 use std::io::BufRead;
 
@@ -63,87 +63,90 @@ impl SweepScript {
         alloc: Global,
         line: &[u8],
         given: &mut GivenBytes,
-    ) -> Result<Result<(), LineError>, AllocError>
-        ensures { IfOk result (λ taken. MatchResult taken
+    ) -> Result<(), LineStop>
+        ensures { MatchResult result
             (λ _. take_line (asked_of self.old) line.now ≡ Some (asked_of self.new))
-            (λ _. take_line (asked_of self.old) line.now ≡ None)) }
+            (λ stop. Refuses stop (take_line (asked_of self.old) line.now)) }
     {
         if line == b"# command".as_slice() {
-            return Ok(self.begin_command());
+            return self.begin_command();
         }
         if line == b"# probe".as_slice() {
-            return Ok(self.begin_probe());
+            return self.begin_probe();
         }
         if let Some(digits) = line.strip_prefix(b"# depth ") {
-            return Ok(self.set_depth(digits));
+            return self.set_depth(digits);
         }
         let Some(order) = Order::parse(line, given) else {
-            return Ok(Err(LineError::NoLine));
+            return Err(LineStop::Bad(LineError::NoLine));
         };
         self.take_order(alloc, order, given.as_slice())
     }
 
     /// Begins the section of the command.
-    fn begin_command(&mut self) -> Result<(), LineError>
-        ensures { MatchResult result
+    fn begin_command(&mut self) -> Result<(), LineStop>
+        ensures taken { MatchResult result
             (λ _. begins_command (asked_of self.old) self.old.section ≡ Some (asked_of self.new))
-            (λ _. begins_command (asked_of self.old) self.old.section ≡ None) }
+            (λ stop. Refuses stop (begins_command (asked_of self.old) self.old.section)) }
+        ensures light { IfErr result (λ stop. stop ≢ LineStop.Memory) }
     {
         match self.section {
             Section::Prepare => {
                 self.section = Section::Command;
                 Ok(())
             }
-            Section::Command | Section::AfterCommand | Section::Probe => Err(LineError::WrongMark),
+            Section::Command | Section::AfterCommand | Section::Probe => {
+                Err(LineStop::Bad(LineError::WrongMark))
+            }
         }
     }
 
     /// Begins the section of the probe.
-    fn begin_probe(&mut self) -> Result<(), LineError>
-        ensures { MatchResult result
+    fn begin_probe(&mut self) -> Result<(), LineStop>
+        ensures taken { MatchResult result
             (λ _. begins_probe (asked_of self.old) self.old.section ≡ Some (asked_of self.new))
-            (λ _. begins_probe (asked_of self.old) self.old.section ≡ None) }
+            (λ stop. Refuses stop (begins_probe (asked_of self.old) self.old.section)) }
+        ensures light { IfErr result (λ stop. stop ≢ LineStop.Memory) }
     {
         match self.section {
             Section::AfterCommand => {
                 self.section = Section::Probe;
                 Ok(())
             }
-            Section::Command => Err(LineError::NoCommand),
-            Section::Prepare | Section::Probe => Err(LineError::WrongMark),
+            Section::Command => Err(LineStop::Bad(LineError::NoCommand)),
+            Section::Prepare | Section::Probe => Err(LineStop::Bad(LineError::WrongMark)),
         }
     }
 
     /// Sets the number of power-ons to cut.
-    fn set_depth(&mut self, digits: &[u8]) -> Result<(), LineError>
-        ensures { MatchResult result
+    fn set_depth(&mut self, digits: &[u8]) -> Result<(), LineStop>
+        ensures taken { MatchResult result
             (λ _. sets_depth (asked_of self.old) digits.now ≡ Some (asked_of self.new))
-            (λ _. sets_depth (asked_of self.old) digits.now ≡ None) }
+            (λ stop. Refuses stop (sets_depth (asked_of self.old) digits.now)) }
+        ensures light { IfErr result (λ stop. stop ≢ LineStop.Memory) }
     {
         match digits {
             [digit] if b'0' <= *digit && *digit <= b'3' => {
                 self.depth = *digit - b'0';
                 Ok(())
             }
-            _ => Err(LineError::NoDepth),
+            _ => Err(LineStop::Bad(LineError::NoDepth)),
         }
     }
 
     /// Takes an order; `given` has the bytes of its line.
-    fn take_order(
-        &mut self,
-        alloc: Global,
-        order: Order,
-        given: &[u8],
-    ) -> Result<Result<(), LineError>, AllocError>
+    #[tactic(auto, using(crate::proofs::Stopped::memory_refuses))]
+    fn take_order(&mut self, alloc: Global, order: Order, given: &[u8]) -> Result<(), LineStop>
         requires { IsOrderSized (order_with order given.now) }
-        ensures { IfOk result (λ taken. MatchResult taken
+        ensures { MatchResult result
             (λ _. takes (asked_of self.old) (Some (order_with order given.now)) ≡ Some (asked_of self.new))
-            (λ _. takes (asked_of self.old) (Some (order_with order given.now)) ≡ None)) }
+            (λ stop. Refuses stop (takes (asked_of self.old) (Some (order_with order given.now)))) }
     {
         match order {
-            Order::Nothing | Order::Free => Ok(Ok(())),
-            Order::Cut { .. } | Order::Lose(_) | Order::Garble(_) => Ok(Err(LineError::SetsFault)),
+            Order::Nothing | Order::Free => Ok(()),
+            Order::Cut { .. } | Order::Lose(_) | Order::Garble(_) => {
+                Err(LineStop::Bad(LineError::SetsFault))
+            }
             Order::On => self.add(Step::On),
             Order::Off => self.add(Step::Off),
             Order::Block => {
@@ -155,25 +158,29 @@ impl SweepScript {
     }
 
     /// Appends a step to the preparation or the probe.
-    fn add(&mut self, step: Step) -> Result<Result<(), LineError>, AllocError>
-        ensures { IfOk result (λ taken. MatchResult taken
+    #[tactic(auto, using(crate::proofs::Stopped::memory_refuses))]
+    fn add(&mut self, step: Step) -> Result<(), LineStop>
+        ensures { MatchResult result
             (λ _. adds (asked_of self.old) self.old.section (step ∷ []) ≡ Some (asked_of self.new))
-            (λ _. adds (asked_of self.old) self.old.section (step ∷ []) ≡ None)) }
+            (λ stop. Refuses stop (adds (asked_of self.old) self.old.section (step ∷ []))) }
     {
         match self.section {
             Section::Prepare => self.prepare.push(step)?,
             Section::Probe => self.probe.push(step)?,
-            Section::Command | Section::AfterCommand => return Ok(Err(LineError::NoCommand)),
+            Section::Command | Section::AfterCommand => return Err(LineStop::Bad(
+                LineError::NoCommand,
+            )),
         }
-        Ok(Ok(()))
+        Ok(())
     }
 
     /// Takes a command. Between the marks it is the one that is cut.
-    fn send(&mut self, alloc: Global, command: &[u8]) -> Result<Result<(), LineError>, AllocError>
+    #[tactic(auto, using(crate::proofs::Stopped::memory_refuses))]
+    fn send(&mut self, alloc: Global, command: &[u8]) -> Result<(), LineStop>
         requires { IsOrderSized (order_with Order.Apdu command.now) }
-        ensures { IfOk result (λ taken. MatchResult taken
+        ensures { MatchResult result
             (λ _. sends (asked_of self.old) self.old.section command.now ≡ Some (asked_of self.new))
-            (λ _. sends (asked_of self.old) self.old.section command.now ≡ None)) }
+            (λ stop. Refuses stop (sends (asked_of self.old) self.old.section command.now)) }
     {
         match self.section {
             Section::Prepare => push_exchange(alloc, command, &mut self.prepare)?,
@@ -182,9 +189,9 @@ impl SweepScript {
                 self.command = push_command(alloc, command, &mut self.prepare)?;
                 self.section = Section::AfterCommand;
             }
-            Section::AfterCommand => return Ok(Err(LineError::NoCommand)),
+            Section::AfterCommand => return Err(LineStop::Bad(LineError::NoCommand)),
         }
-        Ok(Ok(()))
+        Ok(())
     }
 
     /// Returns what is missing at the end of the script.
@@ -221,23 +228,25 @@ pub fn read_script<R: BufRead>(alloc: Global, reader: &mut R) -> Result<SweepScr
     let mut line = LineBytes::new();
     let mut given = GivenBytes::new();
     let mut taken = 0;
-    // A script has at most one line a byte, and one more after the last line feed.
-    for number in 1..=SCRIPT_LIMIT + 1 {
+    let mut number = 1;
+    loop {
         let end = match read_line(reader, &mut taken, &mut line) {
             Ok(end) => end,
             Err(LineFault::Read) => return Err(SweepFault::Read),
             Err(LineFault::TooMuch) => return Err(SweepFault::Read),
             Err(LineFault::TooLong) => return Err(SweepFault::BadLine(number, LineError::NoLine)),
         };
-        if let Err(error) = script.take_line(alloc, &line, &mut given)? {
-            return Err(SweepFault::BadLine(number, error));
+        match script.take_line(alloc, &line, &mut given) {
+            Ok(()) => {}
+            Err(LineStop::Bad(error)) => return Err(SweepFault::BadLine(number, error)),
+            Err(LineStop::Memory) => return Err(SweepFault::Memory),
         }
         match end {
-            LineEnd::LineFeed => {}
+            // A line feed takes a byte, so the number of lines is limited too.
+            LineEnd::LineFeed => number += 1,
             LineEnd::EndOfScript => return finished(script, number),
         }
     }
-    unreachable!()
 }
 
 /// Returns the script, if nothing is missing at its end.
