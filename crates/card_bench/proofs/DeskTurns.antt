@@ -5,7 +5,7 @@ use Rattle.card_turns.specs.TurnResults.{is_started}
 use Rattle.card_turns.specs.Plays.{TellsItem}
 use Rattle.card_turns.specs.declared.turn_result.TurnResult.{TurnResult}
 use Rattle.card_turns.specs.declared.turn_result.TurnResult.TheVariants as turned
-use Rattle.card_bench.specs.DeskParts.{reader_there}
+use Rattle.card_bench.specs.DeskStates.{reader_there}
 use Rattle.card_turns.specs.declared.playing.Turn.{Turn}
 use Rattle.card_turns.specs.declared.playing.Turn.TheVariants as turn
 use Rattle.card_turns.specs.declared.playing.Item.{Item}

@@ -5,8 +5,6 @@ ghost use Rattle.std.specs.Io.KnownBytes.{Appends};
 ghost use Rattle.bench_lines.specs.declared.order.TheConstants.{COMMAND_LIMIT};
 ghost use Rattle.card_turns.specs.BenchStates.{bench_facts, off};
 ghost use Rattle.card_bench.specs.DeskStates.{print_of};
-ghost use Rattle.card_bench.specs.Exchanges.{printed_by};
-ghost use Rattle.card_bench.specs.ExchangeParts.{ended_of};
 ghost use Rattle.bench_lines.specs.OrderViews.{order_with};
 ghost use Rattle.bench_lines.specs.Orders.{IsOrderSized};
 ghost use Rattle.card_bench.specs.Performing.{Performs, PerformsCommand, TakesTurn, free_shown};
@@ -86,15 +84,15 @@ impl<B: Socket> Desk<B> {
     }
 
     /// Returns the result of the last line, and copies its bytes, if it has any, into the buffer.
-    pub fn tell(&self, bytes: &mut AnswerBytes) -> Came
+    pub fn tell(&self, bytes: &mut AnswerBytes) -> LineResult
         ensures { print_of result bytes.new.items bytes.new.items ≡ self.now.prints }
     {
         bytes.clear();
         match self.came {
-            Came::Answer => bytes
+            LineResult::Answer => bytes
                 .try_extend_from_slice(self.ends.reader.answer())
                 .unwrap(),
-            Came::Block => bytes
+            LineResult::Block => bytes
                 .try_extend_from_slice(&self.ends.blocks.toward_reader)
                 .unwrap(),
             _ => {}

@@ -17,11 +17,12 @@ mod sweeping;
 mod tally;
 
 pub use bench_lines::{COMMAND_LIMIT, Order};
-pub use card_turns::{Bench, Came, Item, Powered, Turn};
+pub use card_turns::{Bench, Item, Powered, Turn};
 pub use desk::Desk;
 pub use factory::{factory_board, factory_board_of};
 pub use fault::RunFault;
 pub use image::{NoCard, image_board};
+pub use line_result::LineResult;
 pub use masks::{mask_at, mask_count, words_to_try};
 pub use script::{run, run_on};
 pub use sweepable::Sweepable;

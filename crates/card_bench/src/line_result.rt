@@ -1,6 +1,6 @@
 //! The result of a script line.
 ghost use Rattle.std.specs.Prelude.{◌≡◌, ℕ, List};
-ghost use Rattle.card_bench.specs.DeskParts.{print_of};
+ghost use Rattle.card_bench.specs.DeskStates.{print_of};
 ghost use Rattle.card_bench.specs.ExchangeParts.{ended_of};
 ghost use Rattle.card_bench.specs.Exchanges.{printed_by};
 ghost use Rattle.card_bench.specs.Performing.{shown};
@@ -12,7 +12,7 @@ use card_turns::TurnResult;
 
 /// The result of a line. Blocks and answers are in buffers, not in this value.
 #[derive(Clone, Copy)]
-pub(crate) enum LineResult {
+pub enum LineResult {
     /// No output.
     Nothing,
     /// The answer to reset: the card booted.

@@ -17,7 +17,7 @@ ghost use Rattle.soffitfennel.specs.LoggedWrites.{log_room};
 
 use crate::write::Write;
 use crate::write_log::{WriteLog, room_for_writes};
-use card_bench::{COMMAND_LIMIT, Came, Desk, NoCard, Order, image_board};
+use card_bench::{COMMAND_LIMIT, LineResult, Desk, NoCard, Order, image_board};
 use card_core::{FreeSpace, StartFault};
 use circular_buffer::HeapCircularBuffer;
 use kept_board::KeptBoard;
@@ -83,7 +83,7 @@ impl Outcome {
 /// The result of an order, and its bytes.
 #[derive(Drop)]
 pub struct Told {
-    pub came: Came,
+    pub came: LineResult,
     pub bytes: AnswerBytes,
 }
 
@@ -93,10 +93,10 @@ impl Told {
         ensures { result ≡ print_outcome (told_print self.now) }
     {
         match self.came {
-            Came::Mute => Outcome::Mute,
-            Came::Dark => Outcome::Dark,
-            Came::Lost => Outcome::Lost,
-            Came::Nothing | Came::Atr | Came::Answer | Came::Block | Came::Free(_) => Outcome::Done,
+            LineResult::Mute => Outcome::Mute,
+            LineResult::Dark => Outcome::Dark,
+            LineResult::Lost => Outcome::Lost,
+            LineResult::Nothing | LineResult::Atr | LineResult::Answer | LineResult::Block | LineResult::Free(_) => Outcome::Done,
         }
     }
 
@@ -106,8 +106,8 @@ impl Told {
         ensures { Copies out.new result (told_print self.now) }
     {
         match self.came {
-            Came::Answer | Came::Block => copy(&self.bytes, out),
-            Came::Nothing | Came::Atr | Came::Mute | Came::Dark | Came::Lost | Came::Free(_) => 0,
+            LineResult::Answer | LineResult::Block => copy(&self.bytes, out),
+            LineResult::Nothing | LineResult::Atr | LineResult::Mute | LineResult::Dark | LineResult::Lost | LineResult::Free(_) => 0,
         }
     }
 
@@ -116,14 +116,14 @@ impl Told {
         ensures { ReportsSpace result.blocks result.entries (told_print self.now) }
     {
         match self.came {
-            Came::Free(free) => free,
-            Came::Nothing
-            | Came::Atr
-            | Came::Mute
-            | Came::Dark
-            | Came::Lost
-            | Came::Answer
-            | Came::Block => FreeSpace {
+            LineResult::Free(free) => free,
+            LineResult::Nothing
+            | LineResult::Atr
+            | LineResult::Mute
+            | LineResult::Dark
+            | LineResult::Lost
+            | LineResult::Answer
+            | LineResult::Block => FreeSpace {
                 blocks: 0,
                 entries: 0,
             },
