@@ -7,7 +7,8 @@ use crate::kept_file::{CardBoard, KeptFile, PAGE_BYTES};
 use crate::options::CardOptions;
 use card_bench::{NoCard, factory_board_of, image_board};
 use kept_board::KeptBoard;
-use nvm_board::{CutBoard, LEAST_PAGES, MOST_PAGES};
+use nvm_board::{LEAST_PAGES, MOST_PAGES};
+use simulated_boards::CutBoard;
 use std::alloc::Global;
 use std::fs::{self, File, OpenOptions, TryLockError};
 use std::io::{self, ErrorKind, Read, Write};
@@ -51,11 +52,7 @@ pub fn open_card(rt: &HostRuntime, options: &CardOptions) -> Result<CardBoard, C
 }
 
 /// Returns the card in an open file.
-fn read_card(
-    alloc: Global,
-    mut file: File,
-    options: &CardOptions,
-) -> Result<CardBoard, CardFault>
+fn read_card(alloc: Global, mut file: File, options: &CardOptions) -> Result<CardBoard, CardFault>
     ensures { IfOk result (λ board. HasCard (kept_facts board).words) }
 {
     lock(&file)?;

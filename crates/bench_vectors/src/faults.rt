@@ -5,7 +5,7 @@ use crate::replies::is_reply;
 use card_bench::{Bench, Item, Turn};
 use card_vectors::fixtures::formatted;
 use link_vectors::fixtures::framed;
-use nvm_board::FaultBoard;
+use simulated_boards::FaultBoard;
 use std::alloc::Global;
 use std::process::Abort;
 use std::test::Fail;

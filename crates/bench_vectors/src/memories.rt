@@ -2,7 +2,7 @@
 
 use card_bench::{Bench, Item, Turn};
 use card_vectors::fixtures::formatted;
-use nvm_board::CutBoard;
+use simulated_boards::CutBoard;
 use std::test::Fail;
 use store_vectors::fixtures::with_words;
 

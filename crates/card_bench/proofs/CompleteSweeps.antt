@@ -112,7 +112,7 @@ pub counts-mask : {B : Type 0} (facts : B → Facts) (torn : B
 counts-mask facts torn depth number words i board left prepare command probe old between new told some cut behind =
     counts-next (AreOfMask facts torn board prepare command probe depth number words) i old between new some
     (counts-weaker (AreAllBehind depth probe (facts left))
-        (AreOfMask facts torn board prepare command probe depth number
+    (AreOfMask facts torn board prepare command probe depth number
     words i) between new (λ all these. record { left = left; cut = cut; words_told = told; behind = these }) behind)
 
 -- a mask by what is told of it
@@ -188,7 +188,7 @@ pub counts-command : {B : Type 0} (facts : B → Facts) (torn : B
 counts-command facts torn depth writes board prepare command probe old between new each last =
     counts-both (InTurn (λ n. AreOfWrite facts torn board prepare command probe depth (n + 1)) writes)
     (AreOfLastWrite facts torn board prepare command probe depth (writes + 1))
-        (AreAllRuns facts torn board prepare command probe depth) old
+    (AreAllRuns facts torn board prepare command probe depth) old
     between new (λ before end parts one. record {
       writes = writes;
       before = before;

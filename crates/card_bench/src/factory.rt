@@ -1,13 +1,14 @@
 //! The factory card on a new board.
 ghost use Rattle.std.specs.Prelude.{◌≡◌, ◌≤◌, ◌-◌, None, IfOk};
 ghost use Rattle.nvm_board.specs.declared.board.TheConstants.{LEAST_PAGES, MOST_PAGES};
-ghost use Rattle.nvm_board.specs.Cut.{cut_facts};
+ghost use Rattle.simulated_boards.specs.Cut.{cut_facts};
 ghost use Rattle.card_core.specs.Factory.{factory_card};
 ghost use Rattle.command_base.specs.Finding.{Finds};
 ghost use Rattle.card_bench.specs.Prints.{IsJustWritten, IsNewlyWritten};
 
 use card_core::format;
-use nvm_board::{CutBoard, LEAST_PAGES};
+use nvm_board::LEAST_PAGES;
+use simulated_boards::CutBoard;
 use std::alloc::{AllocError, Global};
 
 /// Returns a new board with the factory card.

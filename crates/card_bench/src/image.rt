@@ -1,13 +1,13 @@
 //! A board of a memory image.
 ghost use Rattle.std.specs.Prelude.{◌≡◌, IfOk, IfErr};
-ghost use Rattle.nvm_board.specs.Cut.{cut_facts};
-ghost use Rattle.nvm_board.specs.Given.{board_with};
+ghost use Rattle.simulated_boards.specs.Cut.{cut_facts};
+ghost use Rattle.simulated_boards.specs.Given.{board_with};
 ghost use Rattle.command_base.specs.Finding.{HasCard};
 ghost use Rattle.card_bench.specs.Images.{IsRefusedRightly};
 
 use card_core::StartFault;
 use card_turns::Powered;
-use nvm_board::CutBoard;
+use simulated_boards::CutBoard;
 use std::alloc::Global;
 
 /// Why an image is no card's.

@@ -2,7 +2,8 @@
 ghost use Rattle.std.specs.Prelude.{◌≡◌, ◌≤◌, ℕ, is_some, IfOk};
 ghost use Rattle.nvm_board.specs.declared.board.TheConstants.{PAGE_WORDS};
 
-use nvm_board::{Armed, CutBoard, Faultless};
+use nvm_board::{Armed, Faultless};
+use simulated_boards::CutBoard;
 use std::alloc::{AllocError, Global};
 
 /// A board without faults that can be copied, and reports on the power cut that is set on it.
@@ -28,7 +29,7 @@ pub trait Sweepable: Armed + Faultless {
 }
 
 impl Sweepable for CutBoard {
-    ghost use Rattle.nvm_board.specs.Cut.{last_torn};
+    ghost use Rattle.simulated_boards.specs.Cut.{last_torn};
 
     ghost torn = { last_torn };
 

@@ -1,7 +1,7 @@
 //! Cuts a command at each of its writes, and the power-ons after it too.
 ghost use Rattle.std.specs.Prelude.{◌≡◌, ◌⊎◌, ◌≤◌, ◌<◌, ◌^◌, ◌-◌, ◌+◌, [], sum_by, All, AllPairs, ◌≢◌, None, IfOk};
 ghost use Rattle.std.specs.Prelude.{IfErr, OnOk, IfSome, IfNone, is_some, true, false, IsSome};
-ghost use Rattle.nvm_board.specs.Cut.{cut_facts};
+ghost use Rattle.simulated_boards.specs.Cut.{cut_facts};
 ghost use Rattle.card_turns.specs.declared.playing.Item.TheVariants.{Dark};
 ghost use Rattle.command_base.specs.Finding.{HasCard};
 ghost use Rattle.card_turns.specs.Plays.{IsGood};
@@ -19,7 +19,7 @@ use crate::sweepable::Sweepable;
 use crate::tally::{Sweep, Trace, blank_trace};
 use card_core::FreeSpace;
 use card_turns::{Bench, Turn, TurnResult};
-use nvm_board::CutBoard;
+use simulated_boards::CutBoard;
 use std::alloc::{AllocError, Global};
 use t1_link::BlockBytes;
 

@@ -2,7 +2,8 @@
 
 use crate::fixtures::{formatted, formatted_old};
 use card_core::{Card, FreeSpace, StartFault, format};
-use nvm_board::{Armed, Board, CutBoard, DeviceErr, RamBoard, Socket};
+use nvm_board::{Armed, Board, DeviceErr, Socket};
+use simulated_boards::{CutBoard, RamBoard};
 use std::alloc::Global;
 use std::test::Fail;
 use store_vectors::fixtures::with_words;

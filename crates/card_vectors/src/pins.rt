@@ -3,8 +3,9 @@ ghost use Rattle.undo_journal.specs.Memory.{IsReady};
 
 use crate::fixtures::formatted;
 use card_state::PinNumber;
-use nvm_board::{Board, RamBoard};
+use nvm_board::Board;
 use pin_store::{Outcome, Secret, are_pins, charge, settle};
+use simulated_boards::RamBoard;
 use std::test::Fail;
 use store_vectors::fixtures::opened;
 use undo_journal::{Store, StoreErr};

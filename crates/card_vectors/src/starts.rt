@@ -3,7 +3,8 @@
 
 use crate::fixtures::{formatted, formatted_old};
 use card_core::{Card, StartFault};
-use nvm_board::{Armed, Board, CutBoard, FaultBoard};
+use nvm_board::{Armed, Board};
+use simulated_boards::{CutBoard, FaultBoard};
 use std::alloc::Global;
 use std::test::Fail;
 use store_vectors::fixtures::with_words;

@@ -3,7 +3,8 @@
 use crate::fixtures::formatted;
 use crate::standing::{GATE as GATE_ADDRESS, Start, start_of};
 use card_core::{Card, StartFault};
-use nvm_board::{Board, CutBoard};
+use nvm_board::Board;
+use simulated_boards::CutBoard;
 use std::alloc::Global;
 use std::process::Abort;
 use std::test::Fail;

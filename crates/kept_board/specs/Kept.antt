@@ -1,6 +1,6 @@
 -- What contracts know of a board that something follows.
 use Rattle.nvm_board.specs.Facts.{Facts}
-use Rattle.nvm_board.specs.Cut.{cut_facts}
+use Rattle.simulated_boards.specs.Cut.{cut_facts}
 use Rattle.kept_board.specs.declared.kept_board.KeptBoard.{KeptBoard}
 
 -- those of the board in working memory: a file that falls behind is no fault of it

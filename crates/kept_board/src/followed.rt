@@ -1,7 +1,8 @@
 //! Whether something outside of a board has its words.
 ghost use Rattle.std.specs.Prelude.{◌≡◌, Bool, true};
 
-use nvm_board::{Board, CutBoard};
+use nvm_board::Board;
+use simulated_boards::CutBoard;
 
 /// A board of which something outside, such as a file, may follow the words.
 pub trait Followed: Board {

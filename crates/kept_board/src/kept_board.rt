@@ -1,11 +1,12 @@
 //! A board in working memory whose words a follower has too.
 ghost use Rattle.std.specs.Prelude.{◌≡◌, ◌+◌, ◌≤◌, length};
-ghost use Rattle.nvm_board.specs.Cut.{cut_facts};
+ghost use Rattle.simulated_boards.specs.Cut.{cut_facts};
 ghost use Rattle.nvm_board.specs.declared.board.TheConstants.{PAGE_WORDS};
 
 use crate::followed::Followed;
 use crate::follower::Follower;
-use nvm_board::{Armed, Board, CutBoard, DeviceErr, Faultless, PAGE_WORDS, Socket, WornOut};
+use nvm_board::{Armed, Board, DeviceErr, Faultless, PAGE_WORDS, Socket, WornOut};
+use simulated_boards::CutBoard;
 
 /// A board in working memory that can be cut, and its follower, if it has one. The follower is handed the words of each
 /// device write, once, in order, as the write left them: of a torn one too. A follower that fails changes nothing of the
@@ -72,8 +73,8 @@ impl<F: Follower> Board for KeptBoard<F> {
     ghost use Rattle.nvm_board.specs.declared.board.TheConstants.{SECRETS};
     ghost use Rattle.nvm_board.specs.BoardCalls.{TellsWord, FitsPage, Writes, Compares};
     ghost use Rattle.nvm_board.specs.Facts.{address};
-    ghost use Rattle.nvm_board.specs.Cut.{cut_facts, WritesOrTears};
-    ghost use Rattle.nvm_board.specs.laws.Counts.{cut_is_board};
+    ghost use Rattle.simulated_boards.specs.Cut.{cut_facts, WritesOrTears};
+    ghost use Rattle.simulated_boards.specs.laws.Counts.{cut_is_board};
     ghost use Rattle.kept_board.specs.Handed.{HandsOn, handed_to};
     ghost use Rattle.kept_board.specs.Kept.{kept_facts};
 

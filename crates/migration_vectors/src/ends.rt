@@ -2,7 +2,8 @@
 
 use card_core::MemoryFormat;
 use card_vectors::standing::{put, undo, word};
-use nvm_board::{Board, CutBoard};
+use nvm_board::Board;
+use simulated_boards::CutBoard;
 use std::alloc::Global;
 use std::test::Fail;
 

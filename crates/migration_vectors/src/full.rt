@@ -2,7 +2,7 @@
 
 use crate::starts::{DONE, answers, is_factory_card, makes_writes, new_board, old_board, started};
 use card_core::{Card, FreeSpace};
-use nvm_board::CutBoard;
+use simulated_boards::CutBoard;
 use std::process::Abort;
 use std::test::Fail;
 

@@ -6,7 +6,7 @@ use crate::generator::Generator;
 use crate::starts::{Ending, answers, makes_writes, start_cut, started};
 use card_core::{Card, FreeSpace, MemoryFormat};
 use card_vectors::standing::{Start, put, start_of};
-use nvm_board::CutBoard;
+use simulated_boards::CutBoard;
 use std::process::Abort;
 use std::test::Fail;
 

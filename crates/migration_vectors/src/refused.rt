@@ -4,7 +4,8 @@
 use crate::ends::{with_all_words, words_of};
 use crate::starts::{is_factory_card, makes_writes, new_board, old_board, started};
 use card_core::{Card, StartFault};
-use nvm_board::{Armed, Board, CutBoard};
+use nvm_board::{Armed, Board};
+use simulated_boards::CutBoard;
 use std::alloc::Global;
 use std::test::Fail;
 use store_vectors::fixtures::with_words;

@@ -3,7 +3,8 @@ ghost use Rattle.std.specs.Prelude.{◌≤◌};
 
 use card_core::{Answer, Card, FreeSpace, StartFault};
 use card_vectors::fixtures::{formatted, formatted_old};
-use nvm_board::{Armed, CutBoard, Socket};
+use nvm_board::{Armed, Socket};
+use simulated_boards::CutBoard;
 use std::alloc::Global;
 use std::test::Fail;
 

@@ -1,9 +1,5 @@
 pub mod Facts
 pub mod Aims
 pub mod Torn
-pub mod Ram
-pub mod Given
-pub mod Cut
-pub mod Faulty
 pub mod BoardCalls
 pub mod laws

@@ -1,5 +1,4 @@
 -- Laws of the definitions, with their proofs.
 pub mod Aims
-pub mod Counts
 pub mod Sizes
 pub mod Torn

@@ -2,12 +2,12 @@
 //! finding.
 
 ghost use Rattle.std.specs.Prelude.{◌≡◌, None, IfOk};
-ghost use Rattle.nvm_board.specs.Cut.{cut_facts};
+ghost use Rattle.simulated_boards.specs.Cut.{cut_facts};
 
 use card_bench::{Item, Seen, Sweep, Turn, sweep};
 use card_vectors::fixtures::formatted;
 use link_vectors::fixtures::framed;
-use nvm_board::CutBoard;
+use simulated_boards::CutBoard;
 use std::alloc::{AllocError, Global};
 use std::process::Abort;
 use std::test::Fail;

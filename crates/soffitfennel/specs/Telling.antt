@@ -2,7 +2,7 @@
 use Rattle.std.specs.Prelude.{◌≡◌, ◌≢◌, ◌≤◌, ◌<◌, ◌*◌, ◌⊎◌, ℕ, ℤ, pos, Bool, List, [], ◌∷◌, Option, None, Some}
 use Rattle.std.specs.Prelude.{Result, Ok, Err, length, take, map}
 use Rattle.nvm_board.specs.Facts.{IsMemory}
-use Rattle.nvm_board.specs.Given.{board_with}
+use Rattle.simulated_boards.specs.Given.{board_with}
 use Rattle.kept_board.specs.Handed.{Run}
 use Rattle.kept_board.specs.Kept.{kept_facts}
 use Rattle.kept_board.specs.declared.kept_board.KeptBoard.{KeptBoard}

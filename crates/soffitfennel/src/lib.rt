@@ -11,7 +11,7 @@ ghost use Rattle.std.specs.Prelude.{◌≡◌, ◌≢◌, ◌≤◌, ◌<◌, No
 ghost use Rattle.bench_lines.specs.Orders.{IsOrderSized, On, Off, Apdu, Block, Cut, Lose, Garble};
 ghost use Rattle.bench_lines.specs.OrderViews.{order_with};
 ghost use Rattle.command_base.specs.Finding.{HasCard};
-ghost use Rattle.nvm_board.specs.Cut.{cut_facts};
+ghost use Rattle.simulated_boards.specs.Cut.{cut_facts};
 ghost use Rattle.soffitfennel.specs.SessionStates.{begun_at};
 ghost use Rattle.soffitfennel.specs.Telling.{AnswersOrder, FitsCall, IsFactoryFresh, ReadsWords, Refuses, RefusesWords};
 ghost use Rattle.soffitfennel.specs.Telling.{ReturnsSpace, TakesFrom, TakesWrite, Tells, TellsBytes, TellsWords};
@@ -26,7 +26,7 @@ use crate::session::{
 use crate::write::{WRITE_BYTES, Write};
 use card_bench::{Order, factory_board};
 use core::mem::replace_with;
-use nvm_board::CutBoard;
+use simulated_boards::CutBoard;
 use std::alloc::Global;
 
 /// An order with its bytes, and the allocator of the card that runs it.

@@ -7,8 +7,8 @@ ghost use Rattle.card_bench.specs.Prints.{IsJustWritten};
 ghost use Rattle.card_core.specs.Factory.{factory_card};
 ghost use Rattle.card_turns.specs.BenchStates.{bench_facts};
 ghost use Rattle.command_base.specs.Finding.{Finds, HasCard};
-ghost use Rattle.nvm_board.specs.Cut.{cut_facts};
-ghost use Rattle.nvm_board.specs.Given.{board_with};
+ghost use Rattle.simulated_boards.specs.Cut.{cut_facts};
+ghost use Rattle.simulated_boards.specs.Given.{board_with};
 ghost use Rattle.soffitfennel.specs.SessionStates.{begun_at};
 ghost use Rattle.soffitfennel.specs.Telling.{Copies, CopiesOut, FitsCall, LogsWrites, LosesWrites, RefusesWords};
 ghost use Rattle.soffitfennel.specs.Telling.{ReportsSpace, TakesOldest, TellsResult};
@@ -17,11 +17,12 @@ ghost use Rattle.soffitfennel.specs.LoggedWrites.{log_room};
 
 use crate::write::Write;
 use crate::write_log::{WriteLog, room_for_writes};
-use card_bench::{COMMAND_LIMIT, LineResult, Desk, NoCard, Order, image_board};
+use card_bench::{COMMAND_LIMIT, Desk, LineResult, NoCard, Order, image_board};
 use card_core::{FreeSpace, StartFault};
 use circular_buffer::HeapCircularBuffer;
 use kept_board::KeptBoard;
-use nvm_board::{CutBoard, has_no_fault};
+use nvm_board::has_no_fault;
+use simulated_boards::CutBoard;
 use std::alloc::{AllocError, Global};
 use std::marker::Model;
 use t1_link::{AnswerBytes, LONGEST_ANSWER};
@@ -96,7 +97,11 @@ impl Told {
             LineResult::Mute => Outcome::Mute,
             LineResult::Dark => Outcome::Dark,
             LineResult::Lost => Outcome::Lost,
-            LineResult::Nothing | LineResult::Atr | LineResult::Answer | LineResult::Block | LineResult::Free(_) => Outcome::Done,
+            LineResult::Nothing
+            | LineResult::Atr
+            | LineResult::Answer
+            | LineResult::Block
+            | LineResult::Free(_) => Outcome::Done,
         }
     }
 
@@ -107,7 +112,12 @@ impl Told {
     {
         match self.came {
             LineResult::Answer | LineResult::Block => copy(&self.bytes, out),
-            LineResult::Nothing | LineResult::Atr | LineResult::Mute | LineResult::Dark | LineResult::Lost | LineResult::Free(_) => 0,
+            LineResult::Nothing
+            | LineResult::Atr
+            | LineResult::Mute
+            | LineResult::Dark
+            | LineResult::Lost
+            | LineResult::Free(_) => 0,
         }
     }
 

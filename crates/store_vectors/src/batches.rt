@@ -6,7 +6,8 @@ ghost use Rattle.undo_journal.specs.Lent.{memory_of};
 
 use crate::endings::{End, MASKS};
 use crate::fixtures::opened;
-use nvm_board::{Armed, Board, CutBoard, Socket};
+use nvm_board::{Armed, Board, Socket};
+use simulated_boards::CutBoard;
 use std::alloc::Global;
 use std::process::Abort;
 use std::test::Fail;

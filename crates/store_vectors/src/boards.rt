@@ -1,6 +1,7 @@
 //! Boards: a mask tears the armed write, an armed cut survives a power-off, and secrets are compared.
 
-use nvm_board::{Armed, Board, CutBoard, DeviceErr, FaultBoard, RamBoard, Socket};
+use nvm_board::{Armed, Board, DeviceErr, Socket};
+use simulated_boards::{CutBoard, FaultBoard, RamBoard};
 use std::alloc::Global;
 use std::test::Fail;
 

@@ -6,7 +6,8 @@ ghost use Rattle.undo_journal.specs.Lent.{memory_of};
 
 use crate::endings::{End, MASKS};
 use crate::fixtures::{opened, with_words};
-use nvm_board::{Armed, Board, CutBoard, DeviceErr, Socket};
+use nvm_board::{Armed, Board, DeviceErr, Socket};
+use simulated_boards::CutBoard;
 use std::alloc::Global;
 use std::process::Abort;
 use std::test::Fail;

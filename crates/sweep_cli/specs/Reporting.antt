@@ -3,8 +3,8 @@ use Rattle.std.specs.Prelude.{◌≡◌, ◌⊎◌, ◌≤◌, ◌<◌, ◌+◌,
 use Rattle.std.specs.Prelude.{◌++◌, codes, Option}
 use Rattle.std.specs.Io.KnownBytes.{Appends}
 use Rattle.nvm_board.specs.Facts.{Facts}
-use Rattle.nvm_board.specs.declared.cut_board.CutBoard.{CutBoard}
-use Rattle.nvm_board.specs.Cut.{cut_facts, last_torn}
+use Rattle.simulated_boards.specs.declared.cut_board.CutBoard.{CutBoard}
+use Rattle.simulated_boards.specs.Cut.{cut_facts, last_torn}
 use Rattle.card_turns.specs.declared.playing.Turn.{Turn}
 use Rattle.card_turns.specs.declared.playing.Item.{Item}
 use Rattle.card_bench.specs.declared.tally.Seen.{Seen}

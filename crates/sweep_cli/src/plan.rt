@@ -1,6 +1,6 @@
 //! The plan of a sweep, and the parts of its report.
 ghost use Rattle.std.specs.Prelude.{◌≡◌, ◌≤◌, ◌<◌, ◌/◌, ◌-◌, ℕ, OnOk, IfOk, IfSome, IfNone, string_bytes};
-ghost use Rattle.nvm_board.specs.Cut.{cut_facts};
+ghost use Rattle.simulated_boards.specs.Cut.{cut_facts};
 ghost use Rattle.command_base.specs.Finding.{HasCard};
 ghost use Rattle.card_bench.specs.Masks.{mask_count_of};
 ghost use Rattle.card_bench.specs.Sweeps.{CutsCommand};
@@ -13,7 +13,7 @@ use crate::device_writes::{DeviceWrite, push_kinds};
 use crate::lines::{cut_head, push_results, push_total, stage_head};
 use crate::parts::SweepPart;
 use card_bench::{Turn, cut_at, mask_at, mask_count, play_copy, sweep_behind, words_to_try};
-use nvm_board::CutBoard;
+use simulated_boards::CutBoard;
 use std::alloc::{AllocError, Global};
 
 /// The plan of a sweep. Each run uses a copy of the board.

@@ -1,7 +1,7 @@
 //! The report of a sweep.
 ghost use Rattle.std.specs.Prelude.{◌≡◌, ◌≢◌, ◌++◌, ◌∷◌, [], None, OnOk, OnErr, IfOk, IfErr, take, ℕ, string_bytes};
 ghost use Rattle.std.specs.Io.KnownBytes.{Appends};
-ghost use Rattle.nvm_board.specs.Cut.{cut_facts};
+ghost use Rattle.simulated_boards.specs.Cut.{cut_facts};
 ghost use Rattle.command_base.specs.Finding.{HasCard};
 ghost use Rattle.sweep_cli.specs.ReportParts.{AddsText, sweeping_of};
 ghost use Rattle.sweep_cli.specs.Reporting.{HasSections, IsReport, WritesReport};
@@ -14,7 +14,7 @@ use crate::plan::{Plan, push_first_part, push_stage, push_writes};
 use crate::script::{SweepScript, read_script};
 use crate::steps::{Step, turns_of};
 use card_bench::Turn;
-use nvm_board::CutBoard;
+use simulated_boards::CutBoard;
 use std::alloc::{AllocError, Global};
 use std::io::{BufRead, Write};
 

@@ -1,12 +1,13 @@
 //! The board that is swept: with the factory card, or with the card in a file.
 ghost use Rattle.std.specs.Prelude.{◌≡◌, None, IfOk};
-ghost use Rattle.nvm_board.specs.Cut.{cut_facts};
+ghost use Rattle.simulated_boards.specs.Cut.{cut_facts};
 ghost use Rattle.card_core.specs.Factory.{factory_card};
 ghost use Rattle.command_base.specs.Finding.{Finds, HasCard};
 ghost use Rattle.card_bench.specs.Prints.{IsJustWritten};
 
 use card_bench::{NoCard, factory_board, image_board};
-use nvm_board::{CutBoard, MOST_PAGES, PAGE_WORDS};
+use nvm_board::{MOST_PAGES, PAGE_WORDS};
+use simulated_boards::CutBoard;
 use std::alloc::{AllocError, Global};
 use std::fs::{self, File, TryLockError};
 use std::io::{self, ErrorKind, Read};

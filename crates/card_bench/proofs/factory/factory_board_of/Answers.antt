@@ -2,8 +2,8 @@ use Rattle.std.specs.Prelude.{Err, IfErr, IsOk, Ok, Result}
 use Rattle.std.proofs.Common.{◌≡◌, ◌≤◌, ℕ, refl, subst}
 use Rattle.nvm_board.specs.declared.board.DeviceErr.{DeviceErr}
 use Rattle.nvm_board.specs.declared.board.TheConstants.{MOST_PAGES}
-use Rattle.nvm_board.specs.declared.cut_board.CutBoard.{CutBoard}
-use Rattle.nvm_board.specs.Cut.{cut_facts}
+use Rattle.simulated_boards.specs.declared.cut_board.CutBoard.{CutBoard}
+use Rattle.simulated_boards.specs.Cut.{cut_facts}
 use Rattle.nvm_board.specs.Facts.{Answered, Facts, new_board}
 use Rattle.undo_journal.specs.Spending.{WritesAtMost}
 use Rattle.card_core.specs.declared.memory_format.MemoryFormat.TheVariants.{Two}

@@ -14,8 +14,8 @@ returns-clause-spared g c =
     ] in
     if-none c.cut_board.result _ _
     (λ spared card. spares-command _ _ _ _ _ _ _ _ _ _
-        (g.met.B.Faultless.faultless c.args.plan.now.board.now).faults
-        (g.met.B.Faultless.faultless c.args.plan.now.board.now).due
+    (g.met.B.Faultless.faultless c.args.plan.now.board.now).faults
+    (g.met.B.Faultless.faultless c.args.plan.now.board.now).due
     (c.new-bench.ensures ∙ ap off_with c.in_ok-copy.ensures) c.into_board.ensures lit spared card _ _ _
     c.args.plan.now.command c.in_ok-played.ensures c.arm_well.ensures.good c.arm_well.ensures.armed
     c.turn_well-turned.ensures)
@@ -29,7 +29,7 @@ returns-clause-cut g c =
     ] in
     IfSome_then c.cut_board.result c.cut_board.ensures.cut
     (λ left fell card. cuts-command _ _ _ _ _ _ _ _ _ (g.met.B.Faultless.faultless c.args.plan.now.board.now).faults
-        (g.met.B.Faultless.faultless c.args.plan.now.board.now).due
+    (g.met.B.Faultless.faultless c.args.plan.now.board.now).due
     (c.new-bench.ensures ∙ ap off_with c.in_ok-copy.ensures) (ap g.B.Board.facts fell.0 ∙ c.into_board.ensures)
     (lost fell.1) fell.2 card _ _ _
     c.args.plan.now.command c.in_ok-played.ensures c.arm_well.ensures.good

@@ -27,7 +27,7 @@ loop-i-preserved g c =
     let mask : c.mask_at.result ≡ mask_of words c.loop-i.i =
     mask-is words c.loop-i.i c.mask_at.result c.mask_at.ensures.none c.mask_at.ensures.all c.mask_at.ensures.single in
     let Cuts : ℕ → Type 0 = λ m. CutsCommand c.args.k m
-        (board_of g.B.Board.facts c.args.plan.now) c.args.plan.now.prepare.now
+    (board_of g.B.Board.facts c.args.plan.now) c.args.plan.now.prepare.now
     c.args.plan.now.command.now (g.B.Board.facts c.in-Some-2.torn) in
     let later : c.loop-i.i ≡ 0 → words ≡ words_tried (g.B.Sweepable.torn c.in-Some-2.torn) = λ first.
     absurd (omega (arith, first)) in
@@ -80,7 +80,7 @@ returns-in_default-2 g c = record {
       c.args.plan.now.prepare.now c.args.plan.now.command.now in
       let few : c.loop-i.i < mask_count_of words = omega (arith, c.loop-i-test.true, c.mask_count-i-end.ensures) in
       counts-last g.B.Board.facts g.B.Sweepable.torn _ _ words c.loop-i.i _ _ _ _ _ _ few
-          (c.loop-i.invariant.counted card)
+      (c.loop-i.invariant.counted card)
       (subst Spares mask (spared card));
   full = search rules;
 }
@@ -105,7 +105,7 @@ returns g c = record {
       let end : c.loop-i.i ≡ mask_count_of words =
       omega (arith, tried, c.loop-i-test.false, c.loop-i.auto.i-end, c.mask_count-i-end.ensures) in
       counts-write g.B.Board.facts g.B.Sweepable.torn _ _ words c.loop-i.i _ _ _ _ _ _
-          c.words_to_try-words.ensures.some c.words_to_try-words.ensures.fits
+      c.words_to_try-words.ensures.some c.words_to_try-words.ensures.fits
       end (c.loop-i.invariant.counted card);
   full = search rules;
 }

@@ -11,11 +11,11 @@ returns g c = record {
       (λ f same. subst (EndsIn (g.B.Board.facts c.args.board.now) c.args.probe.now) (sym same)
       (ends-in (g.B.Board.facts c.args.board.now) c.args.probe.now _ _
       _ _ _ _ _ (g.met.B.Faultless.faultless c.args.board.now).faults
-          (g.met.B.Faultless.faultless c.args.board.now).due (c.new-bench.ensures ∙ ap off_with c.in_ok-copy.ensures)
+      (g.met.B.Faultless.faultless c.args.board.now).due (c.new-bench.ensures ∙ ap off_with c.in_ok-copy.ensures)
       c.turn_well.ensures c.free_space_of-free.ensures c.in_ok-trace.ensures card)) c.count.ensures.adds;
   complete = λ card.
       let end = ends-in (g.B.Board.facts c.args.board.now) c.args.probe.now _ _ _ _ _ _ _
-          (g.met.B.Faultless.faultless c.args.board.now).faults (g.met.B.Faultless.faultless c.args.board.now).due
+      (g.met.B.Faultless.faultless c.args.board.now).faults (g.met.B.Faultless.faultless c.args.board.now).due
       (c.new-bench.ensures ∙ ap off_with c.in_ok-copy.ensures) c.turn_well.ensures c.free_space_of-free.ensures
       c.in_ok-trace.ensures card in
       counts-one _ _ _ _ _ end c.in_ok-count.ensures.counts;
@@ -28,7 +28,7 @@ returns-in_err-count g c = record {
       (λ f same. subst (EndsIn (g.B.Board.facts c.args.board.now) c.args.probe.now) (sym same)
       (ends-in (g.B.Board.facts c.args.board.now) c.args.probe.now _ _
       _ _ _ _ _ (g.met.B.Faultless.faultless c.args.board.now).faults
-          (g.met.B.Faultless.faultless c.args.board.now).due (c.new-bench.ensures ∙ ap off_with c.in_ok-copy.ensures)
+      (g.met.B.Faultless.faultless c.args.board.now).due (c.new-bench.ensures ∙ ap off_with c.in_ok-copy.ensures)
       c.turn_well.ensures c.free_space_of-free.ensures c.in_ok-trace.ensures card)) c.count.ensures.adds;
   complete = search rules;
   full = search rules;

@@ -1,5 +1,5 @@
 use Rattle.command_base.specs.Finding.{HasCard}
-use Rattle.nvm_board.specs.Cut.{cut_facts}
+use Rattle.simulated_boards.specs.Cut.{cut_facts}
 use Rattle.sweep_cli.specs.ReportParts.{sweeping_of}
 use Rattle.sweep_cli.specs.Reporting.{WritesInTurn}
 use Rattle.sweep_cli.proofs.plan.device_writes.Given as goal

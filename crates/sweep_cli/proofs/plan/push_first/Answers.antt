@@ -1,5 +1,5 @@
 use Rattle.std.proofs.Common.{◌∙◌, refl, sym, true≢false}
-use Rattle.nvm_board.specs.Cut.{cut_facts}
+use Rattle.simulated_boards.specs.Cut.{cut_facts}
 use Rattle.sweep_cli.specs.ReportParts.{sweeping_of}
 use Rattle.sweep_cli.proofs.Put.{on-ok}
 use Rattle.sweep_cli.proofs.Reported.{cut-put, none-put}

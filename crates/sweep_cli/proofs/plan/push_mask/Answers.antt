@@ -1,5 +1,5 @@
 use Rattle.std.proofs.Common.{◌∙◌, sym, true≢false}
-use Rattle.nvm_board.specs.Cut.{cut_facts}
+use Rattle.simulated_boards.specs.Cut.{cut_facts}
 use Rattle.sweep_cli.specs.ReportParts.{sweeping_of}
 use Rattle.sweep_cli.proofs.Reported.{cut-put, mask-is, none-put}
 use Rattle.sweep_cli.proofs.plan.push_mask.Goals as goal

@@ -1,6 +1,6 @@
 use Rattle.std.proofs.Common.{string_bytes}
 use Rattle.command_base.specs.Finding.{HasCard}
-use Rattle.nvm_board.specs.Cut.{cut_facts}
+use Rattle.simulated_boards.specs.Cut.{cut_facts}
 use Rattle.sweep_cli.specs.ReportParts.{AddsText, sweeping_of}
 use Rattle.sweep_cli.specs.Reporting.{TextsInTurn, IsCutOrNone}
 use Rattle.sweep_cli.proofs.plan.push_write.Given as goal

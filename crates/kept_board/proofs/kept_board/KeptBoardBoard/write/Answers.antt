@@ -1,9 +1,9 @@
 use Rattle.std.proofs.Common.{◌≡◌, ◌≤◌, ◌+◌, ◌*◌, ℕ, Bool, false, List, length, Option, Some, None, is_some, refl, ap, arith}
 use Rattle.std.proofs.Common.{true≢false, not, ◌∙◌}
 use Rattle.kept_board.specs.Handed.{HandsOn, Run, handed_to}
-use Rattle.nvm_board.specs.Cut.{cut_facts}
+use Rattle.simulated_boards.specs.Cut.{cut_facts}
 use Rattle.nvm_board.specs.Facts.{address}
-use Rattle.nvm_board.specs.laws.Counts.{cut_is_board}
+use Rattle.simulated_boards.specs.laws.Counts.{cut_is_board}
 use Rattle.nvm_board.specs.laws.Sizes.{page_within}
 use Rattle.nvm_board.specs.laws.Torn.{IsMixture-Torn}
 use Rattle.kept_board.proofs.kept_board.KeptBoardBoard.write.Goals as goal
