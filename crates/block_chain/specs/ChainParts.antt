@@ -2,15 +2,12 @@
 use Rattle.std.specs.Prelude.{◌≡◌, ◌<◌, ◌≤◌, ◌+◌, ◌-◌, ◌&&◌, ℕ, List, length, slice_index, nat_le, nat_lt}
 use Rattle.std.specs.Prelude.{if◌then◌else◌, ◌*◌, ◌%◌, [], ◌∷◌, slice_set}
 use Rattle.nvm_board.specs.Facts.{address}
-use Rattle.undo_journal.specs.StoreCalls.{OnlyReads}
-use Rattle.undo_journal.specs.Memory.{Memory, Joins}
 use Rattle.nvm_board.specs.declared.board.TheConstants.{MOST_PAGES}
 use Rattle.block_chain.specs.Chains.{Leads, chain}
 use Rattle.block_chain.specs.Counts.{count, IsNotIn}
 use Rattle.block_chain.specs.BlockWords.{word, word_bytes}
 use Rattle.block_chain.specs.declared.chain.Chain.{Chain}
 use Rattle.block_chain.specs.declared.layout.TheConstants.{FREE_HEAD, FIRST_BLOCK_PAGE, BLOCK_WORDS}
-use Rattle.block_chain.specs.declared.walk.Walked.{Walked}
 
 -- The byte at index `at` after bytes are written from an offset on.
 abbrev pub byte_over : ℕ → List ℕ → ℕ → ℕ → ℕ
@@ -24,13 +21,6 @@ pub record PutsWord (m : List ℕ) (page k offset : ℕ) (bytes after : List ℕ
   pub over : (place : ℕ) → place < 4
       → slice_index (word_bytes put) place ≡ byte_over offset bytes (4 * k + place)
       (slice_index (word_bytes (word m page (1 + k % BLOCK_WORDS))) place)
-
--- After some reads, a set of a word at an address joins the waiting sets, or fills a batch with them.
-pub record JoinsAt (at : ℕ) (old new : Memory) : Type 0 where
-  pub found : Memory
-  pub reads : OnlyReads old found
-  pub word : ℕ
-  pub joins : Joins (record { at = at; word = word }) found new
 
 -- The first block of the chains, or of the free chain if there are none.
 abbrev pub first_block : List ℕ → List Chain → ℕ
@@ -73,11 +63,3 @@ pub record IsUnmarkedChain (end : ℕ) (m : List ℕ) (seen : List ℕ) (from : 
 -- The walk marked these blocks.
 abbrev pub Marks : List ℕ → List ℕ → List ℕ → Type 0
 Marks old ps new = (page : ℕ) → IsBlockPlace page → times_marked new page ≡ times_marked old page + count page ps
-
--- The chain from a page on was fresh, and its blocks are now marked.
-pub record IsWalked (end : ℕ) (m : List ℕ) (from : ℕ) (old : List ℕ) (w : Walked) (new : List ℕ) : Type 0 where
-  pub fresh : IsUnmarkedChain end m old from
-  pub blocks : w.blocks ≡ length (chain m from)
-  pub last : w.last ≡ slice_index (chain m from) (w.blocks - 1)
-  pub marks : Marks old (chain m from) new
-  pub fine : AreBlockMarks end new

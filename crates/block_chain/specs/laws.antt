@@ -1,15 +1,14 @@
 -- Consequences of the definitions, for the proofs of this crate and of the crates above it.
-pub mod Words
-pub mod Counts
-pub mod Chains
 pub mod Bytes
-pub mod Overwriting
-pub mod Joining
-pub mod Filling
-pub mod Walking
-pub mod Laying
+pub mod Chains
+pub mod Counts
 pub mod Extents
+pub mod Filling
 pub mod Footprints
-pub mod Relaying
-pub mod Writes
+pub mod Joining
+pub mod Laying
 pub mod Lengthening
+pub mod Overwriting
+pub mod Relaying
+pub mod Walking
+pub mod Words

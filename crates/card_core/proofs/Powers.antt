@@ -14,7 +14,7 @@ use Rattle.undo_journal.specs.Memory.{committed, FailsBy as StoreFailsBy, IsRead
 use Rattle.undo_journal.specs.StoreCalls.{Changes, UnlessFailed}
 use Rattle.undo_journal.specs.Undo.{IsSound}
 use Rattle.file_tree.specs.Indexes.{IsIndex}
-use Rattle.file_tree.specs.declared.tree.Survey.{Survey}
+use Rattle.tree_check.specs.declared.tree.Survey.{Survey}
 use Rattle.card_core.specs.declared.faults.StartFault.TheVariants.{Damaged}
 use Rattle.command_base.specs.Finding.{words_found, HasCard}
 use Rattle.command_base.specs.Standing.{IsAnyCard}

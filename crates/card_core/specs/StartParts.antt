@@ -7,7 +7,7 @@ use Rattle.card_state.specs.Spaces.{free_space}
 use Rattle.file_tree.specs.Trees.{tree_of}
 use Rattle.file_tree.specs.Table.{table}
 use Rattle.file_tree.specs.Indexes.{IsIndex}
-use Rattle.file_tree.specs.declared.tree.Survey.{Survey}
+use Rattle.tree_check.specs.declared.tree.Survey.{Survey}
 use Rattle.card_model.specs.Cards.{card_space}
 use Rattle.file_tree.specs.declared.layout.TheConstants.{MARK, OLD_END_PAGE, OLD_MARK}
 use Rattle.pin_store.specs.Pages.{ArePinPages, AreMarks}

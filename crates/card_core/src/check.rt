@@ -9,11 +9,9 @@ ghost use Rattle.card_core.specs.StartParts.{AreHeaderWords, HoldsPins, TellsCar
 
 use crate::memory_format::MemoryFormat;
 use block_chain::HEADER_PAGE;
-use file_tree::{
-    CARD_TERMINATED, MARK, MARK_WORD, OLD_END_PAGE, OLD_MARK, PAGES_WORD, STATE_WORD, Survey,
-    survey_tree,
-};
+use file_tree::{CARD_TERMINATED, MARK, MARK_WORD, OLD_END_PAGE, OLD_MARK, PAGES_WORD, STATE_WORD};
 use pin_store::{are_marks, are_pins};
+use tree_check::{Survey, survey_tree};
 use undo_journal::{Board, PAGE_WORDS, Store, StoreErr};
 
 /// The result of a check: format, free space, index of files.

@@ -31,8 +31,9 @@ use crate::renewing::survey_card;
 use crate::state::CardState;
 use apdu_core::{Answer, Sw};
 use command_base::Current;
-use file_tree::{FreeSpace, Survey};
+use file_tree::FreeSpace;
 use std::marker::Model;
+use tree_check::Survey;
 use undo_journal::{Armed, Board, Faultless, Store, StoreErr};
 
 /// A powered card: its memory, its session, and its state.

@@ -14,8 +14,9 @@ ghost use Rattle.card_core.specs.StartParts.{TellsSurvey};
 
 use crate::check::find_card;
 use crate::memory_format::MemoryFormat;
-use file_tree::{FreeSpace, OLD_END_PAGE, Survey};
+use file_tree::{FreeSpace, OLD_END_PAGE};
 use migration::migrate;
+use tree_check::Survey;
 use undo_journal::{Board, Store, StoreErr};
 
 /// Checks the card image, and migrates it to format 2 if needed.

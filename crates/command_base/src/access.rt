@@ -9,7 +9,7 @@ ghost use Rattle.command_base.specs.Working.{card_in, disabled_in, session_in, t
 use crate::current::Current;
 use crate::named::Named;
 use card_state::{AccessBit, PinNumber, PinSet};
-use file_tree::is_allowed_at;
+use file_lookup::is_allowed_at;
 use pin_store::{Secret, is_enabled};
 use undo_journal::{Board, Store, StoreErr};
 

@@ -18,7 +18,8 @@ use crate::current::Current;
 use crate::stop::Stop;
 use apdu_core::{Sw, Target};
 use card_state::AccessBit;
-use file_tree::{Entry, EntryKind, find_short, is_barred_at, read_entry};
+use file_lookup::{find_short, is_barred_at, read_entry};
+use file_tree::{Entry, EntryKind};
 use undo_journal::{Board, Store, StoreErr};
 
 /// The structures that a command accepts.

@@ -9,7 +9,8 @@ ghost use Rattle.ef_body.specs.ReadParts.{IsBlockOf};
 use crate::chain_block::ChainBlock;
 use crate::slot::{RecordSlot, offset_of, slot_of};
 use arrayvec::ArrayVec;
-use block_chain::{BLOCK_BYTES, Chain, read_bytes};
+use block_chain::{BLOCK_BYTES, Chain};
+use block_store::read_bytes;
 use undo_journal::{Board, Store, StoreErr};
 
 impl RecordSlot {

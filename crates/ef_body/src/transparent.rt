@@ -4,7 +4,7 @@ ghost use Rattle.undo_journal.specs.Memory.{committed, IsReady};
 ghost use Rattle.undo_journal.specs.Spending.{transaction_writes, WritesAtMost};
 ghost use Rattle.card_state.specs.FileTrees.{overwrite};
 ghost use Rattle.block_chain.specs.ChainChanges.{touched_blocks, touched_words};
-ghost use Rattle.block_chain.specs.Writes.{put_writes};
+ghost use Rattle.block_store.specs.Writes.{put_writes};
 ghost use Rattle.ef_body.specs.Refusals.{past_end, overlong};
 ghost use Rattle.ef_body.specs.Bodies.{transparent_bytes, IsTransparent};
 ghost use Rattle.ef_body.specs.BodyChanges.{update_writes, TransparentBecomes};
@@ -13,7 +13,8 @@ ghost use Rattle.ef_body.specs.BodyCalls.{CommitsUnlessRefused, ReadsUnlessRefus
 use crate::error::{BodyErr, from_store};
 use crate::writing::put_bytes;
 use arrayvec::ArrayVec;
-use block_chain::{Chain, read_bytes};
+use block_chain::Chain;
+use block_store::read_bytes;
 use card_state::Sw;
 use undo_journal::{Board, Store};
 

@@ -4,3 +4,4 @@ pub mod CreationParts
 pub mod DeletionParts
 pub mod CreationRefusals
 pub mod laws
+pub mod Adding

@@ -1,14 +1,14 @@
 -- Laws of the definitions, with their proofs.
-pub mod Parting
-pub mod Deleting
-pub mod Parts
-pub mod Removals
 pub mod Adding
-pub mod NewEntries
-pub mod EntryWords
-pub mod Creating
 pub mod Allowed
-pub mod Places
+pub mod Creating
+pub mod Deleting
 pub mod Entering
-pub mod Made
+pub mod EntryWords
 pub mod LifeChanges
+pub mod Made
+pub mod NewEntries
+pub mod Parting
+pub mod Parts
+pub mod Places
+pub mod Removals

@@ -12,7 +12,7 @@ ghost use Rattle.card_state.specs.FileControl.{IsCreatable};
 ghost use Rattle.card_state.specs.Spaces.{free_space};
 ghost use Rattle.block_chain.specs.ChainChanges.{IsFirstFree};
 ghost use Rattle.block_chain.specs.Chains.{HasFree, free_chain};
-ghost use Rattle.file_tree.specs.Adding.{AddsByGate};
+ghost use Rattle.file_changes.specs.Adding.{AddsByGate};
 ghost use Rattle.file_tree.specs.Formats.{block_count};
 ghost use Rattle.file_tree.specs.Kinds.{kind_byte};
 ghost use Rattle.file_tree.specs.declared.layout.TheConstants.{CREATE_WRITES, MOST_FILE_BLOCKS};
@@ -23,7 +23,7 @@ ghost use Rattle.file_tree.specs.Indexes.{IsIndex};
 ghost use Rattle.file_changes.specs.Creations.{CreatesNew, TellsCreation, kind_number};
 ghost use Rattle.card_state.specs.NewFiles.{low_bits, short_for, short_of_new};
 ghost use Rattle.file_changes.specs.CreationRefusals.{creation_refusal};
-ghost use Rattle.file_tree.specs.StoredFiles.{HasFile};
+ghost use Rattle.file_lookup.specs.StoredFiles.{HasFile};
 ghost use Rattle.file_changes.specs.CreationParts.{FindsPlace, AddsFile, FillsAndAdds, FillsOrAdds};
 ghost use Rattle.file_changes.specs.CreationParts.{entry_for, record_length_of_kind, existing_of_kind};
 ghost use Rattle.file_changes.specs.CreationParts.{padded, no_chain, short_option};
@@ -31,10 +31,12 @@ ghost use Rattle.file_changes.specs.CreationParts.{padded, no_chain, short_optio
 use crate::placing::{Place, place_for};
 use crate::refusing::taken;
 use crate::writing::write_entry;
-use block_chain::{FreeRun, fill, take};
+use block_chain::FreeRun;
+use block_store::{fill, take};
 use card_state::limits::MOST_SHORT;
 use card_state::{Fcp, FileKind, FreeSpace, ShortIdentifier, Sw};
-use file_tree::{Entry, EntryKind, Index, blocks_for, find_short};
+use file_lookup::find_short;
+use file_tree::{Entry, EntryKind, Index, blocks_for};
 use undo_journal::{Board, Store, StoreErr, Txn};
 
 /// The result of a creation.

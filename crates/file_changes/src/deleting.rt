@@ -19,15 +19,16 @@ ghost use Rattle.file_tree.specs.TableEnd.{IsTableEnd};
 ghost use Rattle.file_tree.specs.Trees.{tree_of};
 ghost use Rattle.file_tree.specs.TreeChanges.{Deletes, with_freed};
 ghost use Rattle.file_tree.specs.Indexes.{IsIndex};
-ghost use Rattle.file_tree.specs.StoredFiles.{HasFile};
+ghost use Rattle.file_lookup.specs.StoredFiles.{HasFile};
 ghost use Rattle.file_changes.specs.DeletionParts.{IsPart, IsRemoval, CanGive, FreesEntries, GoesWith, Removes};
 ghost use Rattle.file_changes.specs.DeletionParts.{extents_in, entry_if_gone};
 
 use arrayvec::ArrayVec;
-use block_chain::{Chain, Extent, give_back};
+use block_chain::{Chain, Extent};
+use block_store::give_back;
+use file_lookup::{find_end, read_entry, read_entry_head};
 use file_tree::{
-    ENTRIES_END, Entry, ExtentList, FreeSpace, Index, TABLE_ROOM, entry_address, find_end,
-    is_within, read_entry, read_entry_head,
+    ENTRIES_END, Entry, ExtentList, FreeSpace, Index, TABLE_ROOM, entry_address, is_within,
 };
 use undo_journal::{Board, Store, StoreErr, Txn};
 

@@ -12,12 +12,13 @@ ghost use Rattle.file_tree.specs.States.{with_card_terminated, ChangesLife};
 ghost use Rattle.file_tree.specs.Table.{table, entry_in, path_of};
 ghost use Rattle.file_tree.specs.Trees.{tree_of};
 ghost use Rattle.file_tree.specs.TreeParts.{TellsLife};
-ghost use Rattle.file_tree.specs.StoredFiles.{HasFile};
+ghost use Rattle.file_lookup.specs.StoredFiles.{HasFile};
 
 use crate::writing::two_bytes;
 use block_chain::HEADER_PAGE;
 use card_state::{LifeCycle, LifeCycleCommand};
-use file_tree::{CARD_TERMINATED, Entry, STATE_WORD, entry_address, is_below_barred, read_entry};
+use file_lookup::{is_below_barred, read_entry};
+use file_tree::{CARD_TERMINATED, Entry, STATE_WORD, entry_address};
 use undo_journal::{Board, PAGE_WORDS, Store, StoreErr};
 
 /// Returns the state after a life cycle command, `None` for a refusal. It is refused if an ancestor is deactivated or

@@ -6,7 +6,7 @@ ghost use Rattle.undo_journal.specs.StoreCalls.{Learns};
 ghost use Rattle.card_state.specs.Spaces.{free_space};
 ghost use Rattle.file_tree.specs.Formats.{block_count};
 ghost use Rattle.file_tree.specs.Trees.{tree_of};
-ghost use Rattle.file_tree.specs.StoredFiles.{HasFile};
+ghost use Rattle.file_lookup.specs.StoredFiles.{HasFile};
 ghost use Rattle.file_changes.specs.CreationParts.{TellsPlace};
 
 use crate::refusing::{first_free, is_deepest};

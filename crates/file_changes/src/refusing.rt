@@ -10,11 +10,12 @@ ghost use Rattle.file_tree.specs.Trees.{tree_of};
 ghost use Rattle.file_tree.specs.Indexes.{IsIndex};
 ghost use Rattle.card_state.specs.NewFiles.{has_short_given};
 ghost use Rattle.file_changes.specs.CreationRefusals.{taken_refusal};
-ghost use Rattle.file_tree.specs.StoredFiles.{HasFile};
+ghost use Rattle.file_lookup.specs.StoredFiles.{HasFile};
 ghost use Rattle.file_changes.specs.CreationParts.{TellsFreeEntry};
 
 use card_state::{Fcp, ShortIdentifier, Sw};
-use file_tree::{DEEPEST, ENTRIES_END, Index, find_name, find_short, read_entry_head};
+use file_lookup::{find_name, find_short, read_entry_head};
+use file_tree::{DEEPEST, ENTRIES_END, Index};
 use undo_journal::{Board, Store, StoreErr};
 
 /// A dedicated file is on the last level: six steps to parents do not lead to the master file.

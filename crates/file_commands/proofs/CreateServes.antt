@@ -11,7 +11,7 @@ use Rattle.undo_journal.specs.declared.error.StoreErr.{StoreErr}
 use Rattle.undo_journal.specs.StoreCalls.{Changes, OnlyReads}
 use Rattle.undo_journal.specs.Spending.{Advances}
 use Rattle.undo_journal.specs.laws.Calls.{advances_by}
-use Rattle.file_tree.specs.Adding.{AddsByGate}
+use Rattle.file_changes.specs.Adding.{AddsByGate}
 use Rattle.undo_journal.specs.Memory.{Memory, committed, IsReady}
 use Rattle.undo_journal.specs.laws.Calls.{reads_then}
 use Rattle.undo_journal.specs.laws.Told.{changes_after}

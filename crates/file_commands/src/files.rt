@@ -24,7 +24,8 @@ use card_state::{AccessBit, Fcp, FileKind};
 use command_base::{Current, Findings, Named, Stop, allows};
 use fcp_template::parse;
 use file_changes::{Creation, create, delete};
-use file_tree::{FreeSpace, Index, is_barred_at, read_entry, select};
+use file_lookup::{is_barred_at, read_entry, select};
+use file_tree::{FreeSpace, Index};
 use undo_journal::{Board, Store, StoreErr};
 
 /// CREATE FILE: adds a file to the current dedicated file.
@@ -63,8 +64,10 @@ fn current_at(current: Current, number: u8, kind: &FileKind<'_>) -> Current
 {
     let (df, ef) = match kind {
         FileKind::Df { .. } => (number, None),
-        FileKind::Transparent { .. } | FileKind::Linear { .. } | FileKind::Cyclic { .. } =>
-            (current.df, Some(number)),
+        FileKind::Transparent { .. } | FileKind::Linear { .. } | FileKind::Cyclic { .. } => (
+            current.df,
+            Some(number),
+        ),
     };
     Current {
         df,

@@ -18,7 +18,8 @@ use apdu_core::{LifeCycleChange, Subject, Sw};
 use card_state::{AccessBit, LifeCycle, LifeCycleCommand};
 use command_base::{Current, Named, Stop, allows};
 use file_changes::{next_life_cycle, set_life_cycle, terminate_card};
-use file_tree::{Entry, EntryKind, Index, read_entry};
+use file_lookup::read_entry;
+use file_tree::{Entry, EntryKind, Index};
 use undo_journal::{Board, Store};
 
 /// A change of a file's life cycle: entry, and new state.

@@ -20,10 +20,10 @@ use apdu_core::{Answer, FilePath, Returned, Selector, Sw};
 use arrayvec::ArrayVec;
 use card_state::LifeCycle;
 use command_base::{Current, Stop, asks_less, give, right_length};
-use file_tree::{
-    Entry, Index, find_name, find_parent, find_path, find_path_from_master, read_entry,
-    read_entry_head, select,
+use file_lookup::{
+    find_name, find_parent, find_path, find_path_from_master, read_entry, read_entry_head, select,
 };
+use file_tree::{Entry, Index};
 use undo_journal::{Board, Store, StoreErr};
 
 /// The most identifiers of a path.

@@ -5,11 +5,10 @@ use Rattle.std.specs.Prelude.{All, Contains, length, slice_index_or, Result, Ok,
 use Rattle.file_tree.specs.declared.entry.Entry.{Entry}
 use Rattle.file_tree.specs.declared.steps.Key.{Key}
 use Rattle.file_tree.specs.declared.steps.Place.{Place}
-use Rattle.file_tree.specs.declared.index.Index.{Index}
 use Rattle.file_tree.specs.Keys.{IsBefore}
-use Rattle.file_tree.specs.Table.{IsUsed, HaveIdentifiers}
+use Rattle.file_tree.specs.Table.{IsUsed}
 use Rattle.file_tree.specs.Subtrees.{leads}
-use Rattle.file_tree.specs.Indexes.{AreSorted, IsPlace, IsIndex, place_of}
+use Rattle.file_tree.specs.Indexes.{AreSorted, IsPlace, place_of}
 
 -- The key of place `k`.
 abbrev pub key_at : List Place → ℕ → Place → Key
@@ -45,11 +44,6 @@ pub record Puts (old : List Place) (place : Place) (new : List Place) : Type 0 w
 abbrev pub TellsPut : List Place → Place → List Place → Bool → Type 0
 TellsPut old place new true = Puts old place new
 TellsPut old place new false = All (λ p. p.key ≢ place.key) old → ⊥
-
--- The index of a table of entries was made, or two children of one DF have the same identifier.
-abbrev pub TellsIndex : List Entry → Bool → Index → Type 0
-TellsIndex t true index = HaveIdentifiers t × IsIndex t index
-TellsIndex t false index = HaveIdentifiers t → ⊥
 
 -- The places of the files of entries 1 to `end` - 1, by ascending keys.
 pub record ArePlacesTo (t : List Entry) (end : ℕ) (places : List Place) : Type 0 where

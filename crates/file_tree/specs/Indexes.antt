@@ -1,13 +1,13 @@
 -- The index of a tree: the entry of each file by its parent's entry and its identifier.
 use Rattle.std.specs.Prelude.{◌≡◌, ◌≢◌, ◌<◌, ℕ, if◌then◌else◌, List, [], ◌∷◌, ◌++◌, All, Contains, length, Option}
-use Rattle.std.specs.Prelude.{None, Some}
+use Rattle.std.specs.Prelude.{None, Some, Bool, true, false}
 use Rattle.card_state.specs.declared.limits.TheConstants.{ENTRIES}
 use Rattle.file_tree.specs.declared.entry.Entry.{Entry}
 use Rattle.file_tree.specs.declared.steps.Place.{Place}
 use Rattle.file_tree.specs.declared.index.Index.{Index}
 use Rattle.card_state.specs.FileTrees.{Path, Tree, exists}
 use Rattle.file_tree.specs.Keys.{key_for, IsBefore}
-use Rattle.file_tree.specs.Table.{entry_in, IsUsed, IsChild}
+use Rattle.file_tree.specs.Table.{entry_in, HaveIdentifiers, IsUsed, IsChild}
 
 -- The place of an entry's file.
 abbrev pub place_of : List Entry → ℕ → Place
@@ -29,6 +29,15 @@ pub record IsIndex (t : List Entry) (index : Index) : Type 0 where
   pub each : All (IsPlace t) index.places.items
   pub all : (e : ℕ) → 0 < e → IsUsed t e → Contains index.places.items (place_of t e)
   pub sorted : AreSorted index.places.items
+
+-- The index has no file.
+abbrev pub IsBlankIndex : Index → Type 0
+IsBlankIndex index = index.places.items ≡ []
+
+-- The index of a table of entries was made, or two children of one DF have the same identifier.
+abbrev pub TellsIndex : List Entry → Bool → Index → Type 0
+TellsIndex t true index = HaveIdentifiers t × IsIndex t index
+TellsIndex t false index = HaveIdentifiers t → ⊥
 
 -- The index of a table in which the entry is free.
 pub record IsFreeIn (index : Index) (e : ℕ) : Type 0 where

@@ -8,13 +8,10 @@ pub mod TableEnd
 pub mod Formats
 pub mod MigrationParts
 pub mod Trees
-pub mod StoredFiles
-pub mod Adding
 pub mod Naming
 pub mod Subtrees
 pub mod Keys
 pub mod Indexes
-pub mod Surveys
 pub mod IndexParts
 pub mod TreeChanges
 pub mod TreeParts

@@ -69,7 +69,7 @@ pub struct EntryHead {
 pub const TABLE_ROOM: usize = ENTRIES as usize;
 
 /// All file entries of a memory, by number.
-pub(crate) type Table = ArrayVec<Entry, TABLE_ROOM>;
+pub type Table = ArrayVec<Entry, TABLE_ROOM>;
 
 /// The extents of EFs.
 pub type ExtentList = ArrayVec<Extent, TABLE_ROOM>;
@@ -83,7 +83,7 @@ impl Entry {
     }
 
     /// Returns the entry that the first words of a page encode.
-    pub(crate) fn from_words(words: &[u32; ENTRY_WORDS]) -> Entry
+    pub fn from_words(words: &[u32; ENTRY_WORDS]) -> Entry
         ensures { result ≡ entry_of words.now }
     {
         if words[0] == 0 {
@@ -193,7 +193,7 @@ impl Entry {
 
 impl EntryHead {
     /// Returns the head of the entry that begins with these words.
-    pub(crate) fn from_words(first: u32, second: u32) -> EntryHead
+    pub fn from_words(first: u32, second: u32) -> EntryHead
         ensures { result ≡ head_told first second }
     {
         if first == 0 {

@@ -6,14 +6,17 @@ ghost use Rattle.file_tree.specs.declared.entry.Entry.{Entry};
 ghost use Rattle.file_tree.specs.Table.{table, entry_in, path_of, IsUsed, IsTable};
 ghost use Rattle.file_tree.specs.Trees.{tree_of, TreeStands};
 ghost use Rattle.file_tree.specs.TreeChanges.{Deletes};
-ghost use Rattle.file_tree.specs.Indexes.{AreSorted, IsIndex, IsFreeIn, AddsEntry, TellsChild, child_by_identifier};
-ghost use Rattle.file_tree.specs.IndexParts.{TellsPut, TellsIndex, parent_by, is_outside};
+ghost use Rattle.file_tree.specs.Indexes.{AddsEntry, AreSorted, IsBlankIndex, IsFreeIn, IsIndex, TellsChild, TellsIndex};
+ghost use Rattle.file_tree.specs.Indexes.{child_by_identifier};
+ghost use Rattle.file_tree.specs.IndexParts.{TellsPut, parent_by, is_outside};
 
 use crate::entry::Entry;
-use crate::look_up::Reached;
 use crate::parents::is_within;
 use crate::steps::{Key, Place, Steps, is_behind, search};
 use arrayvec::ArrayVec;
+
+/// The result of a lookup: the entry's number, or `None`.
+pub type Reached = Option<u8>;
 
 /// The greatest number of places: one per entry but the MF's.
 const MOST_PLACES: usize = 63;
@@ -71,8 +74,8 @@ fn places_outside(places: &[Place], top: u8) -> PlaceList
 
 impl Index {
     /// Returns an index of no file.
-    pub(crate) fn new() -> Index
-        ensures { result.places.items ≡ [] }
+    pub fn new() -> Index
+        ensures { IsBlankIndex result }
     {
         Index {
             places: PlaceList::new(),
@@ -81,8 +84,8 @@ impl Index {
 
     /// Fills an empty index from a table of entries, in place, since it is long.
     /// It returns false if two children of one DF have the same identifier.
-    pub(crate) fn fill(&mut self, entries: &[Entry]) -> bool
-        requires empty { self.old.places.items ≡ [] }
+    pub fn fill(&mut self, entries: &[Entry]) -> bool
+        requires empty { IsBlankIndex self.old }
         requires size { length entries.now ≤ 64 }
         ensures { TellsIndex entries.now result self.new }
     {
@@ -126,7 +129,7 @@ impl Index {
     }
 
     /// Returns the parent of a used entry, for the MF its own.
-    pub(crate) fn parent(&self, entry: u8) -> u8
+    pub fn parent(&self, entry: u8) -> u8
         ensures { (m : List ℕ) → IsTable (table m) → IsUsed (table m) entry → IsIndex (table m) self.now
             → result ≡ (entry_in (table m) entry).parent }
     {

@@ -99,7 +99,7 @@ pub fn no_path_has_a_reserved_identifier()
 {}
 
 /// Proves that filling free blocks leaves all files unchanged. That holds whatever content they get, so
-/// `block_chain::fill` may be interrupted at any word.
+/// `block_store::fill` may be interrupted at any word.
 pub fn filled_blocks_leave_the_tree()
     ensures { (m after : List ℕ) (n : ℕ) → IsMemory m → TreeStands m
         → OnlyContent m (take n (free_chain m)) after → SameTree m after }

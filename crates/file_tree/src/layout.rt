@@ -7,7 +7,7 @@ ghost use Rattle.file_tree.specs.declared.layout.TheConstants.{FIRST_ENTRY_PAGE}
 use block_chain::BLOCK_BYTES;
 pub use card_state::limits::ENTRIES;
 use card_state::limits::MOST_BYTES;
-use undo_journal::PAGE_WORDS;
+use nvm_board::PAGE_WORDS;
 
 /// The page of entry 0, the MF's. Each entry has a page of its own.
 pub const FIRST_ENTRY_PAGE: u16 = 1;

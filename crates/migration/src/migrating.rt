@@ -15,7 +15,8 @@ ghost use Rattle.migration.specs.Migrating.{IsMigrated, Migrates, migration_writ
 ghost use Rattle.migration.specs.MigratingParts.{FillsFirstBatch, IsRenamed, JoinsFirst, MarksPins, RenamesHeader};
 ghost use Rattle.migration.specs.MigratingParts.{SetsFirst};
 
-use block_chain::{FREE_HEAD, HEADER_PAGE, link_pages};
+use block_chain::{FREE_HEAD, HEADER_PAGE};
+use block_store::link_pages;
 use file_tree::{MARK, MARK_WORD, OLD_END_PAGE, PAGES_WORD};
 use pin_store::{FIRST_PIN_PAGE, PIN_MARK_WORD, PINS};
 use undo_journal::{Board, PAGE_WORDS, Store, StoreErr, Txn};

@@ -4,7 +4,7 @@ use Rattle.undo_journal.specs.StoreCalls.{OnlyReads}
 use Rattle.undo_journal.specs.Memory.{Memory, committed, IsReady}
 use Rattle.file_tree.specs.declared.entry.Entry.{Entry}
 use Rattle.file_tree.specs.Table.{table, entry_in, IsUsed}
-use Rattle.file_tree.specs.StoredFiles.{HasFile}
+use Rattle.file_lookup.specs.StoredFiles.{HasFile}
 use Rattle.file_tree.specs.Indexes.{IsIndex}
 use Rattle.file_tree.specs.declared.index.Index.{Index}
 use Rattle.command_base.specs.declared.current.Current.{Current}

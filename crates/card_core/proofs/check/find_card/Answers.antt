@@ -1,7 +1,7 @@
 use Rattle.std.proofs.Common.{ℕ, List, Option, subst, ◌∙◌, rules}
 use Rattle.undo_journal.specs.Memory.{committed}
-use Rattle.file_tree.specs.Surveys.{TellsTree}
-use Rattle.file_tree.specs.declared.tree.Survey.{Survey}
+use Rattle.tree_check.specs.Surveys.{TellsTree}
+use Rattle.tree_check.specs.declared.tree.Survey.{Survey}
 use Rattle.card_core.specs.declared.memory_format.MemoryFormat.{MemoryFormat}
 use Rattle.card_core.specs.StartParts.{HoldsPins, TellsHeader}
 use Rattle.card_core.proofs.Entries.{card_told}

@@ -7,7 +7,7 @@ use Rattle.std.proofs.Common.{◌≡◌, ℕ, List, length, take, Option, None, 
 use Rattle.std.proofs.Common.{inl, inr, ⊎_elim, true≢false, refl}
 use Rattle.file_tree.specs.TreeChanges.{SameTree}
 use Rattle.undo_journal.specs.Memory.{Memory, committed, IsReady}
-use Rattle.file_tree.specs.Adding.{AddsByGate}
+use Rattle.file_changes.specs.Adding.{AddsByGate}
 use Rattle.card_state.specs.declared.fcp.Fcp.{Fcp}
 use Rattle.card_state.specs.FileControl.{IsCreatable, size_of_kind}
 use Rattle.block_chain.specs.Chains.{free_chain}
@@ -28,8 +28,8 @@ use Rattle.file_tree.specs.laws.Tables.{length-table}
 use Rattle.file_changes.specs.laws.Entering.{free_below}
 use Rattle.file_changes.specs.laws.Made.{is_created}
 use Rattle.undo_journal.specs.laws.Told.{changes_after, changes_handed, reads_change, reads_on}
-use Rattle.file_tree.specs.StoredFiles.{HasFile}
-use Rattle.file_tree.specs.laws.StoredFiles.{file_still}
+use Rattle.file_lookup.specs.StoredFiles.{HasFile}
+use Rattle.file_lookup.specs.laws.StoredFiles.{file_still}
 use Rattle.file_changes.proofs.creating.create.Goals as goal
 
 -- a dedicated file is a used entry's

@@ -15,7 +15,7 @@ use Rattle.file_tree.specs.Table.{table}
 use Rattle.undo_journal.specs.laws.Exits.{none_ok}
 use Rattle.undo_journal.specs.laws.Told.{reads_on, reads_handed}
 use Rattle.file_changes.specs.CreationParts.{FindsPlace, TellsPlace}
-use Rattle.file_tree.specs.laws.StoredFiles.{file_still}
+use Rattle.file_lookup.specs.laws.StoredFiles.{file_still}
 use Rattle.file_changes.proofs.creating.find_place.Goals as goal
 
 -- where no name is taken, what was told of the place tells it all

@@ -12,7 +12,7 @@ use Rattle.file_tree.specs.Naming.{TellsNamed}
 use Rattle.file_tree.specs.laws.Refusing.{child_told, name_told}
 use Rattle.file_changes.specs.laws.Allowed.{taken_is, creatable_short}
 use Rattle.undo_journal.specs.laws.Told.{reads_handed, reads_on}
-use Rattle.file_tree.specs.laws.StoredFiles.{file_still}
+use Rattle.file_lookup.specs.laws.StoredFiles.{file_still}
 use Rattle.file_changes.proofs.refusing.taken.Goals as goal
 
 -- whether a name is taken, by what a look-up in the entries that were read found

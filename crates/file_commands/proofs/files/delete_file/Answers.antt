@@ -18,7 +18,7 @@ use Rattle.command_base.specs.laws.Stopping.{err-is, none-failed, reply-failed}
 use Rattle.command_base.specs.laws.Words.{went-after}
 use Rattle.command_base.specs.laws.Answering.{ok_anyway}
 use Rattle.command_base.specs.laws.SpaceKept.{space-same}
-use Rattle.file_tree.specs.laws.StoredFiles.{file_still}
+use Rattle.file_lookup.specs.laws.StoredFiles.{file_still}
 use Rattle.file_commands.proofs.files.delete_file.Goals as goal
 
 pub returns-in_err-freed-clause-serves : goal.returns-in_err-freed-clause-serves

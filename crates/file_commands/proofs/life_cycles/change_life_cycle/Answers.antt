@@ -10,7 +10,7 @@ use Rattle.command_base.specs.laws.SpaceKept.{space-same}
 use Rattle.command_base.specs.laws.Answering.{ok_anyway}
 use Rattle.command_base.specs.laws.Stopping.{none-failed, reply-failed}
 use Rattle.command_base.specs.laws.Readings.{file_kept}
-use Rattle.file_tree.specs.laws.StoredFiles.{file_still}
+use Rattle.file_lookup.specs.laws.StoredFiles.{file_still}
 use Rattle.file_commands.proofs.life_cycles.change_life_cycle.Goals as goal
 
 pub returns : goal.returns

@@ -6,7 +6,7 @@ use Rattle.undo_journal.specs.Memory.{committed}
 use Rattle.undo_journal.specs.Spending.{KeepsBoard, WritesAtMost}
 use Rattle.undo_journal.specs.Undo.{data_words}
 use Rattle.command_base.specs.Finding.{FindsAgain}
-use Rattle.file_tree.specs.declared.tree.Survey.{Survey}
+use Rattle.tree_check.specs.declared.tree.Survey.{Survey}
 use Rattle.command_base.specs.Standing.{IsAnyCard}
 use Rattle.card_core.specs.declared.state.CardState.TheVariants.{Working, Dark}
 use Rattle.command_base.specs.declared.current.Current.{Current}

@@ -1,0 +1,52 @@
+use Rattle.undo_journal.specs.laws.Exits.{none_ok}
+use Rattle.std.proofs.Common.{◌≡◌, ℕ, Some, sym, ◌∙◌, ap, subst}
+use Rattle.undo_journal.specs.Memory.{committed}
+use Rattle.file_tree.specs.declared.entry.Entry.{Entry}
+use Rattle.file_tree.specs.Table.{table, entry_in, path_of, IsUsed}
+use Rattle.file_tree.specs.laws.Nodes.{used_small}
+use Rattle.file_tree.specs.laws.LookUps.{above_used}
+use Rattle.file_tree.specs.laws.Selecting.{parent_reached, parent_of_master}
+use Rattle.undo_journal.specs.laws.Told.{reads_none, reads_handed}
+use Rattle.file_lookup.proofs.naming.find_parent.Goals as goal
+
+pub returns-then-df-eq0-clause-found : goal.returns-then-df-eq0-clause-found
+returns-then-df-eq0-clause-found g c = parent_of_master (committed c.args.store.now) c.args.df c.if-df-eq0.true
+
+pub read_entry-requires-clause-within : goal.read_entry-requires-clause-within
+read_entry-requires-clause-within g c = used_small (committed c.args.store.now) c.args.df c.requires.df.used
+
+pub returns-clause-found : goal.returns-clause-found
+returns-clause-found g c =
+    let m = committed c.args.store.now in
+    let parent : c.in_ok-entry.entry.parent ≡ (entry_in (table m) c.args.df).parent =
+    ap (λ (x : Entry). x.parent) c.in_ok-entry.ensures.entry in
+    ap (λ (e : ℕ). Some (path_of (table m) e)) parent
+    ∙ parent_reached m c.requires.df.tree.entries c.args.df c.requires.df.used c.if-df-eq0.false
+
+pub returns-clause-used : goal.returns-clause-used
+returns-clause-used g c =
+    let m = committed c.args.store.now in
+    let parent : c.in_ok-entry.entry.parent ≡ (entry_in (table m) c.args.df).parent =
+    ap (λ (x : Entry). x.parent) c.in_ok-entry.ensures.entry in
+    let family : ℕ → Type 0 = λ e. IsUsed (table m) e in
+    subst family (sym parent) (above_used m c.requires.df.tree.entries c.args.df 0 c.requires.df.used)
+
+pub returns-then-df-eq0-clause-store : goal.returns-then-df-eq0-clause-store
+returns-then-df-eq0-clause-store g c =
+    reads_none _ c.requires.df.ready
+
+pub read_entry-requires-clause-ready : goal.read_entry-requires-clause-ready
+read_entry-requires-clause-ready g c = c.requires.df.ready
+
+pub returns-in_err-entry-clause-found : goal.returns-in_err-entry-clause-found
+returns-in_err-entry-clause-found g c = none_ok _ _ _ c.from_residual.ensures.1
+
+pub returns-in_err-entry-clause-used : goal.returns-in_err-entry-clause-used
+returns-in_err-entry-clause-used g c = none_ok _ _ _ c.from_residual.ensures.1
+
+pub returns-in_err-entry-clause-store : goal.returns-in_err-entry-clause-store
+returns-in_err-entry-clause-store g c =
+    reads_handed _ _ _ _ c.from_residual.ensures.1 c.in_err-entry.ensures.store
+
+pub returns-clause-store : goal.returns-clause-store
+returns-clause-store g c = c.in_ok-entry.ensures.store

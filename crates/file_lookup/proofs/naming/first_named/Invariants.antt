@@ -1,0 +1,13 @@
+use Rattle.std.proofs.Common.{◌<◌, ℕ}
+use Rattle.undo_journal.specs.Memory.{committed, IsReady}
+use Rattle.undo_journal.specs.StoreCalls.{OnlyReads}
+use Rattle.file_tree.specs.Naming.{BearsNameAt}
+use Rattle.file_tree.specs.Table.{table}
+use Rattle.file_lookup.proofs.naming.first_named.Given as goal
+
+abbrev pub invariant-loop-e : goal.invariant-loop-e
+invariant-loop-e g l = let t = table (committed l.initial.store) in record {
+  ready : IsReady l.store;
+  reads : OnlyReads l.initial.store l.store;
+  none : (f : ℕ) → f < l.e → BearsNameAt t l.name f → ⊥;
+}

@@ -1,0 +1,3 @@
+-- Files in a store.
+pub mod StoredFiles
+pub mod laws

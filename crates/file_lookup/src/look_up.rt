@@ -1,0 +1,134 @@
+//! Lookups by identifier, which use the index, and by short identifier, which read entries.
+
+ghost use Rattle.std.specs.Prelude.{◌≡◌, ◌≢◌, ◌==◌, ◌≤◌, ◌↔◌, ℕ, List, IsTrue, IfOk, IfSome, option_map};
+ghost use Rattle.std.specs.Result.{result_err};
+ghost use Rattle.undo_journal.specs.Memory.{committed, IsReady};
+ghost use Rattle.undo_journal.specs.StoreCalls.{Learns, Reads};
+ghost use Rattle.card_state.specs.Selectors.{reached, child_by_short};
+ghost use Rattle.file_tree.specs.Table.{IsChild, table, entry_in, path_of, IsUsed, IsTable};
+ghost use Rattle.file_tree.specs.Trees.{tree_of};
+ghost use Rattle.file_tree.specs.Indexes.{IsIndex};
+ghost use Rattle.file_tree.specs.TreeParts.{TellsShort, TellsBeside, TellsAbove};
+ghost use Rattle.file_lookup.specs.StoredFiles.{HasFile};
+
+use crate::reading::{read_entry, read_entry_head};
+use card_state::identifiers::MASTER_FILE;
+use file_tree::{ENTRIES_END, EntryHead, EntryKind, Index, Reached};
+use undo_journal::{Board, Store, StoreErr};
+
+/// An entry is that of the child of a dedicated file with this short identifier. Its head tells.
+fn is_child(head: EntryHead, df: u8, short: u8) -> bool
+    ensures { IsTrue result ↔ ((head.kind ≢ 0) × (head.parent ≡ df) × (head.short ≡ short)) }
+{
+    head.is_used() && head.parent == df && head.short == short
+}
+
+/// Returns the entry of a DF's child by short identifier, if any.
+fn first_child<B: Board>(store: &mut Store<B>, df: u8, short: u8) -> Result<Reached, StoreErr>
+    requires ready { IsReady store.old }
+    ensures { Learns store.old store.new result (TellsShort (table (committed store.old)) df short) }
+{
+    for e in 1..ENTRIES_END {
+        let head = read_entry_head(store, e)?;
+        if is_child(head, df, short) {
+            return Ok(Some(e));
+        }
+    }
+    Ok(None)
+}
+
+/// Returns the entry of a DF's child by short identifier, if any.
+///
+/// # Errors
+/// The store's failure: power was lost, or the device failed.
+pub fn find_short<B: Board>(store: &mut Store<B>, df: u8, short: u8) -> Result<Reached, StoreErr>
+    requires df { HasFile store.old df }
+    requires some { 1 ≤ short }
+    ensures found { IfOk result (λ found. option_map (path_of (table (committed store.old))) found
+        ≡ child_by_short (tree_of (committed store.old)) (path_of (table (committed store.old)) df) short) }
+    ensures child { IfOk result (λ found. IfSome found (IsChild (table (committed store.old)) df)) }
+    ensures elementary { IfOk result
+        (λ found. IfSome found (λ e. 2 ≤ (entry_in (table (committed store.old)) e).kind)) }
+    ensures store { Reads store.old store.new (result_err result) }
+{
+    first_child(store, df, short)
+}
+
+/// Returns the DF beside this one with this identifier. The MF has none beside it.
+fn find_beside<B: Board>(
+    store: &mut Store<B>,
+    index: &Index,
+    df: u8,
+    identifier: u16,
+) -> Result<Reached, StoreErr>
+    requires df { HasFile store.old df }
+    requires index { IsIndex (table (committed store.old)) index.now }
+    ensures { Learns store.old store.new result (TellsBeside (table (committed store.old)) df identifier) }
+{
+    if df == 0 {
+        return Ok(None);
+    }
+    let Some(beside) = index.child(index.parent(df), identifier) else {
+        return Ok(None);
+    };
+    let other = read_entry(store, beside)?;
+    Ok(other.has_kind(EntryKind::Dedicated).then_some(beside))
+}
+
+/// Returns true if a used entry's file has this identifier. It is looked up among the children of its parent.
+fn has_identifier(index: &Index, e: u8, identifier: u16) -> bool
+    ensures { (m : List ℕ) → IsTable (table m) → IsUsed (table m) e → IsIndex (table m) index.now
+        → result ≡ ((entry_in (table m) e).identifier == identifier) }
+{
+    if e == 0 {
+        return identifier == MASTER_FILE;
+    }
+    match index.child(index.parent(e), identifier) {
+        Some(child) => child == e,
+        None => false,
+    }
+}
+
+/// Returns the first of parent, DF and MF with this identifier.
+fn find_above(index: &Index, df: u8, identifier: u16) -> Reached
+    ensures { (m : List ℕ) → IsTable (table m) → IsUsed (table m) df → IsIndex (table m) index.now
+        → TellsAbove (table m) df identifier result }
+{
+    let parent = index.parent(df);
+    if has_identifier(index, parent, identifier) {
+        Some(parent)
+    } else if has_identifier(index, df, identifier) {
+        Some(df)
+    } else if has_identifier(index, 0, identifier) {
+        Some(0)
+    } else {
+        None
+    }
+}
+
+/// Returns the entry that an identifier selects from a DF. The candidates, in order: a child of the DF, a DF beside
+/// it, its parent, itself, the MF (ISO/IEC 7816-4, 7.3.1).
+///
+/// # Errors
+/// The store's failure: power was lost, or the device failed.
+pub fn select<B: Board>(
+    store: &mut Store<B>,
+    index: &Index,
+    df: u8,
+    identifier: u16,
+) -> Result<Reached, StoreErr>
+    requires df { HasFile store.old df }
+    requires index { IsIndex (table (committed store.old)) index.now }
+    ensures found { IfOk result (λ found. option_map (path_of (table (committed store.old))) found
+        ≡ reached (tree_of (committed store.old)) (path_of (table (committed store.old)) df) identifier) }
+    ensures used { IfOk result (λ found. IfSome found (IsUsed (table (committed store.old)))) }
+    ensures store { Reads store.old store.new (result_err result) }
+{
+    if let Some(child) = index.child(df, identifier) {
+        return Ok(Some(child));
+    }
+    if let Some(beside) = find_beside(store, index, df, identifier)? {
+        return Ok(Some(beside));
+    }
+    Ok(find_above(index, df, identifier))
+}

@@ -1,0 +1,126 @@
+//! Lookups by name and by path (ISO/IEC 7816-4, 7.3.1 and 11.2.2).
+
+ghost use Rattle.std.specs.Prelude.{◌≡◌, ◌↔◌, ◌<◌, min, length, option_map, IfOk, IfSome, IsTrue, List, ℕ};
+ghost use Rattle.std.specs.Result.{result_err};
+ghost use Rattle.undo_journal.specs.Memory.{committed, IsReady};
+ghost use Rattle.undo_journal.specs.StoreCalls.{Learns, Reads};
+ghost use Rattle.card_state.specs.FileTrees.{Path};
+ghost use Rattle.card_state.specs.Selectors.{selected, the_parent, by_name, path_from_master, path_from_current};
+ghost use Rattle.file_tree.specs.Table.{table, path_of, IsUsed};
+ghost use Rattle.file_tree.specs.Trees.{tree_of, TreeStands};
+ghost use Rattle.file_tree.specs.Indexes.{IsIndex};
+ghost use Rattle.file_tree.specs.Naming.{BearsName, BearsNameAt, TellsNamed};
+ghost use Rattle.file_lookup.specs.StoredFiles.{HasFile};
+
+use crate::reading::{read_entry, read_entry_head};
+use card_state::limits::MOST_NAME_BYTES;
+use file_tree::{ENTRIES_END, Entry, EntryHead, EntryKind, Index, Reached};
+use undo_journal::{Board, Store, StoreErr};
+
+/// Returns true for the entry of a DF with this name.
+fn bears_name(entry: &Entry, name: &[u8]) -> bool
+    ensures { IsTrue result ↔ BearsName entry.now name.now }
+{
+    entry.has_kind(EntryKind::Dedicated) && entry.name_length != 0 && entry.name() == name
+}
+
+/// The name that a head tells is as long as this one.
+fn is_as_long(head: EntryHead, name: &[u8]) -> bool
+    ensures { IsTrue result ↔ (min head.name_length 16 ≡ length name.now) }
+{
+    usize::from(head.name_length).min(MOST_NAME_BYTES) == name.len()
+}
+
+/// An entry is a dedicated file's with this name. The whole entry is read only where its head tells as long a name.
+fn bears_name_at<B: Board>(store: &mut Store<B>, e: u8, name: &[u8]) -> Result<bool, StoreErr>
+    requires ready { IsReady store.old }
+    requires within { e < 64 }
+    ensures { Learns store.old store.new result (λ bears. IsTrue bears
+        ↔ BearsNameAt (table (committed store.old)) name.now e) }
+{
+    let head = read_entry_head(store, e)?;
+    if !is_as_long(head, name) {
+        return Ok(false);
+    }
+    let entry = read_entry(store, e)?;
+    Ok(bears_name(&entry, name))
+}
+
+/// The entry of the dedicated file with this name, if there is one. No file has the empty name.
+fn first_named<B: Board>(store: &mut Store<B>, name: &[u8]) -> Result<Reached, StoreErr>
+    requires ready { IsReady store.old }
+    ensures { Learns store.old store.new result (TellsNamed (table (committed store.old)) name.now) }
+{
+    if name.is_empty() {
+        return Ok(None);
+    }
+    for e in 0..ENTRIES_END {
+        let bears = bears_name_at(store, e, name)?;
+        if bears {
+            return Ok(Some(e));
+        }
+    }
+    Ok(None)
+}
+
+/// Returns the entry of the DF with this name. The name must match in full. The empty name matches no file.
+///
+/// # Errors
+/// The store's failure: power was lost, or the device failed.
+pub fn find_name<B: Board>(store: &mut Store<B>, name: &[u8]) -> Result<Reached, StoreErr>
+    requires ready { IsReady store.old }
+    requires tree { TreeStands (committed store.old) }
+    ensures found { IfOk result (λ found. (df : Path) → option_map (path_of (table (committed store.old))) found
+        ≡ selected (tree_of (committed store.old)) df (by_name name.now)) }
+    ensures used { IfOk result (λ found. IfSome found (IsUsed (table (committed store.old)))) }
+    ensures named { IfOk result (TellsNamed (table (committed store.old)) name.now) }
+    ensures store { Reads store.old store.new (result_err result) }
+{
+    first_named(store, name)
+}
+
+/// Returns the parent of a DF. The MF (entry 0) has none.
+///
+/// # Errors
+/// The store's failure: power was lost, or the device failed.
+pub fn find_parent<B: Board>(store: &mut Store<B>, df: u8) -> Result<Reached, StoreErr>
+    requires df { HasFile store.old df }
+    ensures found { IfOk result (λ found. option_map (path_of (table (committed store.old))) found
+        ≡ selected (tree_of (committed store.old)) (path_of (table (committed store.old)) df) the_parent) }
+    ensures used { IfOk result (λ found. IfSome found (IsUsed (table (committed store.old)))) }
+    ensures store { Reads store.old store.new (result_err result) }
+{
+    if df == 0 {
+        return Ok(None);
+    }
+    let entry = read_entry(store, df)?;
+    Ok(Some(entry.parent))
+}
+
+/// Returns the entry at the end of a path from a file. Each identifier is that of a child of the file before. The
+/// empty path leads to the file itself. No path leads through an EF.
+pub fn find_path(index: &Index, df: u8, path: &[u16]) -> Reached
+    ensures found { (m : List ℕ) → TreeStands m → IsUsed (table m) df → IsIndex (table m) index.now
+        → option_map (path_of (table m)) result
+        ≡ selected (tree_of m) (path_of (table m) df) (path_from_current path.now) }
+    ensures used { (m : List ℕ) → TreeStands m → IsUsed (table m) df → IsIndex (table m) index.now
+        → IfSome result (IsUsed (table m)) }
+{
+    let mut at = df;
+    for k in 0..path.len() {
+        match index.child(at, path[k]) {
+            Some(child) => at = child,
+            None => return None,
+        }
+    }
+    Some(at)
+}
+
+/// Returns the entry at the end of a path from the MF. The MF's identifier isn't in the path.
+pub fn find_path_from_master(index: &Index, path: &[u16]) -> Reached
+    ensures found { (m : List ℕ) → TreeStands m → IsIndex (table m) index.now → (df : Path)
+        → option_map (path_of (table m)) result ≡ selected (tree_of m) df (path_from_master path.now) }
+    ensures used { (m : List ℕ) → TreeStands m → IsIndex (table m) index.now → IfSome result (IsUsed (table m)) }
+{
+    find_path(index, 0, path)
+}

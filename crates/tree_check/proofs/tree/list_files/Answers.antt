@@ -1,0 +1,63 @@
+use Rattle.std.specs.Prelude.{IfOk, Result}
+use Rattle.std.proofs.Common.{◌≡◌, ◌≤◌, ℕ, Bool, List, sym, subst, arith}
+use Rattle.undo_journal.specs.declared.error.StoreErr.{StoreErr}
+use Rattle.undo_journal.specs.laws.Exits.{none_ok}
+use Rattle.undo_journal.specs.laws.Told.{reads_handed, reads_on}
+use Rattle.tree_check.specs.declared.tree.Listing.{Listing}
+use Rattle.tree_check.specs.Surveys.{TellsListing}
+use Rattle.file_tree.specs.Table.{table}
+use Rattle.file_tree.specs.TableEnd.{IsTableEnd}
+use Rattle.tree_check.proofs.tree.list_files.Goals as goal
+
+-- the end that was found, in the words behind the reads
+still_end : (m now : List ℕ) (end : ℕ) → now ≡ m → IsTableEnd (table m) end → IsTableEnd (table now) end
+still_end m now end same is = subst (λ (l : List ℕ). IsTableEnd (table l) end) (sym same) is
+
+pub list_entries-requires : goal.list_entries-requires
+list_entries-requires g c =
+    let few : c.in_ok-end.end ≤ 46 = omega (arith, c.from.ensures, c.if-from-le-FEW_ENTRIES.true) in (
+      omega arith,
+      (
+        c.in_ok-end.ensures.store.ready,
+        (
+          still_end _ _ _
+              c.find_end.ensures.store.only.keeps.committed_words c.in_ok-end.ensures.told,
+          (
+            few,
+            (
+              c.new-entries.ensures,
+              c.requires.blank,
+            ),
+          ),
+        ),
+      ),
+    )
+
+pub list_many-requires-clause-end : goal.list_many-requires-clause-end
+list_many-requires-clause-end g c =
+    still_end _ _ _ c.find_end.ensures.store.only.keeps.committed_words c.in_ok-end.ensures.told
+
+pub returns-in_err-end : goal.returns-in_err-end
+returns-in_err-end g c = record {
+  told = none_ok _ _ _ c.from_residual.ensures.1;
+  store = reads_handed _ _ _ _ c.from_residual.ensures.1 c.in_err-end.ensures.store;
+}
+
+-- what was told of the words behind the reads, by the words before them
+told_before : (m now : List ℕ) (listing : Listing) (r : Result Bool StoreErr) → now ≡ m
+    → IfOk r (TellsListing (table now) listing) → IfOk r (TellsListing (table m) listing)
+told_before m now listing r same told = subst (λ (l : List ℕ). IfOk r (TellsListing (table l) listing)) same told
+
+pub returns-then-from-le-FEW_ENTRIES : goal.returns-then-from-le-FEW_ENTRIES
+returns-then-from-le-FEW_ENTRIES g c = record {
+  told = told_before _ _ _ c.list_entries.result c.find_end.ensures.store.only.keeps.committed_words
+      c.list_entries.ensures.told;
+  store = reads_on _ _ _ _ c.find_end.ensures.store.only c.list_entries.ensures.store;
+}
+
+pub returns-else-from-le-FEW_ENTRIES : goal.returns-else-from-le-FEW_ENTRIES
+returns-else-from-le-FEW_ENTRIES g c = record {
+  told = told_before _ _ _ c.list_many.result c.find_end.ensures.store.only.keeps.committed_words
+      c.list_many.ensures.told;
+  store = reads_on _ _ _ _ c.find_end.ensures.store.only c.list_many.ensures.store;
+}

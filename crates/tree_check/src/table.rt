@@ -1,0 +1,186 @@
+//! The rules on a table of entries that was read. They touch no store.
+
+ghost use Rattle.std.specs.Prelude.{◌≡◌, ◌↔◌, ◌<◌, ◌≤◌, [], length, IsTrue};
+ghost use Rattle.file_tree.specs.Table.{entry_in, ancestor, extents, free_entries, IsMasterFile, IsBelowMaster};
+ghost use Rattle.file_tree.specs.Table.{HaveIdentifiers, IsTable};
+ghost use Rattle.file_tree.specs.TreeParts.{BearOneName, ShareShort, HasOwnShort, HasOwnName};
+ghost use Rattle.file_tree.specs.TreeParts.{AreBelow, AreUnlike, IsAlone};
+
+use crate::rules::are_entries;
+use card_state::identifiers::MASTER_FILE;
+use file_tree::{DEEPEST, Entry, EntryKind, ExtentList};
+
+/// Returns the parent of an entry's file. Past the table it is 0.
+fn parent_of(entries: &[Entry], e: u8) -> u8
+    ensures { result ≡ (entry_in entries.now e).parent }
+{
+    match entries.get(usize::from(e)) {
+        Some(entry) => entry.parent,
+        None => 0,
+    }
+}
+
+/// Returns the entry after `steps` steps to parents. The MF is its own parent, so the walk stays there.
+#[tactic(auto, using(file_tree::specs::laws::Levels::levels))]
+fn ancestor(entries: &[Entry], steps: u8, e: u8) -> u8
+    ensures { result ≡ ancestor entries.now steps e }
+{
+    let mut at = e;
+    for _step in 0..steps {
+        let parent = parent_of(entries, at);
+        if parent == at {
+            return at;
+        }
+        at = parent;
+    }
+    at
+}
+
+/// Returns true if entry 0 is a valid one of the MF.
+fn is_master_file(entry: &Entry) -> bool
+    ensures { IsTrue result ↔ IsMasterFile entry.now }
+{
+    entry.has_kind(EntryKind::Dedicated) && entry.identifier == MASTER_FILE && entry.parent == 0
+}
+
+/// Returns true if a file is below the MF. Its parent is a DF, and the MF at most seven steps away.
+fn is_below_master(entries: &[Entry], e: u8) -> bool
+    requires { e < length entries.now }
+    ensures { IsTrue result ↔ IsBelowMaster entries.now e }
+{
+    let entry = &entries[usize::from(e)];
+    match entries.get(usize::from(entry.parent)) {
+        Some(parent) => parent.has_kind(EntryKind::Dedicated)
+            && entry.identifier != MASTER_FILE
+            && ancestor(entries, DEEPEST, e) == 0,
+        None => false,
+    }
+}
+
+/// Returns true if each file but the MF is so.
+fn are_below_master(entries: &[Entry]) -> bool
+    requires { length entries.now ≤ 64 }
+    ensures { IsTrue result ↔ AreBelow entries.now }
+{
+    for e in 1..entries.len() {
+        if entries[e].is_used() && !is_below_master(entries, e as u8) {
+            return false;
+        }
+    }
+    true
+}
+
+/// Returns true if two entries have the same non-empty name.
+fn bear_one_name(one: &Entry, other: &Entry) -> bool
+    ensures { IsTrue result ↔ BearOneName one.now other.now }
+{
+    !one.name().is_empty() && one.name() == other.name()
+}
+
+/// Returns true if two entries are children of one DF with the same short identifier. `e` is the number of the first;
+/// the MF is no child.
+fn share_short(e: usize, one: &Entry, other: &Entry) -> bool
+    ensures { IsTrue result ↔ ShareShort e one.now other.now }
+{
+    one.short != 0 && one.short == other.short && e > 0 && one.parent == other.parent
+}
+
+/// Returns true if no later used entry of the same DF has the same short identifier.
+/// A file without one isn't compared.
+fn has_own_short(entries: &[Entry], e: usize) -> bool
+    requires { e < length entries.now }
+    ensures { IsTrue result ↔ HasOwnShort entries.now e }
+{
+    let one = &entries[e];
+    if one.short == 0 {
+        return true;
+    }
+    for f in e + 1..entries.len() {
+        let other = &entries[f];
+        if share_short(e, one, other) && other.is_used() {
+            return false;
+        }
+    }
+    true
+}
+
+/// Returns true if no later used entry has the same name. A file without one isn't compared.
+fn has_own_name(entries: &[Entry], e: usize) -> bool
+    requires { e < length entries.now }
+    ensures { IsTrue result ↔ HasOwnName entries.now e }
+{
+    let one = &entries[e];
+    if one.name_length == 0 {
+        return true;
+    }
+    for f in e + 1..entries.len() {
+        let other = &entries[f];
+        if bear_one_name(one, other) && other.is_used() {
+            return false;
+        }
+    }
+    true
+}
+
+/// Returns true if no later used entry conflicts with this one. Identifiers are checked elsewhere.
+fn is_alone(entries: &[Entry], e: usize) -> bool
+    requires { e < length entries.now }
+    ensures { IsTrue result ↔ IsAlone entries.now e }
+{
+    has_own_short(entries, e) && has_own_name(entries, e)
+}
+
+/// Returns true if no two used entries conflict.
+fn are_apart(entries: &[Entry]) -> bool
+    ensures { IsTrue result ↔ AreUnlike entries.now }
+{
+    for e in 0..entries.len() {
+        if entries[e].is_used() && !is_alone(entries, e) {
+            return false;
+        }
+    }
+    true
+}
+
+/// Returns true if the entries satisfy the rules of a tree. The caller's index has already shown that children of one
+/// DF have different identifiers.
+pub(crate) fn is_table(entries: &[Entry]) -> bool
+    requires some { 0 < length entries.now }
+    requires size { length entries.now ≤ 64 }
+    requires apart { HaveIdentifiers entries.now }
+    ensures { IsTrue result ↔ IsTable entries.now }
+{
+    is_master_file(&entries[0])
+        && are_entries(entries)
+        && are_below_master(entries)
+        && are_apart(entries)
+}
+
+/// Fills an empty list with the extents of the EFs, in the order of their entries.
+#[tactic(auto, using(file_tree::specs::laws::Tables::extents_pushed))]
+pub(crate) fn list_extents(entries: &[Entry], list: &mut ExtentList)
+    requires size { length entries.now ≤ 64 }
+    requires empty { list.old.items ≡ [] }
+    ensures { list.new.items ≡ extents entries.now }
+{
+    for entry in entries {
+        if let Some(extent) = entry.extent() {
+            list.push(extent);
+        }
+    }
+}
+
+/// Returns the number of free entries.
+pub(crate) fn count_free(entries: &[Entry]) -> u16
+    requires { length entries.now ≤ 64 }
+    ensures free { result ≡ free_entries entries.now }
+    ensures few { result ≤ length entries.now }
+{
+    let mut free = 0;
+    for entry in entries {
+        if entry.has_kind(EntryKind::Free) {
+            free += 1;
+        }
+    }
+    free
+}
