@@ -10,7 +10,7 @@ use Rattle.t1_link.specs.CardTable.{Link, Reaction, Taken, answers, reply_bytes,
 use Rattle.t1_link.specs.ReaderTable.{CommandReport, Reader, Turned, fails, gives, reader_step, reader_times_out}
 use Rattle.t1_link.specs.ReaderTable.{sends, unknown}
 use Rattle.card_model.specs.Cards.{Card}
-use Rattle.card_core.specs.Running.{card_found}
+use Rattle.card_start.specs.Running.{card_found}
 use Rattle.card_model.specs.CommandTable.{asked}
 use Rattle.card_model.specs.Steps.{IsStage, answer_bytes}
 use Rattle.command_base.specs.CommitWords.{StandsAsked}

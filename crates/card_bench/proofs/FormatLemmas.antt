@@ -13,7 +13,7 @@ use Rattle.std.proofs.lemmas.List.{length-replicate}
 use Rattle.nvm_board.specs.laws.Sizes.{pages_same}
 use Rattle.command_base.specs.Standing.{board_blocks}
 use Rattle.undo_journal.specs.Spending.{WritesAtMost}
-use Rattle.card_core.specs.Factory.{factory_card}
+use Rattle.card_start.specs.Factory.{factory_card}
 use Rattle.command_base.specs.Finding.{Finds}
 use Rattle.card_turns.specs.BenchStates.{BenchState, off, bench_card, bench_facts, IsOff}
 use Rattle.t1_link.specs.ReaderTable.{Reader}

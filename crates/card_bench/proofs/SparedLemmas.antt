@@ -6,7 +6,7 @@ use Rattle.nvm_board.specs.declared.board.Arm.{Arm}
 use Rattle.nvm_board.specs.Aims.{Aim, aim, due_of, KeepsAim}
 use Rattle.nvm_board.specs.Facts.{Facts}
 use Rattle.command_base.specs.declared.spending.TheConstants.{COMMAND_WRITES}
-use Rattle.card_core.specs.Starting.{power_on_writes}
+use Rattle.card_start.specs.Starting.{power_on_writes}
 use Rattle.card_turns.specs.declared.playing.Turn.{Turn}
 use Rattle.card_turns.specs.declared.playing.Turn.TheVariants as turn
 use Rattle.card_turns.specs.declared.playing.Item.{Item}

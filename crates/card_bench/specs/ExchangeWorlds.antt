@@ -6,7 +6,7 @@ use Rattle.t1_link.specs.Blocks.{frame}
 use Rattle.t1_link.specs.CardTable.{link_step, runs}
 use Rattle.t1_link.specs.Garbled.{last_bit_turned}
 use Rattle.t1_link.specs.ReaderTable.{Reader}
-use Rattle.card_core.specs.Running.{card_found}
+use Rattle.card_start.specs.Running.{card_found}
 use Rattle.card_model.specs.CommandTable.{asked}
 use Rattle.card_model.specs.Steps.{IsStage}
 use Rattle.command_base.specs.CommitWords.{StandsAsked}

@@ -1,7 +1,7 @@
 -- Why words are no valid card image.
 use Rattle.std.specs.Prelude.{ℕ, List}
 use Rattle.nvm_board.specs.Facts.{IsMemory}
-use Rattle.card_core.specs.declared.faults.StartFault.TheVariants.{BadJournal, Damaged, PowerLost, Fault}
+use Rattle.card_start.specs.declared.faults.StartFault.TheVariants.{BadJournal, Damaged, PowerLost, Fault}
 use Rattle.command_base.specs.Finding.{HasCard}
 use Rattle.card_bench.specs.declared.image.NoCard.{NoCard}
 use Rattle.card_bench.specs.declared.image.NoCard.TheVariants.{Memory, Size, Start}

@@ -8,7 +8,7 @@ use Rattle.card_turns.specs.BenchStates.{BenchState, off, on, IsArmed}
 use Rattle.card_bench.specs.Exchanges.{Commands, Desk}
 use Rattle.card_bench.specs.Printouts.{Print, prints_nothing, prints_atr, prints_mute, prints_dark, prints_bytes}
 use Rattle.card_bench.specs.Printouts.{prints_free}
-use Rattle.card_core.specs.Running.{card_found}
+use Rattle.card_start.specs.Running.{card_found}
 use Rattle.card_model.specs.Cards.{card_space}
 use Rattle.card_turns.specs.Turns.{GoodBlock, GoodTurn}
 use Rattle.card_turns.specs.declared.playing.Turn.TheVariants as turn

@@ -2,7 +2,7 @@
 use Rattle.std.specs.Prelude.{◌≡◌, ◌≤◌, ℕ, List, [], ◌∷◌, ◌++◌, None, Some, true, replicate}
 use Rattle.nvm_board.specs.declared.board.TheConstants.{LEAST_PAGES, SECRETS}
 use Rattle.nvm_board.specs.Facts.{Facts}
-use Rattle.card_core.specs.Factory.{factory_card}
+use Rattle.card_start.specs.Factory.{factory_card}
 use Rattle.bench_lines.specs.Orders.{Order}
 use Rattle.card_turns.specs.BenchStates.{bench_card, bench_facts, off, IsOff}
 use Rattle.card_bench.specs.Exchanges.{Desk}

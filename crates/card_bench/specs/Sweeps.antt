@@ -12,7 +12,7 @@ use Rattle.card_turns.specs.Plays.{IsGood}
 use Rattle.card_turns.specs.Turns.{GoodBlock, GoodTurn, Runs}
 use Rattle.card_turns.specs.CardBlocks.{IsBlockStage}
 use Rattle.card_model.specs.Cards.{card_space, Card}
-use Rattle.card_core.specs.Running.{card_found}
+use Rattle.card_start.specs.Running.{card_found}
 use Rattle.t1_link.specs.CardTable.{link_step}
 use Rattle.card_bench.specs.Tallies.{Finding}
 

@@ -2,11 +2,11 @@
 ghost use Rattle.std.specs.Prelude.{◌≡◌, ◌≤◌, ◌-◌, None, IfOk};
 ghost use Rattle.nvm_board.specs.declared.board.TheConstants.{LEAST_PAGES, MOST_PAGES};
 ghost use Rattle.simulated_boards.specs.Cut.{cut_facts};
-ghost use Rattle.card_core.specs.Factory.{factory_card};
+ghost use Rattle.card_start.specs.Factory.{factory_card};
 ghost use Rattle.command_base.specs.Finding.{Finds};
 ghost use Rattle.card_bench.specs.Prints.{IsJustWritten, IsNewlyWritten};
 
-use card_core::format;
+use card_start::format;
 use nvm_board::LEAST_PAGES;
 use simulated_boards::CutBoard;
 use std::alloc::{AllocError, Global};

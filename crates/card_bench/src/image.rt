@@ -5,7 +5,7 @@ ghost use Rattle.simulated_boards.specs.Given.{board_with};
 ghost use Rattle.command_base.specs.Finding.{HasCard};
 ghost use Rattle.card_bench.specs.Images.{IsRefusedRightly};
 
-use card_core::StartFault;
+use card_start::StartFault;
 use card_turns::Powered;
 use simulated_boards::CutBoard;
 use std::alloc::Global;

@@ -15,7 +15,7 @@ ghost use Rattle.nvm_board.specs.Facts.{Facts};
 ghost use Rattle.card_turns.specs.BenchStates.{BenchState, bench_card, bench_facts};
 ghost use Rattle.card_bench.specs.Sweeps.{GivenByRun, IsStageOf, SparesStart};
 ghost use Rattle.card_bench.specs.SweptRuns.{SparesCommand};
-ghost use Rattle.card_core.specs.Starting.{power_on_writes};
+ghost use Rattle.card_start.specs.Starting.{power_on_writes};
 ghost use Rattle.card_bench.specs.Tallies.{Finding};
 ghost use Rattle.card_bench.specs.Exchanges.{Desk};
 ghost use Rattle.card_bench.specs.ExchangeWorlds.{ExchangeLaw};

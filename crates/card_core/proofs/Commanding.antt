@@ -15,12 +15,12 @@ use Rattle.undo_journal.specs.declared.error.StoreErr.{StoreErr}
 use Rattle.undo_journal.specs.declared.error.StoreErr.TheVariants.{PowerLost, Fault}
 use Rattle.undo_journal.specs.Memory.{Memory, IsReady}
 use Rattle.card_state.specs.declared.space.FreeSpace.{FreeSpace}
-use Rattle.card_core.specs.declared.state.CardState.{CardState}
-use Rattle.card_core.specs.declared.state.CardState.TheVariants.{Working, Failed, Dark}
+use Rattle.card_start.specs.declared.state.CardState.{CardState}
+use Rattle.card_start.specs.declared.state.CardState.TheVariants.{Working, Failed, Dark}
 use Rattle.command_base.specs.declared.current.Current.{Current}
-use Rattle.card_core.specs.declared.faults.PowerLost.{PowerLost as Lost}
+use Rattle.card_start.specs.declared.faults.PowerLost.{PowerLost as Lost}
 use Rattle.card_model.specs.Behaviours.{answer_bytes, Outcome, outcome}
-use Rattle.card_core.specs.Running.{card_found, memory_failure, FailsIn, IsCutIn, Running, Steps}
+use Rattle.card_start.specs.Running.{card_found, memory_failure, FailsIn, IsCutIn, Running, Steps}
 use Rattle.command_base.specs.Served.{CarriesOut}
 use Rattle.card_model.specs.Sessions.{Session}
 use Rattle.command_base.specs.Working.{card_in, session_in, space_in, table_in, IsKept}

@@ -1,14 +1,6 @@
-pub mod Entries
 pub mod Looking
 pub mod Carrying
-pub mod Powers
-pub mod Migrated
 pub mod Commanding
-pub mod FactoryPages
-pub mod FactoryBlocks
-pub mod FactoryTable
-pub mod FactoryLemmas
-pub mod FactoryFound
 pub mod Refusing
 pub mod FoundFiles
 pub mod Failing

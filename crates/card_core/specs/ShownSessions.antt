@@ -1,8 +1,8 @@
 -- The session in the model of a card.
 use Rattle.std.specs.Prelude.{List}
 use Rattle.file_tree.specs.declared.entry.Entry.{Entry}
-use Rattle.card_core.specs.declared.state.CardState.{CardState}
-use Rattle.card_core.specs.declared.state.CardState.TheVariants.{Working, Failed, Dark}
+use Rattle.card_start.specs.declared.state.CardState.{CardState}
+use Rattle.card_start.specs.declared.state.CardState.TheVariants.{Working, Failed, Dark}
 use Rattle.command_base.specs.declared.current.Current.{Current}
 use Rattle.card_model.specs.Sessions.{Session, fresh_session}
 use Rattle.command_base.specs.Working.{session_of}

@@ -7,10 +7,9 @@ ghost use Rattle.card_core.specs.Lending.{IsWholeCard};
 ghost use Rattle.command_base.specs.Working.{space_in, table_in};
 ghost use Rattle.file_tree.specs.Indexes.{IsIndex};
 
-use crate::check::header_word;
-use crate::layout::CARD_IN_USE;
 use crate::lent::Lent;
 use apdu_core::{Answer, Command, Sw};
+use card_start::{CARD_IN_USE, header_word};
 use command_base::{Stop, reply};
 use content_commands::{
     append_record, increase, read_file, read_record, search_record, update_file, update_record,

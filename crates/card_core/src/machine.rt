@@ -4,8 +4,8 @@ ghost use Rattle.std.specs.Prelude.{OnErr, IfOk, IfErr, IsErrOf, Ok, Err, MatchO
 ghost use Rattle.nvm_board.specs.Aims.{due_of};
 ghost use Rattle.nvm_board.specs.BoardCalls.{Arms};
 ghost use Rattle.undo_journal.specs.declared.error.StoreErr.TheVariants as StoreErr;
-ghost use Rattle.card_core.specs.declared.faults.StartFault.TheVariants as StartFault;
-ghost use Rattle.card_core.specs.FaultParts.{fault_of_store};
+ghost use Rattle.card_start.specs.declared.faults.StartFault.TheVariants as StartFault;
+ghost use Rattle.card_start.specs.FaultParts.{fault_of_store};
 ghost use Rattle.undo_journal.specs.Spending.{Advances, WritesAtMost, KeepsBoard};
 ghost use Rattle.ef_body.specs.BodyChanges.{update_writes};
 ghost use Rattle.card_model.specs.CommandTable.{asked};
@@ -14,9 +14,9 @@ ghost use Rattle.card_model.specs.declared.requests.Target.{Target};
 ghost use Rattle.command_base.specs.Comparing.{comparisons, ComparesAsked};
 ghost use Rattle.card_model.specs.Cards.{card_space};
 ghost use Rattle.command_base.specs.Finding.{HasCard, FindsAgain};
-ghost use Rattle.card_core.specs.Starting.{IsNewFound, KeepsFormat, KeepsFoundUnlessOld, KeepsUnlessOld};
-ghost use Rattle.card_core.specs.Starting.{RenamesLast, RollsBackUnlessOld, TakesAllPages, power_on_writes};
-ghost use Rattle.card_core.specs.Running.{Starts, StartStopsBy, Steps, FailsIn, IsCutIn, card_found, memory_failure};
+ghost use Rattle.card_start.specs.Starting.{IsNewFound, KeepsFormat, KeepsFoundUnlessOld, KeepsUnlessOld};
+ghost use Rattle.card_start.specs.Starting.{RenamesLast, RollsBackUnlessOld, TakesAllPages, power_on_writes};
+ghost use Rattle.card_start.specs.Running.{Starts, StartStopsBy, Steps, FailsIn, IsCutIn, card_found, memory_failure};
 ghost use Rattle.command_base.specs.CommandWrites.{writes_of};
 ghost use Rattle.card_model.specs.WellFormed.{HasCurrentFiles};
 ghost use Rattle.card_model.specs.Steps.{IsStage, ChangesNothing};
@@ -25,11 +25,9 @@ ghost use Rattle.card_model.specs.Behaviours.{answer_bytes};
 ghost use Rattle.command_base.specs.declared.spending.TheConstants.{COMMAND_WRITES};
 
 use crate::commands::carry_out;
-use crate::faults::{PowerLost, StartFault};
 use crate::lent::Lent;
-use crate::renewing::survey_card;
-use crate::state::CardState;
 use apdu_core::{Answer, Sw};
+use card_start::{CardState, PowerLost, StartFault, survey_card};
 use command_base::Current;
 use file_tree::FreeSpace;
 use std::marker::Model;
@@ -44,7 +42,7 @@ pub struct Card<B: Board> {
 }
 
 impl<B: Board> Model for Card<B> {
-    ghost use Rattle.card_core.specs.Running.{Running};
+    ghost use Rattle.card_start.specs.Running.{Running};
     ghost use Rattle.std.specs.Coded.{codes};
     ghost use Rattle.card_model.specs.Sessions.{session_code};
 
@@ -54,7 +52,7 @@ impl<B: Board> Model for Card<B> {
 
     ghost use Rattle.std.specs.Prelude.{◌≡◌, true};
     ghost use Rattle.command_base.specs.Finding.{HasCard};
-    ghost use Rattle.card_core.specs.declared.state.CardState.TheVariants.{Working, Dark};
+    ghost use Rattle.card_start.specs.declared.state.CardState.TheVariants.{Working, Dark};
     ghost use Rattle.card_core.specs.Lending.{IsWholeCard};
     ghost use Rattle.card_core.specs.ShownSessions.{session_while};
     ghost use Rattle.command_base.specs.Working.{table_in};

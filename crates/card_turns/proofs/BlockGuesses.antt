@@ -13,7 +13,7 @@ use Rattle.card_model.specs.Cards.{Card, IsProper}
 use Rattle.command_base.specs.Comparing.{Comparisons, comparisons}
 use Rattle.command_base.specs.Finding.{HasCard, found, words_found}
 use Rattle.card_model.specs.PinCommands.{no_pin, pin_of}
-use Rattle.card_core.specs.Running.{card_found}
+use Rattle.card_start.specs.Running.{card_found}
 use Rattle.command_base.specs.Standing.{card_of, card_pins}
 use Rattle.command_base.specs.laws.FoundLaws.{found_is_proper}
 use Rattle.card_model.specs.laws.ProperLaws.{at-or, either-if}

@@ -2,7 +2,7 @@
 use Rattle.std.specs.Prelude.{◌≡◌, ◌⊎◌, ℕ, List, [], Option, Some, unwrap_or}
 use Rattle.std.proofs.Common.{ap, inl, inr, refl, subst, sym, ◌∙◌}
 use Rattle.t1_link.specs.CardTable.{Reaction, answers, reply_bytes, waiting_command, link_step, replies, runs}
-use Rattle.card_core.specs.Running.{FailsIn, IsCutIn, Steps, card_found, memory_failure}
+use Rattle.card_start.specs.Running.{FailsIn, IsCutIn, Steps, card_found, memory_failure}
 use Rattle.card_model.specs.Steps.{answer_bytes}
 use Rattle.card_turns.specs.CardBlocks.{BlockCounts, FailsAt, IsCutAt, IsRun, Powered, Replies, answering}
 use Rattle.card_turns.specs.CardBlocks.{card_by, machine, session_by}

@@ -1,7 +1,7 @@
 -- What a card can still do, by what it did.
 use Rattle.std.specs.Prelude.{◌≡◌, ◌≢◌, Result, Ok, Err, OnErr, refl}
-use Rattle.card_core.specs.declared.state.CardState.{CardState}
-use Rattle.card_core.specs.declared.state.CardState.TheVariants.{Working, Failed, Dark}
+use Rattle.card_start.specs.declared.state.CardState.{CardState}
+use Rattle.card_start.specs.declared.state.CardState.TheVariants.{Working, Failed, Dark}
 
 -- A card that isn't dark, and other do what a failed one does, works.
 pub works_if_cut : (state : CardState) (Does : Type 0) → state ≢ Dark → (state ≡ Failed → Does)

@@ -6,13 +6,13 @@ use Rattle.card_turns.specs.declared.playing.Turn.{Turn}
 use Rattle.card_turns.specs.declared.playing.Item.{Item}
 use Rattle.t1_link.specs.CardTable.{link_step}
 use Rattle.undo_journal.specs.Spending.{Advances}
-use Rattle.card_core.specs.declared.state.CardState.{CardState}
-use Rattle.card_core.specs.declared.state.CardState.TheVariants as state
-use Rattle.card_core.specs.declared.state.CardState.TheVariants.{Working}
+use Rattle.card_start.specs.declared.state.CardState.{CardState}
+use Rattle.card_start.specs.declared.state.CardState.TheVariants as state
+use Rattle.card_start.specs.declared.state.CardState.TheVariants.{Working}
 use Rattle.command_base.specs.Comparing.{comparisons}
 use Rattle.command_base.specs.declared.spending.TheConstants.{COMMAND_WRITES}
 use Rattle.command_base.specs.Finding.{HasCard}
-use Rattle.card_core.specs.Running.{Running, card_found}
+use Rattle.card_start.specs.Running.{Running, card_found}
 use Rattle.command_base.specs.laws.ShownLaws.{ComparesOrStays}
 use Rattle.card_turns.specs.declared.playing.Item.TheVariants.{Dark, Mute, Reply}
 use Rattle.card_turns.specs.BenchStates.{BenchState, off, on, bench_facts}

@@ -6,12 +6,12 @@ use Rattle.nvm_board.specs.Facts.{Facts, GoesDark, IsMemory, IsWorn, IsWornOut, 
 use Rattle.undo_journal.specs.declared.layout.TheConstants.{PAIRS}
 use Rattle.undo_journal.specs.Spending.{WritesAtMost, rollback_writes, start_writes}
 use Rattle.undo_journal.specs.Undo.{gate}
-use Rattle.card_core.specs.declared.faults.StartFault.{StartFault}
-use Rattle.card_core.specs.declared.faults.StartFault.TheVariants.{PowerLost, Fault, BadJournal, Damaged}
+use Rattle.card_start.specs.declared.faults.StartFault.{StartFault}
+use Rattle.card_start.specs.declared.faults.StartFault.TheVariants.{PowerLost, Fault, BadJournal, Damaged}
 use Rattle.command_base.specs.Comparing.{Comparisons, comparisons}
 use Rattle.command_base.specs.Finding.{FindsAgain, HasCard, found}
-use Rattle.card_core.specs.Running.{Starts, StartStopsBy}
-use Rattle.card_core.specs.Starting.{KeepsFoundUnlessOld, power_on_writes, renewal_writes}
+use Rattle.card_start.specs.Running.{Starts, StartStopsBy}
+use Rattle.card_start.specs.Starting.{KeepsFoundUnlessOld, power_on_writes, renewal_writes}
 use Rattle.t1_link.specs.CardTable.{fresh}
 use Rattle.card_turns.specs.declared.playing.Turn.TheVariants as turn
 use Rattle.card_turns.specs.declared.playing.Item.TheVariants as item

@@ -9,7 +9,7 @@ use Rattle.nvm_board.specs.Aims.{KeepsAim}
 use Rattle.nvm_board.specs.Facts.{Facts, IsMemory, IsWornOut, RisesAt, pages_of}
 use Rattle.file_tree.specs.Formats.{is_format_2}
 use Rattle.migration.specs.Migrating.{migration_writes}
-use Rattle.card_core.specs.Starting.{renewal_writes}
+use Rattle.card_start.specs.Starting.{renewal_writes}
 use Rattle.undo_journal.specs.declared.layout.TheConstants.{PAIRS}
 use Rattle.undo_journal.specs.Spending.{start_writes}
 use Rattle.undo_journal.specs.Undo.{gate}

@@ -1,10 +1,10 @@
 -- The state of a bench: a board with power off, or a powered card with its end of the link.
 use Rattle.std.specs.Prelude.{◌≡◌, true, false, Option, None, Some, IsSome, ◌≤◌, ◌-◌, ℕ}
 use Rattle.nvm_board.specs.Facts.{Facts}
-use Rattle.card_core.specs.declared.state.CardState.TheVariants.{Working}
+use Rattle.card_start.specs.declared.state.CardState.TheVariants.{Working}
 use Rattle.card_model.specs.Cards.{Card, card_space}
 use Rattle.command_base.specs.Finding.{HasCard, found}
-use Rattle.card_core.specs.Running.{card_found}
+use Rattle.card_start.specs.Running.{card_found}
 use Rattle.card_model.specs.Sessions.{fresh_session}
 use Rattle.card_state.specs.declared.space.FreeSpace.{FreeSpace}
 use Rattle.t1_link.specs.CardTable.{fresh}

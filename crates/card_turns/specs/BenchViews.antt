@@ -2,7 +2,7 @@
 use Rattle.std.specs.Prelude.{◌≡◌, ◌≢◌, length, true}
 use Rattle.nvm_board.specs.declared.board.TheConstants.{SECRETS}
 use Rattle.nvm_board.specs.Facts.{Facts}
-use Rattle.card_core.specs.declared.state.CardState.TheVariants.{Dark}
+use Rattle.card_start.specs.declared.state.CardState.TheVariants.{Dark}
 use Rattle.command_base.specs.Comparing.{Comparisons, comparisons}
 use Rattle.card_turns.specs.declared.playing.Power.{Power}
 use Rattle.card_turns.specs.declared.playing.Power.TheVariants.{Off, On}

@@ -5,12 +5,12 @@ use Rattle.t1_link.specs.CardTable.{Link, link_step, Taken, Reaction, replies, r
 use Rattle.card_model.specs.CommandTable.{asked}
 use Rattle.command_base.specs.Comparing.{comparisons, ComparesAsked, ComparesNothing}
 use Rattle.command_base.specs.Counting.{CountsAnswered}
-use Rattle.card_core.specs.declared.state.CardState.TheVariants.{Working, Failed, Dark}
+use Rattle.card_start.specs.declared.state.CardState.TheVariants.{Working, Failed, Dark}
 use Rattle.card_model.specs.Cards.{Card}
 use Rattle.card_model.specs.Sessions.{Session, fresh_session}
 use Rattle.card_model.specs.Steps.{ChangesNothing, IsStage, Outcome, answer_bytes, carried_out}
 use Rattle.command_base.specs.CommitWords.{StandsAsked}
-use Rattle.card_core.specs.Running.{Running, card_found, memory_failure}
+use Rattle.card_start.specs.Running.{Running, card_found, memory_failure}
 
 -- the card and its end of the link
 pub record Powered : Type 0 where

@@ -8,7 +8,7 @@ use Rattle.nvm_board.specs.declared.board.TheConstants.{MOST_PAGES}
 use Rattle.file_tree.specs.Formats.{is_format_2}
 use Rattle.migration.specs.Migrating.{migration_writes}
 use Rattle.command_base.specs.Finding.{words_found}
-use Rattle.card_core.specs.Starting.{KeepsFoundUnlessOld, power_on_writes}
+use Rattle.card_start.specs.Starting.{KeepsFoundUnlessOld, power_on_writes}
 use Rattle.t1_link.specs.CardTable.{link_step}
 use Rattle.card_turns.specs.declared.playing.Turn.{Turn}
 use Rattle.card_turns.specs.declared.playing.Turn.TheVariants as turn

@@ -9,7 +9,8 @@ ghost use Rattle.card_turns.specs.Turns.{CountsLosses, GoodTurn, Runs, darks};
 
 use crate::powered::Powered;
 use crate::turn_result::TurnResult;
-use card_core::{FreeSpace, StartFault};
+use card_core::FreeSpace;
+use card_start::StartFault;
 use core::mem::replace_with;
 use nvm_board::{Armed, Faultless, Socket, has_no_fault};
 use std::marker::Model;

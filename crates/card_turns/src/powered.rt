@@ -6,15 +6,16 @@ ghost use Rattle.nvm_board.specs.BoardCalls.{Arms};
 ghost use Rattle.undo_journal.specs.Spending.{Advances, KeepsBoard, WritesAtMost};
 ghost use Rattle.command_base.specs.declared.spending.TheConstants.{COMMAND_WRITES};
 ghost use Rattle.command_base.specs.Finding.{HasCard, FindsAgain};
-ghost use Rattle.card_core.specs.Running.{Starts, StartStopsBy, card_found};
+ghost use Rattle.card_start.specs.Running.{Starts, StartStopsBy, card_found};
 ghost use Rattle.card_model.specs.Cards.{card_space};
-ghost use Rattle.card_core.specs.Starting.{IsNewFound, KeepsFormat, KeepsFoundUnlessOld, KeepsUnlessOld};
-ghost use Rattle.card_core.specs.Starting.{RenamesLast, RollsBackUnlessOld, TakesAllPages, power_on_writes};
+ghost use Rattle.card_start.specs.Starting.{IsNewFound, KeepsFormat, KeepsFoundUnlessOld, KeepsUnlessOld};
+ghost use Rattle.card_start.specs.Starting.{RenamesLast, RollsBackUnlessOld, TakesAllPages, power_on_writes};
 ghost use Rattle.t1_link.specs.CardTable.{link_step, fresh};
 ghost use Rattle.card_turns.specs.CardBlocks.{Replies, RepliesFailure, FailsAt, IsCutAt, IsBlockStage};
 ghost use Rattle.card_turns.specs.CardBlocks.{IsRun, BlockChangesNothing, BlockCompares, BlockStands};
 
-use card_core::{Answer, Card, CardState, FreeSpace, PowerLost, StartFault};
+use card_core::{Answer, Card, FreeSpace};
+use card_start::{CardState, PowerLost, StartFault};
 use nvm_board::{Armed, Board, Faultless};
 use std::marker::Model;
 use t1_link::{Action, BlockBytes, CardEnd};
@@ -38,7 +39,7 @@ impl<B: Board> Model for Powered<B> {
     ghost coded = { Prim.hlevel (codes, session_code) };
 
     ghost use Rattle.std.specs.Prelude.{◌≡◌, ◌≢◌, None};
-    ghost use Rattle.card_core.specs.declared.state.CardState.TheVariants.{Dark};
+    ghost use Rattle.card_start.specs.declared.state.CardState.TheVariants.{Dark};
 
     ghost view = { λ p. record { card = p.card; link = p.link.link } };
 

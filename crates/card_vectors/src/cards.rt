@@ -1,7 +1,8 @@
 //! The factory image, memories that boot and others that don't, and boards without power.
 
 use crate::fixtures::{formatted, formatted_old};
-use card_core::{Card, FreeSpace, StartFault, format};
+use card_core::{Card, FreeSpace};
+use card_start::{StartFault, format};
 use nvm_board::{Armed, Board, DeviceErr, Socket};
 use simulated_boards::{CutBoard, RamBoard};
 use std::alloc::Global;

@@ -1,9 +1,9 @@
 //! Factory images, for tests of cards.
 ghost use Rattle.std.specs.Prelude.{IfOk};
-ghost use Rattle.card_core.specs.Factory.{IsFactory};
-ghost use Rattle.card_core.specs.declared.memory_format.MemoryFormat.TheVariants.{One, Two};
+ghost use Rattle.card_start.specs.Factory.{IsFactory};
+ghost use Rattle.card_start.specs.declared.memory_format.MemoryFormat.TheVariants.{One, Two};
 
-use card_core::{format, format_old};
+use card_start::{format, format_old};
 use nvm_board::Board;
 use std::test::Fail;
 

@@ -2,7 +2,8 @@
 //! device call in turn.
 
 use crate::fixtures::{formatted, formatted_old};
-use card_core::{Card, StartFault};
+use card_core::Card;
+use card_start::StartFault;
 use nvm_board::{Armed, Board};
 use simulated_boards::{CutBoard, FaultBoard};
 use std::alloc::Global;

@@ -2,7 +2,8 @@
 
 use crate::fixtures::formatted;
 use crate::standing::{GATE as GATE_ADDRESS, Start, start_of};
-use card_core::{Card, StartFault};
+use card_core::Card;
+use card_start::StartFault;
 use nvm_board::Board;
 use simulated_boards::CutBoard;
 use std::alloc::Global;

@@ -4,7 +4,7 @@ ghost use Rattle.std.specs.Prelude.{◌≤◌};
 
 use crate::ends::{Ends, words_of};
 use crate::starts::{cut_board, is_factory_card, makes_writes, old_board, started};
-use card_core::MemoryFormat;
+use card_start::MemoryFormat;
 use nvm_board::Board;
 use simulated_boards::CutBoard;
 use std::alloc::Global;

@@ -1,6 +1,6 @@
 //! The possible results of a migration in plain code: the words before it, and those after it.
 
-use card_core::MemoryFormat;
+use card_start::MemoryFormat;
 use card_vectors::standing::{put, undo, word};
 use nvm_board::Board;
 use simulated_boards::CutBoard;

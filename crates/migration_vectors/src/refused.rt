@@ -3,7 +3,8 @@
 
 use crate::ends::{with_all_words, words_of};
 use crate::starts::{is_factory_card, makes_writes, new_board, old_board, started};
-use card_core::{Card, StartFault};
+use card_core::Card;
+use card_start::StartFault;
 use nvm_board::{Armed, Board};
 use simulated_boards::CutBoard;
 use std::alloc::Global;

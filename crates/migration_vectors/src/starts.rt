@@ -1,7 +1,8 @@
 //! Power-ons that may be cut, the number of their writes, and the answers of a powered card.
 ghost use Rattle.std.specs.Prelude.{◌≤◌};
 
-use card_core::{Answer, Card, FreeSpace, StartFault};
+use card_core::{Answer, Card, FreeSpace};
+use card_start::StartFault;
 use card_vectors::fixtures::{formatted, formatted_old};
 use nvm_board::{Armed, Socket};
 use simulated_boards::CutBoard;

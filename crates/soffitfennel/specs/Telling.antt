@@ -6,7 +6,7 @@ use Rattle.simulated_boards.specs.Given.{board_with}
 use Rattle.kept_board.specs.Handed.{Run}
 use Rattle.kept_board.specs.Kept.{kept_facts}
 use Rattle.kept_board.specs.declared.kept_board.KeptBoard.{KeptBoard}
-use Rattle.card_core.specs.Factory.{factory_card}
+use Rattle.card_start.specs.Factory.{factory_card}
 use Rattle.command_base.specs.Finding.{Finds, HasCard}
 use Rattle.bench_lines.specs.Orders.{Order, IsOrderSized, Free}
 use Rattle.card_turns.specs.BenchStates.{bench_facts}

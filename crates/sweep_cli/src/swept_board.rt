@@ -1,7 +1,7 @@
 //! The board that is swept: with the factory card, or with the card in a file.
 ghost use Rattle.std.specs.Prelude.{◌≡◌, None, IfOk};
 ghost use Rattle.simulated_boards.specs.Cut.{cut_facts};
-ghost use Rattle.card_core.specs.Factory.{factory_card};
+ghost use Rattle.card_start.specs.Factory.{factory_card};
 ghost use Rattle.command_base.specs.Finding.{Finds, HasCard};
 ghost use Rattle.card_bench.specs.Prints.{IsJustWritten};
 

@@ -6,8 +6,8 @@ use Rattle.simulated_boards.specs.declared.cut_board.CutBoard.{CutBoard}
 use Rattle.simulated_boards.specs.Cut.{cut_facts}
 use Rattle.nvm_board.specs.Facts.{Answered, Facts, new_board}
 use Rattle.undo_journal.specs.Spending.{WritesAtMost}
-use Rattle.card_core.specs.declared.memory_format.MemoryFormat.TheVariants.{Two}
-use Rattle.card_core.specs.Factory.{factory_card, Formats}
+use Rattle.card_start.specs.declared.memory_format.MemoryFormat.TheVariants.{Two}
+use Rattle.card_start.specs.Factory.{factory_card, Formats}
 use Rattle.command_base.specs.Finding.{Finds}
 use Rattle.card_bench.proofs.FormatLemmas.{format_succeeds, just_written, new_blocks, new_pages, none_due}
 use Rattle.card_bench.proofs.factory.factory_board_of.Goals as goal

@@ -1,4 +1,4 @@
-use Rattle.card_core.proofs.FactoryFound.{stands-found}
+use Rattle.card_start.proofs.FactoryFound.{stands-found}
 use Rattle.card_core.proofs.laws.standing_card_is_found.Goals as goal
 
 pub returns : goal.returns

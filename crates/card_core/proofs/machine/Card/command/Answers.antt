@@ -2,12 +2,12 @@ use Rattle.std.proofs.Common.{refl, ◌≡◌, ◌⊎◌, ◌+◌, ◌≤◌, in
 use Rattle.nvm_board.specs.laws.Aims.{aim_same, aims_same}
 use Rattle.undo_journal.specs.Spending.{Advances, KeepsBoard}
 use Rattle.card_model.specs.CommandTable.{asked}
-use Rattle.card_core.specs.declared.state.CardState.{CardState}
-use Rattle.card_core.specs.declared.state.CardState.TheVariants.{Working, Failed, Dark}
+use Rattle.card_start.specs.declared.state.CardState.{CardState}
+use Rattle.card_start.specs.declared.state.CardState.TheVariants.{Working, Failed, Dark}
 use Rattle.command_base.specs.declared.spending.TheConstants.{COMMAND_WRITES}
 use Rattle.command_base.specs.Comparing.{comparisons, ComparesAsked}
 use Rattle.command_base.specs.Finding.{HasCard}
-use Rattle.card_core.specs.Running.{card_found, FailsIn, IsCutIn, Running, Steps}
+use Rattle.card_start.specs.Running.{card_found, FailsIn, IsCutIn, Running, Steps}
 use Rattle.card_model.specs.Sessions.{Session}
 use Rattle.command_base.specs.CommandWrites.{writes_asked, writes_of}
 use Rattle.card_model.specs.Steps.{ChangesNothing, IsStage}

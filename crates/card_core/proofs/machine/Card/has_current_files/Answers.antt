@@ -1,8 +1,8 @@
 use Rattle.std.proofs.Common.{◌≡◌, sym, subst}
 use Rattle.undo_journal.specs.Memory.{committed}
-use Rattle.card_core.specs.declared.state.CardState.{CardState}
-use Rattle.card_core.specs.declared.state.CardState.TheVariants.{Working}
-use Rattle.card_core.specs.Running.{card_found, Running}
+use Rattle.card_start.specs.declared.state.CardState.{CardState}
+use Rattle.card_start.specs.declared.state.CardState.TheVariants.{Working}
+use Rattle.card_start.specs.Running.{card_found, Running}
 use Rattle.card_core.specs.ShownSessions.{session_while}
 use Rattle.card_model.specs.WellFormed.{HasCurrentFiles}
 use Rattle.command_base.specs.Standing.{card_of}

@@ -8,27 +8,27 @@ use Rattle.undo_journal.specs.Undo.{data_words}
 use Rattle.command_base.specs.Finding.{FindsAgain}
 use Rattle.tree_check.specs.declared.tree.Survey.{Survey}
 use Rattle.command_base.specs.Standing.{IsAnyCard}
-use Rattle.card_core.specs.declared.state.CardState.TheVariants.{Working, Dark}
+use Rattle.card_start.specs.declared.state.CardState.TheVariants.{Working, Dark}
 use Rattle.command_base.specs.declared.current.Current.{Current}
 use Rattle.command_base.specs.Working.{IsKept, session_of, table_in}
-use Rattle.card_core.specs.StartParts.{TellsSurvey}
+use Rattle.card_start.specs.CardSurveys.{TellsSurvey}
 use Rattle.command_base.specs.laws.Entries.{master-path}
 use Rattle.std.specs.Prelude.{◌+◌, if◌then◌else◌, IsSome}
 use Rattle.nvm_board.specs.Facts.{pages_of}
 use Rattle.file_tree.specs.Formats.{is_format_2}
 use Rattle.migration.specs.Migrating.{migration_writes}
 use Rattle.nvm_board.specs.Facts.{Facts}
-use Rattle.card_core.specs.Running.{StartStopsBy}
+use Rattle.card_start.specs.Running.{StartStopsBy}
 use Rattle.undo_journal.specs.laws.Calls.{boards_then, within_more}
 use Rattle.block_chain.specs.BlockWords.{word}
 use Rattle.block_chain.specs.declared.layout.TheConstants.{HEADER_PAGE}
 use Rattle.file_tree.specs.declared.layout.TheConstants.{MARK_WORD}
 use Rattle.command_base.specs.Standing.{IsOldCard}
-use Rattle.card_core.specs.Starting.{KeepsFormat, KeepsFoundUnlessOld, RenamesLast, RollsBackUnlessOld, power_on_writes}
+use Rattle.card_start.specs.Starting.{KeepsFormat, KeepsFoundUnlessOld, RenamesLast, RollsBackUnlessOld, power_on_writes}
 use Rattle.command_base.specs.laws.CardLaws.{card_format}
-use Rattle.card_core.proofs.Migrated.{found-again, found-format, found-pages, found-still, renames-last}
-use Rattle.card_core.proofs.Migrated.{spends-all, spends-on}
-use Rattle.card_core.proofs.Powers.{found-there, starts-kept, stops-found, stops-opening}
+use Rattle.card_start.proofs.Migrated.{found-again, found-format, found-pages, found-still, renames-last}
+use Rattle.card_start.proofs.Migrated.{spends-all, spends-on}
+use Rattle.card_start.proofs.Powers.{found-there, starts-kept, stops-found, stops-opening}
 use Rattle.card_core.proofs.machine.Card.start.Goals as goal
 
 pub returns-in-Err-survey_of-clause-stopped : goal.returns-in-Err-survey_of-clause-stopped

@@ -1,7 +1,7 @@
 use Rattle.std.proofs.Common.{rules, sym}
 use Rattle.t1_link.specs.CardTable.{link_step}
 use Rattle.command_base.specs.declared.spending.TheConstants.{COMMAND_WRITES}
-use Rattle.card_core.specs.Running.{card_found}
+use Rattle.card_start.specs.Running.{card_found}
 use Rattle.card_turns.specs.BenchStates.{on}
 use Rattle.card_turns.specs.Plays.{BringsNoFault}
 use Rattle.card_turns.specs.Turns.{Wears}

@@ -1,12 +1,12 @@
 use Rattle.undo_journal.specs.Spending.{KeepsBoard}
 use Rattle.std.specs.Prelude.{◌≡◌, ◌⊎◌, ◌≢◌, ℕ, List, [], Option, Some, unwrap_or}
 use Rattle.std.proofs.Common.{rules, ap, sym, refl, subst, ◌∙◌}
-use Rattle.card_core.specs.declared.state.CardState.TheVariants.{Working, Dark}
+use Rattle.card_start.specs.declared.state.CardState.TheVariants.{Working, Dark}
 use Rattle.card_model.specs.CommandTable.{asked}
 use Rattle.t1_link.specs.CardTable.{answers, reply_bytes, waiting_command, link_step, CardLink, Link, Reaction}
 use Rattle.t1_link.specs.CardTable.{replies, runs}
 use Rattle.command_base.specs.Comparing.{comparisons, ComparesAsked}
-use Rattle.card_core.specs.Running.{card_found}
+use Rattle.card_start.specs.Running.{card_found}
 use Rattle.command_base.specs.laws.CompareLaws.{asked-none}
 use Rattle.card_turns.specs.CardBlocks.{BlockChangesNothing, BlockCompares, BlockStands, FailsAt, IsBlockStage, IsCutAt}
 use Rattle.card_turns.specs.CardBlocks.{Powered, Replies}

@@ -1,7 +1,7 @@
 -- The board of a start that stops is passed on.
 use Rattle.std.proofs.Common.{◌≡◌, rules, subst, sym}
 use Rattle.std.specs.Prelude.{Result, Ok, Err, IfErr, IsErrAnd}
-use Rattle.card_core.specs.Starting.{KeepsUnlessOld}
+use Rattle.card_start.specs.Starting.{KeepsUnlessOld}
 use Rattle.card_turns.proofs.powered.Powered.start.Goals as goal
 
 -- what holds of an error holds of the result that passes it on

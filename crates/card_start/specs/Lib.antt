@@ -1,0 +1,7 @@
+-- Power-on, the state of a powered card, and the factory image. The card itself is defined in card_state.
+pub mod Factory
+pub mod Starting
+pub mod Running
+pub mod FaultParts
+pub mod StartParts
+pub mod CardSurveys

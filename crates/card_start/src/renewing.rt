@@ -1,0 +1,56 @@
+//! What a start finds of a card, whose memory becomes one of format 2 if it isn't yet.
+ghost use Rattle.std.specs.Prelude.{◌≡◌, ◌⊎◌, ◌+◌, ◌≤◌, IfOk, IsSome, if◌then◌else◌};
+ghost use Rattle.block_chain.specs.BlockWords.{word};
+ghost use Rattle.block_chain.specs.declared.layout.TheConstants.{HEADER_PAGE};
+ghost use Rattle.file_tree.specs.declared.layout.TheConstants.{MARK_WORD};
+ghost use Rattle.std.specs.Result.{result_err};
+ghost use Rattle.nvm_board.specs.Facts.{pages_of};
+ghost use Rattle.undo_journal.specs.StoreCalls.{Changes, OnlyReads};
+ghost use Rattle.undo_journal.specs.Memory.{committed, IsReady};
+ghost use Rattle.file_tree.specs.Formats.{is_format_2};
+ghost use Rattle.migration.specs.Migrating.{Migrates, migration_writes};
+ghost use Rattle.command_base.specs.Standing.{IsOldCard};
+ghost use Rattle.card_start.specs.CardSurveys.{TellsSurvey};
+
+use crate::check::find_card;
+use crate::memory_format::MemoryFormat;
+use file_tree::{FreeSpace, OLD_END_PAGE};
+use migration::migrate;
+use tree_check::Survey;
+use undo_journal::{Board, Store, StoreErr};
+
+/// Checks the card image, and migrates it to format 2 if needed.
+/// Returns `None` if it is no valid card image. At every exit the card state is the same, in the format of its header.
+pub fn survey_card<B: Board>(store: &mut Store<B>) -> Result<Option<Survey>, StoreErr>
+    requires ready { IsReady store.old }
+    ensures any_exit { (committed store.new ≡ committed store.old)
+        ⊎ (IsOldCard (committed store.old) × Migrates (committed store.old) (committed store.new)) }
+    ensures card { IfOk result (TellsSurvey (committed store.old) (committed store.new)) }
+    ensures last { (word (committed store.new) HEADER_PAGE MARK_WORD ≡ word (committed store.old) HEADER_PAGE MARK_WORD)
+        ⊎ (store.old.facts.writes + (if is_format_2 (committed store.old) then 0
+        else migration_writes (pages_of (committed store.old))) ≤ store.new.facts.writes + 1) }
+    ensures counted { IfOk result (λ found. IsSome found → store.new.facts.writes ≡ store.old.facts.writes
+        + (if is_format_2 (committed store.old) then 0 else migration_writes (pages_of (committed store.old)))) }
+    ensures idle { ¬ IsOldCard (committed store.old) → OnlyReads store.old store.new }
+    ensures store { Changes (if is_format_2 (committed store.old) then 0
+        else migration_writes (pages_of (committed store.old))) store.old store.new (result_err result) }
+{
+    let Some(found) = find_card(store)? else {
+        return Ok(None);
+    };
+    match found.format {
+        MemoryFormat::Two => Ok(Some(found.tree)),
+        MemoryFormat::One => {
+            migrate(store)?;
+            let FreeSpace { blocks, entries } = found.tree.free;
+            Ok(Some(Survey {
+                // The free space grows by the gained blocks, one a page from page 1,024 on.
+                free: FreeSpace {
+                    blocks: blocks + (store.pages() - OLD_END_PAGE),
+                    entries,
+                },
+                index: found.tree.index,
+            }))
+        }
+    }
+}
