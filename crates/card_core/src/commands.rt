@@ -14,11 +14,10 @@ use command_base::{Stop, reply};
 use content_commands::{
     append_record, increase, read_file, read_record, search_record, update_file, update_record,
 };
-use file_commands::{
-    change_life_cycle, create_file, delete_file, select_file, terminate_card_usage,
-};
+use file_commands::{change_life_cycle, create_file, delete_file, terminate_card_usage};
 use file_tree::STATE_WORD;
 use pin_commands::{change_reference_data, change_requirement, reset_retry_counter, verify};
+use select_command::select_file;
 use undo_journal::{Board, StoreErr};
 
 /// Runs the bytes of a command, and writes its data into `answer`.

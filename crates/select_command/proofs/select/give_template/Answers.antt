@@ -1,6 +1,6 @@
 use Rattle.std.proofs.Common.{sym, ◌∙◌, ap}
 use Rattle.card_model.specs.Guards.{asks_less, given, right_length}
-use Rattle.file_commands.proofs.select.give_template.Goals as goal
+use Rattle.select_command.proofs.select.give_template.Goals as goal
 
 pub returns-then-asks_less : goal.returns-then-asks_less
 returns-then-asks_less c =

@@ -25,7 +25,7 @@ use Rattle.card_model.specs.laws.SelectSteps.{select-missed}
 use Rattle.command_base.specs.laws.Serves.{answered, declined, halted, handed}
 use Rattle.command_base.specs.laws.Stopping.{reply-failed}
 use Rattle.command_base.specs.laws.Told.{told-entry}
-use Rattle.file_commands.proofs.select.select_file.Goals as goal
+use Rattle.select_command.proofs.select.select_file.Goals as goal
 
 pub returns-in_default : goal.returns-in_default
 returns-in_default g c =

@@ -13,7 +13,7 @@ use Rattle.command_base.specs.Standing.{card_of}
 use Rattle.command_base.specs.Working.{table_in}
 use Rattle.command_base.specs.laws.Entries.{card-tree, master-path}
 use Rattle.command_base.specs.laws.Readings.{df_kept, df_used}
-use Rattle.file_commands.proofs.select.find_selected.Goals as goal
+use Rattle.select_command.proofs.select.find_selected.Goals as goal
 
 pub returns-in-MasterFile-clause-found : goal.returns-in-MasterFile-clause-found
 returns-in-MasterFile-clause-found g c = record {

@@ -7,7 +7,7 @@ use Rattle.file_tree.specs.declared.entry.Entry.{Entry}
 use Rattle.file_tree.specs.Table.{table, entry_in}
 use Rattle.card_model.specs.Guards.{asks_less, IsGiven}
 use Rattle.command_base.specs.TemplateParts.{data_in, template_in, IsToldEntry}
-use Rattle.file_commands.proofs.select.give_data.Goals as goal
+use Rattle.select_command.proofs.select.give_data.Goals as goal
 
 -- nothing is given of no data
 nothing-given : (expected : Option ℕ) (text : List ℕ) → text ≡ [] → IsGiven expected [] text None
