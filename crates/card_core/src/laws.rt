@@ -2,7 +2,7 @@
 ghost use Rattle.std.specs.Prelude.{◌≡◌, ◌≢◌, ◌⊎◌, ◌≤◌, ◌+◌, ◌/◌, ◌++◌, ℕ, List, length};
 ghost use Rattle.undo_journal.specs.Spending.{transaction_writes};
 ghost use Rattle.block_chain.specs.ChainChanges.{touched_blocks, touched_words};
-ghost use Rattle.ef_body.specs.BodyChanges.{update_writes};
+ghost use Rattle.ef_contents.specs.UpdateWrites.{update_writes};
 ghost use Rattle.command_base.specs.declared.spending.TheConstants.{COMMAND_WRITES};
 ghost use Rattle.command_base.specs.CommandWrites.{writes_of};
 ghost use Rattle.block_chain.specs.declared.layout.TheConstants.{HEADER_PAGE};

@@ -7,7 +7,7 @@ ghost use Rattle.undo_journal.specs.declared.error.StoreErr.TheVariants as Store
 ghost use Rattle.card_start.specs.declared.faults.StartFault.TheVariants as StartFault;
 ghost use Rattle.card_start.specs.FaultParts.{fault_of_store};
 ghost use Rattle.undo_journal.specs.Spending.{Advances, WritesAtMost, KeepsBoard};
-ghost use Rattle.ef_body.specs.BodyChanges.{update_writes};
+ghost use Rattle.ef_contents.specs.UpdateWrites.{update_writes};
 ghost use Rattle.card_model.specs.CommandTable.{asked};
 ghost use Rattle.card_model.specs.Requests.{update_binary};
 ghost use Rattle.card_model.specs.declared.requests.Target.{Target};

@@ -6,8 +6,8 @@ use Rattle.card_state.specs.declared.status.TheConstants.Sw.{METHOD_BLOCKED}
 use Rattle.undo_journal.specs.declared.error.StoreErr.{StoreErr}
 use Rattle.undo_journal.specs.StoreCalls.{Reads}
 use Rattle.undo_journal.specs.Memory.{Memory}
-use Rattle.ef_body.specs.declared.error.BodyErr.{BodyErr}
-use Rattle.ef_body.specs.declared.error.BodyErr.TheVariants as body
+use Rattle.ef_contents.specs.declared.error.BodyErr.{BodyErr}
+use Rattle.ef_contents.specs.declared.error.BodyErr.TheVariants as body
 use Rattle.pin_store.specs.declared.errors.PinErr.{PinErr}
 use Rattle.pin_store.specs.declared.errors.PinErr.TheVariants as pin
 use Rattle.command_base.specs.declared.stop.Stop.{Stop}

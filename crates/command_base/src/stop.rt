@@ -4,7 +4,7 @@ ghost use Rattle.command_base.specs.declared.stop.Stop.TheVariants.{Refused, Fai
 ghost use Rattle.command_base.specs.Stops.{reply, stop_of_body, stop_of_pin};
 
 use apdu_core::Sw;
-use ef_body::BodyErr;
+use ef_contents::BodyErr;
 use pin_store::PinErr;
 use undo_journal::StoreErr;
 

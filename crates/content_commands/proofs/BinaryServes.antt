@@ -23,9 +23,9 @@ use Rattle.block_chain.specs.ChainChanges.{AppendsSome}
 use Rattle.ef_body.specs.declared.transparent.Transparent.{Transparent}
 use Rattle.ef_body.specs.Bodies.{transparent_bytes, IsTransparent}
 use Rattle.ef_body.specs.BodyChanges.{TransparentBecomes}
-use Rattle.ef_body.specs.Refusals.{why_failed, Decides, WhereRefused, overlong, past_end}
-use Rattle.ef_body.specs.declared.error.BodyErr.{BodyErr}
-use Rattle.ef_body.specs.declared.error.BodyErr.TheVariants as body_err
+use Rattle.ef_contents.specs.Refusals.{why_failed, Decides, WhereRefused, overlong, past_end}
+use Rattle.ef_contents.specs.declared.error.BodyErr.{BodyErr}
+use Rattle.ef_contents.specs.declared.error.BodyErr.TheVariants as body_err
 use Rattle.std.specs.Result.{IsErrAnd}
 use Rattle.command_base.specs.declared.stop.Stop.{Stop}
 use Rattle.command_base.specs.Stops.{reply, stop_of_body}

@@ -5,7 +5,7 @@ use Rattle.card_state.specs.declared.status.Sw.{Sw}
 use Rattle.card_state.specs.declared.status.TheConstants.Sw.{DONE}
 use Rattle.card_model.specs.declared.requests.Target.{Target}
 use Rattle.card_model.specs.Requests.{read_binary, update_binary}
-use Rattle.ef_body.specs.Refusals.{overlong, past_end}
+use Rattle.ef_contents.specs.Refusals.{overlong, past_end}
 use Rattle.std.specs.FinMap.{get}
 use Rattle.card_model.specs.BinaryCommands.{is_past, is_too_long, read_response, updated_card}
 use Rattle.card_model.specs.Cards.{Card, File, Path, file_bytes, is_transparent, overwrite, with_content}

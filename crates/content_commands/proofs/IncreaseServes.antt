@@ -20,7 +20,7 @@ use Rattle.ef_body.specs.Bodies.{cyclic_body_records, IsCyclic}
 use Rattle.ef_body.specs.BodyChanges.{CyclicBecomes}
 use Rattle.ef_body.specs.BodyCalls.{ReceivesSum}
 use Rattle.card_state.specs.RecordLists.{spelled, front, raised_number}
-use Rattle.ef_body.specs.Refusals.{unraised}
+use Rattle.ef_contents.specs.Refusals.{unraised}
 use Rattle.command_base.specs.declared.current.Current.{Current}
 use Rattle.command_base.specs.declared.named.Need.{Need}
 use Rattle.command_base.specs.declared.named.Structure.TheVariants.{Cyclic as Cyclic_file}

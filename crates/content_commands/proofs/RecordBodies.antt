@@ -13,9 +13,9 @@ use Rattle.card_state.specs.RecordLists.{record_of}
 use Rattle.ef_body.specs.declared.cyclic.Cyclic.{Cyclic as Ring}
 use Rattle.ef_body.specs.declared.slot.RecordSlot.{RecordSlot}
 use Rattle.ef_body.specs.Bodies.{cyclic_body_records, number_told, start_told, IsCyclic}
-use Rattle.ef_body.specs.Records.{linear_order, newest_first}
+use Rattle.ef_contents.specs.Records.{linear_order, newest_first}
 use Rattle.ef_body.specs.laws.Lists.{at-newest_first, in_order-ring, length-newest_first}
-use Rattle.ef_body.specs.laws.Slots.{length-slot, slot-within}
+use Rattle.ef_contents.specs.laws.Slots.{length-slot, slot-within}
 use Rattle.file_tree.specs.declared.entry.Entry.{Entry}
 use Rattle.card_state.specs.FileTrees.{Body, Kind, transparent, linear, cyclic, dedicated, elementary}
 use Rattle.file_tree.specs.Entries.{file_of, free_entry, entry_capacity, name_of}

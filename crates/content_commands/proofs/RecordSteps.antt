@@ -22,7 +22,7 @@ use Rattle.ef_body.specs.declared.cyclic.Cyclic.{Cyclic as Ring}
 use Rattle.ef_body.specs.declared.slot.RecordSlot.{RecordSlot}
 use Rattle.ef_body.specs.Bodies.{cyclic_body_records, IsCyclic}
 use Rattle.card_state.specs.RecordLists.{has_record, record_of, records_found as found_in}
-use Rattle.ef_body.specs.Refusals.{missing_record}
+use Rattle.ef_contents.specs.Refusals.{missing_record}
 use Rattle.file_tree.specs.Table.{table, path_of, IsUsed}
 use Rattle.file_tree.specs.Trees.{file_in}
 use Rattle.command_base.specs.declared.current.Current.{Current as CurrentFiles}

@@ -10,7 +10,7 @@ use Rattle.card_model.specs.Requests.{increase}
 use Rattle.card_model.specs.declared.requests.Target.TheVariants as target
 use Rattle.ef_body.specs.Bodies.{cyclic_body_records}
 use Rattle.card_state.specs.RecordLists.{spelled, front, has_record, raised_number}
-use Rattle.ef_body.specs.Refusals.{unraised}
+use Rattle.ef_contents.specs.Refusals.{unraised}
 use Rattle.file_tree.specs.Table.{table}
 use Rattle.command_base.specs.declared.current.Current.{Current}
 use Rattle.command_base.specs.declared.named.Need.{Need}

@@ -11,7 +11,7 @@ use Rattle.block_chain.specs.laws.Bytes.{leads_blocks, length-bytes_of}
 use Rattle.ef_body.specs.declared.linear.Linear.{Linear}
 use Rattle.ef_body.specs.declared.cyclic.Cyclic.{Cyclic}
 use Rattle.ef_body.specs.declared.slot.RecordSlot.{RecordSlot}
-use Rattle.ef_body.specs.Records.{slot_record, newest_first}
+use Rattle.ef_contents.specs.Records.{slot_record, newest_first}
 use Rattle.card_state.specs.RecordLists.{front, record_of}
 use Rattle.ef_body.specs.Bodies.{counts_word, number_told, start_told, linear_body_records, cyclic_body_records}
 use Rattle.ef_body.specs.Bodies.{IsLinear}
@@ -22,7 +22,7 @@ use Rattle.ef_body.specs.laws.Lists.{newest_first-front, newest_first-put, newes
 use Rattle.ef_body.specs.laws.Lists.{at-newest_first, in_order-ring}
 use Rattle.ef_body.specs.Bodies.{ring_of}
 use Rattle.ef_body.specs.laws.Rings.{told_number, told_start, length-linear, cyclic_is, ring_records}
-use Rattle.ef_body.specs.laws.Slots.{slot-within, slot-take, length-slot}
+use Rattle.ef_contents.specs.laws.Slots.{slot-within, slot-take, length-slot}
 use Rattle.std.proofs.Math.Nat.{mod-lt}
 use Rattle.ef_body.proofs.Putting.{chain_kept, before_kept}
 

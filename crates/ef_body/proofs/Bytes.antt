@@ -18,7 +18,7 @@ use Rattle.block_chain.specs.laws.Bytes.{leads_blocks, length-bytes_of}
 use Rattle.block_chain.specs.laws.Overwriting.{index-overwrite, length-overwrite}
 use Rattle.ef_body.specs.declared.transparent.Transparent.{Transparent}
 use Rattle.ef_body.specs.Bodies.{transparent_bytes, IsTransparent}
-use Rattle.ef_body.specs.Refusals.{past_end, overlong}
+use Rattle.ef_contents.specs.Refusals.{past_end, overlong}
 use Rattle.ef_body.specs.BodyChanges.{TransparentBecomes}
 use Rattle.ef_body.proofs.Putting.{chain_kept}
 use Rattle.ef_body.proofs.Refusing.{not_so}

@@ -9,8 +9,8 @@ use Rattle.undo_journal.specs.declared.error.StoreErr.{StoreErr}
 use Rattle.undo_journal.specs.StoreCalls.{Reads, Changes}
 use Rattle.undo_journal.specs.Memory.{Memory, committed, IsReady}
 use Rattle.undo_journal.specs.laws.Told.{changes_within, reads_change, reads_none}
-use Rattle.ef_body.specs.declared.error.BodyErr.{BodyErr}
-use Rattle.ef_body.specs.declared.error.BodyErr.TheVariants.{Refused, Store}
+use Rattle.ef_contents.specs.declared.error.BodyErr.{BodyErr}
+use Rattle.ef_contents.specs.declared.error.BodyErr.TheVariants.{Refused, Store}
 use Rattle.ef_body.specs.BodyCalls.{Commits, CommitsUnlessRefused, ReadsInto, ReadsUnlessRefused}
 use Rattle.ef_body.proofs.Refusing.{store_decides, store_done, store_refuses, store_told}
 

@@ -9,11 +9,11 @@ use Rattle.card_state.specs.declared.status.Sw.{Sw}
 use Rattle.card_state.specs.declared.status.TheConstants.Sw.{RECORD_NOT_FOUND, MAXIMUM_REACHED}
 use Rattle.undo_journal.specs.declared.error.StoreErr.{StoreErr}
 use Rattle.block_chain.specs.ChainChanges.{AppendsSome}
-use Rattle.ef_body.specs.declared.error.BodyErr.{BodyErr}
-use Rattle.ef_body.specs.declared.error.BodyErr.TheVariants.{Store}
+use Rattle.ef_contents.specs.declared.error.BodyErr.{BodyErr}
+use Rattle.ef_contents.specs.declared.error.BodyErr.TheVariants.{Store}
 use Rattle.ef_body.specs.BodyCalls.{ReceivesSum}
 use Rattle.card_state.specs.RecordLists.{has_record, record_of, front, number_of, spelled, raised_number}
-use Rattle.ef_body.specs.Refusals.{missing_record, unraised}
+use Rattle.ef_contents.specs.Refusals.{missing_record, unraised}
 use Rattle.card_state.specs.laws.Numbers.{number-small, spelled-number}
 use Rattle.ef_body.proofs.Refusing.{there}
 

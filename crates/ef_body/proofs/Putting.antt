@@ -21,7 +21,8 @@ use Rattle.block_chain.specs.laws.Footprints.{bytes_same, not_among}
 use Rattle.block_chain.specs.laws.Laying.{leads_count, pages_most}
 use Rattle.block_store.specs.Writes.{put_writes}
 use Rattle.block_store.specs.laws.Writes.{put_writes_most}
-use Rattle.ef_body.specs.BodyChanges.{PutsRecord, update_writes}
+use Rattle.ef_body.specs.BodyChanges.{PutsRecord}
+use Rattle.ef_contents.specs.UpdateWrites.{update_writes}
 
 module _ (m mid : List ℕ) (c : Chain) (offset : ℕ) (bytes : List ℕ) (sized : IsMemory m)
     (is : IsChain m c.first (chain_of m c)) (over : Overwrites m (chain_of m c) offset bytes mid) where

@@ -7,10 +7,10 @@ use Rattle.std.specs.Result.{result_err}
 use Rattle.card_state.specs.declared.status.Sw.{Sw}
 use Rattle.undo_journal.specs.declared.error.StoreErr.{StoreErr}
 use Rattle.undo_journal.specs.laws.Told.{told_is}
-use Rattle.ef_body.specs.declared.error.BodyErr.{BodyErr}
-use Rattle.ef_body.specs.declared.error.BodyErr.TheVariants.{Refused, Store}
+use Rattle.ef_contents.specs.declared.error.BodyErr.{BodyErr}
+use Rattle.ef_contents.specs.declared.error.BodyErr.TheVariants.{Refused, Store}
 use Rattle.card_state.specs.RecordLists.{has_record}
-use Rattle.ef_body.specs.Refusals.{why_failed, Decides, DecidesUnlessFailed, WhereRefused}
+use Rattle.ef_contents.specs.Refusals.{why_failed, Decides, DecidesUnlessFailed, WhereRefused}
 
 -- what a test that gave false tells
 pub not_so : (b : Bool) (fact : Type 0) → (IsTrue b ↔ fact) → b ≡ false → fact → ⊥

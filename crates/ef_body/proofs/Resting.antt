@@ -20,7 +20,7 @@ use Rattle.ef_body.specs.declared.chain_block.ChainBlock.{ChainBlock}
 use Rattle.ef_body.specs.declared.cyclic.Cyclic.{Cyclic}
 use Rattle.ef_body.specs.Bodies.{IsCyclic}
 use Rattle.ef_body.specs.ReadParts.{IsBlockOf}
-use Rattle.ef_body.specs.laws.Slots.{slot-within}
+use Rattle.ef_contents.specs.laws.Slots.{slot-within}
 
 -- the links lead on from each block
 leads_from : (m : List ℕ) (from : ℕ) (ps : List ℕ) (k : ℕ) → Leads m from ps 0 → k < length ps

@@ -7,7 +7,7 @@ use Rattle.block_chain.specs.Chains.{IsChain, chain_of, chain_bytes}
 use Rattle.ef_body.specs.declared.transparent.Transparent.{Transparent}
 use Rattle.ef_body.specs.declared.linear.Linear.{Linear}
 use Rattle.ef_body.specs.declared.cyclic.Cyclic.{Cyclic}
-use Rattle.ef_body.specs.Records.{linear_order, newest_first}
+use Rattle.ef_contents.specs.Records.{linear_order, newest_first}
 
 -- The entry's word for its records: their number in the upper half, the slot of record 1 in the lower half.
 abbrev pub counts_word : ℕ → ℕ → ℕ

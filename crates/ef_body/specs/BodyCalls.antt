@@ -8,10 +8,10 @@ use Rattle.undo_journal.specs.Commits.{CommitsByGate}
 use Rattle.undo_journal.specs.Memory.{Memory, committed}
 use Rattle.block_chain.specs.ChainChanges.{AppendsSome}
 use Rattle.ef_body.specs.declared.cyclic.Cyclic.{Cyclic}
-use Rattle.ef_body.specs.declared.error.BodyErr.{BodyErr}
+use Rattle.ef_contents.specs.declared.error.BodyErr.{BodyErr}
 use Rattle.ef_body.specs.declared.slot.RecordSlot.{RecordSlot}
 use Rattle.card_state.specs.RecordLists.{spelled, record_of, raised_number}
-use Rattle.ef_body.specs.Refusals.{missing_record, unraised, Decides, DecidesUnlessFailed, WhereRefused, why_failed}
+use Rattle.ef_contents.specs.Refusals.{missing_record, unraised, Decides, DecidesUnlessFailed, WhereRefused, why_failed}
 
 -- The lookup of a record in a ring finds it, unless there is none.
 pub record FindsRecord (ring : Cyclic) (number : ℕ) (result : Result RecordSlot Sw) : Type 0 where

@@ -1,5 +1,5 @@
 -- The effects of calls on bodies on the words of a memory.
-use Rattle.std.specs.Prelude.{◌≡◌, ◌≢◌, ◌⊎◌, ◌<◌, ◌+◌, ◌-◌, ◌*◌, ◌/◌, ◌%◌, ℕ, List, length, slice_index}
+use Rattle.std.specs.Prelude.{◌≡◌, ◌≢◌, ◌⊎◌, ◌<◌, ◌+◌, ◌-◌, ◌%◌, ℕ, List, length, slice_index}
 use Rattle.nvm_board.specs.Facts.{address}
 use Rattle.nvm_board.specs.declared.board.TheConstants.{PAGE_WORDS}
 use Rattle.block_chain.specs.declared.chain.Chain.{Chain}
@@ -62,9 +62,3 @@ Increases m body sent after =
     let records = cyclic_body_records m body in
     CyclicBecomes m body (front (length records) (spelled body.record_length (raised_number records sent)) records)
     after
-
--- The device writes of an UPDATE BINARY of `count` bytes, at most. They touch at most ceil(count / 4) + 1 words. Each
--- eight of these take three writes: pairs, gate and words. Each of at most ceil(count / 60) block ends takes one
--- more, and the commit one.
-abbrev pub update_writes : ℕ → ℕ
-update_writes count = 3 * (((count + 3) / 4 + 1 + 7) / 8) + (count + 59) / 60 + 1

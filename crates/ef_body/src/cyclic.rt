@@ -9,12 +9,11 @@ ghost use Rattle.ef_body.specs.declared.layout.TheConstants.{RECORD_WRITES};
 ghost use Rattle.card_state.specs.declared.status.Sw.{Sw};
 ghost use Rattle.card_state.specs.declared.status.TheConstants.Sw.{NO_ROOM};
 ghost use Rattle.card_state.specs.RecordLists.{front};
-ghost use Rattle.ef_body.specs.Refusals.{missing_record, unraised, why_failed};
+ghost use Rattle.ef_contents.specs.Refusals.{missing_record, unraised, why_failed};
 ghost use Rattle.ef_body.specs.Bodies.{cyclic_body_records, IsCyclic};
 ghost use Rattle.ef_body.specs.BodyChanges.{CyclicBecomes, Increases};
 ghost use Rattle.ef_body.specs.BodyCalls.{Commits, CommitsUnlessRefused, ReceivesSum};
 
-use crate::error::{BodyErr, from_store};
 use crate::number::add;
 use crate::record_body::RecordBody;
 use crate::slot::{FreeSlot, RecordSlot};
@@ -22,6 +21,7 @@ use crate::writing::put_front;
 use arrayvec::ArrayVec;
 use block_chain::Chain;
 use card_state::Sw;
+use ef_contents::{BodyErr, from_store};
 use undo_journal::{Board, Store, StoreErr};
 
 /// The body of a cyclic EF. It has the chain of its blocks, the record length in bytes (1 to 255), and the capacity

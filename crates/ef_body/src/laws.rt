@@ -1,7 +1,7 @@
 //! Laws of the constants, as contracts of functions that do nothing.
 ghost use Rattle.std.specs.Prelude.{◌≡◌, ◌≤◌, ℕ};
 ghost use Rattle.block_store.specs.Writes.{put_writes};
-ghost use Rattle.ef_body.specs.BodyChanges.{update_writes};
+ghost use Rattle.ef_contents.specs.UpdateWrites.{update_writes};
 ghost use Rattle.ef_body.specs.declared.layout.TheConstants.{MOST_RECORD_BYTES, RECORD_WRITES, UPDATE_WRITES};
 
 /// Proves the greatest record length and numbers of device writes. A record has at most 255 bytes. An update of one

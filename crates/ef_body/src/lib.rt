@@ -4,7 +4,6 @@
 
 mod chain_block;
 mod cyclic;
-mod error;
 pub mod laws;
 mod layout;
 mod linear;
@@ -17,7 +16,6 @@ mod transparent;
 mod writing;
 
 pub use cyclic::Cyclic;
-pub use error::BodyErr;
 pub use layout::{MOST_RECORD_BYTES, RECORD_WRITES, UPDATE_WRITES};
 pub use linear::Linear;
 pub use record_body::RecordBody;

@@ -3,15 +3,15 @@ ghost use Rattle.std.specs.Prelude.{◌≡◌, ◌≤◌, ℕ, List};
 ghost use Rattle.undo_journal.specs.Memory.{committed, IsReady};
 ghost use Rattle.ef_body.specs.declared.cyclic.Cyclic.{Cyclic};
 ghost use Rattle.card_state.specs.RecordLists.{record_of, records_found};
-ghost use Rattle.ef_body.specs.Refusals.{missing_record};
+ghost use Rattle.ef_contents.specs.Refusals.{missing_record};
 ghost use Rattle.ef_body.specs.Bodies.{cyclic_body_records, IsCyclic};
 ghost use Rattle.ef_body.specs.BodyCalls.{FindsRecord, ReadsUnlessRefused};
 
 use crate::cyclic::Cyclic;
-use crate::error::{BodyErr, from_store};
 use crate::slot::RecordSlot;
 use arrayvec::ArrayVec;
 use card_state::{Direction, Sw};
+use ef_contents::{BodyErr, from_store};
 use undo_journal::{Board, Store};
 
 /// A body of records, in the slots of a ring. Record 1 is the first of a linear EF, the newest of a cyclic one.

@@ -5,17 +5,18 @@ ghost use Rattle.undo_journal.specs.Spending.{transaction_writes, WritesAtMost};
 ghost use Rattle.card_state.specs.FileTrees.{overwrite};
 ghost use Rattle.block_chain.specs.ChainChanges.{touched_blocks, touched_words};
 ghost use Rattle.block_store.specs.Writes.{put_writes};
-ghost use Rattle.ef_body.specs.Refusals.{past_end, overlong};
+ghost use Rattle.ef_contents.specs.Refusals.{past_end, overlong};
 ghost use Rattle.ef_body.specs.Bodies.{transparent_bytes, IsTransparent};
-ghost use Rattle.ef_body.specs.BodyChanges.{update_writes, TransparentBecomes};
+ghost use Rattle.ef_body.specs.BodyChanges.{TransparentBecomes};
+ghost use Rattle.ef_contents.specs.UpdateWrites.{update_writes};
 ghost use Rattle.ef_body.specs.BodyCalls.{CommitsUnlessRefused, ReadsUnlessRefused};
 
-use crate::error::{BodyErr, from_store};
 use crate::writing::put_bytes;
 use arrayvec::ArrayVec;
 use block_chain::Chain;
 use block_store::read_bytes;
 use card_state::Sw;
+use ef_contents::{BodyErr, from_store};
 use undo_journal::{Board, Store};
 
 /// The body of a transparent EF. It has a chain, and a size of 1 to 32,767 bytes.

@@ -21,7 +21,7 @@ use Rattle.block_chain.specs.Layout.{blocks_of, IsExtent}
 use Rattle.block_chain.specs.BlockWords.{word_bytes, page_words, block_bytes}
 use Rattle.block_chain.specs.laws.Bytes.{leads_blocks, AreBlocks}
 use Rattle.block_chain.specs.laws.Words.{length-block_bytes, word_bytes-bytes}
-use Rattle.ef_body.specs.laws.Slots.{length-slot, slot-within}
+use Rattle.ef_contents.specs.laws.Slots.{length-slot, slot-within}
 use Rattle.file_tree.specs.declared.entry.Entry.{Entry}
 use Rattle.card_state.specs.FileTrees.{File, Path, dedicated, elementary, transparent, linear, cyclic, identifier}
 use Rattle.file_tree.specs.Entries.{free_entry, body_of, entry_capacity, cyclic_records, entry_of, entry_told}

@@ -5,10 +5,10 @@ use Rattle.card_state.specs.declared.status.Sw.{Sw}
 use Rattle.undo_journal.specs.declared.error.StoreErr.{StoreErr}
 use Rattle.undo_journal.specs.StoreCalls.{Changes, Reads}
 use Rattle.undo_journal.specs.Memory.{Memory}
-use Rattle.ef_body.specs.declared.error.BodyErr.{BodyErr}
-use Rattle.ef_body.specs.declared.error.BodyErr.TheVariants as body
-use Rattle.ef_body.specs.Refusals.{Decides, DecidesUnlessFailed, why_failed as body_failure}
-use Rattle.ef_body.specs.Refusals.{WhereRefused as body_refused}
+use Rattle.ef_contents.specs.declared.error.BodyErr.{BodyErr}
+use Rattle.ef_contents.specs.declared.error.BodyErr.TheVariants as body
+use Rattle.ef_contents.specs.Refusals.{Decides, DecidesUnlessFailed, why_failed as body_failure}
+use Rattle.ef_contents.specs.Refusals.{WhereRefused as body_refused}
 use Rattle.command_base.specs.declared.stop.Stop.{Stop}
 use Rattle.command_base.specs.declared.stop.Stop.TheVariants.{Refused, Failed}
 use Rattle.command_base.specs.Stops.{failure, failure_of, reply, stop_of_body, FindsOrRefuses, IfRefused}

@@ -3,7 +3,7 @@ use Rattle.std.specs.Prelude.{◌≤◌, ◌+◌, ◌/◌, ℕ, zero, suc}
 use Rattle.std.proofs.Common.{arith}
 use Rattle.block_chain.specs.ChainChanges.{touched_blocks, touched_words}
 use Rattle.undo_journal.specs.Spending.{transaction_writes}
-use Rattle.ef_body.specs.BodyChanges.{update_writes}
+use Rattle.ef_contents.specs.UpdateWrites.{update_writes}
 
 -- some bytes touch a quarter as many words as they are, rounded up, and one more at most
 pub few_words : (offset n : ℕ) → touched_words offset n ≤ (n + 3) / 4 + 1

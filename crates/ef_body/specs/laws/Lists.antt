@@ -11,9 +11,9 @@ use Rattle.std.specs.Prelude.{◌≡◌, ◌≢◌, ◌⊎◌, ◌<◌, ◌≤�
 use Rattle.std.specs.Prelude.{slice_index_or, slice_set}
 use Rattle.std.proofs.Math.Nat.{mod-lt, mod-eq-sub-mod}
 use Rattle.card_state.specs.FileTrees.{overwrite}
-use Rattle.ef_body.specs.Records.{slot_record, linear_order, newest_first}
+use Rattle.ef_contents.specs.Records.{slot_record, linear_order, newest_first}
 use Rattle.card_state.specs.RecordLists.{front}
-use Rattle.ef_body.specs.laws.Slots.{slot-within, slot-put_same, slot-put_other, slot-here, slot-around}
+use Rattle.ef_contents.specs.laws.Slots.{slot-within, slot-put_same, slot-put_other, slot-here, slot-around}
 
 -- how many records, and each of them
 pub length-in_order : (size : ℕ) (bytes : List ℕ) (n : ℕ) → length (linear_order size bytes n) ≡ n

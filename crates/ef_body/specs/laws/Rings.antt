@@ -4,7 +4,7 @@ use Rattle.std.specs.Prelude.{◌≡◌, ◌<◌, ℕ, List, length, slice_index
 use Rattle.block_chain.specs.Chains.{chain_bytes}
 use Rattle.ef_body.specs.declared.linear.Linear.{Linear}
 use Rattle.ef_body.specs.declared.cyclic.Cyclic.{Cyclic}
-use Rattle.ef_body.specs.Records.{linear_order, newest_first}
+use Rattle.ef_contents.specs.Records.{linear_order, newest_first}
 use Rattle.ef_body.specs.Bodies.{counts_word, number_told, start_told, linear_body_records, cyclic_body_records}
 use Rattle.ef_body.specs.Bodies.{ring_of}
 use Rattle.ef_body.specs.Bodies.{IsLinear, IsCyclic}

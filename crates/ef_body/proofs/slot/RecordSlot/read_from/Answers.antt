@@ -5,7 +5,7 @@ use Rattle.undo_journal.specs.laws.Told.{reads_on}
 use Rattle.block_chain.specs.Chains.{Leads, chain, bytes_of}
 use Rattle.block_chain.specs.declared.layout.TheConstants.{BLOCK_BYTES}
 use Rattle.ef_body.specs.BodyCalls.{ReadsInto}
-use Rattle.ef_body.specs.laws.Slots.{slot-within}
+use Rattle.ef_contents.specs.laws.Slots.{slot-within}
 use Rattle.ef_body.proofs.Becoming.{record_at}
 use Rattle.ef_body.proofs.Bytes.{all_appended, length-emptied, some_appended}
 use Rattle.ef_body.proofs.Resting.{rest_of, bytes_on}

@@ -1,7 +1,7 @@
 //! Errors of calls on the body of an EF.
 ghost use Rattle.std.specs.Prelude.{◌≡◌, option_map};
 ghost use Rattle.std.specs.Result.{result_err};
-ghost use Rattle.ef_body.specs.declared.error.BodyErr.TheVariants.{Refused, Store};
+ghost use Rattle.ef_contents.specs.declared.error.BodyErr.TheVariants.{Refused, Store};
 
 use card_state::Sw;
 use undo_journal::StoreErr;
@@ -24,7 +24,7 @@ impl From<Sw> for BodyErr {
 }
 
 /// Returns the store's result with the error type of a body.
-pub(crate) fn from_store(answered: Result<(), StoreErr>) -> Result<(), BodyErr>
+pub fn from_store(answered: Result<(), StoreErr>) -> Result<(), BodyErr>
     ensures { result_err result ≡ option_map Store (result_err answered) }
 {
     match answered {

@@ -8,7 +8,7 @@ use Rattle.std.proofs.lemmas.Nat.{mod-mul-add}
 use Rattle.std.specs.Prelude.{◌≡◌, ◌≢◌, ◌⊎◌, ◌<◌, ◌≤◌, ◌+◌, ◌-◌, ◌*◌, ◌%◌, ℕ, List, length, slice_index, take, drop}
 use Rattle.card_state.specs.FileTrees.{overwrite}
 use Rattle.block_chain.specs.laws.Overwriting.{index-overwrite, length-overwrite, byte_over-inside, byte_over-outside}
-use Rattle.ef_body.specs.Records.{slot_record}
+use Rattle.ef_contents.specs.Records.{slot_record}
 
 -- a slot is so many bytes behind those before it
 pub slot-take : (size : ℕ) (bytes : List ℕ) (i : ℕ) → slot_record size bytes i ≡ take size (drop (i * size) bytes)
