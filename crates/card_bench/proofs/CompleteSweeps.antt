@@ -3,7 +3,7 @@ use Rattle.std.specs.Prelude.{◌≡◌, ◌⊎◌, ◌≤◌, ◌<◌, ◌+◌,
 use Rattle.std.proofs.Common.{refl, sym, subst, inl, inr, arith}
 use Rattle.std.proofs.lemmas.List.{append-nil}
 use Rattle.nvm_board.specs.Facts.{Facts}
-use Rattle.card_turns.specs.declared.playing.Turn.{Turn}
+use Rattle.bench_turns.specs.declared.turn.Turn.{Turn}
 use Rattle.card_bench.specs.declared.tally.Seen.{Seen}
 use Rattle.card_bench.specs.Masks.{mask_of, mask_count_of, words_tried}
 use Rattle.card_bench.specs.Sweeps.{CutsCommand, CutsStart, SparesStart, EndsIn}

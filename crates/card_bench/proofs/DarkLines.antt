@@ -6,23 +6,23 @@ use Rattle.t1_link.specs.ReaderTable.{CommandReport, fails, gives, sends, unknow
 use Rattle.command_base.specs.declared.spending.TheConstants.{COMMAND_WRITES}
 use Rattle.nvm_board.specs.declared.board.Arm.{Arm}
 use Rattle.nvm_board.specs.Aims.{due_of}
-use Rattle.card_turns.specs.Plays.{IsGood}
+use Rattle.bench_turns.specs.Plays.{IsGood}
 use Rattle.card_bench.specs.Exchanges.{Ended}
 use Rattle.card_bench.specs.Exchanges.{answered, set_back, link_lost, power_lost}
 use Rattle.card_bench.specs.declared.exchange.TheConstants.{LINE_BLOCKS}
 use Rattle.bench_lines.specs.Orders.{Order}
 use Rattle.bench_lines.specs.Orders.{Nothing, On, Off, Free, Apdu, Block, Cut, Lose, Garble}
-use Rattle.card_turns.specs.declared.playing.Item.{Item}
-use Rattle.card_turns.specs.declared.playing.Item.TheVariants as item
-use Rattle.card_turns.specs.declared.playing.Turn.TheVariants as turn
-use Rattle.card_turns.specs.BenchStates.{BenchState, off, on, bench_facts}
+use Rattle.bench_turns.specs.declared.turn.Item.{Item}
+use Rattle.bench_turns.specs.declared.turn.Item.TheVariants as item
+use Rattle.bench_turns.specs.declared.turn.Turn.TheVariants as turn
+use Rattle.bench_turns.specs.BenchStates.{BenchState, off, on, bench_facts}
 use Rattle.card_bench.specs.Exchanges.{Arrives, CardTakes, Commands, Desk, Ends, Exchanges, GoesThrough, NextBlock}
 use Rattle.card_bench.specs.Exchanges.{following, printed_by, toward_card, toward_reader}
-use Rattle.card_turns.specs.Lasting.{HasLeft}
+use Rattle.bench_turns.specs.Lasting.{HasLeft}
 use Rattle.card_bench.specs.Performing.{Performs, PerformsCommand, shown, free_shown}
 use Rattle.card_bench.specs.Printouts.{prints_dark}
-use Rattle.card_turns.specs.Turns.{dark_of, turn_steps}
-use Rattle.card_turns.proofs.Wearing.{block-due, due-spent, fewer}
+use Rattle.bench_turns.specs.Turns.{dark_of, turn_steps}
+use Rattle.bench_turns.proofs.Wearing.{block-due, due-spent, fewer}
 use Rattle.card_bench.proofs.LineWear.{LINE_STEPS, arrives-last, turn-left}
 
 -- 1 where power was lost, else 0

@@ -1,20 +1,20 @@
 -- What turns at the desk are to a script: power off, and a block straight to the card's end.
 use Rattle.std.proofs.Common.{◌≡◌, ◌∙◌, ap, Bool, List, ℕ, None, Some, Bor}
 use Rattle.t1_link.specs.ReaderTable.{Reader, fresh_reader}
-use Rattle.card_turns.specs.TurnResults.{is_started}
-use Rattle.card_turns.specs.Plays.{TellsItem}
-use Rattle.card_turns.specs.declared.turn_result.TurnResult.{TurnResult}
-use Rattle.card_turns.specs.declared.turn_result.TurnResult.TheVariants as turned
+use Rattle.bench_turns.specs.TurnResults.{is_started}
+use Rattle.bench_turns.specs.Plays.{TellsItem}
+use Rattle.bench_turns.specs.declared.turn_result.TurnResult.{TurnResult}
+use Rattle.bench_turns.specs.declared.turn_result.TurnResult.TheVariants as turned
 use Rattle.card_bench.specs.DeskStates.{reader_there}
-use Rattle.card_turns.specs.declared.playing.Turn.{Turn}
-use Rattle.card_turns.specs.declared.playing.Turn.TheVariants as turn
-use Rattle.card_turns.specs.declared.playing.Item.{Item}
-use Rattle.card_turns.specs.declared.playing.Item.TheVariants.{Atr, Quiet, Mute, Dark, Reply}
-use Rattle.card_turns.specs.BenchStates.{BenchState, off, on}
+use Rattle.bench_turns.specs.declared.turn.Turn.{Turn}
+use Rattle.bench_turns.specs.declared.turn.Turn.TheVariants as turn
+use Rattle.bench_turns.specs.declared.turn.Item.{Item}
+use Rattle.bench_turns.specs.declared.turn.Item.TheVariants.{Atr, Quiet, Mute, Dark, Reply}
+use Rattle.bench_turns.specs.BenchStates.{BenchState, off, on}
 use Rattle.card_bench.specs.Exchanges.{Desk}
 use Rattle.card_bench.specs.Performing.{PerformsBlock, PerformsOff, TakesTurn, reader_after, shown}
 use Rattle.card_bench.specs.Printouts.{Print}
-use Rattle.card_turns.specs.Turns.{GoodTurn, TakesBlock}
+use Rattle.bench_turns.specs.Turns.{GoodTurn, TakesBlock}
 
 -- nothing comes of power off
 off-by : (old new : Desk) (prints : Print) (came : Item) → GoodTurn old.bench turn.Off came new.bench

@@ -8,7 +8,7 @@ use Rattle.card_bench.specs.Exchanges.{Ended}
 use Rattle.card_bench.specs.Exchanges.{answered, set_back, link_lost, power_lost}
 use Rattle.card_bench.specs.declared.exchange.TheConstants.{LINE_BLOCKS}
 use Rattle.card_bench.specs.declared.line.Line.{Line}
-use Rattle.card_turns.specs.BenchStates.{BenchState, off, on}
+use Rattle.bench_turns.specs.BenchStates.{BenchState, off, on}
 use Rattle.card_bench.specs.Exchanges.{Ends, Exchanges, GoesThrough, NextBlock, following}
 use Rattle.card_bench.specs.ExchangeWorlds.{Course, EndsSo, ExchangeLaw, GoesAs, ExchangeIsCut, StandIn, bytes_of_line}
 use Rattle.card_bench.specs.ExchangeWorlds.{exchange_events, fate, fates}

@@ -2,7 +2,7 @@
 use Rattle.std.specs.Prelude.{◌≡◌, ◌<◌, ◌-◌, ℕ, zero, suc, List, Option, Result, Some, Ok, Err, refl}
 use Rattle.std.proofs.Common.{arith, inl, inr, subst, sym}
 use Rattle.t1_link.specs.ReaderTable.{Reader}
-use Rattle.card_turns.specs.BenchStates.{BenchState}
+use Rattle.bench_turns.specs.BenchStates.{BenchState}
 use Rattle.card_bench.specs.Exchanges.{Arrives, CardTakes, Ends, Exchanges}
 use Rattle.card_bench.specs.Exchanges.{Passes, NextBlock, toward_card}
 use Rattle.card_bench.specs.Exchanges.{Ended}

@@ -17,9 +17,9 @@ use Rattle.command_base.specs.CommitWords.{StandsAsked}
 use Rattle.card_bench.specs.Exchanges.{Ended}
 use Rattle.card_bench.specs.Exchanges.{answered, set_back, link_lost, power_lost}
 use Rattle.card_bench.specs.declared.line.Line.{Line}
-use Rattle.card_turns.specs.BenchStates.{BenchState, off, on, bench_card, bench_facts}
-use Rattle.card_turns.specs.CardBlocks.{BlockStands, IsBlockStage, IsRun, Powered, Replies, answering, card_by}
-use Rattle.card_turns.specs.CardBlocks.{machine, session_by}
+use Rattle.bench_turns.specs.BenchStates.{BenchState, off, on, bench_card, bench_facts}
+use Rattle.bench_turns.specs.CardBlocks.{BlockStands, IsBlockStage, IsRun, Powered, Replies, answering, card_by}
+use Rattle.bench_turns.specs.CardBlocks.{machine, session_by}
 use Rattle.card_bench.specs.Exchanges.{Arrives, CardTakes, Ends, Passes, NextBlock, bytes_under_way, following}
 use Rattle.card_bench.specs.Exchanges.{ReaderTurns}
 use Rattle.card_bench.specs.Exchanges as ways

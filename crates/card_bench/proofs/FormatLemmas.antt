@@ -15,11 +15,11 @@ use Rattle.command_base.specs.Standing.{board_blocks}
 use Rattle.undo_journal.specs.Spending.{WritesAtMost}
 use Rattle.card_start.specs.Factory.{factory_card}
 use Rattle.command_base.specs.Finding.{Finds}
-use Rattle.card_turns.specs.BenchStates.{BenchState, off, bench_card, bench_facts, IsOff}
+use Rattle.bench_turns.specs.BenchStates.{BenchState, off, bench_card, bench_facts, IsOff}
 use Rattle.t1_link.specs.ReaderTable.{Reader}
 use Rattle.card_bench.specs.declared.line.Line.{Line}
 use Rattle.card_bench.specs.Exchanges.{Desk}
-use Rattle.card_turns.specs.Plays.{IsGood}
+use Rattle.bench_turns.specs.Plays.{IsGood}
 use Rattle.card_bench.specs.Prints.{IsFirstDesk, IsJustWritten, IsNewlyWritten, desk_of}
 
 -- a new board has room for as many blocks as it has pages from page 128 on

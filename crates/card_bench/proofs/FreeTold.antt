@@ -1,9 +1,9 @@
 -- What is told of the free space is printed.
 use Rattle.std.proofs.Common.{◌≡◌, None, Option, Some, ap}
 use Rattle.card_state.specs.declared.space.FreeSpace.{FreeSpace}
-use Rattle.card_turns.specs.BenchStates.{BenchState, off, on, TellsFree}
+use Rattle.bench_turns.specs.BenchStates.{BenchState, off, on, TellsFree}
 use Rattle.card_bench.specs.Performing.{free_shown}
-use Rattle.card_turns.specs.Plays.{IsGood}
+use Rattle.bench_turns.specs.Plays.{IsGood}
 use Rattle.card_bench.specs.Printouts.{Print, prints_free, prints_mute}
 
 abbrev told_print : Option FreeSpace → Print

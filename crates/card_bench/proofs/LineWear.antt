@@ -14,19 +14,19 @@ use Rattle.card_bench.specs.Exchanges.{answered, set_back, link_lost, power_lost
 use Rattle.card_bench.specs.declared.exchange.TheConstants.{LINE_BLOCKS}
 use Rattle.bench_lines.specs.Orders.{Order}
 use Rattle.bench_lines.specs.Orders.{Nothing, On, Off, Free, Apdu, Block, Cut, Lose, Garble}
-use Rattle.card_turns.specs.declared.playing.Item.TheVariants as item
-use Rattle.card_turns.specs.declared.playing.Turn.{Turn}
-use Rattle.card_turns.specs.declared.playing.Turn.TheVariants as turn
+use Rattle.bench_turns.specs.declared.turn.Item.TheVariants as item
+use Rattle.bench_turns.specs.declared.turn.Turn.{Turn}
+use Rattle.bench_turns.specs.declared.turn.Turn.TheVariants as turn
 use Rattle.bench_lines.specs.declared.reading.TheConstants.{SCRIPT_LIMIT}
-use Rattle.card_turns.specs.BenchStates.{BenchState, off, on, bench_facts, with_facts}
+use Rattle.bench_turns.specs.BenchStates.{BenchState, off, on, bench_facts, with_facts}
 use Rattle.card_bench.specs.Exchanges.{Arrives, CardTakes, Commands, Desk, Ends, Exchanges, GoesThrough, NextBlock}
 use Rattle.card_bench.specs.Exchanges.{toward_card, toward_reader}
-use Rattle.card_turns.specs.Lasting.{HasLeft}
+use Rattle.bench_turns.specs.Lasting.{HasLeft}
 use Rattle.card_bench.specs.Performing.{Performs, PerformsCommand}
 use Rattle.card_bench.specs.Printouts.{Print}
 use Rattle.card_bench.specs.Prints.{IsFirstDesk, PrintsLines}
-use Rattle.card_turns.specs.Turns.{turn_steps}
-use Rattle.card_turns.proofs.Wearing.{fewer, few-steps, turn-lasts, block-lasts, stays-last}
+use Rattle.bench_turns.specs.Turns.{turn_steps}
+use Rattle.bench_turns.proofs.Wearing.{fewer, few-steps, turn-lasts, block-lasts, stays-last}
 
 -- a block that goes on the line
 takes-last : (n : ℕ) (old new : BenchState) (got : List ℕ) (follows : Result NextBlock Ended)

@@ -10,10 +10,10 @@ use Rattle.card_bench.specs.Exchanges.{answered, set_back, link_lost, power_lost
 use Rattle.card_bench.specs.declared.line.Line.{Line}
 use Rattle.bench_lines.specs.Orders.{Order}
 use Rattle.bench_lines.specs.Orders.{Nothing, On, Off, Free, Apdu, Block, Cut, Lose, Garble}
-use Rattle.card_turns.specs.declared.playing.Item.{Item}
-use Rattle.card_turns.specs.declared.playing.Item.TheVariants as item
-use Rattle.card_turns.specs.declared.playing.Turn.TheVariants as turn
-use Rattle.card_turns.specs.BenchStates.{BenchHasCard, BenchState, IsFresh, off, on, IsArmed}
+use Rattle.bench_turns.specs.declared.turn.Item.{Item}
+use Rattle.bench_turns.specs.declared.turn.Item.TheVariants as item
+use Rattle.bench_turns.specs.declared.turn.Turn.TheVariants as turn
+use Rattle.bench_turns.specs.BenchStates.{BenchHasCard, BenchState, IsFresh, off, on, IsArmed}
 use Rattle.card_bench.specs.Exchanges.{Commands, Desk, GoesOn, left_by}
 use Rattle.card_bench.specs.ExchangeWorlds.{GoesAs, StandIn, course_of, exchange_events, state_served}
 use Rattle.bench_lines.specs.Orders.{IsOrderSized}
@@ -22,7 +22,7 @@ use Rattle.card_bench.specs.Printouts.{Print, prints_atr}
 use Rattle.card_bench.specs.ScriptWorlds.{CommandInWorld, IsInNewWorld, IsInWorld, LineInWorld, PowerOnLaw, LineLaw}
 use Rattle.bench_lines.specs.Spellings.{IsOrderOfBytes}
 use Rattle.link_worlds.specs.TreeMachine.{IsProperState, Served, tree_machine}
-use Rattle.card_turns.specs.Turns.{GoodTurn}
+use Rattle.bench_turns.specs.Turns.{GoodTurn}
 use Rattle.link_worlds.specs.Worlds.{Event, World, are_bytes, is_command, world}
 use Rattle.link_worlds.specs.WorldLaw.{comes_of}
 use Rattle.card_bench.proofs.ExchangeInWorld.{exchange-runs}

@@ -15,14 +15,14 @@ use Rattle.bench_lines.specs.Orders.{Nothing, Order, order_of}
 use Rattle.bench_lines.specs.Scripts.{AreOrders, CountsTaken, FailsAtLine, IsInLine, TakesInto, TakesLine, TakesTooMuch}
 use Rattle.bench_lines.specs.Scripts.{WhereKnown}
 use Rattle.nvm_board.specs.Facts.{Facts}
-use Rattle.card_turns.specs.BenchStates.{bench_facts}
+use Rattle.bench_turns.specs.BenchStates.{bench_facts}
 use Rattle.card_bench.specs.ScriptEndings.{StopsUnkept}
 use Rattle.bench_lines.specs.laws.TextLines.{IsLong, lines-last, lines-line, lines-long, order_of-empty, order_of-long}
 use Rattle.bench_lines.specs.laws.TextLines.{order_of-none, orders-more, strip-within}
 use Rattle.card_bench.specs.ScriptEndings.{HasWritten, IsReadInto, IsRunInto, IsRunToEnd, IsRunToLine, IsRunUnkept}
 use Rattle.card_bench.specs.Exchanges.{Desk}
 use Rattle.card_bench.specs.Performing.{Performs}
-use Rattle.card_turns.specs.Plays.{IsGood}
+use Rattle.bench_turns.specs.Plays.{IsGood}
 use Rattle.card_bench.specs.Printouts.{Print, text_of}
 use Rattle.card_bench.specs.Printouts as print
 use Rattle.card_bench.specs.Prints.{LinesPrint, PrintsLines}

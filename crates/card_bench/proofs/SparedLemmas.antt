@@ -7,14 +7,14 @@ use Rattle.nvm_board.specs.Aims.{Aim, aim, due_of, KeepsAim}
 use Rattle.nvm_board.specs.Facts.{Facts}
 use Rattle.command_base.specs.declared.spending.TheConstants.{COMMAND_WRITES}
 use Rattle.card_start.specs.Starting.{power_on_writes}
-use Rattle.card_turns.specs.declared.playing.Turn.{Turn}
-use Rattle.card_turns.specs.declared.playing.Turn.TheVariants as turn
-use Rattle.card_turns.specs.declared.playing.Item.{Item}
-use Rattle.card_turns.specs.declared.playing.Item.TheVariants.{Atr, Quiet, Mute, Dark, Reply}
-use Rattle.card_turns.specs.BenchStates.{BenchState, off, on, bench_facts, with_facts, IsArmed}
-use Rattle.card_turns.specs.Lasting.{HasLeft}
-use Rattle.card_turns.specs.Turns.{Spends, TurnsOn, WritesAsAsked, dark_of, turn_steps}
-use Rattle.card_turns.proofs.Wearing.{TURN_STEPS, block-due, due-spent, few-steps, fewer, not-mute}
+use Rattle.bench_turns.specs.declared.turn.Turn.{Turn}
+use Rattle.bench_turns.specs.declared.turn.Turn.TheVariants as turn
+use Rattle.bench_turns.specs.declared.turn.Item.{Item}
+use Rattle.bench_turns.specs.declared.turn.Item.TheVariants.{Atr, Quiet, Mute, Dark, Reply}
+use Rattle.bench_turns.specs.BenchStates.{BenchState, off, on, bench_facts, with_facts, IsArmed}
+use Rattle.bench_turns.specs.Lasting.{HasLeft}
+use Rattle.bench_turns.specs.Turns.{Spends, TurnsOn, WritesAsAsked, dark_of, turn_steps}
+use Rattle.bench_turns.proofs.Wearing.{TURN_STEPS, block-due, due-spent, few-steps, fewer, not-mute}
 use Rattle.card_bench.specs.Sweeps.{SparesStart, off_with}
 use Rattle.card_bench.specs.SweptRuns.{SparesCommand}
 

@@ -2,12 +2,12 @@
 use Rattle.std.specs.Prelude.{◌≡◌, ℕ, zero, suc, List}
 use Rattle.std.proofs.Common.{refl, sym, ◌∙◌, ap, subst}
 use Rattle.nvm_board.specs.Facts.{Facts}
-use Rattle.card_turns.specs.declared.playing.Turn.{Turn}
-use Rattle.card_turns.specs.declared.playing.Item.{Item}
-use Rattle.card_turns.specs.declared.playing.Item.TheVariants.{Atr, Quiet, Mute, Dark, Reply}
-use Rattle.card_turns.specs.BenchStates.{BenchState, off, on, switched_off, bench_card, IsArmed}
+use Rattle.bench_turns.specs.declared.turn.Turn.{Turn}
+use Rattle.bench_turns.specs.declared.turn.Item.{Item}
+use Rattle.bench_turns.specs.declared.turn.Item.TheVariants.{Atr, Quiet, Mute, Dark, Reply}
+use Rattle.bench_turns.specs.BenchStates.{BenchState, off, on, switched_off, bench_card, IsArmed}
 use Rattle.command_base.specs.Finding.{found}
-use Rattle.card_turns.specs.Turns.{GoodBlock, TurnsOn}
+use Rattle.bench_turns.specs.Turns.{GoodBlock, TurnsOn}
 use Rattle.card_bench.specs.Tallies.{Finding}
 use Rattle.card_bench.specs.Sweeps.{CutsStart, CutsStarts, GivenByRun, IsStageOf, off_with}
 

@@ -7,20 +7,20 @@ use Rattle.core.specs.Borrow.{Bor}
 use Rattle.nvm_board.specs.declared.board.Arm.{Arm}
 use Rattle.nvm_board.specs.Aims.{due_of}
 use Rattle.nvm_board.specs.Facts.{Facts}
-use Rattle.card_turns.specs.declared.playing.Turn.{Turn}
-use Rattle.card_turns.specs.declared.playing.Turn.TheVariants as turn
-use Rattle.card_turns.specs.declared.playing.Item.{Item}
-use Rattle.card_turns.specs.declared.playing.Item.TheVariants as item
+use Rattle.bench_turns.specs.declared.turn.Turn.{Turn}
+use Rattle.bench_turns.specs.declared.turn.Turn.TheVariants as turn
+use Rattle.bench_turns.specs.declared.turn.Item.{Item}
+use Rattle.bench_turns.specs.declared.turn.Item.TheVariants as item
 use Rattle.card_state.specs.declared.space.FreeSpace.{FreeSpace}
-use Rattle.card_turns.specs.BenchStates.{BenchState, IsWell, bench_facts, IsArmed}
+use Rattle.bench_turns.specs.BenchStates.{BenchState, IsWell, bench_facts, IsArmed}
 use Rattle.command_base.specs.Finding.{HasCard}
-use Rattle.card_turns.specs.declared.turn_result.TurnResult.{TurnResult}
-use Rattle.card_turns.specs.declared.turn_result.TurnResult.TheVariants as turned
-use Rattle.card_turns.specs.Plays.{IsGood, TellsItem}
-use Rattle.card_turns.specs.Turns.{GoodTurn, Runs}
+use Rattle.bench_turns.specs.declared.turn_result.TurnResult.{TurnResult}
+use Rattle.bench_turns.specs.declared.turn_result.TurnResult.TheVariants as turned
+use Rattle.bench_turns.specs.Plays.{IsGood, TellsItem}
+use Rattle.bench_turns.specs.Turns.{GoodTurn, Runs}
 use Rattle.card_bench.specs.SweptRuns.{SparesCommand}
 use Rattle.card_bench.specs.Tallies.{Finding}
-use Rattle.card_turns.proofs.TurnsTold.{good-block, tells-then}
+use Rattle.bench_turns.proofs.TurnsTold.{good-block, tells-then}
 use Rattle.card_bench.specs.Sweeps.{CutsStart, CutsStarts, SparesStart, EndsIn, EndsBehindStarts, CutsCommand}
 use Rattle.card_bench.specs.Sweeps.{GivenByRun, PlaysOn, off_with, free_of}
 

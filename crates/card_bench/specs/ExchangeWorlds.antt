@@ -14,8 +14,8 @@ use Rattle.card_bench.specs.Exchanges.{Ended}
 use Rattle.card_bench.specs.Exchanges.{answered, set_back, link_lost, power_lost}
 use Rattle.card_bench.specs.declared.exchange.TheConstants.{LINE_BLOCKS}
 use Rattle.card_bench.specs.declared.line.Line.{Line}
-use Rattle.card_turns.specs.BenchStates.{BenchState, off, on, bench_card, bench_facts, IsOff}
-use Rattle.card_turns.specs.CardBlocks.{Powered}
+use Rattle.bench_turns.specs.BenchStates.{BenchState, off, on, bench_card, bench_facts, IsOff}
+use Rattle.bench_turns.specs.CardBlocks.{Powered}
 use Rattle.card_bench.specs.Exchanges.{Ends, Exchanged}
 use Rattle.card_bench.specs.Lines.{is_due, line_after}
 use Rattle.link_worlds.specs.TreeMachine.{IsProperState, Served, tree_machine}

@@ -4,12 +4,12 @@ use Rattle.t1_link.specs.Blocks.{frame}
 use Rattle.t1_link.specs.ReaderTable.{CommandReport, Reader, Turned, fails, gives, reader_sends, reader_step}
 use Rattle.t1_link.specs.ReaderTable.{reader_times_out, sends, unknown}
 use Rattle.card_bench.specs.declared.exchange.TheConstants.{LINE_BLOCKS}
-use Rattle.card_turns.specs.declared.playing.Item.TheVariants as item
+use Rattle.bench_turns.specs.declared.turn.Item.TheVariants as item
 use Rattle.card_bench.specs.declared.line.Line.{Line}
-use Rattle.card_turns.specs.BenchStates.{BenchState}
+use Rattle.bench_turns.specs.BenchStates.{BenchState}
 use Rattle.card_bench.specs.Lines.{arriving, line_after}
 use Rattle.card_bench.specs.Printouts.{Print, prints_bytes, prints_dark, prints_lost}
-use Rattle.card_turns.specs.Turns.{GoodBlock}
+use Rattle.bench_turns.specs.Turns.{GoodBlock}
 
 -- the next block on the line, toward either end
 pub data NextBlock : Type 0 where

@@ -2,17 +2,17 @@
 use Rattle.std.specs.Prelude.{◌≡◌, ◌-◌, ℕ, List, Option, None, Some}
 use Rattle.t1_link.specs.ReaderTable.{Reader, fresh_reader}
 use Rattle.bench_lines.specs.Orders.{Order, Nothing, On, Off, Free, Apdu, Block, Cut, Lose, Garble}
-use Rattle.card_turns.specs.declared.playing.Turn.{Turn}
-use Rattle.card_turns.specs.declared.playing.Item.{Item}
-use Rattle.card_turns.specs.BenchStates.{BenchState, off, on, IsArmed}
+use Rattle.bench_turns.specs.declared.turn.Turn.{Turn}
+use Rattle.bench_turns.specs.declared.turn.Item.{Item}
+use Rattle.bench_turns.specs.BenchStates.{BenchState, off, on, IsArmed}
 use Rattle.card_bench.specs.Exchanges.{Commands, Desk}
 use Rattle.card_bench.specs.Printouts.{Print, prints_nothing, prints_atr, prints_mute, prints_dark, prints_bytes}
 use Rattle.card_bench.specs.Printouts.{prints_free}
 use Rattle.card_start.specs.Running.{card_found}
 use Rattle.card_model.specs.Cards.{card_space}
-use Rattle.card_turns.specs.Turns.{GoodBlock, GoodTurn}
-use Rattle.card_turns.specs.declared.playing.Turn.TheVariants as turn
-use Rattle.card_turns.specs.declared.playing.Item.TheVariants as item
+use Rattle.bench_turns.specs.Turns.{GoodBlock, GoodTurn}
+use Rattle.bench_turns.specs.declared.turn.Turn.TheVariants as turn
+use Rattle.bench_turns.specs.declared.turn.Item.TheVariants as item
 
 -- the output of a turn
 abbrev pub shown : Item → Print

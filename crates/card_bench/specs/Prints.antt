@@ -4,11 +4,11 @@ use Rattle.nvm_board.specs.declared.board.TheConstants.{LEAST_PAGES, SECRETS}
 use Rattle.nvm_board.specs.Facts.{Facts}
 use Rattle.card_start.specs.Factory.{factory_card}
 use Rattle.bench_lines.specs.Orders.{Order}
-use Rattle.card_turns.specs.BenchStates.{bench_card, bench_facts, off, IsOff}
+use Rattle.bench_turns.specs.BenchStates.{bench_card, bench_facts, off, IsOff}
 use Rattle.card_bench.specs.Exchanges.{Desk}
 use Rattle.bench_lines.specs.Orders.{order_of}
 use Rattle.card_bench.specs.Performing.{Performs}
-use Rattle.card_turns.specs.Plays.{IsGood}
+use Rattle.bench_turns.specs.Plays.{IsGood}
 use Rattle.card_bench.specs.Printouts.{Print, text_of}
 
 -- Lines that run in order, and their concatenated output. After each of them the bench's memory has a card state after

@@ -3,7 +3,7 @@ use Rattle.std.specs.Prelude.{◌≡◌, ◌≢◌, ◌⊎◌, ◌≤◌, ℕ, L
 use Rattle.std.specs.Io.KnownBytes.{Appends}
 use Rattle.std.specs.Str.Lines.{lines}
 use Rattle.nvm_board.specs.Facts.{Facts}
-use Rattle.card_turns.specs.BenchStates.{bench_facts}
+use Rattle.bench_turns.specs.BenchStates.{bench_facts}
 use Rattle.card_bench.specs.declared.fault.RunFault.{RunFault}
 use Rattle.card_bench.specs.declared.fault.RunFault.TheVariants.{BadLine, Read, Write, Memory, Unkept}
 use Rattle.bench_lines.specs.declared.reading.TheConstants.{SCRIPT_LIMIT}

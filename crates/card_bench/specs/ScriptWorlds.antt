@@ -5,7 +5,7 @@ use Rattle.card_model.specs.Sessions.{fresh_session}
 use Rattle.card_bench.specs.Exchanges.{Ended}
 use Rattle.bench_lines.specs.Orders.{Order}
 use Rattle.bench_lines.specs.Orders.{Nothing, On, Off, Free, Apdu, Block, Cut, Lose, Garble}
-use Rattle.card_turns.specs.BenchStates.{BenchHasCard}
+use Rattle.bench_turns.specs.BenchStates.{BenchHasCard}
 use Rattle.card_bench.specs.Exchanges.{Desk, GoesOn, left_by, printed_by}
 use Rattle.card_bench.specs.ExchangeWorlds.{GoesAs, StandIn, course_of, exchange_events}
 use Rattle.bench_lines.specs.Orders.{IsOrderSized}

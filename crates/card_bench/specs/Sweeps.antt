@@ -2,15 +2,15 @@
 use Rattle.std.specs.Prelude.{◌≡◌, ◌⊎◌, ◌≤◌, ◌≢◌, ℕ, zero, suc, true, List, None, is_some}
 use Rattle.nvm_board.specs.Facts.{Facts}
 use Rattle.card_state.specs.declared.space.FreeSpace.{FreeSpace}
-use Rattle.card_turns.specs.declared.playing.Turn.{Turn}
-use Rattle.card_turns.specs.declared.playing.Turn.TheVariants as turn
-use Rattle.card_turns.specs.declared.playing.Item.{Item}
-use Rattle.card_turns.specs.declared.playing.Item.TheVariants.{Dark}
-use Rattle.card_turns.specs.BenchStates.{BenchState, off, on, bench_facts, IsArmed}
+use Rattle.bench_turns.specs.declared.turn.Turn.{Turn}
+use Rattle.bench_turns.specs.declared.turn.Turn.TheVariants as turn
+use Rattle.bench_turns.specs.declared.turn.Item.{Item}
+use Rattle.bench_turns.specs.declared.turn.Item.TheVariants.{Dark}
+use Rattle.bench_turns.specs.BenchStates.{BenchState, off, on, bench_facts, IsArmed}
 use Rattle.command_base.specs.Finding.{HasCard}
-use Rattle.card_turns.specs.Plays.{IsGood}
-use Rattle.card_turns.specs.Turns.{GoodBlock, GoodTurn, Runs}
-use Rattle.card_turns.specs.CardBlocks.{IsBlockStage}
+use Rattle.bench_turns.specs.Plays.{IsGood}
+use Rattle.bench_turns.specs.Turns.{GoodBlock, GoodTurn, Runs}
+use Rattle.bench_turns.specs.CardBlocks.{IsBlockStage}
 use Rattle.card_model.specs.Cards.{card_space, Card}
 use Rattle.card_start.specs.Running.{card_found}
 use Rattle.t1_link.specs.CardTable.{link_step}

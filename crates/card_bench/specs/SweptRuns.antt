@@ -2,12 +2,12 @@
 use Rattle.std.specs.Prelude.{◌≡◌, ◌⊎◌, ◌≤◌, ◌≢◌, ◌<◌, ◌+◌, ◌-◌, ◌/◌, ◌%◌, ◌^◌, ℕ, zero, suc, true, List, [], ◌∷◌}
 use Rattle.std.specs.Prelude.{◌++◌, is_some}
 use Rattle.nvm_board.specs.Facts.{Facts}
-use Rattle.card_turns.specs.declared.playing.Turn.{Turn}
-use Rattle.card_turns.specs.declared.playing.Item.{Item}
-use Rattle.card_turns.specs.declared.playing.Item.TheVariants.{Dark}
-use Rattle.card_turns.specs.BenchStates.{BenchState, bench_facts, IsArmed}
-use Rattle.card_turns.specs.Plays.{IsGood}
-use Rattle.card_turns.specs.Turns.{GoodBlock, Runs}
+use Rattle.bench_turns.specs.declared.turn.Turn.{Turn}
+use Rattle.bench_turns.specs.declared.turn.Item.{Item}
+use Rattle.bench_turns.specs.declared.turn.Item.TheVariants.{Dark}
+use Rattle.bench_turns.specs.BenchStates.{BenchState, bench_facts, IsArmed}
+use Rattle.bench_turns.specs.Plays.{IsGood}
+use Rattle.bench_turns.specs.Turns.{GoodBlock, Runs}
 use Rattle.card_bench.specs.Masks.{mask_of, mask_count_of, words_tried}
 use Rattle.card_bench.specs.Sweeps.{CutsCommand, CutsStart, SparesStart, EndsIn, off_with}
 use Rattle.card_bench.specs.Tallies.{Finding}

@@ -2,7 +2,7 @@
 use Rattle.std.specs.Prelude.{◌≡◌, ◌≢◌, ◌≤◌, ◌+◌, ◌⊎◌, ℕ, List, [], ◌∷◌, ◌++◌, Some, map, sum_by, slice_get, slice_set}
 use Rattle.std.specs.Prelude.{All, AllPairs}
 use Rattle.card_state.specs.declared.space.FreeSpace.{FreeSpace}
-use Rattle.card_turns.specs.declared.playing.Item.{Item}
+use Rattle.bench_turns.specs.declared.turn.Item.{Item}
 use Rattle.card_bench.specs.declared.tally.Seen.{Seen}
 
 -- the finding of a run: the trace of the probe, and the free space before it

@@ -3,12 +3,12 @@ ghost use Rattle.std.specs.Prelude.{◌≡◌, ◌≢◌, ◌≤◌, ◌⊎◌, 
 ghost use Rattle.std.specs.Prelude.{IfErr, OnErr, OnOk};
 ghost use Rattle.std.specs.Io.KnownBytes.{Appends};
 ghost use Rattle.bench_lines.specs.declared.order.TheConstants.{COMMAND_LIMIT};
-ghost use Rattle.card_turns.specs.BenchStates.{bench_facts, off};
+ghost use Rattle.bench_turns.specs.BenchStates.{bench_facts, off};
 ghost use Rattle.card_bench.specs.DeskStates.{print_of};
 ghost use Rattle.bench_lines.specs.OrderViews.{order_with};
 ghost use Rattle.bench_lines.specs.Orders.{IsOrderSized};
 ghost use Rattle.card_bench.specs.Performing.{Performs, PerformsCommand, TakesTurn, free_shown};
-ghost use Rattle.card_turns.specs.Plays.{IsGood};
+ghost use Rattle.bench_turns.specs.Plays.{IsGood};
 ghost use Rattle.card_bench.specs.Printouts.{prints_nothing, text_of};
 
 use crate::exchange::{Blocks, Ending, Ends, exchange};
@@ -17,7 +17,8 @@ use crate::line::Line;
 use crate::line_result::LineResult;
 use crate::printing::{ATR, PrintedText, print_bytes, print_free, write_line};
 use bench_lines::Order;
-use card_turns::{Bench, Turn};
+use bench_turns::Turn;
+use card_turns::Bench;
 use kept_board::Followed;
 use nvm_board::{Armed, Faultless, Socket};
 use std::io::Write;

@@ -3,13 +3,14 @@ ghost use Rattle.std.specs.Prelude.{◌≡◌, ◌≢◌, ◌≤◌, length, IfE
 ghost use Rattle.t1_link.specs.declared.reader_end.Phase.TheVariants.{Busy};
 ghost use Rattle.t1_link.specs.ReaderTable.{reader_sends, reader_step, reader_times_out};
 ghost use Rattle.bench_lines.specs.declared.order.TheConstants.{COMMAND_LIMIT};
-ghost use Rattle.card_turns.specs.BenchStates.{IsOn};
+ghost use Rattle.bench_turns.specs.BenchStates.{IsOn};
 ghost use Rattle.card_bench.specs.Exchanges.{Exchanged, Exchanges, GoesOn, Passes, ReaderTurns};
 ghost use Rattle.card_bench.specs.ExchangeParts.{ended_of, ends_of, flow_of, follows_of, next_block};
-ghost use Rattle.card_turns.specs.Plays.{IsGood};
+ghost use Rattle.bench_turns.specs.Plays.{IsGood};
 
 use crate::line::Line;
-use card_turns::{Bench, Turn, TurnResult};
+use bench_turns::{Turn, TurnResult};
+use card_turns::Bench;
 use nvm_board::{Faultless, Socket};
 use std::ops::ControlFlow;
 use t1_link::{BlockBytes, Next, ReaderEnd};

@@ -17,7 +17,8 @@ mod sweeping;
 mod tally;
 
 pub use bench_lines::{COMMAND_LIMIT, Order};
-pub use card_turns::{Bench, Item, Powered, Turn};
+pub use bench_turns::{Item, Turn};
+pub use card_turns::{Bench, Powered};
 pub use desk::Desk;
 pub use factory::{factory_board, factory_board_of};
 pub use fault::RunFault;

@@ -4,11 +4,11 @@ ghost use Rattle.card_bench.specs.DeskStates.{print_of};
 ghost use Rattle.card_bench.specs.ExchangeParts.{ended_of};
 ghost use Rattle.card_bench.specs.Exchanges.{printed_by};
 ghost use Rattle.card_bench.specs.Performing.{shown};
-ghost use Rattle.card_turns.specs.Plays.{TellsItem};
+ghost use Rattle.bench_turns.specs.Plays.{TellsItem};
 
 use crate::exchange::Ending;
+use bench_turns::TurnResult;
 use card_core::FreeSpace;
-use card_turns::TurnResult;
 
 /// The result of a line. Blocks and answers are in buffers, not in this value.
 #[derive(Clone, Copy)]

@@ -3,7 +3,7 @@ ghost use Rattle.std.specs.Prelude.{◌≡◌, ◌≢◌, false, Err, IfSome, If
 ghost use Rattle.card_bench.specs.ScriptEndings.{IsRunToEnd, RunStopsBy, StopsUnkept};
 ghost use Rattle.card_bench.specs.Exchanges.{Desk as DeskValue};
 ghost use Rattle.card_bench.specs.Prints.{IsFirstDesk, desk_of};
-ghost use Rattle.card_turns.specs.Plays.{IsGood};
+ghost use Rattle.bench_turns.specs.Plays.{IsGood};
 ghost use Rattle.command_base.specs.Finding.{HasCard};
 
 use crate::desk::Desk;

@@ -4,8 +4,8 @@ ghost use Rattle.std.specs.Prelude.{AllPairs, IsTrue, IfOk, OnOk, IfSome, IfNone
 ghost use Rattle.std.specs.Prelude.{slice_get, slice_set, map, Contains};
 ghost use Rattle.card_bench.specs.Tallies.{Finding, finding, findings, times_seen, Adds, IsAt, CountsOne};
 
+use bench_turns::Item;
 use card_core::FreeSpace;
-use card_turns::Item;
 use std::alloc::{AllocError, Global};
 
 /// The result of each of a list of turns.

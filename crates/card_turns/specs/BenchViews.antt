@@ -1,21 +1,15 @@
 -- The state of a bench, from its field.
-use Rattle.std.specs.Prelude.{◌≡◌, ◌≢◌, length, true}
-use Rattle.nvm_board.specs.declared.board.TheConstants.{SECRETS}
+use Rattle.std.specs.Prelude.{◌≡◌, ◌≢◌, true}
 use Rattle.nvm_board.specs.Facts.{Facts}
 use Rattle.card_start.specs.declared.state.CardState.TheVariants.{Dark}
-use Rattle.command_base.specs.Comparing.{Comparisons, comparisons}
+use Rattle.command_base.specs.Comparing.{comparisons}
 use Rattle.card_turns.specs.declared.playing.Power.{Power}
 use Rattle.card_turns.specs.declared.playing.Power.TheVariants.{Off, On}
-use Rattle.card_turns.specs.BenchStates.{BenchState, off, on}
+use Rattle.bench_turns.specs.BenchStates.{BenchState, HasEachCount, off, on}
 
 abbrev pub power_state : {B : Type 0} → (B → Facts) → Power B → BenchState
 power_state facts (Off board) = off (facts board)
 power_state facts (On powered) = on powered
-
--- each secret has its counters
-pub record HasEachCount (counts : Comparisons) : Type 0 where
-  pub compares : length counts.compares ≡ SECRETS
-  pub matches : length counts.matches ≡ SECRETS
 
 -- with power off the board is dark; a powered card isn't dark, and its board counts each secret
 abbrev pub IsPowerKept : {B : Type 0} → (B → Facts) → Power B → Type 0

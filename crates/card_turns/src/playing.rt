@@ -1,62 +1,20 @@
 //! A bench that plays turns: power on, power off, and blocks to the card's end of the link.
 ghost use Rattle.std.specs.Prelude.{◌≡◌, ◌≤◌, ◌↔◌, ℕ, List, length, true, IsTrue};
 ghost use Rattle.nvm_board.specs.Aims.{due_of};
-ghost use Rattle.card_turns.specs.BenchStates.{off, bench_facts, BenchHasCard, IsOn, IsWell, TellsFree, IsArmed};
+ghost use Rattle.bench_turns.specs.BenchStates.{off, bench_facts, BenchHasCard, IsOn, IsWell, TellsFree, IsArmed};
 ghost use Rattle.card_turns.specs.BenchViews.{power_state, IsPowerKept};
-ghost use Rattle.card_turns.specs.Guessing.{GuessesFew};
-ghost use Rattle.card_turns.specs.Plays.{Plays, PlaysBlock, BringsNoFault, IsGood, TellsItem};
-ghost use Rattle.card_turns.specs.Turns.{CountsLosses, GoodTurn, Runs, darks};
+ghost use Rattle.bench_turns.specs.Guessing.{GuessesFew};
+ghost use Rattle.bench_turns.specs.Plays.{Plays, PlaysBlock, BringsNoFault, IsGood, TellsItem};
+ghost use Rattle.bench_turns.specs.Turns.{CountsLosses, GoodTurn, Runs, darks};
 
 use crate::powered::Powered;
-use crate::turn_result::TurnResult;
+use bench_turns::{Item, Turn, TurnResult};
 use card_core::FreeSpace;
 use card_start::StartFault;
 use core::mem::replace_with;
 use nvm_board::{Armed, Faultless, Socket, has_no_fault};
 use std::marker::Model;
 use t1_link::BlockBytes;
-
-/// A turn at the bench.
-#[derive(Clone, Copy)]
-pub enum Turn<'a> {
-    /// Power off if it is on, and then power on.
-    On,
-    /// Power off.
-    Off,
-    /// Sends these bytes to the card's end of the link.
-    Block(&'a [u8]),
-}
-
-/// The result of a turn, with its block.
-#[derive(Drop)]
-pub enum Item {
-    /// The card booted, and gave its answer to reset.
-    Atr,
-    /// Power is off, as requested.
-    Quiet,
-    /// No answer: power is off, or power-on fails.
-    Mute,
-    /// Power was lost, and is off.
-    Dark,
-    /// The block that the card's end sent.
-    Reply(BlockBytes),
-}
-
-impl Item {
-    /// Returns true if both results are the same.
-    pub fn is_same(&self, other: &Item) -> bool
-        ensures { IsTrue result ↔ (self.now ≡ other.now) }
-    {
-        match (self, other) {
-            (Item::Atr, Item::Atr)
-            | (Item::Quiet, Item::Quiet)
-            | (Item::Mute, Item::Mute)
-            | (Item::Dark, Item::Dark) => true,
-            (Item::Reply(left), Item::Reply(right)) => left.as_slice() == right.as_slice(),
-            _ => false,
-        }
-    }
-}
 
 /// The board with power off, or the powered card.
 #[derive(Drop)]
@@ -74,7 +32,7 @@ pub struct Bench<B: Socket> {
 impl<B: Socket> Model for Bench<B> {
     ghost use Rattle.std.specs.Coded.{codes};
     ghost use Rattle.card_model.specs.Sessions.{session_code};
-    ghost use Rattle.card_turns.specs.BenchStates.{BenchState};
+    ghost use Rattle.bench_turns.specs.BenchStates.{BenchState};
 
     ghost Value = { BenchState };
 

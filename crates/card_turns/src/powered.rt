@@ -11,8 +11,8 @@ ghost use Rattle.card_model.specs.Cards.{card_space};
 ghost use Rattle.card_start.specs.Starting.{IsNewFound, KeepsFormat, KeepsFoundUnlessOld, KeepsUnlessOld};
 ghost use Rattle.card_start.specs.Starting.{RenamesLast, RollsBackUnlessOld, TakesAllPages, power_on_writes};
 ghost use Rattle.t1_link.specs.CardTable.{link_step, fresh};
-ghost use Rattle.card_turns.specs.CardBlocks.{Replies, RepliesFailure, FailsAt, IsCutAt, IsBlockStage};
-ghost use Rattle.card_turns.specs.CardBlocks.{IsRun, BlockChangesNothing, BlockCompares, BlockStands};
+ghost use Rattle.bench_turns.specs.CardBlocks.{Replies, RepliesFailure, FailsAt, IsCutAt, IsBlockStage};
+ghost use Rattle.bench_turns.specs.CardBlocks.{IsRun, BlockChangesNothing, BlockCompares, BlockStands};
 
 use card_core::{Answer, Card, FreeSpace};
 use card_start::{CardState, PowerLost, StartFault};
@@ -32,7 +32,7 @@ pub struct Powered<B: Board> {
 impl<B: Board> Model for Powered<B> {
     ghost use Rattle.std.specs.Coded.{codes};
     ghost use Rattle.card_model.specs.Sessions.{session_code};
-    ghost use Rattle.card_turns.specs.CardBlocks.{Powered as PoweredValue};
+    ghost use Rattle.bench_turns.specs.CardBlocks.{Powered as PoweredValue};
 
     ghost Value = { PoweredValue };
 

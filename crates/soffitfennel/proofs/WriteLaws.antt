@@ -7,8 +7,8 @@ use Rattle.std.proofs.lemmas.List.{drop_min, flat_map_more, length-drop, take_al
 use Rattle.kept_board.specs.Kept.{kept_facts}
 use Rattle.kept_board.specs.declared.kept_board.KeptBoard.{KeptBoard}
 use Rattle.bench_lines.specs.Orders.{Order}
-use Rattle.card_turns.specs.BenchStates.{bench_facts}
-use Rattle.card_turns.specs.Plays.{IsGood}
+use Rattle.bench_turns.specs.BenchStates.{bench_facts}
+use Rattle.bench_turns.specs.Plays.{IsGood}
 use Rattle.card_bench.specs.Exchanges.{Desk}
 use Rattle.card_bench.specs.Performing.{Performs}
 use Rattle.card_bench.specs.Printouts.{Print}

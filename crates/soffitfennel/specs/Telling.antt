@@ -9,8 +9,8 @@ use Rattle.kept_board.specs.declared.kept_board.KeptBoard.{KeptBoard}
 use Rattle.card_start.specs.Factory.{factory_card}
 use Rattle.command_base.specs.Finding.{Finds, HasCard}
 use Rattle.bench_lines.specs.Orders.{Order, IsOrderSized, Free}
-use Rattle.card_turns.specs.BenchStates.{bench_facts}
-use Rattle.card_turns.specs.Plays.{IsGood}
+use Rattle.bench_turns.specs.BenchStates.{bench_facts}
+use Rattle.bench_turns.specs.Plays.{IsGood}
 use Rattle.card_bench.specs.DeskStates.{print_of}
 use Rattle.card_bench.specs.Performing.{Performs}
 use Rattle.card_bench.specs.Prints.{IsJustWritten, desk_of}

@@ -5,7 +5,7 @@ ghost use Rattle.bench_lines.specs.OrderViews.{order_with};
 ghost use Rattle.card_bench.specs.Images.{IsRefusedRightly};
 ghost use Rattle.card_bench.specs.Prints.{IsJustWritten};
 ghost use Rattle.card_start.specs.Factory.{factory_card};
-ghost use Rattle.card_turns.specs.BenchStates.{bench_facts};
+ghost use Rattle.bench_turns.specs.BenchStates.{bench_facts};
 ghost use Rattle.command_base.specs.Finding.{Finds, HasCard};
 ghost use Rattle.simulated_boards.specs.Cut.{cut_facts};
 ghost use Rattle.simulated_boards.specs.Given.{board_with};
@@ -165,7 +165,7 @@ impl Model for Session {
     ghost use Rattle.std.specs.Prelude.{map};
     ghost use Rattle.std.specs.Coded.{codes};
     ghost use Rattle.card_model.specs.Sessions.{session_code};
-    ghost use Rattle.card_turns.specs.Plays.{IsGood};
+    ghost use Rattle.bench_turns.specs.Plays.{IsGood};
     ghost use Rattle.soffitfennel.specs.SessionStates.{SessionState};
     ghost use Rattle.soffitfennel.specs.LoggedWrites.{run_of};
 

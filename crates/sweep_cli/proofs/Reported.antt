@@ -2,7 +2,7 @@
 use Rattle.std.specs.Prelude.{◌≡◌, ◌⊎◌, ◌≤◌, ◌+◌, ◌-◌, ◌^◌, ℕ, zero, suc, List, [], ◌∷◌, ◌++◌, codes}
 use Rattle.std.proofs.Common.{refl, sym, ◌∙◌, ap, subst, arith, append-nil}
 use Rattle.nvm_board.specs.Facts.{Facts}
-use Rattle.card_turns.specs.declared.playing.Turn.{Turn}
+use Rattle.bench_turns.specs.declared.turn.Turn.{Turn}
 use Rattle.card_bench.specs.Masks.{mask_of}
 use Rattle.card_bench.specs.Sweeps.{CutsCommand}
 use Rattle.sweep_cli.specs.declared.device_writes.DeviceWrite.{DeviceWrite}

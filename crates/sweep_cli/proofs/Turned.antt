@@ -1,7 +1,7 @@
 -- Turns that are steps, one more at a time.
 use Rattle.std.proofs.Common.{◌≡◌, ◌<◌, ◌+◌, ℕ, List, [], ◌∷◌, ◌++◌, length, take, get_or, sym, subst}
 use Rattle.std.proofs.lemmas.List.{take_more}
-use Rattle.card_turns.specs.declared.playing.Turn.{Turn}
+use Rattle.bench_turns.specs.declared.turn.Turn.{Turn}
 use Rattle.sweep_cli.specs.declared.steps.Step.{Step}
 use Rattle.sweep_cli.specs.Turning.{AreTurns, IsTurn}
 

@@ -5,8 +5,8 @@ use Rattle.std.specs.Io.KnownBytes.{Appends}
 use Rattle.nvm_board.specs.Facts.{Facts}
 use Rattle.simulated_boards.specs.declared.cut_board.CutBoard.{CutBoard}
 use Rattle.simulated_boards.specs.Cut.{cut_facts, last_torn}
-use Rattle.card_turns.specs.declared.playing.Turn.{Turn}
-use Rattle.card_turns.specs.declared.playing.Item.{Item}
+use Rattle.bench_turns.specs.declared.turn.Turn.{Turn}
+use Rattle.bench_turns.specs.declared.turn.Item.{Item}
 use Rattle.card_bench.specs.declared.tally.Seen.{Seen}
 use Rattle.card_bench.specs.Masks.{mask_of, mask_count_of, words_tried}
 use Rattle.card_bench.specs.Sweeps.{CutsCommand, PlaysOn}

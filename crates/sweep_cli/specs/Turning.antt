@@ -1,8 +1,8 @@
 -- The turns at the bench that steps stand for.
 use Rattle.std.specs.Prelude.{◌≡◌, ℕ, List, [], ◌∷◌}
 use Rattle.core.specs.Borrow.{Bor}
-use Rattle.card_turns.specs.declared.playing.Turn.{Turn}
-use Rattle.card_turns.specs.declared.playing.Turn.TheVariants as turn
+use Rattle.bench_turns.specs.declared.turn.Turn.{Turn}
+use Rattle.bench_turns.specs.declared.turn.Turn.TheVariants as turn
 use Rattle.sweep_cli.specs.declared.steps.Step.{Step}
 use Rattle.sweep_cli.specs.declared.steps.Step.TheVariants.{On, Off, Block}
 

@@ -1,13 +1,13 @@
 use Rattle.std.specs.Prelude.{Bool, Err, List, None, Ok, Some, ℕ, if◌then◌else◌}
 use Rattle.std.proofs.Common.{◌∙◌, ap, subst, sym}
-use Rattle.card_turns.specs.declared.playing.Turn.TheVariants as turn
+use Rattle.bench_turns.specs.declared.turn.Turn.TheVariants as turn
 use Rattle.card_bench.specs.Exchanges.{power_lost, toward_reader}
 use Rattle.card_bench.specs.declared.exchange.Toward.{Toward}
 use Rattle.card_bench.specs.ExchangeParts.{ends_of, next_block}
 use Rattle.card_bench.specs.Exchanges.{Passes}
-use Rattle.card_turns.specs.Turns.{GoodBlock, GoodTurn}
+use Rattle.bench_turns.specs.Turns.{GoodBlock, GoodTurn}
 use Rattle.card_bench.proofs.ExchangeRuns.{takes_there}
-use Rattle.card_turns.proofs.TurnsTold.{good-block, lost-so, replies-on, tells-so}
+use Rattle.bench_turns.proofs.TurnsTold.{good-block, lost-so, replies-on, tells-so}
 use Rattle.card_bench.proofs.exchange.pass.Goals as goal
 
 pub returns-in-Reply-clause-passes : goal.returns-in-Reply-clause-passes

@@ -1,6 +1,6 @@
 use Rattle.card_bench.proofs.DarkLines.{dark-spends, dark-unsets}
-use Rattle.card_turns.proofs.Wearing.{block-due, due-spent, few-run, few-steps, not-mute, runs-last}
-use Rattle.card_turns.proofs.Wearing.{steps-new}
+use Rattle.bench_turns.proofs.Wearing.{block-due, due-spent, few-run, few-steps, not-mute, runs-last}
+use Rattle.bench_turns.proofs.Wearing.{steps-new}
 use Rattle.card_bench.proofs.LineWear.{script-lasts}
 use Rattle.card_bench.proofs.laws.counts_last.Goals as goal
 

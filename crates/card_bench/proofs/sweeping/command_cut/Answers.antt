@@ -1,6 +1,6 @@
 use Rattle.std.proofs.Common.{◌≡◌, ◌∙◌, ap, false, sym, true, true≢false}
 use Rattle.std.proofs.lemmas.Option.{IfSome_then}
-use Rattle.card_turns.specs.declared.turn_result.TurnResult.TheVariants as turned
+use Rattle.bench_turns.specs.declared.turn_result.TurnResult.TheVariants as turned
 use Rattle.card_bench.specs.Sweeps.{off_with}
 use Rattle.card_bench.proofs.SweepLemmas.{cuts-command, if-none, spares-command}
 use Rattle.card_bench.proofs.sweeping.command_cut.Goals as goal

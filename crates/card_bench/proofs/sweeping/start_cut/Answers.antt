@@ -1,6 +1,6 @@
 use Rattle.std.proofs.Common.{◌≡◌, ◌∙◌, ap, false, sym, true, true≢false}
 use Rattle.std.proofs.lemmas.Option.{IfSome_then}
-use Rattle.card_turns.specs.declared.turn_result.TurnResult.TheVariants as turned
+use Rattle.bench_turns.specs.declared.turn_result.TurnResult.TheVariants as turned
 use Rattle.card_bench.specs.Sweeps.{off_with}
 use Rattle.card_bench.proofs.SweepLemmas.{cuts-start, if-none, spares-start}
 use Rattle.card_bench.proofs.sweeping.start_cut.Goals as goal

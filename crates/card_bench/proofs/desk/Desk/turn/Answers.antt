@@ -1,7 +1,7 @@
 use Rattle.std.proofs.Common.{refl, subst, sym}
 use Rattle.card_bench.specs.DeskStates.{DeskState, print_of, reader_there}
 use Rattle.card_bench.specs.Performing.{TakesTurn}
-use Rattle.card_turns.specs.Plays.{IsGood}
+use Rattle.bench_turns.specs.Plays.{IsGood}
 use Rattle.card_bench.proofs.DeskTurns.{turn-taken}
 use Rattle.card_bench.proofs.desk.Desk.turn.Goals as goal
 

@@ -1,5 +1,5 @@
 use Rattle.std.proofs.Common.{◌≡◌, ◌+◌, ◌++◌, ◌∷◌, [], ◌≢◌, sym, subst, refl, inl, inr, List, All}
-use Rattle.card_turns.specs.declared.playing.Item.{Item}
+use Rattle.bench_turns.specs.declared.turn.Item.{Item}
 use Rattle.card_bench.specs.declared.tally.Seen.{Seen}
 use Rattle.card_bench.specs.Tallies.{IsTally, IsAt, finding}
 use Rattle.card_bench.proofs.TallyLemmas.{tally-push}

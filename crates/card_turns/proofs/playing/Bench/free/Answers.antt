@@ -1,6 +1,6 @@
 use Rattle.std.proofs.Common.{Some, ap, refl, subst}
 use Rattle.card_state.specs.declared.space.FreeSpace.{FreeSpace}
-use Rattle.card_turns.specs.BenchStates.{BenchState, TellsFree}
+use Rattle.bench_turns.specs.BenchStates.{BenchState, TellsFree}
 use Rattle.card_turns.proofs.playing.Bench.free.Goals as goal
 
 pub returns-in-On : goal.returns-in-On

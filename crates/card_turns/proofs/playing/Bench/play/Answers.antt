@@ -1,8 +1,8 @@
 use Rattle.std.specs.Prelude.{◌<◌, length}
 use Rattle.std.proofs.Common.{arith}
 use Rattle.std.proofs.lemmas.List.{take_more, take_more_set}
-use Rattle.card_turns.specs.declared.playing.Turn.TheVariants.{On}
-use Rattle.card_turns.proofs.PlayedTurns.{plays_none, plays_more}
+use Rattle.bench_turns.specs.declared.turn.Turn.TheVariants.{On}
+use Rattle.bench_turns.proofs.PlayedTurns.{plays_none, plays_more}
 use Rattle.card_turns.proofs.playing.Bench.play.Goals as goal
 
 pub loop-i-init : goal.loop-i-init

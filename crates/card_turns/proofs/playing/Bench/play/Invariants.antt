@@ -1,5 +1,5 @@
 use Rattle.std.proofs.Common.{take}
-use Rattle.card_turns.specs.Plays.{PlaysAll}
+use Rattle.bench_turns.specs.Plays.{PlaysAll}
 use Rattle.card_turns.proofs.playing.Bench.play.Given as goal
 
 abbrev pub invariant-loop-i : goal.invariant-loop-i

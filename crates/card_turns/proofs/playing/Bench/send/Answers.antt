@@ -2,13 +2,13 @@ use Rattle.std.proofs.Common.{rules, sym}
 use Rattle.t1_link.specs.CardTable.{link_step}
 use Rattle.command_base.specs.declared.spending.TheConstants.{COMMAND_WRITES}
 use Rattle.card_start.specs.Running.{card_found}
-use Rattle.card_turns.specs.BenchStates.{on}
-use Rattle.card_turns.specs.Plays.{BringsNoFault}
-use Rattle.card_turns.specs.Turns.{Wears}
-use Rattle.card_turns.proofs.BlockGuesses.{block-compares, block-counts, block-pays}
-use Rattle.card_turns.proofs.GuessesPaid.{paid-few}
-use Rattle.card_turns.proofs.PlayedTurns.{hears_nothing, plays_cut, plays_replied}
-use Rattle.card_turns.proofs.Wearing.{wears-shown}
+use Rattle.bench_turns.specs.BenchStates.{on}
+use Rattle.bench_turns.specs.Plays.{BringsNoFault}
+use Rattle.bench_turns.specs.Turns.{Wears}
+use Rattle.bench_turns.proofs.BlockGuesses.{block-compares, block-counts, block-pays}
+use Rattle.bench_turns.proofs.GuessesPaid.{paid-few}
+use Rattle.bench_turns.proofs.PlayedTurns.{hears_nothing, plays_cut, plays_replied}
+use Rattle.bench_turns.proofs.Wearing.{wears-shown}
 use Rattle.card_turns.proofs.playing.Bench.send.Goals as goal
 
 pub returns-in-Err : goal.returns-in-Err

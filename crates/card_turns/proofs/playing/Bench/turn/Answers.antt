@@ -1,8 +1,8 @@
-use Rattle.card_turns.proofs.TurnsTold.{plays-block, tells-so}
+use Rattle.bench_turns.proofs.TurnsTold.{plays-block, tells-so}
 use Rattle.std.proofs.Common.{subst, sym}
-use Rattle.card_turns.specs.declared.playing.Turn.{Turn}
-use Rattle.card_turns.specs.declared.playing.Turn.TheVariants as turn
-use Rattle.card_turns.specs.Plays.{Plays, PlaysBlock, TellsItem}
+use Rattle.bench_turns.specs.declared.turn.Turn.{Turn}
+use Rattle.bench_turns.specs.declared.turn.Turn.TheVariants as turn
+use Rattle.bench_turns.specs.Plays.{Plays, PlaysBlock, TellsItem}
 use Rattle.card_turns.proofs.playing.Bench.turn.Goals as goal
 
 pub returns-in-Block : goal.returns-in-Block

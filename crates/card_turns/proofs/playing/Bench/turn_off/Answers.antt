@@ -1,4 +1,4 @@
-use Rattle.card_turns.proofs.PowerTurns.{turns_off}
+use Rattle.bench_turns.proofs.PowerTurns.{turns_off}
 use Rattle.card_turns.proofs.playing.Bench.turn_off.Goals as goal
 
 pub returns : goal.returns

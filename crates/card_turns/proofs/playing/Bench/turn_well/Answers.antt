@@ -1,4 +1,4 @@
-use Rattle.card_turns.proofs.TurnsTold.{good-turn}
+use Rattle.bench_turns.proofs.TurnsTold.{good-turn}
 use Rattle.card_turns.proofs.playing.Bench.turn_well.Goals as goal
 
 pub returns : goal.returns

@@ -1,12 +1,12 @@
 use Rattle.std.proofs.Common.{ap, refl, subst, sym, ◌∙◌}
 use Rattle.nvm_board.specs.Facts.{Facts}
-use Rattle.card_turns.proofs.FewGuesses.{writing-compares}
-use Rattle.card_turns.proofs.PowerTurns.{starts, stays_mute, ends_dark, ends_mute}
-use Rattle.card_turns.specs.declared.playing.Turn.TheVariants.{On}
-use Rattle.card_turns.specs.declared.turn_result.TurnResult.{TurnResult}
-use Rattle.card_turns.specs.BenchStates.{off}
-use Rattle.card_turns.specs.BenchViews.{power_state, HasEachCount}
-use Rattle.card_turns.specs.Plays.{Plays, TellsItem}
+use Rattle.bench_turns.proofs.FewGuesses.{writing-compares}
+use Rattle.bench_turns.proofs.PowerTurns.{starts, stays_mute, ends_dark, ends_mute}
+use Rattle.bench_turns.specs.declared.turn.Turn.TheVariants.{On}
+use Rattle.bench_turns.specs.declared.turn_result.TurnResult.{TurnResult}
+use Rattle.bench_turns.specs.BenchStates.{HasEachCount, off}
+use Rattle.card_turns.specs.BenchViews.{power_state}
+use Rattle.bench_turns.specs.Plays.{Plays, TellsItem}
 use Rattle.card_turns.proofs.playing.Power.start.Goals as goal
 use Rattle.card_turns.proofs.playing.Power.start.Goals.{in-PowerLost, in-Fault}
 

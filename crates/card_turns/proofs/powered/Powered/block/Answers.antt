@@ -8,10 +8,10 @@ use Rattle.t1_link.specs.CardTable.{replies, runs}
 use Rattle.command_base.specs.Comparing.{comparisons, ComparesAsked}
 use Rattle.card_start.specs.Running.{card_found}
 use Rattle.command_base.specs.laws.CompareLaws.{asked-none}
-use Rattle.card_turns.specs.CardBlocks.{BlockChangesNothing, BlockCompares, BlockStands, FailsAt, IsBlockStage, IsCutAt}
-use Rattle.card_turns.specs.CardBlocks.{Powered, Replies}
-use Rattle.card_turns.proofs.BlockRuns.{cut-at, of-run, run-replies}
-use Rattle.card_turns.proofs.CardStates.{on_err, works_if_cut}
+use Rattle.bench_turns.specs.CardBlocks.{BlockChangesNothing, BlockCompares, BlockStands, FailsAt, IsBlockStage, IsCutAt}
+use Rattle.bench_turns.specs.CardBlocks.{Powered, Replies}
+use Rattle.bench_turns.proofs.BlockRuns.{cut-at, of-run, run-replies}
+use Rattle.bench_turns.proofs.CardStates.{on_err, works_if_cut}
 use Rattle.card_turns.proofs.powered.Powered.block.Goals as goal
 
 -- a card that stays compared nothing

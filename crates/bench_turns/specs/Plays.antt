@@ -2,14 +2,14 @@
 use Rattle.std.specs.Prelude.{◌≡◌, ℕ, List}
 use Rattle.nvm_board.specs.Aims.{due_of}
 use Rattle.command_base.specs.declared.spending.TheConstants.{COMMAND_WRITES}
-use Rattle.card_turns.specs.declared.playing.Turn.{Turn}
-use Rattle.card_turns.specs.declared.playing.Item.{Item}
-use Rattle.card_turns.specs.declared.playing.Item.TheVariants.{Atr, Quiet, Mute, Dark, Reply}
-use Rattle.card_turns.specs.declared.turn_result.TurnResult.{TurnResult}
-use Rattle.card_turns.specs.declared.turn_result.TurnResult.TheVariants as turned
-use Rattle.card_turns.specs.BenchStates.{BenchState, bench_facts, BenchHasCard, IsWell}
-use Rattle.card_turns.specs.Guessing.{GuessesFew}
-use Rattle.card_turns.specs.Turns.{CountsLosses, OneTurn, Runs, Spends, TakesBlock, Wears, dark_of, darks, turn_writes}
+use Rattle.bench_turns.specs.declared.turn.Turn.{Turn}
+use Rattle.bench_turns.specs.declared.turn.Item.{Item}
+use Rattle.bench_turns.specs.declared.turn.Item.TheVariants.{Atr, Quiet, Mute, Dark, Reply}
+use Rattle.bench_turns.specs.declared.turn_result.TurnResult.{TurnResult}
+use Rattle.bench_turns.specs.declared.turn_result.TurnResult.TheVariants as turned
+use Rattle.bench_turns.specs.BenchStates.{BenchState, bench_facts, BenchHasCard, IsWell}
+use Rattle.bench_turns.specs.Guessing.{GuessesFew}
+use Rattle.bench_turns.specs.Turns.{CountsLosses, OneTurn, Runs, Spends, TakesBlock, Wears, dark_of, darks, turn_writes}
 
 -- no fault between these two states, nor earlier since power-on
 pub record BringsNoFault (old new : BenchState) : Type 0 where

@@ -1,5 +1,5 @@
-use Rattle.card_turns.proofs.FewGuesses.{few-unblocking, few-values}
-use Rattle.card_turns.proofs.laws.guesses_are_few.Goals as goal
+use Rattle.bench_turns.proofs.FewGuesses.{few-unblocking, few-values}
+use Rattle.bench_turns.proofs.laws.guesses_are_few.Goals as goal
 
 pub returns-clause-values : goal.returns-clause-values
 returns-clause-values c = few-values

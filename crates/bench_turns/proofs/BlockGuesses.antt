@@ -18,9 +18,9 @@ use Rattle.command_base.specs.Standing.{card_of, card_pins}
 use Rattle.command_base.specs.laws.FoundLaws.{found_is_proper}
 use Rattle.card_model.specs.laws.ProperLaws.{at-or, either-if}
 use Rattle.command_base.specs.laws.ShownLaws.{ComparesOrStays, compares-or-stays}
-use Rattle.card_turns.specs.BenchViews.{HasEachCount}
-use Rattle.card_turns.specs.CardBlocks.{BlockCompares, IsBlockStage, Powered}
-use Rattle.card_turns.proofs.GuessesPaid.{ArePaid, attempt-paid, nothing-paid}
+use Rattle.bench_turns.specs.BenchStates.{HasEachCount}
+use Rattle.bench_turns.specs.CardBlocks.{BlockCompares, IsBlockStage, Powered}
+use Rattle.bench_turns.proofs.GuessesPaid.{ArePaid, attempt-paid, nothing-paid}
 
 -- a card that is found has eight PINs, in either format
 eight-pins : (m : List ℕ) → length (found m).pins ≡ PINS

@@ -10,12 +10,12 @@ use Rattle.migration.specs.Migrating.{migration_writes}
 use Rattle.command_base.specs.Finding.{words_found}
 use Rattle.card_start.specs.Starting.{KeepsFoundUnlessOld, power_on_writes}
 use Rattle.t1_link.specs.CardTable.{link_step}
-use Rattle.card_turns.specs.declared.playing.Turn.{Turn}
-use Rattle.card_turns.specs.declared.playing.Turn.TheVariants as turn
-use Rattle.card_turns.specs.declared.playing.Item.{Item}
-use Rattle.card_turns.specs.declared.playing.Item.TheVariants.{Atr, Quiet, Mute, Dark, Reply}
-use Rattle.card_turns.specs.BenchStates.{BenchState, off, on, bench_card, bench_facts, IsFresh, IsOff, switched_off}
-use Rattle.card_turns.specs.CardBlocks.{Powered, Replies, IsRun, BlockStands, IsBlockStage}
+use Rattle.bench_turns.specs.declared.turn.Turn.{Turn}
+use Rattle.bench_turns.specs.declared.turn.Turn.TheVariants as turn
+use Rattle.bench_turns.specs.declared.turn.Item.{Item}
+use Rattle.bench_turns.specs.declared.turn.Item.TheVariants.{Atr, Quiet, Mute, Dark, Reply}
+use Rattle.bench_turns.specs.BenchStates.{BenchState, off, on, bench_card, bench_facts, IsFresh, IsOff, switched_off}
+use Rattle.bench_turns.specs.CardBlocks.{Powered, Replies, IsRun, BlockStands, IsBlockStage}
 
 -- The device writes of a start are those of the rollback, and of the way to format 2.
 abbrev pub WritesAsAsked : Facts → Facts → Type 0

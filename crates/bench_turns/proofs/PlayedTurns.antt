@@ -2,8 +2,8 @@
 use Rattle.std.specs.Prelude.{◌≡◌, ◌≢◌, ◌⊎◌, ◌+◌, ◌≤◌, ℕ, true, List, [], ◌∷◌, ◌++◌, refl}
 use Rattle.std.proofs.Common.{ap, arith, sym, subst, inl, inr, ⊎_elim}
 use Rattle.nvm_board.specs.Facts.{Facts, Fails, Steady}
-use Rattle.card_turns.specs.declared.playing.Turn.{Turn}
-use Rattle.card_turns.specs.declared.playing.Item.{Item}
+use Rattle.bench_turns.specs.declared.turn.Turn.{Turn}
+use Rattle.bench_turns.specs.declared.turn.Item.{Item}
 use Rattle.t1_link.specs.CardTable.{link_step}
 use Rattle.undo_journal.specs.Spending.{Advances}
 use Rattle.card_start.specs.declared.state.CardState.{CardState}
@@ -14,15 +14,15 @@ use Rattle.command_base.specs.declared.spending.TheConstants.{COMMAND_WRITES}
 use Rattle.command_base.specs.Finding.{HasCard}
 use Rattle.card_start.specs.Running.{Running, card_found}
 use Rattle.command_base.specs.laws.ShownLaws.{ComparesOrStays}
-use Rattle.card_turns.specs.declared.playing.Item.TheVariants.{Dark, Mute, Reply}
-use Rattle.card_turns.specs.BenchStates.{BenchState, off, on, bench_facts}
-use Rattle.card_turns.specs.CardBlocks.{Powered, BlockStands, FailsAt, IsCutAt, IsBlockStage, Replies}
-use Rattle.card_turns.specs.Guessing.{GuessesFew}
-use Rattle.card_turns.specs.Plays.{BringsNoFault, Plays, PlaysAll, PlaysBlock}
-use Rattle.card_turns.specs.Turns.{CountsLosses, GoodTurn, Runs, Spends, Wears, dark_of, darks}
-use Rattle.card_turns.proofs.FewGuesses.{pays-nothing, pays-on}
-use Rattle.card_turns.proofs.GuessesPaid.{ArePaid, paid-few}
-use Rattle.card_turns.proofs.Wearing.{aims-off, wears-shown, wears-writing}
+use Rattle.bench_turns.specs.declared.turn.Item.TheVariants.{Dark, Mute, Reply}
+use Rattle.bench_turns.specs.BenchStates.{BenchState, off, on, bench_facts}
+use Rattle.bench_turns.specs.CardBlocks.{Powered, BlockStands, FailsAt, IsCutAt, IsBlockStage, Replies}
+use Rattle.bench_turns.specs.Guessing.{GuessesFew}
+use Rattle.bench_turns.specs.Plays.{BringsNoFault, Plays, PlaysAll, PlaysBlock}
+use Rattle.bench_turns.specs.Turns.{CountsLosses, GoodTurn, Runs, Spends, Wears, dark_of, darks}
+use Rattle.bench_turns.proofs.FewGuesses.{pays-nothing, pays-on}
+use Rattle.bench_turns.proofs.GuessesPaid.{ArePaid, paid-few}
+use Rattle.bench_turns.proofs.Wearing.{aims-off, wears-shown, wears-writing}
 
 run_more : (old between new : BenchState) (turns : List Turn) (trace : List Item) (turn : Turn) (item : Item)
     → Runs old turns trace between → GoodTurn between turn item new

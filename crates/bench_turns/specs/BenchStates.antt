@@ -1,14 +1,16 @@
 -- The state of a bench: a board with power off, or a powered card with its end of the link.
-use Rattle.std.specs.Prelude.{◌≡◌, true, false, Option, None, Some, IsSome, ◌≤◌, ◌-◌, ℕ}
+use Rattle.std.specs.Prelude.{◌≡◌, true, false, Option, None, Some, IsSome, ◌≤◌, ◌-◌, ℕ, length}
+use Rattle.nvm_board.specs.declared.board.TheConstants.{SECRETS}
 use Rattle.nvm_board.specs.Facts.{Facts}
 use Rattle.card_start.specs.declared.state.CardState.TheVariants.{Working}
 use Rattle.card_model.specs.Cards.{Card, card_space}
+use Rattle.command_base.specs.Comparing.{Comparisons}
 use Rattle.command_base.specs.Finding.{HasCard, found}
 use Rattle.card_start.specs.Running.{card_found}
 use Rattle.card_model.specs.Sessions.{fresh_session}
 use Rattle.card_state.specs.declared.space.FreeSpace.{FreeSpace}
 use Rattle.t1_link.specs.CardTable.{fresh}
-use Rattle.card_turns.specs.CardBlocks.{Powered}
+use Rattle.bench_turns.specs.CardBlocks.{Powered}
 use Rattle.bench_lines.specs.Orders.{Nothing}
 
 pub data BenchState : Type 0 where
@@ -27,6 +29,11 @@ BenchHasCard b = HasCard (bench_facts b).words
 -- the card state after recovery of its memory
 abbrev pub bench_card : BenchState → Card
 bench_card b = found (bench_facts b).words
+
+-- each secret has its counters
+pub record HasEachCount (counts : Comparisons) : Type 0 where
+  pub compares : length counts.compares ≡ SECRETS
+  pub matches : length counts.matches ≡ SECRETS
 
 -- power is off
 abbrev pub IsOff : BenchState → Type 0

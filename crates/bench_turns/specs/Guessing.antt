@@ -4,7 +4,7 @@ use Rattle.std.specs.Prelude.{◌≤◌, ◌+◌, ◌*◌, ℕ, slice_index}
 use Rattle.card_state.specs.declared.pins.TheConstants.{PINS}
 use Rattle.card_state.specs.declared.limits.TheConstants.{TRIES, UNBLOCKING_TRIES}
 use Rattle.card_model.specs.PinCommands.{pin_of, unblocking_of, value_of}
-use Rattle.card_turns.specs.BenchStates.{BenchState, bench_card, bench_facts}
+use Rattle.bench_turns.specs.BenchStates.{BenchState, bench_card, bench_facts}
 
 -- the counts of a secret: its comparisons, its tries left, and the matches that reset its tries
 pub record Guessed : Type 0 where

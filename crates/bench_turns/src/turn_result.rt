@@ -17,7 +17,7 @@ pub enum TurnResult {
 }
 
 impl TurnResult {
-    ghost use Rattle.card_turns.specs.TurnResults.{is_started};
+    ghost use Rattle.bench_turns.specs.TurnResults.{is_started};
 
     /// Returns true if it is a successful power-on.
     pub fn is_started(&self) -> bool

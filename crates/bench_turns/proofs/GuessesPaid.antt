@@ -14,9 +14,8 @@ use Rattle.card_model.specs.Cards.{Card, Pin}
 use Rattle.command_base.specs.Comparing.{Comparisons, comparisons, ComparesAttempt, CostsATry, Matches}
 use Rattle.card_model.specs.PinCommands.{Attempt, no_pin, pin_of}
 use Rattle.command_base.specs.laws.ShownLaws.{IsOfItsPin}
-use Rattle.card_turns.specs.BenchStates.{BenchState, bench_card, bench_facts}
-use Rattle.card_turns.specs.BenchViews.{HasEachCount}
-use Rattle.card_turns.specs.Guessing.{GuessesFew}
+use Rattle.bench_turns.specs.BenchStates.{BenchState, HasEachCount, bench_card, bench_facts}
+use Rattle.bench_turns.specs.Guessing.{GuessesFew}
 
 -- the guess law of one PIN, by its two secrets
 pub record ArePaidAt (value unblocking : ℕ) (was now : Pin) (old new : Comparisons) : Type 0 where

@@ -3,15 +3,15 @@ use Rattle.std.specs.Prelude.{◌≡◌, List, ℕ}
 use Rattle.std.proofs.Common.{◌∙◌, refl, sym}
 use Rattle.core.specs.Borrow.{Bor}
 use Rattle.nvm_board.specs.Aims.{due_of}
-use Rattle.card_turns.specs.declared.playing.Item.{Item}
-use Rattle.card_turns.specs.declared.playing.Item.TheVariants as item
-use Rattle.card_turns.specs.declared.playing.Turn.{Turn}
-use Rattle.card_turns.specs.declared.playing.Turn.TheVariants as turn
-use Rattle.card_turns.specs.declared.turn_result.TurnResult.{TurnResult}
-use Rattle.card_turns.specs.declared.turn_result.TurnResult.TheVariants as turned
-use Rattle.card_turns.specs.BenchStates.{BenchState, off, on, bench_facts, IsOn}
-use Rattle.card_turns.specs.Plays.{BringsNoFault, IsGood, Plays, PlaysBlock, TellsItem}
-use Rattle.card_turns.specs.Turns.{GoodBlock, GoodTurn, TakesBlock}
+use Rattle.bench_turns.specs.declared.turn.Item.{Item}
+use Rattle.bench_turns.specs.declared.turn.Item.TheVariants as item
+use Rattle.bench_turns.specs.declared.turn.Turn.{Turn}
+use Rattle.bench_turns.specs.declared.turn.Turn.TheVariants as turn
+use Rattle.bench_turns.specs.declared.turn_result.TurnResult.{TurnResult}
+use Rattle.bench_turns.specs.declared.turn_result.TurnResult.TheVariants as turned
+use Rattle.bench_turns.specs.BenchStates.{BenchState, off, on, bench_facts, IsOn}
+use Rattle.bench_turns.specs.Plays.{BringsNoFault, IsGood, Plays, PlaysBlock, TellsItem}
+use Rattle.bench_turns.specs.Turns.{GoodBlock, GoodTurn, TakesBlock}
 
 -- what holds of the item holds of it in other words
 pub tells-so : (told : TurnResult) (block : List ℕ) (P Q : Item → Type 0) → ((i : Item) → P i → Q i) → TellsItem told block P

@@ -1,6 +1,6 @@
 use Rattle.std.proofs.Common.{refl}
-use Rattle.card_turns.proofs.FewGuesses.{pays-nothing, pays-on}
-use Rattle.card_turns.proofs.laws.guesses_add_up.Goals as goal
+use Rattle.bench_turns.proofs.FewGuesses.{pays-nothing, pays-on}
+use Rattle.bench_turns.proofs.laws.guesses_add_up.Goals as goal
 
 pub returns-clause-none : goal.returns-clause-none
 returns-clause-none c = λ old. pays-nothing old old refl refl

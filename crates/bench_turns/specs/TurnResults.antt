@@ -1,7 +1,7 @@
 -- The result of a turn at the bench.
 use Rattle.std.specs.Prelude.{Bool, true, false}
-use Rattle.card_turns.specs.declared.turn_result.TurnResult.{TurnResult}
-use Rattle.card_turns.specs.declared.turn_result.TurnResult.TheVariants.{Atr, Quiet, Mute, Dark, Reply}
+use Rattle.bench_turns.specs.declared.turn_result.TurnResult.{TurnResult}
+use Rattle.bench_turns.specs.declared.turn_result.TurnResult.TheVariants.{Atr, Quiet, Mute, Dark, Reply}
 
 -- true if it is a successful power-on
 abbrev pub is_started : TurnResult → Bool

@@ -4,8 +4,8 @@ use Rattle.std.proofs.Common.{ap, inl, inr, refl, subst, sym, ◌∙◌}
 use Rattle.t1_link.specs.CardTable.{Reaction, answers, reply_bytes, waiting_command, link_step, replies, runs}
 use Rattle.card_start.specs.Running.{FailsIn, IsCutIn, Steps, card_found, memory_failure}
 use Rattle.card_model.specs.Steps.{answer_bytes}
-use Rattle.card_turns.specs.CardBlocks.{BlockCounts, FailsAt, IsCutAt, IsRun, Powered, Replies, answering}
-use Rattle.card_turns.specs.CardBlocks.{card_by, machine, session_by}
+use Rattle.bench_turns.specs.CardBlocks.{BlockCounts, FailsAt, IsCutAt, IsRun, Powered, Replies, answering}
+use Rattle.bench_turns.specs.CardBlocks.{card_by, machine, session_by}
 
 -- a fact of the reaction that runs a command, where that command waits
 pub of-run : (P : Reaction → Type 0) (reaction : Reaction) (bytes : List ℕ) → waiting_command reaction ≡ Some bytes

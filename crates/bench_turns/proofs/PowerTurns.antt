@@ -13,15 +13,15 @@ use Rattle.command_base.specs.Finding.{FindsAgain, HasCard, found}
 use Rattle.card_start.specs.Running.{Starts, StartStopsBy}
 use Rattle.card_start.specs.Starting.{KeepsFoundUnlessOld, power_on_writes, renewal_writes}
 use Rattle.t1_link.specs.CardTable.{fresh}
-use Rattle.card_turns.specs.declared.playing.Turn.TheVariants as turn
-use Rattle.card_turns.specs.declared.playing.Item.TheVariants as item
-use Rattle.card_turns.specs.BenchStates.{BenchState, off, on, bench_facts}
-use Rattle.card_turns.specs.CardBlocks.{Powered}
-use Rattle.card_turns.specs.Guessing.{GuessesFew}
-use Rattle.card_turns.specs.Plays.{Plays}
-use Rattle.card_turns.specs.Turns.{LeavesCard, Wears, most_renewal, turn_writes}
-use Rattle.card_turns.proofs.FewGuesses.{pays-nothing, writing-compares}
-use Rattle.card_turns.proofs.Wearing.{aims-off, few-renewal, few-start, wears-writing}
+use Rattle.bench_turns.specs.declared.turn.Turn.TheVariants as turn
+use Rattle.bench_turns.specs.declared.turn.Item.TheVariants as item
+use Rattle.bench_turns.specs.BenchStates.{BenchState, off, on, bench_facts}
+use Rattle.bench_turns.specs.CardBlocks.{Powered}
+use Rattle.bench_turns.specs.Guessing.{GuessesFew}
+use Rattle.bench_turns.specs.Plays.{Plays}
+use Rattle.bench_turns.specs.Turns.{LeavesCard, Wears, most_renewal, turn_writes}
+use Rattle.bench_turns.proofs.FewGuesses.{pays-nothing, writing-compares}
+use Rattle.bench_turns.proofs.Wearing.{aims-off, few-renewal, few-start, wears-writing}
 
 -- power goes off
 pub turns_off : (old new : BenchState) → new ≡ off (record (bench_facts old) { dark = true })

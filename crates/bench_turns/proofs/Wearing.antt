@@ -20,14 +20,14 @@ use Rattle.command_base.specs.Finding.{HasCard, words_found}
 use Rattle.card_model.specs.laws.ProperLaws.{at-or, either-if}
 use Rattle.command_base.specs.laws.ShownLaws.{ComparesOrStays}
 use Rattle.bench_lines.specs.Orders.{On, Off, Block}
-use Rattle.card_turns.specs.declared.playing.Item.{Item}
-use Rattle.card_turns.specs.declared.playing.Item.TheVariants as item
-use Rattle.card_turns.specs.declared.playing.Turn.{Turn}
-use Rattle.card_turns.specs.declared.playing.Turn.TheVariants as turn
-use Rattle.card_turns.specs.BenchStates.{BenchState, off, on, bench_facts}
-use Rattle.card_turns.specs.Lasting.{HasLeft}
-use Rattle.card_turns.specs.Turns.{GoodBlock, GoodTurn, Runs, Spends, Wears, dark_of, most_renewal, run_steps}
-use Rattle.card_turns.specs.Turns.{turn_steps, turn_writes}
+use Rattle.bench_turns.specs.declared.turn.Item.{Item}
+use Rattle.bench_turns.specs.declared.turn.Item.TheVariants as item
+use Rattle.bench_turns.specs.declared.turn.Turn.{Turn}
+use Rattle.bench_turns.specs.declared.turn.Turn.TheVariants as turn
+use Rattle.bench_turns.specs.BenchStates.{BenchState, off, on, bench_facts}
+use Rattle.bench_turns.specs.Lasting.{HasLeft}
+use Rattle.bench_turns.specs.Turns.{GoodBlock, GoodTurn, Runs, Spends, Wears, dark_of, most_renewal, run_steps}
+use Rattle.bench_turns.specs.Turns.{turn_steps, turn_writes}
 
 -- the most steps of a turn
 abbrev pub TURN_STEPS : ℕ

@@ -2,8 +2,8 @@
 
 ghost use Rattle.std.specs.Prelude.{◌≤◌, ◌+◌, ◌*◌, ℕ};
 ghost use Rattle.card_state.specs.declared.pins.TheConstants.{PINS};
-ghost use Rattle.card_turns.specs.BenchStates.{BenchState, BenchHasCard};
-ghost use Rattle.card_turns.specs.Guessing.{GuessesFew, unblocking_guessed, value_guessed};
+ghost use Rattle.bench_turns.specs.BenchStates.{BenchState, BenchHasCard};
+ghost use Rattle.bench_turns.specs.Guessing.{GuessesFew, unblocking_guessed, value_guessed};
 
 /// Gives the guess law in numbers.
 /// In a run without a match, a PIN's value is compared at most 3 times, and its unblocking value at most 10 times. The

@@ -9,10 +9,10 @@ use Rattle.card_model.specs.Cards.{Card}
 use Rattle.command_base.specs.Comparing.{comparisons}
 use Rattle.card_model.specs.PinCommands.{pin_of}
 use Rattle.command_base.specs.laws.FoundLaws.{found_is_proper}
-use Rattle.card_turns.specs.BenchStates.{BenchState, BenchHasCard, bench_card, bench_facts}
-use Rattle.card_turns.specs.Guessing.{GuessesFew, unblocking_guessed, value_guessed}
-use Rattle.card_turns.proofs.BlockGuesses.{few-tries}
-use Rattle.card_turns.proofs.GuessesPaid.{nothing-paid, paid-few}
+use Rattle.bench_turns.specs.BenchStates.{BenchState, BenchHasCard, bench_card, bench_facts}
+use Rattle.bench_turns.specs.Guessing.{GuessesFew, unblocking_guessed, value_guessed}
+use Rattle.bench_turns.proofs.BlockGuesses.{few-tries}
+use Rattle.bench_turns.proofs.GuessesPaid.{nothing-paid, paid-few}
 
 -- the card that is found stays, and nothing is compared
 pub pays-nothing : (old new : BenchState) → bench_card new ≡ bench_card old

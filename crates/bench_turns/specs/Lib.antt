@@ -1,0 +1,8 @@
+-- The states of a bench, its turns and their runs, and the guess law.
+pub mod BenchStates
+pub mod CardBlocks
+pub mod Guessing
+pub mod Lasting
+pub mod Plays
+pub mod TurnResults
+pub mod Turns

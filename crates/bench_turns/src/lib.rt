@@ -1,0 +1,9 @@
+//! Turns at a bench: power-ons, power-offs and blocks, what each leaves, runs of them, and the guess law.
+#![tactic(auto)]
+
+pub mod laws;
+mod turn;
+mod turn_result;
+
+pub use turn::{Item, Turn};
+pub use turn_result::TurnResult;
