@@ -5,17 +5,18 @@
 ghost use Rattle.std.specs.Prelude.{◌≡◌, MatchResult, IfOk};
 ghost use Rattle.command_base.specs.Finding.{HasCard};
 ghost use Rattle.kept_board.specs.Kept.{kept_facts};
-ghost use Rattle.card_bench.specs.Faults.{status_of};
+ghost use Rattle.script_output.specs.Faults.{status_of};
 
 mod card_file;
 mod kept_file;
 mod options;
 
-use card_bench::{RunFault, factory_board, run_on};
+use card_bench::{factory_board, run_on};
 use card_file::{CardFault, open_card};
 use kept_board::KeptBoard;
 use kept_file::CardBoard;
 use options::{Asked, read_words};
+use script_output::RunFault;
 use std::env;
 use std::io::{self, BufReader, ErrorKind};
 use std::process::ExitCode;

@@ -20,7 +20,7 @@ use Rattle.card_bench.specs.Exchanges.{Arrives, CardTakes, Commands, Desk, Ends,
 use Rattle.card_bench.specs.Exchanges.{following, printed_by, toward_card, toward_reader}
 use Rattle.bench_turns.specs.Lasting.{HasLeft}
 use Rattle.card_bench.specs.Performing.{Performs, PerformsCommand, shown, free_shown}
-use Rattle.card_bench.specs.Printouts.{prints_dark}
+use Rattle.script_output.specs.Printouts.{prints_dark}
 use Rattle.bench_turns.specs.Turns.{dark_of, turn_steps}
 use Rattle.bench_turns.proofs.Wearing.{block-due, due-spent, fewer}
 use Rattle.card_bench.proofs.LineWear.{LINE_STEPS, arrives-last, turn-left}

@@ -9,11 +9,4 @@ pub mod FreeTold
 pub mod ScriptLines
 pub mod ScriptInWorld
 pub mod ReaderSays
-pub mod Digits
-pub mod Written
-pub mod TallyLemmas
-pub mod CompleteSweeps
-pub mod SweepLemmas
-pub mod StageLemmas
-pub mod SparedLemmas
 pub mod LineWear

@@ -23,7 +23,7 @@ use Rattle.card_bench.specs.Exchanges.{Arrives, CardTakes, Commands, Desk, Ends,
 use Rattle.card_bench.specs.Exchanges.{toward_card, toward_reader}
 use Rattle.bench_turns.specs.Lasting.{HasLeft}
 use Rattle.card_bench.specs.Performing.{Performs, PerformsCommand}
-use Rattle.card_bench.specs.Printouts.{Print}
+use Rattle.script_output.specs.Printouts.{Print}
 use Rattle.card_bench.specs.Prints.{IsFirstDesk, PrintsLines}
 use Rattle.bench_turns.specs.Turns.{turn_steps}
 use Rattle.bench_turns.proofs.Wearing.{fewer, few-steps, turn-lasts, block-lasts, stays-last}

@@ -18,7 +18,7 @@ use Rattle.card_bench.specs.Exchanges.{Commands, Desk, GoesOn, left_by}
 use Rattle.card_bench.specs.ExchangeWorlds.{GoesAs, StandIn, course_of, exchange_events, state_served}
 use Rattle.bench_lines.specs.Orders.{IsOrderSized}
 use Rattle.card_bench.specs.Performing.{Performs, PerformsCommand, reader_after, shown}
-use Rattle.card_bench.specs.Printouts.{Print, prints_atr}
+use Rattle.script_output.specs.Printouts.{Print, prints_atr}
 use Rattle.card_bench.specs.ScriptWorlds.{CommandInWorld, IsInNewWorld, IsInWorld, LineInWorld, PowerOnLaw, LineLaw}
 use Rattle.bench_lines.specs.Spellings.{IsOrderOfBytes}
 use Rattle.link_worlds.specs.TreeMachine.{IsProperState, Served, tree_machine}

@@ -23,8 +23,8 @@ use Rattle.card_bench.specs.ScriptEndings.{HasWritten, IsReadInto, IsRunInto, Is
 use Rattle.card_bench.specs.Exchanges.{Desk}
 use Rattle.card_bench.specs.Performing.{Performs}
 use Rattle.bench_turns.specs.Plays.{IsGood}
-use Rattle.card_bench.specs.Printouts.{Print, text_of}
-use Rattle.card_bench.specs.Printouts as print
+use Rattle.script_output.specs.Printouts.{Print, text_of}
+use Rattle.script_output.specs.Printouts as print
 use Rattle.card_bench.specs.Prints.{LinesPrint, PrintsLines}
 
 -- it prints nothing

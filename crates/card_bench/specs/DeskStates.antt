@@ -5,8 +5,8 @@ use Rattle.card_bench.specs.declared.line_result.LineResult.{LineResult}
 use Rattle.card_bench.specs.declared.line_result.LineResult.TheVariants.{Nothing, Atr, Mute, Dark, Lost, Answer}
 use Rattle.card_bench.specs.declared.line_result.LineResult.TheVariants.{Block, Free}
 use Rattle.card_bench.specs.Exchanges.{Desk}
-use Rattle.card_bench.specs.Printouts.{Print, prints_atr, prints_bytes, prints_dark, prints_free, prints_lost}
-use Rattle.card_bench.specs.Printouts.{prints_mute, prints_nothing}
+use Rattle.script_output.specs.Printouts.{Print, prints_atr, prints_bytes, prints_dark, prints_free, prints_lost}
+use Rattle.script_output.specs.Printouts.{prints_mute, prints_nothing}
 
 -- the desk, and the output of its last line
 pub record DeskState : Type 0 where

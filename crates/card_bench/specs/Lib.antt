@@ -1,4 +1,3 @@
-pub mod Faults
 pub mod Prints
 pub mod DeskStates
 pub mod Exchanges
@@ -7,11 +6,5 @@ pub mod Lines
 pub mod ExchangeParts
 pub mod Performing
 pub mod ScriptWorlds
-pub mod Printouts
-pub mod Masks
-pub mod Sweeps
-pub mod SweptRuns
-pub mod Tallies
-pub mod PlanParts
 pub mod ScriptEndings
 pub mod Images

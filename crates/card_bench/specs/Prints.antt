@@ -9,7 +9,7 @@ use Rattle.card_bench.specs.Exchanges.{Desk}
 use Rattle.bench_lines.specs.Orders.{order_of}
 use Rattle.card_bench.specs.Performing.{Performs}
 use Rattle.bench_turns.specs.Plays.{IsGood}
-use Rattle.card_bench.specs.Printouts.{Print, text_of}
+use Rattle.script_output.specs.Printouts.{Print, text_of}
 
 -- Lines that run in order, and their concatenated output. After each of them the bench's memory has a card state after
 -- recovery, and it never had a fault.

@@ -4,8 +4,8 @@ use Rattle.std.specs.Io.KnownBytes.{Appends}
 use Rattle.std.specs.Str.Lines.{lines}
 use Rattle.nvm_board.specs.Facts.{Facts}
 use Rattle.bench_turns.specs.BenchStates.{bench_facts}
-use Rattle.card_bench.specs.declared.fault.RunFault.{RunFault}
-use Rattle.card_bench.specs.declared.fault.RunFault.TheVariants.{BadLine, Read, Write, Memory, Unkept}
+use Rattle.script_output.specs.declared.fault.RunFault.{RunFault}
+use Rattle.script_output.specs.declared.fault.RunFault.TheVariants.{BadLine, Read, Write, Memory, Unkept}
 use Rattle.bench_lines.specs.declared.reading.TheConstants.{SCRIPT_LIMIT}
 use Rattle.card_bench.specs.Exchanges.{Desk}
 use Rattle.card_bench.specs.Prints.{LinesPrint, PrintsLines}

@@ -10,7 +10,7 @@ use Rattle.card_bench.specs.Exchanges.{Desk, GoesOn, left_by, printed_by}
 use Rattle.card_bench.specs.ExchangeWorlds.{GoesAs, StandIn, course_of, exchange_events}
 use Rattle.bench_lines.specs.Orders.{IsOrderSized}
 use Rattle.card_bench.specs.Performing.{Performs}
-use Rattle.card_bench.specs.Printouts.{Print, prints_atr}
+use Rattle.script_output.specs.Printouts.{Print, prints_atr}
 use Rattle.bench_lines.specs.Spellings.{IsOrderOfBytes}
 use Rattle.link_worlds.specs.TreeMachine.{IsProperState, Served, tree_machine}
 use Rattle.link_worlds.specs.Worlds.{Event, quiet}

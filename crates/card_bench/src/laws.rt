@@ -1,6 +1,6 @@
 //! Laws of the definitions: each function's contract is one law.
 
-ghost use Rattle.std.specs.Prelude.{◌≡◌, ◌≢◌, ◌⊎◌, ◌≤◌, ◌+◌, ◌-◌, ◌*◌, ℕ, List, length, true, Ok, Err, None};
+ghost use Rattle.std.specs.Prelude.{◌≡◌, ◌≢◌, ◌⊎◌, ◌≤◌, ◌+◌, ◌*◌, ℕ, List, length, true, Ok, Err, None};
 ghost use Rattle.t1_link.specs.Blocks.{Block as BlockValue, heard};
 ghost use Rattle.t1_link.specs.Garbled.{last_bit_turned};
 ghost use Rattle.t1_link.specs.declared.block.Fault.TheVariants.{WrongCheck};
@@ -11,19 +11,14 @@ ghost use Rattle.bench_turns.specs.declared.turn.Item.{Item};
 ghost use Rattle.bench_turns.specs.declared.turn.Item.TheVariants.{Mute};
 ghost use Rattle.bench_turns.specs.declared.turn.Turn.{Turn};
 ghost use Rattle.bench_turns.specs.declared.turn.Turn.TheVariants.{On};
-ghost use Rattle.nvm_board.specs.Facts.{Facts};
-ghost use Rattle.bench_turns.specs.BenchStates.{BenchState, bench_card, bench_facts};
-ghost use Rattle.card_bench.specs.Sweeps.{GivenByRun, IsStageOf, SparesStart};
-ghost use Rattle.card_bench.specs.SweptRuns.{SparesCommand};
-ghost use Rattle.card_start.specs.Starting.{power_on_writes};
-ghost use Rattle.card_bench.specs.Tallies.{Finding};
+ghost use Rattle.bench_turns.specs.BenchStates.{BenchState, bench_facts};
 ghost use Rattle.card_bench.specs.Exchanges.{Desk};
 ghost use Rattle.card_bench.specs.ExchangeWorlds.{ExchangeLaw};
 ghost use Rattle.bench_turns.specs.Lasting.{HasLeft};
 ghost use Rattle.card_bench.specs.Lines.{arriving, line_after};
 ghost use Rattle.card_bench.specs.Performing.{Performs};
 ghost use Rattle.bench_turns.specs.Plays.{IsGood};
-ghost use Rattle.card_bench.specs.Printouts.{prints_dark};
+ghost use Rattle.script_output.specs.Printouts.{prints_dark};
 ghost use Rattle.card_bench.specs.Prints.{IsFirstDesk, PrintsLines};
 ghost use Rattle.card_bench.specs.ScriptWorlds.{PowerOnLaw, LineLaw};
 ghost use Rattle.bench_turns.specs.Turns.{GoodBlock, GoodTurn, Runs, dark_of, run_steps, turn_steps};
@@ -94,37 +89,6 @@ pub fn counts_last()
         → HasLeft 700000 (bench_facts old.bench) → (bench_facts new.bench).pending ≡ None }
     ensures dark { (order : Order) (old new : Desk) → Performs order old new prints_dark
         → HasLeft 700000 (bench_facts old.bench) → (bench_facts old.bench).due ≡ (bench_facts new.bench).due + 1 }
-{}
-
-/// Each finding of a sweep shows a stage of the command.
-/// The number of cut power-ons after it doesn't matter.
-pub fn swept_cards_are_stages()
-    ensures { (board : Facts) (prepare : List Turn) (command : List ℕ) (probe : List Turn) (depth : ℕ) (given : Finding)
-        → (s : GivenByRun board prepare command probe depth given)
-        → IsStageOf s.cut.armed command (bench_card s.rest.end.started) }
-{}
-
-/// A start that a sweep spares at a write makes fewer writes: as many as the memory before it asks for.
-///
-/// Of a command this says less: some end that its block may have comes before that write. Tests show how many writes a
-/// command makes. The counts of the board have to be far from their end.
-pub fn spared_runs_make_fewer_writes()
-    ensures start { (number mask : ℕ) (board : Facts) → SparesStart number mask board → HasLeft 3787 board
-        → power_on_writes board ≤ number - 1 }
-    ensures command { (number mask : ℕ) (board : Facts) (prepare : List Turn) (command : List ℕ)
-        → (s : SparesCommand number mask board prepare command) → HasLeft 700 (bench_facts s.prepared)
-        → (bench_facts s.last).writes ≤ (bench_facts s.prepared).writes + (number - 1) }
-{}
-
-/// A sweep spares a start at its first write, or a command, only if it changes no word.
-/// So a body that cuts no write of a command that changes the card is no sweep. The counts of the board have to be far
-/// from their end.
-pub fn runs_spared_at_once_change_no_word()
-    ensures start { (mask : ℕ) (board : Facts) → (s : SparesStart 1 mask board) → HasLeft 3787 board
-        → (bench_facts s.last).words ≡ board.words }
-    ensures command { (mask : ℕ) (board : Facts) (prepare : List Turn) (command : List ℕ)
-        → (s : SparesCommand 1 mask board prepare command) → HasLeft 700 (bench_facts s.prepared)
-        → (bench_facts s.last).words ≡ (bench_facts s.prepared).words }
 {}
 
 /// How many blocks a command puts on the line at most, as a reader sees it.

@@ -8,11 +8,10 @@ ghost use Rattle.command_base.specs.Finding.{HasCard};
 
 use crate::desk::Desk;
 use crate::factory::factory_board;
-use crate::fault::RunFault;
-use crate::printing::NO_TEXT;
 use bench_lines::{GivenBytes, LineBytes, LineEnd, LineFault, Order, SCRIPT_LIMIT, read_line};
 use kept_board::Followed;
 use nvm_board::{Armed, Faultless, has_no_fault};
+use script_output::{NO_TEXT, RunFault};
 use std::alloc::Global;
 use std::io::{BufRead, Write};
 

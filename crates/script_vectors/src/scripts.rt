@@ -1,6 +1,7 @@
 //! Scripts that end without a line feed or at a bad line. The rows test the output of valid lines.
 
-use card_bench::{RunFault, run};
+use card_bench::run;
+use script_output::RunFault;
 use std::alloc::Global;
 use std::io::BufRead;
 

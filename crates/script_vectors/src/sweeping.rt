@@ -4,7 +4,8 @@
 ghost use Rattle.std.specs.Prelude.{◌≡◌, None, IfOk};
 ghost use Rattle.simulated_boards.specs.Cut.{cut_facts};
 
-use card_bench::{Item, Seen, Sweep, Turn, sweep};
+use card_bench::{Item, Turn};
+use card_sweeps::{Seen, Sweep, sweep};
 use card_vectors::fixtures::formatted;
 use link_vectors::fixtures::framed;
 use simulated_boards::CutBoard;

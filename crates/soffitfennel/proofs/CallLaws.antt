@@ -2,7 +2,7 @@
 use Rattle.std.specs.Prelude.{◌≡◌, ℕ, ℤ, List, Option, None, Some, Result, Ok, Err}
 use Rattle.std.proofs.Common.{◌∙◌, ap, subst, inl, inr}
 use Rattle.bench_lines.specs.Orders.{Order, Free}
-use Rattle.card_bench.specs.Printouts.{Print}
+use Rattle.script_output.specs.Printouts.{Print}
 use Rattle.soffitfennel.specs.SessionStates.{SessionState}
 use Rattle.soffitfennel.specs.declared.session.Outcome.{Outcome}
 use Rattle.soffitfennel.specs.declared.session.Outcome.TheVariants as outcome

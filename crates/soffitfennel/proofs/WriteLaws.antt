@@ -11,7 +11,7 @@ use Rattle.bench_turns.specs.BenchStates.{bench_facts}
 use Rattle.bench_turns.specs.Plays.{IsGood}
 use Rattle.card_bench.specs.Exchanges.{Desk}
 use Rattle.card_bench.specs.Performing.{Performs}
-use Rattle.card_bench.specs.Printouts.{Print}
+use Rattle.script_output.specs.Printouts.{Print}
 use Rattle.soffitfennel.specs.LoggedWrites.{fresh_count, image_bytes, run_of, writes_since}
 use Rattle.soffitfennel.specs.SessionStates.{SessionState}
 use Rattle.soffitfennel.specs.Telling.{IsPerformed, LogsWrites, LosesWrites}

@@ -3,7 +3,7 @@ use Rattle.std.specs.Prelude.{ℕ, List, []}
 use Rattle.nvm_board.specs.Facts.{Facts}
 use Rattle.kept_board.specs.Handed.{Run}
 use Rattle.card_bench.specs.Exchanges.{Desk}
-use Rattle.card_bench.specs.Printouts.{Print, prints_nothing}
+use Rattle.script_output.specs.Printouts.{Print, prints_nothing}
 use Rattle.card_bench.specs.Prints.{desk_of}
 
 -- the desk, the output of its last order, the writes of that order that the caller has not taken, how many of them there

@@ -14,9 +14,9 @@ use Rattle.bench_turns.specs.Plays.{IsGood}
 use Rattle.card_bench.specs.DeskStates.{print_of}
 use Rattle.card_bench.specs.Performing.{Performs}
 use Rattle.card_bench.specs.Prints.{IsJustWritten, desk_of}
-use Rattle.card_bench.specs.Printouts.{Print}
-use Rattle.card_bench.specs.Printouts.{prints_nothing, prints_atr, prints_mute, prints_dark, prints_lost, prints_bytes}
-use Rattle.card_bench.specs.Printouts.{prints_free}
+use Rattle.script_output.specs.Printouts.{Print}
+use Rattle.script_output.specs.Printouts.{prints_nothing, prints_atr, prints_mute, prints_dark, prints_lost, prints_bytes}
+use Rattle.script_output.specs.Printouts.{prints_free}
 use Rattle.soffitfennel.specs.SessionStates.{SessionState, begun_at}
 use Rattle.soffitfennel.specs.LoggedWrites.{fresh_count, image_bytes, log_room, run_of, writes_since}
 use Rattle.soffitfennel.specs.declared.session.Outcome.{Outcome}

@@ -3,8 +3,8 @@ use Rattle.std.specs.Prelude.{◌≡◌, ◌⊎◌, ◌≤◌, ◌+◌, ◌-◌,
 use Rattle.std.proofs.Common.{refl, sym, ◌∙◌, ap, subst, arith, append-nil}
 use Rattle.nvm_board.specs.Facts.{Facts}
 use Rattle.bench_turns.specs.declared.turn.Turn.{Turn}
-use Rattle.card_bench.specs.Masks.{mask_of}
-use Rattle.card_bench.specs.Sweeps.{CutsCommand}
+use Rattle.card_sweeps.specs.Masks.{mask_of}
+use Rattle.card_sweeps.specs.Sweeps.{CutsCommand}
 use Rattle.sweep_cli.specs.declared.device_writes.DeviceWrite.{DeviceWrite}
 use Rattle.sweep_cli.specs.DeviceWrites.{kinds_text, pairs_first, pairs_second, write_kind, write_text}
 use Rattle.sweep_cli.specs.ReportParts.{AddsText}

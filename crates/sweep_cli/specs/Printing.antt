@@ -4,7 +4,7 @@ use Rattle.std.specs.Prelude.{ℕ, List, ◌∷◌, ◌++◌, codes, decimal, fl
 use Rattle.hex.specs.Hex.{encode_upper}
 use Rattle.bench_turns.specs.declared.turn.Item.{Item}
 use Rattle.bench_turns.specs.declared.turn.Item.TheVariants.{Atr, Quiet, Mute, Dark, Reply}
-use Rattle.card_bench.specs.declared.tally.Seen.{Seen}
+use Rattle.card_sweeps.specs.declared.tally.Seen.{Seen}
 
 -- a space (32) and the item of a turn; a block as hexadecimal digits
 abbrev pub item_text : Item → List ℕ

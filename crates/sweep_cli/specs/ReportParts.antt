@@ -1,6 +1,6 @@
 -- What the parts of the program append to the report. No public clause names these.
 use Rattle.std.specs.Prelude.{◌≡◌, ℕ, Bool, true, false, List, ◌++◌}
-use Rattle.card_bench.specs.Masks.{mask_of}
+use Rattle.card_sweeps.specs.Masks.{mask_of}
 use Rattle.simulated_boards.specs.Cut.{cut_facts}
 use Rattle.sweep_cli.specs.declared.plan.Plan.{Plan}
 use Rattle.sweep_cli.specs.Reporting.{Sweeping, IsCutOrNone, IsSparedBy}

@@ -7,11 +7,11 @@ use Rattle.simulated_boards.specs.declared.cut_board.CutBoard.{CutBoard}
 use Rattle.simulated_boards.specs.Cut.{cut_facts, last_torn}
 use Rattle.bench_turns.specs.declared.turn.Turn.{Turn}
 use Rattle.bench_turns.specs.declared.turn.Item.{Item}
-use Rattle.card_bench.specs.declared.tally.Seen.{Seen}
-use Rattle.card_bench.specs.Masks.{mask_of, mask_count_of, words_tried}
-use Rattle.card_bench.specs.Sweeps.{CutsCommand, PlaysOn}
-use Rattle.card_bench.specs.SweptRuns.{AreAllBehind, SparesCommand}
-use Rattle.card_bench.specs.Tallies.{CountsRuns, IsTally}
+use Rattle.card_sweeps.specs.declared.tally.Seen.{Seen}
+use Rattle.card_sweeps.specs.Masks.{mask_of, mask_count_of, words_tried}
+use Rattle.card_sweeps.specs.Sweeps.{CutsCommand, PlaysOn}
+use Rattle.card_sweeps.specs.SweptRuns.{AreAllBehind, SparesCommand}
+use Rattle.card_sweeps.specs.Tallies.{CountsRuns, IsTally}
 use Rattle.sweep_cli.specs.declared.device_writes.DeviceWrite.{DeviceWrite}
 use Rattle.sweep_cli.specs.declared.parts.SweepPart.{SweepPart}
 use Rattle.sweep_cli.specs.declared.script.SweepScript.{SweepScript}

@@ -3,7 +3,8 @@ ghost use Rattle.std.specs.Prelude.{◌≡◌, ◌++◌, OnOk, IfOk, string_byte
 ghost use Rattle.sweep_cli.specs.Printing.{cut_head, item_text, items_text, result_text, results_text};
 ghost use Rattle.sweep_cli.specs.Printing.{stage_head, total_text};
 
-use card_bench::{Item, Seen};
+use card_bench::Item;
+use card_sweeps::Seen;
 use std::alloc::{AllocError, Global};
 
 /// Appends a space and the item of a turn.

@@ -2,8 +2,8 @@
 ghost use Rattle.std.specs.Prelude.{◌≡◌, ◌≤◌, ◌<◌, ◌/◌, ◌-◌, ℕ, OnOk, IfOk, IfSome, IfNone, string_bytes};
 ghost use Rattle.simulated_boards.specs.Cut.{cut_facts};
 ghost use Rattle.command_base.specs.Finding.{HasCard};
-ghost use Rattle.card_bench.specs.Masks.{mask_count_of};
-ghost use Rattle.card_bench.specs.Sweeps.{CutsCommand};
+ghost use Rattle.card_sweeps.specs.Masks.{mask_count_of};
+ghost use Rattle.card_sweeps.specs.Sweeps.{CutsCommand};
 ghost use Rattle.sweep_cli.specs.Printing.{cut_head};
 ghost use Rattle.sweep_cli.specs.ReportParts.{AddsText, AddsMaskText, sweeping_of};
 ghost use Rattle.sweep_cli.specs.Reporting.{AreDeviceWrites, AreKindsOrNone, AreResults, AreWrites, IsCutOrNone};
@@ -12,7 +12,8 @@ ghost use Rattle.sweep_cli.specs.Reporting.{IsDeviceWrite, IsFound, IsSparedBy, 
 use crate::device_writes::{DeviceWrite, push_kinds};
 use crate::lines::{cut_head, push_results, push_total, stage_head};
 use crate::parts::SweepPart;
-use card_bench::{Turn, cut_at, mask_at, mask_count, play_copy, sweep_behind, words_to_try};
+use card_bench::Turn;
+use card_sweeps::{cut_at, mask_at, mask_count, play_copy, sweep_behind, words_to_try};
 use simulated_boards::CutBoard;
 use std::alloc::{AllocError, Global};
 

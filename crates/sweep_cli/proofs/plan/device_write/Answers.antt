@@ -1,5 +1,5 @@
 use Rattle.std.proofs.Common.{◌∙◌, ap}
-use Rattle.card_bench.specs.Masks.{words_tried}
+use Rattle.card_sweeps.specs.Masks.{words_tried}
 use Rattle.sweep_cli.proofs.plan.device_write.Goals as goal
 
 pub returns-clause-made : goal.returns-clause-made

@@ -1,5 +1,5 @@
 use Rattle.std.proofs.Common.{◌++◌, ◌∙◌, List, ap, refl, string_bytes}
-use Rattle.card_bench.specs.declared.tally.Seen.{Seen}
+use Rattle.card_sweeps.specs.declared.tally.Seen.{Seen}
 use Rattle.sweep_cli.specs.Printing.{results_text}
 use Rattle.sweep_cli.proofs.Put.{on-ok}
 use Rattle.sweep_cli.proofs.plan.push_behind.Goals as goal

@@ -1,5 +1,5 @@
 use Rattle.std.proofs.Common.{◌≡◌, ◌≤◌, ◌∙◌, ap, arith}
-use Rattle.card_bench.specs.Masks.{mask_count_of, words_tried}
+use Rattle.card_sweeps.specs.Masks.{mask_count_of, words_tried}
 use Rattle.sweep_cli.specs.ReportParts.{sweeping_of}
 use Rattle.sweep_cli.specs.Reporting.{IsCutOrNone}
 use Rattle.sweep_cli.proofs.Put.{in-turn-next, in-turn-none}

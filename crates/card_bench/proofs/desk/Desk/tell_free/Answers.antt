@@ -3,7 +3,7 @@ use Rattle.std.proofs.Common.{subst, sym}
 use Rattle.card_bench.specs.DeskStates.{DeskState}
 use Rattle.card_bench.specs.Performing.{free_shown}
 use Rattle.bench_turns.specs.Plays.{IsGood}
-use Rattle.card_bench.specs.Printouts.{prints_free, prints_mute}
+use Rattle.script_output.specs.Printouts.{prints_free, prints_mute}
 use Rattle.card_bench.proofs.FreeTold.{free-told, none-told}
 use Rattle.card_bench.proofs.desk.Desk.tell_free.Goals as goal
 

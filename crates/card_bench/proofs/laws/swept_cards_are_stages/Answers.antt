@@ -1,5 +1,0 @@
-use Rattle.card_bench.proofs.StageLemmas.{stage-shown}
-use Rattle.card_bench.proofs.laws.swept_cards_are_stages.Goals as goal
-
-pub returns : goal.returns
-returns c = stage-shown

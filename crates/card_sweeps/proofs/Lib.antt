@@ -1,0 +1,5 @@
+pub mod TallyLemmas
+pub mod CompleteSweeps
+pub mod SweepLemmas
+pub mod StageLemmas
+pub mod SparedLemmas

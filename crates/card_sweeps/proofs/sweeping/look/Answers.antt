@@ -1,0 +1,35 @@
+use Rattle.std.proofs.Common.{sym, ◌∙◌, ap, subst, rules}
+use Rattle.card_sweeps.specs.Sweeps.{EndsIn, off_with}
+use Rattle.card_sweeps.proofs.TallyLemmas.{adds-weaker}
+use Rattle.card_sweeps.proofs.SweepLemmas.{ends-in}
+use Rattle.card_sweeps.proofs.CompleteSweeps.{counts-one}
+use Rattle.card_sweeps.proofs.sweeping.look.Goals as goal
+
+pub returns : goal.returns
+returns g c = record {
+  given = λ card. adds-weaker _ _ _ _
+      (λ f same. subst (EndsIn (g.B.Board.facts c.args.board.now) c.args.probe.now) (sym same)
+      (ends-in (g.B.Board.facts c.args.board.now) c.args.probe.now _ _
+      _ _ _ _ _ (g.met.B.Faultless.faultless c.args.board.now).faults
+      (g.met.B.Faultless.faultless c.args.board.now).due (c.new-bench.ensures ∙ ap off_with c.in_ok-copy.ensures)
+      c.turn_well.ensures c.free_space_of-free.ensures c.in_ok-trace.ensures card)) c.count.ensures.adds;
+  complete = λ card.
+      let end = ends-in (g.B.Board.facts c.args.board.now) c.args.probe.now _ _ _ _ _ _ _
+      (g.met.B.Faultless.faultless c.args.board.now).faults (g.met.B.Faultless.faultless c.args.board.now).due
+      (c.new-bench.ensures ∙ ap off_with c.in_ok-copy.ensures) c.turn_well.ensures c.free_space_of-free.ensures
+      c.in_ok-trace.ensures card in
+      counts-one _ _ _ _ _ end c.in_ok-count.ensures.counts;
+  full = search rules;
+}
+
+pub returns-in_err-count : goal.returns-in_err-count
+returns-in_err-count g c = record {
+  given = λ card. adds-weaker _ _ _ _
+      (λ f same. subst (EndsIn (g.B.Board.facts c.args.board.now) c.args.probe.now) (sym same)
+      (ends-in (g.B.Board.facts c.args.board.now) c.args.probe.now _ _
+      _ _ _ _ _ (g.met.B.Faultless.faultless c.args.board.now).faults
+      (g.met.B.Faultless.faultless c.args.board.now).due (c.new-bench.ensures ∙ ap off_with c.in_ok-copy.ensures)
+      c.turn_well.ensures c.free_space_of-free.ensures c.in_ok-trace.ensures card)) c.count.ensures.adds;
+  complete = search rules;
+  full = search rules;
+}

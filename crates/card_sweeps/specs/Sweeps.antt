@@ -1,0 +1,115 @@
+-- The runs of a sweep, and the finding of each.
+use Rattle.std.specs.Prelude.{◌≡◌, ◌⊎◌, ◌≤◌, ◌≢◌, ℕ, zero, suc, true, List, None, is_some}
+use Rattle.nvm_board.specs.Facts.{Facts}
+use Rattle.card_state.specs.declared.space.FreeSpace.{FreeSpace}
+use Rattle.bench_turns.specs.declared.turn.Turn.{Turn}
+use Rattle.bench_turns.specs.declared.turn.Turn.TheVariants as turn
+use Rattle.bench_turns.specs.declared.turn.Item.{Item}
+use Rattle.bench_turns.specs.declared.turn.Item.TheVariants.{Dark}
+use Rattle.bench_turns.specs.BenchStates.{BenchState, off, on, bench_facts, IsArmed}
+use Rattle.command_base.specs.Finding.{HasCard}
+use Rattle.bench_turns.specs.Plays.{IsGood}
+use Rattle.bench_turns.specs.Turns.{GoodBlock, GoodTurn, Runs}
+use Rattle.bench_turns.specs.CardBlocks.{IsBlockStage}
+use Rattle.card_model.specs.Cards.{card_space, Card}
+use Rattle.card_start.specs.Running.{card_found}
+use Rattle.t1_link.specs.CardTable.{link_step}
+use Rattle.card_sweeps.specs.Tallies.{Finding}
+
+-- a bench with this board, power off
+abbrev pub off_with : Facts → BenchState
+off_with facts = off (record facts { dark = true })
+
+-- the board taken from a bench
+abbrev pub board_left : BenchState → Facts
+board_left b = record (bench_facts b) { dark = true }
+
+-- the free space that a run reports: that of the card state after recovery; zero with power off
+abbrev pub free_of : BenchState → FreeSpace
+free_of (off facts) = record { blocks = 0; entries = 0 }
+free_of (on powered) = card_space (card_found powered.card)
+
+-- Turns are played on a board. Power is off before the first turn, and after the last one.
+pub record PlaysOn (board : Facts) (turns : List Turn) (trace : List Item) (left : Facts) : Type 0 where
+  pub last : BenchState
+  pub runs : Runs (off_with board) turns trace last
+  pub left_is : left ≡ board_left last
+  pub has_card : HasCard left.words
+
+-- The command is cut at this write, with this mask: the preparation runs on the board, the cut is set, and power is
+-- lost while the command runs. No cut is pending afterwards.
+pub record CutsCommand (number mask : ℕ) (board : Facts) (prepare : List Turn) (command : List ℕ)
+    (left : Facts) : Type 0 where
+  pub trace : List Item
+  pub prepared : BenchState
+  pub armed : BenchState
+  pub last : BenchState
+  pub before : Runs (off_with board) prepare trace prepared
+  pub arm : IsArmed number mask prepared armed
+  pub good : IsGood armed
+  pub good_left : IsGood last
+  pub cut : GoodBlock armed command Dark last
+  pub left_is : left ≡ board_left last
+  pub fired : left.pending ≡ None
+  pub has_card : HasCard left.words
+
+-- A power-on is cut at this write, with this mask.
+pub record CutsStart (number mask : ℕ) (board left : Facts) : Type 0 where
+  pub armed : BenchState
+  pub last : BenchState
+  pub arm : IsArmed number mask (off_with board) armed
+  pub good : IsGood armed
+  pub good_left : IsGood last
+  pub cut : GoodTurn armed turn.On Dark last
+  pub left_is : left ≡ board_left last
+  pub fired : left.pending ≡ None
+  pub has_card : HasCard left.words
+
+-- Power-on makes fewer writes, so that a cut set for this one doesn't happen in it.
+pub record SparesStart (number mask : ℕ) (board : Facts) : Type 0 where
+  pub item : Item
+  pub armed : BenchState
+  pub last : BenchState
+  pub arm : IsArmed number mask (off_with board) armed
+  pub good : IsGood armed
+  pub good_left : IsGood last
+  pub start : GoodTurn armed turn.On item last
+  pub spared : (item ≢ Dark) ⊎ (is_some (bench_facts last).pending ≡ true)
+
+-- `n` power-ons are cut in order, each at some write
+unfoldable pub CutsStarts : ℕ → Facts → Facts → Type 0
+CutsStarts zero board left = left ≡ board
+CutsStarts (suc n) board left =
+    (number mask : ℕ) × (between : Facts) × CutsStart number mask board between × CutsStarts n between left
+
+-- The end of a run: an uncut power-on, the free space, and the probe.
+pub record EndsIn (board : Facts) (probe : List Turn) (given : Finding) : Type 0 where
+  pub item : Item
+  pub started : BenchState
+  pub last : BenchState
+  pub start : GoodTurn (off_with board) turn.On item started
+  pub free : given.free ≡ free_of started
+  pub probed : Runs started probe given.trace last
+
+-- After a cut, up to `depth` power-ons are cut, or until one makes no write. Then the run ends.
+pub record EndsBehindStarts (depth : ℕ) (board : Facts) (probe : List Turn) (given : Finding) : Type 0 where
+  pub starts : ℕ
+  pub few : starts ≤ depth
+  pub left : Facts
+  pub cut : CutsStarts starts board left
+  pub done : (starts ≡ depth) ⊎ SparesStart 1 0 left
+  pub end : EndsIn left probe given
+
+-- A run of a sweep has this finding.
+pub record GivenByRun (board : Facts) (prepare : List Turn) (command : List ℕ) (probe : List Turn) (depth : ℕ)
+    (given : Finding) : Type 0 where
+  pub number : ℕ
+  pub mask : ℕ
+  pub left : Facts
+  pub cut : CutsCommand number mask board prepare command left
+  pub rest : EndsBehindStarts depth left probe given
+
+-- the card is a stage of this command, which the bench takes as a block
+abbrev pub IsStageOf : BenchState → List ℕ → Card → Type 0
+IsStageOf (off facts) command card = ⊥
+IsStageOf (on powered) command card = IsBlockStage powered (link_step powered.link command).reaction card

@@ -1,0 +1,337 @@
+//! Cuts a command at each of its writes, and the power-ons after it too.
+ghost use Rattle.std.specs.Prelude.{◌≡◌, ◌⊎◌, ◌≤◌, ◌<◌, ◌^◌, ◌-◌, ◌+◌, [], sum_by, All, AllPairs, ◌≢◌, None, IfOk};
+ghost use Rattle.std.specs.Prelude.{IfErr, OnOk, IfSome, IfNone, is_some, true, false, IsSome};
+ghost use Rattle.simulated_boards.specs.Cut.{cut_facts};
+ghost use Rattle.bench_turns.specs.declared.turn.Item.TheVariants.{Dark};
+ghost use Rattle.command_base.specs.Finding.{HasCard};
+ghost use Rattle.bench_turns.specs.Plays.{IsGood};
+ghost use Rattle.bench_turns.specs.BenchStates.{IsWell, bench_facts};
+ghost use Rattle.bench_turns.specs.Turns.{Runs};
+ghost use Rattle.card_sweeps.specs.Tallies.{findings, times_seen, CountsRuns};
+ghost use Rattle.card_sweeps.specs.declared.sweeping.Stop.TheVariants.{Memory};
+ghost use Rattle.card_sweeps.specs.PlanParts.{board_of, AreAll, AreAtWrite, IsGivenBy, Sweeps};
+ghost use Rattle.card_sweeps.specs.SweptRuns.{SparesCommand, IsOneLook, AreAllBehind, AreAllRuns};
+ghost use Rattle.card_sweeps.specs.Sweeps.{CutsCommand, CutsStart, SparesStart, EndsIn, EndsBehindStarts};
+ghost use Rattle.card_sweeps.specs.Sweeps.{GivenByRun, PlaysOn, free_of};
+
+use crate::masks::{mask_at, mask_count, words_to_try};
+use crate::tally::{Sweep, Trace, blank_trace};
+use bench_turns::{Turn, TurnResult};
+use card_bench::Sweepable;
+use card_state::FreeSpace;
+use card_turns::Bench;
+use simulated_boards::CutBoard;
+use std::alloc::{AllocError, Global};
+use t1_link::BlockBytes;
+
+/// The plan of a sweep: preparation, command, and probe.
+/// Each run uses a copy of the board.
+/// Between command and probe up to `depth` power-ons are cut.
+#[derive(Drop)]
+struct Plan<'a, B: Sweepable> {
+    alloc: Global,
+    board: &'a B,
+    prepare: &'a [Turn<'a>],
+    command: &'a [u8],
+    probe: &'a [Turn<'a>],
+    depth: u8,
+}
+
+/// Why a sweep stops early.
+#[derive(Clone, Copy)]
+enum Stop {
+    /// There is too little memory.
+    Memory,
+    /// No further run can be counted.
+    Full,
+}
+
+impl From<AllocError> for Stop {
+    ghost from_gives = { λ _ e. e ≡ Memory };
+
+    fn from(_: AllocError) -> Stop {
+        Stop::Memory
+    }
+}
+
+/// Runs a command, cut at each of its writes.
+/// Each run uses a copy of the board.
+/// Up to `depth` power-ons after it are cut too, until one makes no write. Each run ends with an uncut power-on and the
+/// probe.
+///
+/// # Errors
+/// There is too little memory.
+pub fn sweep<B: Sweepable + Drop>(
+    alloc: Global,
+    board: &B,
+    prepare: &[Turn<'_>],
+    command: &[u8],
+    probe: &[Turn<'_>],
+    depth: u8,
+) -> Result<Sweep, AllocError>
+    requires { (B.facts board.now).pending ≡ None }
+    ensures sum { IfOk result (λ s. sum_by times_seen s.seen.items ≡ s.runs) }
+    ensures different { IfOk result (λ s. AllPairs (λ a b. a ≢ b) (findings s.seen.items)) }
+    ensures runs { IfOk result (λ s. HasCard (B.facts board.now).words
+        → All (GivenByRun (B.facts board.now) prepare.now command.now probe.now depth) (findings s.seen.items)) }
+    // The tally is that of the possible runs, in order. docs/SWEEP.md says what is open.
+    ensures complete { IfOk result (λ s. HasCard (B.facts board.now).words → s.runs < 2 ^ 32 - 1
+        → CountsRuns (AreAllRuns B.facts B.torn (B.facts board.now) prepare.now command.now probe.now depth) []
+        s.seen.items) }
+{
+    let mut sweep = Sweep::new(alloc);
+    let plan = Plan {
+        alloc,
+        board,
+        prepare,
+        command,
+        probe,
+        depth,
+    };
+    match cut_command(&plan, &mut sweep) {
+        Ok(()) | Err(Stop::Full) => Ok(sweep),
+        Err(Stop::Memory) => Err(AllocError),
+    }
+}
+
+/// Returns the board after the command was cut at write `number`, power off.
+/// The cut uses a copy of the board. Returns `None` if the command makes fewer writes.
+///
+/// # Errors
+/// There is too little memory.
+pub fn cut_at(
+    alloc: Global,
+    board: &CutBoard,
+    prepare: &[Turn<'_>],
+    command: &[u8],
+    number: u32,
+    mask: u16,
+) -> Result<Option<CutBoard>, AllocError>
+    requires { 1 ≤ number }
+    ensures cut { IfOk result (λ cut. IfSome cut (λ left. HasCard (cut_facts board.now).words
+        → CutsCommand number mask (cut_facts board.now) prepare.now command.now (cut_facts left))) }
+    ensures spared { IfOk result (λ cut. IfNone cut (HasCard (cut_facts board.now).words
+        → SparesCommand number mask (cut_facts board.now) prepare.now command.now)) }
+{
+    let plan = Plan {
+        alloc,
+        board,
+        prepare,
+        command,
+        probe: &[],
+        depth: 0,
+    };
+    command_cut(&plan, number, mask)
+}
+
+/// Tries every run that may follow on a board.
+/// Up to `depth` power-ons are cut, until one makes no write. Each run ends with an uncut power-on and the probe.
+///
+/// # Errors
+/// There is too little memory.
+pub fn sweep_behind(
+    alloc: Global,
+    board: &CutBoard,
+    probe: &[Turn<'_>],
+    depth: u8,
+) -> Result<Sweep, AllocError>
+    ensures sum { IfOk result (λ s. sum_by times_seen s.seen.items ≡ s.runs) }
+    ensures complete { IfOk result (λ s. HasCard (cut_facts board.now).words → s.runs < 2 ^ 32 - 1
+        → CountsRuns (AreAllBehind depth probe.now (cut_facts board.now)) [] s.seen.items) }
+{
+    let mut sweep = Sweep::new(alloc);
+    match cut_starts(alloc, board, probe, depth, &mut sweep) {
+        Ok(()) | Err(Stop::Full) => Ok(sweep),
+        Err(Stop::Memory) => Err(AllocError),
+    }
+}
+
+/// Plays turns on a copy of a board, from power off on.
+/// Returns the result of each turn, and the copy, power off.
+///
+/// # Errors
+/// There is too little memory.
+pub fn play_copy(
+    alloc: Global,
+    board: &CutBoard,
+    turns: &[Turn<'_>],
+) -> Result<(Trace, CutBoard), AllocError>
+    ensures { IfOk result (λ played. HasCard (cut_facts board.now).words
+        → PlaysOn (cut_facts board.now) turns.now played.0.items (cut_facts played.1)) }
+{
+    let mut bench = Bench::new(board.copy(alloc)?);
+    let trace = played(alloc, &mut bench, turns)?;
+    Ok((trace, bench.into_board()))
+}
+
+/// Cuts the command at each of its writes, and continues from there.
+fn cut_command<B: Sweepable + Drop>(plan: &Plan<'_, B>, sweep: &mut Sweep) -> Result<(), Stop>
+    ensures { Sweeps (board_of B.facts plan.now).words (IsGivenBy B.facts plan.now)
+        (λ _. AreAll B.facts B.torn plan.now)
+        sweep.old sweep.new result }
+{
+    for whole in 0..u32::MAX {
+        if !cut_write(plan, whole + 1, sweep)? {
+            return Ok(());
+        }
+    }
+    Ok(())
+}
+
+/// Cuts the command at write `k` with each mask, and continues.
+/// Returns true if the command makes that write.
+fn cut_write<B: Sweepable + Drop>(
+    plan: &Plan<'_, B>,
+    k: u32,
+    sweep: &mut Sweep,
+) -> Result<bool, Stop>
+    requires { 1 ≤ k }
+    ensures { Sweeps (board_of B.facts plan.now).words (IsGivenBy B.facts plan.now)
+        (AreAtWrite B.facts B.torn plan.now k)
+        sweep.old sweep.new result }
+{
+    let Some(torn) = command_cut(plan, k, 0)? else {
+        return Ok(false);
+    };
+    let words = words_to_try(torn.torn_words());
+    cut_starts(plan.alloc, &torn, plan.probe, plan.depth, sweep)?;
+    for i in 1..mask_count(words) {
+        let Some(torn) = command_cut(plan, k, mask_at(words, i))? else {
+            return Ok(false);
+        };
+        cut_starts(plan.alloc, &torn, plan.probe, plan.depth, sweep)?;
+    }
+    Ok(true)
+}
+
+/// Returns the board after the command was cut at write `k`.
+/// Returns `None` if the command makes fewer writes.
+fn command_cut<B: Sweepable + Drop>(
+    plan: &Plan<'_, B>,
+    k: u32,
+    mask: u16,
+) -> Result<Option<B>, AllocError>
+    requires { 1 ≤ k }
+    ensures cut { IfOk result (λ cut. IfSome cut (λ left. HasCard (board_of B.facts plan.now).words
+        → CutsCommand k mask (board_of B.facts plan.now) plan.now.prepare.now plan.now.command.now (B.facts left))) }
+    ensures spared { IfOk result (λ cut. IfNone cut (HasCard (board_of B.facts plan.now).words
+        → SparesCommand k mask (board_of B.facts plan.now) plan.now.prepare.now plan.now.command.now)) }
+{
+    let mut bench = Bench::new(plan.board.copy(plan.alloc)?);
+    let _ = played(plan.alloc, &mut bench, plan.prepare)?;
+    bench.arm_well(k, mask);
+    let mut reply = BlockBytes::new();
+    let turned = bench.turn_well(Turn::Block(plan.command), &mut reply);
+    Ok(cut_board(matches!(turned, TurnResult::Dark), bench.into_board()))
+}
+
+/// Returns the board if power was lost and no cut is pending.
+fn cut_board<B: Sweepable + Drop>(is_dark: bool, board: B) -> Option<B>
+    ensures cut { IfSome result (λ left. (left ≡ board) × (is_dark ≡ true) × ((B.facts left).pending ≡ None)) }
+    ensures spared { IfNone result ((is_dark ≡ false) ⊎ (is_some (B.facts board).pending ≡ true)) }
+{
+    if is_dark && !board.pending() {
+        Some(board)
+    } else {
+        None
+    }
+}
+
+/// Cuts up to `depth` power-ons, then runs the probe.
+/// It cuts no more after a power-on without writes.
+fn cut_starts<B: Sweepable + Drop>(
+    alloc: Global,
+    board: &B,
+    probe: &[Turn<'_>],
+    depth: u8,
+    sweep: &mut Sweep,
+) -> Result<(), Stop>
+    ensures { Sweeps (B.facts board.now).words (EndsBehindStarts depth (B.facts board.now) probe.now)
+        (λ _. AreAllBehind depth probe.now (B.facts board.now)) sweep.old sweep.new result }
+{
+    if depth == 0 {
+        return look(alloc, board, probe, sweep);
+    }
+    for i in 0..u32::MAX {
+        // Each write is tried with masks 0 and 1.
+        let Some(cut) = start_cut(alloc, board, i / 2 + 1, (i % 2) as u16)? else {
+            return if i == 0 {
+                look(alloc, board, probe, sweep)
+            } else {
+                Ok(())
+            };
+        };
+        cut_starts(alloc, &cut, probe, depth - 1, sweep)?;
+    }
+    Ok(())
+}
+
+/// Returns the board after a power-on that was cut at write `k`.
+/// Returns `None` if power-on makes fewer writes.
+fn start_cut<B: Sweepable + Drop>(
+    alloc: Global,
+    board: &B,
+    k: u32,
+    mask: u16,
+) -> Result<Option<B>, AllocError>
+    requires { 1 ≤ k }
+    ensures cut { IfOk result (λ cut. IfSome cut (λ left. HasCard (B.facts board.now).words
+        → CutsStart k mask (B.facts board.now) (B.facts left))) }
+    ensures spared { IfOk result (λ cut. IfNone cut (HasCard (B.facts board.now).words
+        → SparesStart k mask (B.facts board.now))) }
+{
+    let mut bench = Bench::new(board.copy(alloc)?);
+    bench.arm_well(k, mask);
+    let mut reply = BlockBytes::new();
+    let turned = bench.turn_well(Turn::On, &mut reply);
+    Ok(cut_board(matches!(turned, TurnResult::Dark), bench.into_board()))
+}
+
+/// Counts one run: an uncut power-on, and the probe.
+fn look<B: Sweepable + Drop>(
+    alloc: Global,
+    board: &B,
+    probe: &[Turn<'_>],
+    sweep: &mut Sweep,
+) -> Result<(), Stop>
+    ensures { Sweeps (B.facts board.now).words (EndsIn (B.facts board.now) probe.now)
+        (λ _. IsOneLook probe.now (B.facts board.now)) sweep.old sweep.new result }
+{
+    if sweep.is_full() {
+        return Err(Stop::Full);
+    }
+    let mut bench = Bench::new(board.copy(alloc)?);
+    let mut reply = BlockBytes::new();
+    let _ = bench.turn_well(Turn::On, &mut reply);
+    let free = free_space_of(&bench);
+    let trace = played(alloc, &mut bench, probe)?;
+    sweep.count(trace, free)?;
+    Ok(())
+}
+
+/// Plays turns, and returns the result of each.
+fn played<B: Sweepable>(
+    alloc: Global,
+    bench: &mut Bench<B>,
+    turns: &[Turn<'_>],
+) -> Result<Trace, AllocError>
+    ensures { IfOk result (λ trace. IsGood bench.old
+        → IsGood bench.new × Runs bench.old turns.now trace.items bench.new) }
+{
+    let mut trace = blank_trace(alloc, turns.len())?;
+    bench.play_well(turns, &mut trace);
+    Ok(trace)
+}
+
+/// Returns the free space; zero with power off.
+fn free_space_of<B: Sweepable>(bench: &Bench<B>) -> FreeSpace
+    ensures { IsWell bench.now → result ≡ free_of bench.now }
+{
+    match bench.free() {
+        Some(free) => free,
+        None => FreeSpace {
+            blocks: 0,
+            entries: 0,
+        },
+    }
+}
