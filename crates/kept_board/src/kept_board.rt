@@ -43,8 +43,8 @@ impl<F: Follower> KeptBoard<F> {
         self.cut.words()
     }
 
-    /// Returns the follower, as it is.
-    pub fn follower(&self) -> &F
+    /// Returns the follower, if there is one.
+    pub fn follower(&self) -> &Option<F>
         ensures { result.now ≡ self.now.follower }
     {
         &self.follower

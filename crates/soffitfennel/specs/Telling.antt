@@ -57,16 +57,18 @@ told_print told = print_of told.came told.bytes.items told.bytes.items
 -- The writes of an order are those that the log of the card's board has since an earlier count.
 pub record LogsWrites (earlier : ℕ) (now : SessionState) : Type 0 where
   pub board : KeptBoard WriteLog
+  pub log : WriteLog
   pub facts : kept_facts board ≡ bench_facts now.desk.bench
-  pub count : now.count ≡ board.follower.count
-  pub untaken : now.untaken ≡ map run_of (writes_since earlier board.follower)
+  pub follows : board.follower ≡ Some log
+  pub count : now.count ≡ log.count
+  pub untaken : now.untaken ≡ map run_of (writes_since earlier log)
 
 -- The log of the card's board has lost a write since an earlier count, or it has more than there is room for.
 pub record LosesWrites (earlier room : ℕ) (now : SessionState) : Type 0 where
   pub board : KeptBoard WriteLog
   pub facts : kept_facts board ≡ bench_facts now.desk.bench
-  pub many : (length board.follower.writes.items < fresh_count earlier board.follower.count)
-      ⊎ (room < fresh_count earlier board.follower.count)
+  pub many : (log : WriteLog) → board.follower ≡ Some log → (length log.writes.items < fresh_count earlier log.count)
+      ⊎ (room < fresh_count earlier log.count)
 
 -- An order runs. The memory has a card state after it, and the board had no fault.
 pub record IsPerformed (order : Order) (was now : SessionState) : Type 0 where

@@ -195,7 +195,7 @@ impl Session {
     {
         let log = WriteLog::new(alloc, kept)?;
         let untaken = room_for_writes(alloc, kept)?;
-        let board = KeptBoard::new(board, log);
+        let board = KeptBoard::new(board, Some(log));
         has_no_fault(&board);
         Ok(Session {
             desk: Desk::new(board),
@@ -233,7 +233,9 @@ impl Session {
         ensures logs { IsTrue result → LogsWrites self.old.count self.new }
         ensures loses { result ≡ Bool.false → LosesWrites self.old.count self.old.room self.new }
     {
-        let log = self.desk.board().follower();
+        let Some(log) = self.desk.board().follower() else {
+            return false;
+        };
         if !log.copy_since(self.count, &mut self.untaken) {
             return false;
         }
