@@ -2,9 +2,9 @@
 use Rattle.std.specs.Prelude.{◌≡◌, ◌⊎◌, ℕ, List, [], Option, Some, unwrap_or}
 use Rattle.std.proofs.Common.{ap, inl, inr, refl, subst, sym, ◌∙◌}
 use Rattle.t1_link.specs.CardTable.{Reaction, answers, reply_bytes, waiting_command, link_step, replies, runs}
-use Rattle.card_start.specs.Running.{FailsIn, IsCutIn, Steps, card_found, memory_failure}
+use Rattle.card_start.specs.Running.{CommandFails, CommandIsCut, Steps, card_found, memory_failure}
 use Rattle.card_model.specs.Steps.{answer_bytes}
-use Rattle.bench_turns.specs.CardBlocks.{BlockCounts, FailsAt, IsCutAt, IsRun, Powered, Replies, answering}
+use Rattle.bench_turns.specs.CardBlocks.{BlockCounts, BlockFails, BlockIsCut, IsRun, Powered, Replies, answering}
 use Rattle.bench_turns.specs.CardBlocks.{card_by, machine, session_by}
 
 -- a fact of the reaction that runs a command, where that command waits
@@ -17,7 +17,7 @@ of-run P (runs command) bytes waits holds =
 -- power was lost in the command
 pub cut-at : (p new : Powered) (got bytes answer out : List ℕ)
     → waiting_command (link_step p.link got).reaction ≡ Some bytes
-    → out ≡ reply_bytes (link_step p.link got).reaction → IsCutIn p.card new.card answer → IsCutAt p got new out
+    → out ≡ reply_bytes (link_step p.link got).reaction → CommandIsCut p.card new.card answer → BlockIsCut p got new out
 cut-at p new got bytes answer out waits block cut = record {
   power = cut.power;
   run = of-run IsRun (link_step p.link got).reaction bytes waits tt;
@@ -59,7 +59,7 @@ module _ (p new : Powered) (got bytes answer out : List ℕ) where
           bytes waits steps.counted;
     }
 
-    fails-at : FailsIn p.card new.card answer → FailsAt p got new out
+    fails-at : CommandFails p.card new.card answer → BlockFails p got new out
     fails-at fails = record {
       power = fails.power;
       run = of-run IsRun (link_step p.link got).reaction bytes waits tt;
@@ -71,7 +71,7 @@ module _ (p new : Powered) (got bytes answer out : List ℕ) where
       };
     }
 
-    pub run-replies : Steps p.card bytes new.card answer ⊎ FailsIn p.card new.card answer
-        → Replies p got new out ⊎ FailsAt p got new out
+    pub run-replies : Steps p.card bytes new.card answer ⊎ CommandFails p.card new.card answer
+        → Replies p got new out ⊎ BlockFails p got new out
     run-replies (inl steps) = inl (steps-replies steps)
     run-replies (inr fails) = inr (fails-at fails)

@@ -16,7 +16,7 @@ use Rattle.card_start.specs.Running.{Running, card_found}
 use Rattle.command_base.specs.laws.ShownLaws.{ComparesOrStays}
 use Rattle.bench_turns.specs.declared.turn.Item.TheVariants.{Dark, Mute, Reply}
 use Rattle.bench_turns.specs.BenchStates.{BenchState, off, on, bench_facts}
-use Rattle.bench_turns.specs.CardBlocks.{Powered, BlockStands, FailsAt, IsCutAt, IsBlockStage, Replies}
+use Rattle.bench_turns.specs.CardBlocks.{Powered, BlockStands, BlockFails, BlockIsCut, IsBlockStage, Replies}
 use Rattle.bench_turns.specs.Guessing.{GuessesFew}
 use Rattle.bench_turns.specs.Plays.{BringsNoFault, Plays, PlaysAll, PlaysBlock}
 use Rattle.bench_turns.specs.Turns.{CountsLosses, GoodTurn, Runs, Spends, Wears, dark_of, darks}
@@ -107,7 +107,7 @@ plays_more old between new turns trace turn item all more =
     }
 
 -- a block in which power was lost, which is then turned off
-pub plays_cut : (old new : Powered) (got out : List ℕ) → IsCutAt old got new out → HasCard new.card.facts.words
+pub plays_cut : (old new : Powered) (got out : List ℕ) → BlockIsCut old got new out → HasCard new.card.facts.words
     → IsBlockStage old (link_step old.link got).reaction (card_found new.card)
     → ArePaid (card_found old.card) (card_found new.card) (comparisons old.card.facts) (comparisons new.card.facts)
     → ComparesOrStays (card_found old.card) (card_found new.card) (comparisons old.card.facts)
@@ -157,14 +157,14 @@ answered-counts state.Failed a b lit power same advances =
 answered-counts state.Dark a b lit power same advances = absurd (lit refl)
 
 -- without a fault the card replies as the model
-replied : (old new : Powered) (got out : List ℕ) → Replies old got new out ⊎ FailsAt old got new out
+replied : (old new : Powered) (got out : List ℕ) → Replies old got new out ⊎ BlockFails old got new out
     → new.card.facts.faults ≡ old.card.facts.faults → Replies old got new out
 replied old new got out answer same =
     ⊎_elim (λ r. r) (λ f. let risen = f.power.faults in absurd (omega (arith, same, risen))) answer
 
 -- a block that is answered
 pub plays_replied : (old new : Powered) (got out : List ℕ) → old.card.state ≢ state.Dark → HasCard new.card.facts.words
-    → (old.card.state ≡ Working → Replies old got new out ⊎ FailsAt old got new out)
+    → (old.card.state ≡ Working → Replies old got new out ⊎ BlockFails old got new out)
     → (old.card.state ≡ state.Failed → new.card ≡ old.card) → Advances old.card.facts new.card.facts
     → GuessesFew (on old) (on new)
     → (BringsNoFault (on old) (on new) → Wears COMMAND_WRITES old.card.facts new.card.facts)

@@ -94,14 +94,14 @@ pub record RepliesFailure (old : Powered) (got : List ℕ) (new : Powered) (out 
   pub block : out ≡ reply_bytes (block_answered old.link got (λ command. memory_failure)).reaction
 
 -- a command ran, the board had a fault, and from now on the memory has failed
-pub record FailsAt (old : Powered) (got : List ℕ) (new : Powered) (out : List ℕ) : Type 0 where
+pub record BlockFails (old : Powered) (got : List ℕ) (new : Powered) (out : List ℕ) : Type 0 where
   pub power : Fails old.card.facts new.card.facts
   pub run : IsRun (link_step old.link got).reaction
   pub session : new.card.session ≡ fresh_session
   pub reply : RepliesFailure old got new out
 
 -- a command ran, and the board lost power: there is no reply
-pub record IsCutAt (old : Powered) (got : List ℕ) (new : Powered) (out : List ℕ) : Type 0 where
+pub record BlockIsCut (old : Powered) (got : List ℕ) (new : Powered) (out : List ℕ) : Type 0 where
   pub power : GoesDark old.card.facts new.card.facts
   pub run : IsRun (link_step old.link got).reaction
   pub state : new.card.state ≡ Dark

@@ -66,7 +66,7 @@ GoesOnWith old got (on new) out = Replies old got new out
 
 -- Power was lost while a command ran. The card state after recovery is one of its stages, and the words written so far
 -- determine which one.
-pub record IsCutOff (old : Powered) (got : List ℕ) (new : BenchState) : Type 0 where
+pub record TurnIsCut (old : Powered) (got : List ℕ) (new : BenchState) : Type 0 where
   pub power : IsOff new
   pub run : IsRun (link_step old.link got).reaction
   pub stage : IsBlockStage old (link_step old.link got).reaction (bench_card new)
@@ -77,7 +77,7 @@ abbrev pub Hears : Powered → List ℕ → Item → BenchState → Type 0
 Hears old got Atr new = ⊥
 Hears old got Quiet new = ⊥
 Hears old got Mute new = ⊥
-Hears old got Dark new = IsCutOff old got new
+Hears old got Dark new = TurnIsCut old got new
 Hears old got (Reply block) new = GoesOnWith old got new block
 
 -- the reaction to a block

@@ -138,16 +138,16 @@ pub dark-spends : (order : Order) (old new : Desk) → Performs order old new pr
 dark-spends Nothing old new performs left = absurd cc
 dark-spends On old new performs left =
     let spent =
-    due-spent old.bench new.bench turn.On performs.came performs.turn (fewer (0 + turn_steps old.bench turn.On)
+    due-spent old.bench new.bench turn.On performs.outcome performs.turn (fewer (0 + turn_steps old.bench turn.On)
     (turn_steps old.bench turn.On) (bench_facts old.bench) (omega arith) (turn-left 0 old.bench turn.On left)) in
-    let lost = one-dark performs.came performs.printed in
+    let lost = one-dark performs.outcome performs.printed in
     omega (arith, spent, lost)
 dark-spends Off old new performs left = let printed = performs.printed in absurd cc
 dark-spends Free old new performs left = absurd (free-lit old.bench performs.1)
 dark-spends (Apdu command) old new performs left = command-due old.bench old new command performs left
 dark-spends (Block block) old new performs left =
-    let spent = block-due old.bench new.bench block performs.came performs.turn (block-left old.bench left) in
-    let lost = one-dark performs.came performs.printed in
+    let spent = block-due old.bench new.bench block performs.outcome performs.turn (block-left old.bench left) in
+    let lost = one-dark performs.outcome performs.printed in
     omega (arith, spent, lost)
 dark-spends (Cut number mask) old new performs left = let printed = performs.printed in absurd cc
 dark-spends (Lose number) old new performs left = absurd cc

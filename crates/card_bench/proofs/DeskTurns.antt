@@ -27,7 +27,7 @@ off-by old new prints Dark good reader line printed = absurd good.one
 off-by old new prints (Reply block) good reader line printed = absurd good.one
 
 pub off_taken : (old new : Desk) (prints : Print) → TakesTurn turn.Off old new prints → PerformsOff old new prints
-off_taken old new prints taken = off-by old new prints taken.came taken.turn taken.reader taken.line taken.printed
+off_taken old new prints taken = off-by old new prints taken.outcome taken.turn taken.reader taken.line taken.printed
 
 -- no card starts by a block
 none-started : (old new : BenchState) (got : List ℕ) (came : Item) → TakesBlock old got came new
@@ -42,9 +42,9 @@ none-started old new got (Reply block) one = λ i. None
 pub block_taken : (old new : Desk) (got : Bor (List ℕ)) (prints : Print) → TakesTurn (turn.Block got) old new prints
     → PerformsBlock old got.now new prints
 block_taken old new got prints taken = record {
-  came = taken.came;
+  outcome = taken.outcome;
   turn = record { one = taken.turn.one; counts = taken.turn.counts; wears = taken.turn.wears };
-  reader = taken.reader ∙ none-started old.bench new.bench got.now taken.came taken.turn.one;
+  reader = taken.reader ∙ none-started old.bench new.bench got.now taken.outcome taken.turn.one;
   line = taken.line;
   printed = taken.printed;
 }

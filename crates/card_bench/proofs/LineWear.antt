@@ -122,7 +122,7 @@ line-lasts : (n : ℕ) (order : Order) (old new : Desk) (prints : Print) → Per
 line-lasts n Nothing old new prints performs left =
     stays-last n LINE_STEPS old.bench new.bench (ap (λ (d : Desk). d.bench) performs.0) left
 line-lasts n On old new prints performs left =
-    turn-lasts n old.bench new.bench turn.On performs.came performs.turn (turn-left n old.bench turn.On left)
+    turn-lasts n old.bench new.bench turn.On performs.outcome performs.turn (turn-left n old.bench turn.On left)
 line-lasts n Off old new prints performs left =
     turn-lasts n old.bench new.bench turn.Off item.Quiet performs.turn (turn-left n old.bench turn.Off left)
 line-lasts n Free old new prints performs left =
@@ -130,7 +130,7 @@ line-lasts n Free old new prints performs left =
 line-lasts n (Apdu command) old new prints performs left =
     command-lasts n old.bench old new command prints performs left
 line-lasts n (Block block) old new prints performs left =
-    block-lasts n old.bench new.bench block performs.came performs.turn (block-left n (bench_facts old.bench) left)
+    block-lasts n old.bench new.bench block performs.outcome performs.turn (block-left n (bench_facts old.bench) left)
 line-lasts n (Cut number mask) old new prints performs left =
     let nearer = fewer (n + LINE_STEPS) n (bench_facts old.bench) (omega arith) left in
     subst (λ (b : BenchState). HasLeft n (bench_facts b)) (sym performs.armed.same) (armed-lasts n old.bench _ _ nearer)

@@ -152,4 +152,4 @@ atr-so (item.Reply block) old new turn reader shows there = absurd turn.one
 
 pub power-on-begins : PowerOnLaw
 power-on-begins old new there performs =
-    atr-so performs.came old new performs.turn performs.reader performs.printed there
+    atr-so performs.outcome old new performs.turn performs.reader performs.printed there

@@ -33,11 +33,11 @@ reader_after (item.Reply block) = None
 -- A turn at the desk, and its output. Only a successful power-on gives a reader's end, a fresh one. After any other
 -- turn no command can be sent. The pending faults of the line stay.
 pub record TakesTurn (taken : Turn) (old new : Desk) (prints : Print) : Type 0 where
-  pub came : Item
-  pub turn : GoodTurn old.bench taken came new.bench
-  pub reader : new.reader ≡ reader_after came
+  pub outcome : Item
+  pub turn : GoodTurn old.bench taken outcome new.bench
+  pub reader : new.reader ≡ reader_after outcome
   pub line : new.line ≡ old.line
-  pub printed : prints ≡ shown came
+  pub printed : prints ≡ shown outcome
 
 -- Power off, without output. No further command can be sent.
 pub record PerformsOff (old new : Desk) (prints : Print) : Type 0 where
@@ -48,11 +48,11 @@ pub record PerformsOff (old new : Desk) (prints : Print) : Type 0 where
 
 -- A block to the card's end. As the reader's end doesn't know of it, no further command can be sent.
 pub record PerformsBlock (old : Desk) (block : List ℕ) (new : Desk) (prints : Print) : Type 0 where
-  pub came : Item
-  pub turn : GoodBlock old.bench block came new.bench
+  pub outcome : Item
+  pub turn : GoodBlock old.bench block outcome new.bench
   pub reader : new.reader ≡ None
   pub line : new.line ≡ old.line
-  pub printed : prints ≡ shown came
+  pub printed : prints ≡ shown outcome
 
 -- A power cut is set, without output.
 pub record PerformsCut (number mask : ℕ) (old new : Desk) (prints : Print) : Type 0 where

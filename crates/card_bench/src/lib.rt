@@ -13,7 +13,7 @@ mod sweepable;
 
 pub use bench_lines::{COMMAND_LIMIT, Order};
 pub use bench_turns::{Item, Turn};
-pub use card_turns::{Bench, Powered};
+pub use card_turns::Bench;
 pub use desk::Desk;
 pub use factory::{factory_board, factory_board_of};
 pub use image::{NoCard, image_board};

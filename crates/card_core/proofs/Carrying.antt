@@ -30,7 +30,7 @@ use Rattle.card_model.specs.Steps.{gated_served}
 use Rattle.command_base.specs.Comparing.{comparisons, Comparisons, ComparesAsked, ComparesBy}
 use Rattle.command_base.specs.Counting.{CountsAnswered, CountsServed, CountsShown}
 use Rattle.card_model.specs.Behaviours.{Attempt, is_right, refused, outcome}
-use Rattle.command_base.specs.Served.{CarriesOut, Serves}
+use Rattle.command_base.specs.Served.{ExecutesBytes, Executes}
 use Rattle.card_model.specs.Sessions.{Session}
 use Rattle.command_base.specs.CommandWrites.{writes_asked}
 use Rattle.command_base.specs.Standing.{IsCard, card_of}
@@ -38,7 +38,7 @@ use Rattle.command_base.specs.CommitWords.{StandsAsked, StandsByWord, StandsServ
 use Rattle.command_base.specs.Working.{card_in, session_in, session_of, IsKept}
 use Rattle.card_model.specs.laws.StageLaws.{doing_lasts, stage_doing, stage_first}
 use Rattle.command_base.specs.laws.Readings.{kept_still}
-use Rattle.command_base.specs.laws.Serves.{reads-compared, reads-nothing}
+use Rattle.command_base.specs.laws.Executes.{reads-compared, reads-nothing}
 use Rattle.command_base.specs.laws.Words.{stands-first}
 
 -- whether a card is in use, by its header
@@ -60,7 +60,7 @@ counts-after (Some attempt) c a b d keeps counts = record {
 -- Reads before a call that carries out a request change nothing of what it leaves.
 module _ (request : Request) (old mid new : Memory) (x y : Current) (text : List ℕ) (result : Result Sw StoreErr)
     (reads : OnlyReads old mid) where
-  pub serves-after : Serves request mid x new y text result → Serves request old x new y text result
+  pub serves-after : Executes request mid x new y text result → Executes request old x new y text result
   serves-after serves =
       let same = reads.keeps.committed_words in
       record {
@@ -112,7 +112,7 @@ module _ (bytes : List ℕ) (old new : Memory) (x y : Current) (text : List ℕ)
 
   -- A call that carries out what was asked for, of a card in use, carries out the command.
   pub carried : (request : Request) → asked bytes ≡ Ok request → c.in_use ≡ true
-      → Serves request old x new y text result → CarriesOut bytes old x new y text result
+      → Executes request old x new y text result → ExecutesBytes bytes old x new y text result
   carried request is in_use serves = record {
     step = by_result result serves.step;
     room = serves.room;
@@ -160,7 +160,7 @@ module _ (bytes : List ℕ) (old new : Memory) (x y : Current) (text : List ℕ)
       → IfOk result (λ status. carried_out c s bytes ≡ outcome (card_in new) (session_in new y) text status)
       → length text ≤ 256 → OnOk result (IsKept new y) → new.failed ≡ result_err result
       → OnOk result (CountsAnswered (asked bytes) c s old.facts new.facts)
-      → CarriesOut bytes old x new y text result
+      → ExecutesBytes bytes old x new y text result
   looked reads card is room kept tells counted = record {
     step = is;
     room = room;
@@ -183,7 +183,7 @@ module _ (bytes : List ℕ) (old new : Memory) (x : Current) (kept : IsKept old 
   turned-down : (status : Sw) → carried_out (card_in old) (session_in old x) bytes
       ≡ refused (card_in old) (session_in old x) status → OnlyReads old new → IsReady new
       → CountsAnswered (asked bytes) (card_in old) (session_in old x) old.facts new.facts
-      → CarriesOut bytes old x new x [] (Ok status)
+      → ExecutesBytes bytes old x new x [] (Ok status)
   turned-down status is reads ready counted =
       let same = sym reads.keeps.committed_words in
       looked bytes old new x x [] (Ok status) reads kept.card
@@ -192,7 +192,7 @@ module _ (bytes : List ℕ) (old new : Memory) (x : Current) (kept : IsKept old 
 
   -- the form of the command refuses it
   pub refused-by-form : (status : Sw) → asked bytes ≡ Err status → OnlyReads old new → IsReady new
-      → CarriesOut bytes old x new x [] (Ok status)
+      → ExecutesBytes bytes old x new x [] (Ok status)
   refused-by-form status is reads ready =
       turned-down status (ap (λ (wanted : Result Request Sw). outcome_of (card_in old) (session_in old x) wanted) is)
       reads ready (subst (λ (wanted : Result Request Sw). CountsAnswered wanted (card_in old) (session_in old x)
@@ -200,7 +200,7 @@ module _ (bytes : List ℕ) (old new : Memory) (x : Current) (kept : IsKept old 
 
   -- the use of the card has ended
   pub use-ended : (request : Request) → asked bytes ≡ Ok request → (card_in old).in_use ≡ false → OnlyReads old new
-      → IsReady new → CarriesOut bytes old x new x [] (Ok CONDITIONS_NOT_SATISFIED)
+      → IsReady new → ExecutesBytes bytes old x new x [] (Ok CONDITIONS_NOT_SATISFIED)
   use-ended request is ended reads ready =
       turned-down CONDITIONS_NOT_SATISFIED
       (ap (λ (wanted : Result Request Sw). outcome_of (card_in old) (session_in old x) wanted) is
@@ -210,5 +210,5 @@ module _ (bytes : List ℕ) (old new : Memory) (x : Current) (kept : IsKept old 
 
   -- the store failed in a read
   pub failed-reading : (y : Current) (e : StoreErr) → OnlyReads old new → new.failed ≡ Some e
-      → CarriesOut bytes old x new y [] (Err e)
+      → ExecutesBytes bytes old x new y [] (Err e)
   failed-reading y e reads failed = looked bytes old new x y [] (Err e) reads kept.card tt (omega arith) tt failed tt

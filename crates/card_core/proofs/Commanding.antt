@@ -20,8 +20,8 @@ use Rattle.card_start.specs.declared.state.CardState.TheVariants.{Working, Faile
 use Rattle.command_base.specs.declared.current.Current.{Current}
 use Rattle.card_start.specs.declared.faults.PowerLost.{PowerLost as Lost}
 use Rattle.card_model.specs.Behaviours.{answer_bytes, Outcome, outcome}
-use Rattle.card_start.specs.Running.{card_found, memory_failure, FailsIn, IsCutIn, Running, Steps}
-use Rattle.command_base.specs.Served.{CarriesOut}
+use Rattle.card_start.specs.Running.{card_found, memory_failure, CommandFails, CommandIsCut, Running, Steps}
+use Rattle.command_base.specs.Served.{ExecutesBytes}
 use Rattle.card_model.specs.Sessions.{Session}
 use Rattle.command_base.specs.Working.{card_in, session_in, space_in, table_in, IsKept}
 use Rattle.card_core.specs.ShownSessions.{session_while}
@@ -60,7 +60,8 @@ module _ (old new : Memory) (x y : Current) (command text said : List ℕ) (read
   abbrev pub after : Running
   after = record { facts = new.facts; session = session_while now (table_in new) y; state = now }
 
-  done-in : (status : Sw) → CarriesOut command old x new y text (Ok status) → Ends (Ok status) was now text said result
+  done-in : (status : Sw) → ExecutesBytes command old x new y text (Ok status)
+      → Ends (Ok status) was now text said result
       → Steps before command after said
   done-in status carries ends =
       let light = (carries.reports.works carries.tells).1 in
@@ -87,8 +88,8 @@ module _ (old new : Memory) (x y : Current) (command text said : List ℕ) (read
             (sym session) carries.counted;
       }
 
-  fails-in : CarriesOut command old x new y text (Err Fault) → Ends (Err Fault) was now text said result
-      → FailsIn before after said
+  fails-in : ExecutesBytes command old x new y text (Err Fault) → Ends (Err Fault) was now text said result
+      → CommandFails before after said
   fails-in carries ends =
       let ended = ends.failed refl in
       record {
@@ -98,8 +99,8 @@ module _ (old new : Memory) (x y : Current) (command text said : List ℕ) (read
         answered = ended.2;
       }
 
-  cut-in : CarriesOut command old x new y text (Err PowerLost) → Ends (Err PowerLost) was now text said result
-      → IsCutIn before after said
+  cut-in : ExecutesBytes command old x new y text (Err PowerLost) → Ends (Err PowerLost) was now text said result
+      → CommandIsCut before after said
   cut-in carries ends =
       let ended = ends.lost refl in
       record {
@@ -109,27 +110,27 @@ module _ (old new : Memory) (x y : Current) (command text said : List ℕ) (read
         answered = ended.2;
       }
 
-  pub ended-done : (carried : Result Sw StoreErr) → CarriesOut command old x new y text carried
+  pub ended-done : (carried : Result Sw StoreErr) → ExecutesBytes command old x new y text carried
       → Ends carried was now text said result
-      → OnOk result (was ≡ Working → Steps before command after said ⊎ FailsIn before after said)
+      → OnOk result (was ≡ Working → Steps before command after said ⊎ CommandFails before after said)
   ended-done (Ok status) carries ends = on-ok result _ (λ works. inl (done-in status carries ends))
   ended-done (Err Fault) carries ends = on-ok result _ (λ works. inr (fails-in carries ends))
   ended-done (Err PowerLost) carries ends = no-ok result _ (ends.lost refl).0
 
-  pub ended-lost : (carried : Result Sw StoreErr) → CarriesOut command old x new y text carried
-      → Ends carried was now text said result → OnErr result (was ≡ Working → IsCutIn before after said)
+  pub ended-lost : (carried : Result Sw StoreErr) → ExecutesBytes command old x new y text carried
+      → Ends carried was now text said result → OnErr result (was ≡ Working → CommandIsCut before after said)
   ended-lost (Ok status) carries ends = no-err result _ ends.done.0
   ended-lost (Err Fault) carries ends = no-err result _ (ends.failed refl).0
   ended-lost (Err PowerLost) carries ends = on-err result _ (λ works. cut-in carries ends)
 
-  pub ended-unlit : (carried : Result Sw StoreErr) → CarriesOut command old x new y text carried
+  pub ended-unlit : (carried : Result Sw StoreErr) → ExecutesBytes command old x new y text carried
       → Ends carried was now text said result → OnErr result (new.facts.dark ≡ true)
   ended-unlit (Ok status) carries ends = no-err result _ ends.done.0
   ended-unlit (Err Fault) carries ends = no-err result _ (ends.failed refl).0
   ended-unlit (Err PowerLost) carries ends = on-err result _ (cut-in carries ends).power.dark
 
   -- the card is one again, and is kept where it works
-  pub ended-kept : (carried : Result Sw StoreErr) → CarriesOut command old x new y text carried
+  pub ended-kept : (carried : Result Sw StoreErr) → ExecutesBytes command old x new y text carried
       → Ends carried was now text said result → (free : FreeSpace) → OnOk carried (free ≡ space_in new)
       → (index : Index) → OnOk carried (IsIndex (table_in new) index)
       → (now ≡ Working → IsKept new y × (free ≡ space_in new) × IsIndex (table_in new) index)

@@ -14,7 +14,7 @@ use Rattle.card_model.specs.Cards.{Card, card_space}
 use Rattle.card_model.specs.Behaviours.{attempt_commits, charged_card, is_right, settled_card, Attempt}
 use Rattle.card_model.specs.PinCommands.{pin_commits}
 use Rattle.card_model.specs.Steps.{IsDoing, commits}
-use Rattle.command_base.specs.Served.{Serves}
+use Rattle.command_base.specs.Served.{Executes}
 use Rattle.command_base.specs.Working.{card_in, session_in, space_in}
 use Rattle.command_base.specs.laws.Answering.{ok_anyway}
 use Rattle.command_base.specs.laws.SpaceKept.{space-same}
@@ -24,7 +24,7 @@ abbrev pub HaveFilesOf : Card → List Card → Type 0
 HaveFilesOf c cards = AllByRecursion (λ (d : Card). card_space d ≡ card_space c) cards
 
 pub space_left : (request : Request) (old : Memory) (x : Current) (new : Memory) (y : Current) (text : List ℕ)
-    (result : Result Sw StoreErr) (free : FreeSpace) → Serves request old x new y text result
+    (result : Result Sw StoreErr) (free : FreeSpace) → Executes request old x new y text result
     → HaveFilesOf (card_in old) (commits (card_in old) (session_in old x) request) → free ≡ space_in old
     → OnOk result (free ≡ space_in new)
 space_left request old x new y text result free serves all counted =

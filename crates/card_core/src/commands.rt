@@ -1,13 +1,13 @@
 //! Runs a command on a card, as one step of the card model.
 ghost use Rattle.std.specs.Prelude.{◌≡◌, [], OnOk};
 ghost use Rattle.apdu_core.specs.ParsedCommands.{IsCommandInRange, request_of};
-ghost use Rattle.command_base.specs.Served.{CarriesOut, Serves};
+ghost use Rattle.command_base.specs.Served.{ExecutesBytes, Executes};
 ghost use Rattle.command_base.specs.Stops.{reply};
-ghost use Rattle.card_core.specs.Lending.{IsWholeCard};
+ghost use Rattle.card_core.specs.WholeCards.{IsWholeCard};
 ghost use Rattle.command_base.specs.Working.{space_in, table_in};
 ghost use Rattle.file_tree.specs.Indexes.{IsIndex};
 
-use crate::lent::Lent;
+use crate::card_parts::CardParts;
 use apdu_core::{Answer, Command, Sw};
 use card_start::{CARD_IN_USE, header_word};
 use command_base::{Stop, reply};
@@ -22,62 +22,67 @@ use undo_journal::{Board, StoreErr};
 
 /// Runs the bytes of a command, and writes its data into `answer`.
 /// It updates the free space and the index. Returns the status word, also for a refusal.
-pub(crate) fn carry_out<B: Board>(
-    lent: &mut Lent<B>,
+pub(crate) fn run_command<B: Board>(
+    parts: &mut CardParts<B>,
     command: &[u8],
     answer: &mut Answer,
 ) -> Result<Sw, StoreErr>
-    requires whole { IsWholeCard lent.old }
+    requires whole { IsWholeCard parts.old }
     requires empty { answer.old.items ≡ [] }
-    ensures carries { CarriesOut command.now lent.old.store lent.old.current lent.new.store lent.new.current
+    ensures carries { ExecutesBytes command.now parts.old.store parts.old.current parts.new.store parts.new.current
         answer.new.items result }
-    ensures space { OnOk result (lent.new.free ≡ space_in lent.new.store) }
-    ensures index { OnOk result (IsIndex (table_in lent.new.store) lent.new.index) }
+    ensures space { OnOk result (parts.new.free ≡ space_in parts.new.store) }
+    ensures index { OnOk result (IsIndex (table_in parts.new.store) parts.new.index) }
 {
-    reply(obey(lent, command, answer))
+    reply(parse_and_run(parts, command, answer))
 }
 
 /// Runs the bytes of a command, or stops.
 /// It checks the form of the command first, and then whether the card is terminated.
-fn obey<B: Board>(lent: &mut Lent<B>, command: &[u8], answer: &mut Answer) -> Result<Sw, Stop>
-    requires whole { IsWholeCard lent.old }
+fn parse_and_run<B: Board>(
+    parts: &mut CardParts<B>,
+    command: &[u8],
+    answer: &mut Answer,
+) -> Result<Sw, Stop>
+    requires whole { IsWholeCard parts.old }
     requires empty { answer.old.items ≡ [] }
-    ensures carries { CarriesOut command.now lent.old.store lent.old.current lent.new.store lent.new.current
+    ensures carries { ExecutesBytes command.now parts.old.store parts.old.current parts.new.store parts.new.current
         answer.new.items (reply result) }
-    ensures space { OnOk (reply result) (lent.new.free ≡ space_in lent.new.store) }
-    ensures index { OnOk (reply result) (IsIndex (table_in lent.new.store) lent.new.index) }
+    ensures space { OnOk (reply result) (parts.new.free ≡ space_in parts.new.store) }
+    ensures index { OnOk (reply result) (IsIndex (table_in parts.new.store) parts.new.index) }
 {
     let command = match Command::parse(command) {
         Ok(command) => command,
         Err(refusal) => return Err(Stop::Refused(refusal)),
     };
-    let state = header_word(&mut lent.store, STATE_WORD)?;
+    let state = header_word(&mut parts.store, STATE_WORD)?;
     if state != CARD_IN_USE {
         return Err(Stop::Refused(Sw::CONDITIONS_NOT_SATISFIED));
     }
-    serve(lent, &command, answer)
+    dispatch(parts, &command, answer)
 }
 
 /// Runs a parsed command on a card in use. Each command borrows only the parts that it needs.
-fn serve<B: Board>(
-    lent: &mut Lent<B>,
+fn dispatch<B: Board>(
+    parts: &mut CardParts<B>,
     command: &Command<'_>,
     answer: &mut Answer,
 ) -> Result<Sw, Stop>
-    requires whole { IsWholeCard lent.old }
+    requires whole { IsWholeCard parts.old }
     requires empty { answer.old.items ≡ [] }
     requires in_range { IsCommandInRange command.now }
-    ensures serves { Serves (request_of command.now) lent.old.store lent.old.current lent.new.store lent.new.current
+    ensures serves { Executes (request_of command.now) parts.old.store parts.old.current parts.new.store
+        parts.new.current
         answer.new.items (reply result) }
-    ensures space { OnOk (reply result) (lent.new.free ≡ space_in lent.new.store) }
-    ensures index { OnOk (reply result) (IsIndex (table_in lent.new.store) lent.new.index) }
+    ensures space { OnOk (reply result) (parts.new.free ≡ space_in parts.new.store) }
+    ensures index { OnOk (reply result) (IsIndex (table_in parts.new.store) parts.new.index) }
 {
-    let Lent {
+    let CardParts {
         store,
         current,
         free,
         index,
-    } = lent;
+    } = parts;
     match *command {
         Command::Select {
             selector,

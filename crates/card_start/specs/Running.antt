@@ -42,14 +42,14 @@ pub record Steps (old : Running) (command : List ℕ) (new : Running) (answer : 
   pub counted : CountsAnswered (asked command) (card_found old) old.session old.facts new.facts
 
 -- the board had a fault, and the card fails
-pub record FailsIn (old new : Running) (answer : List ℕ) : Type 0 where
+pub record CommandFails (old new : Running) (answer : List ℕ) : Type 0 where
   pub power : Fails old.facts new.facts
   pub state : new.state ≡ Failed
   pub session : new.session ≡ fresh_session
   pub answered : answer ≡ memory_failure
 
 -- the board lost power, and the card gives no answer
-pub record IsCutIn (old new : Running) (answer : List ℕ) : Type 0 where
+pub record CommandIsCut (old new : Running) (answer : List ℕ) : Type 0 where
   pub power : GoesDark old.facts new.facts
   pub state : new.state ≡ Dark
   pub session : new.session ≡ fresh_session

@@ -7,13 +7,13 @@ mod factory;
 mod faults;
 mod layout;
 mod memory_format;
-mod renewing;
 mod state;
+mod surveying;
 
 pub use check::header_word;
 pub use factory::{format, format_old};
 pub use faults::{PowerLost, StartFault};
 pub use layout::CARD_IN_USE;
 pub use memory_format::MemoryFormat;
-pub use renewing::survey_card;
 pub use state::CardState;
+pub use surveying::survey_card;

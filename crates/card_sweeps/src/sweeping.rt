@@ -14,7 +14,7 @@ ghost use Rattle.card_sweeps.specs.SweptRuns.{SparesCommand, IsOneLook, AreAllBe
 ghost use Rattle.card_sweeps.specs.Sweeps.{CutsCommand, CutsStart, SparesStart, EndsIn, EndsBehindStarts};
 ghost use Rattle.card_sweeps.specs.Sweeps.{GivenByRun, PlaysOn, free_of};
 
-use crate::masks::{mask_at, mask_count, words_to_try};
+use crate::cut_masks::{mask_at, mask_count, words_to_try};
 use crate::tally::{Sweep, Trace, blank_trace};
 use bench_turns::{Turn, TurnResult};
 use card_bench::Sweepable;

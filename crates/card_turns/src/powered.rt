@@ -11,7 +11,7 @@ ghost use Rattle.card_model.specs.Cards.{card_space};
 ghost use Rattle.card_start.specs.Starting.{IsNewFound, KeepsFormat, KeepsFoundUnlessOld, KeepsUnlessOld};
 ghost use Rattle.card_start.specs.Starting.{RenamesLast, RollsBackUnlessOld, TakesAllPages, power_on_writes};
 ghost use Rattle.t1_link.specs.CardTable.{link_step, fresh};
-ghost use Rattle.bench_turns.specs.CardBlocks.{Replies, RepliesFailure, FailsAt, IsCutAt, IsBlockStage};
+ghost use Rattle.bench_turns.specs.CardBlocks.{Replies, RepliesFailure, BlockFails, BlockIsCut, IsBlockStage};
 ghost use Rattle.bench_turns.specs.CardBlocks.{IsRun, BlockChangesNothing, BlockCompares, BlockStands};
 
 use card_core::{Answer, Card, FreeSpace};
@@ -105,8 +105,9 @@ impl<B: Board> Powered<B> {
         ensures stands { self.old.card.state ≡ CardState.Working
             → BlockStands self.old (link_step self.old.link got.now).reaction self.new.card.facts.words }
         ensures replies { OnOk result (self.old.card.state ≡ CardState.Working
-            → Replies self.old got.now self.new out.new ⊎ FailsAt self.old got.now self.new out.new) }
-        ensures lost { OnErr result (self.old.card.state ≢ CardState.Dark → IsCutAt self.old got.now self.new out.new) }
+            → Replies self.old got.now self.new out.new ⊎ BlockFails self.old got.now self.new out.new) }
+        ensures lost { OnErr result (self.old.card.state ≢ CardState.Dark
+            → BlockIsCut self.old got.now self.new out.new) }
         ensures failed { self.old.card.state ≡ CardState.Failed
             → IsOk result × (self.new.card ≡ self.old.card) × RepliesFailure self.old got.now self.new out.new }
         ensures dark { self.old.card.state ≡ CardState.Dark → IsErr result × (self.new ≡ self.old) × (out.new ≡ []) }

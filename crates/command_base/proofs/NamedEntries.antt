@@ -11,9 +11,9 @@ use Rattle.card_state.specs.FileLives.{is_barred}
 use Rattle.file_tree.specs.Table.{table, entry_in, path_of}
 use Rattle.file_tree.specs.Trees.{content, file_in}
 use Rattle.command_base.specs.declared.current.Current.{Current}
-use Rattle.command_base.specs.declared.named.Need.{Need}
-use Rattle.command_base.specs.declared.named.Structure.{Structure}
-use Rattle.command_base.specs.declared.named.Structure.TheVariants.{Bytes, Records, Linear, Cyclic}
+use Rattle.command_base.specs.declared.target_file.Need.{Need}
+use Rattle.command_base.specs.declared.target_file.Structure.{Structure}
+use Rattle.command_base.specs.declared.target_file.Structure.TheVariants.{Bytes, Records, Linear, Cyclic}
 use Rattle.card_model.specs.Cards.{Card}
 use Rattle.card_model.specs.Guards.{file_refusals, allowed}
 use Rattle.card_model.specs.Behaviours.{refused_by}

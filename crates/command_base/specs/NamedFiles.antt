@@ -9,9 +9,9 @@ use Rattle.file_tree.specs.Kinds.{kind_byte}
 use Rattle.card_model.specs.RecordCommands.{has_records, is_cyclic, is_linear}
 use Rattle.file_tree.specs.Table.{table, entry_in, path_of}
 use Rattle.command_base.specs.declared.current.Current.{Current}
-use Rattle.command_base.specs.declared.named.Need.{Need}
-use Rattle.command_base.specs.declared.named.Structure.{Structure}
-use Rattle.command_base.specs.declared.named.Structure.TheVariants.{Bytes, Records, Linear, Cyclic}
+use Rattle.command_base.specs.declared.target_file.Need.{Need}
+use Rattle.command_base.specs.declared.target_file.Structure.{Structure}
+use Rattle.command_base.specs.declared.target_file.Structure.TheVariants.{Bytes, Records, Linear, Cyclic}
 use Rattle.card_model.specs.Cards.{Kind, is_transparent}
 use Rattle.card_model.specs.Guards.{file_refusals}
 use Rattle.card_model.specs.Behaviours.{refused_by}

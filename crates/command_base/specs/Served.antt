@@ -24,7 +24,7 @@ use Rattle.command_base.specs.Working.{card_in, session_in, table_in, IsKept}
 -- The memory, the session and the answer after a call. If it succeeds, they are the model's step of a card in use.
 -- At any exit the card state is that before the call or that after one of its commits.
 -- A call that changes nothing permanent makes only reads.
-pub record Serves (request : Request) (old : Memory) (x : Current) (new : Memory) (y : Current) (text : List ℕ)
+pub record Executes (request : Request) (old : Memory) (x : Current) (new : Memory) (y : Current) (text : List ℕ)
     (result : Result Sw StoreErr) : Type 0 where
   pub step : IfOk result (λ status. served (card_in old) (session_in old x) request
       ≡ outcome (card_in new) (session_in new y) text status)
@@ -42,7 +42,7 @@ pub record Serves (request : Request) (old : Memory) (x : Current) (new : Memory
   pub counted : OnOk result (CountsServed (card_in old) (session_in old x) request old.facts new.facts)
 
 -- The same for the bytes of a command, and for a card that may be terminated.
-pub record CarriesOut (command : List ℕ) (old : Memory) (x : Current) (new : Memory) (y : Current) (text : List ℕ)
+pub record ExecutesBytes (command : List ℕ) (old : Memory) (x : Current) (new : Memory) (y : Current) (text : List ℕ)
     (result : Result Sw StoreErr) : Type 0 where
   pub step : IfOk result (λ status. carried_out (card_in old) (session_in old x) command
       ≡ outcome (card_in new) (session_in new y) text status)

@@ -13,6 +13,6 @@ pub mod Contents
 pub mod Keeping
 pub mod Stopping
 pub mod Words
-pub mod Serves
+pub mod Executes
 pub mod SpaceKept
 pub mod Readings

@@ -7,7 +7,7 @@ ghost use Rattle.card_model.specs.Guards.{allowed};
 ghost use Rattle.command_base.specs.Working.{card_in, disabled_in, session_in, table_in, IsKept};
 
 use crate::current::Current;
-use crate::named::Named;
+use crate::target_file::TargetFile;
 use card_state::{AccessBit, PinNumber, PinSet};
 use file_lookup::is_allowed_at;
 use pin_store::{Secret, is_enabled};
@@ -35,7 +35,7 @@ fn disabled_pins<B: Board>(store: &mut Store<B>) -> Result<PinSet, StoreErr>
 pub fn allows<B: Board>(
     store: &mut Store<B>,
     current: &Current,
-    file: &Named,
+    file: &TargetFile,
     bit: AccessBit,
 ) -> Result<bool, StoreErr>
     requires kept { IsKept store.old current.now }

@@ -5,13 +5,13 @@
 mod access;
 mod current;
 mod lengths;
-mod named;
 mod spending;
 mod stop;
+mod target_file;
 
 pub use access::allows;
 pub use current::{Current, Shown};
 pub use lengths::{ResponseData, asks_less, give, right_length};
-pub use named::{Findings, Named, Need, Structure, find_file};
 pub use spending::COMMAND_WRITES;
 pub use stop::{Stop, reply};
+pub use target_file::{Findings, Need, Structure, TargetFile, find_file};

@@ -17,11 +17,11 @@ use Rattle.ef_body.specs.declared.cyclic.Cyclic.{Cyclic as Ring}
 use Rattle.ef_body.specs.declared.layout.TheConstants.{RECORD_WRITES}
 use Rattle.ef_body.specs.Bodies.{cyclic_body_records, IsCyclic}
 use Rattle.command_base.specs.declared.current.Current.{Current}
-use Rattle.command_base.specs.declared.named.Need.{Need}
-use Rattle.command_base.specs.declared.named.Structure.TheVariants.{Records}
+use Rattle.command_base.specs.declared.target_file.Need.{Need}
+use Rattle.command_base.specs.declared.target_file.Structure.TheVariants.{Records}
 use Rattle.content_commands.specs.declared.record_file.RecordFile.{RecordFile}
 use Rattle.content_commands.specs.declared.record_file.Room.{Room}
-use Rattle.command_base.specs.Served.{Serves}
+use Rattle.command_base.specs.Served.{Executes}
 use Rattle.command_base.specs.Standing.{IsCard}
 use Rattle.content_commands.specs.RecordParts.{appended_in, is_full_in, number_added_in, ring_room, unadded, wraps_room}
 use Rattle.command_base.specs.Working.{space_in, table_in, IsCurrent}
@@ -107,7 +107,7 @@ module _ (old mid new : Memory) (ready : IsReady old) (words : IsCard (committed
         (ring_room room) put (committed new)) (by_gate : CommitsByGate mid new) (told : Option StoreErr)
         (changes : Changes RECORD_WRITES mid new told) where
       pub appended-torn : (r : Result Sw StoreErr) (error : StoreErr) → IsErrAnd r (λ f. f ≡ error) → told ≡ Some error
-          → Serves (append_record target bytes) old x new x [] r
+          → Executes (append_record target bytes) old x new x [] r
       appended-torn =
           records-torn old mid new ready words x current target need file _ records puts reads (wraps_room room)
           found.wraps_is
@@ -116,10 +116,11 @@ module _ (old mid new : Memory) (ready : IsReady old) (words : IsCard (committed
       pub appended-done : RingBecomes (wraps_room room) (committed mid) (ring_room room) put (committed new) →
           IsReady new
           → (number : ℕ) → number ≡ number_added_in file
-          → Serves (append_record target bytes) old x new
+          → Executes (append_record target bytes) old x new
           (pointing_from x target file.number (Some number)) [] (Ok DONE)
       appended-done becomes ready_now number number_is =
-          subst (λ (k : ℕ). Serves (append_record target bytes) old x new (pointing_from x target file.number (Some k))
+          subst (λ (k : ℕ). Executes (append_record target bytes) old x new (pointing_from x target file.number (Some
+          k))
           [] (Ok DONE)) (sym number_is)
           (records-made old mid new ready words x current target need file _ records puts reads (wraps_room room)
           found.wraps_is (ring_room room) found.ring_is put put-are any_exit by_gate told changes becomes ready_now

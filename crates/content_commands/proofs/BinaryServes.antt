@@ -43,8 +43,8 @@ use Rattle.file_tree.specs.laws.Rewriting.{rewritten}
 use Rattle.file_tree.specs.laws.Tables.{length-table}
 use Rattle.file_tree.specs.laws.Indexed.{places_same}
 use Rattle.command_base.specs.declared.current.Current.{Current as CurrentFiles}
-use Rattle.command_base.specs.declared.named.Need.{Need}
-use Rattle.command_base.specs.declared.named.Structure.TheVariants.{Bytes}
+use Rattle.command_base.specs.declared.target_file.Need.{Need}
+use Rattle.command_base.specs.declared.target_file.Structure.TheVariants.{Bytes}
 use Rattle.card_model.specs.BinaryCommands.{read_response, end_status}
 use Rattle.command_base.specs.Comparing.{comparisons, ComparesBy}
 use Rattle.card_model.specs.Guards.{naming}
@@ -53,7 +53,7 @@ use Rattle.card_model.specs.Behaviours.{Response, refused, only_status, outcome}
 use Rattle.card_model.specs.Sessions.{marked}
 use Rattle.command_base.specs.laws.FoundLaws.{same-of}
 use Rattle.card_model.specs.Steps.{IsDoing, served}
-use Rattle.command_base.specs.Served.{Serves}
+use Rattle.command_base.specs.Served.{Executes}
 use Rattle.command_base.specs.CommandWrites.{most_writes}
 use Rattle.command_base.specs.Standing.{card_of, IsCard}
 use Rattle.command_base.specs.Working.{card_in, session_in, session_of, space_in, table_in, IsCurrent, IsElementary}
@@ -65,7 +65,7 @@ use Rattle.card_model.specs.laws.Doing.{doing-one}
 use Rattle.command_base.specs.laws.Contents.{transparent-is, content-is, chain-is, fits-chain, response-is}
 use Rattle.command_base.specs.laws.Entries.{card-tree, there}
 use Rattle.command_base.specs.laws.Keeping.{files-stand, files-after}
-use Rattle.command_base.specs.laws.Serves.{compared-none, declined, reads-compared, torn, written}
+use Rattle.command_base.specs.laws.Executes.{compared-none, declined, reads-compared, torn, written}
 use Rattle.command_base.specs.laws.Stopping.{err-is}
 use Rattle.command_base.specs.laws.Words.{Went, went-after}
 
@@ -276,13 +276,13 @@ module _ (old mid : Memory) (ready : IsReady old) (words : IsCard (committed old
     compares = compared-none (most_writes request) mid.facts new.facts spends ∙ reads-compared old mid reads
 
     -- an update that stopped, before or after its commit
-    pub found-torn : (error : StoreErr) → new.failed ≡ Some error → Serves request old x new x [] (Err error)
+    pub found-torn : (error : StoreErr) → new.failed ≡ Some error → Executes request old x new x [] (Err error)
     found-torn error failed =
         torn request old x new x [] error stage card-stands all-reports failed (omega arith) costs went compares
 
     -- an update that was made
     pub found-made : Becomes → IsReady new → IsCurrent (table_in old) x
-        → Serves request old x new (named_from x target e) [] (Ok DONE)
+        → Executes request old x new (named_from x target e) [] (Ok DONE)
     found-made becomes ready_now current =
         let y = named_from x target e in
         let files = sym (rewrites becomes).table in
@@ -315,16 +315,16 @@ module _ (old mid : Memory) (ready : IsReady old) (words : IsCard (committed old
       → (error : BodyErr) → Decides (overlong held_now offset bytes) (Some error)
       → WhereRefused (Some error) (new ≡ mid)
       → new.failed ≡ why_failed (Some error) → (r : Result Sw Stop) → IsErrAnd r (λ f. f ≡ stop_of_body error)
-      → Serves request old x new x [] (reply r)
+      → Executes request old x new x [] (reply r)
   found-stopped current ready_mid new any_exit by_gate reports spends error due kept failed r is =
-      subst (λ (s : Result Sw Stop). Serves request old x new x [] (reply s)) (sym (err-is r (stop_of_body error) is))
+      subst (λ (s : Result Sw Stop). Executes request old x new x [] (reply s)) (sym (err-is r (stop_of_body error) is))
       (by error due kept failed)
     where
       by : (error : BodyErr)
           → Decides (overlong held_now offset bytes) (Some error) → WhereRefused (Some error) (new ≡ mid)
-          → new.failed ≡ why_failed (Some error) → Serves request old x new x [] (reply (Err (stop_of_body error)))
+          → new.failed ≡ why_failed (Some error) → Executes request old x new x [] (reply (Err (stop_of_body error)))
       by (body_err.Refused status) due kept failed =
-          subst (λ (n : Memory). Serves request old x n x [] (Ok status)) (sym kept)
+          subst (λ (n : Memory). Executes request old x n x [] (Ok status)) (sym kept)
           (declined request old x mid (λ _. tt) words status reads ready_mid current (found-update-past status due))
       by (body_err.Store e) due kept failed = found-torn due new any_exit by_gate reports spends e failed
 

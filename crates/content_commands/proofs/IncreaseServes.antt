@@ -22,14 +22,14 @@ use Rattle.ef_body.specs.BodyCalls.{ReceivesSum}
 use Rattle.card_state.specs.RecordLists.{spelled, front, raised_number}
 use Rattle.ef_contents.specs.Refusals.{unraised}
 use Rattle.command_base.specs.declared.current.Current.{Current}
-use Rattle.command_base.specs.declared.named.Need.{Need}
-use Rattle.command_base.specs.declared.named.Structure.TheVariants.{Cyclic as Cyclic_file}
+use Rattle.command_base.specs.declared.target_file.Need.{Need}
+use Rattle.command_base.specs.declared.target_file.Structure.TheVariants.{Cyclic as Cyclic_file}
 use Rattle.content_commands.specs.declared.record_file.RecordFile.{RecordFile}
 use Rattle.card_model.specs.Guards.{target_path, asks_less, given, right_length}
 use Rattle.card_model.specs.Behaviours.{refused_by, outcome}
 use Rattle.card_model.specs.RecordCommands.{pointing, with_records_at}
-use Rattle.command_base.specs.Served.{Serves}
-use Rattle.command_base.specs.InPlace.{ServesInPlace}
+use Rattle.command_base.specs.Served.{Executes}
+use Rattle.command_base.specs.InPlace.{ExecutesInPlace}
 use Rattle.card_model.specs.Steps.{refusals_of}
 use Rattle.command_base.specs.Stops.{failure_of, reply, IfRefused}
 use Rattle.card_model.specs.laws.Guarding.{served-refused}
@@ -50,7 +50,7 @@ pub increase-halted : {old new : Memory} {x : Current} → IsKept old x → (sen
     (text : List ℕ) → text ≡ [] → (r : Result Sw Stop) (stop : Stop) → IsErrAnd r (λ f. f ≡ stop)
     → Reads old new (failure_of stop) → IfRefused stop (λ status.
     refused_by (refusals_of (card_in old) (session_in old x) (increase sent expected)) ≡ Some status)
-    → ServesInPlace (increase sent expected) old x new x text (reply r)
+    → ExecutesInPlace (increase sent expected) old x new x text (reply r)
 increase-halted {old} {new} {x} kept sent expected text empty r stop is reads =
     let request = increase sent expected in
     halted-in-place request old x new (λ _. tt) kept.card kept.current text empty r stop is reads _
@@ -178,7 +178,7 @@ module _ {old mid : Memory} {x : Current} (kept : IsKept old x) {sent : List ℕ
           (by_gate : CommitsByGate mid new) (told : Option StoreErr) (changes : Changes RECORD_WRITES mid new told)
         where
           pub increased-torn : (text : List ℕ) → text ≡ [] → (r : Result Sw StoreErr) (error : StoreErr)
-              → IsErrAnd r (λ f. f ≡ error) → told ≡ Some error → Serves (increase sent expected) old x new x text r
+              → IsErrAnd r (λ f. f ≡ error) → told ≡ Some error → Executes (increase sent expected) old x new x text r
           increased-torn text empty =
               let none_yet : length text ≡ 0 = ap (λ (l : List ℕ). length l) empty in
               records-torn old mid new kept.ready kept.card x kept.current target.Current need file _ records puts
@@ -187,7 +187,7 @@ module _ {old mid : Memory} {x : Current} (kept : IsKept old x) {sent : List ℕ
 
           pub increased-done : CyclicBecomes (committed mid) newest.ring put (committed new) → IsReady new
               → (text : List ℕ) → text ≡ given expected response → length text ≤ 256
-              → Serves (increase sent expected) old x new
+              → Executes (increase sent expected) old x new
               (pointing_from x target.Current file.number (Some 1)) text (Ok DONE)
           increased-done becomes ready text text_is room =
               let effect_is =

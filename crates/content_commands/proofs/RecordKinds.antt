@@ -1,8 +1,8 @@
 -- The kinds of entries whose files have records.
 use Rattle.std.specs.Prelude.{IsTrue}
 use Rattle.std.proofs.Common.{◌≡◌, ◌≢◌, ◌⊎◌, ◌==◌, ◌||◌, ℕ, Bool, true, false, inl, inr, refl}
-use Rattle.command_base.specs.declared.named.Structure.{Structure}
-use Rattle.command_base.specs.declared.named.Structure.TheVariants.{Bytes, Records, Linear, Cyclic}
+use Rattle.command_base.specs.declared.target_file.Structure.{Structure}
+use Rattle.command_base.specs.declared.target_file.Structure.TheVariants.{Bytes, Records, Linear, Cyclic}
 use Rattle.command_base.specs.laws.FoundLaws.{same-of}
 use Rattle.command_base.specs.NamedFiles.{fits_kind}
 

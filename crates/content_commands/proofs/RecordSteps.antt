@@ -15,7 +15,7 @@ use Rattle.card_model.specs.declared.requests.RecordPlace.{RecordPlace}
 use Rattle.card_model.specs.Requests.{Request, read_record, search_record}
 use Rattle.undo_journal.specs.StoreCalls.{OnlyReads}
 use Rattle.undo_journal.specs.Memory.{Memory, committed, IsReady}
-use Rattle.command_base.specs.Served.{Serves}
+use Rattle.command_base.specs.Served.{Executes}
 use Rattle.command_base.specs.Working.{card_in, session_in, table_in, session_of, IsCurrent}
 use Rattle.command_base.specs.CurrentFiles.{pointer_from, pointing_from}
 use Rattle.ef_body.specs.declared.cyclic.Cyclic.{Cyclic as Ring}
@@ -26,7 +26,7 @@ use Rattle.ef_contents.specs.Refusals.{missing_record}
 use Rattle.file_tree.specs.Table.{table, path_of, IsUsed}
 use Rattle.file_tree.specs.Trees.{file_in}
 use Rattle.command_base.specs.declared.current.Current.{Current as CurrentFiles}
-use Rattle.command_base.specs.declared.named.Need.{Need}
+use Rattle.command_base.specs.declared.target_file.Need.{Need}
 use Rattle.content_commands.specs.declared.record_file.RecordFile.{RecordFile}
 use Rattle.card_model.specs.Cards.{Card, Kind, Path}
 use Rattle.command_base.specs.Counting.{CountsServed}
@@ -36,7 +36,7 @@ use Rattle.card_model.specs.Behaviours.{refused, refused_by, Refusal, Refusals, 
 use Rattle.card_model.specs.RecordCommands.{has_records, next_record, place_number, pointer_after, pointer_at}
 use Rattle.card_model.specs.RecordCommands.{pointer_found, matches, no_record, pointing, previous_record, records_of}
 use Rattle.card_model.specs.RecordCommands.{search_status, target_number}
-use Rattle.command_base.specs.declared.named.Structure.TheVariants.{Records}
+use Rattle.command_base.specs.declared.target_file.Structure.TheVariants.{Records}
 use Rattle.card_model.specs.Sessions.{Session}
 use Rattle.command_base.specs.Standing.{card_of, IsCard}
 use Rattle.card_model.specs.Steps.{effect, refusals_of, served}
@@ -46,7 +46,7 @@ use Rattle.content_commands.proofs.RecordBodies.{file-agrees, has-slot, Agree}
 use Rattle.command_base.specs.laws.Entries.{there}
 use Rattle.card_model.specs.laws.Guarding.{guarded-first, guarded-free, guarded-refused, named-kind, named-path}
 use Rattle.card_model.specs.laws.Guarding.{served-done, served-refused}
-use Rattle.command_base.specs.laws.Serves.{declined}
+use Rattle.command_base.specs.laws.Executes.{declined}
 use Rattle.content_commands.proofs.BinaryServes.{named-current, naming-entry}
 
 -- where a look finds no record, that refuses the command
@@ -104,9 +104,9 @@ pub declined-empty : (request : Request) (old : Memory) (x : CurrentFiles) (new 
     → CountsServed (card_in old) (session_in old x) request old.facts new.facts → IsCard (committed old)
     → (status : Sw) → OnlyReads old new → IsReady new → IsCurrent (table_in old) x
     → served (card_in old) (session_in old x) request ≡ refused (card_in old) (session_in old x) status
-    → Serves request old x new x text (Ok status)
+    → Executes request old x new x text (Ok status)
 declined-empty request old x new text empty counted card status reads ready current is =
-    subst (λ (l : List ℕ). Serves request old x new x l (Ok status)) (sym empty)
+    subst (λ (l : List ℕ). Executes request old x new x l (Ok status)) (sym empty)
     (declined request old x new counted card status reads ready current is)
 
 module _ (m : List ℕ) (sized : IsMemory m) (words : IsCard m) (x : CurrentFiles) (target : Target) (need : Need)

@@ -13,7 +13,7 @@ use Rattle.card_state.specs.RecordLists.{spelled, front, has_record, raised_numb
 use Rattle.ef_contents.specs.Refusals.{unraised}
 use Rattle.file_tree.specs.Table.{table}
 use Rattle.command_base.specs.declared.current.Current.{Current}
-use Rattle.command_base.specs.declared.named.Need.{Need}
+use Rattle.command_base.specs.declared.target_file.Need.{Need}
 use Rattle.content_commands.specs.declared.record_file.RecordFile.{RecordFile}
 use Rattle.card_model.specs.Cards.{Card, Kind}
 use Rattle.card_model.specs.Guards.{file_refusals, target_kind, target_path, asks_less, given, length_refusal}

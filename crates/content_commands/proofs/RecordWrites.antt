@@ -23,8 +23,8 @@ use Rattle.card_state.specs.RecordLists.{has_record}
 use Rattle.ef_body.specs.declared.layout.TheConstants.{RECORD_WRITES}
 use Rattle.file_tree.specs.Table.{table, entry_in}
 use Rattle.command_base.specs.declared.current.Current.{Current}
-use Rattle.command_base.specs.declared.named.Need.{Need}
-use Rattle.command_base.specs.declared.named.Structure.TheVariants as structures
+use Rattle.command_base.specs.declared.target_file.Need.{Need}
+use Rattle.command_base.specs.declared.target_file.Structure.TheVariants as structures
 use Rattle.content_commands.specs.declared.record_file.RecordFile.{RecordFile}
 use Rattle.card_model.specs.Cards.{Card, Kind, Path}
 use Rattle.card_model.specs.Steps.{attempt_of, IsDoing, commits, effect, refusals_of}
@@ -34,7 +34,7 @@ use Rattle.card_model.specs.Guards.{file_refusals, target_kind, target_path}
 use Rattle.card_model.specs.RecordCommands.{appended_records, capacity_of, has_records, is_linear, no_record}
 use Rattle.card_model.specs.RecordCommands.{no_record_length, pointer_after, pointing, records_of, replaced_number}
 use Rattle.card_model.specs.RecordCommands.{replaces, target_number, updated_records, with_records_at}
-use Rattle.command_base.specs.Served.{Serves}
+use Rattle.command_base.specs.Served.{Executes}
 use Rattle.card_model.specs.Sessions.{Session}
 use Rattle.command_base.specs.CommandWrites.{most_writes, record_writes}
 use Rattle.command_base.specs.Standing.{card_of, IsCard}
@@ -50,7 +50,7 @@ use Rattle.card_model.specs.laws.Guarding.{guarded-free, guarded-refused, served
 use Rattle.content_commands.proofs.RecordBodies.{Agree}
 use Rattle.content_commands.proofs.RecordChanges.{records-become, Records}
 use Rattle.content_commands.proofs.RecordSteps.{agree, chosen-is, current-is, has-is, path-is, pointer-is, session-is}
-use Rattle.command_base.specs.laws.Serves.{compared-none, counts-none, torn, written}
+use Rattle.command_base.specs.laws.Executes.{compared-none, counts-none, torn, written}
 use Rattle.command_base.specs.laws.Stopping.{err-is}
 use Rattle.command_base.specs.laws.Words.{Went, went-after}
 
@@ -141,9 +141,9 @@ module _ (old mid new : Memory) (ready : IsReady old) (words : IsCard (committed
 
   -- a write that stopped, before or after its commit
   pub records-torn : (text : List ℕ) → length text ≤ 256 → (r : Result Sw StoreErr) (error : StoreErr)
-      → IsErrAnd r (λ f. f ≡ error) → told ≡ Some error → Serves request old x new x text r
+      → IsErrAnd r (λ f. f ≡ error) → told ≡ Some error → Executes request old x new x text r
   records-torn text room r error handed stopped =
-      subst (λ (answer : Result Sw StoreErr). Serves request old x new x text answer) (sym (err-is r error handed))
+      subst (λ (answer : Result Sw StoreErr). Executes request old x new x text answer) (sym (err-is r error handed))
       (torn request old x new x text error stage stands all.reports (all.tells ∙ stopped) room costs went compares)
 
   -- a write that was made
@@ -151,7 +151,7 @@ module _ (old mid new : Memory) (ready : IsReady old) (words : IsCard (committed
       → length text ≤ 256
       → effect c s request ≡ outcome (with_records_at c (target_path c s target) records)
       (pointing s target (target_path c s target) pointer) text DONE
-      → Serves request old x new (pointing_from x target e pointer) text (Ok DONE)
+      → Executes request old x new (pointing_from x target e pointer) text (Ok DONE)
   records-made becomes ready_now pointer text room effect_is =
       let y = pointing_from x target e pointer in
       let these = change becomes in

@@ -20,12 +20,12 @@ use Rattle.ef_body.specs.declared.layout.TheConstants.{RECORD_WRITES}
 use Rattle.ef_body.specs.Bodies.{cyclic_body_records, IsCyclic}
 use Rattle.file_tree.specs.Table.{table}
 use Rattle.command_base.specs.declared.current.Current.{Current}
-use Rattle.command_base.specs.declared.named.Need.{Need}
+use Rattle.command_base.specs.declared.target_file.Need.{Need}
 use Rattle.content_commands.specs.declared.record_file.RecordFile.{RecordFile}
 use Rattle.card_model.specs.Guards.{file_refusals}
 use Rattle.card_model.specs.Behaviours.{refused_by}
 use Rattle.card_model.specs.RecordCommands.{pointer_after, replaces}
-use Rattle.command_base.specs.Served.{Serves}
+use Rattle.command_base.specs.Served.{Executes}
 use Rattle.command_base.specs.Standing.{card_of, IsCard}
 use Rattle.content_commands.specs.RecordParts.{has_in, number_replaced_in, replaced_in, unreplaced, IsRecordFile}
 use Rattle.command_base.specs.Working.{session_of, space_in, table_in, IsCurrent}
@@ -118,7 +118,7 @@ module _ (old mid new : Memory) (ready : IsReady old) (words : IsCard (committed
         (committed new)) (by_gate : CommitsByGate mid new) (told : Option StoreErr)
         (changes : Changes RECORD_WRITES mid new told) where
       pub replaced-torn : (r : Result Sw StoreErr) (error : StoreErr) → IsErrAnd r (λ f. f ≡ error) → told ≡ Some error
-          → Serves (update_record target choice bytes) old x new x [] r
+          → Executes (update_record target choice bytes) old x new x [] r
       replaced-torn =
           records-torn old mid new ready words x current target _ file _ records puts reads file.wraps refl slot.ring
           found.ring_is put put-are any_exit by_gate told changes [] (omega arith)
@@ -126,13 +126,13 @@ module _ (old mid new : Memory) (ready : IsReady old) (words : IsCard (committed
       pub replaced-done : RingBecomes file.wraps (committed mid) slot.ring put (committed new) → IsReady new
           → (pointer : Option ℕ)
           → pointer ≡ (if file.wraps then Some 1 else pointer_after (pointer_from x target) choice slot.number)
-          → Serves (update_record target choice bytes) old x new
+          → Executes (update_record target choice bytes) old x new
           (pointing_from x target file.number pointer) [] (Ok DONE)
       replaced-done becomes ready_now pointer pointer_is =
           let after = if file.wraps then Some 1 else pointer_after (pointer_from x target) choice k in
           let is : pointer ≡ after = pointer_is ∙ (λ i. if file.wraps then Some 1 else pointer_after (pointer_from x
           target) choice (found.number_is i)) in
-          subst (λ (p : Option ℕ). Serves (update_record target choice bytes) old x new (pointing_from x target
+          subst (λ (p : Option ℕ). Executes (update_record target choice bytes) old x new (pointing_from x target
           file.number
           p) [] (Ok DONE)) (sym is)
           (records-made old mid new ready words x current target _ file _ records puts reads file.wraps refl

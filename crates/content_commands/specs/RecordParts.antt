@@ -21,9 +21,9 @@ use Rattle.content_commands.specs.declared.record_file.Room.TheVariants as rooms
 use Rattle.card_model.specs.RecordCommands.{next_record, place_number, previous_record}
 use Rattle.file_tree.specs.Table.{table, entry_in}
 use Rattle.command_base.specs.declared.current.Current.{Current}
-use Rattle.command_base.specs.declared.named.Need.{Need}
-use Rattle.command_base.specs.declared.named.Structure.{Structure}
-use Rattle.command_base.specs.declared.named.Structure.TheVariants.{Records, Linear}
+use Rattle.command_base.specs.declared.target_file.Need.{Need}
+use Rattle.command_base.specs.declared.target_file.Structure.{Structure}
+use Rattle.command_base.specs.declared.target_file.Structure.TheVariants.{Records, Linear}
 use Rattle.command_base.specs.NamedFiles.{IsNamed}
 
 -- the address of the word of an entry with its number of records

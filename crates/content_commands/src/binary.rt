@@ -1,8 +1,8 @@
 //! READ BINARY and UPDATE BINARY (ISO/IEC 7816-4, 11.3).
 ghost use Rattle.std.specs.Prelude.{◌≡◌, ◌==◌, if◌then◌else◌, []};
 ghost use Rattle.card_model.specs.Requests.{IsTarget, read_binary, update_binary, HasBetween};
-ghost use Rattle.command_base.specs.Served.{Serves};
-ghost use Rattle.command_base.specs.InPlace.{ServesInPlace};
+ghost use Rattle.command_base.specs.Served.{Executes};
+ghost use Rattle.command_base.specs.InPlace.{ExecutesInPlace};
 ghost use Rattle.command_base.specs.Stops.{reply};
 ghost use Rattle.command_base.specs.Working.{IsKept};
 ghost use Rattle.card_model.specs.BinaryCommands.{end_status};
@@ -40,7 +40,7 @@ pub fn read_file<B: Board>(
     requires kept { IsKept store.old current.old }
     requires target { IsTarget place.target }
     requires empty { answer.old.items ≡ [] }
-    ensures { Serves (read_binary place.target place.offset expected) store.old current.old store.new current.new
+    ensures { Executes (read_binary place.target place.offset expected) store.old current.old store.new current.new
         answer.new.items (reply result) }
 {
     let file = find_file(store, current, place.target, READING)?;
@@ -60,7 +60,7 @@ pub fn update_file<B: Board>(
     requires kept { IsKept store.old current.old }
     requires target { IsTarget place.target }
     requires bytes { HasBetween 1 255 bytes.now }
-    ensures { ServesInPlace (update_binary place.target place.offset bytes.now) store.old current.old store.new
+    ensures { ExecutesInPlace (update_binary place.target place.offset bytes.now) store.old current.old store.new
         current.new [] (reply result) }
 {
     let file = find_file(store, current, place.target, UPDATING)?;

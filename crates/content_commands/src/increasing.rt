@@ -1,7 +1,7 @@
 //! INCREASE (ETSI TS 102 221, 11.1.8).
 ghost use Rattle.std.specs.Prelude.{◌≡◌, ◌≤◌, ◌+◌, ◌++◌, ◌||◌, nat_lt, [], length, Some};
 ghost use Rattle.card_model.specs.Requests.{increase as increasing};
-ghost use Rattle.command_base.specs.InPlace.{ServesInPlace};
+ghost use Rattle.command_base.specs.InPlace.{ExecutesInPlace};
 ghost use Rattle.command_base.specs.Stops.{reply};
 ghost use Rattle.command_base.specs.Working.{IsKept};
 
@@ -34,7 +34,7 @@ pub fn increase<B: Board>(
     requires kept { IsKept store.old current.old }
     requires few { length amount.now ≤ 255 }
     requires empty { answer.old.items ≡ [] }
-    ensures { ServesInPlace (increasing amount.now expected) store.old current.old store.new current.new
+    ensures { ExecutesInPlace (increasing amount.now expected) store.old current.old store.new current.new
         answer.new.items (reply result) }
 {
     let file = find_records(store, current, Target::Current, INCREASING)?;

@@ -3,12 +3,12 @@ ghost use Rattle.std.specs.Prelude.{◌≡◌, ◌≢◌, ◌≤◌, ◌==◌, �
 ghost use Rattle.undo_journal.specs.Memory.{committed};
 ghost use Rattle.card_model.specs.Requests.{IsTarget, append_record as appending, read_record as reading};
 ghost use Rattle.card_model.specs.Requests.{search_record as searching, update_record as updating, HasBetween};
-ghost use Rattle.command_base.specs.declared.named.Structure.TheVariants as Structure;
+ghost use Rattle.command_base.specs.declared.target_file.Structure.TheVariants as Structure;
 ghost use Rattle.card_model.specs.Behaviours.{refused_by};
 ghost use Rattle.command_base.specs.NamedFiles.{fits};
 ghost use Rattle.card_model.specs.Guards.{file_refusals};
-ghost use Rattle.command_base.specs.Served.{Serves};
-ghost use Rattle.command_base.specs.InPlace.{ServesInPlace};
+ghost use Rattle.command_base.specs.Served.{Executes};
+ghost use Rattle.command_base.specs.InPlace.{ExecutesInPlace};
 ghost use Rattle.command_base.specs.Stops.{reply, Looks};
 ghost use Rattle.command_base.specs.Working.{card_in, session_in, IsKept};
 ghost use Rattle.content_commands.specs.RecordParts.{need_replacing, IsRecordFile};
@@ -81,7 +81,7 @@ pub fn read_record<B: Board>(
     requires kept { IsKept store.old current.old }
     requires target { IsTarget target }
     requires empty { answer.old.items ≡ [] }
-    ensures { Serves (reading target choice expected) store.old current.old store.new current.new
+    ensures { Executes (reading target choice expected) store.old current.old store.new current.new
         answer.new.items (reply result) }
 {
     let file = find_records(store, current, target, READING)?;
@@ -109,7 +109,7 @@ pub fn update_record<B: Board>(
     requires kept { IsKept store.old current.old }
     requires target { IsTarget target }
     requires bytes { HasBetween 1 255 bytes.now }
-    ensures { ServesInPlace (updating target choice bytes.now) store.old current.old store.new current.new []
+    ensures { ExecutesInPlace (updating target choice bytes.now) store.old current.old store.new current.new []
         (reply result) }
 {
     let file = find_records(store, current, target, replacing(choice))?;
@@ -132,7 +132,7 @@ pub fn append_record<B: Board>(
     requires kept { IsKept store.old current.old }
     requires target { IsTarget target }
     requires bytes { HasBetween 1 255 bytes.now }
-    ensures { ServesInPlace (appending target bytes.now) store.old current.old store.new current.new []
+    ensures { ExecutesInPlace (appending target bytes.now) store.old current.old store.new current.new []
         (reply result) }
 {
     let file = find_records(store, current, target, APPENDING)?;
@@ -158,7 +158,7 @@ pub fn search_record<B: Board>(
     requires target { IsTarget target }
     requires few { length text.now ≤ 255 }
     requires empty { answer.old.items ≡ [] }
-    ensures { Serves (searching target first direction text.now expected) store.old current.old store.new current.new
+    ensures { Executes (searching target first direction text.now expected) store.old current.old store.new current.new
         answer.new.items (reply result) }
 {
     let file = find_records(store, current, target, READING)?;

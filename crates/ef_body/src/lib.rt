@@ -16,7 +16,7 @@ mod transparent;
 mod writing;
 
 pub use cyclic::Cyclic;
-pub use layout::{MOST_RECORD_BYTES, RECORD_WRITES, UPDATE_WRITES};
+pub use layout::RECORD_WRITES;
 pub use linear::Linear;
 pub use record_body::RecordBody;
 pub use slot::{FreeSlot, RecordSlot};

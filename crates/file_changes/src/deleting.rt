@@ -97,7 +97,7 @@ fn read_parents<B: Board>(store: &mut Store<B>, end: u8) -> Result<[u8; 256], St
 }
 
 /// Returns an entry if it is in the subtree of `top`.
-fn going_entry<B: Board>(
+fn deleted_entry<B: Board>(
     store: &mut Store<B>,
     parents: &[u8; 256],
     top: u8,
@@ -128,7 +128,7 @@ fn part_of<B: Board>(store: &mut Store<B>, top: u8) -> Result<Part, StoreErr>
     let parents = read_parents(store, end)?;
     let mut part = Part::new();
     for e in 0..end {
-        let entry = going_entry(store, &parents, top, e)?;
+        let entry = deleted_entry(store, &parents, top, e)?;
         part.add(e, entry);
     }
     Ok(part)

@@ -28,7 +28,7 @@ use Rattle.file_tree.specs.Trees.{tree_of}
 use Rattle.command_base.specs.declared.current.Current.{Current}
 use Rattle.file_commands.specs.FileParts.{IsNewFile}
 use Rattle.card_model.specs.Steps.{IsDoing}
-use Rattle.command_base.specs.Served.{Serves}
+use Rattle.command_base.specs.Served.{Executes}
 use Rattle.command_base.specs.CommandWrites.{creation_writes}
 use Rattle.command_base.specs.Standing.{IsCard}
 use Rattle.command_base.specs.Working.{card_in, session_in, space_in, table_in, IsCurrent}
@@ -36,7 +36,7 @@ use Rattle.command_base.specs.CurrentFiles.{current_at, current_by}
 use Rattle.file_commands.proofs.Creations.{any-creating, any-stage, any-stands, created-current, created-is-card}
 use Rattle.file_commands.proofs.Creations.{created-space, filled-card, filled-stands}
 use Rattle.file_commands.proofs.Creations.{created-step, refused-step, taken-blocks, taken-entries}
-use Rattle.command_base.specs.laws.Serves.{compared-none, declined, torn, written}
+use Rattle.command_base.specs.laws.Executes.{compared-none, declined, torn, written}
 use Rattle.command_base.specs.laws.Stopping.{err-is}
 use Rattle.command_base.specs.laws.Words.{Went, went-gated}
 
@@ -62,7 +62,7 @@ module _ (old mid made : Memory) (ready : IsReady old) (words : IsCard (committe
   pub creation-refused : (status : Sw) → TellsCreation (committed mid) x.df fcp (Refused status) after
       → ((refusal : Sw) → creation_refusal (block_count (committed mid)) (tree_of (committed mid))
       (path_of (table_in mid) x.df) fcp ≡ Some refusal
-      → OnlyReads mid made) → IsReady made → Serves request old x made x [] (Ok status)
+      → OnlyReads mid made) → IsReady made → Executes request old x made x [] (Ok status)
   creation-refused status tells idle ready_now =
       let is : creation_refusal (block_count m) (tree_of m) (path_of (table m) x.df) fcp ≡ Some status =
       subst (λ (l : List ℕ). creation_refusal (block_count l) (tree_of l) (path_of (table l) x.df) fcp
@@ -87,7 +87,7 @@ module _ (old mid made : Memory) (ready : IsReady old) (words : IsCard (committe
       → ((refusal : Sw) → creation_refusal (block_count (committed mid)) (tree_of (committed mid))
       (path_of (table_in mid) x.df) fcp ≡ Some refusal
       → OnlyReads mid made) → AddsByGate mid made → (n : ℕ) → Changes n mid made (Some e) → n ≤ creation_writes
-      → Serves request old x made x [] r
+      → Executes request old x made x [] r
   creation-torn r e is any_exit idle adds n changes few =
       let exit = subst (λ (l : List ℕ). SameTree l after ⊎ CreatesNew l x.df fcp after) same any_exit in
       let all = changes_after n old mid made (Some e) reads changes in
@@ -97,7 +97,7 @@ module _ (old mid made : Memory) (ready : IsReady old) (words : IsCard (committe
       let stage = any-stage m sized words x template fcp found.told found.unbarred found.permitted
       (creation_refusal (block_count m) (tree_of m) (path_of (table m) x.df) fcp) refl
       (λ status refuses. reads_then old mid made reads (idle_here status refuses)) after exit in
-      subst (λ (s : Result Sw StoreErr). Serves request old x made x [] s) (sym (err-is r e is))
+      subst (λ (s : Result Sw StoreErr). Executes request old x made x [] s) (sym (err-is r e is))
       (torn request old x made x [] e stage
       (any-stands m sized words x template fcp found.told found.unbarred found.permitted after exit)
       all.reports all.tells (omega arith) (omega (arith, few, all.writes.writes))
@@ -141,7 +141,7 @@ module _ (old mid made : Memory) (ready : IsReady old) (words : IsCard (committe
       went = went-adding adds (inr made-it) (advances_by n old.facts made.facts all.writes)
 
       pub created-done : IsReady made → (y : Current) → y ≡ current_by x e (kind_number fcp.kind) x.df
-          → Serves request old x made y [] (Ok DONE)
+          → Executes request old x made y [] (Ok DONE)
       created-done ready_now y y_is =
           let z = current_at x e (entry_in (table after) e) in
           let there = created in
@@ -150,7 +150,7 @@ module _ (old mid made : Memory) (ready : IsReady old) (words : IsCard (committe
           after created current.marks in
           let done = created-step m sized words x template fcp found.told found.unbarred found.permitted e blocks after
           created in
-          subst (λ (y : Current). Serves request old x made y [] (Ok DONE)) same
+          subst (λ (y : Current). Executes request old x made y [] (Ok DONE)) same
           (written request old x made (λ _. tt) z [] DONE (inr made-it) created-stands all.reports ready_now at_file
           (λ never. absurd (true≢false never)) (omega arith)
           (omega (arith, few, all.writes.writes)) went (compared-none n old.facts made.facts all.writes) done)

@@ -39,14 +39,14 @@ use Rattle.card_model.specs.Guards.{allowed}
 use Rattle.card_model.specs.LifeCycleCommands.{card_terminated, terminate_card_refusals, terminated_card}
 use Rattle.card_model.specs.Behaviours.{refused, refused_by, outcome}
 use Rattle.card_model.specs.Steps.{IsDoing, commits, effect, refusals_of, served}
-use Rattle.command_base.specs.Served.{Serves}
+use Rattle.command_base.specs.Served.{Executes}
 use Rattle.card_model.specs.Sessions.{Session}
 use Rattle.command_base.specs.Standing.{card_of, IsCard}
 use Rattle.command_base.specs.Working.{card_in, session_in, session_of, table_in, IsCurrent}
 use Rattle.card_model.specs.laws.Doing.{doing-one}
 use Rattle.command_base.specs.laws.Entries.{master-path}
 use Rattle.card_model.specs.laws.Guarding.{served-done, served-refused}
-use Rattle.command_base.specs.laws.Serves.{compared-none, reads-compared, torn, written}
+use Rattle.command_base.specs.laws.Executes.{compared-none, reads-compared, torn, written}
 use Rattle.command_base.specs.laws.Stopping.{err-is}
 use Rattle.command_base.specs.laws.Words.{Went, went-after}
 
@@ -184,9 +184,9 @@ module _ (old mid new : Memory) (ready : IsReady old) (words : IsCard (committed
 
   -- it stopped, before or after its commit
   pub end-torn : (result : Result Sw StoreErr) (error : StoreErr) → IsErrAnd result (λ f. f ≡ error)
-      → new.failed ≡ Some error → Serves terminate_card_usage old x new x [] result
+      → new.failed ≡ Some error → Executes terminate_card_usage old x new x [] result
   end-torn result error is failed =
-      subst (λ (r : Result Sw StoreErr). Serves terminate_card_usage old x new x [] r) (sym (err-is result error is))
+      subst (λ (r : Result Sw StoreErr). Executes terminate_card_usage old x new x [] r) (sym (err-is result error is))
       (torn terminate_card_usage old x new x [] error (inr doing) stands all-reports failed
       (omega arith) (omega (arith, spends.writes, reads.board.writes)) went compares)
 
@@ -198,7 +198,7 @@ module _ (old mid new : Memory) (ready : IsReady old) (words : IsCard (committed
     card-is : card_in new ≡ terminated_card (card_in old)
     card-is = ap card_of (end-is done) ∙ ended-card (committed old) size words
 
-    pub end-made : IsReady new → Serves terminate_card_usage old x new x [] (Ok DONE)
+    pub end-made : IsReady new → Executes terminate_card_usage old x new x [] (Ok DONE)
     end-made ready_now = written terminate_card_usage old x new (λ _. tt) x [] DONE (inr doing) stands all-reports
         ready_now
         (subst (λ (t : List Entry). IsCurrent t x) (sym table-is) current) (λ _. places_same _ _ table-is) (omega arith)

@@ -29,7 +29,7 @@ use Rattle.card_model.specs.Cards.{Card}
 use Rattle.file_commands.specs.LifeParts.{IsChanged}
 use Rattle.command_base.specs.Comparing.{comparisons, ComparesNothing}
 use Rattle.card_model.specs.Steps.{IsDoing, refusals_of, served}
-use Rattle.command_base.specs.Served.{Serves}
+use Rattle.command_base.specs.Served.{Executes}
 use Rattle.card_model.specs.LifeCycleCommands.{change_refusals}
 use Rattle.card_model.specs.Behaviours.{refused, refused_by}
 use Rattle.card_model.specs.Sessions.{Session}
@@ -39,7 +39,7 @@ use Rattle.command_base.specs.CurrentFiles.{current_at}
 use Rattle.card_model.specs.laws.Guarding.{served-refused}
 use Rattle.file_commands.proofs.LifeSteps.{card-is, changed-current, changed-space, changed-stands, changed-step, doing}
 use Rattle.file_commands.proofs.LifeSteps.{same-state}
-use Rattle.command_base.specs.laws.Serves.{compared-none, reads-compared, torn, written}
+use Rattle.command_base.specs.laws.Executes.{compared-none, reads-compared, torn, written}
 use Rattle.command_base.specs.laws.Stopping.{err-is}
 use Rattle.command_base.specs.laws.Words.{Went, went-after}
 
@@ -121,15 +121,15 @@ module _ (old mid new : Memory) (ready : IsReady old) (words : IsCard (committed
 
   -- a change that stopped, before or after its commit
   pub change-torn : (result : Result Sw StoreErr) (error : StoreErr) → IsErrAnd result (λ f. f ≡ error)
-      → new.failed ≡ Some error → Serves request old x new x [] result
+      → new.failed ≡ Some error → Executes request old x new x [] result
   change-torn result error is failed =
-      subst (λ (r : Result Sw StoreErr). Serves request old x new x [] r) (sym (err-is result error is))
+      subst (λ (r : Result Sw StoreErr). Executes request old x new x [] r) (sym (err-is result error is))
       (torn request old x new x [] error stage stands all-reports failed (omega arith)
       (omega (arith, spends.writes, reads.board.writes)) went compares)
 
   -- a change that was made
   pub change-made : ChangesLife (committed mid) e changed.life after → IsReady new
-      → Serves request old x new (current_at x e changed.entry) [] (Ok DONE)
+      → Executes request old x new (current_at x e changed.entry) [] (Ok DONE)
   change-made changes ready_now = written request old x new (λ _. tt) (current_at x e changed.entry) [] DONE stage
       stands all-reports ready_now
       (changed-current m sized words x current change subject changed found after (changes-it changes))

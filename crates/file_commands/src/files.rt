@@ -12,7 +12,7 @@ ghost use Rattle.card_model.specs.FileCommands.{create_refusals, creation_bit, d
 ghost use Rattle.card_model.specs.Guards.{allowed};
 ghost use Rattle.card_model.specs.Behaviours.{refused_by};
 ghost use Rattle.card_model.specs.Reaching.{subject_or};
-ghost use Rattle.command_base.specs.Served.{Serves};
+ghost use Rattle.command_base.specs.Served.{Executes};
 ghost use Rattle.command_base.specs.Stops.{Looks, reply, Checks};
 ghost use Rattle.command_base.specs.Working.{card_in, session_in, space_in, table_in, IsKept};
 ghost use Rattle.command_base.specs.NamedFiles.{file_refusal};
@@ -21,7 +21,7 @@ ghost use Rattle.file_changes.specs.Creations.{kind_number};
 
 use apdu_core::{Subject, Sw};
 use card_state::{AccessBit, Fcp, FileKind};
-use command_base::{Current, Findings, Named, Stop, allows};
+use command_base::{Current, Findings, Stop, TargetFile, allows};
 use fcp_template::parse;
 use file_changes::{Creation, create, delete};
 use file_lookup::{is_barred_at, read_entry, select};
@@ -41,7 +41,7 @@ pub fn create_file<B: Board>(
     requires kept { IsKept store.old current.old }
     requires space { free.old ≡ space_in store.old }
     requires index { IsIndex (table_in store.old) index.old }
-    ensures serves { Serves (creation template.now) store.old current.old store.new current.new [] (reply result) }
+    ensures serves { Executes (creation template.now) store.old current.old store.new current.new [] (reply result) }
     ensures space { OnOk (reply result) (free.new ≡ space_in store.new) }
     ensures index { OnOk (reply result) (IsIndex (table_in store.new) index.new) }
 {
@@ -92,7 +92,7 @@ fn find_new_file<'a, B: Board>(
         ≡ Some refusal) }
 {
     let entry = read_entry(store, current.df)?;
-    let df = Named {
+    let df = TargetFile {
         number: current.df,
         entry,
     };
@@ -132,7 +132,7 @@ pub fn delete_file<B: Board>(
     requires kept { IsKept store.old current.old }
     requires space { free.old ≡ space_in store.old }
     requires index { IsIndex (table_in store.old) index.old }
-    ensures serves { Serves (deletion subject) store.old current.old store.new current.new [] (reply result) }
+    ensures serves { Executes (deletion subject) store.old current.old store.new current.new [] (reply result) }
     ensures space { OnOk (reply result) (free.new ≡ space_in store.new) }
     ensures index { OnOk (reply result) (IsIndex (table_in store.new) index.new) }
 {
@@ -160,7 +160,7 @@ fn find_deletable<B: Board>(
     index: &Index,
     current: &Current,
     subject: Subject,
-) -> Result<Named, Stop>
+) -> Result<TargetFile, Stop>
     requires kept { IsKept store.old current.now }
     requires index { IsIndex (table_in store.old) index.now }
     ensures { Looks store.old store.new result
@@ -176,7 +176,7 @@ fn find_deletable<B: Board>(
         return Err(Stop::Refused(Sw::CONDITIONS_NOT_SATISFIED));
     }
     let entry = read_entry(store, number)?;
-    let file = Named { number, entry };
+    let file = TargetFile { number, entry };
     check_deletion(store, current, &file)?;
     Ok(file)
 }
@@ -187,7 +187,7 @@ fn find_deletable<B: Board>(
 fn check_deletion<B: Board>(
     store: &mut Store<B>,
     current: &Current,
-    file: &Named,
+    file: &TargetFile,
 ) -> Result<(), Stop>
     requires kept { IsKept store.old current.now }
     requires used { IsUsed (table_in store.old) file.now.number }
@@ -200,7 +200,7 @@ fn check_deletion<B: Board>(
         (path_of (table_in store.old) file.now.entry.parent) DeleteChild)) result }
 {
     let entry = read_entry(store, file.entry.parent)?;
-    let parent = Named {
+    let parent = TargetFile {
         number: file.entry.parent,
         entry,
     };

@@ -8,15 +8,15 @@ ghost use Rattle.file_tree.specs.Table.{IsUsed};
 ghost use Rattle.file_commands.specs.LifeParts.{change_at, changed_by, current_changed, is_for_kind, IsChanged};
 ghost use Rattle.card_model.specs.LifeCycleCommands.{change_bit, change_refusals, command_of, no_subject};
 ghost use Rattle.card_model.specs.Behaviours.{refused_by};
-ghost use Rattle.command_base.specs.Served.{Serves};
-ghost use Rattle.command_base.specs.InPlace.{ServesInPlace};
+ghost use Rattle.command_base.specs.Served.{Executes};
+ghost use Rattle.command_base.specs.InPlace.{ExecutesInPlace};
 ghost use Rattle.command_base.specs.Stops.{Looks, reply};
 ghost use Rattle.command_base.specs.Working.{card_in, session_in, table_in, IsKept};
 
 use crate::files::find_subject;
 use apdu_core::{LifeCycleChange, Subject, Sw};
 use card_state::{AccessBit, LifeCycle, LifeCycleCommand};
-use command_base::{Current, Named, Stop, allows};
+use command_base::{Current, Stop, TargetFile, allows};
 use file_changes::{next_life_cycle, set_life_cycle, terminate_card};
 use file_lookup::read_entry;
 use file_tree::{Entry, EntryKind, Index};
@@ -43,7 +43,7 @@ pub fn change_life_cycle<B: Board>(
 ) -> Result<Sw, Stop>
     requires kept { IsKept store.old current.old }
     requires index { IsIndex (table_in store.old) index.now }
-    ensures { ServesInPlace (changing change subject) store.old current.old store.new current.new [] (reply result) }
+    ensures { ExecutesInPlace (changing change subject) store.old current.old store.new current.new [] (reply result) }
 {
     let changed = find_change(store, index, current, change, subject)?;
     set_life_cycle(store, changed.number, changed.life)?;
@@ -55,10 +55,10 @@ pub fn change_life_cycle<B: Board>(
 /// The rule of the master file must allow it. Returns the status word.
 pub fn terminate_card_usage<B: Board>(store: &mut Store<B>, current: &Current) -> Result<Sw, Stop>
     requires kept { IsKept store.old current.now }
-    ensures { Serves (terminating) store.old current.now store.new current.now [] (reply result) }
+    ensures { Executes (terminating) store.old current.now store.new current.now [] (reply result) }
 {
     let entry = read_entry(store, 0)?;
-    let master = Named { number: 0, entry };
+    let master = TargetFile { number: 0, entry };
     if !allows(store, current, &master, AccessBit::Terminate)? {
         return Err(Stop::Refused(Sw::ACCESS_DENIED));
     }
@@ -109,7 +109,7 @@ fn read_change<B: Board>(
     let (command, bit) = row_of(change);
     let entry = read_entry(store, number)?;
     let next = next_life_cycle(store, number, &entry, command)?;
-    let allowed = allows(store, current, &Named { number, entry }, bit)?;
+    let allowed = allows(store, current, &TargetFile { number, entry }, bit)?;
     Ok(changed_by(change, number, entry, next, allowed)?)
 }
 

@@ -4,4 +4,4 @@
 pub mod laws;
 mod migrating;
 
-pub use migrating::{RENAME_WRITES, migrate};
+pub use migrating::migrate;

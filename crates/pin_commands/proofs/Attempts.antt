@@ -47,7 +47,7 @@ use Rattle.card_model.specs.Behaviours.{tries_commits, value_commits, unblocking
 use Rattle.card_model.specs.PinCommands.{attempt_refusals, attempted, attempted_as, changing, marking, resetting}
 use Rattle.card_model.specs.PinCommands.{told_tries, tries_status, unverified, verifying}
 use Rattle.command_base.specs.CommitWords.{StandsByWord, StandsServed}
-use Rattle.command_base.specs.Served.{Serves}
+use Rattle.command_base.specs.Served.{Executes}
 use Rattle.card_model.specs.Sessions.{Session, marked}
 use Rattle.command_base.specs.CommandWrites.{most_writes}
 use Rattle.command_base.specs.Standing.{card_of, IsCard}
@@ -57,7 +57,7 @@ use Rattle.pin_commands.specs.PinParts.{end_of_attempt}
 use Rattle.pin_commands.proofs.Comparisons.{costs-told}
 use Rattle.card_model.specs.laws.Guarding.{served-done, served-refused}
 use Rattle.pin_commands.proofs.PinCards.{pin-is, pin-set, pin-stands, pin-table}
-use Rattle.command_base.specs.laws.Serves.{counts-none, declined, stopped, torn, written}
+use Rattle.command_base.specs.laws.Executes.{counts-none, declined, stopped, torn, written}
 use Rattle.command_base.specs.laws.Stopping.{err-is}
 use Rattle.command_base.specs.declared.stop.Stop.{Stop}
 use Rattle.command_base.specs.declared.stop.Stop.TheVariants.{Refused, Failed}
@@ -159,7 +159,7 @@ module _ (request : Request) (a : Attempt) (asks : IsAttempt request a) (old : M
 
   -- it is refused
   pub exit-refused : (new : Memory) (status : Sw) → refused_at a was ≡ Some status → OnlyReads old new → IsReady new
-      → Serves request old x new x [] (Ok status)
+      → Executes request old x new x [] (Ok status)
   exit-refused new status is reads ready =
       declined request old x new (counts-refused new status is) card status reads ready current
       (served-refused c s request status (refusal-is ∙ is))
@@ -285,7 +285,7 @@ module _ (request : Request) (a : Attempt) (asks : IsAttempt request a) (old : M
   pub exit-charge : (b : Memory) (e : StoreErr) → (committed b ≡ committed old) ⊎ Charges a.secret old b
       → (IsSome (refused_at a was) → OnlyReads old b) → ArePinPages (committed b) → Reports old b → b.failed ≡ Some e
       → WritesAtMost 1 old.facts b.facts → StaysShut old b → b.facts.writes ≤ old.facts.writes + most_writes request
-      → Serves request old x b x [] (Err e)
+      → Executes request old x b x [] (Err e)
   exit-charge b e exit kept pages reports failed spends stays writes =
       let law = charge_keeps_law a.secret a.shown old b exit spends in
       let size = charged-size b exit in
@@ -378,7 +378,7 @@ module _ (request : Request) (a : Attempt) (asks : IsAttempt request a) (old : M
       compares-end = exit-compares e (ended-size e exit) pages law-end never
 
       -- the end stopped
-      pub exit-end : (err : StoreErr) → e.failed ≡ Some err → Serves request old x e x [] (Err err)
+      pub exit-end : (err : StoreErr) → e.failed ≡ Some err → Executes request old x e x [] (Err err)
       exit-end err failed = torn request old x e x [] err stage-end (exit-card e (ended-size e exit) pages law-end)
           reports failed (omega arith) writes went-end compares-end
 
@@ -477,7 +477,7 @@ module _ (request : Request) (a : Attempt) (asks : IsAttempt request a) (old : M
       -- the end was made
       pub exit-done : (end : AttemptEnd)
           → EndsByOutcome a.secret a.shown (a.becomes (pin_in b a.secret)) b e end → IsReady e
-          → b.facts.writes ≡ old.facts.writes + 1 → Serves request old x e (y end) [] (Ok (end_of_attempt end))
+          → b.facts.writes ≡ old.facts.writes + 1 → Executes request old x e (y end) [] (Ok (end_of_attempt end))
       exit-done end done ready charge =
           written request old x e (counts-end charge end done) (y end) [] (end_of_attempt end) stage-end
           (exit-card e (ended-size e exit) pages law-end)
@@ -499,14 +499,14 @@ module _ (request : Request) (a : Attempt) (asks : IsAttempt request a) (n : ℕ
         → (IsSome (refused_at a (pin_in old a.secret)) → OnlyReads old b) → ArePinPages (committed b) → Reports old b
         → b.failed ≡ failure_of stop → WritesAtMost 1 old.facts b.facts → StaysShut old b
         → IfRefused stop (λ refusal. (refused_at a (pin_in old a.secret) ≡ Some refusal) × IsReady b)
-        → Serves request old x b x [] (reply r)
+        → Executes request old x b x [] (reply r)
     stopped-there b r stop is exit kept pages reports failed spends stays said =
-        subst (λ (result : Result Sw Stop). Serves request old x b x [] (reply result)) (sym (err-is r stop is))
+        subst (λ (result : Result Sw Stop). Executes request old x b x [] (reply result)) (sym (err-is r stop is))
         (by stop failed said)
       where
         by : (stop : Stop) → b.failed ≡ failure_of stop
             → IfRefused stop (λ refusal. (refused_at a (pin_in old a.secret) ≡ Some refusal) × IsReady b)
-            → Serves request old x b x [] (reply (Err stop))
+            → Executes request old x b x [] (reply (Err stop))
         by (Refused status) failed said =
             exit-refused request a asks old x sized card current b status said.0
             (kept (subst (λ (o : Option Sw). IsSome o) (sym said.0) refl)) said.1
@@ -521,7 +521,7 @@ module _ (request : Request) (a : Attempt) (asks : IsAttempt request a) (n : ℕ
         → (IsSome (refused_with a.unusable secret (pin_in old secret)) → OnlyReads old b) → ArePinPages (committed b)
         → Reports old b → b.failed ≡ failure_of stop → WritesAtMost 1 old.facts b.facts → StaysShut old b
         → IfRefused stop (λ refusal. (refused_with a.unusable secret (pin_in old secret) ≡ Some refusal) × IsReady b)
-        → Serves request old x b x [] (reply r)
+        → Executes request old x b x [] (reply r)
     charge-stopped b r stop is exit kept pages reports failed spends stays said =
         stopped-there b r stop is (subst (λ (k : ℕ). (committed b ≡ committed old) ⊎ Charges k old b) named exit)
         (subst (λ (k : ℕ). IsSome (refused_with a.unusable k (pin_in old k)) → OnlyReads old b) named kept)
@@ -555,22 +555,22 @@ module _ (request : Request) (a : Attempt) (asks : IsAttempt request a) (n : ℕ
       writes = let once = costs.writes in let more = spends.writes in omega (arith, once, more, most)
 
       pub end-torn : (r : Result Sw StoreErr) (err : StoreErr) → IsErrAnd r (λ f. f ≡ err) → e.failed ≡ Some err
-          → Serves request old x e x [] r
+          → Executes request old x e x [] r
       end-torn r err error failed =
-          subst (λ (result : Result Sw StoreErr). Serves request old x e x [] result) (sym (err-is r err error))
+          subst (λ (result : Result Sw StoreErr). Executes request old x e x [] result) (sym (err-is r err error))
           (exit-end request a asks old x sized card current got.2 b got.1 card-b e n (ends _) costs spends-told pages
           (reports_then old b e reports-b reports) stays word writes exit-told err failed)
 
       pub end-made : (end : AttemptEnd) → EndsByOutcome k a.shown (a.becomes (pin_in b k)) b e end → IsReady e
           → b.facts.writes ≡ old.facts.writes + 1
           → (y : Current) → y ≡ tried_from x a.pin a.unverifies end → (status : Sw) → status ≡ end_of_attempt end
-          → Serves request old x e y [] (Ok status)
+          → Executes request old x e y [] (Ok status)
       end-made end ended is-ready charge y at status told =
           let made = exit-done request a asks old x sized card current got.2 b got.1 card-b
           e n (ends _) costs spends-told pages (reports_then old b e reports-b reports) stays word writes exit-told end
           (subst (λ (k : ℕ). EndsByOutcome k a.shown (a.becomes (pin_in b k)) b e end) got.0 ended) is-ready charge in
-          subst (λ (z : Current). Serves request old x e z [] (Ok status)) (sym at)
-          (subst (λ (w : Sw). Serves request old x e (tried_from x a.pin a.unverifies end) [] (Ok w)) (sym told) made)
+          subst (λ (z : Current). Executes request old x e z [] (Ok status)) (sym at)
+          (subst (λ (w : Sw). Executes request old x e (tried_from x a.pin a.unverifies end) [] (Ok w)) (sym told) made)
 
 -- the requests that show a secret
 module _ (n : ℕ) (number : IsPinNumber n) where
@@ -677,7 +677,7 @@ module _ (request : Request) (n secret : ℕ) (asks : IsQuestion request n secre
 
   pub question-answered : (r : Result Sw StoreErr)
       → IfOk r (λ status. status ≡ tries_status (tries_left named (pin_in old named)))
-      → Reads old new (result_err r) → Serves request old x new x [] r
+      → Reads old new (result_err r) → Executes request old x new x [] r
   question-answered (Ok status) told reads =
       declined request old x new
       (counts-none request (card_in old) (session_in old x) old.facts new.facts asks.unshown) card status reads.only

@@ -11,7 +11,7 @@ ghost use Rattle.card_state.specs.Secrets.{Pin, tries_left};
 ghost use Rattle.pin_store.specs.Trials.{pin_in, Charges, TakesTry};
 ghost use Rattle.card_model.specs.Behaviours.{first_applying};
 ghost use Rattle.card_model.specs.PinCommands.{is_enabled_by, tries_status, unusable_by};
-ghost use Rattle.command_base.specs.Served.{Serves};
+ghost use Rattle.command_base.specs.Served.{Executes};
 ghost use Rattle.command_base.specs.Stops.{failure, reply, Checks, FindsOrRefuses};
 ghost use Rattle.pin_commands.specs.PinParts.{end_of_attempt, refused_use, use_refusals};
 ghost use Rattle.command_base.specs.Working.{IsKept};
@@ -55,7 +55,7 @@ pub fn verify<B: Board>(
     shown: Option<&[u8; 8]>,
 ) -> Result<Sw, Stop>
     requires kept { IsKept store.old current.old }
-    ensures { Serves (verifying pin (option_map (λ value. value.now) shown.entry)) store.old current.old store.new
+    ensures { Executes (verifying pin (option_map (λ value. value.now) shown.entry)) store.old current.old store.new
         current.new [] (reply result) }
 {
     let secret = Secret::value_of(pin);
@@ -76,7 +76,7 @@ pub fn change_reference_data<B: Board>(
     values: Replacement<'_>,
 ) -> Result<Sw, Stop>
     requires kept { IsKept store.old current.old }
-    ensures { Serves (changing pin values.entry.shown.now values.entry.new.now) store.old current.old store.new
+    ensures { Executes (changing pin values.entry.shown.now values.entry.new.now) store.old current.old store.new
         current.new [] (reply result) }
 {
     let secret = Secret::value_of(pin);
@@ -95,7 +95,8 @@ pub fn reset_retry_counter<B: Board>(
     values: Option<Replacement<'_>>,
 ) -> Result<Sw, Stop>
     requires kept { IsKept store.old current.old }
-    ensures { Serves (resetting pin (option_map (λ values. (values.shown.now, values.new.now)) values.entry)) store.old
+    ensures { Executes (resetting pin (option_map (λ values. (values.shown.now, values.new.now)) values.entry))
+        store.old
         current.old store.new current.new [] (reply result) }
 {
     let secret = Secret::unblocking_value_of(pin);
@@ -117,7 +118,7 @@ pub fn change_requirement<B: Board>(
     shown: &[u8; 8],
 ) -> Result<Sw, Stop>
     requires kept { IsKept store.old current.old }
-    ensures { Serves (requiring change pin shown.now) store.old current.old store.new current.new [] (reply result) }
+    ensures { Executes (requiring change pin shown.now) store.old current.old store.new current.new [] (reply result) }
 {
     let secret = Secret::value_of(pin);
     let charged = use_up_try(store, secret, usable_by(change))?;

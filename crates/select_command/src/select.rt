@@ -9,7 +9,7 @@ ghost use Rattle.file_tree.specs.Indexes.{IsIndex};
 ghost use Rattle.file_tree.specs.Table.{entry_in, path_of, IsUsed};
 ghost use Rattle.card_model.specs.Reaching.{selected_from};
 ghost use Rattle.card_model.specs.SelectCommand.{selection_status};
-ghost use Rattle.command_base.specs.Served.{Serves};
+ghost use Rattle.command_base.specs.Served.{Executes};
 ghost use Rattle.command_base.specs.Stops.{Looks, reply};
 ghost use Rattle.command_base.specs.Working.{card_in, session_in, table_in, IsKept};
 ghost use Rattle.command_base.specs.TemplateParts.{data_in, template_in, IsToldEntry};
@@ -44,7 +44,7 @@ pub fn select_file<B: Board>(
     requires index { IsIndex (table_in store.old) index.now }
     requires selector { IsSelector selector }
     requires empty { answer.old.items ≡ [] }
-    ensures { Serves (selection (selection_of selector.entry) returned expected) store.old current.old store.new
+    ensures { Executes (selection (selection_of selector.entry) returned expected) store.old current.old store.new
         current.new answer.new.items (reply result) }
 {
     let Some(e) = find_selected(store, index, *current, selector)? else {

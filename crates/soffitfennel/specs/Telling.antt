@@ -148,7 +148,7 @@ pub record ReturnsSpace (was now : Option SessionState) (blocks entries : ℕ) (
   pub runs : CallRuns Free was now result (ReportsSpace blocks entries) ((blocks ≡ 0) × (entries ≡ 0))
 
 -- a size or a number is out of its range, and nothing was done
-pub record Refuses (was now : Option SessionState) (number : ℤ) : Type 0 where
+pub record RefusesCall (was now : Option SessionState) (number : ℤ) : Type 0 where
   pub number_is : number ≡ outcome_number outcome.Size
   pub same : now ≡ was
 

@@ -13,7 +13,7 @@ ghost use Rattle.bench_lines.specs.OrderViews.{order_with};
 ghost use Rattle.command_base.specs.Finding.{HasCard};
 ghost use Rattle.simulated_boards.specs.Cut.{cut_facts};
 ghost use Rattle.soffitfennel.specs.SessionStates.{begun_at};
-ghost use Rattle.soffitfennel.specs.Telling.{AnswersOrder, FitsCall, IsFactoryFresh, ReadsWords, Refuses, RefusesWords};
+ghost use Rattle.soffitfennel.specs.Telling.{AnswersOrder, FitsCall, IsFactoryFresh, ReadsWords, RefusesCall, RefusesWords};
 ghost use Rattle.soffitfennel.specs.Telling.{ReturnsSpace, TakesFrom, TakesWrite, Tells, TellsBytes, TellsWords};
 ghost use Rattle.soffitfennel.specs.Telling.{inserted, outcome_number};
 ghost use Rattle.soffitfennel.specs.LoggedWrites.{log_room};
@@ -225,7 +225,7 @@ pub extern "C" fn soffitfennel_command(
     ensures fits { FitsCall (Apdu command.now) answer.old
         → TellsBytes (Apdu command.now) card.old.value card.new.value answer.new size.new result }
     ensures unfit { ¬ FitsCall (Apdu command.now) answer.old
-        → Refuses card.old.value card.new.value result × (size.new ≡ 0) }
+        → RefusesCall card.old.value card.new.value result × (size.new ≡ 0) }
 {
     if !command_fits(command, answer) {
         *size = 0;
@@ -246,7 +246,7 @@ pub extern "C" fn soffitfennel_block(
     ensures fits { FitsCall (Block block.now) reply.old
         → TellsBytes (Block block.now) card.old.value card.new.value reply.new size.new result }
     ensures unfit { ¬ FitsCall (Block block.now) reply.old
-        → Refuses card.old.value card.new.value result × (size.new ≡ 0) }
+        → RefusesCall card.old.value card.new.value result × (size.new ≡ 0) }
 {
     if !block_fits(block, reply) {
         *size = 0;
@@ -260,7 +260,7 @@ pub extern "C" fn soffitfennel_block(
 pub extern "C" fn soffitfennel_cut(alloc: Global, card: &mut Handle, number: u32, mask: u16) -> i32
     ensures fits { IsOrderSized (Cut number mask)
         → Tells (Cut number mask) card.old.value card.new.value result }
-    ensures unfit { ¬ IsOrderSized (Cut number mask) → Refuses card.old.value card.new.value result }
+    ensures unfit { ¬ IsOrderSized (Cut number mask) → RefusesCall card.old.value card.new.value result }
 {
     if !number_fits(number) {
         return Outcome::Size.number();
@@ -272,7 +272,7 @@ pub extern "C" fn soffitfennel_cut(alloc: Global, card: &mut Handle, number: u32
 #[unsafe(no_mangle)]
 pub extern "C" fn soffitfennel_lose(alloc: Global, card: &mut Handle, number: u32) -> i32
     ensures fits { IsOrderSized (Lose number) → Tells (Lose number) card.old.value card.new.value result }
-    ensures unfit { ¬ IsOrderSized (Lose number) → Refuses card.old.value card.new.value result }
+    ensures unfit { ¬ IsOrderSized (Lose number) → RefusesCall card.old.value card.new.value result }
 {
     if !number_fits(number) {
         return Outcome::Size.number();
@@ -284,7 +284,7 @@ pub extern "C" fn soffitfennel_lose(alloc: Global, card: &mut Handle, number: u3
 #[unsafe(no_mangle)]
 pub extern "C" fn soffitfennel_garble(alloc: Global, card: &mut Handle, number: u32) -> i32
     ensures fits { IsOrderSized (Garble number) → Tells (Garble number) card.old.value card.new.value result }
-    ensures unfit { ¬ IsOrderSized (Garble number) → Refuses card.old.value card.new.value result }
+    ensures unfit { ¬ IsOrderSized (Garble number) → RefusesCall card.old.value card.new.value result }
 {
     if !number_fits(number) {
         return Outcome::Size.number();
@@ -357,7 +357,7 @@ pub extern "C" fn soffitfennel_write(
 ) -> i32
     ensures takes { WRITE_BYTES ≤ length bytes.old
         → TakesWrite card.old.value card.new.value bytes.new offset.new size.new result }
-    ensures unfit { length bytes.old < WRITE_BYTES → Refuses card.old.value card.new.value result
+    ensures unfit { length bytes.old < WRITE_BYTES → RefusesCall card.old.value card.new.value result
         × (offset.new ≡ 0) × (size.new ≡ 0) }
 {
     *offset = 0;

@@ -8,4 +8,3 @@ mod tree;
 mod walk;
 
 pub use tree::{Survey, survey_tree};
-pub use walk::lay;

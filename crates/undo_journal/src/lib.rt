@@ -13,9 +13,7 @@ mod txn;
 
 pub use batch::{BATCH, Waiting};
 pub use error::{OpenFault, StoreErr};
-pub use layout::{GATE, GATE_PAGE, JOURNAL, JOURNAL_END, JOURNAL_END_PAGE, JOURNAL_PAGE, PAIRS};
-pub use nvm_board::{
-    Arm, Armed, Board, DeviceErr, Faultless, LEAST_PAGES, MOST_PAGES, PAGE_WORDS, SECRETS, Socket,
-};
+pub use layout::{GATE, PAIRS};
+pub use nvm_board::{Armed, Board, DeviceErr, Faultless, PAGE_WORDS};
 pub use store::Store;
 pub use txn::Txn;

@@ -11,7 +11,7 @@ use Rattle.command_base.specs.Working.{card_in, session_in, table_in, IsCurrent}
 use Rattle.card_model.specs.BinaryCommands.{end_status}
 use Rattle.card_model.specs.Behaviours.{outcome}
 use Rattle.content_commands.proofs.BinarySteps.{read-refused}
-use Rattle.command_base.specs.laws.Serves.{answered, halted, halted-with}
+use Rattle.command_base.specs.laws.Executes.{answered, halted, halted-with}
 use Rattle.content_commands.proofs.BinaryServes.{asked-most, found-body, found-read, found-read-past, named-current}
 use Rattle.content_commands.proofs.BinaryServes.{read-short}
 use Rattle.command_base.specs.laws.Stopping.{body-reads, body-said}

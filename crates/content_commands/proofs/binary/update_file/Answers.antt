@@ -4,7 +4,7 @@ use Rattle.card_state.specs.declared.status.TheConstants.Sw.{DONE}
 use Rattle.undo_journal.specs.Memory.{Memory, committed}
 use Rattle.card_model.specs.Requests.{update_binary}
 use Rattle.command_base.specs.declared.current.Current.{Current}
-use Rattle.command_base.specs.Served.{Serves}
+use Rattle.command_base.specs.Served.{Executes}
 use Rattle.command_base.specs.Working.{card_in, session_in, space_in}
 use Rattle.content_commands.proofs.BinarySteps.{update-refused}
 use Rattle.content_commands.proofs.Halting.{halted-in-place}
@@ -58,7 +58,7 @@ returns g c = record {
       let mid = c.find_file.new.store in
       let new = c.update.new.store in
       let request = update_binary c.args.place.target c.args.place.offset c.args.bytes.now in
-      subst (λ (y : Current). Serves request old x new y [] (Ok DONE)) (sym c.naming.ensures)
+      subst (λ (y : Current). Executes request old x new y [] (Ok DONE)) (sym c.naming.ensures)
       (found-made old mid c.requires.kept.ready c.requires.kept.card x c.args.place.target c.in_ok-file.file.number
       c.in_ok-file.file.entry c.in_ok-file.ensures.told c.body_of-body.result
       c.body_of-body.ensures c.args.place.offset c.args.bytes.now c.find_file.ensures.store.only

@@ -8,7 +8,7 @@ use Rattle.ef_body.specs.Bodies.{cyclic_body_records, IsCyclic}
 use Rattle.ef_contents.specs.Refusals.{unraised}
 use Rattle.command_base.specs.declared.current.Current.{Current}
 use Rattle.command_base.specs.declared.stop.Stop.TheVariants.{Refused}
-use Rattle.command_base.specs.Served.{Serves}
+use Rattle.command_base.specs.Served.{Executes}
 use Rattle.command_base.specs.Stops.{stop_of_body}
 use Rattle.command_base.specs.Working.{card_in, session_in}
 use Rattle.command_base.specs.laws.Stopping.{body-decided, body-reads, none-failed, refused-weaker, reply-failed}
@@ -117,7 +117,7 @@ returns g c =
     c.in_ok-file.ensures.told (sym c.is_too_long.ensures ∙ c.if-is_too_long.false) c.in_ok-slot.ensures.store.only
     c.in_ok-slot.ensures.found c.in_ok-slot.ensures.sum in
     let enough = sym c.asks_less.ensures ∙ c.if-asks_less.false in record {
-      serves = subst (λ (y : Current). Serves (increase c.args.amount.now c.args.expected) c.args.store.now
+      serves = subst (λ (y : Current). Executes (increase c.args.amount.now c.args.expected) c.args.store.now
           c.args.current.now c.replace_oldest.new.store y c.give.new.answer.items (Ok DONE)) (sym c.pointing.ensures)
           (increased-done c.requires.kept raised c.args.expected _ c.answer_of-response.ensures enough _
           c.deref.ensures.0 c.replace_oldest.new.store c.replace_oldest.ensures.any_exit

@@ -4,7 +4,7 @@ use Rattle.undo_journal.specs.Memory.{committed}
 use Rattle.card_model.specs.Requests.{append_record}
 use Rattle.command_base.specs.declared.current.Current.{Current}
 use Rattle.command_base.specs.declared.stop.Stop.TheVariants.{Refused}
-use Rattle.command_base.specs.Served.{Serves}
+use Rattle.command_base.specs.Served.{Executes}
 use Rattle.command_base.specs.Working.{card_in, session_in}
 use Rattle.card_model.specs.laws.Guarding.{served-refused}
 use Rattle.content_commands.proofs.Halting.{halted-in-place}
@@ -55,7 +55,7 @@ returns g c = record {
       let x = c.args.current.now in
       let found = is-appendable c.args.bytes.now c.in_ok-room.room c.in_ok-file.ensures.told
       c.in_ok-room.ensures.ring c.in_ok-room.ensures.wraps c.in_ok-room.ensures.refusal in
-      subst (λ (y : Current). Serves (append_record c.args.target c.args.bytes.now) old x c.fill.new.store y []
+      subst (λ (y : Current). Executes (append_record c.args.target c.args.bytes.now) old x c.fill.new.store y []
       (Ok DONE)) (sym c.pointing.ensures)
       (appended-done old c.find_records.new.store c.fill.new.store c.requires.kept.ready c.requires.kept.card x
       c.requires.kept.current c.find_records.ensures.store.only c.args.target c.args.bytes.now c.in_ok-file.file

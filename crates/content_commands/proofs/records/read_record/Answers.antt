@@ -27,7 +27,7 @@ use Rattle.card_model.specs.Behaviours.{refused, outcome}
 use Rattle.content_commands.proofs.RecordBodies.{slot-few, slot-long}
 use Rattle.content_commands.proofs.RecordSteps.{choice-barred, choice-gone, chosen-body, chosen-has, current-is}
 use Rattle.content_commands.proofs.RecordSteps.{declined-empty, is-chosen, read-other, IsChosen, read-refused, read-whole}
-use Rattle.command_base.specs.laws.Serves.{answered, halted, handed}
+use Rattle.command_base.specs.laws.Executes.{answered, halted, handed}
 use Rattle.command_base.specs.laws.Stopping.{reply-failed}
 use Rattle.content_commands.proofs.records.read_record.Goals as goal
 

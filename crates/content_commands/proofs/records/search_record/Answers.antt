@@ -15,7 +15,7 @@ use Rattle.command_base.specs.Working.{card_in, session_in, table_in, IsCurrent}
 use Rattle.command_base.specs.CurrentFiles.{pointer_from, pointing_from}
 use Rattle.content_commands.proofs.RecordSteps.{choice-barred, choice-gone, chosen-body, chosen-has, current-is}
 use Rattle.content_commands.proofs.RecordSteps.{declined-empty, is-chosen, search-less, search-refused, search-whole}
-use Rattle.command_base.specs.laws.Serves.{answered, halted, handed}
+use Rattle.command_base.specs.laws.Executes.{answered, halted, handed}
 use Rattle.command_base.specs.laws.Stopping.{reply-failed}
 use Rattle.content_commands.proofs.records.search_record.Goals as goal
 

@@ -3,10 +3,10 @@ use Rattle.card_state.specs.declared.status.TheConstants.Sw.{DONE}
 use Rattle.undo_journal.specs.Memory.{committed}
 use Rattle.card_model.specs.Requests.{update_record}
 use Rattle.command_base.specs.declared.current.Current.{Current}
-use Rattle.command_base.specs.declared.named.Need.{Need}
+use Rattle.command_base.specs.declared.target_file.Need.{Need}
 use Rattle.command_base.specs.declared.stop.Stop.TheVariants.{Refused}
 use Rattle.card_model.specs.RecordCommands.{pointer_after}
-use Rattle.command_base.specs.Served.{Serves}
+use Rattle.command_base.specs.Served.{Executes}
 use Rattle.command_base.specs.Working.{card_in, session_in}
 use Rattle.card_model.specs.laws.Guarding.{served-refused}
 use Rattle.content_commands.proofs.Halting.{halted-in-place}
@@ -60,7 +60,7 @@ returns g c = record {
       let choice = c.args.choice in
       let found = is-replaceable c.args.choice c.args.bytes.now c.in_ok-slot.slot c.replacing.ensures
       c.in_ok-file.ensures.told c.pointer_at-pointer.ensures c.in_ok-slot.ensures.found c.in_ok-slot.ensures.refusal in
-      subst (λ (y : Current). Serves (update_record c.args.target choice c.args.bytes.now) old x c.replace.new.store
+      subst (λ (y : Current). Executes (update_record c.args.target choice c.args.bytes.now) old x c.replace.new.store
       y []
       (Ok DONE)) (sym c.pointing.ensures)
       (replaced-done old c.find_records.new.store c.replace.new.store c.requires.kept.ready c.requires.kept.card x

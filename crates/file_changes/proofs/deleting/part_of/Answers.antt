@@ -42,11 +42,11 @@ loop-e-init g c = record {
   so_far = part_none _ _ _ c.new-part.ensures.goes c.new-part.ensures.count c.new-part.ensures.extents;
 }
 
-pub going_entry-requires-clause-ready : goal.going_entry-requires-clause-ready
-going_entry-requires-clause-ready g c = c.loop-e.invariant.ready
+pub deleted_entry-requires-clause-ready : goal.deleted_entry-requires-clause-ready
+deleted_entry-requires-clause-ready g c = c.loop-e.invariant.ready
 
-pub going_entry-requires-clause-parents : goal.going_entry-requires-clause-parents
-going_entry-requires-clause-parents g c = λ f small.
+pub deleted_entry-requires-clause-parents : goal.deleted_entry-requires-clause-parents
+deleted_entry-requires-clause-parents g c = λ f small.
     c.in_ok-parents.ensures.parents f small
     ∙ ap (λ (l : List ℕ). (entry_in (table l) f).parent)
     (c.find_end.ensures.store.only.keeps.committed_words ∙ sym c.loop-e.invariant.reads.keeps.committed_words)
@@ -85,7 +85,7 @@ loop-e-preserved g c =
     ∙ ap (λ (l : List ℕ). entry_if_gone (table l) c.args.top e) c.loop-e.invariant.reads.keeps.committed_words in
     record {
       ready = c.in_ok-entry.ensures.store.ready;
-      reads = reads_then _ _ _ c.loop-e.invariant.reads c.going_entry.ensures.store.only;
+      reads = reads_then _ _ _ c.loop-e.invariant.reads c.deleted_entry.ensures.store.only;
       few = few_more _ _ _ e c.loop-e.invariant.few c.add.ensures.extents;
       so_far = part_more t c.args.top e c.loop-e.part c.add.new.self c.in_ok-entry.entry small is
           c.add.ensures.goes c.add.ensures.count c.add.ensures.extents c.loop-e.invariant.so_far;

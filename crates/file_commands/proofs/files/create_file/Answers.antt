@@ -9,7 +9,7 @@ use Rattle.file_commands.proofs.CreateServes.{creation-taken}
 use Rattle.file_commands.proofs.CreateServes.{creation-taken-one, creation-torn}
 use Rattle.file_commands.proofs.FileSteps.{create-refusal}
 use Rattle.command_base.specs.laws.Readings.{index_still}
-use Rattle.command_base.specs.laws.Serves.{halted}
+use Rattle.command_base.specs.laws.Executes.{halted}
 use Rattle.command_base.specs.laws.Answering.{ok_anyway}
 use Rattle.command_base.specs.laws.SpaceKept.{space-same}
 use Rattle.command_base.specs.laws.Stopping.{none-failed, reply-failed}

@@ -6,14 +6,14 @@ use Rattle.card_state.specs.declared.status.Sw.{Sw}
 use Rattle.card_state.specs.declared.status.TheConstants.Sw.{DONE}
 use Rattle.card_model.specs.Requests.{delete_file}
 use Rattle.file_tree.specs.declared.entry.Entry.{Entry}
-use Rattle.command_base.specs.Served.{Serves}
+use Rattle.command_base.specs.Served.{Executes}
 use Rattle.command_base.specs.Working.{card_in, session_in}
 use Rattle.card_state.specs.declared.space.FreeSpace.{FreeSpace}
 use Rattle.command_base.specs.laws.CardLaws.{few_free}
 use Rattle.file_commands.proofs.Deletions.{any-deleting, any-stands, deleted-space, done-current, done-step}
 use Rattle.file_commands.proofs.FileSteps.{delete-refused}
 use Rattle.command_base.specs.laws.Readings.{file_kept, index_still}
-use Rattle.command_base.specs.laws.Serves.{compared-none, halted, reads-compared, torn, written}
+use Rattle.command_base.specs.laws.Executes.{compared-none, halted, reads-compared, torn, written}
 use Rattle.command_base.specs.laws.Stopping.{err-is, none-failed, reply-failed}
 use Rattle.command_base.specs.laws.Words.{went-after}
 use Rattle.command_base.specs.laws.Answering.{ok_anyway}
@@ -43,7 +43,7 @@ returns-in_err-freed-clause-serves g c =
     let went = went-after request old x new _ mid c.requires.kept.card refl (inr stage) reads
     c.delete.ensures.store.writes c.delete.ensures.by_gate in
     let compares = compared-none _ mid.facts new.facts c.delete.ensures.store.writes ∙ reads-compared old mid reads in
-    subst (λ (r : Result Sw StoreErr). Serves request old x new x [] r)
+    subst (λ (r : Result Sw StoreErr). Executes request old x new x [] r)
     (sym (err-is _ _ (reply-failed _ _ c.from_residual-in_err-freed.ensures.1)))
     (torn request old x new x [] c.in_err-freed.field-0.0 (inr stage) card reports c.in_err-freed.ensures.store.tells
     (omega arith) (omega (arith, spends, spent)) went compares)
@@ -75,7 +75,8 @@ returns-clause-serves g c =
     let current = done-current m sized c.requires.kept.card x c.args.subject c.in_ok-file.file.number
     found.below found.used found.place (committed mid) (committed new) same c.requires.kept.current.marks
     c.in_ok-freed.ensures.done in
-    subst (λ (y : Entry). Serves request old x new (record x { df = y.parent; ef = None; pointer = None }) [] (Ok DONE))
+    subst (λ (y : Entry). Executes request old x new (record x { df = y.parent; ef = None; pointer = None }) [] (Ok
+    DONE))
     (sym found.entry_is)
     (written request old x new (λ _. tt) _ [] DONE (inr stage) card reports c.in_ok-freed.ensures.store.ready current
     (λ never. absurd (true≢false never)) (omega arith) (omega (arith, spends, spent)) went compares done)

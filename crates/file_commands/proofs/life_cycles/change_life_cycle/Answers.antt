@@ -2,10 +2,10 @@ use Rattle.std.proofs.Common.{[], Ok, refl, sym, subst}
 use Rattle.card_state.specs.declared.status.TheConstants.Sw.{DONE}
 use Rattle.card_model.specs.Requests.{change_life_cycle}
 use Rattle.command_base.specs.declared.current.Current.{Current}
-use Rattle.command_base.specs.Served.{Serves}
+use Rattle.command_base.specs.Served.{Executes}
 use Rattle.command_base.specs.Working.{card_in, session_in}
 use Rattle.file_commands.proofs.LifeServes.{change-torn, change-made, change-refused, change-space}
-use Rattle.command_base.specs.laws.Serves.{halted}
+use Rattle.command_base.specs.laws.Executes.{halted}
 use Rattle.command_base.specs.laws.SpaceKept.{space-same}
 use Rattle.command_base.specs.laws.Answering.{ok_anyway}
 use Rattle.command_base.specs.laws.Stopping.{none-failed, reply-failed}
@@ -20,7 +20,7 @@ returns g c = record {
       let mid = c.find_change.new.store in
       let new = c.set_life_cycle.new.store in
       let found = c.in_ok-changed.ensures.told in
-      subst (λ (y : Current). Serves (change_life_cycle c.args.change c.args.subject) old x new y [] (Ok DONE))
+      subst (λ (y : Current). Executes (change_life_cycle c.args.change c.args.subject) old x new y [] (Ok DONE))
       (sym c.at.ensures)
       (change-made old mid new c.requires.kept.ready c.requires.kept.card x
       c.requires.kept.current c.args.change c.args.subject c.in_ok-changed.changed found

@@ -11,7 +11,7 @@ use Rattle.command_base.specs.Working.{session_of}
 use Rattle.command_base.specs.laws.Readings.{entry_still, kept_still, used_still}
 use Rattle.card_model.specs.Requests.{terminate_card_usage}
 use Rattle.file_commands.proofs.Ending.{end-made, end-refused, end-torn}
-use Rattle.command_base.specs.laws.Serves.{declined, handed}
+use Rattle.command_base.specs.laws.Executes.{declined, handed}
 use Rattle.command_base.specs.laws.Stopping.{reply-failed}
 use Rattle.file_commands.proofs.life_cycles.terminate_card_usage.Goals as goal
 

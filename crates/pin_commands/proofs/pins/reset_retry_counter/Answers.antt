@@ -2,17 +2,17 @@ use Rattle.std.proofs.Common.{Ok, ◌≤◌, ◌+◌, ◌-◌, ℕ, List, [], Op
 use Rattle.pin_store.specs.laws.Tries.{reset_ends}
 use Rattle.card_model.specs.Requests.{reset_retry_counter}
 use Rattle.apdu_core.specs.declared.pins.Replacement.{Replacement}
-use Rattle.command_base.specs.Served.{Serves}
+use Rattle.command_base.specs.Served.{Executes}
 use Rattle.pin_commands.proofs.Attempts.{asks-unblocking, charge-stopped, end-made, end-torn, question-answered, resets}
 use Rattle.command_base.specs.Stops.{reply}
-use Rattle.command_base.specs.laws.Serves.{handed}
+use Rattle.command_base.specs.laws.Executes.{handed}
 use Rattle.command_base.specs.laws.Stopping.{reply-failed}
 use Rattle.pin_commands.proofs.pins.reset_retry_counter.Goals as goal
 
 pub returns-in_default : goal.returns-in_default
 returns-in_default g c =
     let none = ap (option_map (λ (values : Replacement). (values.shown.now, values.new.now))) c.in_default.is in
-    subst (λ (values : Option (List ℕ × List ℕ)). Serves (reset_retry_counter c.args.pin values) c.args.store.now
+    subst (λ (values : Option (List ℕ × List ℕ)). Executes (reset_retry_counter c.args.pin values) c.args.store.now
     c.args.current.now c.query_tries.new.store c.args.current.now [] (Ok c.in_ok-query_tries.field-0)) (sym none)
     (question-answered _ c.args.pin (8 + (c.args.pin - 1)) (asks-unblocking c.args.pin
     c.unblocking_value_of-secret.ensures.in_range) c.args.store.now
@@ -34,7 +34,7 @@ query_tries-requires-clause-pages g c = c.requires.kept.card.pins
 pub returns-in_err-charged : goal.returns-in_err-charged
 returns-in_err-charged g c =
     let some = ap (option_map (λ (values : Replacement). (values.shown.now, values.new.now))) c.in-Some.is in
-    subst (λ (shown : Option (List ℕ × List ℕ)). Serves
+    subst (λ (shown : Option (List ℕ × List ℕ)). Executes
     (reset_retry_counter c.args.pin shown) c.args.store.now c.args.current.now
     c.use_up_try.new.store c.args.current.now [] (reply c.from_residual-in_err-charged.result)) (sym some)
     (charge-stopped _ _ (resets c.args.pin c.unblocking_value_of-secret.ensures.in_range c.in-Some.values.shown.now
@@ -52,7 +52,7 @@ pub returns-in_err-outcome : goal.returns-in_err-outcome
 returns-in_err-outcome g c =
     let large : 8 ≤ 8 + (c.args.pin - 1) = omega arith in
     let some = ap (option_map (λ (values : Replacement). (values.shown.now, values.new.now))) c.in-Some.is in
-    subst (λ (shown : Option (List ℕ × List ℕ)). Serves
+    subst (λ (shown : Option (List ℕ × List ℕ)). Executes
     (reset_retry_counter c.args.pin shown) c.args.store.now c.args.current.now
     c.reset_counter.new.store c.args.current.now [] (reply c.from_residual-in_err-outcome.result)) (sym some)
     (end-torn _ _ (resets c.args.pin c.unblocking_value_of-secret.ensures.in_range c.in-Some.values.shown.now
@@ -72,7 +72,7 @@ pub returns : goal.returns
 returns g c =
     let large : 8 ≤ 8 + (c.args.pin - 1) = omega arith in
     let some = ap (option_map (λ (values : Replacement). (values.shown.now, values.new.now))) c.in-Some.is in
-    subst (λ (shown : Option (List ℕ × List ℕ)). Serves
+    subst (λ (shown : Option (List ℕ × List ℕ)). Executes
     (reset_retry_counter c.args.pin shown) c.args.store.now c.args.current.now
     c.reset_counter.new.store c.end_attempt.new.current [] (Ok c.end_attempt.result)) (sym some)
     (end-made _ _ (resets c.args.pin c.unblocking_value_of-secret.ensures.in_range c.in-Some.values.shown.now

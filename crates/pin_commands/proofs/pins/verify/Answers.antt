@@ -1,17 +1,17 @@
 use Rattle.std.proofs.Common.{Ok, ◌<◌, ◌-◌, ℕ, List, [], Option, option_map, refl, sym, ap, subst, Bor, arith}
 use Rattle.pin_store.specs.laws.Tries.{verified_ends}
 use Rattle.card_model.specs.Requests.{verify}
-use Rattle.command_base.specs.Served.{Serves}
+use Rattle.command_base.specs.Served.{Executes}
 use Rattle.pin_commands.proofs.Attempts.{asks-value, charge-stopped, end-made, end-torn, question-answered, verifies}
 use Rattle.command_base.specs.Stops.{reply}
-use Rattle.command_base.specs.laws.Serves.{handed}
+use Rattle.command_base.specs.laws.Executes.{handed}
 use Rattle.command_base.specs.laws.Stopping.{reply-failed}
 use Rattle.pin_commands.proofs.pins.verify.Goals as goal
 
 pub returns-in_default : goal.returns-in_default
 returns-in_default g c =
     let none = ap (option_map (λ (value : Bor (List ℕ)). value.now)) c.in_default.is in
-    subst (λ (shown : Option (List ℕ)). Serves (verify c.args.pin shown) c.args.store.now c.args.current.now
+    subst (λ (shown : Option (List ℕ)). Executes (verify c.args.pin shown) c.args.store.now c.args.current.now
     c.query_tries.new.store c.args.current.now [] (Ok c.in_ok-query_tries.field-0)) (sym none)
     (question-answered _ c.args.pin (c.args.pin - 1) (asks-value c.args.pin c.value_of-secret.ensures.in_range)
     c.args.store.now
@@ -32,7 +32,7 @@ query_tries-requires-clause-pages g c = c.requires.kept.card.pins
 pub returns-in_err-charged : goal.returns-in_err-charged
 returns-in_err-charged g c =
     let some = ap (option_map (λ (value : Bor (List ℕ)). value.now)) c.in-Some.is in
-    subst (λ (shown : Option (List ℕ)). Serves (verify c.args.pin shown) c.args.store.now c.args.current.now
+    subst (λ (shown : Option (List ℕ)). Executes (verify c.args.pin shown) c.args.store.now c.args.current.now
     c.use_up_try.new.store c.args.current.now [] (reply c.from_residual-in_err-charged.result)) (sym some)
     (charge-stopped _ _ (verifies c.args.pin c.value_of-secret.ensures.in_range c.in-Some.shown.now) 1 refl
     c.args.store.now
@@ -50,7 +50,7 @@ returns-in_err-outcome g c =
     let last = c.value_of-secret.ensures.in_range.last in
     let small : c.args.pin - 1 < 8 = omega (arith, first, last) in
     let some = ap (option_map (λ (value : Bor (List ℕ)). value.now)) c.in-Some.is in
-    subst (λ (shown : Option (List ℕ)). Serves (verify c.args.pin shown) c.args.store.now c.args.current.now
+    subst (λ (shown : Option (List ℕ)). Executes (verify c.args.pin shown) c.args.store.now c.args.current.now
     c.settle.new.store c.args.current.now [] (reply c.from_residual-in_err-outcome.result)) (sym some)
     (end-torn _ _ (verifies c.args.pin c.value_of-secret.ensures.in_range c.in-Some.shown.now) 1 refl
     c.args.store.now c.args.current.now
@@ -70,7 +70,7 @@ returns g c =
     let last = c.value_of-secret.ensures.in_range.last in
     let small : c.args.pin - 1 < 8 = omega (arith, first, last) in
     let some = ap (option_map (λ (value : Bor (List ℕ)). value.now)) c.in-Some.is in
-    subst (λ (shown : Option (List ℕ)). Serves (verify c.args.pin shown) c.args.store.now c.args.current.now
+    subst (λ (shown : Option (List ℕ)). Executes (verify c.args.pin shown) c.args.store.now c.args.current.now
     c.settle.new.store c.end_attempt.new.current [] (Ok c.end_attempt.result)) (sym some)
     (end-made _ _ (verifies c.args.pin c.value_of-secret.ensures.in_range c.in-Some.shown.now) 1 refl
     c.args.store.now c.args.current.now

@@ -13,7 +13,7 @@ use Rattle.card_model.specs.Requests.{select}
 use Rattle.apdu_core.specs.ParsedCommands.{selection_of}
 use Rattle.command_base.specs.declared.current.Current.{Current}
 use Rattle.card_model.specs.SelectCommand.{selection_status}
-use Rattle.command_base.specs.Served.{Serves}
+use Rattle.command_base.specs.Served.{Executes}
 use Rattle.command_base.specs.Standing.{card_of}
 use Rattle.command_base.specs.Working.{session_of, IsCurrent}
 use Rattle.command_base.specs.CurrentFiles.{current_by}
@@ -22,7 +22,7 @@ use Rattle.card_model.specs.Behaviours.{outcome}
 use Rattle.card_model.specs.Guards.{IsGiven}
 use Rattle.command_base.specs.laws.Entries.{current-entry, select-entry, select-entry-less}
 use Rattle.card_model.specs.laws.SelectSteps.{select-missed}
-use Rattle.command_base.specs.laws.Serves.{answered, declined, halted, handed}
+use Rattle.command_base.specs.laws.Executes.{answered, declined, halted, handed}
 use Rattle.command_base.specs.laws.Stopping.{reply-failed}
 use Rattle.command_base.specs.laws.Told.{told-entry}
 use Rattle.select_command.proofs.select.select_file.Goals as goal
@@ -35,7 +35,7 @@ returns-in_default g c =
     let t = table m in
     let s = session_of t x in
     let request = select (selection_of c.args.selector) c.args.returned c.args.expected in
-    subst (λ (l : List ℕ). Serves request old x c.find_selected.new.store x l (Ok FILE_NOT_FOUND))
+    subst (λ (l : List ℕ). Executes request old x c.find_selected.new.store x l (Ok FILE_NOT_FOUND))
     (sym c.requires.empty) (declined request old x c.find_selected.new.store (λ _. tt) c.requires.kept.card
     FILE_NOT_FOUND c.find_selected.ensures.found.store.only
     c.in_ok-e.ensures.found.store.ready c.requires.kept.current

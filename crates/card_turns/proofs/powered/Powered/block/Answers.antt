@@ -8,7 +8,8 @@ use Rattle.t1_link.specs.CardTable.{replies, runs}
 use Rattle.command_base.specs.Comparing.{comparisons, ComparesAsked}
 use Rattle.card_start.specs.Running.{card_found}
 use Rattle.command_base.specs.laws.CompareLaws.{asked-none}
-use Rattle.bench_turns.specs.CardBlocks.{BlockChangesNothing, BlockCompares, BlockStands, FailsAt, IsBlockStage, IsCutAt}
+use Rattle.bench_turns.specs.CardBlocks.{BlockChangesNothing, BlockCompares, BlockStands, BlockFails, IsBlockStage}
+use Rattle.bench_turns.specs.CardBlocks.{BlockIsCut}
 use Rattle.bench_turns.specs.CardBlocks.{Powered, Replies}
 use Rattle.bench_turns.proofs.BlockRuns.{cut-at, of-run, run-replies}
 use Rattle.bench_turns.proofs.CardStates.{on_err, works_if_cut}
@@ -51,8 +52,8 @@ returns-in_err-command-in-Run-clause-lost g c =
     let got = c.args.got.now in
     let out = c.take.new.out in
     let waits = ap (λ (e : CardLink). e.waiting) (sym c.take.ensures.state) ∙ c.command.ensures in
-    let cut : c.args.self.now.card.state ≢ Dark → IsCutAt c.args.self.now got new out =
-    subst (λ (p : Powered). p.card.state ≢ Dark → IsCutAt p got new out) c.self.view_is
+    let cut : c.args.self.now.card.state ≢ Dark → BlockIsCut c.args.self.now got new out =
+    subst (λ (p : Powered). p.card.state ≢ Dark → BlockIsCut p got new out) c.self.view_is
     (λ lit.
     let works : old.card.state ≡ Working = works_if_cut _ _ lit c.in_err-command-in-Run.ensures.failed (λ f. cc) in
     cut-at old new got c.command.result.now c.command-in-Run.new.answer.items out waits c.take.ensures.block
@@ -117,7 +118,7 @@ returns-in_ok-command-in-Run-clause-replies g c =
     let taken = ap (λ (e : CardLink). e.link) c.take.ensures.state in
     let link = ap (λ (e : CardLink). e.link) c.answer.ensures.state ∙ ap (λ (l : Link). (answers l bytes).link) taken in
     let block = c.answer.ensures.block ∙ ap (λ (l : Link). reply_bytes (answers l bytes).reaction) taken in
-    subst (λ (p : Powered). p.card.state ≡ Working → Replies p got new out ⊎ FailsAt p got new out) c.self.view_is
+    subst (λ (p : Powered). p.card.state ≡ Working → Replies p got new out ⊎ BlockFails p got new out) c.self.view_is
     (λ works. run-replies old new got c.command.result.now bytes out waits link block
     (c.in_ok-command-in-Run.ensures.done works))
 

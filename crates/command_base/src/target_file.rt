@@ -1,0 +1,170 @@
+//! The elementary file of a command on contents (ISO/IEC 7816-4, 7.3.1), and the refusals by that file.
+ghost use Rattle.std.specs.Prelude.{◌≡◌, Some, option_map, IfOk, IfSome};
+ghost use Rattle.std.specs.Result.{result_err};
+ghost use Rattle.undo_journal.specs.StoreCalls.{Learns};
+ghost use Rattle.undo_journal.specs.Memory.{committed};
+ghost use Rattle.card_model.specs.Requests.{IsTarget};
+ghost use Rattle.card_state.specs.FileLives.{is_barred};
+ghost use Rattle.file_tree.specs.Table.{entry_in, path_of, IsUsed};
+ghost use Rattle.card_model.specs.Guards.{file_refusals, missing as missing_status, allowed};
+ghost use Rattle.card_model.specs.Behaviours.{refused_by};
+ghost use Rattle.card_model.specs.Reaching.{target_of};
+ghost use Rattle.command_base.specs.Stops.{Checks, Looks};
+ghost use Rattle.command_base.specs.Working.{card_in, session_in, table_in, IsElementary, IsKept};
+ghost use Rattle.command_base.specs.NamedFiles.{file_refusal, fits, fits_kind, IsNamed};
+
+use crate::access::allows;
+use crate::current::Current;
+use crate::stop::Stop;
+use apdu_core::{Sw, Target};
+use card_state::AccessBit;
+use file_lookup::{find_short, is_barred_at, read_entry};
+use file_tree::{Entry, EntryKind};
+use undo_journal::{Board, Store, StoreErr};
+
+/// The structures that a command accepts.
+#[derive(Clone, Copy)]
+pub enum Structure {
+    /// A transparent file.
+    Bytes,
+    /// A linear or a cyclic file.
+    Records,
+    /// A linear file: its records are in the order of their numbers.
+    Linear,
+    /// A cyclic file: its newest record is the first.
+    Cyclic,
+}
+
+/// What a command needs: a structure, and an operation.
+#[derive(Clone, Copy)]
+pub struct Need {
+    pub structure: Structure,
+    pub bit: AccessBit,
+}
+
+/// An elementary file: its entry and the number of the entry.
+#[derive(Clone, Copy)]
+pub struct TargetFile {
+    pub number: u8,
+    pub entry: Entry,
+}
+
+/// Returns the file that a command on contents names, or the refusal.
+/// The refusals in order: there is no such file; it is barred; its structure doesn't fit; its rule forbids the command.
+#[tactic(auto, using(undo_journal::specs::laws::Calls::reads_then))]
+pub fn find_file<B: Board>(
+    store: &mut Store<B>,
+    current: &Current,
+    target: Target,
+    need: Need,
+) -> Result<TargetFile, Stop>
+    requires kept { IsKept store.old current.now }
+    requires target { IsTarget target }
+    ensures { Looks store.old store.new result
+        (λ file. IsNamed (committed store.old) current.now target need file.number file.entry)
+        (λ refusal. refused_by (file_refusals (card_in store.old) (session_in store.old current.now) target
+        (fits need.structure) need.bit) ≡ Some refusal) }
+{
+    let Some(number) = find_target(store, current, target)? else {
+        return Err(Stop::Refused(missing(target)));
+    };
+    let entry = read_entry(store, number)?;
+    let file = TargetFile { number, entry };
+    check_file(store, current, &file, need)?;
+    Ok(file)
+}
+
+/// Refuses a command if the file that it names requires so.
+#[tactic(auto, using(undo_journal::specs::laws::Calls::reads_then))]
+fn check_file<B: Board>(
+    store: &mut Store<B>,
+    current: &Current,
+    file: &TargetFile,
+    need: Need,
+) -> Result<(), Stop>
+    requires kept { IsKept store.old current.now }
+    requires used { IsUsed (table_in store.old) file.now.number }
+    requires entry { file.now.entry ≡ entry_in (table_in store.old) file.now.number }
+    ensures { Checks store.old store.new (file_refusal
+        (is_barred (card_in store.old).tree (path_of (table_in store.old) file.now.number))
+        (fits_kind need.structure file.now.entry.kind) (allowed (card_in store.old) (session_in store.old current.now)
+        (path_of (table_in store.old) file.now.number) need.bit)) result }
+{
+    let findings = Findings {
+        barred: is_barred_at(store, file.number, &file.entry)?,
+        fits: need.structure.fits(&file.entry),
+        allowed: allows(store, current, file, need.bit)?,
+    };
+    findings.check()?;
+    Ok(())
+}
+
+/// The findings about a file that may refuse a command.
+#[derive(Clone, Copy)]
+pub struct Findings {
+    pub barred: bool,
+    pub fits: bool,
+    pub allowed: bool,
+}
+
+impl Findings {
+    /// Returns the refusal of a command, if one is due.
+    pub fn check(self) -> Result<(), Sw>
+        ensures { result_err result ≡ file_refusal self.barred self.fits self.allowed }
+    {
+        if self.barred {
+            Err(Sw::CONDITIONS_NOT_SATISFIED)
+        } else if !self.fits {
+            Err(Sw::WRONG_STRUCTURE)
+        } else if !self.allowed {
+            Err(Sw::ACCESS_DENIED)
+        } else {
+            Ok(())
+        }
+    }
+}
+
+impl Structure {
+    /// Returns true if the file of this entry has this structure.
+    fn fits(self, entry: &Entry) -> bool
+        ensures { result ≡ fits_kind self entry.now.kind }
+    {
+        match self {
+            Structure::Bytes => entry.has_kind(EntryKind::Transparent),
+            Structure::Records => {
+                entry.has_kind(EntryKind::Linear) || entry.has_kind(EntryKind::Cyclic)
+            }
+            Structure::Linear => entry.has_kind(EntryKind::Linear),
+            Structure::Cyclic => entry.has_kind(EntryKind::Cyclic),
+        }
+    }
+}
+
+/// Returns the entry number of the elementary file that a command names.
+pub(crate) fn find_target<B: Board>(
+    store: &mut Store<B>,
+    current: &Current,
+    target: Target,
+) -> Result<Option<u8>, StoreErr>
+    requires kept { IsKept store.old current.now }
+    requires target { IsTarget target }
+    ensures found { Learns store.old store.new result
+        (λ found. target_of (card_in store.old).tree (session_in store.old current.now) target
+        ≡ option_map (path_of (table_in store.old)) found) }
+    ensures child { IfOk result (λ found. IfSome found (IsElementary (table_in store.old) current.now.df)) }
+{
+    match target {
+        Target::Current => Ok(current.ef),
+        Target::Short(short) => find_short(store, current.df, short),
+    }
+}
+
+/// Returns the status word for a target that names no elementary file.
+pub(crate) fn missing(target: Target) -> Sw
+    ensures { result ≡ missing_status target }
+{
+    match target {
+        Target::Current => Sw::NO_CURRENT_EF,
+        Target::Short(_) => Sw::FILE_NOT_FOUND,
+    }
+}
