@@ -52,9 +52,9 @@
  * byte of each first. soffitfennel_insert makes it of the image. After each call that runs the card, the caller takes
  * the call's device writes by soffitfennel_write until none is left, and stores each in the image, in order. Only then
  * it uses the call's result. The stored image is at all times what the memory was between two device writes, so after
- * a loss of power the caller makes the card again of the image, and power-on rolls back an unfinished command. How
- * safe a stored write is, is the caller's choice: a file's survives the end of the program after pwrite, and a loss of
- * power after fdatasync.
+ * a loss of power the caller makes the card again of the image, and power-on rolls back an unfinished command. If a
+ * store fails, the caller stores no later write, and makes the card again of the image. How safe a stored write is, is
+ * the caller's choice: a file's survives the end of the program after pwrite, and a loss of power after fdatasync.
  */
 #ifndef SOFFITFENNEL_H
 #define SOFFITFENNEL_H

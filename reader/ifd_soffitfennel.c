@@ -222,7 +222,7 @@ static bool store_writes(struct slot *slot)
 /* What an outcome is to pcscd, once its writes are stored. A card that lost power is taken out, and back in later. */
 static RESPONSECODE code_of(struct slot *slot, int32_t outcome)
 {
-    slot->is_broken = !store_writes(slot) || slot->is_broken || outcome == SOFFITFENNEL_OVERRUN;
+    slot->is_broken = slot->is_broken || !store_writes(slot) || outcome == SOFFITFENNEL_OVERRUN;
     if (outcome == SOFFITFENNEL_DARK) {
         slot->has_power = false;
         slot->gone_until = time(NULL) + GONE_FOR;

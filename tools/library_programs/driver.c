@@ -2,10 +2,12 @@
 #include <dlfcn.h>
 #include <ifdhandler.h>
 #include <reader.h>
+#include <signal.h>
 #include <stdbool.h>
 #include <stdio.h>
 #include <stdlib.h>
 #include <string.h>
+#include <sys/resource.h>
 #include <unistd.h>
 
 static int passed, failed;
@@ -169,23 +171,43 @@ static void sizes(void)
     same(presence(7), IFD_NO_SUCH_DEVICE, "another reader");
 }
 
+/* A file that doesn't take the writes of VERIFY: the client gets no answer, and the card stays out. */
+static void full_file(DWORD lun)
+{
+    struct rlimit all, none = {0, 0};
+
+    getrlimit(RLIMIT_FSIZE, &all);
+    none.rlim_max = all.rlim_max;
+    signal(SIGXFSZ, SIG_IGN);
+    setrlimit(RLIMIT_FSIZE, &none);
+    ask(lun, "002000010831323334FFFFFFFF", IFD_COMMUNICATION_ERROR, "");
+    setrlimit(RLIMIT_FSIZE, &all);
+    same(presence(lun), IFD_ICC_NOT_PRESENT, "a card whose file failed is out");
+    ask(lun, "00B0820004", IFD_COMMUNICATION_ERROR, "");
+    same(presence(lun), IFD_ICC_NOT_PRESENT, "a card whose file failed stays out");
+}
+
 static void readers(const char *folder, char *path)
 {
-    char name[16];
+    char name[16], *last = path;
 
     same(create(1, path), IFD_COMMUNICATION_ERROR, "a file of two readers");
     same(create(1, file_of(folder, "short", 65535)), IFD_COMMUNICATION_ERROR, "a file that is short");
     same(create(1, file_of(folder, "blank", 65536)), IFD_COMMUNICATION_ERROR, "a file without a card");
     for (DWORD lun = 1; lun < 4; lun++) {
         sprintf(name, "card%lu", (unsigned long)lun);
-        same(create(lun, file_of(folder, name, 0)), IFD_SUCCESS, "a further reader");
+        same(create(lun, last = file_of(folder, name, 0)), IFD_SUCCESS, "a further reader");
         start(lun, IFD_SUCCESS);
     }
     same(create(4, file_of(folder, "card4", 0)), IFD_COMMUNICATION_ERROR, "a fifth reader");
     ask(2, "00A4000C022FE2", IFD_SUCCESS, "9000");
     ask(2, "00B0000004", IFD_SUCCESS, "981032549000");
+    full_file(3);
     for (DWORD lun = 0; lun < 4; lun++)
         same(end(lun), IFD_SUCCESS, "the reader ends");
+    same(create(3, last), IFD_SUCCESS, "a file that failed has a card");
+    start(3, IFD_SUCCESS);
+    same(end(3), IFD_SUCCESS, "the reader ends");
 }
 
 int main(int argc, char **argv)

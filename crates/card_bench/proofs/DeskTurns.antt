@@ -55,35 +55,35 @@ pub turn-taken : (r : TurnResult) (answer block : List ℕ) (taken : Turn) (old 
     → TellsItem r block (λ i. GoodTurn old.bench taken i new.bench) → TellsItem r block (λ i. prints ≡ shown i)
     → new.reader ≡ reader_there started reader → new.line ≡ old.line → TakesTurn taken old new prints
 turn-taken turned.Atr answer block taken old new prints started reader said fresh good printed there line = record {
-  came = Atr;
+  outcome = Atr;
   turn = good;
   reader = there ∙ ap (λ (b : Bool). reader_there b reader) said ∙ ap (λ (r : Reader). Some r) fresh;
   line = line;
   printed = printed;
 }
 turn-taken turned.Quiet answer block taken old new prints started reader said fresh good printed there line = record {
-  came = Quiet;
+  outcome = Quiet;
   turn = good;
   reader = there ∙ ap (λ (b : Bool). reader_there b reader) said;
   line = line;
   printed = printed;
 }
 turn-taken turned.Mute answer block taken old new prints started reader said fresh good printed there line = record {
-  came = Mute;
+  outcome = Mute;
   turn = good;
   reader = there ∙ ap (λ (b : Bool). reader_there b reader) said;
   line = line;
   printed = printed;
 }
 turn-taken turned.Dark answer block taken old new prints started reader said fresh good printed there line = record {
-  came = Dark;
+  outcome = Dark;
   turn = good;
   reader = there ∙ ap (λ (b : Bool). reader_there b reader) said;
   line = line;
   printed = printed;
 }
 turn-taken turned.Reply answer block taken old new prints started reader said fresh good printed there line = record {
-  came = Reply block;
+  outcome = Reply block;
   turn = good;
   reader = there ∙ ap (λ (b : Bool). reader_there b reader) said;
   line = line;

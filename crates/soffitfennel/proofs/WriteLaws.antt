@@ -65,8 +65,8 @@ logs_at was inside now log board viewed follower facts count untaken = record {
 
 pub loses_at : (was inside now : SessionState) (log : WriteLog) (board : KeptBoard WriteLog) → inside ≡ was
     → log ≡ board.follower → kept_facts board ≡ bench_facts now.desk.bench
-    → (length log.writes.items < fresh_count inside.count log.count) ⊎ (inside.room < fresh_count inside.count log.count)
-    → LosesWrites was.count was.room now
+    → (length log.writes.items < fresh_count inside.count log.count)
+    ⊎ (inside.room < fresh_count inside.count log.count) → LosesWrites was.count was.room now
 loses_at was inside now log board viewed follower facts many = record {
   board = board;
   facts = facts;

@@ -6,8 +6,8 @@ use Rattle.card_bench.specs.Exchanges.{Desk}
 use Rattle.script_output.specs.Printouts.{Print, prints_nothing}
 use Rattle.card_bench.specs.Prints.{desk_of}
 
--- the desk, the output of its last order, the writes of that order that the caller has not taken, how many of them there
--- is room for, and the log's count of writes
+-- the desk, the output of its last order, the writes of that order that the caller has not taken, how many of them
+-- there is room for, and the log's count of writes
 pub record SessionState : Type 0 where
   pub desk : Desk
   pub prints : Print

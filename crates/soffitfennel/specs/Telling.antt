@@ -54,7 +54,8 @@ print_outcome (prints_free free) = outcome.Done
 abbrev pub told_print : Told → Print
 told_print told = print_of told.came told.bytes.items told.bytes.items
 
--- The writes of an order are those that the log of the card's board has since an earlier count.
+-- The writes of an order are those that a log has since an earlier count. The log is of a board with the same facts. The
+-- desk hides its board, so no clause says that it is this one.
 pub record LogsWrites (earlier : ℕ) (now : SessionState) : Type 0 where
   pub board : KeptBoard WriteLog
   pub log : WriteLog
@@ -84,7 +85,8 @@ pub record HasUntaken (was now : SessionState) : Type 0 where
 
 -- the result of an order is the output, and its writes are logged; or writes were left; or one was lost
 abbrev pub TellsResult : Order → SessionState → SessionState → Result Told Outcome → Type 0
-TellsResult order was now (Ok told) = IsPerformed order was now × (told_print told ≡ now.prints) × LogsWrites was.count now
+TellsResult order was now (Ok told) =
+    IsPerformed order was now × (told_print told ≡ now.prints) × LogsWrites was.count now
 TellsResult order was now (Err why) = ((why ≡ outcome.Untaken) × HasUntaken was now)
     ⊎ ((why ≡ outcome.Overrun) × IsPerformed order was now × LosesWrites was.count was.room now)
 
@@ -136,7 +138,8 @@ pub record Tells (order : Order) (was now : Option SessionState) (number : ℤ) 
   pub runs : CallRuns order was now result (λ prints. Unit {0}) (Unit {0})
 
 -- a call that runs an order, and copies its bytes out
-pub record TellsBytes (order : Order) (was now : Option SessionState) (new : List ℕ) (size : ℕ) (number : ℤ) : Type 0 where
+pub record TellsBytes (order : Order) (was now : Option SessionState) (new : List ℕ) (size : ℕ) (number : ℤ)
+    : Type 0 where
   pub result : Outcome
   pub number_is : number ≡ outcome_number result
   pub runs : CallRuns order was now result (Copies new size) (size ≡ 0)

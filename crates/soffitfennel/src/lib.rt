@@ -13,9 +13,9 @@ ghost use Rattle.bench_lines.specs.OrderViews.{order_with};
 ghost use Rattle.command_base.specs.Finding.{HasCard};
 ghost use Rattle.simulated_boards.specs.Cut.{cut_facts};
 ghost use Rattle.soffitfennel.specs.SessionStates.{begun_at};
-ghost use Rattle.soffitfennel.specs.Telling.{AnswersOrder, FitsCall, IsFactoryFresh, ReadsWords, RefusesCall, RefusesWords};
-ghost use Rattle.soffitfennel.specs.Telling.{ReturnsSpace, TakesFrom, TakesWrite, Tells, TellsBytes, TellsWords};
-ghost use Rattle.soffitfennel.specs.Telling.{inserted, outcome_number};
+ghost use Rattle.soffitfennel.specs.Telling.{AnswersOrder, FitsCall, IsFactoryFresh, ReadsWords, RefusesCall};
+ghost use Rattle.soffitfennel.specs.Telling.{RefusesWords, ReturnsSpace, TakesFrom, TakesWrite, Tells};
+ghost use Rattle.soffitfennel.specs.Telling.{TellsBytes, TellsWords, inserted, outcome_number};
 ghost use Rattle.soffitfennel.specs.LoggedWrites.{log_room};
 ghost use Rattle.soffitfennel.specs.declared.write.TheConstants.{WRITE_BYTES};
 

@@ -1,7 +1,8 @@
 //! The log of a board's device writes, from which each call's are copied.
-ghost use Rattle.std.specs.Prelude.{◌≡◌, ◌≤◌, ◌<◌, ◌+◌, ◌++◌, ◌∷◌, ◌⊎◌, [], Bool, IsTrue, IfOk, length};
+ghost use Rattle.std.specs.Prelude.{◌≡◌, ◌≤◌, ◌<◌, ◌+◌, ◌*◌, ◌++◌, ◌∷◌, ◌⊎◌, [], Bool, IsTrue, IfOk, length};
 ghost use Rattle.circular_buffer.specs.Buffer.{buffer, keep_last};
-ghost use Rattle.soffitfennel.specs.LoggedWrites.{fresh_count, log_room, writes_since};
+ghost use Rattle.nvm_board.specs.declared.board.TheConstants.{MOST_PAGES, PAGE_WORDS};
+ghost use Rattle.soffitfennel.specs.LoggedWrites.{LogsRun, fresh_count, log_room, writes_since};
 
 use crate::write::Write;
 use circular_buffer::HeapCircularBuffer;
@@ -45,7 +46,8 @@ impl WriteLog {
     fn push(&mut self, write: Write)
         ensures unkept { self.old.writes.capacity ≡ 0 → self.new ≡ self.old }
         ensures items { 0 < self.old.writes.capacity → self.new.writes
-            ≡ buffer (keep_last self.old.writes.capacity (self.old.writes.items ++ write ∷ [])) self.old.writes.capacity }
+            ≡ buffer (keep_last self.old.writes.capacity (self.old.writes.items ++ write ∷ []))
+            self.old.writes.capacity }
         ensures count { 0 < self.old.writes.capacity → fresh_count self.old.count self.new.count ≡ 1 }
     {
         if self.writes.capacity() == 0 {
@@ -78,7 +80,11 @@ impl WriteLog {
 }
 
 impl Follower for WriteLog {
-    fn take(&mut self, at: usize, words: &[u32]) -> bool {
+    fn take(&mut self, at: usize, words: &[u32]) -> bool
+        requires size { length words.now ≤ PAGE_WORDS }
+        requires within { at + length words.now ≤ PAGE_WORDS * MOST_PAGES }
+        ensures logs { LogsRun (record { at = at; words = words.now }) self.old self.new }
+    {
         self.push(Write::new(at, words));
         true
     }

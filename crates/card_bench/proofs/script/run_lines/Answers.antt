@@ -96,8 +96,14 @@ returns-in_err-answer-clause-stopped g c =
     passed_on _ c.in_err-answer.field-0.0 (λ (f : RunFault). RunStopsBy first f script left held after)
     c.from_residual.ensures.1 stops
 
-pub returns-in-Err-clause-behind : goal.returns-in-Err-clause-behind
-returns-in-Err-clause-behind g c = λ unkept.
+-- a fault that is returned is the one that is passed on
+told_on : {T E : Type 0} (r : Result T E) (e why : E) → IsErrAnd r (λ f. f ≡ e) → r ≡ Err why → e ≡ why
+told_on (Ok v) e why is told = absurd is
+told_on (Err f) e why is told = cc
+
+pub returns-in_err-answer-clause-behind : goal.returns-in_err-answer-clause-behind
+returns-in_err-answer-clause-behind g c = λ returned.
+    let unkept = ap Err (told_on _ _ _ c.from_residual.ensures.1 returned) in
     let order = order_with c.in-Some.order c.as_slice.result.now in
     let good : order_of c.read_line.new.line.items ≡ Some order =
     ap order_of (sym c.deref.ensures.0) ∙ sym c.in-Some.ensures
@@ -105,12 +111,12 @@ returns-in-Err-clause-behind g c = λ unkept.
     let script = g.R.Read.remaining c.args.reader.now in
     let left = g.R.Read.remaining c.read_line.new.reader in
     let held = g.W.Write.contents c.args.writer.now in
-    let behind = c.in-Err.ensures.behind unkept in
-    let loud = speaks c.perform.new.self.prints c.in-Err.ensures.speaks in (
+    let behind = c.in_err-answer.ensures.behind unkept in
+    let loud = speaks c.perform.new.self.prints c.in_err-answer.ensures.speaks in (
       behind.0,
       behind.2,
       subst (λ (w : Option (List ℕ)). StopsUnkept c.args.desk.now.desk (g.B.Board.facts behind.0) script left held w)
-          (sym (c.in-Err.ensures.unkept unkept))
+          (sym (c.in_err-answer.ensures.unkept unkept))
           (is_unanswered_by _ _ _ _ _ _ _ _ _ c.in-Ok.end _ _ _ _ _ _ behind.1 c.loop-number.invariant.so_far
           c.in-Ok.ensures.line c.in-Ok.ensures.counted c.read_line.ensures.taken good c.perform.ensures.performs
           c.perform.ensures.good loud),

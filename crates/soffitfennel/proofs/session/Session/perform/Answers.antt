@@ -10,7 +10,8 @@ use Rattle.soffitfennel.proofs.session.Session.perform.Goals as goal
 pub returns-then-not-collect : goal.returns-then-not-collect
 returns-then-not-collect c =
     let none : length c.self.inside.untaken.items ≡ 0 = search (rules, arith) in
-    let runs = subst (λ (was : SessionState). IsPerformed (order_with c.args.order c.args.given.now) was c.collect.new.self)
+    let runs = subst
+    (λ (was : SessionState). IsPerformed (order_with c.args.order c.args.given.now) was c.collect.new.self)
     c.self.view_is (performed _ _ c.collect.new.self _ _ (ap (map run_of) (nil_from_length _ none))
     c.perform.ensures.performs c.perform.ensures.good c.collect.ensures.desk c.collect.ensures.prints
     c.collect.ensures.room) in
@@ -21,7 +22,8 @@ returns-then-not-collect c =
 pub returns : goal.returns
 returns c =
     let none : length c.self.inside.untaken.items ≡ 0 = search rules in
-    let runs = subst (λ (was : SessionState). IsPerformed (order_with c.args.order c.args.given.now) was c.collect.new.self)
+    let runs = subst
+    (λ (was : SessionState). IsPerformed (order_with c.args.order c.args.given.now) was c.collect.new.self)
     c.self.view_is (performed _ _ c.collect.new.self _ _ (ap (map run_of) (nil_from_length _ none))
     c.perform.ensures.performs c.perform.ensures.good c.collect.ensures.desk c.collect.ensures.prints
     c.collect.ensures.room) in
