@@ -233,7 +233,7 @@ slot-long m slot sized is =
     let to = slot.to_last in
     let there : slot.number - 1 < number = omega (arith, few, most, first, told, from, to) in
     let place = (start + (slot.number - 1)) % ring.capacity in
-    let small : place < ring.capacity = mod-lt (omega (arith, room)) in
+    let small : place < ring.capacity = mod-lt (start + (slot.number - 1)) (omega (arith, room)) in
     let long = length-bytes_of m (chain_of m ring.chain) sized
     (leads_blocks m ring.chain.first 0 (chain_of m ring.chain) is.slots.chain.leads) in
     let within = slot-within size place ring.capacity small in

@@ -1,6 +1,6 @@
 -- What CREATE FILE leaves, where nothing refuses the template:
 -- first it only reads, then it creates the file.
-use Rattle.std.proofs.Common.{◌≡◌, ◌⊎◌, ◌≤◌, ◌-◌, ℕ, List, [], Some, None, Result, Ok, refl, sym, ◌∙◌, ap}
+use Rattle.std.proofs.Common.{◌≡◌, ◌⊎◌, ◌≤◌, ◌-◌, ℕ, List, [], Some, None, Result, Ok, refl, sym, ◌∙◌}
 use Rattle.std.proofs.Common.{subst, arith, inr, true≢false}
 use Rattle.std.specs.Result.{IsErrAnd}
 use Rattle.nvm_board.specs.Facts.{IsMemory}

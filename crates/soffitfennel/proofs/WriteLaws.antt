@@ -1,6 +1,6 @@
 -- Writes that are copied out of a log and collected, and the bytes of a write.
 use Rattle.std.specs.Prelude.{◌≡◌, ◌≤◌, ◌<◌, ◌+◌, ◌-◌, ◌⊎◌, ◌++◌, ℕ, zero, suc, List, [], ◌∷◌, length, take, drop, map}
-use Rattle.std.specs.Prelude.{min, get_or}
+use Rattle.std.specs.Prelude.{Option, None, Some, min, get_or}
 use Rattle.std.specs.Int.{w32, to_be_bytes}
 use Rattle.std.proofs.Common.{◌∙◌, ap, arith, subst, sym}
 use Rattle.std.proofs.lemmas.List.{drop_min, flat_map_more, length-drop, take_all, take_more, take_rest}
@@ -53,27 +53,43 @@ image_more words i within = flat_map_more (to_be_bytes w32) [] (take i words) (g
 
 -- the writes that are collected from a log, by the state before and that in the session's fields
 pub logs_at : (was inside now : SessionState) (log : WriteLog) (board : KeptBoard WriteLog) → inside ≡ was
-    → log ≡ board.follower → kept_facts board ≡ bench_facts now.desk.bench → now.count ≡ log.count
+    → board.follower ≡ Some log → kept_facts board ≡ bench_facts now.desk.bench → now.count ≡ log.count
     → now.untaken ≡ map run_of (writes_since inside.count log) → LogsWrites was.count now
-logs_at was inside now log board viewed follower facts count untaken = record {
+logs_at was inside now log board viewed follows facts count untaken = record {
   board = board;
+  log = log;
   facts = facts;
-  count = count ∙ ap (λ (l : WriteLog). l.count) follower;
-  untaken = untaken ∙ ap (λ (l : WriteLog). map run_of (writes_since inside.count l)) follower
-      ∙ ap (λ (s : SessionState). map run_of (writes_since s.count board.follower)) viewed;
+  follows = follows;
+  count = count;
+  untaken = untaken ∙ ap (λ (s : SessionState). map run_of (writes_since s.count log)) viewed;
 }
 
+-- a log has lost a write since a count, or it has more than there is room for
+abbrev LosesOne : ℕ → ℕ → WriteLog → Type 0
+LosesOne earlier room log =
+    (length log.writes.items < fresh_count earlier log.count) ⊎ (room < fresh_count earlier log.count)
+
+abbrev LosesIfLogged : ℕ → ℕ → Option WriteLog → Type 0
+LosesIfLogged earlier room None = Unit {0}
+LosesIfLogged earlier room (Some log) = LosesOne earlier room log
+
 pub loses_at : (was inside now : SessionState) (log : WriteLog) (board : KeptBoard WriteLog) → inside ≡ was
-    → log ≡ board.follower → kept_facts board ≡ bench_facts now.desk.bench
-    → (length log.writes.items < fresh_count inside.count log.count)
-    ⊎ (inside.room < fresh_count inside.count log.count) → LosesWrites was.count was.room now
-loses_at was inside now log board viewed follower facts many = record {
+    → board.follower ≡ Some log → kept_facts board ≡ bench_facts now.desk.bench
+    → LosesOne inside.count inside.room log → LosesWrites was.count was.room now
+loses_at was inside now log board viewed follows facts many = record {
   board = board;
   facts = facts;
-  many = subst (λ (s : SessionState). (length board.follower.writes.items < fresh_count s.count board.follower.count)
-      ⊎ (s.room < fresh_count s.count board.follower.count)) viewed
-      (subst (λ (l : WriteLog). (length l.writes.items < fresh_count inside.count l.count)
-      ⊎ (inside.room < fresh_count inside.count l.count)) follower many);
+  many = λ other is. subst (λ (s : SessionState). LosesOne s.count s.room other) viewed
+      (subst (LosesIfLogged inside.count inside.room) (sym follows ∙ is) many);
+}
+
+-- a board without a log has none that lost a write
+pub unlogged_at : (earlier room : ℕ) (now : SessionState) (board : KeptBoard WriteLog) → board.follower ≡ None
+    → kept_facts board ≡ bench_facts now.desk.bench → LosesWrites earlier room now
+unlogged_at earlier room now board follows facts = record {
+  board = board;
+  facts = facts;
+  many = λ other is. subst (LosesIfLogged earlier room) (sym follows ∙ is) tt;
 }
 
 -- an order that the desk has run, by the state after the writes are collected

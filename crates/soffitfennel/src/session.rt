@@ -236,11 +236,11 @@ impl Session {
         let Some(log) = self.desk.board().follower() else {
             return false;
         };
-        if !log.copy_since(self.count, &mut self.untaken) {
-            return false;
+        let copied = log.copy_since(self.count, &mut self.untaken);
+        if copied {
+            self.count = log.count;
         }
-        self.count = log.count;
-        true
+        copied
     }
 
     /// Takes the oldest write that the caller has not taken.

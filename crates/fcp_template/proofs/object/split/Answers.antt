@@ -19,7 +19,7 @@ returns-in_err-object-clause-none g c =
     let test = c.loop-rest-test.true in
     let empty = c.is_empty.ensures in
     let some : 0 < length c.loop-rest.rest.now = grind (arith, nat_tests, test, empty) in
-    let none : (os : List DataObject) → c.args.bytes.now ≡ objects_text os → g.N < length os =
+    let none : (os : List DataObject) → c.args.bytes.now ≡ objects_text os → g.row.N < length os =
     λ os e. absurd (no_objects c.loop-rest.objects.items os c.loop-rest.rest.now some c.in_err-object.ensures.none
     (sym c.loop-rest.invariant ∙ e)) in
     rw c.from_residual.ensures none

@@ -22,10 +22,10 @@ reads_body text body read is (inl h) =
 reads_body text body read is (inr h) =
     inr (
       (λ os t.
-        let own = is.spelled in
-        let spelled = t.spelled in
-        let same : body ≡ objects_text os = cc in
-        h.0 os same),
+          let own = is.spelled in
+          let spelled = t.spelled in
+          let same : body ≡ objects_text os = cc in
+          h.0 os same),
       h.1,
     )
 

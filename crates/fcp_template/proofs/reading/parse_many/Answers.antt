@@ -10,10 +10,10 @@ returns-in-Some-clause-reads c =
 pub returns-in-None-clause-reads : goal.returns-in-None-clause-reads
 returns-in-None-clause-reads c = inr (
   (λ os e.
-    let many = c.in-None.ensures.none os e in
-    let long = objects_long os in
-    let size = ap (λ (bytes : List ℕ). length bytes) e in
-    let short = c.requires in
-    omega (arith, many, long, size, short)),
+      let many = c.in-None.ensures.none os e in
+      let long = objects_long os in
+      let size = ap (λ (bytes : List ℕ). length bytes) e in
+      let short = c.requires in
+      omega (arith, many, long, size, short)),
   refl,
 )

@@ -6,7 +6,8 @@ use Rattle.undo_journal.specs.Memory.{committed, current, IsReady}
 use Rattle.block_chain.specs.declared.layout.TheConstants.{BLOCK_BYTES}
 use Rattle.block_chain.specs.Chains.{HasFree, free_chain, bytes_of}
 use Rattle.block_chain.specs.ChainChanges.{IsFirstFree, OnlyContent}
-use Rattle.block_chain.specs.laws.Bytes.{blocks_take, leads_blocks}
+use Rattle.block_chain.specs.declared.chain.FreeRun.{FreeRun}
+use Rattle.block_chain.specs.laws.Bytes.{blocks_take, leads_blocks, AreBlocks}
 use Rattle.block_chain.specs.laws.Extents.{laid_has_free}
 use Rattle.block_chain.specs.laws.Footprints.{first_free_kept}
 use Rattle.file_tree.specs.declared.entry.Entry.{Entry}
@@ -31,6 +32,12 @@ filled_and_added : (m : List ℕ) (e : ℕ) (x : Entry) (n : ℕ) (between after
     → FillsAndAdds m e x n after
 filled_and_added m e x n between after only full adds =
     record { between = between; only = only; filled = full; adds = adds }
+
+-- the blocks that were filled are the first free ones of the transaction too
+first_free_in : (m after now ps : List ℕ) (n : ℕ) (run : FreeRun) → now ≡ after → AreBlocks m ps
+    → OnlyContent m ps after → free_chain after ≡ free_chain m → IsFirstFree m n run → IsFirstFree now n run
+first_free_in m after now ps n run same blocks only free found =
+    subst (λ (l : List ℕ). IsFirstFree l n run) (sym same) (first_free_kept m after ps n run blocks only free found)
 
 pub fill-requires-clause-free : goal.fill-requires-clause-free
 fill-requires-clause-free g c =
@@ -72,9 +79,8 @@ add_file-work-requires-clause-first g c = λ some.
     ap current c.begin-txn.ensures.same ∙ sym ready.same in
     let free = laid_has_free (block_count m) m (extents (table m)) c.requires.tree.blocks in
     let blocks = blocks_take m n (free_chain m) (leads_blocks m _ 0 (free_chain m) free.leads) in
-    subst (λ (l : List ℕ). IsFirstFree l n c.in_ok-run.run) (sym same)
-    (first_free_kept m (committed c.fill.new.store) (take n (free_chain m)) n c.in_ok-run.run blocks
-    c.fill.ensures.any_exit after.free (c.in_ok-run.ensures.found some))
+    first_free_in m (committed c.fill.new.store) _ (take n (free_chain m)) n _ same blocks c.fill.ensures.any_exit
+    after.free (c.in_ok-run.ensures.found some)
 
 pub returns-clause-any_exit : goal.returns-clause-any_exit
 returns-clause-any_exit g c =

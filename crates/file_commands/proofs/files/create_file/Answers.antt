@@ -12,6 +12,8 @@ use Rattle.command_base.specs.laws.Readings.{index_still}
 use Rattle.command_base.specs.laws.Executes.{halted}
 use Rattle.command_base.specs.laws.Answering.{ok_anyway}
 use Rattle.command_base.specs.laws.SpaceKept.{space-same}
+use Rattle.command_base.specs.laws.CardLaws.{card_space_is}
+use Rattle.command_base.specs.Standing.{IsCard}
 use Rattle.command_base.specs.laws.Stopping.{none-failed, reply-failed}
 use Rattle.file_commands.proofs.files.create_file.Goals as goal
 
@@ -52,8 +54,10 @@ overflow_sub-free-2 g c =
 
 pub create-requires-clause-free : goal.create-requires-clause-free
 create-requires-clause-free g c =
-    c.requires.space ∙ sym (space-same c.args.store.now c.find_new_file.new.store
-    c.find_new_file.ensures.store.only.keeps.committed_words)
+    let same = c.find_new_file.ensures.store.only.keeps.committed_words in
+    let card = subst IsCard (sym same) c.requires.kept.card in
+    c.requires.space ∙ sym (space-same c.args.store.now c.find_new_file.new.store same)
+    ∙ card_space_is (committed c.find_new_file.new.store) card
 
 pub create-requires-clause-index : goal.create-requires-clause-index
 create-requires-clause-index g c =

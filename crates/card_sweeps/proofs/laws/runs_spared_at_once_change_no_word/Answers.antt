@@ -1,5 +1,5 @@
 use Rattle.card_sweeps.proofs.SparedLemmas.{command-still, start-still}
-use Rattle.card_bench.proofs.laws.runs_spared_at_once_change_no_word.Goals as goal
+use Rattle.card_sweeps.proofs.laws.runs_spared_at_once_change_no_word.Goals as goal
 
 pub returns-clause-start : goal.returns-clause-start
 returns-clause-start c = start-still

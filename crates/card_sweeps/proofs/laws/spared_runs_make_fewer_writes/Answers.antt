@@ -1,5 +1,5 @@
 use Rattle.card_sweeps.proofs.SparedLemmas.{spared-command, spared-start}
-use Rattle.card_bench.proofs.laws.spared_runs_make_fewer_writes.Goals as goal
+use Rattle.card_sweeps.proofs.laws.spared_runs_make_fewer_writes.Goals as goal
 
 pub returns-clause-start : goal.returns-clause-start
 returns-clause-start c = spared-start
