@@ -1,27 +1,25 @@
 """Runs the program that sweeps (crates/sweep_cli) in parts, and checks that the parts belong together."""
 import json
 import re
-import signal
 import subprocess
 import sys
 from collections import Counter
 from collections.abc import Callable, Sequence
-from functools import lru_cache
 from hashlib import sha256
 from multiprocessing.pool import ThreadPool
 from pathlib import Path
+from typing import TextIO
 
 from script_lines import fault
 
 TOP = Path(__file__).resolve().parents[2]
 COMMAND, PROBE = "# command", "# probe"
-NO_LINE = re.compile(r"error line (\d+): it is no line of a script")
+
 
 class Refused(Exception):
     """Why an input can't be swept, for a person."""
 
 
-@lru_cache
 def program(*options: str) -> str:
     """The path of a program of the repository, which is built first if there is none."""
     done = subprocess.run([TOP / "tools/program", *options], stdout=subprocess.PIPE, text=True)
@@ -36,7 +34,7 @@ def ran(script: str, *words: str) -> list[str]:
     if done.returncode == 0:
         return done.stdout.splitlines()
     said = (done.stderr.splitlines() or [f"the program ended with status {done.returncode}"])[-1]
-    bad = NO_LINE.fullmatch(said)
+    bad = re.fullmatch(r"error line (\d+): it is no line of a script", said)
     why = [fault(script.split("\n")[int(bad[1]) - 1].encode("latin-1"), int(bad[1]), True)] if bad else []
     # a comment that was meant to begin a part of the script
     why += [f"line {number} is '{line}'" for number, line in enumerate(script.splitlines(), 1)
@@ -46,42 +44,40 @@ def ran(script: str, *words: str) -> list[str]:
 
 def side_by_side(jobs: int, what: str, work: Callable, tasks: Sequence) -> list:
     """The results of tasks, in order; `jobs` tasks run at a time. A terminal shows the progress."""
-    done, is_seen = [], sys.stderr.isatty()
+    results, is_seen = [], sys.stderr.isatty()
     try:
         with ThreadPool(jobs) as pool:
             for it in pool.imap(work, tasks):
-                done.append(it)
-                told = f"\r\033[Ksweep: {len(done)} of {len(tasks)} {what}"
+                results.append(it)
+                told = f"\r\033[Ksweep: {len(results)} of {len(tasks)} {what}"
                 print(told * is_seen, end="", file=sys.stderr, flush=True)
     finally:
         print("\r\033[K" * is_seen, end="", file=sys.stderr, flush=True)
-    return done
+    return results
 
 
-def show(text: str) -> None:
-    """Prints the result. A reader that closes its pipe early, as head does, ends the tool without a word."""
-    signal.signal(signal.SIGPIPE, signal.SIG_DFL)
-    print(text, flush=True)
-
-
-def sweep_part(script: str, depth: int | None, card: str | None, part: int, of: int) -> dict:
-    """One part of a sweep of the factory card, or of copies of the card in a file: what it is of, and its report."""
+def sweep_part(sweeper: str, script: str, depth: int | None, card: str | None, part: str) -> dict:
+    """Part I/N of a sweep of the factory card, or of copies of the card in a file: what it is of, and its report."""
     whole = script if depth is None else script.removesuffix("\n") + f"\n# depth {depth}"
-    words = [program("--sweep"), *(["--card", card] if card else []), f"{part}/{of}"]
-    lines = [json.loads(line) for line in ran(whole, *words)]
+    lines = ran(whole, sweeper, *(["--card", card] if card else []), part)
     # a file that changes between two parts gives them different sums
     summed = sha256(Path(card).read_bytes()).hexdigest() if card else ""
-    return {"script": whole, "card": summed, "parts": of, "part": part, "lines": lines}
+    number, of = map(int, part.split("/"))
+    return {"script": whole, "card": summed, "parts": of, "part": number, "lines": [json.loads(it) for it in lines]}
 
 
-def check_parts(parts: list[dict]) -> list[dict]:
-    """The parts, if they are of one sweep and whole, and none is missing or comes twice."""
-    of, times = parts[0]["parts"], Counter(it["part"] for it in parts)
-    wrong = [f"part {it['part']} of {of} is cut short" for it in parts if "writes" not in [{}, *it["lines"]][-1]]
-    wrong += [f"part {it} of {of} comes twice" for it in sorted(times) if times[it] > 1]
-    wrong += [f"part {it} of {of} is missing" for it in range(1, of + 1) if it not in times]
-    if any(it[key] != parts[0][key] for it in parts for key in ("script", "card", "parts")):
-        wrong = ["the parts are not of one sweep: script, card, depth or number of parts differ"]
+def read_parts(files: list[TextIO]) -> list[dict]:
+    """The parts in files. They are of one sweep and whole, and none is missing or comes twice."""
+    try:
+        parts = [json.load(it) for it in files]
+        of, times = parts[0]["parts"], Counter(it["part"] for it in parts)
+        wrong = [f"part {it['part']} of {of} is cut short" for it in parts if "writes" not in [{}, *it["lines"]][-1]]
+        wrong += [f"part {it} of {of} comes twice" for it in sorted(times) if times[it] > 1]
+        wrong += [f"part {it} of {of} is missing" for it in range(1, of + 1) if it not in times]
+        if any(it[key] != parts[0][key] for it in parts for key in ("script", "card", "parts")):
+            wrong = ["the parts are not of one sweep: script, card, depth or number of parts differ"]
+    except (json.JSONDecodeError, KeyError, TypeError) as why:
+        wrong = [f"a file is no part of a sweep, or is cut short ({why})"]
     if wrong:
         raise Refused("; ".join(wrong))
     return parts

@@ -5,7 +5,7 @@ from argparse import Namespace
 from collections.abc import Iterator
 from functools import partial
 
-from .engine import COMMAND, PROBE, program, ran, show, side_by_side, sweep_part
+from .engine import COMMAND, PROBE, program, ran, side_by_side, sweep_part
 from .outcomes import Sweep, aligned
 from explaining.commands import OF_PINS, Command
 from explaining.files import CARRIED_OUT, Files, Path
@@ -23,16 +23,15 @@ def reads(file: Template) -> list[str]:
     """The lines that read the contents of a file."""
     if file.kind == "transparent":
         return [f"apdu 00B0{at:04X}00" for at in range(0, file.size, 256)]
-    return [f"apdu 00B2{number:02X}0400" for number in range(1, file.capacity + 1)] if file.record_length else []
+    return [f"apdu 00B2{number:02X}0400" for number in range(1, file.capacity + 1)]
 
 
 def touched(files: Files, it: Command) -> dict[Path, Template]:
     """The files that a command touches: the new one, those that go, or its target."""
     if it.key == CREATE:
         return {(*files.directory, Template(it.data).identifier): Template(it.data)}
-    path = files.target(it) or ()
-    goes = len(path) if it.key == DELETE else None
-    return {at: file for at, file in files.seen.items() if at == path or goes and at[:goes] == path}
+    path, goes = files.target(it) or (), it.key == DELETE
+    return {at: file for at, file in files.seen.items() if at == path or goes and at[: len(path)] == path}
 
 
 def probe(files: Files, it: Command, shown: dict[int, str]) -> list[str]:
@@ -44,8 +43,8 @@ def probe(files: Files, it: Command, shown: dict[int, str]) -> list[str]:
     return lines + [line for at, file in of.items() for line in (select(at), *reads(file))]
 
 
-def cases(script: str) -> Iterator[tuple[int, str]]:
-    """Each command by its line, with the sweep script that cuts it in its place."""
+def cases(script: str) -> Iterator[tuple[int, str, str]]:
+    """Each command by its line, with its answer, and the sweep script that cuts it in its place."""
     lines = script.replace("\r\n", "\n").split("\n")
     printed, files, shown = iter(ran(script, program())), Files(), {}
     for number, line in enumerate(lines, 1):
@@ -56,31 +55,32 @@ def cases(script: str) -> Iterator[tuple[int, str]]:
             shown = {}
         if order == "apdu":
             it = Command(bytes.fromhex(digits))
-            yield number, "\n".join([*lines[: number - 1], COMMAND, line, PROBE, *probe(files, it, shown)])
+            yield number, answer, "\n".join([*lines[: number - 1], COMMAND, line, PROBE, *probe(files, it, shown)])
             if answer[-4:] in CARRIED_OUT and not it.fault:
                 files.carried_out(it)
                 shown |= {it.p2: it.data[-8:].hex()} if it.key in SHOWING and it.data else {}
 
 
-def row(depth: int | None, case: tuple[int, str]) -> tuple[list[str], str]:
-    """The row of a command, and why its outcomes aren't allowed."""
-    began = time.monotonic()
-    it = Sweep([sweep_part(case[1], depth, None, 1, 1)])
-    found = [len(it.writes), f"{it.runs:,}", len(it.outcomes), it.allowed if it.writes else 0]
-    return [str(case[0]), it.name, it.answer[-4:], *map(str, found), f"{time.monotonic() - began:.1f}"], it.fault()
+def row(sweeper: str, path: str, depth: int | None, case: tuple[int, str, str]) -> tuple[list[str], Case]:
+    """The row of a command, and whether its outcomes are allowed, as the case of a test."""
+    (line, answer, script), began = case, time.monotonic()
+    it = Sweep([sweep_part(sweeper, script, depth, None, "1/1")])
+    wrong = [Difference(line, it.name, reason=it.fault())] if it.fault() else []
+    found = [len(it.writes), f"{it.runs:,}", len(it.outcomes), len(it.stages) if it.writes else 0]
+    cells = [str(line), it.name, answer[-4:], *map(str, found), f"{time.monotonic() - began:.1f}"]
+    return cells, Case(path, line, f"line {line}: {it.name}", 1, wrong)
 
 
-def report_all(options: Namespace) -> str:
-    """Sweeps every command of a script, writes the reports, and gives the reason if outcomes aren't allowed."""
+def report_all(options: Namespace) -> tuple[str, str]:
+    """The table of every command of a script, and the reason if outcomes aren't allowed. Writes the reports."""
     script = options.files[0]
     chosen = [it for it in cases(script.read()) if not options.only or it[0] in options.only]
-    swept = side_by_side(options.jobs, "commands", partial(row, options.depth), chosen)
-    rows = [it for it, _ in swept]
-    show(aligned(HEAD, *rows))
+    work = partial(row, program("--sweep"), script.name, options.depth)
+    swept = side_by_side(options.jobs, "commands", work, chosen)
+    rows, tests = [it for it, _ in swept], [it for _, it in swept]
     if options.markdown:
-        options.markdown.writelines(f"| {' | '.join(it)} |\n" for it in [HEAD, ["---"] * len(HEAD), *rows])
+        lines = [f"| {' | '.join(it)} |" for it in [HEAD, ["---"] * len(HEAD), *rows]]
+        print(*lines, sep="\n", file=options.markdown, flush=True)
     if options.junit:
-        options.junit.write(junit([[Case(script.name, int(line), f"line {line}: {name}", 1,
-                                         [Difference(int(line), name, reason=fault)] if fault else [])
-                                    for (line, name, *_), fault in swept]]))
-    return "; ".join(f"line {line}: {fault}" for (line, *_), fault in swept if fault)
+        print(junit([tests]), end="", file=options.junit, flush=True)
+    return aligned(HEAD, *rows), "; ".join(f"line {it.line}: {it.reason}" for test in tests for it in test.differences)

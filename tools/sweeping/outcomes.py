@@ -1,11 +1,11 @@
 """What the parts of a sweep found, joined, as text and as JSON. docs/SWEEP.md describes the lines of a part."""
 import json
-from collections import Counter
+from collections import Counter, defaultdict
 from collections.abc import Iterable, Sequence
 from itertools import groupby, islice
 from os.path import commonprefix
 
-from .engine import PROBE, Refused
+from .engine import PROBE
 from card_words import read_table
 from explaining.commands import OF_PINS
 from explaining.templates import count
@@ -39,61 +39,49 @@ class Sweep:
         self.digits = orders[orders.index(PROBE) - 1].removeprefix("apdu ").upper()
         self.name = read_table()["command"].get(self.digits[:4], "the command")
         self.writes, self.depth = [it for it in lines if "kind" in it], lines[-1]["depth"]
-        stages = {it["stage"]: it for it in lines if "stage" in it}
-        self.before, self.after = (self.found(stages[it]) for it in ("before", "after"))
-        self.answer = answer_of(["00E000E0", stages["after"]["turns"].split()[-1]]).removeprefix("< ")
-        # whether a card with a try less is a stage of the command too: the PIN was right
-        self.is_charged = self.digits[:4] in OF_PINS and self.answer == "9000"
-        self.allowed = len({self.before, self.after}) + self.is_charged
-        # of each outcome, in order of appearance, its runs, its letter and its first cut; and the outcomes of each cut
-        self.outcomes: Counter[Found] = Counter()
-        self.letters: dict[Found, str] = {}
-        self.first: dict[Found, tuple[int, int]] = {}
-        self.cells: dict[tuple[int, int], Counter[Found]] = {}
+        last = lines[1]["turns"].split()[-1]
+        self.answer = last if last.islower() else last[6:-2]
+        self.stages = self.stages_from(*map(self.found, lines[:2]))
+        # the runs with each outcome: those of each cut, and of all; the outcomes are in order of appearance
+        self.cells: defaultdict[tuple[int, int], Counter[Found]] = defaultdict(Counter)
         for it in sorted((it for it in lines if "mask" in it), key=lambda it: (it["write"], it["number"])):
-            found, cut = self.found(it), (it["write"], it["mask"])
-            place = len(self.letters)
-            self.letters.setdefault(found, chr(ord("A") + place) if place < 26 else f"A{place}")
-            self.first.setdefault(found, cut)
-            self.outcomes[found] += it["runs"]
-            self.cells.setdefault(cut, Counter())[found] += it["runs"]
+            self.cells[it["write"], it["mask"]][self.found(it)] += it["runs"]
+        self.outcomes = sum(self.cells.values(), Counter())
         self.runs = self.outcomes.total()
+        self.first = {it: cut for cut, runs in reversed(self.cells.items()) for it in runs}
+        self.letters = {it: chr(ord("A") + at) if at < 26 else f"A{at}" for at, it in enumerate(self.outcomes)}
+        # the writes at which the outcome turns: with no new word it differs from that with all
+        self.commits = [it["write"] for it in self.writes
+                        if self.cells[it["write"], 0].keys() != self.cells[it["write"], 2 ** it["words"] - 1].keys()]
 
     def found(self, result: dict) -> Found:
-        """What a run found, from a line of the report: three words of free space, then the items of each probe line."""
+        """What a run found, from a line of the report: the words of the free space, then the items of each look."""
         items = iter(result["found"].split())
         free = " ".join(islice(items, 3))
         sizes = (4 + (len(it) > len("apdu ") + 2 * FIELD_LIMIT) if it[0] == "a" else 1 for it in self.looks[1:])
         return (free, *(answer_of(list(islice(items, size))) for size in sizes))
 
+    def stages_from(self, before: Found, after: Found) -> dict[Found, str]:
+        """The stages of the command, by how what a run found begins. After a right PIN a card with a try less is one:
+        the probe asks for the tries, and nothing before differs."""
+        stages = {before: BEFORE, after: AFTER} if before != after else {before: UNCHANGED}
+        if self.digits[:4] in OF_PINS and self.answer == "9000":
+            asked = f"apdu {UNBLOCKING if self.digits[:4] == UNBLOCKING else VALUE}00{self.digits[6:8]}"
+            at = self.looks.index(asked) if asked in self.looks else 0
+            with_one_less = {f"< 63C{tries:X}": f"< 63C{tries - 1:X}" for tries in range(1, 16)}
+            stages.setdefault((*before[:at], with_one_less.get(before[at], "")), TAKEN)
+        return stages
+
     def meaning(self, found: Found) -> str:
-        """The card that an outcome is. Where a try less is a stage, the probe asks for the tries: one is missing, and
-        nothing before differs."""
-        if found in (self.before, self.after):
-            return UNCHANGED if self.before == self.after else BEFORE if found == self.before else AFTER
-        asked = f"apdu {UNBLOCKING if self.digits[:4] == UNBLOCKING else VALUE}00{self.digits[6:8]}"
-        at = self.looks.index(asked) if self.is_charged and asked in self.looks else 0
-        with_one_less = {f"< 63C{tries:X}": f"< 63C{tries - 1:X}" for tries in range(1, 16)}
-        return TAKEN if found[: at + 1] == (*self.before[:at], with_one_less.get(self.before[at])) else OTHER
+        """The card that an outcome is."""
+        return next((it for begin, it in self.stages.items() if found[: len(begin)] == begin), OTHER)
 
     def fault(self, most: int | None = None) -> str:
-        """Why the outcomes aren't allowed, or nothing: each is a stage of the command, or there are at most so many."""
+        """Why the outcomes aren't allowed, or nothing: each is a stage of the command, or they are at most so many."""
         others, came = sum(self.meaning(it) == OTHER for it in self.outcomes), len(self.outcomes)
         if most is None:
             return f"{count(others, 'outcome')} that no stage of the command has" if others else ""
         return f"{count(came, 'outcome')}, where {most} {'is' if most == 1 else 'are'} allowed" if came > most else ""
-
-    def commits(self) -> list[int]:
-        """The writes at which the outcome turns: with no new word it differs from that with all."""
-        ends = {it["write"]: (0, 2 ** it["words"] - 1) for it in self.writes}
-        return [it for it, masks in ends.items() if len({frozenset(self.cells[it, mask]) for mask in masks}) == 2]
-
-    def check(self) -> None:
-        """Refuses a sweep that had nothing to cut."""
-        if self.answer in ("mute", "dark"):
-            raise Refused("power is off where the command begins")
-        if not self.writes:
-            raise Refused(f"the command is answered {self.answer} and makes no device write: there is nothing to cut")
 
 
 def ranges(numbers: Iterable[int]) -> str:
@@ -120,28 +108,29 @@ def differences(sweep: Sweep) -> list[list[str]]:
     return rows
 
 
-def table(sweep: Sweep, most: int) -> str:
+def table(sweep: Sweep, most: int | None) -> str:
     """The sweep as text: the command, its writes by kind and number of words, and its outcomes."""
-    commits, digits, kinds = sweep.commits(), sweep.digits, {}
+    digits, kinds = sweep.digits, defaultdict(list)
+    shown = digits if len(digits) <= MOST_DIGITS else f"{digits[: MOST_DIGITS - 16]}..{digits[-8:]}"
     for it in sweep.writes:
-        kinds.setdefault((it["kind"], count(it["words"], "word")), []).append(it["write"])
-    turns = f"the outcome turns at {count(len(commits), 'write')}: {ranges(commits)}"
-    head = [f"{sweep.name}, answered {sweep.answer}: "
-            + (digits if len(digits) <= MOST_DIGITS else f"{digits[: MOST_DIGITS - 16]}..{digits[-8:]}"),
-            f"{count(len(sweep.writes), 'device write')}; {turns if commits else 'no write turns it'}",
-            f"{count(sweep.runs, 'run')}, with at most {count(sweep.depth, 'start')} cut;"
-            f" {count(len(sweep.outcomes), 'outcome')}, {most} allowed"]
+        kinds[it["kind"], count(it["words"], "word")].append(it["write"])
+    turns = f"the outcome turns at {count(len(sweep.commits), 'write')}: {ranges(sweep.commits)}"
     writes = [[str(len(it)), *kind, ranges(it)] for kind, it in kinds.items()]
-    outcomes = [[letter, f"{sweep.outcomes[it]:,}", "{} {:04X}".format(*sweep.first[it]), sweep.meaning(it)]
-                for it, letter in sweep.letters.items()]
+    cards = [[letter, f"{sweep.outcomes[it]:,}", "{} {:04X}".format(*sweep.first[it]), sweep.meaning(it)]
+             for it, letter in sweep.letters.items()]
     return "\n\n".join(filter(None, [
-        "\n".join(head), aligned(["writes", "of", "each", "which"], *writes),
-        aligned(["outcome", "runs", "first cut", "the card is found"], *outcomes), aligned(*differences(sweep))]))
+        f"{sweep.name}, answered {sweep.answer}: {shown}\n"
+        f"{count(len(sweep.writes), 'device write')}; {turns if sweep.commits else 'no write turns it'}\n"
+        f"{count(sweep.runs, 'run')}, with at most {count(sweep.depth, 'start')} cut;"
+        f" {count(len(sweep.outcomes), 'outcome')}, {most or len(sweep.stages)} allowed",
+        aligned(["writes", "of", "each", "which"], *writes),
+        aligned(["outcome", "runs", "first cut", "the card is found"], *cards),
+        aligned(*differences(sweep))]))
 
 
 def as_json(sweep: Sweep) -> str:
     """The same for programs."""
     found = [{"runs": runs, "first": sweep.first[it], "card": sweep.meaning(it), "found": dict(zip(sweep.looks, it))}
              for it, runs in sweep.outcomes.items()]
-    told = {key: getattr(sweep, key) for key in ("answer", "depth", "runs", "writes")}
-    return json.dumps({"command": sweep.digits, **told, "commits": sweep.commits(), "outcomes": found}, indent=1)
+    told = {key: getattr(sweep, key) for key in ("answer", "depth", "runs", "writes", "commits")}
+    return json.dumps({"command": sweep.digits, **told, "outcomes": found}, indent=1)
