@@ -5,7 +5,7 @@ from argparse import Namespace
 from collections.abc import Iterator
 from functools import partial
 
-from .engine import COMMAND, PROBE, program, ran, side_by_side, sweep_part
+from .engine import COMMAND, PROBE, Refused, program, ran, side_by_side, sweep_part
 from .outcomes import Sweep, aligned
 from explaining.commands import OF_PINS, Command
 from explaining.files import CARRIED_OUT, Files, Path
@@ -75,6 +75,8 @@ def report_all(options: Namespace) -> tuple[str, str]:
     """The table of every command of a script, and the reason if outcomes aren't allowed. Writes the reports."""
     script = options.files[0]
     chosen = [it for it in cases(script.read()) if not options.only or it[0] in options.only]
+    if missing := sorted({*(options.only or [])} - {it[0] for it in chosen}):
+        raise Refused(f"no command stands in line {', '.join(map(str, missing))}")
     work = partial(row, program("--sweep"), script.name, options.depth)
     swept = side_by_side(options.jobs, "commands", work, chosen)
     rows, tests = [it for it, _ in swept], [it for _, it in swept]

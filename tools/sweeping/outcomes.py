@@ -130,7 +130,8 @@ def table(sweep: Sweep, most: int | None) -> str:
 
 def as_json(sweep: Sweep) -> str:
     """The same for programs."""
-    found = [{"runs": runs, "first": sweep.first[it], "card": sweep.meaning(it), "found": dict(zip(sweep.looks, it))}
+    found = [{"runs": runs, "first": sweep.first[it], "card": sweep.meaning(it),
+              "found": [{"line": line, "answer": answer} for line, answer in zip(sweep.looks, it)]}
              for it, runs in sweep.outcomes.items()]
     told = {key: getattr(sweep, key) for key in ("answer", "depth", "runs", "writes", "commits")}
     return json.dumps({"command": sweep.digits, **told, "outcomes": found}, indent=1)
