@@ -1,6 +1,6 @@
 //! Reading entries from a store.
 
-ghost use Rattle.std.specs.Prelude.{◌≡◌, ◌+◌, ◌<◌, ◌≤◌, ℕ, [], slice_index, take, IfOk, OnOk};
+ghost use Rattle.std.specs.Prelude.{◌≡◌, ◌≢◌, ◌⊎◌, ◌+◌, ◌-◌, ◌<◌, ◌≤◌, ℕ, [], slice_index, take, IfOk, OnOk};
 ghost use Rattle.std.specs.Result.{result_err};
 ghost use Rattle.undo_journal.specs.Memory.{committed, IsReady};
 ghost use Rattle.undo_journal.specs.StoreCalls.{Learns, Reads};
@@ -8,6 +8,7 @@ ghost use Rattle.block_chain.specs.BlockWords.{word};
 ghost use Rattle.file_tree.specs.Entries.{head_of};
 ghost use Rattle.file_tree.specs.Table.{table, entry_in};
 ghost use Rattle.file_tree.specs.TableEnd.{IsTableEnd};
+ghost use Rattle.file_tree.specs.declared.layout.TheConstants.{FIRST_ENTRY_PAGE};
 
 use arrayvec::ArrayVec;
 use file_tree::{ENTRIES_END, ENTRY_WORDS, Entry, EntryHead, entry_address};
@@ -58,14 +59,16 @@ fn read_used<B: Board>(store: &mut Store<B>, e: u8) -> Result<Entry, StoreErr>
     read_entry(store, e)
 }
 
-/// Returns a number, 1 to 64, from which on all entries are free.
+/// Returns the least number, 1 to 64, from which on all entries are free.
 /// It reads a word of each entry, from the last one down, and stops at the last used one.
 ///
 /// # Errors
 /// The store's failure: power was lost, or the device failed.
 pub fn find_end<B: Board>(store: &mut Store<B>) -> Result<u8, StoreErr>
     requires ready { IsReady store.old }
-    ensures { Learns store.old store.new result (IsTableEnd (table (committed store.old))) }
+    ensures end { Learns store.old store.new result (IsTableEnd (table (committed store.old))) }
+    ensures last { IfOk result (λ end. (end ≡ 1)
+        ⊎ (word (committed store.old) (FIRST_ENTRY_PAGE + (end - 1)) 0 ≢ 0)) }
 {
     let mut end = ENTRIES_END;
     while end > 1 {

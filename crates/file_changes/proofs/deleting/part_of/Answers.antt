@@ -16,28 +16,28 @@ find_end-requires g c = record { ready = c.requires.ready }
 pub returns-in_err-end : goal.returns-in_err-end
 returns-in_err-end g c = record {
   told = none_ok _ _ _ c.from_residual.ensures.1;
-  store = reads_handed _ _ _ _ c.from_residual.ensures.1 c.in_err-end.ensures.store;
+  store = reads_handed _ _ _ _ c.from_residual.ensures.1 c.in_err-end.ensures.end.store;
 }
 
 pub read_parents-requires-clause-ready : goal.read_parents-requires-clause-ready
-read_parents-requires-clause-ready g c = c.in_ok-end.ensures.store.ready
+read_parents-requires-clause-ready g c = c.in_ok-end.ensures.end.store.ready
 
 pub read_parents-requires-clause-end : goal.read_parents-requires-clause-end
 read_parents-requires-clause-end g c =
     subst (λ (l : List ℕ). IsTableEnd (table l) c.in_ok-end.end)
-    (sym c.find_end.ensures.store.only.keeps.committed_words) c.in_ok-end.ensures.told
+    (sym c.find_end.ensures.end.store.only.keeps.committed_words) c.in_ok-end.ensures.end.told
 
 pub returns-in_err-parents : goal.returns-in_err-parents
 returns-in_err-parents g c = record {
   told = none_ok _ _ _ c.from_residual-in_err-parents.ensures.1;
   store = reads_handed _ _ _ _ c.from_residual-in_err-parents.ensures.1
-      (reads_on _ _ _ _ c.find_end.ensures.store.only c.in_err-parents.ensures.store);
+      (reads_on _ _ _ _ c.find_end.ensures.end.store.only c.in_err-parents.ensures.store);
 }
 
 pub loop-e-init : goal.loop-e-init
 loop-e-init g c = record {
   ready = c.in_ok-parents.ensures.store.ready;
-  reads = reads_then _ _ _ c.find_end.ensures.store.only c.read_parents.ensures.store.only;
+  reads = reads_then _ _ _ c.find_end.ensures.end.store.only c.read_parents.ensures.store.only;
   few = (let none = ap (λ l. length l) c.new-part.ensures.extents in omega (arith, none));
   so_far = part_none _ _ _ c.new-part.ensures.goes c.new-part.ensures.count c.new-part.ensures.extents;
 }
@@ -49,7 +49,7 @@ pub deleted_entry-requires-clause-parents : goal.deleted_entry-requires-clause-p
 deleted_entry-requires-clause-parents g c = λ f small.
     c.in_ok-parents.ensures.parents f small
     ∙ ap (λ (l : List ℕ). (entry_in (table l) f).parent)
-    (c.find_end.ensures.store.only.keeps.committed_words ∙ sym c.loop-e.invariant.reads.keeps.committed_words)
+    (c.find_end.ensures.end.store.only.keeps.committed_words ∙ sym c.loop-e.invariant.reads.keeps.committed_words)
 
 pub returns-in_err-entry : goal.returns-in_err-entry
 returns-in_err-entry g c = record {
@@ -61,7 +61,7 @@ returns-in_err-entry g c = record {
 pub add-requires-clause-count : goal.add-requires-clause-count
 add-requires-clause-count g c =
     let lt : c.loop-e.e < c.in_ok-end.end = search rules in
-    let most = c.in_ok-end.ensures.told.most in
+    let most = c.in_ok-end.ensures.end.told.most in
     let small : c.loop-e.e < 64 = omega (arith, lt, most) in
     let count = c.loop-e.invariant.so_far.count in
     omega (arith, small, count)
@@ -69,7 +69,7 @@ add-requires-clause-count g c =
 pub add-requires-clause-room : goal.add-requires-clause-room
 add-requires-clause-room g c =
     let lt : c.loop-e.e < c.in_ok-end.end = search rules in
-    let most = c.in_ok-end.ensures.told.most in
+    let most = c.in_ok-end.ensures.end.told.most in
     let small : c.loop-e.e < 64 = omega (arith, lt, most) in
     let few = c.loop-e.invariant.few in
     omega (arith, small, few)
@@ -79,7 +79,7 @@ loop-e-preserved g c =
     let t = table (committed c.args.store.now) in
     let e = c.loop-e.e in
     let lt : e < c.in_ok-end.end = search rules in
-    let most = c.in_ok-end.ensures.told.most in
+    let most = c.in_ok-end.ensures.end.told.most in
     let small : e < 64 = omega (arith, lt, most) in
     let is : c.in_ok-entry.entry ≡ entry_if_gone t c.args.top e = c.in_ok-entry.ensures.told
     ∙ ap (λ (l : List ℕ). entry_if_gone (table l) c.args.top e) c.loop-e.invariant.reads.keeps.committed_words in
@@ -95,7 +95,7 @@ pub returns : goal.returns
 returns g c = record {
   told = let t = table (committed c.args.store.now) in
       let end : c.loop-e.e ≡ c.in_ok-end.end = search rules in
-      let table_end = c.in_ok-end.ensures.told in
+      let table_end = c.in_ok-end.ensures.end.told in
       let most = table_end.most in
       let left : c.loop-e.e + (64 - c.loop-e.e) ≡ 64 = omega (arith, end, most) in
       part_whole t c.args.top c.loop-e.part (parts_rest t c.args.top c.loop-e.part c.loop-e.e (64 - c.loop-e.e) left

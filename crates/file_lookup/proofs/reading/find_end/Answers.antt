@@ -1,4 +1,4 @@
-use Rattle.std.proofs.Common.{rules, ◌≡◌, ◌≤◌, ◌<◌, ◌+◌, ◌-◌, ℕ, List, slice_index, ⊎_elim, sym, ◌∙◌, ap, arith}
+use Rattle.std.proofs.Common.{◌≡◌, ◌≤◌, ◌<◌, ◌+◌, ◌-◌, ℕ, List, slice_index, ⊎_elim, inl, inr, sym, ◌∙◌, ap, arith}
 use Rattle.std.proofs.lemmas.Bool.{cases_lt}
 use Rattle.undo_journal.specs.Memory.{committed}
 use Rattle.undo_journal.specs.laws.Calls.{reads_same, reads_then}
@@ -30,7 +30,7 @@ loop-end-preserved g c =
     let last = c.loop-end.end - 1 in
     let before = c.loop-end.invariant.at_end in
     let most = before.most in
-    let more : 1 < c.loop-end.end = search rules in
+    let more : 1 < c.loop-end.end = omega (arith, c.loop-end-test.true) in
     let none : slice_index (page_words m (1 + last)) 0 ≡ 0 =
     index-page_words m (1 + last) 0 (omega arith) ∙ ap (slice_index m) (sym c.entry_address.ensures)
     ∙ ap (λ (l : List ℕ). slice_index l c.entry_address.result) (sym c.loop-end.invariant.reads.keeps.committed_words)
@@ -50,21 +50,38 @@ loop-end-preserved g c =
       };
     }
 
-pub returns-in_err-first : goal.returns-in_err-first
-returns-in_err-first g c = record {
+pub returns-in_err-first-clause-end : goal.returns-in_err-first-clause-end
+returns-in_err-first-clause-end g c = record {
   told = none_ok _ _ _ c.from_residual.ensures.1;
   store = reads_handed _ _ _ _ c.from_residual.ensures.1
       (reads_on _ _ _ _ c.loop-end.invariant.reads c.in_err-first.ensures.store);
 }
 
-pub returns-then-first-ne0 : goal.returns-then-first-ne0
-returns-then-first-ne0 g c = record {
+pub returns-then-first-ne0-clause-end : goal.returns-then-first-ne0-clause-end
+returns-then-first-ne0-clause-end g c = record {
   told = c.loop-end.invariant.at_end;
   store = reads_on _ _ _ _ c.loop-end.invariant.reads c.in_ok-first.ensures.store;
 }
 
-pub returns : goal.returns
-returns g c = record {
+pub returns-clause-end : goal.returns-clause-end
+returns-clause-end g c = record {
   told = c.loop-end.invariant.at_end;
   store = reads_so_far _ _ c.loop-end.invariant.reads c.loop-end.invariant.ready;
 }
+
+-- the entry before the end is used
+
+pub returns-in_err-first-clause-last : goal.returns-in_err-first-clause-last
+returns-in_err-first-clause-last g c = none_ok _ _ _ c.from_residual.ensures.1
+
+pub returns-then-first-ne0-clause-last : goal.returns-then-first-ne0-clause-last
+returns-then-first-ne0-clause-last g c =
+    inr (λ none. c.if-first-ne0.true
+    (c.in_ok-first.ensures.word
+    ∙ ap (λ (l : List ℕ). slice_index l c.entry_address.result) c.loop-end.invariant.reads.keeps.committed_words
+    ∙ ap (slice_index (committed c.args.store.now)) c.entry_address.ensures ∙ none))
+
+pub returns-clause-last : goal.returns-clause-last
+returns-clause-last g c =
+    let some = c.loop-end.invariant.at_end.some in
+    inl (let one : c.loop-end.end ≡ 1 = omega (arith, some, c.loop-end-test.false) in one)

@@ -18,10 +18,10 @@ list_entries-requires g c =
     let few : c.in_ok-end.end ≤ 46 = omega (arith, c.from.ensures, c.if-from-le-FEW_ENTRIES.true) in (
       omega arith,
       (
-        c.in_ok-end.ensures.store.ready,
+        c.in_ok-end.ensures.end.store.ready,
         (
           still_end _ _ _
-              c.find_end.ensures.store.only.keeps.committed_words c.in_ok-end.ensures.told,
+              c.find_end.ensures.end.store.only.keeps.committed_words c.in_ok-end.ensures.end.told,
           (
             few,
             (
@@ -35,12 +35,12 @@ list_entries-requires g c =
 
 pub list_many-requires-clause-end : goal.list_many-requires-clause-end
 list_many-requires-clause-end g c =
-    still_end _ _ _ c.find_end.ensures.store.only.keeps.committed_words c.in_ok-end.ensures.told
+    still_end _ _ _ c.find_end.ensures.end.store.only.keeps.committed_words c.in_ok-end.ensures.end.told
 
 pub returns-in_err-end : goal.returns-in_err-end
 returns-in_err-end g c = record {
   told = none_ok _ _ _ c.from_residual.ensures.1;
-  store = reads_handed _ _ _ _ c.from_residual.ensures.1 c.in_err-end.ensures.store;
+  store = reads_handed _ _ _ _ c.from_residual.ensures.1 c.in_err-end.ensures.end.store;
 }
 
 -- what was told of the words behind the reads, by the words before them
@@ -50,14 +50,14 @@ told_before m now listing r same told = subst (λ (l : List ℕ). IfOk r (TellsL
 
 pub returns-then-from-le-FEW_ENTRIES : goal.returns-then-from-le-FEW_ENTRIES
 returns-then-from-le-FEW_ENTRIES g c = record {
-  told = told_before _ _ _ c.list_entries.result c.find_end.ensures.store.only.keeps.committed_words
+  told = told_before _ _ _ c.list_entries.result c.find_end.ensures.end.store.only.keeps.committed_words
       c.list_entries.ensures.told;
-  store = reads_on _ _ _ _ c.find_end.ensures.store.only c.list_entries.ensures.store;
+  store = reads_on _ _ _ _ c.find_end.ensures.end.store.only c.list_entries.ensures.store;
 }
 
 pub returns-else-from-le-FEW_ENTRIES : goal.returns-else-from-le-FEW_ENTRIES
 returns-else-from-le-FEW_ENTRIES g c = record {
-  told = told_before _ _ _ c.list_many.result c.find_end.ensures.store.only.keeps.committed_words
+  told = told_before _ _ _ c.list_many.result c.find_end.ensures.end.store.only.keeps.committed_words
       c.list_many.ensures.told;
-  store = reads_on _ _ _ _ c.find_end.ensures.store.only c.list_many.ensures.store;
+  store = reads_on _ _ _ _ c.find_end.ensures.end.store.only c.list_many.ensures.store;
 }
