@@ -17,18 +17,19 @@ use Rattle.undo_journal.specs.laws.Waits.{AreAscending, ascending-joined, look_u
 use Rattle.block_chain.specs.ChainChanges.{touched_words}
 use Rattle.block_chain.specs.Counts.{NoneTwice}
 use Rattle.block_store.specs.JoinParts.{JoinsAt}
-use Rattle.block_store.specs.Writes.{begins_run, put_writes, run_count, word_writes}
-use Rattle.block_chain.specs.declared.layout.TheConstants.{BLOCK_WORDS}
+use Rattle.block_store.specs.Writes.{begins_run, put_writes, run_count, word_writes, WaitInBlocks}
+use Rattle.block_chain.specs.declared.layout.TheConstants.{BLOCK_WORDS, FIRST_BLOCK_PAGE}
 use Rattle.block_chain.specs.laws.Overwriting.{touched}
 use Rattle.block_store.specs.laws.Writes.{begins, goes_on, run_at}
 use Rattle.block_store.proofs.Places.{word_address, word-after, word-before, words-apart}
 
 -- What waits, once the words of a chain from the one numbered `first` to the one before word k are set: none of a word
--- from k on, none of a link, and word k - 1, unless a batch was written with it.
+-- from k on, none of a link, none before the blocks, and word k - 1, unless a batch was written with it.
 pub record AreBehind (ps : List ℕ) (first k : ℕ) (waiting : List Waiting) : Type 0 where
   pub ascending : AreAscending 0 waiting
   pub later : (j : ℕ) → k ≤ j → j < BLOCK_WORDS * length ps → look_up (word_address ps j) waiting ≡ None
   pub links : (page : ℕ) → look_up (address page 0) waiting ≡ None
+  pub low : (at : ℕ) → at < address FIRST_BLOCK_PAGE 0 → look_up at waiting ≡ None
   pub last : (k - first) % BATCH ≢ 0 → IsSome (look_up (word_address ps (k - 1)) waiting)
 
 -- the same, with how many wait, and what was spent for them
@@ -53,13 +54,16 @@ counted-none ps first old now reads idle =
         ascending = tt;
         later = λ j le lt. refl;
         links = λ page. refl;
+        low = λ at lt. refl;
         last = λ some. absurd (some (omega (arith, none)));
       });
     }
 
 -- One word more is set.
 module _ (ps : List ℕ) (first k : ℕ) (old now : Memory) (so_far : IsCounted ps first k old now) (once : NoneTwice ps)
-    (from : first ≤ k) (within : k < BLOCK_WORDS * length ps) (set : Waiting) (is : set.at ≡ word_address ps k)
+    (from : first ≤ k) (within : k < BLOCK_WORDS * length ps) (block : FIRST_BLOCK_PAGE ≤ slice_index ps
+    (k / BLOCK_WORDS))
+    (set : Waiting) (is : set.at ≡ word_address ps k)
     (after : Memory) (joins : Joins set now after) where
   free : look_up set.at now.waiting ≡ None
   free = ap (λ (a : ℕ). look_up a now.waiting) is ∙ so_far.behind.later k (omega arith) within
@@ -133,6 +137,9 @@ module _ (ps : List ℕ) (first k : ℕ) (old now : Memory) (so_far : IsCounted 
     links = λ page.
         let other : address page 0 ≢ set.at = omega (arith, is) in
         look_up-other set (address page 0) other now.waiting ∙ so_far.behind.links page;
+    low = λ at lt.
+        let other : at ≢ set.at = omega (arith, lt, is, block) in
+        look_up-other set at other now.waiting ∙ so_far.behind.low at lt;
     last = λ some.
         let here : set.at ≡ word_address ps (k + 1 - 1) =
         is ∙ ap (λ (j : ℕ). word_address ps j) (let z : k ≡ k + 1 - 1 = omega arith in z) in
@@ -161,6 +168,7 @@ module _ (ps : List ℕ) (first k : ℕ) (old now : Memory) (so_far : IsCounted 
             ascending = tt;
             later = λ j le lt. refl;
             links = λ page. refl;
+            low = λ at lt. refl;
             last = λ some. absurd (some (omega (arith, takes-one, so_far.takes, so_far.waits, fills.used, size, from)));
           });
         }
@@ -178,13 +186,15 @@ counted-read ps first k old now last so_far reads = record {
 
 -- a word is set behind its read, and the next block is read
 pub counted-more : (ps : List ℕ) (first k page : ℕ) (old now after last : Memory) → IsCounted ps first k old now
-    → NoneTwice ps → first ≤ k → k < BLOCK_WORDS * length ps → page ≡ slice_index ps (k / BLOCK_WORDS)
+    → NoneTwice ps → first ≤ k → k < BLOCK_WORDS * length ps → FIRST_BLOCK_PAGE ≤ page
+    → page ≡ slice_index ps (k / BLOCK_WORDS)
     → JoinsAt (address page (1 + k % BLOCK_WORDS)) now after → OnlyReads after last
     → IsCounted ps first (k + 1) old last
-counted-more ps first k page old now after last so_far once from within is set reads =
+counted-more ps first k page old now after last so_far once from within block is set reads =
     let here = ap (λ (q : ℕ). address q (1 + k % BLOCK_WORDS)) is in
     let found = counted-read ps first k old now set.found so_far set.reads in
-    let more = counted-next ps first k old set.found found once from within _ here after set.joins in
+    let low : FIRST_BLOCK_PAGE ≤ slice_index ps (k / BLOCK_WORDS) = omega (arith, block, is) in
+    let more = counted-next ps first k old set.found found once from within low _ here after set.joins in
     counted-read ps first (k + 1) old after last more reads
 
 -- all words are set
@@ -205,3 +215,29 @@ counted-no_bytes offset count m none idle =
     let no_put : put_writes offset count ≡ 0 = ap (λ (n : ℕ). put_writes offset n) none in
     let test = ap (λ (n : ℕ). (if n == 0 then 0 else batch_writes m.waiting + 1)) idle in
     omega (arith, no_put, test)
+
+-- what waits then
+pub waits-all : (ps : List ℕ) (offset count k : ℕ) (old now : Memory) → IsCounted ps (offset / 4) k old now
+    → 1 ≤ count → (offset + count + 3) / 4 ≤ k → k ≤ (offset + count + 3) / 4
+    → WaitInBlocks (touched_words offset count) now
+waits-all ps offset count k old now so_far some far le =
+    let words : k - offset / 4 ≡ touched_words offset count = omega (arith, touched offset count some, far, le) in
+    record {
+      takes = so_far.takes ∙ words;
+      last = so_far.waits ∙ ap (λ (n : ℕ). n % BATCH) words;
+      ascending = so_far.behind.ascending;
+      blocks = so_far.behind.low;
+    }
+
+-- and without bytes
+pub waits-no_bytes : (offset count : ℕ) (m : Memory) → count ≡ 0 → IsIdle m
+    → WaitInBlocks (touched_words offset count) m
+waits-no_bytes offset count m none idle =
+    let waiting : m.waiting ≡ [] = idle_waits m idle in
+    let words : touched_words offset count ≡ 0 = ap (λ (n : ℕ). touched_words offset n) none in
+    record {
+      takes = idle ∙ sym words;
+      last = ap (λ (l : List Waiting). length l) waiting ∙ sym (ap (λ (n : ℕ). n % BATCH) words);
+      ascending = subst (λ (l : List Waiting). AreAscending 0 l) (sym waiting) tt;
+      blocks = λ at lt. ap (λ (l : List Waiting). look_up at l) waiting;
+    }

@@ -1,9 +1,13 @@
 -- The device writes of an update of a chain's bytes in a transaction of its own. Each touched word is set once, in
 -- the order of the chain. A batch of eight sets takes one write for its pairs, one for the gate, and one for each run
 -- of words. The commit takes one more.
-use Rattle.std.specs.Prelude.{◌==◌, ◌+◌, ◌-◌, ◌*◌, ◌/◌, ◌%◌, ◌||◌, ℕ, zero, suc, if◌then◌else◌}
+use Rattle.std.specs.Prelude.{◌≡◌, ◌==◌, ◌<◌, ◌+◌, ◌-◌, ◌*◌, ◌/◌, ◌%◌, ◌||◌, ℕ, zero, suc, if◌then◌else◌, length, None}
+use Rattle.nvm_board.specs.Facts.{address}
 use Rattle.undo_journal.specs.declared.batch.TheConstants.{BATCH}
-use Rattle.block_chain.specs.declared.layout.TheConstants.{BLOCK_WORDS, WORD_BYTES}
+use Rattle.undo_journal.specs.Batches.{look_up}
+use Rattle.undo_journal.specs.Memory.{Memory, taken}
+use Rattle.undo_journal.specs.laws.Waits.{AreAscending}
+use Rattle.block_chain.specs.declared.layout.TheConstants.{BLOCK_WORDS, FIRST_BLOCK_PAGE, WORD_BYTES}
 use Rattle.block_chain.specs.ChainChanges.{touched_words}
 
 -- 1 if word k of a chain begins a run, else 0. It does so at the begin of a block, and at the begin of a batch of the
@@ -28,3 +32,11 @@ word_writes first n = 2 * batch_count n + run_count first n
 abbrev pub put_writes : ℕ → ℕ → ℕ
 put_writes offset zero = 0
 put_writes offset (suc n) = word_writes (offset / WORD_BYTES) (touched_words offset (suc n)) + 1
+
+-- A transaction that has set n words of a chain, and no others: those of the last batch wait that isn't full. All are
+-- words of blocks.
+pub record WaitInBlocks (n : ℕ) (m : Memory) : Type 0 where
+  pub takes : taken m ≡ n
+  pub last : length m.waiting ≡ n % BATCH
+  pub ascending : AreAscending 0 m.waiting
+  pub blocks : (at : ℕ) → at < address FIRST_BLOCK_PAGE 0 → look_up at m.waiting ≡ None

@@ -5,14 +5,14 @@ ghost use Rattle.undo_journal.specs.Undo.{IsDataAddress};
 ghost use Rattle.std.specs.Result.{result_err};
 ghost use Rattle.block_chain.specs.ChainChanges.{touched_blocks, touched_words, IsFirstFree, OnlyContent, Overwrites};
 ghost use Rattle.undo_journal.specs.Memory.{committed, current, room, CountsCommit, EndsAt, ContinuesRun, InRuns};
-ghost use Rattle.undo_journal.specs.Memory.{IsOpen, IsReady};
+ghost use Rattle.undo_journal.specs.Memory.{IsIdle, IsOpen, IsReady};
 ghost use Rattle.block_chain.specs.declared.layout.TheConstants.{BLOCK_BYTES, BLOCK_WORDS, FILE_BYTES};
 ghost use Rattle.undo_journal.specs.StoreCalls.{Changes, ReadsIn, SetsIn};
 ghost use Rattle.block_chain.specs.Chains.{free_chain, bytes_of, IsChain, chain_of, HasFree};
 ghost use Rattle.block_chain.specs.ChainParts.{byte_over, PutsWord};
 ghost use Rattle.block_store.specs.JoinParts.{JoinsAt};
 ghost use Rattle.block_chain.specs.BlockWords.{link, word_bytes, IsBlock};
-ghost use Rattle.block_store.specs.Writes.{put_writes};
+ghost use Rattle.block_store.specs.Writes.{put_writes, WaitInBlocks};
 ghost use Rattle.nvm_board.specs.Facts.{address};
 ghost use Rattle.nvm_board.specs.declared.board.TheConstants.{MOST_PAGES};
 ghost use Rattle.nvm_board.specs.Torn.{Torn, written};
@@ -157,6 +157,8 @@ pub fn set_bytes<B: Board>(
     ensures runs { InRuns (touched_blocks offset (length bytes.now)) (memory_of txn.old) (memory_of txn.new) }
     ensures counted { OnOk result (CountsCommit (put_writes offset (length bytes.now)) (memory_of txn.old)
         (memory_of txn.new)) }
+    ensures waits { OnOk result (IsIdle (memory_of txn.old)
+        → WaitInBlocks (touched_words offset (length bytes.now)) (memory_of txn.new)) }
     ensures none { length bytes.now ≡ 0 → memory_of txn.new ≡ memory_of txn.old }
 {
     if bytes.is_empty() {

@@ -2,7 +2,8 @@
 use Rattle.std.proofs.Common.{sym, refl, ap, subst, inl}
 use Rattle.std.proofs.Math.Logic.{⊎_map}
 use Rattle.std.proofs.lemmas.Result.{on_ok_weaker}
-use Rattle.std.specs.Prelude.{◌≡◌, ◌≤◌, ℕ, List, [], Option, Some, None, Result, Ok, Err, IsErrAnd, option_map}
+use Rattle.std.specs.Prelude.{◌≡◌, ◌≤◌, ◌+◌, ℕ, List, [], Option, Some, None, Result, Ok, Err, IsErrAnd, OnOk}
+use Rattle.std.specs.Prelude.{option_map}
 use Rattle.std.specs.Result.{result_err}
 use Rattle.card_state.specs.declared.status.Sw.{Sw}
 use Rattle.undo_journal.specs.declared.error.StoreErr.{StoreErr}
@@ -33,6 +34,11 @@ commits_within n k old new r P fits commits = record {
   by_gate = commits.by_gate;
   store = changes_within n k old new (result_err r) fits commits.store;
 }
+
+-- what a call costs at an offset, said of the slot that lies there
+pub counted_at : {T : Type 0} (r : Result T StoreErr) (costs : ℕ → ℕ) (old new at offset : ℕ) → at ≡ offset
+    → OnOk r (new ≡ old + costs at) → OnOk r (new ≡ old + costs offset)
+counted_at r costs old new at offset is counts = subst (λ (o : ℕ). OnOk r (new ≡ old + costs o)) is counts
 
 -- the store's answer, as a body's, of a call that nothing refuses
 module _ {T : Type 0} (r : Result T StoreErr) (s : Result T BodyErr)

@@ -8,3 +8,4 @@ pub mod Finding
 pub mod Calling
 pub mod Resting
 pub mod Passing
+pub mod RecordWrites

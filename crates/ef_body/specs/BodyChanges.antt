@@ -1,12 +1,14 @@
 -- The effects of calls on bodies on the words of a memory.
-use Rattle.std.specs.Prelude.{◌≡◌, ◌≢◌, ◌⊎◌, ◌<◌, ◌+◌, ◌-◌, ◌%◌, ℕ, List, length, slice_index}
+use Rattle.std.specs.Prelude.{◌≡◌, ◌≢◌, ◌⊎◌, ◌<◌, ◌+◌, ◌-◌, ◌*◌, ◌/◌, ◌%◌, ℕ, List, length, slice_index}
 use Rattle.nvm_board.specs.Facts.{address}
 use Rattle.nvm_board.specs.declared.board.TheConstants.{PAGE_WORDS}
 use Rattle.block_chain.specs.declared.chain.Chain.{Chain}
 use Rattle.block_chain.specs.BlockWords.{word}
 use Rattle.block_chain.specs.Counts.{IsNotIn}
 use Rattle.block_chain.specs.Chains.{chain_of, chain_bytes}
-use Rattle.block_chain.specs.ChainChanges.{OnlyContent}
+use Rattle.block_chain.specs.ChainChanges.{OnlyContent, touched_words}
+use Rattle.block_store.specs.Writes.{batch_count, run_count}
+use Rattle.block_chain.specs.declared.layout.TheConstants.{WORD_BYTES}
 use Rattle.card_state.specs.FileTrees.{overwrite}
 use Rattle.ef_body.specs.declared.transparent.Transparent.{Transparent}
 use Rattle.ef_body.specs.declared.linear.Linear.{Linear}
@@ -62,3 +64,13 @@ Increases m body sent after =
     let records = cyclic_body_records m body in
     CyclicBecomes m body (front (length records) (spelled body.record_length (raised_number records sent)) records)
     after
+
+-- The offset in the chain of the slot of a number. The first slot follows the last one.
+abbrev pub slot_offset : Cyclic → ℕ → ℕ
+slot_offset ring number = (ring.start + number - 1) % ring.capacity * ring.record_length
+
+-- The device writes of `count` bytes of a record, then of the entry's word, with the commit. That word is one more set
+-- of the last batch, or of a batch of its own, and always a run by itself.
+abbrev pub record_put_writes : ℕ → ℕ → ℕ
+record_put_writes offset count =
+    2 * batch_count (touched_words offset count + 1) + run_count (offset / WORD_BYTES) (touched_words offset count) + 2

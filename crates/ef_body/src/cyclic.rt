@@ -11,7 +11,7 @@ ghost use Rattle.card_state.specs.declared.status.TheConstants.Sw.{NO_ROOM};
 ghost use Rattle.card_state.specs.RecordLists.{front};
 ghost use Rattle.ef_contents.specs.Refusals.{missing_record, unraised, why_failed};
 ghost use Rattle.ef_body.specs.Bodies.{cyclic_body_records, IsCyclic};
-ghost use Rattle.ef_body.specs.BodyChanges.{CyclicBecomes, Increases};
+ghost use Rattle.ef_body.specs.BodyChanges.{record_put_writes, slot_offset, CyclicBecomes, Increases};
 ghost use Rattle.ef_body.specs.BodyCalls.{Commits, CommitsUnlessRefused, ReceivesSum};
 
 use crate::number::add;
@@ -116,9 +116,11 @@ impl Cyclic {
         requires ready { IsReady store.old }
         requires body { IsCyclic (committed store.old) self }
         requires size { length bytes.now ≡ self.record_length }
-        ensures { Commits (CyclicBecomes (committed store.old) self
+        ensures commits { Commits (CyclicBecomes (committed store.old) self
             (front self.capacity bytes.now (cyclic_body_records (committed store.old) self))) RECORD_WRITES store.old
             store.new result }
+        ensures counted { OnOk result (store.new.facts.writes ≡ store.old.facts.writes
+            + record_put_writes (slot_offset self self.capacity) (length bytes.now)) }
     {
         put_front(self, store, bytes, self.appended())
     }

@@ -1,7 +1,7 @@
 //! Writing the bodies of EFs, each time in one transaction.
 ghost use Rattle.std.specs.Prelude.{◌≡◌, ◌≤◌, ◌<◌, ◌+◌, ◌*◌, ◌-◌, ◌++◌, ◌∷◌, [], length, slice_set, OnOk};
 ghost use Rattle.std.specs.Result.{result_err};
-ghost use Rattle.undo_journal.specs.Memory.{committed, current, room, InRuns, IsOpen, IsReady};
+ghost use Rattle.undo_journal.specs.Memory.{committed, current, room, CountsCommit, InRuns, IsOpen, IsReady};
 ghost use Rattle.undo_journal.specs.StoreCalls.{SetsIn};
 ghost use Rattle.undo_journal.specs.Lent.{memory_of};
 ghost use Rattle.undo_journal.specs.declared.layout.TheConstants.{GATE};
@@ -12,7 +12,7 @@ ghost use Rattle.ef_body.specs.declared.layout.TheConstants.{RECORD_WRITES, UPDA
 ghost use Rattle.card_state.specs.RecordLists.{front};
 ghost use Rattle.ef_body.specs.Bodies.{counts_word, cyclic_body_records, IsCyclic, LieIn};
 ghost use Rattle.undo_journal.specs.Spending.{transaction_writes};
-ghost use Rattle.ef_body.specs.BodyChanges.{CyclicBecomes, PutsRecord, RecordsBecome};
+ghost use Rattle.ef_body.specs.BodyChanges.{record_put_writes, slot_offset, CyclicBecomes, PutsRecord, RecordsBecome};
 ghost use Rattle.ef_body.specs.BodyCalls.{Commits};
 
 use crate::cyclic::Cyclic;
@@ -62,8 +62,10 @@ fn put_record<B: Board>(
     requires lie { LieIn (committed store.old) chain offset (length bytes.now) }
     requires few { length bytes.now ≤ 255 }
     requires entry { told_at < GATE }
-    ensures { Commits (PutsRecord (committed store.old) chain offset bytes.now told_at told) RECORD_WRITES store.old
-        store.new result }
+    ensures commits { Commits (PutsRecord (committed store.old) chain offset bytes.now told_at told) RECORD_WRITES
+        store.old store.new result }
+    ensures counted { OnOk result (store.new.facts.writes
+        ≡ store.old.facts.writes + record_put_writes offset (length bytes.now)) }
 {
     let mut txn = store.begin();
     let work = set_record(&mut txn, chain, offset, bytes, told_at, told);
@@ -87,6 +89,8 @@ fn set_record<B: Board>(
         (memory_of txn.new))) }
     ensures store { SetsIn (touched_words offset (length bytes.now) + 1) txn.old txn.new (result_err result) }
     ensures runs { InRuns (touched_blocks offset (length bytes.now) + 1) (memory_of txn.old) (memory_of txn.new) }
+    ensures counted { OnOk result (CountsCommit (record_put_writes offset (length bytes.now)) (memory_of txn.old)
+        (memory_of txn.new)) }
 {
     set_bytes(txn, chain, offset, bytes)?;
     txn.set(told_at, told)
@@ -106,8 +110,10 @@ pub(crate) fn put_front<B: Board>(
     requires some { 1 ≤ records }
     requires most { records ≤ body.capacity }
     requires more { records ≤ body.records + 1 }
-    ensures { Commits (CyclicBecomes (committed store.old) body (front records bytes.now (cyclic_body_records
+    ensures commits { Commits (CyclicBecomes (committed store.old) body (front records bytes.now (cyclic_body_records
         (committed store.old) body))) RECORD_WRITES store.old store.new result }
+    ensures counted { OnOk result (store.new.facts.writes ≡ store.old.facts.writes
+        + record_put_writes (slot_offset body body.capacity) (length bytes.now)) }
 {
     let start = slot_of(body, body.capacity);
     let offset = offset_of(body, start);
@@ -117,6 +123,7 @@ pub(crate) fn put_front<B: Board>(
 
 impl RecordSlot {
     /// Replaces this record, in one transaction (UPDATE RECORD, ISO/IEC 7816-4, 11.4.5).
+    /// The number of device writes follows from its slot and its length.
     ///
     /// # Errors
     /// The store's failure: then the record is the old one or the new one. It refuses nothing.
@@ -124,9 +131,11 @@ impl RecordSlot {
         requires ready { IsReady store.old }
         requires body { IsCyclic (committed store.old) self.ring }
         requires size { length bytes.now ≡ self.ring.record_length }
-        ensures { Commits (RecordsBecome (committed store.old) self.ring (slice_set
+        ensures commits { Commits (RecordsBecome (committed store.old) self.ring (slice_set
             (cyclic_body_records (committed store.old) self.ring) (self.number - 1) bytes.now)) UPDATE_WRITES store.old
             store.new result }
+        ensures counted { OnOk result (store.new.facts.writes ≡ store.old.facts.writes
+            + put_writes (slot_offset self.ring self.number) (length bytes.now)) }
     {
         let offset = offset_of(self.ring, slot_of(self.ring, self.number));
         put_bytes(store, self.ring.chain, offset, bytes)
@@ -146,9 +155,11 @@ impl RecordSlot {
         requires ready { IsReady store.old }
         requires body { IsCyclic (committed store.old) self.ring }
         requires size { length bytes.now ≡ self.ring.record_length }
-        ensures { Commits (CyclicBecomes (committed store.old) self.ring (front (length (cyclic_body_records
+        ensures commits { Commits (CyclicBecomes (committed store.old) self.ring (front (length (cyclic_body_records
             (committed store.old) self.ring)) bytes.now (cyclic_body_records (committed store.old) self.ring)))
             RECORD_WRITES store.old store.new result }
+        ensures counted { OnOk result (store.new.facts.writes ≡ store.old.facts.writes
+            + record_put_writes (slot_offset self.ring self.ring.capacity) (length bytes.now)) }
     {
         put_front(self.ring, store, bytes, self.ring.records)
     }
@@ -164,8 +175,10 @@ impl FreeSlot {
         requires ready { IsReady store.old }
         requires body { IsCyclic (committed store.old) self.ring }
         requires size { length bytes.now ≡ self.ring.record_length }
-        ensures { Commits (RecordsBecome (committed store.old) self.ring (cyclic_body_records (committed store.old)
-            self.ring ++ bytes.now ∷ [])) RECORD_WRITES store.old store.new result }
+        ensures commits { Commits (RecordsBecome (committed store.old) self.ring (cyclic_body_records
+            (committed store.old) self.ring ++ bytes.now ∷ [])) RECORD_WRITES store.old store.new result }
+        ensures counted { OnOk result (store.new.facts.writes ≡ store.old.facts.writes
+            + record_put_writes (slot_offset self.ring (self.ring.records + 1)) (length bytes.now)) }
     {
         let ring = self.ring;
         let offset = offset_of(ring, slot_of(ring, ring.records + 1));

@@ -9,7 +9,8 @@ use Rattle.block_chain.specs.laws.Overwriting.{overwrites_none}
 use Rattle.block_chain.specs.ChainChanges.{touched_blocks}
 use Rattle.block_store.proofs.RunCosts.{none_yet, runs_all, runs_more, run_put, run_next}
 use Rattle.block_store.proofs.Puts.{link_small, put_few, put_first, put_last, put_more}
-use Rattle.block_store.proofs.Counting.{counted-all, counted-more, counted-no_bytes, counted-none}
+use Rattle.block_store.proofs.Counting.{counted-all, counted-more, counted-no_bytes, counted-none, waits-all}
+use Rattle.block_store.proofs.Counting.{waits-no_bytes}
 use Rattle.block_store.proofs.Puts.{put_block, word_block, word_fits, word_small, word_within}
 use Rattle.block_store.proofs.bytes.set_bytes.Goals as goal
 
@@ -129,6 +130,9 @@ loop-k-preserved g c =
           k _ _ _ _ _ (c.loop-k.invariant.counted idle) c.requires.chain.once c.loop-k.invariant.put.from (word_within m
           (chain_of m c.args.chain) _ c.args.offset c.args.bytes.now c.requires.chain c.requires.within c.requires.small
           c.requires.ready.current_size _ _ _ c.loop-k.invariant.put (omega (arith, c.loop-k-test.true)))
+          (word_block m (chain_of m c.args.chain) _ c.args.offset c.args.bytes.now c.requires.chain c.requires.within
+          c.requires.small c.requires.ready.current_size _ _ _ c.loop-k.invariant.put
+          (omega (arith, c.loop-k-test.true))).0
           c.loop-k.invariant.put.block c.in_ok-put_word.ensures.joins c.block_of_word.ensures.store.only.reads;
       put = put_more m (chain_of m c.args.chain) _ c.args.offset c.args.bytes.now c.requires.chain c.requires.within
           c.requires.small c.requires.ready.current_size _
@@ -204,3 +208,26 @@ returns-in_err-put_word-clause-counted g c = none_ok _ _ _ c.from_residual-in_er
 
 pub returns-in_err-page-2-clause-counted : goal.returns-in_err-page-2-clause-counted
 returns-in_err-page-2-clause-counted g c = none_ok _ _ _ c.from_residual-in_err-page-2.ensures.1
+
+-- what waits
+
+pub returns-then-is_empty-clause-waits : goal.returns-then-is_empty-clause-waits
+returns-then-is_empty-clause-waits g c = λ idle.
+    let none : length c.args.bytes.now ≡ 0 = search rules in
+    waits-no_bytes c.args.offset (length c.args.bytes.now) (memory_of c.args.txn.now) none idle
+
+pub returns-clause-waits : goal.returns-clause-waits
+returns-clause-waits g c = λ idle.
+    let m = current (memory_of c.args.txn.now) in
+    waits-all (chain_of m c.args.chain) c.args.offset (length c.args.bytes.now) c.loop-k.k
+    _ _ (c.loop-k.invariant.counted idle) c.loop-k.invariant.put.some
+    (omega (arith, c.loop-k-test.false)) (omega (arith, c.loop-k.invariant.within))
+
+pub returns-in_err-page-clause-waits : goal.returns-in_err-page-clause-waits
+returns-in_err-page-clause-waits g c = none_ok _ _ _ c.from_residual.ensures.1
+
+pub returns-in_err-put_word-clause-waits : goal.returns-in_err-put_word-clause-waits
+returns-in_err-put_word-clause-waits g c = none_ok _ _ _ c.from_residual-in_err-put_word.ensures.1
+
+pub returns-in_err-page-2-clause-waits : goal.returns-in_err-page-2-clause-waits
+returns-in_err-page-2-clause-waits g c = none_ok _ _ _ c.from_residual-in_err-page-2.ensures.1

@@ -2,12 +2,12 @@ use Rattle.std.specs.Prelude.{◌+◌, length}
 use Rattle.std.proofs.Common.{ℕ, List, sym, ◌∙◌, subst, arith}
 use Rattle.undo_journal.specs.Lent.{memory_of}
 use Rattle.undo_journal.specs.Memory.{Memory, IsOpen}
-use Rattle.undo_journal.specs.laws.Endings.{ends, ends_answered, ends_by_gate, ends_done}
+use Rattle.undo_journal.specs.laws.Endings.{ends, ends_answered, ends_by_gate, ends_counted, ends_done}
 use Rattle.undo_journal.specs.laws.Transactions.{begun}
 use Rattle.block_chain.specs.ChainChanges.{touched_words, touched_blocks}
 use Rattle.ef_body.specs.declared.layout.TheConstants.{RECORD_WRITES}
 use Rattle.ef_body.specs.Bodies.{LieIn}
-use Rattle.ef_body.specs.BodyChanges.{PutsRecord}
+use Rattle.ef_body.specs.BodyChanges.{record_put_writes, PutsRecord}
 use Rattle.ef_body.proofs.Putting.{touched_few, touched_few_blocks}
 use Rattle.ef_body.proofs.writing.put_record.Goals as goal
 
@@ -26,8 +26,8 @@ set_record-work-requires-clause-room g c =
     let blocks = touched_few_blocks c.args.offset (length c.args.bytes.now) c.requires.few in
     omega (arith, most, c.begin-txn.ensures.room)
 
-pub returns : goal.returns
-returns g c =
+pub returns-clause-commits : goal.returns-clause-commits
+returns-clause-commits g c =
     let set = c.set_record-work.ensures in
     let last = c.store-1.given.1 (sym (set.store.sets.same_store ∙ c.begin-txn.ensures.same_store)) in
     let most = touched_few c.args.offset (length c.args.bytes.now) c.requires.few in
@@ -53,3 +53,11 @@ returns g c =
           set.store.tells
           c.end.ensures.store c.end.ensures.answered;
     }
+
+pub returns-clause-counted : goal.returns-clause-counted
+returns-clause-counted g c =
+    let set = c.set_record-work.ensures in
+    let last = c.store-1.given.1 (sym (set.store.sets.same_store ∙ c.begin-txn.ensures.same_store)) in
+    ends_counted (record_put_writes c.args.offset (length c.args.bytes.now)) c.set_record-work.result
+    c.end.result _ _ (memory_of c.set_record-work.new.txn) _ _ c.begin-txn.ensures.same last
+    c.requires.ready set.counted c.end.ensures.answered c.end.ensures.counted

@@ -1,11 +1,14 @@
 use Rattle.std.proofs.Common.{◌≡◌, arith, slice_set, length}
 use Rattle.std.proofs.lemmas.Result.{on_ok_weaker}
-use Rattle.undo_journal.specs.Memory.{current}
+use Rattle.undo_journal.specs.declared.batch.Waiting.{Waiting}
+use Rattle.undo_journal.specs.Memory.{current, Joins}
 use Rattle.undo_journal.specs.Lent.{memory_of}
 use Rattle.undo_journal.specs.laws.Calls.{runs_then, runs_weaker, sets_weaker}
+use Rattle.undo_journal.specs.laws.Exits.{none_ok}
 use Rattle.undo_journal.specs.laws.Told.{sets_in_on, sets_in_handed}
 use Rattle.block_chain.specs.ChainChanges.{touched_blocks, touched_words}
 use Rattle.ef_body.proofs.Putting.{puts}
+use Rattle.ef_body.proofs.RecordWrites.{record-counted}
 use Rattle.ef_body.proofs.writing.set_record.Goals as goal
 
 pub set-requires-clause-room : goal.set-requires-clause-room
@@ -45,3 +48,15 @@ returns-clause-runs g c =
     runs_then (touched_blocks c.args.offset (length c.args.bytes.now)) 1 _ _ _ _ (omega arith)
     c.set_bytes.ensures.runs
     c.set.ensures.store.sets.writes
+
+pub returns-in_err-set_bytes-clause-counted : goal.returns-in_err-set_bytes-clause-counted
+returns-in_err-set_bytes-clause-counted g c = none_ok _ _ _ c.from_residual.ensures.1
+
+pub returns-clause-counted : goal.returns-clause-counted
+returns-clause-counted g c =
+    let put = c.in_ok-set_bytes.ensures in
+    let set : Waiting = record { at = c.args.told_at; word = c.args.told } in
+    on_ok_weaker c.set.result (λ (joins : Joins set (memory_of c.set_bytes.new.txn) (memory_of c.set.new.self)).
+    λ idle. record-counted c.args.offset (length c.args.bytes.now) set (memory_of c.args.txn.now)
+    (memory_of c.set_bytes.new.txn) (memory_of c.set.new.self) c.requires.entry (put.counted idle) (put.waits idle)
+    joins) c.set.ensures.joins

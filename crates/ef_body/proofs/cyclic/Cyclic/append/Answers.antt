@@ -4,4 +4,5 @@ use Rattle.ef_body.proofs.cyclic.Cyclic.append.Goals as goal
 
 pub returns : goal.returns
 returns g c =
-    store_commits c.push_front.result c.from_store.result c.from_store.ensures _ refl _ _ _ _ c.push_front.ensures
+    store_commits c.push_front.result c.from_store.result c.from_store.ensures _ refl _ _ _ _
+    c.push_front.ensures.commits

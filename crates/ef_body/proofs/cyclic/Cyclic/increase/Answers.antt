@@ -21,4 +21,4 @@ pub returns-clause-store : goal.returns-clause-store
 returns-clause-store g c =
     store_told c.replace_oldest.result c.from_store.result c.from_store.ensures
     (Changes RECORD_WRITES c.args.store.now c.replace_oldest.new.store)
-    (changes_after _ _ _ _ _ c.raise.ensures.store.only c.replace_oldest.ensures.store)
+    (changes_after _ _ _ _ _ c.raise.ensures.store.only c.replace_oldest.ensures.commits.store)

@@ -9,8 +9,8 @@ use Rattle.ef_body.specs.laws.Rings.{length-cyclic}
 use Rattle.ef_body.proofs.Increasing.{front-most}
 use Rattle.ef_body.proofs.cyclic.Cyclic.push_front.Goals as goal
 
-pub returns : goal.returns
-returns g c =
+pub returns-clause-commits : goal.returns-clause-commits
+returns-clause-commits g c =
     let m = committed c.args.store.now in
     let rs = cyclic_body_records m c.args.self in
     let is : c.appended.result ≡ min (length rs + 1) c.args.self.capacity =
@@ -18,4 +18,7 @@ returns g c =
     c.requires.body)) in
     subst (λ (l : List (List ℕ)). Commits (CyclicBecomes m c.args.self l) RECORD_WRITES c.args.store.now
     c.put_front.new.store c.put_front.result)
-    (front-most c.appended.result c.args.self.capacity c.args.bytes.now rs is) c.put_front.ensures
+    (front-most c.appended.result c.args.self.capacity c.args.bytes.now rs is) c.put_front.ensures.commits
+
+pub returns-clause-counted : goal.returns-clause-counted
+returns-clause-counted g c = c.put_front.ensures.counted

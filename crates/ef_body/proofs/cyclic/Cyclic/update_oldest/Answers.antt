@@ -27,4 +27,4 @@ returns g c =
     _ _
     (subst (λ (r : Cyclic). Commits (CyclicBecomes m r (front (length (cyclic_body_records m r)) c.args.bytes.now
     (cyclic_body_records m r))) RECORD_WRITES c.args.store.now c.replace_oldest.new.store c.replace_oldest.result)
-    c.in_ok-newest.ensures.found.0 c.replace_oldest.ensures)
+    c.in_ok-newest.ensures.found.0 c.replace_oldest.ensures.commits)

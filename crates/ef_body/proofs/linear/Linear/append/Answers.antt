@@ -22,4 +22,4 @@ returns g c =
     (length-linear m c.args.self c.requires.body)) _ _ _
     _
     (commits_weaker _ _ _ c.append.result _ _ (taken_added m c.args.self slot.ring at c.requires.body
-    (committed c.append.new.store) c.args.bytes.now slot.room) c.append.ensures)
+    (committed c.append.new.store) c.args.bytes.now slot.room) c.append.ensures.commits)

@@ -22,4 +22,4 @@ returns g c =
     (length-linear m c.args.self c.requires.body)) _ _ _
     _
     (commits_weaker _ _ _ c.replace.result _ _ (taken_put m c.args.self slot.ring at.0 c.requires.body
-    (committed c.replace.new.store) slot.number c.args.number c.args.bytes.now at.1) c.replace.ensures)
+    (committed c.replace.new.store) slot.number c.args.number c.args.bytes.now at.1) c.replace.ensures.commits)

@@ -1,6 +1,8 @@
+use Rattle.std.proofs.Common.{◌*◌, ◌+◌, ◌∙◌, ℕ, ap, length}
 use Rattle.undo_journal.specs.Memory.{committed}
+use Rattle.ef_body.specs.BodyChanges.{record_put_writes, slot_offset}
 use Rattle.ef_body.proofs.Becoming.{ring_added, slot_lies}
-use Rattle.ef_body.proofs.Calling.{commits_weaker}
+use Rattle.ef_body.proofs.Calling.{commits_weaker, counted_at}
 use Rattle.ef_body.proofs.slot.FreeSlot.append.Goals as goal
 
 pub put_record-requires-clause-lie : goal.put_record-requires-clause-lie
@@ -9,11 +11,19 @@ put_record-requires-clause-lie g c =
     c.slot_of.result _
     c.slot_of.ensures.within c.offset_of-offset.ensures
 
-pub returns : goal.returns
-returns g c =
+pub returns-clause-commits : goal.returns-clause-commits
+returns-clause-commits g c =
     let ring = c.args.self.ring in
     commits_weaker _ _ _ c.put_record.result _ _
     (ring_added (committed c.args.store.now) (committed c.put_record.new.store) ring c.args.bytes.now
     c.requires.ready.usable.committed_size c.requires.body c.requires.size c.args.self.room
     c.slot_of.result c.offset_of-offset.result c.counts-told.result c.slot_of.ensures.slot c.offset_of-offset.ensures
-    c.counts-told.ensures) c.put_record.ensures
+    c.counts-told.ensures) c.put_record.ensures.commits
+
+pub returns-clause-counted : goal.returns-clause-counted
+returns-clause-counted g c =
+    let slot = c.slot_of.ensures.slot in
+    counted_at c.put_record.result (λ (at : ℕ). record_put_writes at (length c.args.bytes.now)) _ _ _
+    (slot_offset c.args.self.ring (c.args.self.ring.records + 1))
+    (c.offset_of-offset.ensures ∙ ap (λ (s : ℕ). s * c.args.self.ring.record_length) slot)
+    c.put_record.ensures.counted

@@ -1,7 +1,9 @@
-use Rattle.std.proofs.Common.{◌≤◌, arith, length}
+use Rattle.std.proofs.Common.{◌≤◌, ◌*◌, ◌∙◌, ℕ, ap, arith, length}
 use Rattle.undo_journal.specs.Memory.{committed}
+use Rattle.block_store.specs.Writes.{put_writes}
+use Rattle.ef_body.specs.BodyChanges.{slot_offset}
 use Rattle.ef_body.proofs.Becoming.{ring_put, slot_lies}
-use Rattle.ef_body.proofs.Calling.{commits_weaker, commits_within}
+use Rattle.ef_body.proofs.Calling.{commits_weaker, commits_within, counted_at}
 use Rattle.ef_body.proofs.Putting.{touched_few, touched_few_blocks}
 use Rattle.ef_body.proofs.slot.RecordSlot.replace.Goals as goal
 
@@ -11,8 +13,8 @@ put_bytes-requires-clause-lie g c =
     c.slot_of.result _
     c.slot_of.ensures.within c.offset_of-offset.ensures
 
-pub returns : goal.returns
-returns g c =
+pub returns-clause-commits : goal.returns-clause-commits
+returns-clause-commits g c =
     let slot = c.args.self in
     let short = c.requires.body.slots.short in
     let few : length c.args.bytes.now ≤ 255 = omega (arith, short, c.requires.size) in
@@ -23,3 +25,11 @@ returns g c =
     c.requires.ready.usable.committed_size c.requires.body c.requires.size slot.from_first slot.to_last
     c.slot_of.result c.offset_of-offset.result c.slot_of.ensures.slot c.offset_of-offset.ensures)
     (commits_within _ _ _ _ _ _ (omega (arith, words, blocks)) c.put_bytes.ensures.commits)
+
+pub returns-clause-counted : goal.returns-clause-counted
+returns-clause-counted g c =
+    let slot = c.slot_of.ensures.slot in
+    counted_at c.put_bytes.result (λ (at : ℕ). put_writes at (length c.args.bytes.now)) _ _ _
+    (slot_offset c.args.self.ring c.args.self.number)
+    (c.offset_of-offset.ensures ∙ ap (λ (s : ℕ). s * c.args.self.ring.record_length) slot)
+    c.put_bytes.ensures.counted

@@ -8,11 +8,14 @@ use Rattle.card_state.specs.RecordLists.{front}
 use Rattle.ef_body.specs.laws.Rings.{length-cyclic}
 use Rattle.ef_body.proofs.slot.RecordSlot.replace_oldest.Goals as goal
 
-pub returns : goal.returns
-returns g c =
+pub returns-clause-commits : goal.returns-clause-commits
+returns-clause-commits g c =
     let m = committed c.args.store.now in
     let ring = c.args.self.ring in
     subst (λ (n : ℕ). Commits (CyclicBecomes m ring (front n c.args.bytes.now
     (cyclic_body_records m ring))) RECORD_WRITES
     c.args.store.now c.put_front.new.store c.put_front.result) (sym (length-cyclic m ring c.requires.body))
-    c.put_front.ensures
+    c.put_front.ensures.commits
+
+pub returns-clause-counted : goal.returns-clause-counted
+returns-clause-counted g c = c.put_front.ensures.counted
