@@ -10,6 +10,7 @@ ghost use Rattle.script_output.specs.Faults.{status_of};
 mod card_file;
 mod kept_file;
 mod options;
+mod page_count;
 
 use card_bench::{factory_board, run_on};
 use card_file::{CardFault, open_card};

@@ -1,7 +1,11 @@
 //! The options of the command line.
-ghost use Rattle.std.specs.Prelude.{◌≤◌};
+ghost use Rattle.std.specs.Prelude.{◌≤◌, map, take};
+ghost use Rattle.std.specs.String.{string_bytes};
+ghost use Rattle.std.specs.Vec.Iter.{into_iter_items, into_iter_len};
+ghost use Rattle.bench_cli.specs.OptionParts.{no_options, GivenOptions, IsAskedBy, TakesWords};
 ghost use Rattle.nvm_board.specs.declared.board.TheConstants.{LEAST_PAGES, MOST_PAGES};
 
+use crate::page_count::PageCount;
 use nvm_board::{LEAST_PAGES, MOST_PAGES};
 use std::vec::IntoIter;
 
@@ -28,34 +32,6 @@ impl CardOptions {
     }
 }
 
-/// The number of pages of a board.
-#[derive(Drop)]
-pub struct PageCount {
-    number: u16,
-    ghost least: { LEAST_PAGES ≤ number },
-    ghost most: { number ≤ MOST_PAGES },
-}
-
-impl PageCount {
-    /// Returns the number in a text, if a board can have it.
-    fn parse(text: &str) -> Option<PageCount> {
-        match text.parse::<u16>() {
-            Ok(number) if LEAST_PAGES <= number && number <= MOST_PAGES => {
-                Some(PageCount { number })
-            }
-            _ => None,
-        }
-    }
-
-    /// Returns the number.
-    pub fn number(&self) -> u16
-        ensures least { LEAST_PAGES ≤ result }
-        ensures most { result ≤ MOST_PAGES }
-    {
-        self.number
-    }
-}
-
 /// What a command line asks for.
 #[derive(Drop)]
 pub enum Asked {
@@ -75,35 +51,97 @@ enum Next {
     Pages,
 }
 
-/// Reads the words after the program's name.
-pub fn read_words(words: IntoIter<String>) -> Asked {
-    let mut path = None;
-    let mut pages = None;
-    let mut sync = false;
-    let mut is_known = true;
-    let mut next = Next::Option;
-    for word in words {
-        match next {
-            Next::Path => {
-                path = Some(word);
-                next = Next::Option;
-            }
-            Next::Pages => {
-                pages = PageCount::parse(word.as_str());
-                is_known = is_known && pages.is_some();
-                next = Next::Option;
-            }
-            Next::Option => match word.as_str() {
-                "--card" => next = Next::Path,
-                "--pages" => next = Next::Pages,
-                "--sync" => sync = true,
-                _ => is_known = false,
-            },
+/// The words that were read so far.
+#[derive(Drop)]
+struct Reading {
+    path: Option<String>,
+    pages: Option<PageCount>,
+    sync: bool,
+    is_known: bool,
+    next: Next,
+}
+
+impl Reading {
+    ghost use Rattle.std.specs.Prelude.{◌≡◌};
+    ghost use Rattle.std.specs.String.{string_bytes};
+    ghost use Rattle.bench_cli.specs.OptionParts.{options_read, no_options, IsAskedBy, TakesOption, TakesRole};
+
+    /// Returns that no word was read.
+    fn new() -> Reading
+        ensures { options_read result ≡ no_options }
+    {
+        Reading {
+            path: None,
+            pages: None,
+            sync: false,
+            is_known: true,
+            next: Next::Option,
         }
     }
-    match (path, next) {
-        (Some(path), Next::Option) if is_known => Asked::Card(CardOptions { path, pages, sync }),
-        (None, Next::Option | Next::Pages) => Asked::Factory,
-        _ => Asked::Unknown,
+
+    /// Takes the next word.
+    fn take(&mut self, word: String)
+        ensures { TakesRole self.old.next (options_read self.old) (string_bytes word) (options_read self.new) }
+    {
+        match self.next {
+            Next::Path => {
+                self.path = Some(word);
+                self.next = Next::Option;
+            }
+            Next::Pages => {
+                self.pages = PageCount::parse(word.as_str());
+                self.is_known = self.is_known && self.pages.is_some();
+                self.next = Next::Option;
+            }
+            Next::Option => self.take_option(word.as_bytes()),
+        }
     }
+
+    /// Takes a word that names an option.
+    fn take_option(&mut self, word: &[u8])
+        ensures { TakesOption (options_read self.old) word.now (options_read self.new) }
+    {
+        if word == b"--card".as_slice() {
+            self.next = Next::Path;
+        } else if word == b"--pages".as_slice() {
+            self.next = Next::Pages;
+        } else if word == b"--sync".as_slice() {
+            self.sync = true;
+        } else {
+            self.is_known = false;
+        }
+    }
+
+    /// Returns what the words ask for.
+    fn asked(self) -> Asked
+        ensures { IsAskedBy (options_read self) result }
+    {
+        let Reading {
+            path,
+            pages,
+            sync,
+            is_known,
+            next,
+        } = self;
+        match (path, next) {
+            (Some(path), Next::Option) if is_known => {
+                Asked::Card(CardOptions { path, pages, sync })
+            }
+            (None, Next::Option | Next::Pages) => Asked::Factory,
+            _ => Asked::Unknown,
+        }
+    }
+}
+
+/// Reads the words after the program's name.
+pub fn read_words(words: IntoIter<String>) -> Asked
+    ensures { (given : GivenOptions)
+        × TakesWords no_options (map string_bytes (take (into_iter_len words) (into_iter_items words))) given
+        × IsAskedBy given result }
+{
+    let mut reading = Reading::new();
+    for word in words {
+        reading.take(word);
+    }
+    reading.asked()
 }

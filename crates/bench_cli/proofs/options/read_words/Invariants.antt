@@ -1,0 +1,12 @@
+use Rattle.std.proofs.Common.{map, take}
+use Rattle.std.specs.String.{string_bytes}
+use Rattle.std.specs.Vec.Iter.{into_iter_items, into_iter_len}
+use Rattle.bench_cli.specs.OptionParts.{options_read, GivenOptions, TakesWords}
+use Rattle.bench_cli.proofs.options.read_words.Given as goal
+
+abbrev pub invariant-loop-word : goal.invariant-loop-word
+invariant-loop-word l = (last : GivenOptions)
+    → TakesWords (options_read l.reading)
+    (map string_bytes (take (into_iter_len l.word-iterator) (into_iter_items l.word-iterator))) last
+    → TakesWords (options_read l.initial.reading)
+    (map string_bytes (take (into_iter_len l.initial.word-iterator) (into_iter_items l.initial.word-iterator))) last
