@@ -59,9 +59,10 @@ impl Listing {
     }
 }
 
-/// Checks the file tree, and returns free space and index. It returns `None` for an invalid tree. It reads the first
-/// word of each entry and eleven more of each used one. It also reads one link per block, and the header's words for
-/// the format and for the first free block. It builds the index from the entries that it reads.
+/// Checks the file tree, and returns free space and index. It returns `None` for an invalid tree. It builds the index
+/// from the entries that it reads. No clause counts device reads. The code reads the first word of each entry and
+/// eleven more of each used one. It also reads one link per block, and the header's words for the format and for the
+/// first free block.
 ///
 /// # Errors
 /// The store's failure: power was lost, or the device failed.

@@ -84,8 +84,8 @@ fn walk_over<B: Board>(
 /// exactly once, and each extent must be as it says. It returns the number of free blocks, or `None` for another
 /// layout.
 ///
-/// The walk marks each block when it first comes to it, and stops at a marked one. So a cycle ends the walk, and
-/// there are at most as many device reads as blocks and one, whatever the words are.
+/// The walk marks each block when it first comes to it, and stops at a marked one. So a cycle ends the walk. No clause
+/// counts device reads; the code makes at most as many as blocks and one, whatever the words are.
 ///
 /// # Errors
 /// The store's failure: power was lost, or the device failed.
