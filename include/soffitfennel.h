@@ -55,6 +55,12 @@
  * a loss of power the caller makes the card again of the image, and power-on rolls back an unfinished command. If a
  * store fails, the caller stores no later write, and makes the card again of the image. How safe a stored write is, is
  * the caller's choice: a file's survives the end of the program after pwrite, and a loss of power after fdatasync.
+ *
+ * A kept card has room for SOFFITFENNEL_WRITES writes of one call. By its contracts power-on makes at most 3,520, and a
+ * block 700. A command is sent in blocks, and runs once, so no call should make more; but no contract bounds the writes
+ * of a whole command. If a call makes more, it returns OVERRUN: the card has run, and the caller lacks writes. The
+ * caller then stores the words that soffitfennel_words copies as a new image, and makes the card again of them. A card
+ * that isn't kept never returns OVERRUN.
  */
 #ifndef SOFFITFENNEL_H
 #define SOFFITFENNEL_H
@@ -79,7 +85,7 @@ enum {
     SOFFITFENNEL_MEMORY = 5,  /* there is too little memory: no card was made */
     SOFFITFENNEL_NO_CARD = 6, /* the words are no valid card image: no card was made */
     SOFFITFENNEL_UNTAKEN = 7, /* writes of an earlier call are not taken: nothing was done */
-    SOFFITFENNEL_OVERRUN = 8, /* the call made more than SOFFITFENNEL_WRITES writes: the image can't follow */
+    SOFFITFENNEL_OVERRUN = 8, /* a kept card made more than SOFFITFENNEL_WRITES writes: the image can't follow */
     SOFFITFENNEL_ABSENT = 9   /* the pointer is null: there is no card */
 };
 
@@ -99,7 +105,7 @@ enum {
 #define SOFFITFENNEL_ATR "\x3B\x80\x81\x31\xFE\x45\x8B"
 
 /* Makes the factory card, with power off, and ends the card that was there before. DONE; or MEMORY, and then the card
- * stays as it was. It is no kept card. */
+ * stays as it was. It isn't kept. */
 int32_t soffitfennel_factory(soffitfennel_card *card);
 
 /* Makes the card whose memory has these words, with power off, like soffitfennel_factory; a kept card if kept is true.
@@ -112,7 +118,7 @@ int32_t soffitfennel_insert(soffitfennel_card *card, const uint32_t *words, size
  * DONE; or SIZE if room is below SOFFITFENNEL_WRITE, and then no write is taken. */
 int32_t soffitfennel_write(soffitfennel_card *card, size_t *offset, uint8_t *bytes, size_t room, size_t *size);
 
-/* The next functions run the card. On a kept card each can also return UNTAKEN or OVERRUN. */
+/* The next functions run the card. On a kept card each can also return UNTAKEN or, never expected, OVERRUN. */
 
 /* Switches power on, after power off if it is on. DONE: the card booted. MUTE or DARK. */
 int32_t soffitfennel_power_on(soffitfennel_card *card);

@@ -54,9 +54,9 @@ print_outcome (prints_free free) = outcome.Done
 abbrev pub told_print : Told → Print
 told_print told = print_of told.came told.bytes.items told.bytes.items
 
--- The writes of an order are those that a log has since an earlier count. The log is of a board with the same facts. The
--- desk hides its board, so no clause says that it is this one.
-pub record LogsWrites (earlier : ℕ) (now : SessionState) : Type 0 where
+-- The writes are those that a log has since an earlier count. The log is of a board with the same facts. The desk hides
+-- its board, so no clause says that it is this one.
+pub record AreLogged (earlier : ℕ) (now : SessionState) : Type 0 where
   pub board : KeptBoard WriteLog
   pub log : WriteLog
   pub facts : kept_facts board ≡ bench_facts now.desk.bench
@@ -64,8 +64,15 @@ pub record LogsWrites (earlier : ℕ) (now : SessionState) : Type 0 where
   pub count : now.count ≡ log.count
   pub untaken : now.untaken ≡ map run_of (writes_since earlier log)
 
--- The log of the card's board has lost a write since an earlier count, or it has more than there is room for.
+-- The writes of an order. A card that isn't kept has none to take, and counts none.
+pub record LogsWrites (earlier : ℕ) (now : SessionState) : Type 0 where
+  pub unkept : now.room ≡ 0 → (now.untaken ≡ []) × (now.count ≡ earlier)
+  pub kept : 0 < now.room → AreLogged earlier now
+
+-- The card is kept, and the log of its board has lost a write since an earlier count, or has more than there is room
+-- for.
 pub record LosesWrites (earlier room : ℕ) (now : SessionState) : Type 0 where
+  pub kept : 0 < room
   pub board : KeptBoard WriteLog
   pub facts : kept_facts board ≡ bench_facts now.desk.bench
   pub many : (log : WriteLog) → board.follower ≡ Some log → (length log.writes.items < fresh_count earlier log.count)
