@@ -1,7 +1,7 @@
 -- The outcome of a call from C, and its bytes.
-use Rattle.std.specs.Prelude.{◌≡◌, ◌≢◌, ◌≤◌, ◌<◌, ◌*◌, ◌⊎◌, ℕ, ℤ, pos, Bool, List, [], ◌∷◌, Option, None, Some}
+use Rattle.std.specs.Prelude.{◌≡◌, ◌≢◌, ◌≤◌, ◌<◌, ◌*◌, ◌⊎◌, ℕ, ℤ, pos, Bool, false, List, [], ◌∷◌, Option, None, Some}
 use Rattle.std.specs.Prelude.{Result, Ok, Err, length, take, map}
-use Rattle.nvm_board.specs.Facts.{IsMemory}
+use Rattle.nvm_board.specs.Facts.{Facts, IsMemory}
 use Rattle.simulated_boards.specs.Given.{board_with}
 use Rattle.kept_board.specs.Handed.{Run}
 use Rattle.kept_board.specs.Kept.{kept_facts}
@@ -13,7 +13,7 @@ use Rattle.bench_turns.specs.BenchStates.{bench_facts}
 use Rattle.bench_turns.specs.Plays.{IsGood}
 use Rattle.card_bench.specs.DeskStates.{print_of}
 use Rattle.card_bench.specs.Performing.{Performs}
-use Rattle.card_bench.specs.Prints.{IsJustWritten, desk_of}
+use Rattle.card_bench.specs.Prints.{IsJustWritten}
 use Rattle.script_output.specs.Printouts.{Print}
 use Rattle.script_output.specs.Printouts.{prints_nothing, prints_atr, prints_mute, prints_dark, prints_lost, prints_bytes}
 use Rattle.script_output.specs.Printouts.{prints_free}
@@ -170,13 +170,13 @@ FitsCall order out = IsOrderSized order × (ROOM ≤ length out)
 abbrev pub inserted : List ℕ → Bool → SessionState
 inserted words kept = begun_at (board_with words) (log_room kept)
 
--- the factory card on a new board of 896 blocks, with power off
-pub record IsFactoryFresh (s : SessionState) : Type 0 where
-  pub words : List ℕ
-  pub desk : s.desk ≡ desk_of (record (bench_facts s.desk.bench) { words = words })
-  pub card : Finds words (factory_card 896)
-  pub counts : IsJustWritten (bench_facts s.desk.bench)
-  pub unkept : s.room ≡ 0
+-- a handle has the factory card, in the first state on a new board of 896 blocks, and it isn't kept
+pub record IsFactoryFresh (now : Option SessionState) : Type 0 where
+  pub board : Facts
+  pub begun : now ≡ Some (begun_at board (log_room false))
+  pub card : Finds board.words (factory_card 896)
+  pub counts : IsJustWritten board
+  pub uncut : board.pending ≡ None
 
 -- why words are refused
 pub record RefusesWords (words : List ℕ) (number : ℤ) : Type 0 where

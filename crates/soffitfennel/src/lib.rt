@@ -7,7 +7,7 @@ mod session;
 mod write;
 mod write_log;
 
-ghost use Rattle.std.specs.Prelude.{◌≡◌, ◌≢◌, ◌≤◌, ◌<◌, None, Some, pos, [], length, IfSome};
+ghost use Rattle.std.specs.Prelude.{◌≡◌, ◌≢◌, ◌≤◌, ◌<◌, None, Some, pos, [], length};
 ghost use Rattle.bench_lines.specs.Orders.{IsOrderSized, On, Off, Apdu, Block, Cut, Lose, Garble};
 ghost use Rattle.bench_lines.specs.OrderViews.{order_with};
 ghost use Rattle.command_base.specs.Finding.{HasCard};
@@ -169,7 +169,7 @@ fn put(alloc: Global, card: &mut Handle, board: CutBoard, kept: bool) -> Outcome
 /// Makes the factory card, with power off, in place of the handle's card.
 #[unsafe(no_mangle)]
 pub extern "C" fn soffitfennel_factory(alloc: Global, card: &mut Handle) -> i32
-    ensures done { result ≡ pos 0 → IfSome card.new.value IsFactoryFresh }
+    ensures done { result ≡ pos 0 → IsFactoryFresh card.new.value }
     ensures undone { result ≢ pos 0 → (result ≡ outcome_number Outcome.Memory)
         × (card.new.value ≡ card.old.value) }
 {
