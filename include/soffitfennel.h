@@ -35,7 +35,7 @@
  *
  * A card is one pointer. The caller keeps it, and passes its address. It is null before soffitfennel_factory or
  * soffitfennel_insert makes a card, and after soffitfennel_remove; then the other functions do nothing, and return
- * ABSENT.
+ * ABSENT, whatever else they are given. Otherwise a wrong SIZE comes before UNTAKEN.
  *
  * What the caller owes; no function can test it:
  * - It sets the pointer to null at first, and changes it by these functions alone. It doesn't read or write what the

@@ -157,9 +157,14 @@ pub record ReturnsSpace (was now : Option SessionState) (blocks entries : ℕ) (
   pub number_is : number ≡ outcome_number result
   pub runs : CallRuns Free was now result (ReportsSpace blocks entries) ((blocks ≡ 0) × (entries ≡ 0))
 
+-- why a size or a number is refused: there is no card, or else it is out of its range
+abbrev pub refusal_of : Option SessionState → Outcome
+refusal_of None = outcome.Absent
+refusal_of (Some was) = outcome.Size
+
 -- a size or a number is out of its range, and nothing was done
 pub record RefusesCall (was now : Option SessionState) (number : ℤ) : Type 0 where
-  pub number_is : number ≡ outcome_number outcome.Size
+  pub number_is : number ≡ outcome_number (refusal_of was)
   pub same : now ≡ was
 
 -- the bytes and the buffer have their sizes

@@ -15,7 +15,7 @@ ghost use Rattle.simulated_boards.specs.Cut.{cut_facts};
 ghost use Rattle.soffitfennel.specs.SessionStates.{begun_at};
 ghost use Rattle.soffitfennel.specs.Telling.{AnswersOrder, FitsCall, IsFactoryFresh, ReadsWords, RefusesCall};
 ghost use Rattle.soffitfennel.specs.Telling.{RefusesWords, ReturnsSpace, TakesFrom, TakesWrite, Tells};
-ghost use Rattle.soffitfennel.specs.Telling.{TellsBytes, TellsWords, inserted, outcome_number};
+ghost use Rattle.soffitfennel.specs.Telling.{TellsBytes, TellsWords, inserted, outcome_number, refusal_of};
 ghost use Rattle.soffitfennel.specs.LoggedWrites.{log_room};
 ghost use Rattle.soffitfennel.specs.declared.write.TheConstants.{WRITE_BYTES};
 
@@ -135,6 +135,24 @@ fn end_card(card: Handle, alloc: Global) -> (Handle, ())
     (Handle::empty(alloc), ())
 }
 
+/// Tells why a size or a number is refused.
+fn tell_refusal(card: Handle, alloc: Global) -> (Handle, Outcome)
+    ensures same { result.0.value ≡ card.value }
+    ensures why { result.1 ≡ refusal_of card.value }
+{
+    match card.into_session() {
+        Some(session) => (Handle::of(session), Outcome::Size),
+        None => (Handle::empty(alloc), Outcome::Absent),
+    }
+}
+
+/// Returns the number of a call whose size or number is out of its range.
+fn refuse(alloc: Global, card: &mut Handle) -> i32
+    ensures { RefusesCall card.old.value card.new.value result }
+{
+    replace_with(card, alloc, tell_refusal).number()
+}
+
 /// Takes the oldest write of a handle's card.
 fn take_write(card: Handle, alloc: Global) -> (Handle, Result<Option<Write>, Outcome>)
     ensures { TakesFrom card.value result.0.value result.1 }
@@ -229,7 +247,7 @@ pub extern "C" fn soffitfennel_command(
 {
     if !command_fits(command, answer) {
         *size = 0;
-        return Outcome::Size.number();
+        return refuse(alloc, card);
     }
     exchange(alloc, card, Order::Apdu, command, answer, size)
 }
@@ -250,7 +268,7 @@ pub extern "C" fn soffitfennel_block(
 {
     if !block_fits(block, reply) {
         *size = 0;
-        return Outcome::Size.number();
+        return refuse(alloc, card);
     }
     exchange(alloc, card, Order::Block, block, reply, size)
 }
@@ -263,7 +281,7 @@ pub extern "C" fn soffitfennel_cut(alloc: Global, card: &mut Handle, number: u32
     ensures unfit { ¬ IsOrderSized (Cut number mask) → RefusesCall card.old.value card.new.value result }
 {
     if !number_fits(number) {
-        return Outcome::Size.number();
+        return refuse(alloc, card);
     }
     run_order(alloc, card, Order::Cut { number, mask })
 }
@@ -275,7 +293,7 @@ pub extern "C" fn soffitfennel_lose(alloc: Global, card: &mut Handle, number: u3
     ensures unfit { ¬ IsOrderSized (Lose number) → RefusesCall card.old.value card.new.value result }
 {
     if !number_fits(number) {
-        return Outcome::Size.number();
+        return refuse(alloc, card);
     }
     run_order(alloc, card, Order::Lose(number))
 }
@@ -287,7 +305,7 @@ pub extern "C" fn soffitfennel_garble(alloc: Global, card: &mut Handle, number: 
     ensures unfit { ¬ IsOrderSized (Garble number) → RefusesCall card.old.value card.new.value result }
 {
     if !number_fits(number) {
-        return Outcome::Size.number();
+        return refuse(alloc, card);
     }
     run_order(alloc, card, Order::Garble(number))
 }
@@ -363,7 +381,7 @@ pub extern "C" fn soffitfennel_write(
     *offset = 0;
     *size = 0;
     if bytes.len() < WRITE_BYTES {
-        return Outcome::Size.number();
+        return refuse(alloc, card);
     }
     match replace_with(card, alloc, take_write) {
         Ok(Some(write)) => {
