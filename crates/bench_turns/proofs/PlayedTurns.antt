@@ -103,6 +103,7 @@ plays_more old between new turns trace turn item all more =
         one = more.one (all.has_card before) (second good);
         counts = more.counts;
         wears = more.wears (all.has_card before) (second good);
+        guesses = more.guesses;
       });
     }
 

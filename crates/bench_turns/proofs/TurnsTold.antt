@@ -45,7 +45,8 @@ plays-block old new got i plays = record {
 
 pub good-block : (old new : BenchState) (got : Bor (List ℕ)) (i : Item) → GoodTurn old (turn.Block got) i new
     → GoodBlock old got.now i new
-good-block old new got i good = record { one = good.one; counts = good.counts; wears = good.wears }
+good-block old new got i good =
+    record { one = good.one; counts = good.counts; wears = good.wears; guesses = good.guesses }
 
 -- a turn on a board that counts no fault
 module _ (told : TurnResult) (block : List ℕ) (old new : BenchState) (t : Turn) (faults : (bench_facts new).faults ≡ 0)
@@ -62,6 +63,7 @@ module _ (told : TurnResult) (block : List ℕ) (old new : BenchState) (t : Turn
     one = plays.one good.has_card none;
     counts = plays.counts;
     wears = plays.wears good.has_card none;
+    guesses = plays.guesses;
   }
 
   pub good-turn : TellsItem told block (λ i. Plays old t i new)

@@ -16,6 +16,7 @@ use Rattle.bench_turns.specs.declared.turn.Item.{Item}
 use Rattle.bench_turns.specs.declared.turn.Item.TheVariants.{Atr, Quiet, Mute, Dark, Reply}
 use Rattle.bench_turns.specs.BenchStates.{BenchState, off, on, bench_card, bench_facts, IsFresh, IsOff, switched_off}
 use Rattle.bench_turns.specs.CardBlocks.{Powered, Replies, IsRun, BlockStands, IsBlockStage}
+use Rattle.bench_turns.specs.Guessing.{GuessesFew}
 
 -- The device writes of a start are those of the rollback, and of the way to format 2.
 abbrev pub WritesAsAsked : Facts → Facts → Type 0
@@ -150,17 +151,19 @@ pub record Wears (most : ℕ) (old new : Facts) : Type 0 where
   pub compares : RisesAt old.compares secret new.compares
   pub matches : RisesAt old.matches secret new.matches
 
--- One turn without a fault, with its use of the board's counters.
+-- One turn without a fault, with its use of the board's counters, and the guess law.
 pub record GoodTurn (old : BenchState) (turn : Turn) (item : Item) (new : BenchState) : Type 0 where
   pub one : OneTurn old turn item new
   pub counts : Spends (dark_of item) (bench_facts old) (bench_facts new)
   pub wears : Wears (turn_writes old turn) (bench_facts old) (bench_facts new)
+  pub guesses : GuessesFew old new
 
--- One block without a fault, with its use of the board's counters.
+-- One block without a fault, with its use of the board's counters, and the guess law.
 pub record GoodBlock (old : BenchState) (got : List ℕ) (item : Item) (new : BenchState) : Type 0 where
   pub one : TakesBlock old got item new
   pub counts : Spends (dark_of item) (bench_facts old) (bench_facts new)
   pub wears : Wears COMMAND_WRITES (bench_facts old) (bench_facts new)
+  pub guesses : GuessesFew old new
 
 -- Several turns in order, with the result of each.
 unfoldable pub Runs : BenchState → List Turn → List Item → BenchState → Type 0

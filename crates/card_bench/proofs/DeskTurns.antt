@@ -43,7 +43,12 @@ pub block_taken : (old new : Desk) (got : Bor (List ℕ)) (prints : Print) → T
     → PerformsBlock old got.now new prints
 block_taken old new got prints taken = record {
   outcome = taken.outcome;
-  turn = record { one = taken.turn.one; counts = taken.turn.counts; wears = taken.turn.wears };
+  turn = record {
+    one = taken.turn.one;
+    counts = taken.turn.counts;
+    wears = taken.turn.wears;
+    guesses = taken.turn.guesses;
+  };
   reader = taken.reader ∙ none-started old.bench new.bench got.now taken.outcome taken.turn.one;
   line = taken.line;
   printed = taken.printed;

@@ -6,6 +6,7 @@ pub mod ExchangeRuns
 pub mod ExchangeSteps
 pub mod FormatLemmas
 pub mod FreeTold
+pub mod GuessedLines
 pub mod ScriptLines
 pub mod ScriptInWorld
 pub mod ReaderSays

@@ -8,9 +8,11 @@ use Rattle.kept_board.specs.Kept.{kept_facts}
 use Rattle.kept_board.specs.declared.kept_board.KeptBoard.{KeptBoard}
 use Rattle.bench_lines.specs.Orders.{Order}
 use Rattle.bench_turns.specs.BenchStates.{bench_facts}
+use Rattle.bench_turns.specs.Guessing.{GuessesFew}
 use Rattle.bench_turns.specs.Plays.{IsGood}
 use Rattle.card_bench.specs.Exchanges.{Desk}
 use Rattle.card_bench.specs.Performing.{Performs}
+use Rattle.card_bench.proofs.GuessedLines.{performs_few}
 use Rattle.script_output.specs.Printouts.{Print}
 use Rattle.soffitfennel.specs.LoggedWrites.{fresh_count, image_bytes, run_of, writes_since}
 use Rattle.soffitfennel.specs.SessionStates.{SessionState}
@@ -122,5 +124,7 @@ performed order was now desk prints taken performs good desk_is prints_is room =
   performs = subst (λ (d : Desk). Performs order was.desk d now.prints) (sym desk_is)
       (subst (λ (p : Print). Performs order was.desk desk p) (sym prints_is) performs);
   good = subst (λ (d : Desk). IsGood d.bench) (sym desk_is) good;
+  guesses = subst (λ (d : Desk). GuessesFew was.desk.bench d.bench) (sym desk_is)
+      (performs_few order was.desk desk prints performs);
   room = room;
 }

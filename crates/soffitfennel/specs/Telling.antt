@@ -10,6 +10,7 @@ use Rattle.card_start.specs.Factory.{factory_card}
 use Rattle.command_base.specs.Finding.{Finds, HasCard}
 use Rattle.bench_lines.specs.Orders.{Order, IsOrderSized, Free}
 use Rattle.bench_turns.specs.BenchStates.{bench_facts}
+use Rattle.bench_turns.specs.Guessing.{GuessesFew}
 use Rattle.bench_turns.specs.Plays.{IsGood}
 use Rattle.card_bench.specs.DeskStates.{print_of}
 use Rattle.card_bench.specs.Performing.{Performs}
@@ -78,11 +79,12 @@ pub record LosesWrites (earlier room : ℕ) (now : SessionState) : Type 0 where
   pub many : (log : WriteLog) → board.follower ≡ Some log → (length log.writes.items < fresh_count earlier log.count)
       ⊎ (room < fresh_count earlier log.count)
 
--- An order runs. The memory has a card state after it, and the board had no fault.
+-- An order runs. The memory has a card state after it, the board had no fault, and the guess law holds.
 pub record IsPerformed (order : Order) (was now : SessionState) : Type 0 where
   pub taken : was.untaken ≡ []
   pub performs : Performs order was.desk now.desk now.prints
   pub good : IsGood now.desk.bench
+  pub guesses : GuessesFew was.desk.bench now.desk.bench
   pub room : now.room ≡ was.room
 
 -- writes of an earlier order are left, so nothing is done
