@@ -11,3 +11,4 @@ pub mod ScriptLines
 pub mod ScriptInWorld
 pub mod ReaderSays
 pub mod LineWear
+pub mod NewBoards

@@ -1,16 +1,24 @@
 -- Why words are no valid card image.
 use Rattle.std.specs.Prelude.{ℕ, List}
 use Rattle.nvm_board.specs.Facts.{IsMemory}
+use Rattle.undo_journal.specs.Undo.{IsBadJournal, IsSound}
+use Rattle.card_start.specs.declared.faults.StartFault.{StartFault}
 use Rattle.card_start.specs.declared.faults.StartFault.TheVariants.{BadJournal, Damaged, PowerLost, Fault}
-use Rattle.command_base.specs.Finding.{HasCard}
+use Rattle.command_base.specs.Finding.{HasCard, words_found}
+use Rattle.command_base.specs.Standing.{IsAnyCard}
 use Rattle.card_bench.specs.declared.image.NoCard.{NoCard}
 use Rattle.card_bench.specs.declared.image.NoCard.TheVariants.{Memory, Size, Start}
+
+-- Power-on fails by these words: undo isn't defined, or the words after it are no valid card image. A new board loses
+-- no power, and has no fault.
+abbrev pub IsFaultOf : StartFault → List ℕ → Type 0
+IsFaultOf BadJournal words = IsBadJournal words
+IsFaultOf Damaged words = IsSound words × ¬ IsAnyCard (words_found words)
+IsFaultOf PowerLost words = ⊥
+IsFaultOf Fault words = ⊥
 
 -- no board has this number of words, or recovery finds no card in them
 abbrev pub IsRefusedRightly : NoCard → List ℕ → Type 0
 IsRefusedRightly Memory words = Unit {0}
 IsRefusedRightly Size words = ¬ IsMemory words
-IsRefusedRightly (Start BadJournal) words = ¬ HasCard words
-IsRefusedRightly (Start Damaged) words = ¬ HasCard words
-IsRefusedRightly (Start PowerLost) words = Unit {0}
-IsRefusedRightly (Start Fault) words = Unit {0}
+IsRefusedRightly (Start fault) words = IsMemory words × ¬ HasCard words × IsFaultOf fault words

@@ -185,10 +185,11 @@ pub record IsFactoryFresh (now : Option SessionState) : Type 0 where
   pub counts : IsJustWritten board
   pub uncut : board.pending ≡ None
 
--- why words are refused
-pub record RefusesWords (words : List ℕ) (number : ℤ) : Type 0 where
-  pub size : number ≡ outcome_number outcome.Size → ¬ IsMemory words
-  pub none : number ≡ outcome_number outcome.NoCard → ¬ HasCard words
+-- why words are refused: there is too little memory, no board has this number of words, or they have no card
+abbrev pub RefusesWords : List ℕ → ℤ → Type 0
+RefusesWords words number = (number ≡ outcome_number outcome.Memory)
+    ⊎ ((number ≡ outcome_number outcome.Size) × ¬ IsMemory words)
+    ⊎ ((number ≡ outcome_number outcome.NoCard) × IsMemory words × ¬ HasCard words)
 
 -- the words of a card are read, if there is a card and enough memory
 abbrev pub ReadsWords : {V : Type 0} → (V → List ℕ) → Option SessionState → Result V Outcome → Type 0

@@ -19,7 +19,6 @@ use crate::write::Write;
 use crate::write_log::{WriteLog, room_for_writes};
 use card_bench::{COMMAND_LIMIT, Desk, LineResult, NoCard, Order, image_board};
 use card_core::FreeSpace;
-use card_start::StartFault;
 use circular_buffer::HeapCircularBuffer;
 use kept_board::KeptBoard;
 use nvm_board::has_no_fault;
@@ -316,8 +315,6 @@ fn refusal(why: NoCard) -> Outcome
     match why {
         NoCard::Memory => Outcome::Memory,
         NoCard::Size => Outcome::Size,
-        NoCard::Start(StartFault::BadJournal | StartFault::Damaged) => Outcome::NoCard,
-        NoCard::Start(StartFault::PowerLost) => Outcome::Dark,
-        NoCard::Start(StartFault::Fault) => Outcome::Mute,
+        NoCard::Start(_) => Outcome::NoCard,
     }
 }

@@ -1,0 +1,9 @@
+use Rattle.std.proofs.Common.{◌∙◌}
+use Rattle.card_bench.proofs.NewBoards.{refused_rightly}
+use Rattle.card_bench.proofs.image.image_board.Goals as goal
+
+pub returns-in-Err-clause-none : goal.returns-in-Err-clause-none
+returns-in-Err-clause-none c =
+    refused_rightly c.args.words.items c.in-Ok.copy c.in-Err.field-0-0
+    (c.in-Ok.ensures.facts ∙ c.in-Some.ensures.board) c.in-Err.ensures.writes_err c.in-Err.fault
+    c.in-Err.ensures.stopped
