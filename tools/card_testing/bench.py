@@ -1,20 +1,9 @@
 """Runs the bench on a card in a file."""
 import subprocess
-import sys
 from pathlib import Path
 from typing import Any
 
-from .checks import TOP
-
 ATR = "atr 3B808131FE458B"
-
-
-def program() -> str:
-    """The path of the bench's program, which is built first where it isn't there."""
-    ran = subprocess.run([TOP / "tools/program"], stdout=subprocess.PIPE, text=True)
-    if ran.returncode:
-        sys.exit("card: the program is not built")
-    return ran.stdout.strip()
 
 
 class Bench:

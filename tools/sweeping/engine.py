@@ -3,7 +3,6 @@ import json
 import re
 import subprocess
 import sys
-from collections import Counter
 from collections.abc import Callable, Sequence
 from hashlib import sha256
 from multiprocessing.pool import ThreadPool
@@ -12,20 +11,11 @@ from typing import TextIO
 
 from script_lines import fault
 
-TOP = Path(__file__).resolve().parents[2]
 COMMAND, PROBE = "# command", "# probe"
 
 
 class Refused(Exception):
     """Why an input can't be swept, for a person."""
-
-
-def program(*options: str) -> str:
-    """The path of a program of the repository, which is built first if there is none."""
-    done = subprocess.run([TOP / "tools/program", *options], stdout=subprocess.PIPE, text=True)
-    if done.returncode:
-        raise Refused("the program is not built")
-    return done.stdout.strip()
 
 
 def ran(script: str, *words: str) -> list[str]:
@@ -44,15 +34,13 @@ def ran(script: str, *words: str) -> list[str]:
 
 def side_by_side(jobs: int, what: str, work: Callable, tasks: Sequence) -> list:
     """The results of tasks, in order; `jobs` tasks run at a time. A terminal shows the progress."""
-    results, is_seen = [], sys.stderr.isatty()
-    try:
-        with ThreadPool(jobs) as pool:
-            for it in pool.imap(work, tasks):
-                results.append(it)
-                told = f"\r\033[Ksweep: {len(results)} of {len(tasks)} {what}"
-                print(told * is_seen, end="", file=sys.stderr, flush=True)
-    finally:
-        print("\r\033[K" * is_seen, end="", file=sys.stderr, flush=True)
+    results: list = []
+    with ThreadPool(jobs) as pool:
+        for it in pool.imap(work, tasks):
+            results.append(it)
+            if sys.stderr.isatty():
+                end = "\r" if len(results) < len(tasks) else "\r\033[K"
+                print(f"sweep: {len(results)} of {len(tasks)} {what}", end=end, file=sys.stderr, flush=True)
     return results
 
 
@@ -70,14 +58,14 @@ def read_parts(files: list[TextIO]) -> list[dict]:
     """The parts in files. They are of one sweep and whole, and none is missing or comes twice."""
     try:
         parts = [json.load(it) for it in files]
-        of, times = parts[0]["parts"], Counter(it["part"] for it in parts)
-        wrong = [f"part {it['part']} of {of} is cut short" for it in parts if "writes" not in [{}, *it["lines"]][-1]]
-        wrong += [f"part {it} of {of} comes twice" for it in sorted(times) if times[it] > 1]
-        wrong += [f"part {it} of {of} is missing" for it in range(1, of + 1) if it not in times]
-        if any(it[key] != parts[0][key] for it in parts for key in ("script", "card", "parts")):
-            wrong = ["the parts are not of one sweep: script, card, depth or number of parts differ"]
-    except (json.JSONDecodeError, KeyError, TypeError) as why:
-        wrong = [f"a file is no part of a sweep, or is cut short ({why})"]
-    if wrong:
-        raise Refused("; ".join(wrong))
+        first, of = parts[0], parts[0]["parts"]
+        if any(it[key] != first[key] for it in parts for key in ("script", "card", "parts")):
+            raise Refused("the parts are not of one sweep: script, card, depth or number of parts differ")
+        for number in range(1, of + 1):
+            are_whole = ["writes" in it["lines"][-1] for it in parts if it["part"] == number]
+            if are_whole != [True]:
+                why = "is missing" if not are_whole else "comes twice" if len(are_whole) > 1 else "is cut short"
+                raise Refused(f"part {number} of {of} {why}")
+    except (json.JSONDecodeError, IndexError, KeyError, TypeError) as why:
+        raise Refused(f"a file is no part of a sweep, or is cut short ({why})") from None
     return parts

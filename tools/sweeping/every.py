@@ -1,16 +1,16 @@
-"""Sweeps every command of a script in its place. The lines before it prepare the card. The probe looks at all that the
-command touches: the free space, the tries of PINs, and the template and contents of files."""
+"""Sweeps every command of a script in its place: the lines before it prepare the card."""
 import time
 from argparse import Namespace
 from collections.abc import Iterator
 from functools import partial
 
-from .engine import COMMAND, PROBE, Refused, program, ran, side_by_side, sweep_part
+from .engine import COMMAND, PROBE, Refused, ran, side_by_side, sweep_part
 from .outcomes import Sweep, aligned
 from explaining.commands import OF_PINS, Command
 from explaining.files import CARRIED_OUT, Files, Path
 from explaining.templates import Template
 from explaining.twin import select
+from programs import program
 from script_lines import ORDERS_THAT_PRINT
 from testing.reading import Case, Difference
 from testing.reports import junit
@@ -35,7 +35,7 @@ def touched(files: Files, it: Command) -> dict[Path, Template]:
 
 
 def probe(files: Files, it: Command, shown: dict[int, str]) -> list[str]:
-    """The probe of a command. It verifies the PINs that were verified before."""
+    """The probe of a command: tries of PINs, and all that it touches, behind the PINs that were verified before."""
     of = touched(files, it)
     above = sorted({at[:size] for at in of for size in range(len(at))} - set(of))
     lines = [f"apdu 002000{pin:02X}" for pin in sorted({*shown, *([it.p2] if it.key in OF_PINS else [])})]
@@ -75,7 +75,7 @@ def report_all(options: Namespace) -> tuple[str, str]:
     """The table of every command of a script, and the reason if outcomes aren't allowed. Writes the reports."""
     script = options.files[0]
     chosen = [it for it in cases(script.read()) if not options.only or it[0] in options.only]
-    if missing := sorted({*(options.only or [])} - {it[0] for it in chosen}):
+    if missing := sorted({*options.only} - {it[0] for it in chosen}):
         raise Refused(f"no command stands in line {', '.join(map(str, missing))}")
     work = partial(row, program("--sweep"), script.name, options.depth)
     swept = side_by_side(options.jobs, "commands", work, chosen)

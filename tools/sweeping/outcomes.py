@@ -12,8 +12,6 @@ from explaining.templates import count
 
 BEFORE, AFTER, UNCHANGED = "as before the command", "as after the command", "as before the command, and as after it"
 TAKEN, OTHER = "with a try taken", "neither as before nor as after"
-# the commands that show the tries of a PIN and of its unblocking value; RESET RETRY COUNTER uses the latter
-VALUE, UNBLOCKING = "0020", "002C"
 # a command of more bytes goes in two blocks
 FIELD_LIMIT = 254
 # how many characters of a line, and how many numbers of writes, are shown
@@ -62,14 +60,13 @@ class Sweep:
         return (free, *(answer_of(list(islice(items, size))) for size in sizes))
 
     def stages_from(self, before: Found, after: Found) -> dict[Found, str]:
-        """The stages of the command, by how what a run found begins. After a right PIN a card with a try less is one:
-        the probe asks for the tries, and nothing before differs."""
+        """The stages of the command, by how what a run found begins. A right PIN has one more, with a try less."""
         stages = {before: BEFORE, after: AFTER} if before != after else {before: UNCHANGED}
-        if self.digits[:4] in OF_PINS and self.answer == "9000":
-            asked = f"apdu {UNBLOCKING if self.digits[:4] == UNBLOCKING else VALUE}00{self.digits[6:8]}"
-            at = self.looks.index(asked) if asked in self.looks else 0
-            with_one_less = {f"< 63C{tries:X}": f"< 63C{tries - 1:X}" for tries in range(1, 16)}
-            stages.setdefault((*before[:at], with_one_less.get(before[at], "")), TAKEN)
+        # RESET RETRY COUNTER takes a try of the unblocking value, and the others one of the value
+        asked = f"apdu {'002C' if self.digits[:4] == '002C' else '0020'}00{self.digits[6:8]}"
+        at = self.looks.index(asked) if asked in self.looks else 0
+        if self.digits[:4] in OF_PINS and self.answer == "9000" and before[at].startswith("< 63C"):
+            stages.setdefault((*before[:at], f"< 63C{int(before[at][-1], 16) - 1:X}"), TAKEN)
         return stages
 
     def meaning(self, found: Found) -> str:

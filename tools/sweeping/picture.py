@@ -10,8 +10,9 @@ OTHER_COLOURS = ("#009e73", "#cc79a7", "#d55e00", "#56b4e9", "#f0e442")
 STYLE = """<style>svg{fill:#222222}.paper{fill:#ffffff}.grid{fill:#e8e8e8}.soft{fill:#5a5a5a}.commit{fill:#c00000}
 .frame{fill:none;stroke:#c00000;stroke-width:1.5}@media (prefers-color-scheme:dark){svg{fill:#e6edf3}
 .paper{fill:#0d1117}.grid{fill:#21262d}.soft{fill:#9aa4ae}.commit{fill:#ff7b72}.frame{stroke:#ff7b72}}</style>"""
-KINDS = {"pairs": "P old words in pairs", "gate": "G the journal's gate", "words": "W new words",
-         "fill": "F a free block", "alone": "1 one word alone"}
+GATE = "G the journal's gate"
+KINDS = {"pairs": "P old words in pairs", "gate": GATE, "commit": GATE, "words": "W new words", "fill": "F a free block",
+         "alone": "1 one word alone", "same": "S words that are there already"}
 # in pixels: the margin, the left upper corner of the columns, the height of a row, the width of a letter at most
 MARGIN, LEFT, TOP, ROW, LETTER = 16, 112, 104, 18, 6.2
 COMMIT = '<path class="commit" d="M{:g} {:g} h10 l-5 8 z"/>'
@@ -29,8 +30,7 @@ class Picture:
         self.colours = {it: CARD_COLOURS.get(sweep.meaning(it)) or next(others, "#888888") for it in sweep.outcomes}
 
     def column_drawn(self, number: int, kind: str) -> list[str]:
-        """A write: its number and kind, a cell for each mask, and the frame and mark of a commit. A cell is divided by
-        the outcomes of its runs, so it shows where cut power-ons differ."""
+        """A write: its number and kind, a cell for each mask divided by outcomes, and the mark of a commit."""
         left, is_commit = LEFT + self.column * (number - 1), number in self.sweep.commits
         middle = left + self.column / 2
         parts = [text(middle, TOP - 22, KINDS[kind][0], MIDDLE + SOFT)] if self.column >= 10 else []
