@@ -1,7 +1,6 @@
 //! Cuts a command at each of its writes, and the power-ons after it too.
 ghost use Rattle.std.specs.Prelude.{◌≡◌, ◌⊎◌, ◌≤◌, ◌<◌, ◌^◌, ◌-◌, ◌+◌, [], sum_by, All, AllPairs, ◌≢◌, None, IfOk};
 ghost use Rattle.std.specs.Prelude.{IfErr, OnOk, IfSome, IfNone, is_some, true, false, IsSome};
-ghost use Rattle.simulated_boards.specs.Cut.{cut_facts};
 ghost use Rattle.bench_turns.specs.declared.turn.Item.TheVariants.{Dark};
 ghost use Rattle.command_base.specs.Finding.{HasCard};
 ghost use Rattle.bench_turns.specs.Plays.{IsGood};
@@ -20,7 +19,6 @@ use bench_turns::{Turn, TurnResult};
 use card_bench::Sweepable;
 use card_state::FreeSpace;
 use card_turns::Bench;
-use simulated_boards::CutBoard;
 use std::alloc::{AllocError, Global};
 use t1_link::BlockBytes;
 
@@ -99,19 +97,19 @@ pub fn sweep<B: Sweepable + Drop>(
 ///
 /// # Errors
 /// There is too little memory.
-pub fn cut_at(
+pub fn cut_at<B: Sweepable + Drop>(
     alloc: Global,
-    board: &CutBoard,
+    board: &B,
     prepare: &[Turn<'_>],
     command: &[u8],
     number: u32,
     mask: u16,
-) -> Result<Option<CutBoard>, AllocError>
+) -> Result<Option<B>, AllocError>
     requires { 1 ≤ number }
-    ensures cut { IfOk result (λ cut. IfSome cut (λ left. HasCard (cut_facts board.now).words
-        → CutsCommand number mask (cut_facts board.now) prepare.now command.now (cut_facts left))) }
-    ensures spared { IfOk result (λ cut. IfNone cut (HasCard (cut_facts board.now).words
-        → SparesCommand number mask (cut_facts board.now) prepare.now command.now)) }
+    ensures cut { IfOk result (λ cut. IfSome cut (λ left. HasCard (B.facts board.now).words
+        → CutsCommand number mask (B.facts board.now) prepare.now command.now (B.facts left))) }
+    ensures spared { IfOk result (λ cut. IfNone cut (HasCard (B.facts board.now).words
+        → SparesCommand number mask (B.facts board.now) prepare.now command.now)) }
 {
     let plan = Plan {
         alloc,
@@ -129,15 +127,15 @@ pub fn cut_at(
 ///
 /// # Errors
 /// There is too little memory.
-pub fn sweep_behind(
+pub fn sweep_behind<B: Sweepable + Drop>(
     alloc: Global,
-    board: &CutBoard,
+    board: &B,
     probe: &[Turn<'_>],
     depth: u8,
 ) -> Result<Sweep, AllocError>
     ensures sum { IfOk result (λ s. sum_by times_seen s.seen.items ≡ s.runs) }
-    ensures complete { IfOk result (λ s. HasCard (cut_facts board.now).words → s.runs < 2 ^ 32 - 1
-        → CountsRuns (AreAllBehind depth probe.now (cut_facts board.now)) [] s.seen.items) }
+    ensures complete { IfOk result (λ s. HasCard (B.facts board.now).words → s.runs < 2 ^ 32 - 1
+        → CountsRuns (AreAllBehind depth probe.now (B.facts board.now)) [] s.seen.items) }
 {
     let mut sweep = Sweep::new(alloc);
     match cut_starts(alloc, board, probe, depth, &mut sweep) {
@@ -151,13 +149,13 @@ pub fn sweep_behind(
 ///
 /// # Errors
 /// There is too little memory.
-pub fn play_copy(
+pub fn play_copy<B: Sweepable + Drop>(
     alloc: Global,
-    board: &CutBoard,
+    board: &B,
     turns: &[Turn<'_>],
-) -> Result<(Trace, CutBoard), AllocError>
-    ensures { IfOk result (λ played. HasCard (cut_facts board.now).words
-        → PlaysOn (cut_facts board.now) turns.now played.0.items (cut_facts played.1)) }
+) -> Result<(Trace, B), AllocError>
+    ensures { IfOk result (λ played. HasCard (B.facts board.now).words
+        → PlaysOn (B.facts board.now) turns.now played.0.items (B.facts played.1)) }
 {
     let mut bench = Bench::new(board.copy(alloc)?);
     let trace = played(alloc, &mut bench, turns)?;

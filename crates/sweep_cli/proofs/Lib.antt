@@ -2,5 +2,4 @@ pub mod Turned
 pub mod Put
 pub mod Reported
 pub mod ReadSo
-pub mod PartWritten
 pub mod Stopped

@@ -6,7 +6,7 @@ use Rattle.bench_turns.specs.declared.turn.Turn.{Turn}
 use Rattle.card_sweeps.specs.Masks.{mask_of}
 use Rattle.card_sweeps.specs.Sweeps.{CutsCommand}
 use Rattle.sweep_cli.specs.declared.device_writes.DeviceWrite.{DeviceWrite}
-use Rattle.sweep_cli.specs.DeviceWrites.{kinds_text, pairs_first, pairs_second, write_kind, write_text}
+use Rattle.sweep_cli.specs.DeviceWrites.{kinds_text, write_text}
 use Rattle.sweep_cli.specs.ReportParts.{AddsText}
 use Rattle.sweep_cli.specs.Printing.{cut_head, total_text}
 use Rattle.sweep_cli.specs.Reporting.{AreKindsOrNone, AreResults, AreWrites, HasSections, IsCutOrNone, IsDeviceWrite}
@@ -28,7 +28,7 @@ results-under head other depth probe board text same results =
     subst (λ (h : List ℕ). AreResults h depth probe board text) same results
 
 -- a cut that is none of the part
-pub none-put : (sweeping : Sweeping) (write words i : ℕ) (old : List ℕ) → (IsOfPart sweeping.part write i → ⊥)
+pub none-put : {B : Type 0} {facts : B → Facts} {torn : B → ℕ} (sweeping : Sweeping facts torn) (write words i : ℕ) (old : List ℕ) → (IsOfPart sweeping.part write i → ⊥)
     → AddsText (IsCutOrNone sweeping write words i) old old
 none-put sweeping write words i old other = record {
   more = [];
@@ -37,7 +37,7 @@ none-put sweeping write words i old other = record {
 }
 
 -- the cut with this mask
-pub cut-put : (sweeping : Sweeping) (write words i mask : ℕ) (left : Facts) (old new : List ℕ)
+pub cut-put : {B : Type 0} {facts : B → Facts} {torn : B → ℕ} (sweeping : Sweeping facts torn) (write words i mask : ℕ) (left : Facts) (old new : List ℕ)
     → mask ≡ mask_of words i → IsOfPart sweeping.part write i
     → CutsCommand write mask sweeping.board sweeping.prepare sweeping.command left
     → AddsText (AreResults (cut_head write i mask) sweeping.depth sweeping.probe left) old new
@@ -58,7 +58,7 @@ cut-put sweeping write words i mask left old new same own cut results = record {
 }
 
 -- a write that others made, as its first mask shows
-pub unmade-put : (sweeping : Sweeping) (write : ℕ) (old : List ℕ)
+pub unmade-put : {B : Type 0} {facts : B → Facts} {torn : B → ℕ} (sweeping : Sweeping facts torn) (write : ℕ) (old : List ℕ)
     → IsSparedBy sweeping write 0
     → AddsText (IsLastWrite sweeping write) old old
 unfolding TextsInTurn
@@ -76,7 +76,7 @@ unmade-put sweeping write old spared = record {
 }
 
 -- all writes, up to the first that others made
-pub writes-put : (sweeping : Sweeping) (writes : ℕ) (old each last new : List ℕ)
+pub writes-put : {B : Type 0} {facts : B → Facts} {torn : B → ℕ} (sweeping : Sweeping facts torn) (writes : ℕ) (old each last new : List ℕ)
     → AddsText (TextsInTurn (λ n. IsWrite sweeping (n + 1)) writes) old each
     → AddsText (λ t. IsLastWrite sweeping (writes + 1) t ⊎ ((writes ≡ 2 ^ 32 - 1) × (t ≡ []))) each last
     → new ≡ last ++ total_text writes sweeping.depth → AddsText (AreWrites sweeping) old new
@@ -96,12 +96,12 @@ writes-put sweeping writes old each last new some end text = record {
 }
 
 -- no device write yet
-pub writes-none : (sweeping : Sweeping) (all : List DeviceWrite) → all ≡ [] → WritesInTurn sweeping 0 all
+pub writes-none : {B : Type 0} {facts : B → Facts} {torn : B → ℕ} (sweeping : Sweeping facts torn) (all : List DeviceWrite) → all ≡ [] → WritesInTurn sweeping 0 all
 unfolding WritesInTurn
 writes-none sweeping all is = is
 
 -- one device write more
-pub writes-next : (sweeping : Sweeping) (n : ℕ) (before all : List DeviceWrite) (it : DeviceWrite)
+pub writes-next : {B : Type 0} {facts : B → Facts} {torn : B → ℕ} (sweeping : Sweeping facts torn) (n : ℕ) (before all : List DeviceWrite) (it : DeviceWrite)
     → WritesInTurn sweeping n before → IsDeviceWrite sweeping (n + 1) it → all ≡ before ++ it ∷ []
     → WritesInTurn sweeping (n + 1) all
 unfolding WritesInTurn
@@ -111,7 +111,7 @@ writes-next sweeping n before all it some next pushed =
     subst (λ (m : ℕ). WritesInTurn sweeping m all) same more
 
 -- the sections of a report, one after the other
-pub sections-put : (sweeping : Sweeping) (whole : List Turn) (old one two three new : List ℕ)
+pub sections-put : {B : Type 0} {facts : B → Facts} {torn : B → ℕ} (sweeping : Sweeping facts torn) (whole : List Turn) (old one two three new : List ℕ)
     → AddsText (IsFound sweeping (codes "before") sweeping.prepare) old one
     → AddsText (IsFound sweeping (codes "after") whole) one two → AddsText (AreKindsOrNone sweeping) two three
     → AddsText (AreWrites sweeping) three new → AddsText (HasSections sweeping whole) old new
@@ -135,15 +135,14 @@ sections-put sweeping whole old one two three new before after kinds cuts = reco
 }
 
 -- the sections of a report that begins with them
-pub sections-first : (sweeping : Sweeping) (whole : List Turn) (old new : List ℕ) → old ≡ []
+pub sections-first : {B : Type 0} {facts : B → Facts} {torn : B → ℕ} (sweeping : Sweeping facts torn) (whole : List Turn) (old new : List ℕ) → old ≡ []
     → AddsText (HasSections sweeping whole) old new → HasSections sweeping whole new
 sections-first sweeping whole old new none some =
     subst (HasSections sweeping whole) (sym (some.all ∙ ap (λ (l : List ℕ). l ++ some.more) none)) some.holds
 
 -- the line of the next device write
-pub kinds-next : (number : ℕ) (it : DeviceWrite) (later : List DeviceWrite) → kinds_text number (it ∷ later)
-    ≡ write_text number it.words (write_kind it (pairs_first later) (pairs_second later))
-    ++ kinds_text (number + 1) later
+pub kinds-next : (number : ℕ) (it : DeviceWrite) (later : List DeviceWrite)
+    → kinds_text number (it ∷ later) ≡ write_text number it ++ kinds_text (number + 1) later
 unfolding kinds_text
 kinds-next number it later = refl
 

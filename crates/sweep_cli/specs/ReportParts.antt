@@ -1,14 +1,14 @@
 -- What the parts of the program append to the report. No public clause names these.
 use Rattle.std.specs.Prelude.{◌≡◌, ℕ, Bool, true, false, List, ◌++◌}
+use Rattle.nvm_board.specs.Facts.{Facts}
 use Rattle.card_sweeps.specs.Masks.{mask_of}
-use Rattle.simulated_boards.specs.Cut.{cut_facts}
 use Rattle.sweep_cli.specs.declared.plan.Plan.{Plan}
 use Rattle.sweep_cli.specs.Reporting.{Sweeping, IsCutOrNone, IsSparedBy}
 
 -- the sweep of a plan
-abbrev pub sweeping_of : Plan → Sweeping
-sweeping_of plan = record {
-  board = cut_facts plan.board.now;
+abbrev pub sweeping_of : {B : Type 0} (facts : B → Facts) (torn : B → ℕ) → Plan B → Sweeping facts torn
+sweeping_of facts torn plan = record {
+  board = facts plan.board.now;
   prepare = plan.prepare.now;
   command = plan.command.now;
   probe = plan.probe.now;
@@ -23,7 +23,7 @@ pub record AddsText (Is : List ℕ → Type 0) (old new : List ℕ) : Type 0 whe
   pub all : new ≡ old ++ more
 
 -- A mask after the first: its cut was appended if it is of the part and happened, and nothing otherwise.
-abbrev pub AddsMaskText : Sweeping → ℕ → ℕ → ℕ → Bool → List ℕ → List ℕ → Type 0
+abbrev pub AddsMaskText : {B : Type 0} {facts : B → Facts} {torn : B → ℕ} → Sweeping facts torn → ℕ → ℕ → ℕ → Bool → List ℕ → List ℕ → Type 0
 AddsMaskText sweeping write words i true old new = AddsText (IsCutOrNone sweeping write words i) old new
 AddsMaskText sweeping write words i false old new =
     IsSparedBy sweeping write (mask_of words i) × (new ≡ old)

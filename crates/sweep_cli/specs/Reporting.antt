@@ -3,8 +3,6 @@ use Rattle.std.specs.Prelude.{◌≡◌, ◌⊎◌, ◌≤◌, ◌<◌, ◌+◌,
 use Rattle.std.specs.Prelude.{◌++◌, codes, Option}
 use Rattle.std.specs.Io.KnownBytes.{Appends}
 use Rattle.nvm_board.specs.Facts.{Facts}
-use Rattle.simulated_boards.specs.declared.cut_board.CutBoard.{CutBoard}
-use Rattle.simulated_boards.specs.Cut.{cut_facts, last_torn}
 use Rattle.bench_turns.specs.declared.turn.Turn.{Turn}
 use Rattle.bench_turns.specs.declared.turn.Item.{Item}
 use Rattle.card_sweeps.specs.declared.tally.Seen.{Seen}
@@ -17,7 +15,7 @@ use Rattle.sweep_cli.specs.declared.parts.SweepPart.{SweepPart}
 use Rattle.sweep_cli.specs.declared.script.SweepScript.{SweepScript}
 use Rattle.sweep_cli.specs.declared.steps.Step.TheVariants.{Block}
 use Rattle.sweep_cli.specs.Asking.{IsRead, asked_of}
-use Rattle.sweep_cli.specs.DeviceWrites.{kinds_text, pairs_counting}
+use Rattle.sweep_cli.specs.DeviceWrites.{IsWriteKind, kinds_text}
 use Rattle.sweep_cli.specs.Printing.{cut_head, results_text, stage_head, total_text}
 use Rattle.sweep_cli.specs.Turning.{AreTurns}
 
@@ -30,8 +28,9 @@ abbrev pub IsFirstPart : SweepPart → Type 0
 IsFirstPart part = part.index ≡ 0
 
 -- What a sweep tries: on copies of a board, a command after a preparation, power-ons that are cut, and a probe. It
--- tries one part of the cuts.
-pub record Sweeping : Type 0 where
+-- tries one part of the cuts. `facts` and `torn` are the facts of such a board, and the number of words of its last torn
+-- write.
+pub record Sweeping {B : Type 0} (facts : B → Facts) (torn : B → ℕ) : Type 0 where
   pub board : Facts
   pub prepare : List Turn
   pub command : List ℕ
@@ -49,13 +48,13 @@ pub record AreResults (head : List ℕ) (depth : ℕ) (probe : List Turn) (board
   pub text_is : text ≡ results_text head seen
 
 -- a cut at this device write of `words` words, with mask number i, counted from 0
-pub record IsCutText (sweeping : Sweeping) (write words i : ℕ) (text : List ℕ) : Type 0 where
+pub record IsCutText {B : Type 0} {facts : B → Facts} {torn : B → ℕ} (sweeping : Sweeping facts torn) (write words i : ℕ) (text : List ℕ) : Type 0 where
   pub left : Facts
   pub cut : CutsCommand write (mask_of words i) sweeping.board sweeping.prepare sweeping.command left
   pub results : AreResults (cut_head write i (mask_of words i)) sweeping.depth sweeping.probe left text
 
 -- A cut is printed if it is of the part.
-pub record IsCutOrNone (sweeping : Sweeping) (write words i : ℕ) (text : List ℕ) : Type 0 where
+pub record IsCutOrNone {B : Type 0} {facts : B → Facts} {torn : B → ℕ} (sweeping : Sweeping facts torn) (write words i : ℕ) (text : List ℕ) : Type 0 where
   pub own : IsOfPart sweeping.part write i → IsCutText sweeping write words i text
   pub other : (IsOfPart sweeping.part write i → ⊥) → text ≡ []
 
@@ -65,24 +64,24 @@ TextsInTurn IsText zero text = text ≡ []
 TextsInTurn IsText (suc n) text =
     (before last : List ℕ) × TextsInTurn IsText n before × IsText n last × (text ≡ before ++ last)
 
--- The board after the cut with the first mask reports a number of words. No clause ties that number to the write.
-pub record HasWords (sweeping : Sweeping) (write words : ℕ) : Type 0 where
-  pub left : CutBoard
-  pub cut : CutsCommand write 0 sweeping.board sweeping.prepare sweeping.command (cut_facts left)
-  pub told : words ≡ words_tried (last_torn left)
+-- The torn write has this many words, as the board after the cut with the first mask reports.
+pub record HasWords {B : Type 0} {facts : B → Facts} {torn : B → ℕ} (sweeping : Sweeping facts torn) (write words : ℕ) : Type 0 where
+  pub left : B
+  pub cut : CutsCommand write 0 sweeping.board sweeping.prepare sweeping.command (facts left)
+  pub told : words ≡ words_tried (torn left)
 
 -- the command makes fewer writes, so that a cut with this mask doesn't happen
-abbrev pub IsSparedBy : Sweeping → ℕ → ℕ → Type 0
+abbrev pub IsSparedBy : {B : Type 0} {facts : B → Facts} {torn : B → ℕ} → Sweeping facts torn → ℕ → ℕ → Type 0
 IsSparedBy sweeping write mask = SparesCommand write mask sweeping.board sweeping.prepare sweeping.command
 
 -- each cut of a device write, with each mask for its number of words
-pub record IsWrite (sweeping : Sweeping) (write : ℕ) (text : List ℕ) : Type 0 where
+pub record IsWrite {B : Type 0} {facts : B → Facts} {torn : B → ℕ} (sweeping : Sweeping facts torn) (write : ℕ) (text : List ℕ) : Type 0 where
   pub words : ℕ
   pub has_words : HasWords sweeping write words
   pub each : TextsInTurn (IsCutOrNone sweeping write words) (mask_count_of words) text
 
 -- The command doesn't make this write: a cut with one of the masks doesn't happen, and no further mask is tried.
-pub record IsLastWrite (sweeping : Sweeping) (write : ℕ) (text : List ℕ) : Type 0 where
+pub record IsLastWrite {B : Type 0} {facts : B → Facts} {torn : B → ℕ} (sweeping : Sweeping facts torn) (write : ℕ) (text : List ℕ) : Type 0 where
   pub words : ℕ
   pub masks : ℕ
   pub few : masks < mask_count_of words
@@ -91,12 +90,12 @@ pub record IsLastWrite (sweeping : Sweeping) (write : ℕ) (text : List ℕ) : T
   pub spared : IsSparedBy sweeping write (mask_of words masks)
 
 -- the cuts of a write, made by the command or not
-abbrev pub IsWriteIf : Sweeping → ℕ → Bool → List ℕ → Type 0
+abbrev pub IsWriteIf : {B : Type 0} {facts : B → Facts} {torn : B → ℕ} → Sweeping facts torn → ℕ → Bool → List ℕ → Type 0
 IsWriteIf sweeping write true text = IsWrite sweeping write text
 IsWriteIf sweeping write false text = IsLastWrite sweeping write text
 
 -- each device write, up to the first that the command doesn't make, and the number of them
-pub record AreWrites (sweeping : Sweeping) (text : List ℕ) : Type 0 where
+pub record AreWrites {B : Type 0} {facts : B → Facts} {torn : B → ℕ} (sweeping : Sweeping facts torn) (text : List ℕ) : Type 0 where
   pub writes : ℕ
   pub each : List ℕ
   pub last : List ℕ
@@ -104,50 +103,52 @@ pub record AreWrites (sweeping : Sweeping) (text : List ℕ) : Type 0 where
   pub done : IsLastWrite sweeping (writes + 1) last ⊎ ((writes ≡ 2 ^ 32 - 1) × (last ≡ []))
   pub text_is : text ≡ each ++ last ++ total_text writes sweeping.depth
 
--- A device write: the number of words that the board reports after the cut with the first mask, and the number of pairs
--- that count there. The next power-on is cut at each of its writes, which shows that number.
-pub record IsDeviceWrite (sweeping : Sweeping) (write : ℕ) (it : DeviceWrite) : Type 0 where
-  pub left : CutBoard
-  pub cut : CutsCommand write 0 sweeping.board sweeping.prepare sweeping.command (cut_facts left)
-  pub words_are : it.words ≡ words_tried (last_torn left)
-  pub runs : ℕ
-  pub seen : List Seen
-  pub tally : IsTally runs seen
-  pub all : runs < 2 ^ 32 - 1 → CountsRuns (AreAllBehind 1 [] (cut_facts left)) [] seen
-  pub pairs_are : it.pairs ≡ pairs_counting runs
+-- A device write: the number of words that the board reports after the cut with the first mask, and what the write does
+-- to the memory. Cuts with the first mask and the second leave the memories before and after it.
+pub record IsDeviceWrite {B : Type 0} {facts : B → Facts} {torn : B → ℕ} (sweeping : Sweeping facts torn) (write : ℕ) (it : DeviceWrite) : Type 0 where
+  pub before : B
+  pub cut : CutsCommand write 0 sweeping.board sweeping.prepare sweeping.command (facts before)
+  pub words_are : it.words ≡ words_tried (torn before)
+  pub after : B
+  pub whole : CutsCommand write (mask_of it.words 1) sweeping.board sweeping.prepare sweeping.command (facts after)
+  pub kind_is : IsWriteKind it.words (facts before).words (facts after).words it.kind
+
+-- the command makes fewer writes: a cut at this one doesn't happen
+abbrev pub IsUnmade : {B : Type 0} {facts : B → Facts} {torn : B → ℕ} → Sweeping facts torn → ℕ → Type 0
+IsUnmade sweeping write = (mask : ℕ) × IsSparedBy sweeping write mask
 
 -- the first `n` device writes, in order
-unfoldable pub WritesInTurn : Sweeping → ℕ → List DeviceWrite → Type 0
+unfoldable pub WritesInTurn : {B : Type 0} {facts : B → Facts} {torn : B → ℕ} → Sweeping facts torn → ℕ → List DeviceWrite → Type 0
 WritesInTurn sweeping zero all = all ≡ []
 WritesInTurn sweeping (suc n) all = (before : List DeviceWrite) × (it : DeviceWrite) × WritesInTurn sweeping n before
     × IsDeviceWrite sweeping (n + 1) it × (all ≡ before ++ it ∷ [])
 
 -- all device writes of the command
-pub record AreDeviceWrites (sweeping : Sweeping) (all : List DeviceWrite) : Type 0 where
+pub record AreDeviceWrites {B : Type 0} {facts : B → Facts} {torn : B → ℕ} (sweeping : Sweeping facts torn) (all : List DeviceWrite) : Type 0 where
   pub writes : ℕ
   pub each : WritesInTurn sweeping writes all
-  pub done : IsSparedBy sweeping (writes + 1) 0 ⊎ (writes ≡ 2 ^ 32 - 1)
+  pub done : IsUnmade sweeping (writes + 1) ⊎ (writes ≡ 2 ^ 32 - 1)
 
 -- the kinds of the device writes
-pub record AreKinds (sweeping : Sweeping) (text : List ℕ) : Type 0 where
+pub record AreKinds {B : Type 0} {facts : B → Facts} {torn : B → ℕ} (sweeping : Sweeping facts torn) (text : List ℕ) : Type 0 where
   pub all : List DeviceWrite
   pub are : AreDeviceWrites sweeping all
   pub text_is : text ≡ kinds_text 1 all
 
 -- Only the first part has the kinds.
-pub record AreKindsOrNone (sweeping : Sweeping) (text : List ℕ) : Type 0 where
+pub record AreKindsOrNone {B : Type 0} {facts : B → Facts} {torn : B → ℕ} (sweeping : Sweeping facts torn) (text : List ℕ) : Type 0 where
   pub first : IsFirstPart sweeping.part → AreKinds sweeping text
   pub later : (IsFirstPart sweeping.part → ⊥) → text ≡ []
 
 -- the items of these turns, and the result of an uncut power-on and the probe after them
-pub record IsFound (sweeping : Sweeping) (stage : List ℕ) (turns : List Turn) (text : List ℕ) : Type 0 where
+pub record IsFound {B : Type 0} {facts : B → Facts} {torn : B → ℕ} (sweeping : Sweeping facts torn) (stage : List ℕ) (turns : List Turn) (text : List ℕ) : Type 0 where
   pub trace : List Item
   pub left : Facts
   pub played : PlaysOn sweeping.board turns trace left
   pub results : AreResults (stage_head stage trace) 0 sweeping.probe left text
 
 -- What is found without the command, what is found after it, the kinds of its writes, and each cut of it.
-pub record HasSections (sweeping : Sweeping) (whole : List Turn) (text : List ℕ) : Type 0 where
+pub record HasSections {B : Type 0} {facts : B → Facts} {torn : B → ℕ} (sweeping : Sweeping facts torn) (whole : List Turn) (text : List ℕ) : Type 0 where
   pub before : List ℕ
   pub after : List ℕ
   pub kinds : List ℕ
@@ -159,8 +160,8 @@ pub record HasSections (sweeping : Sweeping) (whole : List Turn) (text : List �
   pub text_is : text ≡ before ++ after ++ kinds ++ cuts
 
 -- the report of a sweep on a board
-pub record IsReport (board : Facts) (script : SweepScript) (part : SweepPart) (text : List ℕ) : Type 0 where
-  pub sweeping : Sweeping
+pub record IsReport {B : Type 0} (facts : B → Facts) (torn : B → ℕ) (board : Facts) (script : SweepScript) (part : SweepPart) (text : List ℕ) : Type 0 where
+  pub sweeping : Sweeping facts torn
   pub board_is : sweeping.board ≡ board
   pub prepare : AreTurns script.prepare.items sweeping.prepare
   pub command : sweeping.command ≡ script.command
@@ -172,10 +173,10 @@ pub record IsReport (board : Facts) (script : SweepScript) (part : SweepPart) (t
   pub sections : HasSections sweeping whole text
 
 -- A script was read to its end, and the report of a sweep of it was written.
-pub record WritesReport (board : Facts) (script left : Option (List ℕ)) (part : SweepPart)
+pub record WritesReport {B : Type 0} (facts : B → Facts) (torn : B → ℕ) (board : Facts) (script left : Option (List ℕ)) (part : SweepPart)
     (old new : Option (List ℕ)) : Type 0 where
   pub asked : SweepScript
   pub read : IsRead script left (asked_of asked)
   pub text : List ℕ
-  pub is_report : IsReport board asked part text
+  pub is_report : IsReport facts torn board asked part text
   pub written : Appends old new text

@@ -1,86 +1,118 @@
-//! The device writes of a command, and what each is for. The pairs of the journal that count before and after a write
-//! show it.
+//! The device writes of a command, and what each does to the memory.
 ghost use Rattle.std.specs.Prelude.{◌≡◌, ◌++◌, OnOk, string_bytes};
-ghost use Rattle.sweep_cli.specs.DeviceWrites.{kind_name, write_kind, kinds_text, pairs_first, pairs_second, write_text};
+ghost use Rattle.undo_journal.specs.Undo.{gate, in_journal};
+ghost use Rattle.sweep_cli.specs.DeviceWrites.{IsFirstChange, IsWriteKind, kind_at, kind_name, kinds_text, write_text};
 
 use std::alloc::{AllocError, Global};
+use undo_journal::{GATE, PAGE_WORDS, PAIRS};
+
+/// The address of the first word after the journal. A page has the gate, and a pair is two words.
+const JOURNAL_END: u16 = GATE + PAGE_WORDS + 2 * PAIRS;
 
 /// A device write of the command.
 #[derive(Clone, Copy, Drop)]
 pub struct DeviceWrite {
     /// The number of its words.
     pub words: u8,
-    /// The number of pairs that count before it.
-    pub pairs: u32,
+    /// What it does to the memory.
+    pub kind: WriteKind,
 }
 
-/// What a device write is for.
-#[derive(Clone, Copy)]
+/// What a device write does to the memory.
+#[derive(Clone, Copy, Drop)]
 pub enum WriteKind {
-    /// It changes the number of pairs that count.
+    /// It sets the gate, the number of pairs that count.
     Gate,
-    /// It saves old words, before the gate.
+    /// It sets the gate back to 0.
+    Commit,
+    /// It changes words of the journal.
     Pairs,
-    /// It writes new words, while pairs count.
+    /// It changes data words, while pairs count.
     Words,
-    /// It writes one word, while no pair counts.
+    /// It is one data word, while no pair counts.
     Alone,
     /// It fills a free block, while no pair counts.
     Fill,
+    /// It changes no word.
+    Same,
 }
 
 impl WriteKind {
+    /// Returns the kind of a write of this many words, from the memories before and after it.
+    pub fn of(words: u8, before: &[u32], after: &[u32]) -> WriteKind
+        ensures { IsWriteKind words before.now after.now result }
+    {
+        let counting = gate(after);
+        if counting == gate(before) {
+            WriteKind::at(words, before, first_change(before, after))
+        } else if counting == 0 {
+            WriteKind::Commit
+        } else {
+            WriteKind::Gate
+        }
+    }
+
+    /// Returns the kind of a write that doesn't change the gate, from the lowest address that it changes.
+    fn at(words: u8, before: &[u32], changed: Option<usize>) -> WriteKind
+        ensures { result ≡ kind_at words before.now changed }
+    {
+        let Some(at) = changed else {
+            return WriteKind::Same;
+        };
+        if is_in_journal(at) {
+            WriteKind::Pairs
+        } else if gate(before) > 0 {
+            WriteKind::Words
+        } else if words == 1 {
+            WriteKind::Alone
+        } else {
+            WriteKind::Fill
+        }
+    }
+
     /// Returns its name.
     fn name(self) -> &'static str
         ensures { result.now ≡ kind_name self }
     {
         match self {
             WriteKind::Gate => "gate",
+            WriteKind::Commit => "commit",
             WriteKind::Pairs => "pairs",
             WriteKind::Words => "words",
             WriteKind::Alone => "alone",
             WriteKind::Fill => "fill",
+            WriteKind::Same => "same",
         }
     }
 }
 
-impl DeviceWrite {
-    /// Returns its kind. `after` and `later` are the numbers of pairs that count after it and after the next write.
-    fn kind(self, after: u32, later: u32) -> WriteKind
-        ensures { result ≡ write_kind self after later }
-    {
-        if self.pairs != after {
-            WriteKind::Gate
-        } else if after < later {
-            WriteKind::Pairs
-        } else if self.pairs > 0 {
-            WriteKind::Words
-        } else if self.words == 1 {
-            WriteKind::Alone
-        } else {
-            WriteKind::Fill
+/// Returns the gate of a memory, the number of pairs that count.
+fn gate(words: &[u32]) -> u32
+    ensures { result ≡ gate words.now }
+{
+    match words.get(GATE as usize) {
+        Some(gate) => *gate,
+        None => 0,
+    }
+}
+
+/// Returns true if an address lies in the gate's page or in the journal's pages.
+fn is_in_journal(at: usize) -> bool
+    ensures { result ≡ in_journal at }
+{
+    GATE as usize <= at && at < JOURNAL_END as usize
+}
+
+/// Returns the lowest address at which two memories differ.
+fn first_change(left: &[u32], right: &[u32]) -> Option<usize>
+    ensures { IsFirstChange left.now right.now result }
+{
+    for at in 0..left.len().min(right.len()) {
+        if left[at] != right[at] {
+            return Some(at);
         }
     }
-}
-
-/// Returns the number of pairs that count before the first of these writes, and 0 after the last write.
-fn pairs_first(writes: &[DeviceWrite]) -> u32
-    ensures { result ≡ pairs_first writes.now }
-{
-    match writes {
-        [write, ..] => write.pairs,
-        [] => 0,
-    }
-}
-
-/// Returns the number of pairs that count after the first of these writes.
-fn pairs_second(writes: &[DeviceWrite]) -> u32
-    ensures { result ≡ pairs_second writes.now }
-{
-    match writes {
-        [_, later @ ..] => pairs_first(later),
-        [] => 0,
-    }
+    None
 }
 
 /// Appends the line of a device write.
@@ -89,12 +121,12 @@ fn push_kind(
     alloc: Global,
     text: &mut String,
     number: usize,
-    words: u8,
-    kind: WriteKind,
+    it: &DeviceWrite,
 ) -> Result<(), AllocError>
-    ensures { OnOk result (string_bytes text.new ≡ string_bytes text.old ++ write_text number words kind) }
+    ensures { OnOk result (string_bytes text.new ≡ string_bytes text.old ++ write_text number it.now) }
 {
-    let name = kind.name();
+    let words = it.words;
+    let name = it.kind.name();
     let line = format!(in alloc;
         "{{\"write\": {number}, \"words\": {words}, \"kind\": \"{name}\"}}\n"
     )?;
@@ -112,8 +144,7 @@ pub fn push_kinds(
     let mut number = 1;
     let mut rest = writes;
     while let [write, later @ ..] = rest {
-        let kind = write.kind(pairs_first(later), pairs_second(later));
-        push_kind(alloc, text, number, write.words, kind)?;
+        push_kind(alloc, text, number, write)?;
         number += 1;
         rest = later;
     }

@@ -1,27 +1,26 @@
 //! The plan of a sweep, and the parts of its report.
 ghost use Rattle.std.specs.Prelude.{◌≡◌, ◌≤◌, ◌<◌, ◌/◌, ◌-◌, ℕ, OnOk, IfOk, IfSome, IfNone, string_bytes};
-ghost use Rattle.simulated_boards.specs.Cut.{cut_facts};
 ghost use Rattle.command_base.specs.Finding.{HasCard};
 ghost use Rattle.card_sweeps.specs.Masks.{mask_count_of};
 ghost use Rattle.card_sweeps.specs.Sweeps.{CutsCommand};
 ghost use Rattle.sweep_cli.specs.Printing.{cut_head};
 ghost use Rattle.sweep_cli.specs.ReportParts.{AddsText, AddsMaskText, sweeping_of};
 ghost use Rattle.sweep_cli.specs.Reporting.{AreDeviceWrites, AreKindsOrNone, AreResults, AreWrites, IsCutOrNone};
-ghost use Rattle.sweep_cli.specs.Reporting.{IsDeviceWrite, IsFound, IsSparedBy, IsWriteIf};
+ghost use Rattle.sweep_cli.specs.Reporting.{IsDeviceWrite, IsFound, IsUnmade, IsWriteIf};
 
-use crate::device_writes::{DeviceWrite, push_kinds};
+use crate::device_writes::{DeviceWrite, WriteKind, push_kinds};
 use crate::lines::{cut_head, push_results, push_total, stage_head};
 use crate::parts::SweepPart;
+use crate::swept_board::ReadableBoard;
 use card_bench::Turn;
 use card_sweeps::{cut_at, mask_at, mask_count, play_copy, sweep_behind, words_to_try};
-use simulated_boards::CutBoard;
 use std::alloc::{AllocError, Global};
 
 /// The plan of a sweep. Each run uses a copy of the board.
-#[derive(Clone, Copy)]
-pub struct Plan<'a> {
+#[derive(Drop)]
+pub struct Plan<'a, B: ReadableBoard> {
     pub alloc: Global,
-    pub board: &'a CutBoard,
+    pub board: &'a B,
     pub prepare: &'a [Turn<'a>],
     pub command: &'a [u8],
     pub probe: &'a [Turn<'a>],
@@ -30,15 +29,15 @@ pub struct Plan<'a> {
 }
 
 /// Appends the results of all runs after a cut that left this board. Each line begins with `head`.
-fn push_behind(
-    plan: Plan<'_>,
-    left: &CutBoard,
+fn push_behind<B: ReadableBoard + Drop>(
+    plan: &Plan<'_, B>,
+    left: &B,
     depth: u8,
     head: &str,
     text: &mut String,
 ) -> Result<(), AllocError>
-    ensures { OnOk result (HasCard (cut_facts left.now).words
-        → AddsText (AreResults head.now depth plan.entry.probe.now (cut_facts left.now))
+    ensures { OnOk result (HasCard (B.facts left.now).words
+        → AddsText (AreResults head.now depth plan.now.probe.now (B.facts left.now))
         (string_bytes text.old) (string_bytes text.new)) }
 {
     let found = sweep_behind(plan.alloc, left, plan.probe, depth)?;
@@ -46,14 +45,14 @@ fn push_behind(
 }
 
 /// Appends the result of the probe after turns on a copy of the board.
-pub fn push_stage(
-    plan: Plan<'_>,
+pub fn push_stage<B: ReadableBoard + Drop>(
+    plan: &Plan<'_, B>,
     stage: &str,
     turns: &[Turn<'_>],
     text: &mut String,
 ) -> Result<(), AllocError>
-    ensures { OnOk result (HasCard (cut_facts plan.entry.board.now).words
-        → AddsText (IsFound (sweeping_of plan.entry) stage.now turns.now)
+    ensures { OnOk result (HasCard (B.facts plan.now.board.now).words
+        → AddsText (IsFound (sweeping_of B.facts B.torn plan.now) stage.now turns.now)
         (string_bytes text.old) (string_bytes text.new)) }
 {
     let (trace, left) = play_copy(plan.alloc, plan.board, turns)?;
@@ -62,16 +61,16 @@ pub fn push_stage(
 }
 
 /// Appends the results of a cut that left this board.
-fn push_cut(
-    plan: Plan<'_>,
+fn push_cut<B: ReadableBoard + Drop>(
+    plan: &Plan<'_, B>,
     write: u32,
     i: u8,
     mask: u16,
-    left: &CutBoard,
+    left: &B,
     text: &mut String,
 ) -> Result<(), AllocError>
-    ensures { OnOk result (HasCard (cut_facts left.now).words
-        → AddsText (AreResults (cut_head write i mask) plan.entry.depth plan.entry.probe.now (cut_facts left.now))
+    ensures { OnOk result (HasCard (B.facts left.now).words
+        → AddsText (AreResults (cut_head write i mask) plan.now.depth plan.now.probe.now (B.facts left.now))
         (string_bytes text.old) (string_bytes text.new)) }
 {
     let head = cut_head(plan.alloc, write, i, mask)?;
@@ -80,15 +79,15 @@ fn push_cut(
 
 /// Appends the cut of a device write with the first mask, if it is of the part.
 /// That cut left the board `left`.
-fn push_first(
-    plan: Plan<'_>,
+fn push_first<B: ReadableBoard + Drop>(
+    plan: &Plan<'_, B>,
     write: u32,
-    left: &CutBoard,
+    left: &B,
     text: &mut String,
 ) -> Result<(), AllocError>
-    ensures { OnOk result (CutsCommand write 0 (cut_facts plan.entry.board.now) plan.entry.prepare.now
-        plan.entry.command.now (cut_facts left.now) → (words : ℕ)
-        → AddsText (IsCutOrNone (sweeping_of plan.entry) write words 0)
+    ensures { OnOk result (CutsCommand write 0 (B.facts plan.now.board.now) plan.now.prepare.now
+        plan.now.command.now (B.facts left.now) → (words : ℕ)
+        → AddsText (IsCutOrNone (sweeping_of B.facts B.torn plan.now) write words 0)
         (string_bytes text.old) (string_bytes text.new)) }
 {
     if !plan.part.has(write, 0) {
@@ -99,8 +98,8 @@ fn push_first(
 
 /// Appends the cut of a device write with mask `i`, if it is of the part.
 /// Returns false if that cut doesn't happen.
-fn push_mask(
-    plan: Plan<'_>,
+fn push_mask<B: ReadableBoard + Drop>(
+    plan: &Plan<'_, B>,
     write: u32,
     words: u8,
     i: u8,
@@ -110,8 +109,8 @@ fn push_mask(
     requires words { words ≤ 16 }
     requires later { 1 ≤ i }
     requires place { i < mask_count_of words }
-    ensures { IfOk result (λ came. HasCard (cut_facts plan.entry.board.now).words
-        → AddsMaskText (sweeping_of plan.entry) write words i came (string_bytes text.old) (string_bytes text.new)) }
+    ensures { IfOk result (λ came. HasCard (B.facts plan.now.board.now).words
+        → AddsMaskText (sweeping_of B.facts B.torn plan.now) write words i came (string_bytes text.old) (string_bytes text.new)) }
 {
     if !plan.part.has(write, i) {
         return Ok(true);
@@ -134,10 +133,14 @@ fn push_mask(
 
 /// Appends the cuts of a device write that are of the part.
 /// Returns true if the command makes that write.
-fn push_write(plan: Plan<'_>, write: u32, text: &mut String) -> Result<bool, AllocError>
+fn push_write<B: ReadableBoard + Drop>(
+    plan: &Plan<'_, B>,
+    write: u32,
+    text: &mut String,
+) -> Result<bool, AllocError>
     requires { 1 ≤ write }
-    ensures { IfOk result (λ made. HasCard (cut_facts plan.entry.board.now).words
-        → AddsText (IsWriteIf (sweeping_of plan.entry) write made) (string_bytes text.old) (string_bytes text.new)) }
+    ensures { IfOk result (λ made. HasCard (B.facts plan.now.board.now).words
+        → AddsText (IsWriteIf (sweeping_of B.facts B.torn plan.now) write made) (string_bytes text.old) (string_bytes text.new)) }
 {
     let Some(left) = cut_at(plan.alloc, plan.board, plan.prepare, plan.command, write, 0)? else {
         return Ok(false);
@@ -153,13 +156,13 @@ fn push_write(plan: Plan<'_>, write: u32, text: &mut String) -> Result<bool, All
 }
 
 /// Appends the cuts of the part, and the number of device writes.
-pub fn push_writes(
-    plan: Plan<'_>,
+pub fn push_writes<B: ReadableBoard + Drop>(
+    plan: &Plan<'_, B>,
     progress: &impl Eprint,
     text: &mut String,
 ) -> Result<(), AllocError>
-    ensures { OnOk result (HasCard (cut_facts plan.entry.board.now).words
-        → AddsText (AreWrites (sweeping_of plan.entry)) (string_bytes text.old) (string_bytes text.new)) }
+    ensures { OnOk result (HasCard (B.facts plan.now.board.now).words
+        → AddsText (AreWrites (sweeping_of B.facts B.torn plan.now)) (string_bytes text.old) (string_bytes text.new)) }
 {
     for writes in 0..u32::MAX {
         // The progress is for people: the sweep continues even if standard error fails.
@@ -172,27 +175,42 @@ pub fn push_writes(
 }
 
 /// Returns this device write of the command. Returns `None` if the command makes fewer writes.
-fn device_write(plan: Plan<'_>, write: u32) -> Result<Option<DeviceWrite>, AllocError>
+fn device_write<B: ReadableBoard + Drop>(
+    plan: &Plan<'_, B>,
+    write: u32,
+) -> Result<Option<DeviceWrite>, AllocError>
     requires { 1 ≤ write }
-    ensures made { IfOk result (λ made. IfSome made (λ it. HasCard (cut_facts plan.entry.board.now).words
-        → IsDeviceWrite (sweeping_of plan.entry) write it)) }
-    ensures spared { IfOk result (λ made. IfNone made (HasCard (cut_facts plan.entry.board.now).words
-        → IsSparedBy (sweeping_of plan.entry) write 0)) }
+    ensures made { IfOk result (λ made. IfSome made (λ it. HasCard (B.facts plan.now.board.now).words
+        → IsDeviceWrite (sweeping_of B.facts B.torn plan.now) write it)) }
+    ensures spared { IfOk result (λ made. IfNone made (HasCard (B.facts plan.now.board.now).words
+        → IsUnmade (sweeping_of B.facts B.torn plan.now) write)) }
 {
-    let Some(left) = cut_at(plan.alloc, plan.board, plan.prepare, plan.command, write, 0)? else {
+    let Some(unwritten) = cut_at(plan.alloc, plan.board, plan.prepare, plan.command, write, 0)?
+    else {
         return Ok(None);
     };
-    let starts = sweep_behind(plan.alloc, &left, &[], 1)?;
-    Ok(Some(DeviceWrite {
-        words: words_to_try(left.torn_words()),
-        pairs: (starts.runs / 2).saturating_sub(1),
-    }))
+    let words = words_to_try(unwritten.torn_words());
+    let Some(written) = cut_at(
+        plan.alloc,
+        plan.board,
+        plan.prepare,
+        plan.command,
+        write,
+        mask_at(words, 1),
+    )?
+    else {
+        return Ok(None);
+    };
+    let kind = WriteKind::of(words, unwritten.words(), written.words());
+    Ok(Some(DeviceWrite { words, kind }))
 }
 
 /// Returns the device writes of the command.
-fn device_writes(plan: Plan<'_>) -> Result<Vec<DeviceWrite>, AllocError>
-    ensures { IfOk result (λ made. HasCard (cut_facts plan.entry.board.now).words
-        → AreDeviceWrites (sweeping_of plan.entry) made.items) }
+fn device_writes<B: ReadableBoard + Drop>(
+    plan: &Plan<'_, B>,
+) -> Result<Vec<DeviceWrite>, AllocError>
+    ensures { IfOk result (λ made. HasCard (B.facts plan.now.board.now).words
+        → AreDeviceWrites (sweeping_of B.facts B.torn plan.now) made.items) }
 {
     let mut made = Vec::new(plan.alloc);
     for writes in 0..u32::MAX {
@@ -205,9 +223,12 @@ fn device_writes(plan: Plan<'_>) -> Result<Vec<DeviceWrite>, AllocError>
 }
 
 /// Appends the kinds of the device writes, if this is the first part.
-pub fn push_first_part(plan: Plan<'_>, text: &mut String) -> Result<(), AllocError>
-    ensures { OnOk result (HasCard (cut_facts plan.entry.board.now).words
-        → AddsText (AreKindsOrNone (sweeping_of plan.entry)) (string_bytes text.old) (string_bytes text.new)) }
+pub fn push_first_part<B: ReadableBoard + Drop>(
+    plan: &Plan<'_, B>,
+    text: &mut String,
+) -> Result<(), AllocError>
+    ensures { OnOk result (HasCard (B.facts plan.now.board.now).words
+        → AddsText (AreKindsOrNone (sweeping_of B.facts B.torn plan.now)) (string_bytes text.old) (string_bytes text.new)) }
 {
     if !plan.part.is_first() {
         return Ok(());

@@ -1,7 +1,5 @@
 //! The report of a sweep.
-ghost use Rattle.std.specs.Prelude.{◌≡◌, ◌≢◌, ◌++◌, ◌∷◌, [], None, OnOk, OnErr, IfOk, IfErr, take, ℕ, string_bytes};
-ghost use Rattle.std.specs.Io.KnownBytes.{Appends};
-ghost use Rattle.simulated_boards.specs.Cut.{cut_facts};
+ghost use Rattle.std.specs.Prelude.{◌≡◌, ◌≢◌, ◌++◌, ◌∷◌, [], None, OnOk, IfOk, IfErr, string_bytes};
 ghost use Rattle.command_base.specs.Finding.{HasCard};
 ghost use Rattle.sweep_cli.specs.ReportParts.{AddsText, sweeping_of};
 ghost use Rattle.sweep_cli.specs.Reporting.{HasSections, IsReport, WritesReport};
@@ -13,8 +11,9 @@ use crate::parts::SweepPart;
 use crate::plan::{Plan, push_first_part, push_stage, push_writes};
 use crate::script::{SweepScript, read_script};
 use crate::steps::{Step, turns_of};
+use crate::swept_board::ReadableBoard;
 use card_bench::Turn;
-use simulated_boards::CutBoard;
+use script_output::write_line;
 use std::alloc::{AllocError, Global};
 use std::io::{BufRead, Write};
 
@@ -57,14 +56,14 @@ fn script_turns(alloc: Global, script: &SweepScript) -> Result<ScriptTurns<'_>, 
 }
 
 /// Appends what is found without the command and after it, and the cuts of the part.
-fn push_sections(
-    plan: Plan<'_>,
+fn push_sections<B: ReadableBoard + Drop>(
+    plan: &Plan<'_, B>,
     whole: &[Turn<'_>],
     progress: &impl Eprint,
     text: &mut String,
 ) -> Result<(), AllocError>
-    ensures { OnOk result (HasCard (cut_facts plan.entry.board.now).words
-        → AddsText (HasSections (sweeping_of plan.entry) whole.now) (string_bytes text.old) (string_bytes text.new)) }
+    ensures { OnOk result (HasCard (B.facts plan.now.board.now).words
+        → AddsText (HasSections (sweeping_of B.facts B.torn plan.now) whole.now) (string_bytes text.old) (string_bytes text.new)) }
 {
     push_stage(plan, "before", plan.prepare, text)?;
     push_stage(plan, "after", whole, text)?;
@@ -73,16 +72,16 @@ fn push_sections(
 }
 
 /// Returns the report of a sweep.
-fn swept(
+fn swept<B: ReadableBoard + Drop>(
     alloc: Global,
-    board: &CutBoard,
+    board: &B,
     script: &SweepScript,
     part: SweepPart,
     progress: &impl Eprint,
 ) -> Result<String, AllocError>
-    requires card { HasCard (cut_facts board.now).words }
-    requires uncut { (cut_facts board.now).pending ≡ None }
-    ensures { IfOk result (λ text. IsReport (cut_facts board.now) script.now part (string_bytes text)) }
+    requires card { HasCard (B.facts board.now).words }
+    requires uncut { (B.facts board.now).pending ≡ None }
+    ensures { IfOk result (λ text. IsReport B.facts B.torn (B.facts board.now) script.now part (string_bytes text)) }
 {
     let turns = script_turns(alloc, script)?;
     let plan = Plan {
@@ -95,7 +94,7 @@ fn swept(
         part,
     };
     let mut text = String::new(alloc);
-    push_sections(plan, &turns.whole, progress, &mut text)?;
+    push_sections(&plan, &turns.whole, progress, &mut text)?;
     Ok(text)
 }
 
@@ -103,47 +102,28 @@ fn swept(
 ///
 /// # Errors
 /// `BadLine`, `Read` and `Memory` before anything is written, `Write` if the writer fails, or takes nothing.
-pub fn report<R: BufRead, W: Write>(
+pub fn report<B: ReadableBoard + Drop, R: BufRead, W: Write>(
     alloc: Global,
-    board: &CutBoard,
+    board: &B,
     part: SweepPart,
     reader: &mut R,
     writer: &mut W,
     progress: &impl Eprint,
 ) -> Result<(), SweepFault>
-    requires card { HasCard (cut_facts board.now).words }
-    requires uncut { (cut_facts board.now).pending ≡ None }
+    requires card { HasCard (B.facts board.now).words }
+    requires uncut { (B.facts board.now).pending ≡ None }
     // The text is the report of a sweep of the script that was read.
-    ensures told { OnOk result (WritesReport (cut_facts board.now) (R.remaining reader.old) (R.remaining reader.new)
+    ensures told { OnOk result (WritesReport B.facts B.torn (B.facts board.now) (R.remaining reader.old) (R.remaining reader.new)
         part (W.contents writer.old) (W.contents writer.new)) }
     // A bad line is the first one. `Read` occurs within a line. At `Write` the first bytes of the report are written.
-    ensures stopped { IfErr result (λ fault. SweepStopsBy (cut_facts board.now) part fault
+    ensures stopped { IfErr result (λ fault. SweepStopsBy B.facts B.torn (B.facts board.now) part fault
         (R.remaining reader.old) (R.remaining reader.new) (W.contents writer.old) (W.contents writer.new)) }
     ensures unwritten { IfErr result (λ fault. fault ≢ SweepFault.Write
         → W.contents writer.new ≡ W.contents writer.old) }
 {
     let script = read_script(alloc, reader)?;
     let text = swept(alloc, board, &script, part, progress)?;
-    write_text(writer, text.as_bytes())?;
-    Ok(())
-}
-
-/// Writes the whole text, and flushes.
-fn write_text<W: Write>(writer: &mut W, text: &[u8]) -> Result<(), SweepFault>
-    ensures wrote { OnOk result (Appends (W.contents writer.old) (W.contents writer.new) text.now) }
-    ensures began { OnErr result
-        ((size : ℕ) × Appends (W.contents writer.old) (W.contents writer.new) (take size text.now)) }
-    ensures fault { IfErr result (λ fault. fault ≡ SweepFault.Write) }
-{
-    // `write_all` doesn't say what it wrote before it failed.
-    let mut written = 0;
-    while written < text.len() {
-        match writer.write(&text[written..]) {
-            Ok(0) | Err(_) => return Err(SweepFault::Write),
-            Ok(count) => written += count,
-        }
-    }
-    match writer.flush() {
+    match write_line(writer, text.as_bytes()) {
         Ok(()) => Ok(()),
         Err(_) => Err(SweepFault::Write),
     }

@@ -5,7 +5,7 @@ ghost use Rattle.card_start.specs.Factory.{factory_card};
 ghost use Rattle.command_base.specs.Finding.{Finds, HasCard};
 ghost use Rattle.card_bench.specs.Prints.{IsJustWritten};
 
-use card_bench::{NoCard, factory_board, image_board};
+use card_bench::{NoCard, Sweepable, factory_board, image_board};
 use nvm_board::{MOST_PAGES, PAGE_WORDS};
 use simulated_boards::CutBoard;
 use std::alloc::{AllocError, Global};
@@ -18,6 +18,19 @@ const PAGE_BYTES: usize = 4 * PAGE_WORDS as usize;
 
 /// The most bytes of a memory.
 const MOST_BYTES: usize = PAGE_BYTES * MOST_PAGES as usize;
+
+/// A board that can be swept, and whose words can be read with power on or off.
+pub trait ReadableBoard: Sweepable {
+    /// Returns the words.
+    fn words(&self) -> &[u32]
+        ensures { result.now ≡ (Self.facts self.now).words };
+}
+
+impl ReadableBoard for CutBoard {
+    fn words(&self) -> &[u32] {
+        CutBoard::words(self)
+    }
+}
 
 /// Why there is no board to sweep.
 #[derive(Debug, Drop, Error)]

@@ -1,8 +1,9 @@
-use Rattle.std.proofs.Common.{◌∙◌, ap, refl}
+use Rattle.std.proofs.Common.{◌∙◌, ap}
 use Rattle.card_sweeps.specs.Sweeps.{off_with}
 use Rattle.card_sweeps.proofs.SweepLemmas.{plays-on}
 use Rattle.card_sweeps.proofs.sweeping.play_copy.Goals as goal
 
 pub returns : goal.returns
-returns c = λ card. plays-on _ _ _ _ _ _ refl refl
-    (c.new-bench.ensures ∙ ap off_with c.in_ok-copy.ensures.facts) c.into_board.ensures c.in_ok-trace.ensures card
+returns g c = λ card. plays-on _ _ _ _ _ _ (g.met.B.Faultless.faultless c.args.board.now).faults
+    (g.met.B.Faultless.faultless c.args.board.now).due (c.new-bench.ensures ∙ ap off_with c.in_ok-copy.ensures)
+    c.into_board.ensures c.in_ok-trace.ensures card

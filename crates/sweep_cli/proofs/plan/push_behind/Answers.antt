@@ -5,7 +5,7 @@ use Rattle.sweep_cli.proofs.Put.{on-ok}
 use Rattle.sweep_cli.proofs.plan.push_behind.Goals as goal
 
 pub returns : goal.returns
-returns c =
+returns g c =
     let found = c.in_ok-found.found in
     on-ok c.push_results.result _ _
     (λ written card. record {

@@ -5,7 +5,7 @@ use Rattle.sweep_cli.proofs.Put.{on-ok}
 use Rattle.sweep_cli.proofs.plan.push_first_part.Goals as goal
 
 pub returns : goal.returns
-returns c = on-ok c.push_kinds.result _ _
+returns g c = on-ok c.push_kinds.result _ _
     (λ written card. record {
       more = kinds_text 1 c.in_ok-made.made.items;
       holds = record {
@@ -18,7 +18,7 @@ returns c = on-ok c.push_kinds.result _ _
     c.push_kinds.ensures
 
 pub returns-then-not-is_first : goal.returns-then-not-is_first
-returns-then-not-is_first c = λ card. record {
+returns-then-not-is_first g c = λ card. record {
   more = [];
   holds = record {
     first = λ is. absurd (true≢false (sym (c.is_first.ensures.1 is) ∙ c.if-not-is_first.true));

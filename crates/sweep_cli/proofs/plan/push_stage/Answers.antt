@@ -5,7 +5,7 @@ use Rattle.sweep_cli.proofs.Reported.{results-under}
 use Rattle.sweep_cli.proofs.plan.push_stage.Goals as goal
 
 pub returns : goal.returns
-returns c = on-ok c.push_behind.result _ _
+returns g c = on-ok c.push_behind.result _ _
     (λ behind card.
     let played = c.in_ok-trace.ensures card in
     let head_is = c.deref-2.ensures ∙ c.in_ok-head.ensures

@@ -7,22 +7,22 @@ use Rattle.sweep_cli.proofs.Reported.{unmade-put}
 use Rattle.sweep_cli.proofs.plan.push_write.Goals as goal
 
 pub loop-i-init : goal.loop-i-init
-loop-i-init c = λ card.
+loop-i-init g c = λ card.
     let cut = rw c.in-Some.is at c.in_ok-left.ensures.cut in
-    let IsText = IsCutOrNone (sweeping_of c.args.plan) c.args.write c.words_to_try-words.result in
+    let IsText = IsCutOrNone (sweeping_of g.B.Board.facts g.B.Sweepable.torn c.args.plan.now) c.args.write c.words_to_try-words.result in
     in-turn-next IsText 0 _ _ _ (in-turn-none IsText _)
     (c.in_ok-push_first.ensures (cut card) c.words_to_try-words.result)
 
 pub loop-i-preserved : goal.loop-i-preserved
-loop-i-preserved c = λ card.
+loop-i-preserved g c = λ card.
     in-turn-next _ _ _ _ _ (c.loop-i.invariant card) (rw c.if-not-branch.false at (c.in_ok-push_mask.ensures card))
 
 pub returns-in_default : goal.returns-in_default
-returns-in_default c = λ card.
+returns-in_default g c = λ card.
     unmade-put _ _ _ ((rw c.in_default.is at c.in_ok-left.ensures.spared) card)
 
 pub returns-then-not-branch : goal.returns-then-not-branch
-returns-then-not-branch c = λ card.
+returns-then-not-branch g c = λ card.
     let so_far = c.loop-i.invariant card in
     let spared = rw c.if-not-branch.true at (c.in_ok-push_mask.ensures card) in
     let cut = rw c.in-Some.is at c.in_ok-left.ensures.cut in
@@ -44,7 +44,7 @@ returns-then-not-branch c = λ card.
     }
 
 pub returns : goal.returns
-returns c = λ card.
+returns g c = λ card.
     let so_far = c.loop-i.invariant card in
     let cut = rw c.in-Some.is at c.in_ok-left.ensures.cut in
     let words = c.words_to_try-words.result in

@@ -1,11 +1,10 @@
 use Rattle.std.proofs.Common.{string_bytes}
 use Rattle.command_base.specs.Finding.{HasCard}
-use Rattle.simulated_boards.specs.Cut.{cut_facts}
 use Rattle.sweep_cli.specs.ReportParts.{AddsText, sweeping_of}
 use Rattle.sweep_cli.specs.Reporting.{TextsInTurn, IsCutOrNone}
 use Rattle.sweep_cli.proofs.plan.push_write.Given as goal
 
 abbrev pub invariant-loop-i : goal.invariant-loop-i
-invariant-loop-i l = HasCard (cut_facts l.plan.board.now).words
-    → AddsText (TextsInTurn (IsCutOrNone (sweeping_of l.plan) l.write l.words) l.i) (string_bytes l.fn.text)
+invariant-loop-i g l = HasCard (g.B.Board.facts l.plan.board.now).words
+    → AddsText (TextsInTurn (IsCutOrNone (sweeping_of g.B.Board.facts g.B.Sweepable.torn l.plan) l.write l.words) l.i) (string_bytes l.fn.text)
     (string_bytes l.text)

@@ -1,11 +1,10 @@
 use Rattle.std.proofs.Common.{◌+◌, string_bytes}
 use Rattle.command_base.specs.Finding.{HasCard}
-use Rattle.simulated_boards.specs.Cut.{cut_facts}
 use Rattle.sweep_cli.specs.ReportParts.{AddsText, sweeping_of}
 use Rattle.sweep_cli.specs.Reporting.{TextsInTurn, IsWrite}
 use Rattle.sweep_cli.proofs.plan.push_writes.Given as goal
 
 abbrev pub invariant-loop-writes : goal.invariant-loop-writes
-invariant-loop-writes g l = HasCard (cut_facts l.plan.board.now).words
-    → AddsText (TextsInTurn (λ n. IsWrite (sweeping_of l.plan) (n + 1)) l.writes) (string_bytes l.fn.text)
+invariant-loop-writes g l = HasCard (g.B.Board.facts l.plan.board.now).words
+    → AddsText (TextsInTurn (λ n. IsWrite (sweeping_of g.B.Board.facts g.B.Sweepable.torn l.plan) (n + 1)) l.writes) (string_bytes l.fn.text)
     (string_bytes l.text)
