@@ -5,8 +5,8 @@ from pathlib import Path
 
 
 def program(*options: str) -> str:
-    """The path that tools/program prints, which builds the program first if there is none. If it fails, it says why, and
-    the tool ends."""
+    """The path that tools/program prints, which builds the program if there is none. If it fails, it says why, and the
+    tool ends."""
     done = subprocess.run([Path(__file__).with_name("program"), *options], stdout=subprocess.PIPE, text=True)
     if done.returncode:
         sys.exit(2)

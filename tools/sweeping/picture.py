@@ -11,8 +11,8 @@ STYLE = """<style>svg{fill:#222222}.paper{fill:#ffffff}.grid{fill:#e8e8e8}.soft{
 .frame{fill:none;stroke:#c00000;stroke-width:1.5}@media (prefers-color-scheme:dark){svg{fill:#e6edf3}
 .paper{fill:#0d1117}.grid{fill:#21262d}.soft{fill:#9aa4ae}.commit{fill:#ff7b72}.frame{stroke:#ff7b72}}</style>"""
 GATE = "G the journal's gate"
-KINDS = {"pairs": "P old words in pairs", "gate": GATE, "commit": GATE, "words": "W new words", "fill": "F a free block",
-         "alone": "1 one word alone", "same": "S words that are there already"}
+KINDS = {"pairs": "P old words in pairs", "gate": GATE, "commit": GATE, "words": "W new words",
+         "fill": "F a free block", "alone": "1 one word alone", "same": "S words that are there already"}
 # in pixels: the margin, the left upper corner of the columns, the height of a row, the width of a letter at most
 MARGIN, LEFT, TOP, ROW, LETTER = 16, 112, 104, 18, 6.2
 COMMIT = '<path class="commit" d="M{:g} {:g} h10 l-5 8 z"/>'
