@@ -12,7 +12,7 @@ BLOCK = re.compile(r"(?:pub )?(?:impl|trait)\b")
 
 @dataclass(frozen=True)
 class Function:
-    """A function: its source, its name, and its first and last line."""
+    """A function: its source, its name, and its first and last line. Its attributes are part of it."""
 
     path: str
     name: str
@@ -44,8 +44,15 @@ def functions_in(path: str, text: str) -> list[Function]:
             end = next((it for it in range(at, len(lines)) if lines[it] == f"{head[1]}}}"), at)
         is_open = bool(head[2]) or implements_trait(lines, at)
         is_promise = is_open and has_ensures(lines[at : end + 1], head[1])
-        found.append(Function(path, head[4], at + 1, end + 1, bool(head[3]), is_promise))
+        found.append(Function(path, head[4], begin_of(lines, at), end + 1, bool(head[3]), is_promise))
     return found
+
+
+def begin_of(lines: list[str], head: int) -> int:
+    """The number of a function's first line, which may be an attribute. The prover names it for what is not proved."""
+    while head > 0 and lines[head - 1].lstrip().startswith("#["):
+        head -= 1
+    return head + 1
 
 
 def implements_trait(lines: list[str], at: int) -> bool:
