@@ -2,7 +2,7 @@
 use Rattle.std.specs.Prelude.{◌≡◌, ◌≤◌, ℕ, Bool, not, List, length, map, option_map, IfSome}
 use Rattle.undo_journal.specs.Memory.{Memory, committed, IsReady}
 use Rattle.file_tree.specs.declared.entry.Entry.{Entry}
-use Rattle.file_tree.specs.declared.kinds.EntryKind.TheVariants.{Dedicated}
+use Rattle.file_tree.specs.declared.kinds.EntryKind.TheVariants.{Dedicated, Transparent}
 use Rattle.file_tree.specs.Kinds.{kind_byte}
 use Rattle.card_state.specs.declared.space.FreeSpace.{FreeSpace}
 use Rattle.file_tree.specs.Table.{table, entry_in, path_of, IsChild}
@@ -15,7 +15,7 @@ use Rattle.command_base.specs.Standing.{card_of, IsCard}
 -- an elementary file that is a child of the dedicated file
 pub record IsElementary (t : List Entry) (df e : ℕ) : Type 0 where
   pub child : IsChild t df e
-  pub kind : 2 ≤ (entry_in t e).kind
+  pub kind : kind_byte Transparent ≤ (entry_in t e).kind
 
 -- The current files are a dedicated file and, if present, an elementary file in it. The set of verified PINs has eight
 -- flags.

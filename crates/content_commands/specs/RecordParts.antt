@@ -25,6 +25,8 @@ use Rattle.command_base.specs.declared.target_file.Need.{Need}
 use Rattle.command_base.specs.declared.target_file.Structure.{Structure}
 use Rattle.command_base.specs.declared.target_file.Structure.TheVariants.{Records, Linear}
 use Rattle.command_base.specs.NamedFiles.{IsNamed}
+use Rattle.file_tree.specs.Kinds.{kind_byte}
+use Rattle.file_tree.specs.declared.kinds.EntryKind.TheVariants as entry_kinds
 
 -- the address of the word of an entry with its number of records
 abbrev pub told_address : ℕ → ℕ
@@ -42,7 +44,8 @@ ring_in e entry = record {
 }
 
 abbrev pub record_file_in : ℕ → Entry → RecordFile
-record_file_in e entry = record { number = e; ring = ring_in e entry; wraps = entry.kind == 4 }
+record_file_in e entry =
+    record { number = e; ring = ring_in e entry; wraps = entry.kind == kind_byte entry_kinds.Cyclic }
 
 -- the number of the record that the choice selects, with this record pointer
 abbrev pub chosen_in : RecordFile → Option ℕ → RecordChoice → ℕ
@@ -101,7 +104,8 @@ ring_room (rooms.InFront ring) = ring
 -- The record file that a command names, as its entry describes it.
 pub record IsRecordFile (m : List ℕ) (x : Current) (target : Target) (need : Need) (file : RecordFile) : Type 0 where
   pub named : IsNamed m x target need file.number (entry_in (table m) file.number)
-  pub kind : ((entry_in (table m) file.number).kind ≡ 3) ⊎ ((entry_in (table m) file.number).kind ≡ 4)
+  pub kind : ((entry_in (table m) file.number).kind ≡ kind_byte entry_kinds.Linear)
+      ⊎ ((entry_in (table m) file.number).kind ≡ kind_byte entry_kinds.Cyclic)
   pub file_is : file ≡ record_file_in file.number (entry_in (table m) file.number)
 
 -- what UPDATE RECORD needs of its file, by its choice of record

@@ -24,16 +24,18 @@ use Rattle.file_tree.specs.Trees.{tree_of}
 use Rattle.card_state.specs.NewFiles.{blank}
 use Rattle.file_changes.specs.Creations.{kind_number}
 use Rattle.file_changes.specs.CreationRefusals.{taken_refusal, place_refusal, creation_refusal}
+use Rattle.file_tree.specs.Kinds.{kind_byte}
+use Rattle.file_tree.specs.declared.kinds.EntryKind.TheVariants as entry_kinds
 
 -- The entry is free, or None if all are in use.
 abbrev pub TellsFreeEntry : List Entry → Option ℕ → Type 0
-TellsFreeEntry t None = (f : ℕ) → f < 64 → (entry_in t f).kind ≢ 0
-TellsFreeEntry t (Some e) = (e < 64) × ((entry_in t e).kind ≡ 0)
+TellsFreeEntry t None = (f : ℕ) → f < 64 → (entry_in t f).kind ≢ kind_byte entry_kinds.Free
+TellsFreeEntry t (Some e) = (e < 64) × ((entry_in t e).kind ≡ kind_byte entry_kinds.Free)
 
 -- The entry is free, the DF isn't on the last level, and there are enough free blocks.
 pub record IsPlaceFor (m : List ℕ) (df : ℕ) (kind : FileKind) (e : ℕ) : Type 0 where
   pub small : e < 64
-  pub free : (entry_in (table m) e).kind ≡ 0
+  pub free : (entry_in (table m) e).kind ≡ kind_byte entry_kinds.Free
   pub level : ancestor (table m) 6 df ≡ 0
   pub enough : blocks_for (size_of_kind kind) ≤ length (free_chain m)
 

@@ -13,13 +13,15 @@ use Rattle.file_tree.specs.TreeChanges.{Creates, with_freed}
 use Rattle.file_tree.specs.Indexes.{AddsEntry}
 use Rattle.card_state.specs.NewFiles.{new_file, short_of_new}
 use Rattle.file_changes.specs.CreationRefusals.{creation_refusal}
+use Rattle.file_tree.specs.Kinds.{kind_byte}
+use Rattle.file_tree.specs.declared.kinds.EntryKind.TheVariants as entry_kinds
 
 -- The number of a kind in an entry.
 abbrev pub kind_number : FileKind → ℕ
-kind_number (kinds.Df name) = 1
-kind_number (kinds.Transparent short size) = 2
-kind_number (kinds.Linear short records) = 3
-kind_number (kinds.Cyclic short records) = 4
+kind_number (kinds.Df name) = kind_byte entry_kinds.Dedicated
+kind_number (kinds.Transparent short size) = kind_byte entry_kinds.Transparent
+kind_number (kinds.Linear short records) = kind_byte entry_kinds.Linear
+kind_number (kinds.Cyclic short records) = kind_byte entry_kinds.Cyclic
 
 -- There is a new file in a DF, as its file control parameters describe it.
 abbrev pub CreatesNew : List ℕ → ℕ → Fcp → List ℕ → Type 0

@@ -17,10 +17,12 @@ use Rattle.file_changes.specs.declared.deleting.Removal.{Removal}
 use Rattle.file_tree.specs.Entries.{extent_of, free_entry}
 use Rattle.file_tree.specs.Table.{table, entry_in, extents, free_entries}
 use Rattle.file_tree.specs.Subtrees.{leads_up}
+use Rattle.file_tree.specs.Kinds.{kind_byte}
+use Rattle.file_tree.specs.declared.kinds.EntryKind.TheVariants.{Free}
 
 -- True if entry `f` is used and in the subtree of `top`.
 abbrev pub is_gone : List Entry → ℕ → ℕ → Bool
-is_gone t top f = not ((entry_in t f).kind == 0) && leads_up t 7 top f
+is_gone t top f = not ((entry_in t f).kind == kind_byte Free) && leads_up t 7 top f
 
 -- The entry if it is in the subtree of `top`, else a free one.
 abbrev pub going : List Entry → ℕ → ℕ → Entry
@@ -41,7 +43,7 @@ extents_in (Some x) = cons_option (extent_of x) []
 
 -- The marks say of each entry of a part whether it is used.
 abbrev pub GoesWith : List Bool → List Entry → Type 0
-GoesWith goes part = (f : ℕ) → f < 64 → IsTrue (slice_index_or goes f false) ↔ ((entry_in part f).kind ≢ 0)
+GoesWith goes part = (f : ℕ) → f < 64 → IsTrue (slice_index_or goes f false) ↔ ((entry_in part f).kind ≢ kind_byte Free)
 
 -- Which entries go, how many, and the extents of their files.
 pub record IsPart (t : List Entry) (top : ℕ) (part : Part) : Type 0 where
@@ -59,9 +61,9 @@ pub record IsRemoval (m : List ℕ) (e : ℕ) (removal : Removal) : Type 0 where
 -- The first k entries of a part are freed by setting their word 0 to 0. No other word changes.
 pub record FreesUpTo (m : List ℕ) (part : List Entry) (k : ℕ) (after : List ℕ) : Type 0 where
   pub size : length after ≡ length m
-  pub freed : (f : ℕ) → f < k → (entry_in part f).kind ≢ 0 → word after (FIRST_ENTRY_PAGE + f) 0 ≡ 0
+  pub freed : (f : ℕ) → f < k → (entry_in part f).kind ≢ kind_byte Free → word after (FIRST_ENTRY_PAGE + f) 0 ≡ 0
   pub others : (page place : ℕ) → place < PAGE_WORDS
-      → (place ≢ 0) ⊎ ((f : ℕ) → f < k → page ≡ FIRST_ENTRY_PAGE + f → (entry_in part f).kind ≡ 0)
+      → (place ≢ 0) ⊎ ((f : ℕ) → f < k → page ≡ FIRST_ENTRY_PAGE + f → (entry_in part f).kind ≡ kind_byte Free)
       → word after page place ≡ word m page place
 
 -- All entries of the part are freed.

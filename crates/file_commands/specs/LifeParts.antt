@@ -19,6 +19,8 @@ use Rattle.card_model.specs.LifeCycleCommands.{change_bit, change_refusals, chan
 use Rattle.card_model.specs.Behaviours.{refused_by}
 use Rattle.command_base.specs.Standing.{card_of}
 use Rattle.command_base.specs.Working.{session_of}
+use Rattle.file_tree.specs.Kinds.{kind_byte}
+use Rattle.file_tree.specs.declared.kinds.EntryKind.TheVariants.{Dedicated}
 
 -- the entry of the file that a command without data changes; None: no current elementary file
 abbrev pub current_changed : Current → LifeCycleChange → Option ℕ
@@ -31,8 +33,8 @@ current_changed x TerminateEf = x.ef
 abbrev pub is_for_kind : LifeCycleChange → ℕ → Bool
 is_for_kind Activate kind = true
 is_for_kind Deactivate kind = true
-is_for_kind TerminateDf kind = kind == 1
-is_for_kind TerminateEf kind = not (kind == 1)
+is_for_kind TerminateDf kind = kind == kind_byte Dedicated
+is_for_kind TerminateEf kind = not (kind == kind_byte Dedicated)
 
 -- the change or its refusal: no state transition, the wrong kind of file, or a rule that forbids it
 abbrev pub changed_by : LifeCycleChange → ℕ → Entry → Option LifeCycle → Bool → Result Changed Sw

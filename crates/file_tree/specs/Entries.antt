@@ -13,6 +13,8 @@ use Rattle.file_tree.specs.declared.entry.Entry.{Entry}
 use Rattle.file_tree.specs.declared.entry.EntryHead.{EntryHead}
 use Rattle.card_state.specs.FileTrees.{transparent, linear, cyclic, dedicated, elementary, Body, Kind, File}
 use Rattle.card_state.specs.Spaces.{blocks_for}
+use Rattle.file_tree.specs.Kinds.{kind_byte}
+use Rattle.file_tree.specs.declared.kinds.EntryKind.TheVariants.{Dedicated, Transparent, Linear}
 
 -- The first and the last two bytes of a word.
 abbrev pub high : ℕ → ℕ
@@ -133,14 +135,15 @@ cyclic_records entry bytes =
 -- The content of an EF whose blocks have these bytes.
 abbrev pub body_of : Entry → List ℕ → Body
 body_of entry bytes =
-    if entry.kind == 2 then transparent (take entry.size bytes) else
-    if entry.kind == 3 then linear entry.record_length (entry_capacity entry) (linear_records entry bytes) else
+    if entry.kind == kind_byte Transparent then transparent (take entry.size bytes) else
+    if entry.kind == kind_byte Linear
+    then linear entry.record_length (entry_capacity entry) (linear_records entry bytes) else
     cyclic entry.record_length (entry_capacity entry) (cyclic_records entry bytes)
 
 -- A DF has a name unless the length is 0. An EF has a short identifier unless it is 0.
 abbrev pub kind_of : Entry → List ℕ → Kind
 kind_of entry bytes =
-    if entry.kind == 1 then dedicated (if entry.name_length == 0 then None else Some (name_of entry))
+    if entry.kind == kind_byte Dedicated then dedicated (if entry.name_length == 0 then None else Some (name_of entry))
     else elementary (if entry.short == 0 then None else Some entry.short) (body_of entry bytes)
 
 -- The file of a used entry whose blocks have these bytes.
@@ -161,4 +164,4 @@ extent_told entry = record {
 
 -- Only the entry of an EF has blocks.
 unfoldable pub extent_of : Entry → Option Extent
-extent_of entry = if nat_le 2 entry.kind then Some (extent_told entry) else None
+extent_of entry = if nat_le (kind_byte Transparent) entry.kind then Some (extent_told entry) else None

@@ -8,6 +8,8 @@ use Rattle.file_tree.specs.declared.index.Index.{Index}
 use Rattle.card_state.specs.FileTrees.{Path, Tree, exists}
 use Rattle.file_tree.specs.Keys.{key_for, IsBefore}
 use Rattle.file_tree.specs.Table.{entry_in, HaveIdentifiers, IsUsed, IsChild}
+use Rattle.file_tree.specs.Kinds.{kind_byte}
+use Rattle.file_tree.specs.declared.kinds.EntryKind.TheVariants.{Free}
 
 -- The place of an entry's file.
 abbrev pub place_of : List Entry → ℕ → Place
@@ -46,12 +48,12 @@ pub record IsFreeIn (index : Index) (e : ℕ) : Type 0 where
   pub indexed : IsIndex entries index
   pub below : 0 < e
   pub within : e < ENTRIES
-  pub free : (entry_in entries e).kind ≡ 0
+  pub free : (entry_in entries e).kind ≡ kind_byte Free
 
 -- The entry was free, and now has a file with this parent and identifier. No other entry changes.
 pub record AddsEntry (t : List Entry) (parent identifier e : ℕ) (after : List Entry) : Type 0 where
   pub below : 0 < e
-  pub free : (entry_in t e).kind ≡ 0
+  pub free : (entry_in t e).kind ≡ kind_byte Free
   pub used : IsUsed after e
   pub parent_is : (entry_in after e).parent ≡ parent
   pub identifier_is : (entry_in after e).identifier ≡ identifier

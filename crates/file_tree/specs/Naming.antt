@@ -3,10 +3,12 @@ use Rattle.std.specs.Prelude.{◌≡◌, ◌≢◌, ℕ, List, Option, None, Som
 use Rattle.file_tree.specs.declared.entry.Entry.{Entry}
 use Rattle.file_tree.specs.Entries.{name_of}
 use Rattle.file_tree.specs.Table.{entry_in}
+use Rattle.file_tree.specs.Kinds.{kind_byte}
+use Rattle.file_tree.specs.declared.kinds.EntryKind.TheVariants.{Dedicated}
 
 -- The entry is that of a DF with this name.
 pub record BearsName (x : Entry) (text : List ℕ) : Type 0 where
-  pub kind : x.kind ≡ 1
+  pub kind : x.kind ≡ kind_byte Dedicated
   pub some : x.name_length ≢ 0
   pub name : name_of x ≡ text
 

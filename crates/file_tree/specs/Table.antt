@@ -9,6 +9,8 @@ use Rattle.block_chain.specs.declared.chain.Extent.{Extent}
 use Rattle.file_tree.specs.declared.entry.Entry.{Entry}
 use Rattle.card_state.specs.FileTrees.{Path, master_file}
 use Rattle.file_tree.specs.Entries.{free_entry, entry_of, name_of, rule_of, entry_capacity, extent_of}
+use Rattle.file_tree.specs.Kinds.{kind_byte}
+use Rattle.file_tree.specs.declared.kinds.EntryKind.TheVariants.{Free, Dedicated, Transparent, Linear, Cyclic}
 
 -- The 64 entries by number. Entry 0 is on page 1.
 unfoldable pub table : List ℕ → List Entry
@@ -19,7 +21,7 @@ abbrev pub entry_in : List Entry → ℕ → Entry
 entry_in t e = slice_index_or t e free_entry
 
 abbrev pub IsUsed : List Entry → ℕ → Type 0
-IsUsed t e = (entry_in t e).kind ≢ 0
+IsUsed t e = (entry_in t e).kind ≢ kind_byte Free
 
 -- The entry after n steps to parents. The MF is its own parent.
 unfoldable pub ancestor : List Entry → ℕ → ℕ → ℕ
@@ -58,17 +60,17 @@ pub record IsRecordBody (entry : Entry) : Type 0 where
   pub capacity : entry_capacity entry ≤ 254
   pub records : entry.records ≤ entry_capacity entry
   pub start : entry.start < entry_capacity entry
-  pub linear : entry.kind ≡ 3 → entry.start ≡ 0
+  pub linear : entry.kind ≡ kind_byte Linear → entry.start ≡ 0
 
 -- A short identifier is 1 to 30, or 0 for none. A DF has none.
 pub record HasShort (entry : Entry) : Type 0 where
   pub most : entry.short ≤ 30
-  pub of_ef : entry.kind ≡ 1 → entry.short ≡ 0
+  pub of_ef : entry.kind ≡ kind_byte Dedicated → entry.short ≡ 0
 
 -- A name has 1 to 16 bytes, or length 0 for none. An EF has none.
 pub record HasName (entry : Entry) : Type 0 where
   pub most : entry.name_length ≤ 16
-  pub of_df : entry.kind ≢ 1 → entry.name_length ≡ 0
+  pub of_df : entry.kind ≢ kind_byte Dedicated → entry.name_length ≡ 0
 
 -- The access rule is at most 8 bytes, and is valid.
 pub record HasRule (entry : Entry) : Type 0 where
@@ -77,13 +79,13 @@ pub record HasRule (entry : Entry) : Type 0 where
 
 -- The content of an EF fits its kind.
 pub record HasBody (entry : Entry) : Type 0 where
-  pub transparent : entry.kind ≡ 2 → IsTransparentBody entry
-  pub records : (entry.kind ≡ 3) ⊎ (entry.kind ≡ 4) → IsRecordBody entry
+  pub transparent : entry.kind ≡ kind_byte Transparent → IsTransparentBody entry
+  pub records : (entry.kind ≡ kind_byte Linear) ⊎ (entry.kind ≡ kind_byte Cyclic) → IsRecordBody entry
 
 -- A used entry: valid kind, life cycle status, short identifier, name, access rule and content, and an identifier
 -- that isn't reserved.
 pub record IsFileEntry (entry : Entry) : Type 0 where
-  pub kind : entry.kind ≤ 4
+  pub kind : entry.kind ≤ kind_byte Cyclic
   pub life : IsSome (life_cycle_at entry.life)
   pub identifier : (entry.identifier ≢ 0x3FFF) × (entry.identifier ≢ 0xFFFF)
   pub short : HasShort entry
@@ -93,19 +95,19 @@ pub record IsFileEntry (entry : Entry) : Type 0 where
 
 -- An entry is free, with its word 0 being 0, or it is that of a file.
 pub record IsEntry (entry : Entry) : Type 0 where
-  pub free : entry.kind ≡ 0 → (entry.life ≡ 0) × (entry.identifier ≡ 0)
-  pub used : entry.kind ≢ 0 → IsFileEntry entry
+  pub free : entry.kind ≡ kind_byte Free → (entry.life ≡ 0) × (entry.identifier ≡ 0)
+  pub used : entry.kind ≢ kind_byte Free → IsFileEntry entry
 
 -- Entry 0 is the MF: a DF with identifier 3F00, and its own parent.
 pub record IsMasterFile (entry : Entry) : Type 0 where
-  pub kind : entry.kind ≡ 1
+  pub kind : entry.kind ≡ kind_byte Dedicated
   pub identifier : entry.identifier ≡ master_file
   pub parent : entry.parent ≡ 0
 
 -- Each other file has a DF as its parent. Seven steps to parents lead to the MF, since the MF is its own parent. The
 -- identifier isn't that of the MF.
 pub record IsBelowMaster (t : List Entry) (e : ℕ) : Type 0 where
-  pub parent : (entry_in t (entry_in t e).parent).kind ≡ 1
+  pub parent : (entry_in t (entry_in t e).parent).kind ≡ kind_byte Dedicated
   pub level : ancestor t 7 e ≡ 0
   pub identifier : (entry_in t e).identifier ≢ master_file
 
@@ -131,7 +133,7 @@ HaveNames t = (e f : ℕ) → IsUsed t e → IsUsed t f → 0 < length (name_of 
 
 -- The number of free entries.
 abbrev pub free_entries : List Entry → ℕ
-free_entries t = count_by (λ entry. entry.kind == 0) t
+free_entries t = count_by (λ entry. entry.kind == kind_byte Free) t
 
 -- The rules on the table of entries alone.
 pub record IsTable (t : List Entry) : Type 0 where

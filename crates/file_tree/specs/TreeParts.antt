@@ -5,6 +5,8 @@ use Rattle.file_tree.specs.declared.entry.Entry.{Entry}
 use Rattle.card_state.specs.FileTrees.{master_file}
 use Rattle.file_tree.specs.Entries.{byte_of, low, name_of}
 use Rattle.file_tree.specs.Table.{entry_in, IsUsed, IsBelowMaster, IsChild}
+use Rattle.file_tree.specs.Kinds.{kind_byte}
+use Rattle.file_tree.specs.declared.kinds.EntryKind.TheVariants.{Free, Dedicated}
 
 -- Two entries have the same name, not an empty one.
 abbrev pub BearOneName : Entry → Entry → Type 0
@@ -39,7 +41,7 @@ AreBelow t = (e : ℕ) → 0 < e → IsUsed t e → IsBelowMaster t e
 
 -- The entry is that of a DF's child with this short identifier.
 pub record IsShortChild (x : Entry) (df n : ℕ) : Type 0 where
-  pub used : x.kind ≢ 0
+  pub used : x.kind ≢ kind_byte Free
   pub parent : x.parent ≡ df
   pub short : x.short ≡ n
 
@@ -50,9 +52,11 @@ TellsShort t df n (Some e) = IsChild t df e × ((entry_in t e).short ≡ n)
 
 -- The DF beside this one with the identifier, None if there is none.
 abbrev pub TellsBeside : List Entry → ℕ → ℕ → Option ℕ → Type 0
-TellsBeside t df id None = df ≢ 0 → (e : ℕ) → IsChild t (entry_in t df).parent e → (entry_in t e).kind ≡ 1
+TellsBeside t df id None = df ≢ 0 → (e : ℕ) → IsChild t (entry_in t df).parent e
+    → (entry_in t e).kind ≡ kind_byte Dedicated
     → (entry_in t e).identifier ≡ id → ⊥
-TellsBeside t df id (Some e) = (df ≢ 0) × IsChild t (entry_in t df).parent e × ((entry_in t e).kind ≡ 1)
+TellsBeside t df id (Some e) =
+    (df ≢ 0) × IsChild t (entry_in t df).parent e × ((entry_in t e).kind ≡ kind_byte Dedicated)
     × ((entry_in t e).identifier ≡ id)
 
 -- The first of the parent, the DF itself and the MF that has the identifier, None if none has. The MF has no parent.

@@ -12,6 +12,8 @@ use Rattle.file_tree.specs.Formats.{block_count}
 use Rattle.card_state.specs.Spaces.{free_space}
 use Rattle.file_tree.specs.Entries.{file_of, extent_of}
 use Rattle.file_tree.specs.Table.{table, entry_in, path_of, extents, IsTable}
+use Rattle.file_tree.specs.Kinds.{kind_byte}
+use Rattle.file_tree.specs.declared.kinds.EntryKind.TheVariants.{Free}
 
 -- The bytes in the blocks of an entry's file, none for a DF.
 unfoldable pub content : List ℕ → Entry → List ℕ
@@ -23,7 +25,7 @@ file_in m e = file_of (entry_in (table m) e) (content m (entry_in (table m) e))
 
 -- The path and the file of an entry, if it has one.
 unfoldable pub node : List ℕ → ℕ → Option (Path × File)
-node m e = if (entry_in (table m) e).kind == 0 then None else Some (path_of (table m) e, file_in m e)
+node m e = if (entry_in (table m) e).kind == kind_byte Free then None else Some (path_of (table m) e, file_in m e)
 
 -- The tree of all files.
 unfoldable pub tree_of : List ℕ → Tree
