@@ -50,7 +50,7 @@ use Rattle.command_base.specs.Comparing.{comparisons, ComparesBy}
 use Rattle.card_model.specs.Guards.{naming}
 use Rattle.card_model.specs.Cards.{with_content}
 use Rattle.card_model.specs.Behaviours.{Response, refused, only_status, outcome}
-use Rattle.card_model.specs.Sessions.{marked}
+use Rattle.card_model.specs.Sessions.{at_elementary_file}
 use Rattle.command_base.specs.laws.FoundLaws.{same-of}
 use Rattle.card_model.specs.Steps.{IsDoing, served}
 use Rattle.command_base.specs.Served.{Executes}
@@ -83,7 +83,7 @@ naming-entry m words x Current e file = refl
 naming-entry m words x (Short n) e file =
     let above = parent_path (table m) words.tree.entries e file.child.used ∙ ap (path_of (table m)) file.child.parent in
     let id = identifier_path (table m) words.tree.entries e file.child.used in
-    λ i. record { current_df = above i; current_ef = Some (id i); pointer = None; verified = marked x.verified }
+    λ i. at_elementary_file (session_of (table m) x) (above i) (id i)
 
 -- what a file of bytes is needed for
 abbrev pub bytes_for : AccessBit → Need

@@ -8,7 +8,7 @@ use Rattle.std.proofs.lemmas.Bool.{cases_eq, cases_lt}
 use Rattle.nvm_board.specs.Facts.{address}
 use Rattle.nvm_board.specs.Facts.{IsMemory}
 use Rattle.block_chain.specs.declared.chain.Extent.{Extent}
-use Rattle.block_chain.specs.BlockWords.{page_words, word_bytes}
+use Rattle.block_chain.specs.BlockWords.{page_words}
 use Rattle.block_chain.specs.declared.layout.TheConstants.{HEADER_PAGE}
 use Rattle.file_tree.specs.Formats.{block_count, SameFormat}
 use Rattle.file_tree.specs.declared.layout.TheConstants.{MARK_WORD, PAGES_WORD}
@@ -19,8 +19,8 @@ use Rattle.block_chain.specs.Layout.{IsOf, AreLaid, SameBytes}
 use Rattle.block_chain.specs.laws.Footprints.{laid_elsewhere, page_words_same, set_elsewhere}
 use Rattle.block_chain.specs.laws.Words.{index-page_words}
 use Rattle.file_tree.specs.declared.entry.Entry.{Entry}
-use Rattle.file_tree.specs.Entries.{byte_of, entry_of, entry_told, extent_of, extent_told, file_of, free_entry}
-use Rattle.file_tree.specs.Entries.{high, low, name_of}
+use Rattle.file_tree.specs.Entries.{entry_of, entry_told, extent_of, extent_told, file_of, free_entry}
+use Rattle.file_tree.specs.Entries.{entry_by, high, low, name_of}
 use Rattle.file_tree.specs.Table.{table, ancestor, entry_in, extents, free_entries, path_in, path_of, IsChild, IsEntry}
 use Rattle.file_tree.specs.Table.{IsTable, IsUsed}
 use Rattle.file_tree.specs.Trees.{content, TreeStands, file_in}
@@ -30,7 +30,6 @@ use Rattle.file_tree.specs.laws.Nodes.{used_small}
 use Rattle.file_tree.specs.laws.Tables.{entry_in-table, entry_of-free, entry_of-used, entry_past, entry_within}
 use Rattle.file_tree.specs.laws.Tables.{length-table}
 use Rattle.command_base.specs.declared.current.Current.{Current}
-use Rattle.card_model.specs.Sessions.{marked}
 use Rattle.command_base.specs.Working.{session_of, IsCurrent, IsElementary}
 use Rattle.content_commands.specs.RecordParts.{told_address}
 
@@ -153,11 +152,9 @@ module _ (t s : List Entry) (rules : IsTable t) (size : length t ≡ 64) (long :
 
   -- a session stays, and so do the numbers of its files
   pub session-same : (x : Current) → session_of s x ≡ session_of t x
-  session-same x = λ i. record {
+  session-same x = λ i. record (session_of t x) {
     current_df = paths-same x.df i;
     current_ef = option_map (λ (e : ℕ). same-identifier e i) x.ef;
-    pointer = x.pointer;
-    verified = marked x.verified;
   }
 
   pub current-same : (x : Current) → IsCurrent t x → IsCurrent s x
@@ -188,23 +185,7 @@ told_over old new w x told last others =
     let at7 = others 7 (omega arith) in
     let at8 = others 8 (omega arith) in
     let at9 = others 9 (omega arith) in
-    (λ i. record {
-      kind = byte_of (at0 i) 0;
-      life = byte_of (at0 i) 1;
-      identifier = low (at0 i);
-      parent = byte_of (at1 i) 0;
-      short = byte_of (at1 i) 1;
-      name_length = byte_of (at1 i) 2;
-      rule_length = byte_of (at1 i) 3;
-      rule = word_bytes (at2 i) ++ word_bytes (at3 i) ++ [];
-      name = word_bytes (at4 i) ++ word_bytes (at5 i) ++ word_bytes (at6 i) ++ word_bytes (at7 i) ++ [];
-      size = high (at8 i);
-      record_length = low (at8 i);
-      first = high (at9 i);
-      last = low (at9 i);
-      records = high (last i);
-      start = low (last i);
-    })
+    (λ i. entry_by (at0 i) (at1 i) (at2 i) (at3 i) (at4 i) (at5 i) (at6 i) (at7 i) (at8 i) (at9 i) (last i))
     ∙ (λ i. record (sym told i) { records = high w; start = low w })
 
 -- The word of an entry that tells of its records is set.

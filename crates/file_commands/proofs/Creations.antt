@@ -49,12 +49,7 @@ value_of one other is = ap (λ (o : Option File). unwrap_or o no_file) is
 -- what becomes current does so whatever was current before
 selecting-any : (s r : Session) (path : Path) (kind : Kind) → s.verified ≡ r.verified
     → selecting s path kind ≡ selecting r path kind
-selecting-any s r path (dedicated name) same = λ i. record {
-  current_df = path;
-  current_ef = None;
-  pointer = None;
-  verified = same i;
-}
+selecting-any s r path (dedicated name) same = λ i. record (selecting s path (dedicated name)) { verified = same i }
 selecting-any s r path (elementary short body) same = λ i. record (selecting s path (elementary short body)) {
   verified = same i;
 }

@@ -30,7 +30,7 @@ use Rattle.card_model.specs.FileCommands.{delete_refusals, without}
 use Rattle.card_model.specs.Guards.{allowed}
 use Rattle.card_model.specs.Behaviours.{only_status, refused_by, outcome}
 use Rattle.card_model.specs.Reaching.{subject_of, subject_or}
-use Rattle.card_model.specs.Sessions.{Session, at_dedicated_file, marked}
+use Rattle.card_model.specs.Sessions.{Session, at_dedicated_file}
 use Rattle.command_base.specs.Standing.{card_of, IsCard}
 use Rattle.card_model.specs.Steps.{IsDoing, served}
 use Rattle.command_base.specs.Working.{session_of, IsCurrent}
@@ -159,7 +159,7 @@ module _ (m : List ℕ) (sized : IsMemory m) (words : IsCard m) (x : CurrentFile
     session-is : at_dedicated_file s (parent path) ≡ session_of (table after) at_parent
     session-is =
         let above_is = parent_path (table m) words.tree.entries e used ∙ sym kept.1 in
-        λ i. record { current_df = above_is i; current_ef = None; pointer = None; verified = marked x.verified }
+        λ i. at_dedicated_file s (above_is i)
 
     pub deleted-step : refused_by (delete_refusals c s subject) ≡ None → served c s (delete_file subject)
         ≡ outcome (card_of after) (session_of (table after) at_parent) [] DONE

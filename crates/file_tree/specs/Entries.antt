@@ -1,5 +1,5 @@
 -- File entries: the encoding of an entry in the words of a page, and the file that it describes.
-use Rattle.std.specs.Prelude.{Bool, ℕ, ◌+◌, ◌*◌, ◌/◌, ◌%◌, ◌==◌, nat_le, if◌then◌else◌, List, map, take, replicate}
+use Rattle.std.specs.Prelude.{Bool, ℕ, ◌+◌, ◌*◌, ◌/◌, ◌%◌, ◌==◌, nat_le, if◌then◌else◌, List, [], ◌∷◌, map, take, replicate}
 use Rattle.std.specs.Prelude.{slice_index, slice_range, Option, None, Some, unwrap_or}
 use Rattle.std.specs.List.{flat_map, range_with_len}
 use Rattle.card_state.specs.LifeCycle.{life_cycle_at}
@@ -47,30 +47,31 @@ free_entry = record {
   start = 0;
 }
 
--- The bytes of n words from index `place` on.
-abbrev pub bytes_from : List ℕ → ℕ → ℕ → List ℕ
-bytes_from words place n = flat_map (λ k. word_bytes (slice_index words k)) (range_with_len place n)
-
--- The entry that the words of a page encode, the most significant byte first. Kinds: 0 free, 1 DF, 2 transparent, 3
--- linear, 4 cyclic EF.
-abbrev pub entry_told : List ℕ → Entry
-entry_told words = record {
-  kind = byte_of (slice_index words 0) 0;
-  life = byte_of (slice_index words 0) 1;
-  identifier = low (slice_index words 0);
-  parent = byte_of (slice_index words 1) 0;
-  short = byte_of (slice_index words 1) 1;
-  name_length = byte_of (slice_index words 1) 2;
-  rule_length = byte_of (slice_index words 1) 3;
-  rule = bytes_from words 2 2;
-  name = bytes_from words 4 4;
-  size = high (slice_index words 8);
-  record_length = low (slice_index words 8);
-  first = high (slice_index words 9);
-  last = low (slice_index words 9);
-  records = high (slice_index words 10);
-  start = low (slice_index words 10);
+-- The entry that these eleven words encode, the most significant byte first.
+abbrev pub entry_by : (w0 w1 w2 w3 w4 w5 w6 w7 w8 w9 w10 : ℕ) → Entry
+entry_by w0 w1 w2 w3 w4 w5 w6 w7 w8 w9 w10 = record {
+  kind = byte_of w0 0;
+  life = byte_of w0 1;
+  identifier = low w0;
+  parent = byte_of w1 0;
+  short = byte_of w1 1;
+  name_length = byte_of w1 2;
+  rule_length = byte_of w1 3;
+  rule = flat_map word_bytes (w2 ∷ w3 ∷ []);
+  name = flat_map word_bytes (w4 ∷ w5 ∷ w6 ∷ w7 ∷ []);
+  size = high w8;
+  record_length = low w8;
+  first = high w9;
+  last = low w9;
+  records = high w10;
+  start = low w10;
 }
+
+-- The entry that the words of a page encode.
+abbrev pub entry_told : List ℕ → Entry
+entry_told words =
+    let word = slice_index words in
+    entry_by (word 0) (word 1) (word 2) (word 3) (word 4) (word 5) (word 6) (word 7) (word 8) (word 9) (word 10)
 
 -- An entry is free if word 0 is 0, whatever the other words are.
 unfoldable pub entry_of : List ℕ → Entry

@@ -22,7 +22,7 @@ use Rattle.card_model.specs.Reaching.{selected_from, target_of}
 use Rattle.card_model.specs.Guards.{asks_less, given, right_length}
 use Rattle.command_base.specs.laws.FoundLaws.{same-of, other-of}
 use Rattle.card_model.specs.SelectCommand.{selecting, selection_data, selection_status}
-use Rattle.card_model.specs.Sessions.{marked}
+use Rattle.card_model.specs.Sessions.{at_elementary_file}
 use Rattle.command_base.specs.Standing.{card_of, IsCard}
 use Rattle.card_model.specs.Steps.{served}
 use Rattle.command_base.specs.Working.{session_of, IsCurrent, IsElementary}
@@ -65,7 +65,7 @@ module _ (m : List ℕ) (words : IsCard m) (e : ℕ) (used : IsUsed (table m) e)
   selecting_by x false name short body =
       let above = parent_path (table m) words.tree.entries e used in
       let id = identifier_path (table m) words.tree.entries e used in
-      λ i. record { current_df = above i; current_ef = Some (id i); pointer = None; verified = marked x.verified }
+      λ i. at_elementary_file (session_of (table m) x) (above i) (id i)
 
   pub selecting-entry : (x : Current) → selecting (session_of (table m) x) (path_of (table m) e) (file_in m e).kind
       ≡ session_of (table m) (current_at x e entry)

@@ -1,6 +1,6 @@
 -- What another state in the entry of a file makes of the tree: its file in this state, and all others stay.
 use Rattle.nvm_board.specs.declared.board.TheConstants.{PAGE_WORDS}
-use Rattle.block_chain.specs.BlockWords.{word, page_words, word_bytes}
+use Rattle.block_chain.specs.BlockWords.{word, page_words}
 use Rattle.file_tree.specs.declared.layout.TheConstants.{MARK_WORD, PAGES_WORD}
 use Rattle.file_tree.specs.laws.Formats.{laid_as}
 use Rattle.file_tree.specs.Formats.{block_count, SameFormat}
@@ -29,8 +29,8 @@ use Rattle.block_chain.specs.laws.Words.{index-page_words}
 use Rattle.file_tree.specs.declared.entry.Entry.{Entry}
 use Rattle.file_tree.specs.declared.layout.TheConstants.{FIRST_ENTRY_PAGE}
 use Rattle.card_state.specs.FileTrees.{Path, File}
-use Rattle.file_tree.specs.Entries.{free_entry, entry_told, entry_of, file_of, byte_of, high, low, extent_of}
-use Rattle.file_tree.specs.Entries.{extent_told, name_of}
+use Rattle.file_tree.specs.Entries.{free_entry, entry_told, entry_of, file_of, byte_of, low, extent_of}
+use Rattle.file_tree.specs.Entries.{entry_by, extent_told, name_of}
 use Rattle.card_state.specs.FileLives.{life_at, with_life}
 use Rattle.file_tree.specs.States.{ChangesLife}
 use Rattle.file_tree.specs.Table.{table, entry_in, ancestor, path_in, path_of, extents, IsUsed, IsChild}
@@ -200,22 +200,11 @@ told_again old new w life x told first others tells =
     let kind : byte_of (slice_index new 0) 0 ≡ x.kind = ap (λ (v : ℕ). byte_of v 0) first ∙ tells.kind in
     let state : byte_of (slice_index new 0) 1 ≡ life = ap (λ (v : ℕ). byte_of v 1) first ∙ tells.life in
     let identifier : low (slice_index new 0) ≡ x.identifier = ap low first ∙ tells.identifier in
-    (λ i. record {
+    let word = slice_index new 0 in
+    (λ i. record (entry_by word (at1 i) (at2 i) (at3 i) (at4 i) (at5 i) (at6 i) (at7 i) (at8 i) (at9 i) (at10 i)) {
       kind = kind i;
       life = state i;
       identifier = identifier i;
-      parent = byte_of (at1 i) 0;
-      short = byte_of (at1 i) 1;
-      name_length = byte_of (at1 i) 2;
-      rule_length = byte_of (at1 i) 3;
-      rule = word_bytes (at2 i) ++ word_bytes (at3 i) ++ [];
-      name = word_bytes (at4 i) ++ word_bytes (at5 i) ++ word_bytes (at6 i) ++ word_bytes (at7 i) ++ [];
-      size = high (at8 i);
-      record_length = low (at8 i);
-      first = high (at9 i);
-      last = low (at9 i);
-      records = high (at10 i);
-      start = low (at10 i);
     })
     ∙ (λ i. record (sym told i) { kind = x.kind; life = life; identifier = x.identifier })
 

@@ -7,10 +7,10 @@ use Rattle.std.proofs.Common.{refl, ◌∙◌, ap, ap₂, arith, inl, inr, appen
 use Rattle.std.proofs.lemmas.Bool.Decides.{eqb_tells}
 use Rattle.std.proofs.lemmas.List.{get_or_past, take_more}
 use Rattle.std.proofs.lemmas.List.Elements.{filter_map-append}
-use Rattle.block_chain.specs.BlockWords.{page_words, word_bytes}
+use Rattle.block_chain.specs.BlockWords.{page_words}
 use Rattle.file_tree.specs.declared.entry.Entry.{Entry}
 use Rattle.block_chain.specs.declared.chain.Extent.{Extent}
-use Rattle.file_tree.specs.Entries.{high, low, byte_of, free_entry, entry_told, entry_of, extent_of}
+use Rattle.file_tree.specs.Entries.{free_entry, entry_by, entry_told, entry_of, extent_of}
 use Rattle.file_tree.specs.Table.{table, entry_in, extents}
 
 -- An entry depends on words 0 to 10 of its page.
@@ -28,23 +28,8 @@ entry_of-same v w same =
     let at8 = same 8 (omega arith) in
     let at9 = same 9 (omega arith) in
     let at10 = same 10 (omega arith) in
-    λ i. if at0 i == 0 then free_entry else record {
-      kind = byte_of (at0 i) 0;
-      life = byte_of (at0 i) 1;
-      identifier = low (at0 i);
-      parent = byte_of (at1 i) 0;
-      short = byte_of (at1 i) 1;
-      name_length = byte_of (at1 i) 2;
-      rule_length = byte_of (at1 i) 3;
-      rule = word_bytes (at2 i) ++ word_bytes (at3 i) ++ [];
-      name = word_bytes (at4 i) ++ word_bytes (at5 i) ++ word_bytes (at6 i) ++ word_bytes (at7 i) ++ [];
-      size = high (at8 i);
-      record_length = low (at8 i);
-      first = high (at9 i);
-      last = low (at9 i);
-      records = high (at10 i);
-      start = low (at10 i);
-    }
+    λ i. if at0 i == 0 then free_entry else
+    entry_by (at0 i) (at1 i) (at2 i) (at3 i) (at4 i) (at5 i) (at6 i) (at7 i) (at8 i) (at9 i) (at10 i)
 
 -- what the words of a page say where word 0 is 0, and else
 pub entry_of-free : (w : List ℕ) → slice_index w 0 ≡ 0 → entry_of w ≡ free_entry

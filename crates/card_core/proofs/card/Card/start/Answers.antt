@@ -1,6 +1,7 @@
 use Rattle.std.proofs.Common.{◌≡◌, ℕ, List, Option, None, Result, IfOk, inl, refl, sym, subst, ◌∙◌, ap, arith}
 use Rattle.std.specs.Result.{result_err}
 use Rattle.command_base.specs.laws.Verified.{marked-none}
+use Rattle.card_model.specs.Sessions.{fresh_session}
 use Rattle.undo_journal.specs.declared.error.StoreErr.{StoreErr}
 use Rattle.undo_journal.specs.Memory.{committed}
 use Rattle.undo_journal.specs.Spending.{KeepsBoard, WritesAtMost}
@@ -61,7 +62,7 @@ returns-in-Ok-survey_of-clause-started g c =
         due = same.due ∙ steady.due;
       };
       session = ap (session_of (table_in c.survey_card.new.store)) c.fresh.ensures
-          ∙ (λ i. record { current_df = path i; current_ef = None; pointer = None; verified = marked-none i });
+          ∙ (λ i. record fresh_session { current_df = path i; verified = marked-none i });
       state = refl;
     }
 

@@ -3,6 +3,7 @@ use Rattle.file_tree.specs.declared.entry.Entry.{Entry}
 use Rattle.file_tree.specs.declared.steps.Key.{Key}
 use Rattle.file_tree.specs.declared.steps.Place.{Place}
 use Rattle.file_tree.specs.declared.index.Index.{Index}
+use Rattle.file_tree.specs.Entries.{free_entry}
 use Rattle.file_tree.specs.Keys.{key_for}
 use Rattle.file_tree.specs.Table.{IsUsed}
 use Rattle.file_tree.specs.Indexes.{place_of}
@@ -16,23 +17,7 @@ use Rattle.file_tree.proofs.index.Index.fill.Goals.{then-is_used+else-not-put, e
 
 -- what a list of entries has past its end
 abbrev unread : Entry
-unread = record {
-  kind = 0;
-  life = 0;
-  identifier = 0;
-  parent = 0;
-  short = 0;
-  name_length = 0;
-  rule_length = 0;
-  rule = [];
-  name = [];
-  size = 0;
-  record_length = 0;
-  first = 0;
-  last = 0;
-  records = 0;
-  start = 0;
-}
+unread = record free_entry { rule = []; name = [] }
 
 pub loop-e-init : goal.loop-e-init
 loop-e-init c =
