@@ -6,6 +6,8 @@ ghost use Rattle.undo_journal.specs.Memory.{committed, IsReady};
 ghost use Rattle.undo_journal.specs.StoreCalls.{Learns, Reads};
 ghost use Rattle.card_state.specs.Selectors.{reached, child_by_short};
 ghost use Rattle.file_tree.specs.Table.{IsChild, table, entry_in, path_of, IsUsed, IsTable};
+ghost use Rattle.file_tree.specs.Kinds.{kind_byte};
+ghost use Rattle.file_tree.specs.declared.kinds.EntryKind.TheVariants.{Free, Transparent};
 ghost use Rattle.file_tree.specs.Trees.{tree_of};
 ghost use Rattle.file_tree.specs.Indexes.{IsIndex};
 ghost use Rattle.file_tree.specs.TreeParts.{TellsShort, TellsBeside, TellsAbove};
@@ -18,7 +20,7 @@ use undo_journal::{Board, Store, StoreErr};
 
 /// An entry is that of the child of a dedicated file with this short identifier. Its head tells.
 fn is_child(head: EntryHead, df: u8, short: u8) -> bool
-    ensures { IsTrue result ↔ ((head.kind ≢ 0) × (head.parent ≡ df) × (head.short ≡ short)) }
+    ensures { IsTrue result ↔ ((head.kind ≢ kind_byte Free) × (head.parent ≡ df) × (head.short ≡ short)) }
 {
     head.is_used() && head.parent == df && head.short == short
 }
@@ -48,7 +50,7 @@ pub fn find_short<B: Board>(store: &mut Store<B>, df: u8, short: u8) -> Result<R
         ≡ child_by_short (tree_of (committed store.old)) (path_of (table (committed store.old)) df) short) }
     ensures child { IfOk result (λ found. IfSome found (IsChild (table (committed store.old)) df)) }
     ensures elementary { IfOk result
-        (λ found. IfSome found (λ e. 2 ≤ (entry_in (table (committed store.old)) e).kind)) }
+        (λ found. IfSome found (λ e. kind_byte Transparent ≤ (entry_in (table (committed store.old)) e).kind)) }
     ensures store { Reads store.old store.new (result_err result) }
 {
     first_child(store, df, short)

@@ -4,6 +4,7 @@ ghost use Rattle.std.specs.Prelude.{◌≡◌, ◌≢◌, ◌↔◌, ◌<◌, �
 ghost use Rattle.card_state.specs.LifeCycle.{life_cycle_byte};
 ghost use Rattle.block_chain.specs.BlockWords.{word_bytes};
 ghost use Rattle.file_tree.specs.Kinds.{kind_byte};
+ghost use Rattle.file_tree.specs.declared.kinds.EntryKind.TheVariants.{Free, Dedicated};
 ghost use Rattle.file_tree.specs.Entries.{high, low, free_entry, entry_of, head_of, head_told, life_told, state_told};
 ghost use Rattle.file_tree.specs.Entries.{name_of, rule_of, extent_of};
 
@@ -140,7 +141,7 @@ impl Entry {
 
     /// Returns true if the entry has a file.
     pub fn is_used(&self) -> bool
-        ensures { IsTrue result ↔ (self.now.kind ≢ 0) }
+        ensures { IsTrue result ↔ (self.now.kind ≢ kind_byte Free) }
     {
         !self.has_kind(EntryKind::Free)
     }
@@ -212,14 +213,14 @@ impl EntryHead {
 
     /// Whether a file has the entry.
     pub fn is_used(self) -> bool
-        ensures { IsTrue result ↔ (self.kind ≢ 0) }
+        ensures { IsTrue result ↔ (self.kind ≢ kind_byte Free) }
     {
         self.kind != EntryKind::Free.to_byte()
     }
 
     /// Returns true for the entry of a DF.
     pub fn is_dedicated(self) -> bool
-        ensures { IsTrue result ↔ (self.kind ≡ 1) }
+        ensures { IsTrue result ↔ (self.kind ≡ kind_byte Dedicated) }
     {
         self.kind == EntryKind::Dedicated.to_byte()
     }
