@@ -5,8 +5,11 @@ use Rattle.file_tree.specs.declared.entry.Entry.{Entry}
 use Rattle.file_tree.specs.declared.kinds.EntryKind.TheVariants.{Dedicated, Transparent}
 use Rattle.file_tree.specs.Kinds.{kind_byte}
 use Rattle.card_state.specs.declared.space.FreeSpace.{FreeSpace}
-use Rattle.file_tree.specs.Table.{table, entry_in, path_of, IsChild}
+use Rattle.file_tree.specs.Table.{table, entry_in, path_of, IsChild, IsUsed}
+use Rattle.file_tree.specs.Indexes.{IsIndex}
+use Rattle.file_tree.specs.declared.index.Index.{Index}
 use Rattle.command_base.specs.declared.current.Current.{Current}
+use Rattle.command_base.specs.declared.target_file.TargetFile.{TargetFile}
 use Rattle.card_model.specs.Cards.{Card, card_space}
 use Rattle.card_model.specs.Sessions.{Session, marked}
 use Rattle.pin_store.specs.Pages.{pins_of}
@@ -55,3 +58,20 @@ pub record IsKept (m : Memory) (x : Current) : Type 0 where
   pub ready : IsReady m
   pub card : IsCard (committed m)
   pub current : IsCurrent (table_in m) x
+
+-- A working card, and the index of its files.
+pub record IsIndexed (m : Memory) (x : Current) (files : Index) : Type 0 where
+  pub kept : IsKept m x
+  pub index : IsIndex (table_in m) files
+
+-- A working card, its free space, and the index of its files.
+pub record IsWorking (m : Memory) (x : Current) (free : FreeSpace) (files : Index) : Type 0 where
+  pub kept : IsKept m x
+  pub space : free ≡ space_in m
+  pub index : IsIndex (table_in m) files
+
+-- A file of a working card, with its entry as stored.
+pub record HasTargetFile (m : Memory) (x : Current) (file : TargetFile) : Type 0 where
+  pub kept : IsKept m x
+  pub used : IsUsed (table_in m) file.number
+  pub entry : file.entry ≡ entry_in (table_in m) file.number

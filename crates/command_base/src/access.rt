@@ -2,9 +2,9 @@
 ghost use Rattle.std.specs.Prelude.{◌≡◌};
 ghost use Rattle.undo_journal.specs.StoreCalls.{Learns};
 ghost use Rattle.undo_journal.specs.Memory.{committed, IsReady};
-ghost use Rattle.file_tree.specs.Table.{entry_in, path_of, IsUsed};
+ghost use Rattle.file_tree.specs.Table.{path_of};
 ghost use Rattle.card_model.specs.Guards.{allowed};
-ghost use Rattle.command_base.specs.Working.{card_in, disabled_in, session_in, table_in, IsKept};
+ghost use Rattle.command_base.specs.Working.{card_in, disabled_in, session_in, table_in, HasTargetFile};
 
 use crate::current::Current;
 use crate::target_file::TargetFile;
@@ -38,9 +38,7 @@ pub fn allows<B: Board>(
     file: &TargetFile,
     bit: AccessBit,
 ) -> Result<bool, StoreErr>
-    requires kept { IsKept store.old current.now }
-    requires used { IsUsed (table_in store.old) file.now.number }
-    requires entry { file.now.entry ≡ entry_in (table_in store.old) file.now.number }
+    requires file { HasTargetFile store.old current.now file.now }
     ensures { Learns store.old store.new result (λ permits. permits ≡ allowed (card_in store.old)
         (session_in store.old current.now) (path_of (table_in store.old) file.now.number) bit) }
 {

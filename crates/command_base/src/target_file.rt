@@ -5,12 +5,12 @@ ghost use Rattle.undo_journal.specs.StoreCalls.{Learns};
 ghost use Rattle.undo_journal.specs.Memory.{committed};
 ghost use Rattle.card_model.specs.Requests.{IsTarget};
 ghost use Rattle.card_state.specs.FileLives.{is_barred};
-ghost use Rattle.file_tree.specs.Table.{entry_in, path_of, IsUsed};
+ghost use Rattle.file_tree.specs.Table.{path_of};
 ghost use Rattle.card_model.specs.Guards.{file_refusals, missing as missing_status, allowed};
 ghost use Rattle.card_model.specs.Behaviours.{refused_by};
 ghost use Rattle.card_model.specs.Reaching.{target_of};
 ghost use Rattle.command_base.specs.Stops.{Checks, Looks};
-ghost use Rattle.command_base.specs.Working.{card_in, session_in, table_in, IsElementary, IsKept};
+ghost use Rattle.command_base.specs.Working.{card_in, session_in, table_in, HasTargetFile, IsElementary, IsKept};
 ghost use Rattle.command_base.specs.NamedFiles.{file_refusal, fits, fits_kind, IsNamed};
 
 use crate::access::allows;
@@ -82,9 +82,7 @@ fn check_file<B: Board>(
     file: &TargetFile,
     need: Need,
 ) -> Result<(), Stop>
-    requires kept { IsKept store.old current.now }
-    requires used { IsUsed (table_in store.old) file.now.number }
-    requires entry { file.now.entry ≡ entry_in (table_in store.old) file.now.number }
+    requires file { HasTargetFile store.old current.now file.now }
     ensures { Checks store.old store.new (file_refusal
         (is_barred (card_in store.old).tree (path_of (table_in store.old) file.now.number))
         (fits_kind need.structure file.now.entry.kind) (allowed (card_in store.old) (session_in store.old current.now)

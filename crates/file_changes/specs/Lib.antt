@@ -1,4 +1,5 @@
 -- Creations and deletions: their results and refusals, and the steps inside them.
+pub mod Conditions
 pub mod Creations
 pub mod CreationParts
 pub mod DeletionParts

@@ -1,22 +1,21 @@
 //! CREATE FILE: creating a file (ISO/IEC 7816-9).
 
-ghost use Rattle.std.specs.Prelude.{◌≡◌, ◌≢◌, ◌⊎◌, ◌&&◌, ◌<◌, ◌≤◌, nat_le, length, Some, IfOk, OnOk};
+ghost use Rattle.std.specs.Prelude.{◌≡◌, ◌⊎◌, ◌&&◌, ◌≤◌, nat_le, length, Some, IfOk, OnOk};
 ghost use Rattle.std.specs.Prelude.{MatchResult, if◌then◌else◌};
 ghost use Rattle.std.specs.Result.{result_err};
-ghost use Rattle.undo_journal.specs.Memory.{committed, current, room, InRuns, IsOpen, IsReady};
+ghost use Rattle.undo_journal.specs.Memory.{committed, current, InRuns, IsReady};
 ghost use Rattle.undo_journal.specs.Lent.{memory_of};
 ghost use Rattle.undo_journal.specs.StoreCalls.{Learns, OnlyReads, Changes, SetsIn};
 ghost use Rattle.card_state.specs.declared.status.Sw.{Sw};
 ghost use Rattle.card_state.specs.declared.fcp.ShortIdentifier.TheVariants.{Absent};
 ghost use Rattle.card_state.specs.FileControl.{IsCreatable};
-ghost use Rattle.card_state.specs.Spaces.{free_space};
-ghost use Rattle.block_chain.specs.ChainChanges.{IsFirstFree};
-ghost use Rattle.block_chain.specs.Chains.{HasFree, free_chain};
+ghost use Rattle.block_chain.specs.Chains.{free_chain};
 ghost use Rattle.file_changes.specs.Adding.{AddsByGate};
+ghost use Rattle.file_changes.specs.Conditions.{HasDf, HasFreeBlocks, HasRoom, IsNewEntry, IsSurveyed};
 ghost use Rattle.file_tree.specs.Formats.{block_count};
 ghost use Rattle.file_tree.specs.Kinds.{kind_byte};
 ghost use Rattle.file_tree.specs.declared.layout.TheConstants.{CREATE_WRITES, MOST_FILE_BLOCKS};
-ghost use Rattle.file_tree.specs.Table.{table, entry_in, path_of};
+ghost use Rattle.file_tree.specs.Table.{table, path_of};
 ghost use Rattle.file_tree.specs.Trees.{tree_of, TreeStands};
 ghost use Rattle.file_tree.specs.TreeChanges.{SameTree};
 ghost use Rattle.file_tree.specs.Indexes.{IsIndex};
@@ -170,13 +169,9 @@ fn add_file<B: Board>(
     blocks: u16,
     run: FreeRun,
 ) -> Result<(), StoreErr>
-    requires ready { IsOpen (memory_of txn.old) }
-    requires within { e < 64 }
-    requires used { entry.kind ≢ 0 }
-    requires free { HasFree (current (memory_of txn.old)) }
-    requires enough { blocks ≤ length (free_chain (current (memory_of txn.old))) }
-    requires first { 1 ≤ blocks → IsFirstFree (current (memory_of txn.old)) blocks run }
-    requires room { 13 ≤ room (memory_of txn.old) }
+    requires room { HasRoom (memory_of txn.old) 13 }
+    requires entry { IsNewEntry e entry }
+    requires blocks { HasFreeBlocks (current (memory_of txn.old)) blocks run }
     ensures done { OnOk result (AddsFile (current (memory_of txn.old)) e entry blocks (current (memory_of txn.new))) }
     ensures store { SetsIn 13 txn.old txn.new (result_err result) }
     ensures runs { InRuns 3 (memory_of txn.old) (memory_of txn.new) }
@@ -201,8 +196,7 @@ fn write_file<B: Board>(
     blocks: u16,
 ) -> Result<(), StoreErr>
     requires ready { IsReady store.old }
-    requires within { e < 64 }
-    requires used { entry.kind ≢ 0 }
+    requires entry { IsNewEntry e entry }
     requires tree { TreeStands (committed store.old) }
     requires enough { blocks ≤ length (free_chain (committed store.old)) }
     requires few { blocks ≤ MOST_FILE_BLOCKS }
@@ -226,8 +220,7 @@ fn find_place<B: Board>(
     fcp: &Fcp<'_>,
 ) -> Result<Place, StoreErr>
     requires df { HasFile store.old df }
-    requires index { IsIndex (table (committed store.old)) index.now }
-    requires free { free ≡ free_space (block_count (committed store.old)) (tree_of (committed store.old)) }
+    requires space { IsSurveyed store.old free index.now }
     requires fcp { IsCreatable fcp.now }
     ensures { Learns store.old store.new result (FindsPlace (committed store.old) df fcp.now) }
 {
@@ -251,12 +244,9 @@ pub fn create<B: Board>(
     df: u8,
     fcp: &Fcp<'_>,
 ) -> Result<Creation, StoreErr>
-    requires ready { IsReady store.old }
-    requires tree { TreeStands (committed store.old) }
-    requires free { free ≡ free_space (block_count (committed store.old)) (tree_of (committed store.old)) }
-    requires df { (entry_in (table (committed store.old)) df).kind ≡ 1 }
+    requires df { HasDf store.old df }
+    requires space { IsSurveyed store.old free index.old }
     requires fcp { IsCreatable fcp.now }
-    requires index { IsIndex (table (committed store.old)) index.old }
     ensures any_exit { SameTree (committed store.old) (committed store.new)
         ⊎ CreatesNew (committed store.old) df fcp.now (committed store.new) }
     ensures by_gate { AddsByGate store.old store.new }

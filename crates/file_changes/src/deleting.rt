@@ -5,7 +5,7 @@ ghost use Rattle.std.specs.Prelude.{length, replicate, slice_index, slice_set, I
 ghost use Rattle.std.specs.List.{sum_by};
 ghost use Rattle.std.specs.Result.{result_err};
 ghost use Rattle.undo_journal.specs.Commits.{CommitsByGate};
-ghost use Rattle.undo_journal.specs.Memory.{committed, current, room, IsOpen, IsReady};
+ghost use Rattle.undo_journal.specs.Memory.{committed, current, IsReady};
 ghost use Rattle.undo_journal.specs.Lent.{memory_of};
 ghost use Rattle.undo_journal.specs.StoreCalls.{Learns, Changes, Reads, SetsIn};
 ghost use Rattle.block_chain.specs.declared.layout.TheConstants.{MOST_BLOCKS};
@@ -19,7 +19,7 @@ ghost use Rattle.file_tree.specs.TableEnd.{IsTableEnd};
 ghost use Rattle.file_tree.specs.Trees.{tree_of};
 ghost use Rattle.file_tree.specs.TreeChanges.{Deletes, with_freed};
 ghost use Rattle.file_tree.specs.Indexes.{IsIndex};
-ghost use Rattle.file_lookup.specs.StoredFiles.{HasFile};
+ghost use Rattle.file_changes.specs.Conditions.{HasLowerFile, HasRoom};
 ghost use Rattle.file_changes.specs.DeletionParts.{IsPart, IsRemoval, CanGive, FreesEntries, GoesWith, Removes};
 ghost use Rattle.file_changes.specs.DeletionParts.{extents_in, entry_if_gone};
 
@@ -160,8 +160,7 @@ fn blocks_in(extents: &[Extent]) -> u16
 
 /// Frees the entries that go.
 fn free_part<B: Board>(txn: &mut Txn<'_, B>, marks: &Marks) -> Result<(), StoreErr>
-    requires ready { IsOpen (memory_of txn.old) }
-    requires room { 64 ≤ room (memory_of txn.old) }
+    requires room { HasRoom (memory_of txn.old) 64 }
     ensures done { OnOk result ((part : List Entry) → GoesWith marks.now part
         → FreesEntries (current (memory_of txn.old)) part (current (memory_of txn.new))) }
     ensures store { SetsIn 64 txn.old txn.new (result_err result) }
@@ -181,10 +180,9 @@ fn take_away<B: Board>(
     marks: &Marks,
     chains: &[Chain],
 ) -> Result<(), StoreErr>
-    requires ready { IsOpen (memory_of txn.old) }
+    requires room { HasRoom (memory_of txn.old) (64 + (length chains.now + 1)) }
     requires apart { (part : List Entry) × GoesWith marks.now part
         × CanGive (current (memory_of txn.old)) part chains.now }
-    requires room { 64 + (length chains.now + 1) ≤ room (memory_of txn.old) }
     ensures done { OnOk result ((part : List Entry) → GoesWith marks.now part
         → Removes (current (memory_of txn.old)) part chains.now (current (memory_of txn.new))) }
     ensures store { SetsIn (64 + (length chains.now + 1)) txn.old txn.new (result_err result) }
@@ -220,8 +218,7 @@ struct Removal {
 
 /// Returns all that is deleted with the file of an entry.
 fn removal_of<B: Board>(store: &mut Store<B>, e: u8) -> Result<Removal, StoreErr>
-    requires file { HasFile store.old e }
-    requires below { 0 < e }
+    requires file { HasLowerFile store.old e }
     ensures { Learns store.old store.new result (IsRemoval (committed store.old) e) }
 {
     let part = part_of(store, e)?;
@@ -248,8 +245,7 @@ pub fn delete<B: Board>(
     index: &mut Index,
     e: u8,
 ) -> Result<FreeSpace, StoreErr>
-    requires file { HasFile store.old e }
-    requires below { 0 < e }
+    requires file { HasLowerFile store.old e }
     requires index { IsIndex (table (committed store.old)) index.old }
     ensures any_exit { (committed store.new ≡ committed store.old)
         ⊎ Deletes (committed store.old) e (committed store.new) }

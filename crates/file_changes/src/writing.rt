@@ -1,12 +1,13 @@
 //! Writing entries in a transaction.
 
-ghost use Rattle.std.specs.Prelude.{◌≡◌, ◌≢◌, ◌∷◌, [], ◌<◌, ◌≤◌, ◌+◌, ◌*◌, OnOk, length, take, drop};
+ghost use Rattle.std.specs.Prelude.{◌≡◌, ◌∷◌, [], ◌≤◌, ◌+◌, ◌*◌, OnOk, length, take, drop};
 ghost use Rattle.std.specs.Result.{result_err};
-ghost use Rattle.undo_journal.specs.Memory.{current, room, InRuns, IsOpen};
+ghost use Rattle.undo_journal.specs.Memory.{current, InRuns};
 ghost use Rattle.undo_journal.specs.Lent.{memory_of};
 ghost use Rattle.undo_journal.specs.StoreCalls.{SetsIn};
 ghost use Rattle.block_chain.specs.BlockWords.{word_bytes};
 ghost use Rattle.file_tree.specs.Entries.{entry_told};
+ghost use Rattle.file_changes.specs.Conditions.{HasRoom, IsNewEntry};
 ghost use Rattle.file_changes.specs.CreationParts.{WritesEntry};
 
 use file_tree::{ENTRY_WORDS, Entry, entry_address};
@@ -73,10 +74,8 @@ pub(crate) fn write_entry<B: Board>(
     e: u8,
     entry: Entry,
 ) -> Result<(), StoreErr>
-    requires ready { IsOpen (memory_of txn.old) }
-    requires within { e < 64 }
-    requires used { entry.kind ≢ 0 }
-    requires room { 11 ≤ room (memory_of txn.old) }
+    requires room { HasRoom (memory_of txn.old) 11 }
+    requires entry { IsNewEntry e entry }
     ensures done { OnOk result (WritesEntry (current (memory_of txn.old)) e entry (current (memory_of txn.new))) }
     ensures store { SetsIn 11 txn.old txn.new (result_err result) }
     ensures runs { InRuns 1 (memory_of txn.old) (memory_of txn.new) }

@@ -6,7 +6,7 @@ ghost use Rattle.card_model.specs.Requests.{create_file as creation, delete_file
 ghost use Rattle.card_state.specs.declared.access_mode.AccessBit.TheVariants.{DeleteChild, DeleteSelf};
 ghost use Rattle.file_tree.specs.Indexes.{IsIndex};
 ghost use Rattle.card_state.specs.FileLives.{is_barred as is_barred_in};
-ghost use Rattle.file_tree.specs.Table.{entry_in, path_of, IsUsed};
+ghost use Rattle.file_tree.specs.Table.{path_of, IsUsed};
 ghost use Rattle.file_commands.specs.FileParts.{IsDeletable, IsNewFile};
 ghost use Rattle.card_model.specs.FileCommands.{create_refusals, creation_bit, delete_refusals};
 ghost use Rattle.card_model.specs.Guards.{allowed};
@@ -15,6 +15,7 @@ ghost use Rattle.card_model.specs.Reaching.{subject_or};
 ghost use Rattle.command_base.specs.Served.{Executes};
 ghost use Rattle.command_base.specs.Stops.{Looks, reply, Checks};
 ghost use Rattle.command_base.specs.Working.{card_in, session_in, space_in, table_in, IsKept};
+ghost use Rattle.command_base.specs.Working.{HasTargetFile, IsIndexed, IsWorking};
 ghost use Rattle.command_base.specs.NamedFiles.{file_refusal};
 ghost use Rattle.command_base.specs.CurrentFiles.{current_by};
 ghost use Rattle.file_changes.specs.Creations.{kind_number};
@@ -38,9 +39,7 @@ pub fn create_file<B: Board>(
     index: &mut Index,
     template: &[u8],
 ) -> Result<Sw, Stop>
-    requires kept { IsKept store.old current.old }
-    requires space { free.old ≡ space_in store.old }
-    requires index { IsIndex (table_in store.old) index.old }
+    requires card { IsWorking store.old current.old free.old index.old }
     ensures serves { Executes (creation template.now) store.old current.old store.new current.new [] (reply result) }
     ensures space { OnOk (reply result) (free.new ≡ space_in store.new) }
     ensures index { OnOk (reply result) (IsIndex (table_in store.new) index.new) }
@@ -129,9 +128,7 @@ pub fn delete_file<B: Board>(
     index: &mut Index,
     subject: Subject,
 ) -> Result<Sw, Stop>
-    requires kept { IsKept store.old current.old }
-    requires space { free.old ≡ space_in store.old }
-    requires index { IsIndex (table_in store.old) index.old }
+    requires card { IsWorking store.old current.old free.old index.old }
     ensures serves { Executes (deletion subject) store.old current.old store.new current.new [] (reply result) }
     ensures space { OnOk (reply result) (free.new ≡ space_in store.new) }
     ensures index { OnOk (reply result) (IsIndex (table_in store.new) index.new) }
@@ -161,8 +158,7 @@ fn find_deletable<B: Board>(
     current: &Current,
     subject: Subject,
 ) -> Result<TargetFile, Stop>
-    requires kept { IsKept store.old current.now }
-    requires index { IsIndex (table_in store.old) index.now }
+    requires card { IsIndexed store.old current.now index.now }
     ensures { Looks store.old store.new result
         (λ file. IsDeletable (committed store.old) current.now subject file.number file.entry)
         (λ refusal. refused_by (delete_refusals (card_in store.old) (session_in store.old current.now) subject)
@@ -189,9 +185,7 @@ fn check_deletion<B: Board>(
     current: &Current,
     file: &TargetFile,
 ) -> Result<(), Stop>
-    requires kept { IsKept store.old current.now }
-    requires used { IsUsed (table_in store.old) file.now.number }
-    requires entry { file.now.entry ≡ entry_in (table_in store.old) file.now.number }
+    requires file { HasTargetFile store.old current.now file.now }
     requires above { IsUsed (table_in store.old) file.now.entry.parent }
     ensures { Checks store.old store.new (file_refusal
         (is_barred_in (card_in store.old).tree (path_of (table_in store.old) file.now.entry.parent)) true
@@ -226,8 +220,7 @@ pub(crate) fn find_subject<B: Board>(
     own: Option<u8>,
     subject: Subject,
 ) -> Result<Option<u8>, StoreErr>
-    requires kept { IsKept store.old current.now }
-    requires index { IsIndex (table_in store.old) index.now }
+    requires card { IsIndexed store.old current.now index.now }
     requires own { IfSome own (IsUsed (table_in store.old)) }
     ensures found { Learns store.old store.new result (λ found. subject_or
         (option_map (path_of (table_in store.old)) own) (card_in store.old).tree (session_in store.old current.now)

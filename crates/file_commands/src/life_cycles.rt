@@ -3,7 +3,6 @@
 ghost use Rattle.std.specs.Prelude.{◌≡◌, [], Some, Ok, Err};
 ghost use Rattle.undo_journal.specs.Memory.{committed};
 ghost use Rattle.card_model.specs.Requests.{change_life_cycle as changing, terminate_card_usage as terminating};
-ghost use Rattle.file_tree.specs.Indexes.{IsIndex};
 ghost use Rattle.file_tree.specs.Table.{IsUsed};
 ghost use Rattle.file_commands.specs.LifeParts.{change_at, changed_by, current_changed, is_for_kind, IsChanged};
 ghost use Rattle.card_model.specs.LifeCycleCommands.{change_bit, change_refusals, command_of, no_subject};
@@ -11,7 +10,7 @@ ghost use Rattle.card_model.specs.Behaviours.{refused_by};
 ghost use Rattle.command_base.specs.Served.{Executes};
 ghost use Rattle.command_base.specs.InPlace.{ExecutesInPlace};
 ghost use Rattle.command_base.specs.Stops.{Looks, reply};
-ghost use Rattle.command_base.specs.Working.{card_in, session_in, table_in, IsKept};
+ghost use Rattle.command_base.specs.Working.{card_in, session_in, table_in, IsIndexed, IsKept};
 
 use crate::files::find_subject;
 use apdu_core::{LifeCycleChange, Subject, Sw};
@@ -41,8 +40,7 @@ pub fn change_life_cycle<B: Board>(
     change: LifeCycleChange,
     subject: Subject,
 ) -> Result<Sw, Stop>
-    requires kept { IsKept store.old current.old }
-    requires index { IsIndex (table_in store.old) index.now }
+    requires card { IsIndexed store.old current.old index.now }
     ensures { ExecutesInPlace (changing change subject) store.old current.old store.new current.new [] (reply result) }
 {
     let changed = find_change(store, index, current, change, subject)?;
@@ -77,8 +75,7 @@ fn find_change<B: Board>(
     change: LifeCycleChange,
     subject: Subject,
 ) -> Result<Changed, Stop>
-    requires kept { IsKept store.old current.now }
-    requires index { IsIndex (table_in store.old) index.now }
+    requires card { IsIndexed store.old current.now index.now }
     ensures { Looks store.old store.new result
         (λ changed. IsChanged (committed store.old) current.now change subject changed)
         (λ refusal. refused_by (change_refusals (card_in store.old) (session_in store.old current.now) change subject)

@@ -5,13 +5,12 @@ ghost use Rattle.undo_journal.specs.StoreCalls.{Learns};
 ghost use Rattle.undo_journal.specs.Memory.{IsReady};
 ghost use Rattle.apdu_core.specs.ParsedCommands.{IsFilePath, IsSelector, identifiers_in, selection_of};
 ghost use Rattle.card_model.specs.Requests.{select as selection};
-ghost use Rattle.file_tree.specs.Indexes.{IsIndex};
 ghost use Rattle.file_tree.specs.Table.{entry_in, path_of, IsUsed};
 ghost use Rattle.card_model.specs.Reaching.{selected_from};
 ghost use Rattle.card_model.specs.SelectCommand.{selection_status};
 ghost use Rattle.command_base.specs.Served.{Executes};
 ghost use Rattle.command_base.specs.Stops.{Looks, reply};
-ghost use Rattle.command_base.specs.Working.{card_in, session_in, table_in, IsKept};
+ghost use Rattle.command_base.specs.Working.{card_in, session_in, table_in, IsIndexed};
 ghost use Rattle.command_base.specs.TemplateParts.{data_in, template_in, IsToldEntry};
 ghost use Rattle.card_model.specs.Guards.{IsGiven};
 
@@ -40,8 +39,7 @@ pub fn select_file<B: Board>(
     expected: Option<u8>,
     answer: &mut Answer,
 ) -> Result<Sw, Stop>
-    requires kept { IsKept store.old current.old }
-    requires index { IsIndex (table_in store.old) index.now }
+    requires card { IsIndexed store.old current.old index.now }
     requires selector { IsSelector selector }
     requires empty { answer.old.items ≡ [] }
     ensures { Executes (selection (selection_of selector.entry) returned expected) store.old current.old store.new
@@ -63,8 +61,7 @@ fn find_selected<B: Board>(
     current: Current,
     selector: Selector<'_>,
 ) -> Result<Option<u8>, StoreErr>
-    requires kept { IsKept store.old current }
-    requires index { IsIndex (table_in store.old) index.now }
+    requires card { IsIndexed store.old current index.now }
     requires selector { IsSelector selector }
     ensures found { Learns store.old store.new result (λ found. selected_from (card_in store.old).tree
         (session_in store.old current).current_df (selection_of selector.entry)

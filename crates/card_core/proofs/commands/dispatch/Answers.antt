@@ -236,3 +236,35 @@ returns-in-ResetRetryCounter-clause-index g c = index_left _ _ _ _ _ _ _ _ c.res
 pub returns-in-ChangeRequirement-clause-index : goal.returns-in-ChangeRequirement-clause-index
 returns-in-ChangeRequirement-clause-index g c = index_left _ _ _ _ _ _ _ _ c.change_requirement.ensures refl
     c.requires.whole.index
+
+pub create_file-requires : goal.create_file-requires
+create_file-requires g c = record {
+  card = record {
+    kept = c.requires.whole.kept;
+    space = c.requires.whole.space;
+    index = c.requires.whole.index;
+  };
+}
+
+pub delete_file-requires : goal.delete_file-requires
+delete_file-requires g c = record {
+  card = record {
+    kept = c.requires.whole.kept;
+    space = c.requires.whole.space;
+    index = c.requires.whole.index;
+  };
+}
+
+pub change_life_cycle-requires : goal.change_life_cycle-requires
+change_life_cycle-requires g c = record {
+  card = record {
+    kept = c.requires.whole.kept;
+    index = c.requires.whole.index;
+  };
+}
+
+pub select_file-requires-clause-card : goal.select_file-requires-clause-card
+select_file-requires-clause-card g c = record {
+  kept = c.requires.whole.kept;
+  index = c.requires.whole.index;
+}

@@ -18,9 +18,10 @@ returns-then-is_allowed_at g c = record {
       (sym (c.is_allowed_at.ensures
       ∙ ap (λ (disabled : List Bool). is_allowed_by entry bit x.verified disabled) c.new.ensures)
       ∙ c.if-is_allowed_at.true))
-      ∙ allowed-by-entry m c.requires.kept.card x c.requires.kept.current.marks c.args.file.now.number c.requires.used
-      entry c.requires.entry bit;
-  store = reads_none _ c.requires.kept.ready;
+      ∙ allowed-by-entry m c.requires.file.kept.card x c.requires.file.kept.current.marks c.args.file.now.number
+      c.requires.file.used
+      entry c.requires.file.entry bit;
+  store = reads_none _ c.requires.file.kept.ready;
 }
 
 pub returns : goal.returns
@@ -29,8 +30,8 @@ returns g c = record {
       let x = c.args.current.now in
       c.is_allowed_at-2.ensures
       ∙ ap (λ (disabled : List Bool). is_allowed_by entry c.args.bit x.verified disabled) c.in_ok-disabled.ensures.told
-      ∙ allowed-by-entry (committed c.args.store.now) c.requires.kept.card x c.requires.kept.current.marks
-      c.args.file.now.number c.requires.used entry c.requires.entry c.args.bit;
+      ∙ allowed-by-entry (committed c.args.store.now) c.requires.file.kept.card x c.requires.file.kept.current.marks
+      c.args.file.now.number c.requires.file.used entry c.requires.file.entry c.args.bit;
   store = c.in_ok-disabled.ensures.store;
 }
 

@@ -58,18 +58,16 @@ returns-in_err-allows g c = record {
 }
 
 pub is_barred_at-requires-clause-file : goal.is_barred_at-requires-clause-file
-is_barred_at-requires-clause-file g c = file_kept _ _ _ c.requires.kept c.requires.used
+is_barred_at-requires-clause-file g c = file_kept _ _ _ c.requires.file.kept c.requires.file.used
 
-pub allows-requires-clause-kept : goal.allows-requires-clause-kept
-allows-requires-clause-kept g c =
-    kept_still _ _ _ c.is_barred_at.ensures.store.only c.in_ok-is_barred_at.ensures.store.ready c.requires.kept
-
-pub allows-requires-clause-used : goal.allows-requires-clause-used
-allows-requires-clause-used g c =
-    used_still c.args.store.now c.is_barred_at.new.store c.args.file.now.number c.is_barred_at.ensures.store.only
-    c.requires.used
-
-pub allows-requires-clause-entry : goal.allows-requires-clause-entry
-allows-requires-clause-entry g c =
-    entry_still c.args.store.now c.is_barred_at.new.store c.args.file.now.number c.args.file.now.entry
-    c.is_barred_at.ensures.store.only c.requires.entry
+pub allows-requires : goal.allows-requires
+allows-requires g c = record {
+  file = record {
+    kept = kept_still _ _ _ c.is_barred_at.ensures.store.only c.in_ok-is_barred_at.ensures.store.ready
+        c.requires.file.kept;
+    used = used_still c.args.store.now c.is_barred_at.new.store c.args.file.now.number c.is_barred_at.ensures.store.only
+        c.requires.file.used;
+    entry = entry_still c.args.store.now c.is_barred_at.new.store c.args.file.now.number c.args.file.now.entry
+        c.is_barred_at.ensures.store.only c.requires.file.entry;
+  };
+}

@@ -92,25 +92,6 @@ returns g c = record {
       c.in_ok-check_file.ensures.store;
 }
 
-pub check_file-requires-clause-kept : goal.check_file-requires-clause-kept
-check_file-requires-clause-kept g c =
-    kept_still _ _ _ (reads_then _ _ _ c.find_target.ensures.found.store.only c.read_entry.ensures.store.only)
-    c.in_ok-entry.ensures.store.ready c.requires.kept
-
-pub check_file-requires-clause-used : goal.check_file-requires-clause-used
-check_file-requires-clause-used g c =
-    let same = c.read_entry.ensures.store.only.keeps.committed_words
-    ∙ c.find_target.ensures.found.store.only.keeps.committed_words in
-    let file = subst (λ (o : Option ℕ). IfSome o (IsElementary (table (committed c.args.store.now))
-    c.args.current.now.df)) c.in-Some.is c.in_ok-number.ensures.child in
-    subst (λ (l : List ℕ). IsUsed (table l) c.in-Some.number) (sym same) file.child.used
-
-pub check_file-requires-clause-entry : goal.check_file-requires-clause-entry
-check_file-requires-clause-entry g c =
-    c.in_ok-entry.ensures.entry
-    ∙ ap (λ (l : List ℕ). entry_in (table l) c.in-Some.number)
-    (sym c.read_entry.ensures.store.only.keeps.committed_words)
-
 pub returns-in_err-entry : goal.returns-in_err-entry
 returns-in_err-entry g c = record {
   told = search rules;
@@ -128,4 +109,20 @@ returns-in_default g c = record {
       ∙ ap (λ (o : Option ℕ). option_map (path_of (table (committed c.args.store.now))) o) c.in_default.is in
       absent _ (missing c.args.target) _ none ∙ ap (λ (s : Sw). Some s) (sym c.missing.ensures);
   store = search rules;
+}
+
+pub check_file-requires : goal.check_file-requires
+check_file-requires g c = record {
+  file = record {
+    kept = kept_still _ _ _ (reads_then _ _ _ c.find_target.ensures.found.store.only c.read_entry.ensures.store.only)
+        c.in_ok-entry.ensures.store.ready c.requires.kept;
+    used = let same = c.read_entry.ensures.store.only.keeps.committed_words
+        ∙ c.find_target.ensures.found.store.only.keeps.committed_words in
+        let file = subst (λ (o : Option ℕ). IfSome o (IsElementary (table (committed c.args.store.now))
+        c.args.current.now.df)) c.in-Some.is c.in_ok-number.ensures.child in
+        subst (λ (l : List ℕ). IsUsed (table l) c.in-Some.number) (sym same) file.child.used;
+    entry = c.in_ok-entry.ensures.entry
+        ∙ ap (λ (l : List ℕ). entry_in (table l) c.in-Some.number)
+        (sym c.read_entry.ensures.store.only.keeps.committed_words);
+  };
 }

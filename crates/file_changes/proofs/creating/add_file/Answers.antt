@@ -6,18 +6,6 @@ use Rattle.undo_journal.specs.laws.Exits.{none_ok, on_then}
 use Rattle.undo_journal.specs.laws.Told.{sets_in_handed, sets_in_on, sets_in_within}
 use Rattle.file_changes.proofs.creating.add_file.Goals as goal
 
-pub write_entry-requires-clause-ready : goal.write_entry-requires-clause-ready
-write_entry-requires-clause-ready g c = c.requires.ready
-
-pub write_entry-requires-clause-within : goal.write_entry-requires-clause-within
-write_entry-requires-clause-within g c = c.requires.within
-
-pub write_entry-requires-clause-used : goal.write_entry-requires-clause-used
-write_entry-requires-clause-used g c = c.requires.used
-
-pub write_entry-requires-clause-room : goal.write_entry-requires-clause-room
-write_entry-requires-clause-room g c = omega (arith, c.requires.room)
-
 pub returns-then-blocks-eq0-clause-done : goal.returns-then-blocks-eq0-clause-done
 returns-then-blocks-eq0-clause-done g c =
     on_then _ _ c.write_entry.result (λ written. inl (c.if-blocks-eq0.true, written)) c.write_entry.ensures.done
@@ -26,22 +14,22 @@ pub returns-then-blocks-eq0-clause-store : goal.returns-then-blocks-eq0-clause-s
 returns-then-blocks-eq0-clause-store g c = sets_in_within 11 13 _ _ _ (lit< tt) c.write_entry.ensures.store
 
 pub take-requires-clause-ready : goal.take-requires-clause-ready
-take-requires-clause-ready g c = c.requires.ready
+take-requires-clause-ready g c = c.requires.room.ready
 
 pub take-requires-clause-free : goal.take-requires-clause-free
-take-requires-clause-free g c = c.requires.free
+take-requires-clause-free g c = c.requires.blocks.free
 
 pub take-requires-clause-some : goal.take-requires-clause-some
 take-requires-clause-some g c = omega (arith, c.if-blocks-eq0.false)
 
 pub take-requires-clause-enough : goal.take-requires-clause-enough
-take-requires-clause-enough g c = c.requires.enough
+take-requires-clause-enough g c = c.requires.blocks.enough
 
 pub take-requires-clause-first : goal.take-requires-clause-first
-take-requires-clause-first g c = c.requires.first (omega (arith, c.if-blocks-eq0.false))
+take-requires-clause-first g c = c.requires.blocks.first (omega (arith, c.if-blocks-eq0.false))
 
 pub take-requires-clause-room : goal.take-requires-clause-room
-take-requires-clause-room g c = omega (arith, c.requires.room)
+take-requires-clause-room g c = omega (arith, c.requires.room.enough)
 
 pub returns-in_err-take-clause-done : goal.returns-in_err-take-clause-done
 returns-in_err-take-clause-done g c = none_ok _ _ _ c.from_residual.ensures.1
@@ -50,18 +38,6 @@ pub returns-in_err-take-clause-store : goal.returns-in_err-take-clause-store
 returns-in_err-take-clause-store g c =
     sets_in_handed 13 _ _ _ _ c.from_residual.ensures.1
     (sets_in_within 2 13 _ _ _ (lit< tt) c.in_err-take.ensures.store)
-
-pub write_entry-requires-2-clause-ready : goal.write_entry-requires-2-clause-ready
-write_entry-requires-2-clause-ready g c = c.in_ok-take.ensures.store.ready
-
-pub write_entry-requires-2-clause-within : goal.write_entry-requires-2-clause-within
-write_entry-requires-2-clause-within g c = c.requires.within
-
-pub write_entry-requires-2-clause-used : goal.write_entry-requires-2-clause-used
-write_entry-requires-2-clause-used g c = c.requires.used
-
-pub write_entry-requires-2-clause-room : goal.write_entry-requires-2-clause-room
-write_entry-requires-2-clause-room g c = omega (arith, c.requires.room, c.take.ensures.store.sets.room)
 
 pub returns-clause-done : goal.returns-clause-done
 returns-clause-done g c =
@@ -88,3 +64,27 @@ returns-in_err-take-clause-runs g c = runs_weaker 2 3 _ _ (lit< tt) c.in_err-tak
 pub returns-clause-runs : goal.returns-clause-runs
 returns-clause-runs g c =
     runs_then 2 1 3 _ _ _ (lit< tt) c.take.ensures.store.sets.writes c.write_entry-2.ensures.runs
+
+pub write_entry-requires-clause-entry : goal.write_entry-requires-clause-entry
+write_entry-requires-clause-entry g c = record {
+  within = c.requires.entry.within;
+  used = c.requires.entry.used;
+}
+
+pub write_entry-requires-clause-room : goal.write_entry-requires-clause-room
+write_entry-requires-clause-room g c = record {
+  ready = c.requires.room.ready;
+  enough = omega (arith, c.requires.room.enough);
+}
+
+pub write_entry-requires-2-clause-entry : goal.write_entry-requires-2-clause-entry
+write_entry-requires-2-clause-entry g c = record {
+  within = c.requires.entry.within;
+  used = c.requires.entry.used;
+}
+
+pub write_entry-requires-2-clause-room : goal.write_entry-requires-2-clause-room
+write_entry-requires-2-clause-room g c = record {
+  ready = c.in_ok-take.ensures.store.ready;
+  enough = omega (arith, c.requires.room.enough, c.take.ensures.store.sets.room);
+}

@@ -84,16 +84,6 @@ created m now after df n e k fcp entry sized stands dedicated creatable found sh
     (is_created m after df n e fcp sized stands dedicated creatable found.0 found.1 found.2 short
     (subst by_words words (subst by_entry is (subst by_blocks blocks made))))
 
-pub write_file-requires-clause-within : goal.write_file-requires-clause-within
-write_file-requires-clause-within g c =
-    let found = place_at (committed c.args.store.now) c.args.df c.args.fcp.now _ c.in-At.entry c.in-At.is
-    c.in_ok-entry.ensures.told in
-    found.2.small
-
-pub write_file-requires-clause-used : goal.write_file-requires-clause-used
-write_file-requires-clause-used g c = λ none.
-    some_kind c.args.fcp.now.kind (sym (ap (λ (x : Entry). x.kind) c.entry_for.ensures) ∙ none)
-
 pub write_file-requires-clause-enough : goal.write_file-requires-clause-enough
 write_file-requires-clause-enough g c =
     let m = committed c.args.store.now in
@@ -116,7 +106,7 @@ returns-clause-done g c =
     let read = c.find_place.ensures.store.only.keeps.committed_words in
     created m (committed c.short_of.new.store) (committed c.write_file.new.store) c.args.df
     c.in_ok-short.short c.in-At.entry c.blocks_for-blocks.result fcp c.entry_for.result
-    c.requires.ready.usable.committed_size c.requires.tree c.requires.df c.requires.fcp
+    c.requires.df.ready.usable.committed_size c.requires.df.tree c.requires.df.df c.requires.fcp
     (place_at m c.args.df fcp _ c.in-At.entry c.in-At.is c.in_ok-entry.ensures.told)
     (short_before m (committed c.find_place.new.store) c.args.df c.in_ok-short.short
     fcp read c.in_ok-short.ensures.told) (c.short_of.ensures.store.only.keeps.committed_words ∙ read)
@@ -134,8 +124,8 @@ with-requires g c =
       free = record {
         entries = table m;
         size = length-table m;
-        indexed = c.requires.index;
-        below = free_below m c.in-At.entry c.requires.tree found.2.free;
+        indexed = c.requires.space.index;
+        below = free_below m c.in-At.entry c.requires.df.tree found.2.free;
         within = found.2.small;
         free = found.2.free;
       };
@@ -145,13 +135,13 @@ pub returns-clause-index : goal.returns-clause-index
 returns-clause-index g c =
     let is = returns-clause-done g c in
     c.with.ensures.added (table (committed c.args.store.now)) (table (committed c.write_file.new.store))
-    is.creates.stands.entries is.adds c.requires.index
+    is.creates.stands.entries is.adds c.requires.space.index
 
 pub returns-in_err-write_file-clause-any_exit : goal.returns-in_err-write_file-clause-any_exit
 returns-in_err-write_file-clause-any_exit g c =
     let m = committed c.args.store.now in
     let fcp = c.args.fcp.now in
-    let sized = c.requires.ready.usable.committed_size in
+    let sized = c.requires.df.ready.usable.committed_size in
     let read = c.find_place.ensures.store.only.keeps.committed_words in
     let words = c.short_of.ensures.store.only.keeps.committed_words ∙ read in
     let after = committed c.write_file.new.store in
@@ -159,13 +149,13 @@ returns-in_err-write_file-clause-any_exit g c =
     (λ (fills : OnlyContent (committed c.short_of.new.store)
     (take c.blocks_for-blocks.result (free_chain (committed c.short_of.new.store))) after).
     let only : List ℕ → Type 0 = λ l. OnlyContent l (take c.blocks_for-blocks.result (free_chain l)) after in
-    inl (filled m after c.blocks_for-blocks.result sized c.requires.tree (subst only words fills)))
+    inl (filled m after c.blocks_for-blocks.result sized c.requires.df.tree (subst only words fills)))
     (λ (adds : FillsAndAdds (committed c.short_of.new.store) c.in-At.entry c.entry_for.result
     c.blocks_for-blocks.result after).
     let is =
     created m (committed c.short_of.new.store) after c.args.df c.in_ok-short.short c.in-At.entry
     c.blocks_for-blocks.result fcp c.entry_for.result
-    sized c.requires.tree c.requires.df c.requires.fcp
+    sized c.requires.df.tree c.requires.df.df c.requires.fcp
     (place_at m c.args.df fcp _ c.in-At.entry c.in-At.is c.in_ok-entry.ensures.told)
     (short_before m (committed c.find_place.new.store) c.args.df
     c.in_ok-short.short fcp read c.in_ok-short.ensures.told)
@@ -173,15 +163,13 @@ returns-in_err-write_file-clause-any_exit g c =
     inr is.creates)
     c.write_file.ensures.any_exit
 
-pub find_place-requires-clause-free : goal.find_place-requires-clause-free
-find_place-requires-clause-free g c = c.requires.free
-
 pub find_place-requires-clause-fcp : goal.find_place-requires-clause-fcp
 find_place-requires-clause-fcp g c = c.requires.fcp
 
 pub returns-in_err-entry-clause-any_exit : goal.returns-in_err-entry-clause-any_exit
 returns-in_err-entry-clause-any_exit g c =
-    inl (same_tree (committed c.args.store.now) _ c.requires.tree c.find_place.ensures.store.only.keeps.committed_words)
+    inl (same_tree (committed c.args.store.now) _ c.requires.df.tree
+    c.find_place.ensures.store.only.keeps.committed_words)
 
 pub returns-in_err-entry-clause-done : goal.returns-in_err-entry-clause-done
 returns-in_err-entry-clause-done g c = none_ok _ _ _ c.from_residual.ensures.1
@@ -189,11 +177,12 @@ returns-in_err-entry-clause-done g c = none_ok _ _ _ c.from_residual.ensures.1
 pub returns-in_err-entry-clause-store : goal.returns-in_err-entry-clause-store
 returns-in_err-entry-clause-store g c =
     changes_handed _ _ _ _ _ c.from_residual.ensures.1
-    (reads_change _ _ _ _ c.requires.ready.idle c.in_err-entry.ensures.store)
+    (reads_change _ _ _ _ c.requires.df.ready.idle c.in_err-entry.ensures.store)
 
 pub returns-in-Refused-clause-any_exit : goal.returns-in-Refused-clause-any_exit
 returns-in-Refused-clause-any_exit g c =
-    inl (same_tree (committed c.args.store.now) _ c.requires.tree c.find_place.ensures.store.only.keeps.committed_words)
+    inl (same_tree (committed c.args.store.now) _ c.requires.df.tree
+    c.find_place.ensures.store.only.keeps.committed_words)
 
 pub returns-in-Refused-clause-done : goal.returns-in-Refused-clause-done
 returns-in-Refused-clause-done g c = (
@@ -204,14 +193,15 @@ returns-in-Refused-clause-done g c = (
 
 pub returns-in-Refused-clause-store : goal.returns-in-Refused-clause-store
 returns-in-Refused-clause-store g c =
-    reads_change _ _ _ _ c.requires.ready.idle c.in_ok-entry.ensures.store
+    reads_change _ _ _ _ c.requires.df.ready.idle c.in_ok-entry.ensures.store
 
 pub short_of-requires-clause-fcp : goal.short_of-requires-clause-fcp
 short_of-requires-clause-fcp g c = c.requires.fcp
 
 pub returns-in_err-short-clause-any_exit : goal.returns-in_err-short-clause-any_exit
 returns-in_err-short-clause-any_exit g c =
-    inl (same_tree (committed c.args.store.now) _ c.requires.tree (c.short_of.ensures.store.only.keeps.committed_words
+    inl (same_tree (committed c.args.store.now) _ c.requires.df.tree
+    (c.short_of.ensures.store.only.keeps.committed_words
     ∙ c.find_place.ensures.store.only.keeps.committed_words))
 
 pub returns-in_err-short-clause-done : goal.returns-in_err-short-clause-done
@@ -220,7 +210,7 @@ returns-in_err-short-clause-done g c = none_ok _ _ _ c.from_residual-in_err-shor
 pub returns-in_err-short-clause-store : goal.returns-in_err-short-clause-store
 returns-in_err-short-clause-store g c =
     changes_handed _ _ _ _ _ c.from_residual-in_err-short.ensures.1
-    (reads_change _ _ _ _ c.requires.ready.idle
+    (reads_change _ _ _ _ c.requires.df.ready.idle
     (reads_on _ _ _ _ c.find_place.ensures.store.only c.in_err-short.ensures.store))
 
 pub write_file-requires-clause-ready : goal.write_file-requires-clause-ready
@@ -229,7 +219,7 @@ write_file-requires-clause-ready g c = c.in_ok-short.ensures.store.ready
 pub write_file-requires-clause-tree : goal.write_file-requires-clause-tree
 write_file-requires-clause-tree g c =
     subst (λ (l : List ℕ). TreeStands l) (sym (c.short_of.ensures.store.only.keeps.committed_words
-    ∙ c.find_place.ensures.store.only.keeps.committed_words)) c.requires.tree
+    ∙ c.find_place.ensures.store.only.keeps.committed_words)) c.requires.df.tree
 
 pub returns-in_err-write_file-clause-done : goal.returns-in_err-write_file-clause-done
 returns-in_err-write_file-clause-done g c = none_ok _ _ _ c.from_residual-in_err-write_file.ensures.1
@@ -285,15 +275,15 @@ added_after old mid new same adds = record {
 
 pub returns-in_err-entry-clause-by_gate : goal.returns-in_err-entry-clause-by_gate
 returns-in_err-entry-clause-by_gate g c =
-    not_added c.args.store.now _ c.requires.tree c.find_place.ensures.store.only.keeps.committed_words
+    not_added c.args.store.now _ c.requires.df.tree c.find_place.ensures.store.only.keeps.committed_words
 
 pub returns-in-Refused-clause-by_gate : goal.returns-in-Refused-clause-by_gate
 returns-in-Refused-clause-by_gate g c =
-    not_added c.args.store.now _ c.requires.tree c.find_place.ensures.store.only.keeps.committed_words
+    not_added c.args.store.now _ c.requires.df.tree c.find_place.ensures.store.only.keeps.committed_words
 
 pub returns-in_err-short-clause-by_gate : goal.returns-in_err-short-clause-by_gate
 returns-in_err-short-clause-by_gate g c =
-    not_added c.args.store.now _ c.requires.tree
+    not_added c.args.store.now _ c.requires.df.tree
     (c.short_of.ensures.store.only.keeps.committed_words ∙ c.find_place.ensures.store.only.keeps.committed_words)
 
 pub returns-in_err-write_file-clause-by_gate : goal.returns-in_err-write_file-clause-by_gate
@@ -315,9 +305,21 @@ has_df m df ready tree kind = record { ready = ready; tree = tree; used = used_d
 
 pub find_place-requires-clause-df : goal.find_place-requires-clause-df
 find_place-requires-clause-df g c =
-    has_df c.args.store.now c.args.df c.requires.ready c.requires.tree c.requires.df
+    has_df c.args.store.now c.args.df c.requires.df.ready c.requires.df.tree c.requires.df.df
 
 pub short_of-requires-clause-df : goal.short_of-requires-clause-df
 short_of-requires-clause-df g c =
     file_still _ _ _ c.find_place.ensures.store.only c.in_ok-entry.ensures.store.ready
-    (has_df c.args.store.now c.args.df c.requires.ready c.requires.tree c.requires.df)
+    (has_df c.args.store.now c.args.df c.requires.df.ready c.requires.df.tree c.requires.df.df)
+
+pub find_place-requires-clause-space : goal.find_place-requires-clause-space
+find_place-requires-clause-space g c = c.requires.space
+
+pub write_file-requires-clause-entry : goal.write_file-requires-clause-entry
+write_file-requires-clause-entry g c = record {
+  within = let found = place_at (committed c.args.store.now) c.args.df c.args.fcp.now _ c.in-At.entry c.in-At.is
+      c.in_ok-entry.ensures.told in
+      found.2.small;
+  used = λ none.
+      some_kind c.args.fcp.now.kind (sym (ap (λ (x : Entry). x.kind) c.entry_for.ensures) ∙ none);
+}

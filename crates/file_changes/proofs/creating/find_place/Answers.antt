@@ -33,7 +33,7 @@ pub taken-requires-clause-df : goal.taken-requires-clause-df
 taken-requires-clause-df g c = c.requires.df
 
 pub taken-requires-clause-index : goal.taken-requires-clause-index
-taken-requires-clause-index g c = c.requires.index
+taken-requires-clause-index g c = c.requires.space.index
 
 pub taken-requires-clause-fcp : goal.taken-requires-clause-fcp
 taken-requires-clause-fcp g c = c.requires.fcp
@@ -66,6 +66,6 @@ returns-in-None g c = record {
 pub place_for-requires : goal.place_for-requires
 place_for-requires g c = record {
   df = file_still _ _ _ c.taken.ensures.store.only c.in_ok-status.ensures.store.ready c.requires.df;
-  free = c.requires.free ∙ ap (λ (l : List ℕ). free_space (block_count l) (tree_of l))
+  free = c.requires.space.free ∙ ap (λ (l : List ℕ). free_space (block_count l) (tree_of l))
       (sym c.taken.ensures.store.only.keeps.committed_words);
 }

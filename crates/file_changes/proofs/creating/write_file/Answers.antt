@@ -2,7 +2,7 @@ use Rattle.file_tree.specs.Formats.{block_count}
 use Rattle.std.proofs.Common.{rules, ◌≡◌, ◌*◌, ℕ, List, length, take, replicate, sym, ◌∙◌, ap, subst, inl, inr}
 use Rattle.std.proofs.Common.{refl, ⊎_elim, arith}
 use Rattle.undo_journal.specs.Lent.{memory_of}
-use Rattle.undo_journal.specs.Memory.{committed, current, IsReady}
+use Rattle.undo_journal.specs.Memory.{Memory, committed, current, IsOpen, IsReady}
 use Rattle.block_chain.specs.declared.layout.TheConstants.{BLOCK_BYTES}
 use Rattle.block_chain.specs.Chains.{HasFree, free_chain, bytes_of}
 use Rattle.block_chain.specs.ChainChanges.{IsFirstFree, OnlyContent}
@@ -43,44 +43,6 @@ pub fill-requires-clause-free : goal.fill-requires-clause-free
 fill-requires-clause-free g c =
     let m = committed c.args.store.now in
     laid_has_free (block_count m) m (extents (table m)) c.requires.tree.blocks
-
-pub add_file-work-requires-clause-free : goal.add_file-work-requires-clause-free
-add_file-work-requires-clause-free g c =
-    let m = committed c.args.store.now in
-    let sized = c.requires.ready.usable.committed_size in
-    let after = filled m (committed c.fill.new.store) _ sized c.requires.tree c.fill.ensures.any_exit in
-    let ready : IsReady c.fill.new.store = search rules in
-    let same : current (memory_of c.begin-txn.result) ≡ committed c.fill.new.store =
-    ap current c.begin-txn.ensures.same ∙ sym ready.same in
-    let family : List ℕ → Type 0 = λ l. HasFree l in
-    subst family (sym same) (laid_has_free (block_count (committed c.fill.new.store)) (committed c.fill.new.store)
-    (extents (table (committed c.fill.new.store))) after.stands.blocks)
-
-pub add_file-work-requires-clause-enough : goal.add_file-work-requires-clause-enough
-add_file-work-requires-clause-enough g c =
-    let m = committed c.args.store.now in
-    let sized = c.requires.ready.usable.committed_size in
-    let after = filled m (committed c.fill.new.store) _ sized c.requires.tree c.fill.ensures.any_exit in
-    let ready : IsReady c.fill.new.store = search rules in
-    let same : current (memory_of c.begin-txn.result) ≡ committed c.fill.new.store =
-    ap current c.begin-txn.ensures.same ∙ sym ready.same in
-    let chain = ap (λ (l : List ℕ). length (free_chain l)) same in
-    let free = ap (λ (l : List ℕ). length l) after.free in
-    omega (arith, chain, free, c.requires.enough)
-
-pub add_file-work-requires-clause-first : goal.add_file-work-requires-clause-first
-add_file-work-requires-clause-first g c = λ some.
-    let m = committed c.args.store.now in
-    let n = c.args.blocks in
-    let sized = c.requires.ready.usable.committed_size in
-    let after = filled m (committed c.fill.new.store) _ sized c.requires.tree c.fill.ensures.any_exit in
-    let ready : IsReady c.fill.new.store = search rules in
-    let same : current (memory_of c.begin-txn.result) ≡ committed c.fill.new.store =
-    ap current c.begin-txn.ensures.same ∙ sym ready.same in
-    let free = laid_has_free (block_count m) m (extents (table m)) c.requires.tree.blocks in
-    let blocks = blocks_take m n (free_chain m) (leads_blocks m _ 0 (free_chain m) free.leads) in
-    first_free_in m (committed c.fill.new.store) _ (take n (free_chain m)) n _ same blocks c.fill.ensures.any_exit
-    after.free (c.in_ok-run.ensures.found some)
 
 pub returns-clause-any_exit : goal.returns-clause-any_exit
 returns-clause-any_exit g c =
@@ -147,3 +109,43 @@ returns-clause-by_gate g c =
       gate = ends_by_gate _ _ c.fill.new.store _ (memory_of c.add_file-work.new.txn) _ _ c.begin-txn.ensures.same last
           sets.kept c.end.ensures.any_exit;
     }
+
+pub add_file-work-requires-clause-blocks : goal.add_file-work-requires-clause-blocks
+add_file-work-requires-clause-blocks g c = record {
+  free = let m = committed c.args.store.now in
+      let sized = c.requires.ready.usable.committed_size in
+      let after = filled m (committed c.fill.new.store) _ sized c.requires.tree c.fill.ensures.any_exit in
+      let ready : IsReady c.fill.new.store = search rules in
+      let same : current (memory_of c.begin-txn.result) ≡ committed c.fill.new.store =
+      ap current c.begin-txn.ensures.same ∙ sym ready.same in
+      let family : List ℕ → Type 0 = λ l. HasFree l in
+      subst family (sym same) (laid_has_free (block_count (committed c.fill.new.store)) (committed c.fill.new.store)
+      (extents (table (committed c.fill.new.store))) after.stands.blocks);
+  enough = let m = committed c.args.store.now in
+      let sized = c.requires.ready.usable.committed_size in
+      let after = filled m (committed c.fill.new.store) _ sized c.requires.tree c.fill.ensures.any_exit in
+      let ready : IsReady c.fill.new.store = search rules in
+      let same : current (memory_of c.begin-txn.result) ≡ committed c.fill.new.store =
+      ap current c.begin-txn.ensures.same ∙ sym ready.same in
+      let chain = ap (λ (l : List ℕ). length (free_chain l)) same in
+      let free = ap (λ (l : List ℕ). length l) after.free in
+      omega (arith, chain, free, c.requires.enough);
+  first = λ some.
+      let m = committed c.args.store.now in
+      let n = c.args.blocks in
+      let sized = c.requires.ready.usable.committed_size in
+      let after = filled m (committed c.fill.new.store) _ sized c.requires.tree c.fill.ensures.any_exit in
+      let ready : IsReady c.fill.new.store = search rules in
+      let same : current (memory_of c.begin-txn.result) ≡ committed c.fill.new.store =
+      ap current c.begin-txn.ensures.same ∙ sym ready.same in
+      let free = laid_has_free (block_count m) m (extents (table m)) c.requires.tree.blocks in
+      let blocks = blocks_take m n (free_chain m) (leads_blocks m _ 0 (free_chain m) free.leads) in
+      first_free_in m (committed c.fill.new.store) _ (take n (free_chain m)) n _ same blocks c.fill.ensures.any_exit
+      after.free (c.in_ok-run.ensures.found some);
+}
+
+pub add_file-work-requires-clause-room : goal.add_file-work-requires-clause-room
+add_file-work-requires-clause-room g c = record {
+  ready = subst (λ (m : Memory). IsOpen m) (sym c.begin-txn.ensures.same) c.in_ok-run.ensures.store.ready.usable;
+  enough = omega (arith, c.begin-txn.ensures.room);
+}

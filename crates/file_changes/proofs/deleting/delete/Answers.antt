@@ -12,25 +12,25 @@ use Rattle.file_changes.proofs.deleting.delete.Goals as goal
 pub remove-requires-clause-apart : goal.remove-requires-clause-apart
 remove-requires-clause-apart g c =
     let m = committed c.args.store.now in
-    let sized = c.requires.file.ready.usable.committed_size in
+    let sized = c.requires.file.file.ready.usable.committed_size in
     let read = c.removal_of.ensures.store.only.keeps.committed_words in (
       part_below (table m) c.args.e,
       c.in_ok-removal.ensures.told.goes,
-      can_give m _ c.args.e sized c.requires.file.tree c.requires.below c.requires.file.used _
+      can_give m _ c.args.e sized c.requires.file.file.tree c.requires.file.below c.requires.file.file.used _
           c.in_ok-removal.ensures.told read _ c.as_slice.ensures.value,
     )
 
 pub returns-in_err-remove-clause-any_exit : goal.returns-in_err-remove-clause-any_exit
 returns-in_err-remove-clause-any_exit g c =
     let m = committed c.args.store.now in
-    let sized = c.requires.file.ready.usable.committed_size in
+    let sized = c.requires.file.file.ready.usable.committed_size in
     let read = c.removal_of.ensures.store.only.keeps.committed_words in
     let after = committed c.remove.new.store in
     ⊎_elim
     (λ (kept : after ≡ committed c.removal_of.new.store). inl (kept ∙ read))
     (λ (removes : (part : List Entry) → GoesWith c.in_ok-removal.removal.goes part
     → Removes (committed c.removal_of.new.store) part c.as_slice.result.now after).
-    inr (removed_deletes m _ c.args.e sized c.requires.file.tree c.requires.below c.requires.file.used
+    inr (removed_deletes m _ c.args.e sized c.requires.file.file.tree c.requires.file.below c.requires.file.file.used
     _ c.in_ok-removal.ensures.told read _ c.as_slice.ensures.value after
     (removes _ c.in_ok-removal.ensures.told.goes)))
     c.remove.ensures.any_exit
@@ -38,32 +38,29 @@ returns-in_err-remove-clause-any_exit g c =
 pub returns-clause-done : goal.returns-clause-done
 returns-clause-done g c =
     let m = committed c.args.store.now in
-    let sized = c.requires.file.ready.usable.committed_size in
+    let sized = c.requires.file.file.ready.usable.committed_size in
     let read = c.removal_of.ensures.store.only.keeps.committed_words in
-    removed_deletes m _ c.args.e sized c.requires.file.tree c.requires.below
-    c.requires.file.used _ c.in_ok-removal.ensures.told read _ c.as_slice.ensures.value _
+    removed_deletes m _ c.args.e sized c.requires.file.file.tree c.requires.file.below
+    c.requires.file.file.used _ c.in_ok-removal.ensures.told read _ c.as_slice.ensures.value _
     (c.in_ok-remove.ensures.done _ c.in_ok-removal.ensures.told.goes)
 
 pub returns-clause-any_exit : goal.returns-clause-any_exit
 returns-clause-any_exit g c =
     let m = committed c.args.store.now in
-    let sized = c.requires.file.ready.usable.committed_size in
+    let sized = c.requires.file.file.ready.usable.committed_size in
     let read = c.removal_of.ensures.store.only.keeps.committed_words in
-    inr (removed_deletes m _ c.args.e sized c.requires.file.tree c.requires.below
-    c.requires.file.used _ c.in_ok-removal.ensures.told read _ c.as_slice.ensures.value _
+    inr (removed_deletes m _ c.args.e sized c.requires.file.file.tree c.requires.file.below
+    c.requires.file.file.used _ c.in_ok-removal.ensures.told read _ c.as_slice.ensures.value _
     (c.in_ok-remove.ensures.done _ c.in_ok-removal.ensures.told.goes))
 
 pub returns-clause-space : goal.returns-clause-space
 returns-clause-space g c =
     let m = committed c.args.store.now in
-    let sized = c.requires.file.ready.usable.committed_size in
+    let sized = c.requires.file.file.ready.usable.committed_size in
     let read = c.removal_of.ensures.store.only.keeps.committed_words in
-    removed_space m _ c.args.e sized c.requires.file.tree c.requires.below c.requires.file.used _
+    removed_space m _ c.args.e sized c.requires.file.file.tree c.requires.file.below c.requires.file.file.used _
     c.in_ok-removal.ensures.told
     read _ c.as_slice.ensures.value _ (c.in_ok-remove.ensures.done _ c.in_ok-removal.ensures.told.goes)
-
-pub removal_of-requires-clause-below : goal.removal_of-requires-clause-below
-removal_of-requires-clause-below g c = c.requires.below
 
 pub returns-in_err-removal-clause-any_exit : goal.returns-in_err-removal-clause-any_exit
 returns-in_err-removal-clause-any_exit g c = inl c.removal_of.ensures.store.only.keeps.committed_words
@@ -77,7 +74,7 @@ returns-in_err-removal-clause-space g c = none_ok _ _ _ c.from_residual.ensures.
 pub returns-in_err-removal-clause-store : goal.returns-in_err-removal-clause-store
 returns-in_err-removal-clause-store g c =
     changes_handed _ _ _ _ _ c.from_residual.ensures.1
-    (reads_change _ _ _ _ c.requires.file.ready.idle c.in_err-removal.ensures.store)
+    (reads_change _ _ _ _ c.requires.file.file.ready.idle c.in_err-removal.ensures.store)
 
 pub remove-requires-clause-ready : goal.remove-requires-clause-ready
 remove-requires-clause-ready g c = c.in_ok-removal.ensures.store.ready
@@ -112,8 +109,8 @@ returns-clause-by_gate g c =
 
 pub returns-clause-index : goal.returns-clause-index
 returns-clause-index g c =
-    c.without.ensures.deleted (committed c.args.store.now) (committed c.remove.new.store) c.requires.file.tree
-    c.requires.below c.requires.file.used (returns-clause-done g c) c.requires.index
+    c.without.ensures.deleted (committed c.args.store.now) (committed c.remove.new.store) c.requires.file.file.tree
+    c.requires.file.below c.requires.file.file.used (returns-clause-done g c) c.requires.index
 
-pub removal_of-requires-clause-file : goal.removal_of-requires-clause-file
-removal_of-requires-clause-file g c = c.requires.file
+pub removal_of-requires : goal.removal_of-requires
+removal_of-requires g c = record { file = c.requires.file }

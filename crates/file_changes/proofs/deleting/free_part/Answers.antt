@@ -38,7 +38,7 @@ loop-e-preserved g c =
           → FreesUpTo m part (e + 1) (current (memory_of w.set.new.self)) = λ part told.
           (let some : (entry_in part e).kind ≢ 0 = (told e c.loop-e-test.true).0 (sym mark ∙ w.if-goes.true) in
           subst (λ (l : List ℕ). FreesUpTo m part (e + 1) l) (sym done)
-          (frees_next m now part e c.requires.ready.current_size c.loop-e-test.true (before part told) some)) in
+          (frees_next m now part e c.requires.room.ready.current_size c.loop-e-test.true (before part told) some)) in
           record {
             ready = (let ready : IsOpen (memory_of w.set.new.self) = w.in_ok-set.ensures.store.ready in
                 subst (λ t. IsOpen (memory_of t)) (sym w.txn-is) ready);
@@ -51,7 +51,7 @@ loop-e-preserved g c =
           let next : (part : List Entry) → GoesWith c.args.marks.now part → FreesUpTo m part (e + 1) now = λ part told.
           (let none : (entry_in part e).kind ≡ 0 =
           kind_of_unused _ _ (told e c.loop-e-test.true) (sym mark ∙ w.if-goes.false) in
-          frees_skip m now part e c.requires.ready.current_size c.loop-e-test.true (before part told) none) in
+          frees_skip m now part e c.requires.room.ready.current_size c.loop-e-test.true (before part told) none) in
           record {
             ready = subst (λ t. IsOpen (memory_of t)) (sym w.txn-is) c.loop-e.invariant.ready;
             sets = subst (λ t. Sets (e + 1) c.args.txn.now t) (sym w.txn-is)

@@ -20,7 +20,8 @@ blocks_in-requires g c =
     let m = committed c.args.store.now in
     let es = c.as_slice.ensures.value ∙ c.in_ok-part.ensures.told.extents in
     let family : List Extent → Type 0 = λ xs. sum_by (λ x. x.blocks) xs ≤ MOST_BLOCKS in
-    subst family (sym es) (part_blocks m c.args.e c.requires.file.tree c.requires.file.ready.usable.committed_size)
+    subst family (sym es) (part_blocks m c.args.e c.requires.file.file.tree
+    c.requires.file.file.ready.usable.committed_size)
 
 pub returns : goal.returns
 returns g c = record {

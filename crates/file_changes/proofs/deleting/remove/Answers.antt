@@ -1,4 +1,5 @@
-use Rattle.std.proofs.Common.{◌+◌, List, length, sym, ◌∙◌, arith}
+use Rattle.std.proofs.Common.{◌+◌, List, length, sym, ◌∙◌, subst, arith}
+use Rattle.undo_journal.specs.Memory.{Memory, IsOpen}
 use Rattle.undo_journal.specs.Lent.{memory_of}
 use Rattle.undo_journal.specs.laws.Endings.{ends, ends_answered, ends_by_gate, ends_done}
 use Rattle.file_tree.specs.declared.layout.TheConstants.{DELETE_WRITES}
@@ -39,3 +40,9 @@ returns-clause-store g c =
     c.take_away-work.result c.end.result _ _ (memory_of c.take_away-work.new.txn) _ _ (omega (arith, c.requires.few))
     c.begin-txn.ensures.same last c.requires.ready set.store.sets.taken set.store.sets.reports set.store.sets.writes
     set.store.tells c.end.ensures.store c.end.ensures.answered
+
+pub take_away-work-requires-clause-room : goal.take_away-work-requires-clause-room
+take_away-work-requires-clause-room g c = record {
+  ready = subst (λ (m : Memory). IsOpen m) (sym c.begin-txn.ensures.same) c.requires.ready.usable;
+  enough = omega (arith, c.begin-txn.ensures.room, c.requires.few);
+}

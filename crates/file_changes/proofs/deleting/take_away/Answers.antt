@@ -5,12 +5,6 @@ use Rattle.undo_journal.specs.laws.Exits.{on_then, none_ok}
 use Rattle.undo_journal.specs.laws.Told.{sets_in_on, sets_in_within, sets_in_handed}
 use Rattle.file_changes.proofs.deleting.take_away.Goals as goal
 
-pub free_part-requires-clause-ready : goal.free_part-requires-clause-ready
-free_part-requires-clause-ready g c = c.requires.ready
-
-pub free_part-requires-clause-room : goal.free_part-requires-clause-room
-free_part-requires-clause-room g c = let room = c.requires.room in omega (arith, room)
-
 pub returns-in_err-free_part-clause-done : goal.returns-in_err-free_part-clause-done
 returns-in_err-free_part-clause-done g c = none_ok _ _ _ c.from_residual.ensures.1
 
@@ -32,7 +26,7 @@ give_back-requires-clause-apart g c =
 
 pub give_back-requires-clause-room : goal.give_back-requires-clause-room
 give_back-requires-clause-room g c =
-    let room = c.requires.room in
+    let room = c.requires.room.enough in
     let left = c.free_part.ensures.store.sets.room in
     omega (arith, room, left)
 
@@ -49,3 +43,11 @@ returns-clause-done g c =
 pub returns-clause-store : goal.returns-clause-store
 returns-clause-store g c =
     sets_in_on _ _ _ _ _ _ _ (omega arith) c.free_part.ensures.store.sets c.give_back.ensures.store
+
+pub free_part-requires : goal.free_part-requires
+free_part-requires g c = record {
+  room = record {
+    ready = c.requires.room.ready;
+    enough = let room = c.requires.room.enough in omega (arith, room);
+  };
+}

@@ -20,8 +20,8 @@ returns-clause-done g c =
     on_ok_weaker c.set_run.result
     (λ (done : current (memory_of c.set_run.new.self) ≡ written m c.entry_address.result ws).
     subst family (sym (done ∙ ap (λ (k : ℕ). written m k ws) at))
-    (written_entry m ws c.args.e c.args.entry c.requires.ready.current_size c.requires.within long
-    c.words_of-words.ensures c.requires.used)) c.set_run.ensures.done
+    (written_entry m ws c.args.e c.args.entry c.requires.room.ready.current_size c.requires.entry.within long
+    c.words_of-words.ensures c.requires.entry.used)) c.set_run.ensures.done
 
 pub returns-clause-runs : goal.returns-clause-runs
 returns-clause-runs g c =

@@ -125,7 +125,8 @@ returns-in_err-own g c = record {
 
 pub is_barred_at-requires-clause-file : goal.is_barred_at-requires-clause-file
 is_barred_at-requires-clause-file g c =
-    file_kept _ _ _ (kept_still _ _ _ c.read_entry.ensures.store.only c.in_ok-entry.ensures.store.ready c.requires.kept)
+    file_kept _ _ _ (kept_still _ _ _ c.read_entry.ensures.store.only c.in_ok-entry.ensures.store.ready
+    c.requires.file.kept)
     (used_still c.args.store.now c.read_entry.new.store c.args.file.now.entry.parent c.read_entry.ensures.store.only
     c.requires.above)
 
@@ -134,35 +135,29 @@ is_barred_at-requires-clause-entry g c =
     entry_still c.args.store.now c.read_entry.new.store c.args.file.now.entry.parent c.in_ok-entry.entry
     c.read_entry.ensures.store.only c.in_ok-entry.ensures.entry
 
-pub allows-requires-clause-kept : goal.allows-requires-clause-kept
-allows-requires-clause-kept g c =
-    kept_still _ _ _ (reads_then _ _ _ c.read_entry.ensures.store.only c.is_barred_at.ensures.store.only)
-    c.in_ok-barred.ensures.store.ready c.requires.kept
+pub allows-requires : goal.allows-requires
+allows-requires g c = record {
+  file = record {
+    kept = kept_still _ _ _ (reads_then _ _ _ c.read_entry.ensures.store.only c.is_barred_at.ensures.store.only)
+        c.in_ok-barred.ensures.store.ready c.requires.file.kept;
+    used = used_still c.args.store.now c.is_barred_at.new.store c.args.file.now.number
+        (reads_then _ _ _ c.read_entry.ensures.store.only c.is_barred_at.ensures.store.only) c.requires.file.used;
+    entry = entry_still c.args.store.now c.is_barred_at.new.store c.args.file.now.number c.args.file.now.entry
+        (reads_then _ _ _ c.read_entry.ensures.store.only c.is_barred_at.ensures.store.only) c.requires.file.entry;
+  };
+}
 
-pub allows-requires-clause-used : goal.allows-requires-clause-used
-allows-requires-clause-used g c =
-    used_still c.args.store.now c.is_barred_at.new.store c.args.file.now.number
-    (reads_then _ _ _ c.read_entry.ensures.store.only c.is_barred_at.ensures.store.only) c.requires.used
-
-pub allows-requires-clause-entry : goal.allows-requires-clause-entry
-allows-requires-clause-entry g c =
-    entry_still c.args.store.now c.is_barred_at.new.store c.args.file.now.number c.args.file.now.entry
-    (reads_then _ _ _ c.read_entry.ensures.store.only c.is_barred_at.ensures.store.only) c.requires.entry
-
-pub allows-requires-2-clause-kept : goal.allows-requires-2-clause-kept
-allows-requires-2-clause-kept g c =
-    kept_still _ _ _
-    (reads_then _ _ _ (reads_then _ _ _ c.read_entry.ensures.store.only c.is_barred_at.ensures.store.only)
-    c.allows.ensures.store.only) c.in_ok-own.ensures.store.ready c.requires.kept
-
-pub allows-requires-2-clause-used : goal.allows-requires-2-clause-used
-allows-requires-2-clause-used g c =
-    used_still c.args.store.now c.allows.new.store c.args.file.now.entry.parent
-    (reads_then _ _ _ (reads_then _ _ _ c.read_entry.ensures.store.only c.is_barred_at.ensures.store.only)
-    c.allows.ensures.store.only) c.requires.above
-
-pub allows-requires-2-clause-entry : goal.allows-requires-2-clause-entry
-allows-requires-2-clause-entry g c =
-    entry_still c.args.store.now c.allows.new.store c.args.file.now.entry.parent c.in_ok-entry.entry
-    (reads_then _ _ _ (reads_then _ _ _ c.read_entry.ensures.store.only c.is_barred_at.ensures.store.only)
-    c.allows.ensures.store.only) c.in_ok-entry.ensures.entry
+pub allows-requires-2 : goal.allows-requires-2
+allows-requires-2 g c = record {
+  file = record {
+    kept = kept_still _ _ _
+        (reads_then _ _ _ (reads_then _ _ _ c.read_entry.ensures.store.only c.is_barred_at.ensures.store.only)
+        c.allows.ensures.store.only) c.in_ok-own.ensures.store.ready c.requires.file.kept;
+    used = used_still c.args.store.now c.allows.new.store c.args.file.now.entry.parent
+        (reads_then _ _ _ (reads_then _ _ _ c.read_entry.ensures.store.only c.is_barred_at.ensures.store.only)
+        c.allows.ensures.store.only) c.requires.above;
+    entry = entry_still c.args.store.now c.allows.new.store c.args.file.now.entry.parent c.in_ok-entry.entry
+        (reads_then _ _ _ (reads_then _ _ _ c.read_entry.ensures.store.only c.is_barred_at.ensures.store.only)
+        c.allows.ensures.store.only) c.in_ok-entry.ensures.entry;
+  };
+}

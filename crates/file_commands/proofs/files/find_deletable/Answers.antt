@@ -28,7 +28,8 @@ returns-then-number-eq0 g c = record {
       let x = c.args.current.now in
       let master : c.in-Some.number ≡ 0 = omega arith in
       delete-master (card_of m) (session_of t x) c.args.subject
-      (subject-found m c.requires.kept.card x c.requires.kept.current c.unwrap_or-own.result c.unwrap_or-own.ensures
+      (subject-found m c.requires.card.kept.card x c.requires.card.kept.current c.unwrap_or-own.result
+      c.unwrap_or-own.ensures
       c.args.subject c.in_ok-number.field-0 c.in_ok-number.ensures.found.told
       ∙ ap (λ (o : Option ℕ). option_map (path_of t) o) c.in-Some.is
       ∙ ap (λ (p : Path). Some p) (path-zero t 7 c.in-Some.number master));
@@ -48,7 +49,7 @@ returns-in_err-check_deletion g c = record {
       let x = c.args.current.now in
       let e = c.in-Some.number in
       let used = subst (λ (o : Option ℕ). IfSome o (IsUsed t)) c.in-Some.is c.in_ok-number.ensures.used in
-      let place = subject-found m c.requires.kept.card x c.requires.kept.current c.unwrap_or-own.result
+      let place = subject-found m c.requires.card.kept.card x c.requires.card.kept.current c.unwrap_or-own.result
       c.unwrap_or-own.ensures
       c.args.subject c.in_ok-number.field-0 c.in_ok-number.ensures.found.told
       ∙ ap (λ (o : Option ℕ). option_map (path_of t) o) c.in-Some.is in
@@ -64,7 +65,8 @@ returns-in_err-check_deletion g c = record {
       (λ (status : Sw). refused ≡ Some status)
       (refused-weaker c.in_err-check_deletion.field-0.0 (λ (status : Sw). verdict ≡ Some status)
       (λ (status : Sw). refused ≡ Some status) (λ (status : Sw) (due : verdict ≡ Some status).
-      file-verdict m c.requires.kept.ready.usable.committed_size c.requires.kept.card x c.args.subject e below used
+      file-verdict m c.requires.card.kept.ready.usable.committed_size c.requires.card.kept.card x c.args.subject e
+      below used
       place
       ∙ ap (λ (y : Entry). deletion_verdict m x e y.parent) (sym entry)
       ∙ ap (λ (l : List ℕ). deletion_verdict l x e c.in_ok-entry.entry.parent) (sym same)
@@ -81,7 +83,7 @@ returns g c = record {
       let x = c.args.current.now in
       let e = c.in-Some.number in
       let used = subst (λ (o : Option ℕ). IfSome o (IsUsed t)) c.in-Some.is c.in_ok-number.ensures.used in
-      let place = subject-found m c.requires.kept.card x c.requires.kept.current c.unwrap_or-own.result
+      let place = subject-found m c.requires.card.kept.card x c.requires.card.kept.current c.unwrap_or-own.result
       c.unwrap_or-own.ensures
       c.args.subject c.in_ok-number.field-0 c.in_ok-number.ensures.found.told
       ∙ ap (λ (o : Option ℕ). option_map (path_of t) o) c.in-Some.is in
@@ -91,8 +93,10 @@ returns g c = record {
       c.in_ok-entry.ensures.entry ∙ ap (λ (l : List ℕ). entry_in (table l) e)
       c.find_subject.ensures.found.store.only.keeps.committed_words in
       let below : 0 < e = omega arith in
-      deletable m c.requires.kept.ready.usable.committed_size c.requires.kept.card x c.args.subject e below used place
-      (file-verdict m c.requires.kept.ready.usable.committed_size c.requires.kept.card x c.args.subject e below used
+      deletable m c.requires.card.kept.ready.usable.committed_size c.requires.card.kept.card x c.args.subject e below
+      used place
+      (file-verdict m c.requires.card.kept.ready.usable.committed_size c.requires.card.kept.card x c.args.subject e
+      below used
       place
       ∙ ap (λ (y : Entry). deletion_verdict m x e y.parent) (sym entry)
       ∙ ap (λ (l : List ℕ). deletion_verdict l x e c.in_ok-entry.entry.parent) (sym same)
@@ -115,7 +119,7 @@ check_deletion-requires-clause-above g c =
     let below : 0 < e = omega arith in
     subst (λ (l : List ℕ). IsUsed (table l) c.in_ok-entry.entry.parent) (sym same)
     (subst (λ (y : Entry). IsUsed (table m) y.parent) (sym entry)
-    (parent_used (table m) c.requires.kept.card.tree.entries e below used))
+    (parent_used (table m) c.requires.card.kept.card.tree.entries e below used))
 
 pub returns-in_err-entry : goal.returns-in_err-entry
 returns-in_err-entry g c = record {
@@ -124,25 +128,21 @@ returns-in_err-entry g c = record {
       (reads_on _ _ _ _ c.find_subject.ensures.found.store.only c.in_err-entry.ensures.store);
 }
 
-pub check_deletion-requires-clause-kept : goal.check_deletion-requires-clause-kept
-check_deletion-requires-clause-kept g c =
-    kept_still _ _ _ (reads_then _ _ _ c.find_subject.ensures.found.store.only c.read_entry.ensures.store.only)
-    c.in_ok-entry.ensures.store.ready c.requires.kept
-
-pub check_deletion-requires-clause-used : goal.check_deletion-requires-clause-used
-check_deletion-requires-clause-used g c =
-    used_still c.args.store.now c.read_entry.new.store c.in-Some.number
-    (reads_then c.args.store.now c.find_subject.new.store c.read_entry.new.store c.find_subject.ensures.found.store.only
-    c.read_entry.ensures.store.only) (subst (λ (o : Option ℕ). IfSome o (IsUsed (table (committed c.args.store.now))))
-    c.in-Some.is c.in_ok-number.ensures.used)
-
 pub find_subject-requires-clause-own : goal.find_subject-requires-clause-own
 find_subject-requires-clause-own g c =
     let t = table (committed c.args.store.now) in
     subst (λ (e : ℕ). IsUsed t e) (sym c.unwrap_or-own.ensures)
-    (current-there t c.args.current.now c.requires.kept.current Activate)
+    (current-there t c.args.current.now c.requires.card.kept.current Activate)
 
-pub check_deletion-requires-clause-entry : goal.check_deletion-requires-clause-entry
-check_deletion-requires-clause-entry g c =
-    entry_still c.find_subject.new.store c.read_entry.new.store c.in-Some.number c.in_ok-entry.entry
-    c.read_entry.ensures.store.only c.in_ok-entry.ensures.entry
+pub check_deletion-requires-clause-file : goal.check_deletion-requires-clause-file
+check_deletion-requires-clause-file g c = record {
+  kept = kept_still _ _ _ (reads_then _ _ _ c.find_subject.ensures.found.store.only c.read_entry.ensures.store.only)
+      c.in_ok-entry.ensures.store.ready c.requires.card.kept;
+  used = used_still c.args.store.now c.read_entry.new.store c.in-Some.number
+      (reads_then c.args.store.now c.find_subject.new.store c.read_entry.new.store
+      c.find_subject.ensures.found.store.only
+      c.read_entry.ensures.store.only) (subst (λ (o : Option ℕ). IfSome o (IsUsed (table (committed c.args.store.now))))
+      c.in-Some.is c.in_ok-number.ensures.used);
+  entry = entry_still c.find_subject.new.store c.read_entry.new.store c.in-Some.number c.in_ok-entry.entry
+      c.read_entry.ensures.store.only c.in_ok-entry.ensures.entry;
+}

@@ -107,18 +107,16 @@ is_barred_at-requires-clause-entry g c =
     entry_still c.args.store.now c.read_entry.new.store c.args.current.now.df c.in_ok-entry.entry
     c.read_entry.ensures.store.only c.in_ok-entry.ensures.entry
 
-pub allows-requires-clause-kept : goal.allows-requires-clause-kept
-allows-requires-clause-kept g c =
-    kept_still _ _ _ (reads_then _ _ _ c.read_entry.ensures.store.only c.is_barred_at.ensures.store.only)
-    c.in_ok-is_barred_at.ensures.store.ready c.requires.kept
-
-pub allows-requires-clause-used : goal.allows-requires-clause-used
-allows-requires-clause-used g c =
-    used_still c.args.store.now c.is_barred_at.new.store c.args.current.now.df
-    (reads_then _ _ _ c.read_entry.ensures.store.only c.is_barred_at.ensures.store.only)
-    (df_used (table (committed c.args.store.now)) c.args.current.now c.requires.kept.current)
-
-pub allows-requires-clause-entry : goal.allows-requires-clause-entry
-allows-requires-clause-entry g c =
-    entry_still c.args.store.now c.is_barred_at.new.store c.args.current.now.df c.in_ok-entry.entry
-    (reads_then _ _ _ c.read_entry.ensures.store.only c.is_barred_at.ensures.store.only) c.in_ok-entry.ensures.entry
+pub allows-requires : goal.allows-requires
+allows-requires g c = record {
+  file = record {
+    kept = kept_still _ _ _ (reads_then _ _ _ c.read_entry.ensures.store.only c.is_barred_at.ensures.store.only)
+        c.in_ok-is_barred_at.ensures.store.ready c.requires.kept;
+    used = used_still c.args.store.now c.is_barred_at.new.store c.args.current.now.df
+        (reads_then _ _ _ c.read_entry.ensures.store.only c.is_barred_at.ensures.store.only)
+        (df_used (table (committed c.args.store.now)) c.args.current.now c.requires.kept.current);
+    entry = entry_still c.args.store.now c.is_barred_at.new.store c.args.current.now.df c.in_ok-entry.entry
+        (reads_then _ _ _ c.read_entry.ensures.store.only c.is_barred_at.ensures.store.only)
+        c.in_ok-entry.ensures.entry;
+  };
+}

@@ -42,4 +42,4 @@ returns-in-Identifier-clause-found g c =
     }
 
 pub select-requires-clause-df : goal.select-requires-clause-df
-select-requires-clause-df g c = df_kept _ _ c.requires.kept
+select-requires-clause-df g c = df_kept _ _ c.requires.card.kept

@@ -22,8 +22,8 @@ returns g c = record {
       let found = c.in_ok-changed.ensures.told in
       subst (λ (y : Current). Executes (change_life_cycle c.args.change c.args.subject) old x new y [] (Ok DONE))
       (sym c.at.ensures)
-      (change-made old mid new c.requires.kept.ready c.requires.kept.card x
-      c.requires.kept.current c.args.change c.args.subject c.in_ok-changed.changed found
+      (change-made old mid new c.requires.card.kept.ready c.requires.card.kept.card x
+      c.requires.card.kept.current c.args.change c.args.subject c.in_ok-changed.changed found
       c.find_change.ensures.store.only
       c.set_life_cycle.ensures.any_exit c.set_life_cycle.ensures.by_gate c.set_life_cycle.ensures.stays
       c.set_life_cycle.ensures.store.reports c.set_life_cycle.ensures.store.writes c.in_ok-set_life_cycle.ensures.done
@@ -33,8 +33,8 @@ returns g c = record {
       let mid = c.find_change.new.store in
       let new = c.set_life_cycle.new.store in
       let found = c.in_ok-changed.ensures.told in
-      change-space old mid new c.requires.kept.ready c.requires.kept.card x
-      c.requires.kept.current c.args.change c.args.subject c.in_ok-changed.changed found
+      change-space old mid new c.requires.card.kept.ready c.requires.card.kept.card x
+      c.requires.card.kept.current c.args.change c.args.subject c.in_ok-changed.changed found
       c.find_change.ensures.store.only
       c.set_life_cycle.ensures.any_exit c.set_life_cycle.ensures.by_gate c.set_life_cycle.ensures.stays
       c.set_life_cycle.ensures.store.reports c.set_life_cycle.ensures.store.writes c.in_ok-set_life_cycle.ensures.done;
@@ -45,7 +45,7 @@ returns-in_err-changed g c = record {
   serves = let old = c.args.store.now in
       let x = c.args.current.now in
       halted (change_life_cycle c.args.change c.args.subject) old x c.find_change.new.store (λ _. tt)
-      c.requires.kept.card c.requires.kept.current [] refl _ _ c.from_residual.ensures.1
+      c.requires.card.kept.card c.requires.card.kept.current [] refl _ _ c.from_residual.ensures.1
       c.in_err-changed.ensures.store _
       (λ status. change-refused (card_in old) (session_in old x) c.args.change c.args.subject status)
       c.in_err-changed.ensures.told;
@@ -58,7 +58,8 @@ returns-in_err-set_life_cycle g c = record {
   serves = let old = c.args.store.now in
       let mid = c.find_change.new.store in
       let new = c.set_life_cycle.new.store in
-      change-torn old mid new c.requires.kept.ready c.requires.kept.card c.args.current.now c.requires.kept.current
+      change-torn old mid new c.requires.card.kept.ready c.requires.card.kept.card c.args.current.now
+      c.requires.card.kept.current
       c.args.change c.args.subject c.in_ok-changed.changed c.in_ok-changed.ensures.told c.find_change.ensures.store.only
       c.set_life_cycle.ensures.any_exit c.set_life_cycle.ensures.by_gate c.set_life_cycle.ensures.stays
       c.set_life_cycle.ensures.store.reports c.set_life_cycle.ensures.store.writes _ _
@@ -69,5 +70,5 @@ returns-in_err-set_life_cycle g c = record {
 pub set_life_cycle-requires : goal.set_life_cycle-requires
 set_life_cycle-requires g c = record {
   file = file_still _ _ _ c.find_change.ensures.store.only c.in_ok-changed.ensures.store.ready
-      (file_kept _ _ _ c.requires.kept c.in_ok-changed.ensures.told.used);
+      (file_kept _ _ _ c.requires.card.kept c.in_ok-changed.ensures.told.used);
 }

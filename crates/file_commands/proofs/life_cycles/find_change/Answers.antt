@@ -19,7 +19,7 @@ returns g c = record {
       let x = c.args.current.now in
       let e = c.in-Some.number in
       let same = c.find_subject.ensures.found.store.only.keeps.committed_words in
-      let place = changed-found m c.requires.kept.card x c.requires.kept.current c.args.change
+      let place = changed-found m c.requires.card.kept.card x c.requires.card.kept.current c.args.change
       c.current_changed-own.result
       c.current_changed-own.ensures c.args.subject c.in_ok-number.field-0 c.in_ok-number.ensures.found.told
       ∙ ap (λ (found : Option ℕ). option_map (path_of (table m)) found) c.in-Some.is in
@@ -27,7 +27,8 @@ returns g c = record {
       (table m))) c.in-Some.is c.in_ok-number.ensures.used in
       finds-by _ _ _ c.read_change.result
       (λ (answer : Result Changed Sw) (is : change_at (committed c.find_subject.new.store) x c.args.change e ≡ answer).
-      found-is m c.requires.kept.card x c.requires.kept.current c.args.change c.args.subject e used place answer
+      found-is m c.requires.card.kept.card x c.requires.card.kept.current c.args.change c.args.subject e used place
+      answer
       (sym is ∙ ap (λ (l : List ℕ). change_at l x c.args.change e) same))
       c.read_change.ensures.told;
   store = reads_on _ _ _ _ c.find_subject.ensures.found.store.only c.read_change.ensures.store;
@@ -36,7 +37,7 @@ returns g c = record {
 pub read_change-requires-clause-kept : goal.read_change-requires-clause-kept
 read_change-requires-clause-kept g c =
     kept_still c.args.store.now c.find_subject.new.store c.args.current.now c.find_subject.ensures.found.store.only
-    c.in_ok-number.ensures.found.store.ready c.requires.kept
+    c.in_ok-number.ensures.found.store.ready c.requires.card.kept
 
 pub read_change-requires-clause-used : goal.read_change-requires-clause-used
 read_change-requires-clause-used g c =
@@ -50,7 +51,8 @@ returns-in_default g c = record {
       let t = table m in
       let x = c.args.current.now in
       change-missed (card_of m) (session_of t x) c.args.change c.args.subject
-      (changed-found m c.requires.kept.card x c.requires.kept.current c.args.change c.current_changed-own.result
+      (changed-found m c.requires.card.kept.card x c.requires.card.kept.current c.args.change
+      c.current_changed-own.result
       c.current_changed-own.ensures c.args.subject c.in_ok-number.field-0 c.in_ok-number.ensures.found.told ∙ ap (λ
       (found : Option ℕ). option_map (path_of t) found) c.in_default.is)
       ∙ ap (λ (status : Sw). Some status) (sym c.no_subject.ensures);
@@ -61,4 +63,4 @@ pub find_subject-requires-clause-own : goal.find_subject-requires-clause-own
 find_subject-requires-clause-own g c =
     let t = table (committed c.args.store.now) in
     subst (λ (own : Option ℕ). IfSome own (IsUsed t)) (sym c.current_changed-own.ensures)
-    (current-there t c.args.current.now c.requires.kept.current c.args.change)
+    (current-there t c.args.current.now c.requires.card.kept.current c.args.change)

@@ -68,18 +68,15 @@ returns-in_err-entry g c =
     handed terminate_card_usage c.args.store.now c.args.current.now c.read_entry.new.store c.requires.kept.card
     c.args.current.now [] _ _ (reply-failed _ _ c.from_residual.ensures.1) c.in_err-entry.ensures.store (omega arith)
 
-pub allows-requires-clause-kept : goal.allows-requires-clause-kept
-allows-requires-clause-kept g c =
-    kept_still _ _ _ c.read_entry.ensures.store.only c.in_ok-entry.ensures.store.ready c.requires.kept
-
-pub allows-requires-clause-used : goal.allows-requires-clause-used
-allows-requires-clause-used g c =
-    let master = c.requires.kept.card.tree.entries.master in
-    used_still c.args.store.now c.read_entry.new.store 0 c.read_entry.ensures.store.only
-    (λ (unused : (entry_in (table (committed c.args.store.now)) 0).kind ≡ 0).
-    let z : ⊥ = omega (arith, unused, master.kind) in z)
-
-pub allows-requires-clause-entry : goal.allows-requires-clause-entry
-allows-requires-clause-entry g c =
-    entry_still c.args.store.now c.read_entry.new.store 0 c.in_ok-entry.entry c.read_entry.ensures.store.only
-    c.in_ok-entry.ensures.entry
+pub allows-requires : goal.allows-requires
+allows-requires g c = record {
+  file = record {
+    kept = kept_still _ _ _ c.read_entry.ensures.store.only c.in_ok-entry.ensures.store.ready c.requires.kept;
+    used = let master = c.requires.kept.card.tree.entries.master in
+        used_still c.args.store.now c.read_entry.new.store 0 c.read_entry.ensures.store.only
+        (λ (unused : (entry_in (table (committed c.args.store.now)) 0).kind ≡ 0).
+        let z : ⊥ = omega (arith, unused, master.kind) in z);
+    entry = entry_still c.args.store.now c.read_entry.new.store 0 c.in_ok-entry.entry c.read_entry.ensures.store.only
+        c.in_ok-entry.ensures.entry;
+  };
+}

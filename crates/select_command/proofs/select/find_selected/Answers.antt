@@ -73,7 +73,7 @@ returns-in-PathFromMaster-clause-found g c = record {
       let df = path_of (table_in c.args.store.now) c.args.current.df in
       let path = c.deref.result.now in
       let is = c.deref.ensures.0 ∙ c.identifiers_of.ensures in
-      let reaches = c.find_path_from_master.ensures.found m c.requires.kept.card.tree c.requires.index df in
+      let reaches = c.find_path_from_master.ensures.found m c.requires.card.kept.card.tree c.requires.card.index df in
       ap (λ (selector : Selector). selected_from (card_of m).tree df (selection_of selector)) c.in-PathFromMaster.is
       ∙ ap (λ (ids : List ℕ). selected_from (card_of m).tree df (whole_path ids)) (sym is)
       ∙ ap (λ (tree : Tree). selected tree df (path_from_master path)) (card-tree m) ∙ sym reaches;
@@ -82,7 +82,8 @@ returns-in-PathFromMaster-clause-found g c = record {
 
 pub returns-in-PathFromMaster-clause-used : goal.returns-in-PathFromMaster-clause-used
 returns-in-PathFromMaster-clause-used g c =
-    c.find_path_from_master.ensures.used (committed c.args.store.now) c.requires.kept.card.tree c.requires.index
+    c.find_path_from_master.ensures.used (committed c.args.store.now) c.requires.card.kept.card.tree
+    c.requires.card.index
 
 pub returns-in-PathFromCurrent-clause-found : goal.returns-in-PathFromCurrent-clause-found
 returns-in-PathFromCurrent-clause-found g c = record {
@@ -91,9 +92,9 @@ returns-in-PathFromCurrent-clause-found g c = record {
       let df = path_of t c.args.current.df in
       let path = c.deref-in-PathFromCurrent.result.now in
       let is = c.deref-in-PathFromCurrent.ensures.0 ∙ c.identifiers_of-in-PathFromCurrent.ensures in
-      let reaches = c.find_path.ensures.found m c.requires.kept.card.tree (df_used t c.args.current
-      c.requires.kept.current)
-      c.requires.index in
+      let reaches = c.find_path.ensures.found m c.requires.card.kept.card.tree (df_used t c.args.current
+      c.requires.card.kept.current)
+      c.requires.card.index in
       ap (λ (selector : Selector). selected_from (card_of m).tree df (selection_of selector)) c.in-PathFromCurrent.is
       ∙ ap (λ (ids : List ℕ). selected_from (card_of m).tree df (path_below ids)) (sym is)
       ∙ ap (λ (tree : Tree). selected tree df (path_from_current path)) (card-tree m) ∙ sym reaches;
@@ -102,11 +103,11 @@ returns-in-PathFromCurrent-clause-found g c = record {
 
 pub returns-in-PathFromCurrent-clause-used : goal.returns-in-PathFromCurrent-clause-used
 returns-in-PathFromCurrent-clause-used g c =
-    c.find_path.ensures.used (committed c.args.store.now) c.requires.kept.card.tree
-    (df_used (table_in c.args.store.now) c.args.current c.requires.kept.current) c.requires.index
+    c.find_path.ensures.used (committed c.args.store.now) c.requires.card.kept.card.tree
+    (df_used (table_in c.args.store.now) c.args.current c.requires.card.kept.current) c.requires.card.index
 
 pub select-requires-clause-df : goal.select-requires-clause-df
-select-requires-clause-df g c = df_kept _ _ c.requires.kept
+select-requires-clause-df g c = df_kept _ _ c.requires.card.kept
 
 pub find_parent-requires : goal.find_parent-requires
-find_parent-requires g c = record { df = df_kept _ _ c.requires.kept }
+find_parent-requires g c = record { df = df_kept _ _ c.requires.card.kept }

@@ -36,9 +36,9 @@ returns-in_default g c =
     let s = session_of t x in
     let request = select (selection_of c.args.selector) c.args.returned c.args.expected in
     subst (λ (l : List ℕ). Executes request old x c.find_selected.new.store x l (Ok FILE_NOT_FOUND))
-    (sym c.requires.empty) (declined request old x c.find_selected.new.store (λ _. tt) c.requires.kept.card
+    (sym c.requires.empty) (declined request old x c.find_selected.new.store (λ _. tt) c.requires.card.kept.card
     FILE_NOT_FOUND c.find_selected.ensures.found.store.only
-    c.in_ok-e.ensures.found.store.ready c.requires.kept.current
+    c.in_ok-e.ensures.found.store.ready c.requires.card.kept.current
     (select-missed (card_of m) s (selection_of c.args.selector) c.args.returned c.args.expected
     (c.in_ok-e.ensures.found.told ∙ ap (λ (o : Option ℕ). option_map (path_of t) o) c.in_default.is)))
 
@@ -60,20 +60,21 @@ give_data-requires-clause-told g c =
     let same = c.read_entry_head.ensures.store.only.keeps.committed_words
     ∙ c.find_selected.ensures.found.store.only.keeps.committed_words in
     subst (λ (l : List ℕ). IsToldEntry (entry_in (table l) e)) (sym same)
-    (told-entry m c.requires.kept.ready.usable.committed_size c.requires.kept.card e used)
+    (told-entry m c.requires.card.kept.ready.usable.committed_size c.requires.card.kept.card e used)
 
 pub returns-in_err-e : goal.returns-in_err-e
 returns-in_err-e g c =
     let none : length c.args.answer.now.items ≡ 0 = ap (λ (l : List ℕ). length l) c.requires.empty in
     handed (select (selection_of c.args.selector) c.args.returned c.args.expected) c.args.store.now c.args.current.now
-    c.find_selected.new.store c.requires.kept.card c.args.current.now c.args.answer.now.items _ c.in_err-e.field-0.0
+    c.find_selected.new.store c.requires.card.kept.card c.args.current.now c.args.answer.now.items _
+    c.in_err-e.field-0.0
     (reply-failed _ _ c.from_residual.ensures.1) c.in_err-e.ensures.found.store (omega (arith, none))
 
 pub returns-in_err-head : goal.returns-in_err-head
 returns-in_err-head g c =
     let none : length c.args.answer.now.items ≡ 0 = ap (λ (l : List ℕ). length l) c.requires.empty in
     handed (select (selection_of c.args.selector) c.args.returned c.args.expected) c.args.store.now c.args.current.now
-    c.read_entry_head.new.store c.requires.kept.card c.args.current.now
+    c.read_entry_head.new.store c.requires.card.kept.card c.args.current.now
     c.args.answer.now.items _ c.in_err-head.field-0.0 (reply-failed _ _ c.from_residual-in_err-head.ensures.1)
     (reads_on _ _ _ _ c.find_selected.ensures.found.store.only c.in_err-head.ensures.store) (omega (arith, none))
 
@@ -95,13 +96,13 @@ returns-in_err-give_data g c =
     let used = subst (λ (o : Option ℕ). IfSome o (IsUsed t)) c.in-Some.is c.in_ok-e.ensures.used in
     let place = c.in_ok-e.ensures.found.told ∙ ap (λ (o : Option ℕ). option_map (path_of t) o) c.in-Some.is in
     let text = c.give_data.new.answer.items in
-    halted request old x c.give_data.new.store (λ _. tt) c.requires.kept.card c.requires.kept.current text
+    halted request old x c.give_data.new.store (λ _. tt) c.requires.card.kept.card c.requires.card.kept.current text
     c.in_err-give_data.ensures.nothing _ _ c.from_residual-in_err-give_data.ensures.1
     (reads_on _ _ _ _ reads c.in_err-give_data.ensures.data.store) _
     (λ status refused.
     let given = subst (λ (l : List ℕ). IsGiven expected (data_in returned (entry_in (table l) e)) text
     (Some status)) same refused in
-    select-entry-less m c.requires.kept.card e used c.requires.kept.ready.usable.committed_size x
+    select-entry-less m c.requires.card.kept.card e used c.requires.card.kept.ready.usable.committed_size x
     (selection_of c.args.selector) returned expected place given.0
     ∙ ap (λ (sw : Sw). outcome (card_of m) (session_of t x) [] sw) (sym given.2)) c.in_err-give_data.ensures.data.told
 
@@ -131,10 +132,12 @@ returns g c =
     let current = sym (c.at_head.ensures ∙ ap (λ (h : EntryHead). current_by x e h.kind h.parent) head) in
     let status = sym (c.status_of.ensures ∙ ap selection_status c.life_cycle.ensures
     ∙ ap (λ (h : EntryHead). selection_status (state_told h.life)) head) in
-    answered request old x c.give_data.new.store (λ _. tt) c.requires.kept.card c.at_head.result text c.status_of.result
+    answered request old x c.give_data.new.store (λ _. tt) c.requires.card.kept.card c.at_head.result text
+    c.status_of.result
     reads c.in_ok-give_data.ensures.data.store.ready
     (subst (λ (y : Current). IsCurrent t y)
-    current (current-entry m c.requires.kept.card e used x c.requires.kept.current.marks)) given.2 (select-entry m
-    c.requires.kept.card e used c.requires.kept.ready.usable.committed_size x (selection_of c.args.selector)
+    current (current-entry m c.requires.card.kept.card e used x c.requires.card.kept.current.marks)) given.2
+    (select-entry m
+    c.requires.card.kept.card e used c.requires.card.kept.ready.usable.committed_size x (selection_of c.args.selector)
     returned expected place given.0
     ∙ (λ i. outcome (card_of m) (session_of t (current i)) (sym given.1 i) (status i)))
