@@ -6,9 +6,8 @@ ghost use Rattle.undo_journal.specs.StoreCalls.{Learns};
 ghost use Rattle.undo_journal.specs.Memory.{committed, IsReady};
 ghost use Rattle.card_model.specs.Requests.{change_reference_data as changing, reset_retry_counter as resetting};
 ghost use Rattle.card_model.specs.Requests.{verify as verifying, change_requirement as requiring};
-ghost use Rattle.pin_store.specs.Pages.{ArePinPages};
 ghost use Rattle.card_state.specs.Secrets.{Pin, tries_left};
-ghost use Rattle.pin_store.specs.Trials.{pin_in, Charges, TakesTry};
+ghost use Rattle.pin_store.specs.Trials.{pin_in, Charges, HasPins, TakesTry};
 ghost use Rattle.card_model.specs.Behaviours.{first_applying};
 ghost use Rattle.card_model.specs.PinCommands.{is_enabled_by, tries_status, unusable_by};
 ghost use Rattle.command_base.specs.Served.{Executes};
@@ -148,8 +147,7 @@ fn is_enabled_by(change: RequirementChange) -> bool
 
 /// Returns the status word with the remaining tries of a secret.
 fn query_tries<B: Board>(store: &mut Store<B>, secret: Secret) -> Result<Sw, StoreErr>
-    requires ready { IsReady store.old }
-    requires pages { ArePinPages (committed store.old) }
+    requires pins { HasPins store.old }
     ensures { Learns store.old store.new result
         (λ status. status ≡ tries_status (tries_left secret (pin_in store.old secret))) }
 {
@@ -164,8 +162,7 @@ fn use_up_try<B: Board>(
     secret: Secret,
     usable: Usable,
 ) -> Result<Charged, Stop>
-    requires ready { IsReady store.old }
-    requires pages { ArePinPages (committed store.old) }
+    requires pins { HasPins store.old }
     ensures done { FindsOrRefuses result
         (λ charged. (charged ≡ secret) × Charges secret store.old store.new
         × (refused_use usable secret (pin_in store.old secret) ≡ None))
@@ -180,8 +177,7 @@ fn use_up_try<B: Board>(
 /// Refuses the presentation of a secret before a try is used up.
 /// The refusals in order: no tries left; the PIN is disabled, or enabled.
 fn check_use<B: Board>(store: &mut Store<B>, secret: Secret, usable: Usable) -> Result<(), Stop>
-    requires ready { IsReady store.old }
-    requires pages { ArePinPages (committed store.old) }
+    requires pins { HasPins store.old }
     ensures { Checks store.old store.new (refused_use usable secret (pin_in store.old secret)) result }
 {
     if tries(store, secret)? == 0 {

@@ -8,7 +8,7 @@ use Rattle.nvm_board.specs.Facts.{Facts, RisesAt, raised}
 use Rattle.undo_journal.specs.declared.error.StoreErr.{StoreErr}
 use Rattle.undo_journal.specs.StoreCalls.{Changes, Leaves, OnlyReads}
 use Rattle.undo_journal.specs.Commits.{StaysShut}
-use Rattle.undo_journal.specs.Memory.{Memory, committed}
+use Rattle.undo_journal.specs.Memory.{Memory, committed, IsReady}
 use Rattle.pin_store.specs.declared.errors.PinErr.{PinErr}
 use Rattle.pin_store.specs.declared.errors.PinErr.TheVariants as pin_err
 use Rattle.pin_store.specs.declared.errors.Outcome.{Outcome}
@@ -20,6 +20,11 @@ use Rattle.card_state.specs.declared.pins.TheConstants.{PINS}
 -- The PIN of a secret in the committed words.
 abbrev pub pin_in : Memory → ℕ → Pin
 pin_in m secret = pin_at (committed m) (owner secret)
+
+-- The store is ready, and its words have valid PINs.
+pub record HasPins (m : Memory) : Type 0 where
+  pub ready : IsReady m
+  pub pages : ArePinPages (committed m)
 
 -- The store's failure in the result of a charge.
 abbrev pub store_failure : {T : Type 0} → Result T PinErr → Option StoreErr

@@ -6,8 +6,7 @@ ghost use Rattle.undo_journal.specs.StoreCalls.{Reads};
 ghost use Rattle.undo_journal.specs.Memory.{committed, IsReady};
 ghost use Rattle.pin_store.specs.declared.errors.PinErr.TheVariants.{Blocked};
 ghost use Rattle.card_state.specs.Secrets.{tries_left};
-ghost use Rattle.pin_store.specs.Pages.{ArePinPages};
-ghost use Rattle.pin_store.specs.Trials.{pin_in, store_failure, Charges, TakesTry};
+ghost use Rattle.pin_store.specs.Trials.{pin_in, store_failure, Charges, HasPins, TakesTry};
 
 use crate::errors::PinErr;
 use crate::layout::PIN_MARK_WORD;
@@ -45,8 +44,7 @@ impl Charged {
 /// # Errors
 /// The store's failure: power was lost, or the device failed.
 pub fn tries<B: Board>(store: &mut Store<B>, secret: Secret) -> Result<u8, StoreErr>
-    requires ready { IsReady store.old }
-    requires pages { ArePinPages (committed store.old) }
+    requires pins { HasPins store.old }
     ensures left { IfOk result (λ left. left ≡ tries_left secret (pin_in store.old secret)) }
     ensures store { Reads store.old store.new (result_err result) }
 {
@@ -74,8 +72,7 @@ pub fn is_enabled<B: Board>(store: &mut Store<B>, secret: Secret) -> Result<bool
 /// `Blocked` if no try is left (`blocked`, `done`). In that state it writes nothing, at any exit (`kept` of `takes`).
 /// The store's failure: power was lost, or the device failed. The try may be used up then, and there is no receipt.
 pub fn charge<B: Board>(store: &mut Store<B>, secret: Secret) -> Result<Charged, PinErr>
-    requires ready { IsReady store.old }
-    requires pages { ArePinPages (committed store.old) }
+    requires pins { HasPins store.old }
     ensures done { IfOk result (λ charged. (charged ≡ secret) × Charges secret store.old store.new) }
     ensures blocked { IsErrOf result Blocked → (tries_left secret (pin_in store.old secret) ≡ 0) × IsReady store.new }
     ensures takes { TakesTry secret (tries_left secret (pin_in store.old secret) ≡ 0) store.old store.new result

@@ -7,8 +7,7 @@ ghost use Rattle.undo_journal.specs.Memory.{committed, IsReady};
 ghost use Rattle.card_state.specs.declared.pins.TheConstants.{PINS};
 ghost use Rattle.card_state.specs.Secrets.{changed_pin, kept, marked_pin, reset_pin, verified_pin};
 ghost use Rattle.pin_store.specs.RenewalParts.{renewing_writes, renewed_pin};
-ghost use Rattle.pin_store.specs.Pages.{ArePinPages};
-ghost use Rattle.pin_store.specs.Trials.{pin_in, Compared, ComparesOnce, EndsTrial};
+ghost use Rattle.pin_store.specs.Trials.{pin_in, Compared, ComparesOnce, EndsTrial, HasPins};
 
 use crate::charging::{Charged, tries};
 use crate::errors::Outcome;
@@ -27,9 +26,8 @@ pub fn settle<B: Board>(
     charged: Charged,
     shown: &[u8; 8],
 ) -> Result<Outcome, StoreErr>
-    requires ready { IsReady store.old }
+    requires pins { HasPins store.old }
     requires secret { charged < PINS }
-    requires pages { ArePinPages (committed store.old) }
     ensures { EndsTrial StaysShut 1 charged shown.now verified_pin store.old store.new result }
 {
     let secret = charged.secret;
@@ -51,9 +49,8 @@ pub fn change<B: Board>(
     shown: &[u8; 8],
     new: &[u8; 8],
 ) -> Result<Outcome, StoreErr>
-    requires ready { IsReady store.old }
+    requires pins { HasPins store.old }
     requires secret { charged < PINS }
-    requires pages { ArePinPages (committed store.old) }
     ensures { EndsTrial CommitsByGate 5 charged shown.now (changed_pin new.now) store.old store.new result }
 {
     renew(store, charged, shown, Renewal::Value(new))
@@ -71,9 +68,8 @@ pub fn reset_counter<B: Board>(
     shown: &[u8; 8],
     new: &[u8; 8],
 ) -> Result<Outcome, StoreErr>
-    requires ready { IsReady store.old }
+    requires pins { HasPins store.old }
     requires secret { PINS ≤ charged }
-    requires pages { ArePinPages (committed store.old) }
     ensures { EndsTrial CommitsByGate 4 charged shown.now (reset_pin new.now) store.old store.new result }
 {
     renew(store, charged, shown, Renewal::ValueAndTries(new))
@@ -90,9 +86,8 @@ pub fn set_enabled<B: Board>(
     shown: &[u8; 8],
     enabled: bool,
 ) -> Result<Outcome, StoreErr>
-    requires ready { IsReady store.old }
+    requires pins { HasPins store.old }
     requires secret { charged < PINS }
-    requires pages { ArePinPages (committed store.old) }
     ensures { EndsTrial CommitsByGate 5 charged shown.now (marked_pin enabled) store.old store.new result }
 {
     renew(store, charged, shown, Renewal::Mark(enabled))
@@ -106,8 +101,7 @@ fn renew<B: Board>(
     shown: &[u8; 8],
     renewal: Renewal<'_>,
 ) -> Result<Outcome, StoreErr>
-    requires ready { IsReady store.old }
-    requires pages { ArePinPages (committed store.old) }
+    requires pins { HasPins store.old }
     ensures { EndsTrial CommitsByGate (renewing_writes renewal.entry) charged shown.now (renewed_pin renewal.entry)
         store.old store.new result }
 {
@@ -125,8 +119,7 @@ fn compare<B: Board>(
     charged: Charged,
     shown: &[u8; 8],
 ) -> Result<Outcome, StoreErr>
-    requires ready { IsReady store.old }
-    requires pages { ArePinPages (committed store.old) }
+    requires pins { HasPins store.old }
     ensures done { IfOk result (Compared charged shown.now store.old store.new) }
     ensures kept { committed store.new ≡ committed store.old }
     ensures store { Leaves store.old store.new (result_err result) }

@@ -53,8 +53,16 @@ returns g c =
     c.end_attempt.new.current c.end_attempt.ensures.session
     c.end_attempt.result c.end_attempt.ensures.status
 
-pub use_up_try-requires-clause-pages : goal.use_up_try-requires-clause-pages
-use_up_try-requires-clause-pages g c = c.requires.kept.card.pins
+pub use_up_try-requires : goal.use_up_try-requires
+use_up_try-requires g c = record {
+  pins = record {
+    ready = c.requires.kept.ready;
+    pages = c.requires.kept.card.pins;
+  };
+}
 
-pub change-requires-clause-pages : goal.change-requires-clause-pages
-change-requires-clause-pages g c = c.use_up_try.ensures.takes.pages
+pub change-requires-clause-pins : goal.change-requires-clause-pins
+change-requires-clause-pins g c = record {
+  ready = c.in_ok-charged.ensures.takes.store.ready;
+  pages = c.use_up_try.ensures.takes.pages;
+}

@@ -28,9 +28,6 @@ returns-in_err-query_tries g c =
     c.from_residual.ensures.1)
     c.in_err-query_tries.ensures.store (omega arith)
 
-pub query_tries-requires-clause-pages : goal.query_tries-requires-clause-pages
-query_tries-requires-clause-pages g c = c.requires.kept.card.pins
-
 pub returns-in_err-charged : goal.returns-in_err-charged
 returns-in_err-charged g c =
     let some = ap (option_map (λ (values : Replacement). (values.shown.now, values.new.now))) c.in-Some.is in
@@ -90,8 +87,24 @@ returns g c =
     c.end_attempt.new.current c.end_attempt.ensures.session
     c.end_attempt.result c.end_attempt.ensures.status)
 
-pub use_up_try-requires-clause-pages : goal.use_up_try-requires-clause-pages
-use_up_try-requires-clause-pages g c = c.requires.kept.card.pins
+pub query_tries-requires : goal.query_tries-requires
+query_tries-requires g c = record {
+  pins = record {
+    ready = c.requires.kept.ready;
+    pages = c.requires.kept.card.pins;
+  };
+}
 
-pub reset_counter-requires-clause-pages : goal.reset_counter-requires-clause-pages
-reset_counter-requires-clause-pages g c = c.use_up_try.ensures.takes.pages
+pub use_up_try-requires : goal.use_up_try-requires
+use_up_try-requires g c = record {
+  pins = record {
+    ready = c.requires.kept.ready;
+    pages = c.requires.kept.card.pins;
+  };
+}
+
+pub reset_counter-requires-clause-pins : goal.reset_counter-requires-clause-pins
+reset_counter-requires-clause-pins g c = record {
+  ready = c.in_ok-charged.ensures.takes.store.ready;
+  pages = c.use_up_try.ensures.takes.pages;
+}

@@ -26,9 +26,6 @@ returns-in_err-query_tries g c =
     c.args.current.now [] _ _ (reply-failed _ _ c.from_residual.ensures.1)
     c.in_err-query_tries.ensures.store (omega arith)
 
-pub query_tries-requires-clause-pages : goal.query_tries-requires-clause-pages
-query_tries-requires-clause-pages g c = c.requires.kept.card.pins
-
 pub returns-in_err-charged : goal.returns-in_err-charged
 returns-in_err-charged g c =
     let some = ap (option_map (λ (value : Bor (List ℕ)). value.now)) c.in-Some.is in
@@ -85,8 +82,24 @@ returns g c =
     c.end_attempt.new.current c.end_attempt.ensures.session
     c.end_attempt.result c.end_attempt.ensures.status)
 
-pub use_up_try-requires-clause-pages : goal.use_up_try-requires-clause-pages
-use_up_try-requires-clause-pages g c = c.requires.kept.card.pins
+pub query_tries-requires : goal.query_tries-requires
+query_tries-requires g c = record {
+  pins = record {
+    ready = c.requires.kept.ready;
+    pages = c.requires.kept.card.pins;
+  };
+}
 
-pub settle-requires-clause-pages : goal.settle-requires-clause-pages
-settle-requires-clause-pages g c = c.use_up_try.ensures.takes.pages
+pub use_up_try-requires : goal.use_up_try-requires
+use_up_try-requires g c = record {
+  pins = record {
+    ready = c.requires.kept.ready;
+    pages = c.requires.kept.card.pins;
+  };
+}
+
+pub settle-requires-clause-pins : goal.settle-requires-clause-pins
+settle-requires-clause-pins g c = record {
+  ready = c.in_ok-charged.ensures.takes.store.ready;
+  pages = c.use_up_try.ensures.takes.pages;
+}

@@ -7,10 +7,10 @@ pub returns-in_err-left-clause-takes : goal.returns-in_err-left-clause-takes
 returns-in_err-left-clause-takes g c = record {
   any_exit = inl c.tries.ensures.store.only.keeps.committed_words;
   kept = λ _. c.tries.ensures.store.only;
-  pages = pages_stay _ _ c.tries.ensures.store.only.keeps.committed_words c.requires.pages;
+  pages = pages_stay _ _ c.tries.ensures.store.only.keeps.committed_words c.requires.pins.pages;
   shut = search rules;
   store = charge_handed 1 _ _ _ _ c.from_residual.ensures.1
-      (reads_change 1 _ _ _ c.requires.ready.idle c.in_err-left.ensures.store);
+      (reads_change 1 _ _ _ c.requires.pins.ready.idle c.in_err-left.ensures.store);
   counted = search rules;
 }
 
@@ -18,9 +18,9 @@ pub returns-then-left-eq0-clause-takes : goal.returns-then-left-eq0-clause-takes
 returns-then-left-eq0-clause-takes g c = record {
   any_exit = inl c.tries.ensures.store.only.keeps.committed_words;
   kept = λ _. c.tries.ensures.store.only;
-  pages = pages_stay _ _ c.tries.ensures.store.only.keeps.committed_words c.requires.pages;
+  pages = pages_stay _ _ c.tries.ensures.store.only.keeps.committed_words c.requires.pins.pages;
   shut = search rules;
-  store = reads_change 1 _ _ _ c.requires.ready.idle c.in_ok-left.ensures.store;
+  store = reads_change 1 _ _ _ c.requires.pins.ready.idle c.in_ok-left.ensures.store;
   counted = search rules;
 }
 
@@ -34,7 +34,8 @@ returns-in_err-put_left-clause-takes g c = record {
       charges_or_not c.args.secret c.in_ok-left.left _ _ _ c.tries.ensures.store.only c.in_ok-left.ensures.left some
       c.put_left.ensures.any_exit;
   kept = λ none. absurd (c.if-left-eq0.false (c.in_ok-left.ensures.left ∙ none));
-  pages = c.put_left.ensures.pages (pages_stay _ _ c.tries.ensures.store.only.keeps.committed_words c.requires.pages);
+  pages = c.put_left.ensures.pages (pages_stay _ _ c.tries.ensures.store.only.keeps.committed_words
+      c.requires.pins.pages);
   shut = search rules;
   store = charge_handed 1 _ _ _ _ c.from_residual-in_err-put_left.ensures.1
       (changes_after 1 _ _ _ _ c.tries.ensures.store.only c.in_err-put_left.ensures.store);
@@ -47,7 +48,8 @@ returns-clause-takes g c = record {
       charges_or_not c.args.secret c.in_ok-left.left _ _ _ c.tries.ensures.store.only c.in_ok-left.ensures.left some
       c.put_left.ensures.any_exit;
   kept = λ none. absurd (c.if-left-eq0.false (c.in_ok-left.ensures.left ∙ none));
-  pages = c.put_left.ensures.pages (pages_stay _ _ c.tries.ensures.store.only.keeps.committed_words c.requires.pages);
+  pages = c.put_left.ensures.pages (pages_stay _ _ c.tries.ensures.store.only.keeps.committed_words
+      c.requires.pins.pages);
   shut = search rules;
   store = changes_after 1 _ _ _ _ c.tries.ensures.store.only c.in_ok-put_left.ensures.store;
   counted = search rules;

@@ -13,5 +13,6 @@ returns-clause-left g c =
     let secret = c.args.secret in
     c.in_ok-word.ensures.word ∙ ap (slice_index m) c.address_of.ensures
     ∙ ap (λ (place : ℕ). slice_index m (address (pin_page (owner secret)) place)) c.tries_place.ensures
-    ∙ ap (λ (l : List ℕ). pin_word l (owner secret) (if is_unblocking secret then 1 else 0)) (sym c.requires.ready.same)
+    ∙ ap (λ (l : List ℕ). pin_word l (owner secret) (if is_unblocking secret then 1 else 0)) (sym
+    c.requires.pins.ready.same)
     ∙ tries_at (committed c.args.store.now) secret

@@ -15,7 +15,7 @@ returns-in_err-left-clause-kept g c = c.tries.ensures.store.only.keeps.committed
 
 pub returns-in_err-left-clause-store : goal.returns-in_err-left-clause-store
 returns-in_err-left-clause-store g c =
-    reads_leave _ _ _ c.requires.ready.idle
+    reads_leave _ _ _ c.requires.pins.ready.idle
     (reads_handed _ _ _ _ c.from_residual.ensures.1 c.in_err-left.ensures.store)
 
 pub returns-in_err-left-clause-spends : goal.returns-in_err-left-clause-spends
@@ -27,7 +27,7 @@ returns-in_err-kept-clause-kept g c =
 
 pub returns-in_err-kept-clause-store : goal.returns-in_err-kept-clause-store
 returns-in_err-kept-clause-store g c =
-    reads_leave _ _ _ c.requires.ready.idle (reads_handed _ _ _ _ c.from_residual-in_err-kept.ensures.1
+    reads_leave _ _ _ c.requires.pins.ready.idle (reads_handed _ _ _ _ c.from_residual-in_err-kept.ensures.1
     (reads_on _ _ _ _ c.tries.ensures.store.only c.in_err-kept.ensures.store))
 
 pub returns-in_err-kept-clause-spends : goal.returns-in_err-kept-clause-spends
@@ -41,7 +41,7 @@ returns-in_err-right-clause-kept g c =
 
 pub returns-in_err-right-clause-store : goal.returns-in_err-right-clause-store
 returns-in_err-right-clause-store g c =
-    leaves_handed _ _ _ _ c.from_residual-in_err-right.ensures.1 (compare_ends _ _ _ _ c.requires.ready.idle
+    leaves_handed _ _ _ _ c.from_residual-in_err-right.ensures.1 (compare_ends _ _ _ _ c.requires.pins.ready.idle
     (reads_then _ _ _ c.tries.ensures.store.only c.kept.ensures.store.only) c.compare.ensures.keeps
     c.compare.ensures.reports tt c.in_err-right.ensures.tells)
 
@@ -59,10 +59,11 @@ returns-clause-kept g c =
 
 pub returns-clause-store : goal.returns-clause-store
 returns-clause-store g c =
-    compare_ends _ _ _ _ c.requires.ready.idle (reads_then _ _ _ c.tries.ensures.store.only c.kept.ensures.store.only)
+    compare_ends _ _ _ _ c.requires.pins.ready.idle (reads_then _ _ _ c.tries.ensures.store.only
+    c.kept.ensures.store.only)
     c.compare.ensures.keeps c.compare.ensures.reports
     (c.in_ok-right.ensures.ready (c.kept.ensures.store.only.keeps.taken ∙ c.tries.ensures.store.only.keeps.taken
-    ∙ c.requires.ready.idle)) c.in_ok-right.ensures.tells
+    ∙ c.requires.pins.ready.idle)) c.in_ok-right.ensures.tells
 
 pub returns-clause-spends : goal.returns-clause-spends
 returns-clause-spends g c =

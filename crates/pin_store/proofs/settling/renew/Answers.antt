@@ -12,7 +12,7 @@ returns-in_err-outcome g c = record {
   any_exit = inl c.compare.ensures.kept;
   done = search rules;
   by_gate = search rules;
-  pages = pages_stay _ _ c.compare.ensures.kept c.requires.pages;
+  pages = pages_stay _ _ c.compare.ensures.kept c.requires.pins.pages;
   store = search rules;
   spends = compares_more (renewing_writes c.args.renewal) _ _ _ c.compare.ensures.spends;
   counted = search rules;
@@ -30,7 +30,7 @@ returns-in_err-put_renewed g c = record {
   done = search rules;
   by_gate = by_gate_after c.args.store.now c.compare.new.store c.put_renewed.new.store c.compare.ensures.kept
       c.put_renewed.ensures.by_gate;
-  pages = c.put_renewed.ensures.pages (pages_stay _ _ c.compare.ensures.kept c.requires.pages);
+  pages = c.put_renewed.ensures.pages (pages_stay _ _ c.compare.ensures.kept c.requires.pins.pages);
   store = leaves_handed _ _ _ _ c.from_residual-in_err-put_renewed.ensures.1
       (leaves_on _ _ _ _ c.compare.ensures.store.reports (changes_leave _ _ _ _ c.in_err-put_renewed.ensures.store));
   spends = compares_then (renewing_writes c.args.renewal) _ _ _ _ c.compare.ensures.spends
@@ -57,7 +57,7 @@ returns-in_ok-put_renewed g c = record {
       c.put_renewed.ensures.store.writes
       c.in_ok-put_renewed.ensures.done);
   by_gate = search rules;
-  pages = c.put_renewed.ensures.pages (pages_stay _ _ c.compare.ensures.kept c.requires.pages);
+  pages = c.put_renewed.ensures.pages (pages_stay _ _ c.compare.ensures.kept c.requires.pins.pages);
   store = leaves_on _ _ _ _ c.compare.ensures.store.reports (changes_leave _ _ _ _ c.in_ok-put_renewed.ensures.store);
   spends = compares_then (renewing_writes c.args.renewal) _ _ _ _ c.compare.ensures.spends
       c.put_renewed.ensures.store.writes;
@@ -69,7 +69,7 @@ returns-in_default g c = record {
   any_exit = inl c.compare.ensures.kept;
   done = search rules;
   by_gate = search rules;
-  pages = pages_stay _ _ c.compare.ensures.kept c.requires.pages;
+  pages = pages_stay _ _ c.compare.ensures.kept c.requires.pins.pages;
   store = search rules;
   spends = compares_more (renewing_writes c.args.renewal) _ _ _ c.compare.ensures.spends;
   counted = search rules;

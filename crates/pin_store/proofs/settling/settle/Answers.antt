@@ -11,7 +11,7 @@ returns-in_err-outcome g c = record {
   any_exit = inl c.compare.ensures.kept;
   done = search rules;
   by_gate = search rules;
-  pages = pages_stay _ _ c.compare.ensures.kept c.requires.pages;
+  pages = pages_stay _ _ c.compare.ensures.kept c.requires.pins.pages;
   store = search rules;
   spends = compares_more 1 _ _ _ c.compare.ensures.spends;
   counted = search rules;
@@ -26,7 +26,7 @@ returns-in_err-put_tries g c = record {
       c.put_tries.ensures.any_exit;
   done = search rules;
   by_gate = search rules;
-  pages = c.put_tries.ensures.pages (pages_stay _ _ c.compare.ensures.kept c.requires.pages);
+  pages = c.put_tries.ensures.pages (pages_stay _ _ c.compare.ensures.kept c.requires.pins.pages);
   store = leaves_handed _ _ _ _ c.from_residual-in_err-put_tries.ensures.1
       (leaves_on _ _ _ _ c.compare.ensures.store.reports (changes_leave _ _ _ _ c.in_err-put_tries.ensures.store));
   spends = compares_then 1 _ _ _ _ c.compare.ensures.spends c.put_tries.ensures.store.writes;
@@ -49,7 +49,7 @@ returns-in_ok-put_tries g c = record {
       c.put_tries.ensures.store.writes
       c.in_ok-put_tries.ensures.done);
   by_gate = search rules;
-  pages = c.put_tries.ensures.pages (pages_stay _ _ c.compare.ensures.kept c.requires.pages);
+  pages = c.put_tries.ensures.pages (pages_stay _ _ c.compare.ensures.kept c.requires.pins.pages);
   store = leaves_on _ _ _ _ c.compare.ensures.store.reports (changes_leave _ _ _ _ c.in_ok-put_tries.ensures.store);
   spends = compares_then 1 _ _ _ _ c.compare.ensures.spends c.put_tries.ensures.store.writes;
   counted = search rules;
@@ -60,7 +60,7 @@ returns-in_default g c = record {
   any_exit = inl c.compare.ensures.kept;
   done = search rules;
   by_gate = search rules;
-  pages = pages_stay _ _ c.compare.ensures.kept c.requires.pages;
+  pages = pages_stay _ _ c.compare.ensures.kept c.requires.pins.pages;
   store = search rules;
   spends = compares_more 1 _ _ _ c.compare.ensures.spends;
   counted = search rules;
