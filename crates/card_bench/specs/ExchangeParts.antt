@@ -10,8 +10,15 @@ use Rattle.card_bench.specs.declared.exchange.Ending.{Ending}
 use Rattle.card_bench.specs.declared.exchange.Ending.TheVariants.{Answered, SetBack, Lost, Dark}
 use Rattle.card_bench.specs.declared.exchange.Blocks.{Blocks}
 use Rattle.card_bench.specs.declared.exchange.Ends.{Ends as BenchEnds}
+use Rattle.bench_turns.specs.BenchStates.{BenchState, IsOn}
+use Rattle.bench_turns.specs.Plays.{IsGood}
 use Rattle.card_bench.specs.Exchanges.{Ended, Ends, NextBlock, answered, link_lost, power_lost, set_back}
 use Rattle.card_bench.specs.Exchanges.{toward_card, toward_reader}
+
+-- A good bench with power.
+pub record HasPower (bench : BenchState) : Type 0 where
+  pub good : IsGood bench
+  pub power : IsOn bench
 
 -- both ends and the line
 abbrev pub ends_of : {B : Type 0} → BenchEnds B → Ends

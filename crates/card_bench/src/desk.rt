@@ -1,9 +1,10 @@
 //! The desk of a script: a bench, the reader's end of the link, and the line between the ends.
-ghost use Rattle.std.specs.Prelude.{◌≡◌, ◌≢◌, ◌≤◌, ◌⊎◌, ℕ, None, Err, length, take, true, false};
+ghost use Rattle.std.specs.Prelude.{◌≡◌, ◌≢◌, ◌⊎◌, ℕ, None, Err, take, true, false};
 ghost use Rattle.std.specs.Prelude.{IfErr, OnErr, OnOk};
 ghost use Rattle.std.specs.Io.KnownBytes.{Appends};
 ghost use Rattle.bench_lines.specs.declared.order.TheConstants.{COMMAND_LIMIT};
 ghost use Rattle.bench_turns.specs.BenchStates.{bench_facts, off};
+ghost use Rattle.card_model.specs.Requests.{HasBetween};
 ghost use Rattle.card_bench.specs.DeskStates.{print_of};
 ghost use Rattle.bench_lines.specs.OrderViews.{order_with};
 ghost use Rattle.bench_lines.specs.Orders.{IsOrderSized};
@@ -211,8 +212,7 @@ impl<B: Armed + Faultless> Desk<B> {
     /// Sends a command through both ends of the link.
     /// Power must be on, and the ends must be in step.
     fn command(&mut self, command: &[u8])
-        requires some { 1 ≤ length command.now }
-        requires size { length command.now ≤ COMMAND_LIMIT }
+        requires size { HasBetween 1 COMMAND_LIMIT command.now }
         requires good { IsGood self.old.desk.bench }
         ensures good { IsGood self.new.desk.bench }
         ensures performs { PerformsCommand self.old.desk.bench self.old.desk command.now self.new.desk self.new.prints }

@@ -1,11 +1,12 @@
 //! Exchanges a command and its answer through both ends of the link.
-ghost use Rattle.std.specs.Prelude.{◌≡◌, ◌≢◌, ◌≤◌, length, IfErr, OnOk};
+ghost use Rattle.std.specs.Prelude.{◌≡◌, ◌≢◌, IfErr, OnOk};
+ghost use Rattle.card_model.specs.Requests.{HasBetween};
 ghost use Rattle.t1_link.specs.declared.reader_end.Phase.TheVariants.{Busy};
 ghost use Rattle.t1_link.specs.ReaderTable.{reader_sends, reader_step, reader_times_out};
 ghost use Rattle.bench_lines.specs.declared.order.TheConstants.{COMMAND_LIMIT};
 ghost use Rattle.bench_turns.specs.BenchStates.{IsOn};
 ghost use Rattle.card_bench.specs.Exchanges.{Exchanged, Exchanges, GoesOn, Passes, ReaderTurns};
-ghost use Rattle.card_bench.specs.ExchangeParts.{ended_of, ends_of, flow_of, follows_of, next_block};
+ghost use Rattle.card_bench.specs.ExchangeParts.{ended_of, ends_of, flow_of, follows_of, next_block, HasPower};
 ghost use Rattle.bench_turns.specs.Plays.{IsGood};
 
 use crate::line::Line;
@@ -59,10 +60,8 @@ pub(crate) enum Ending {
 /// At most 1,000 blocks pass.
 pub(crate) fn exchange<B: Socket + Faultless>(ends: &mut Ends<B>, command: &[u8]) -> Ending
     requires idle { ends.old.reader.phase ≢ Busy }
-    requires some { 1 ≤ length command.now }
-    requires size { length command.now ≤ COMMAND_LIMIT }
-    requires good { IsGood ends.old.bench }
-    requires power { IsOn ends.old.bench }
+    requires size { HasBetween 1 COMMAND_LIMIT command.now }
+    requires bench { HasPower ends.old.bench }
     ensures exchanged { Exchanged (ends_of ends.old) command.now (ends_of ends.new)
         (ended_of result ends.new.reader.answer) }
     ensures good { IsGood ends.new.bench }
@@ -77,8 +76,7 @@ pub(crate) fn exchange<B: Socket + Faultless>(ends: &mut Ends<B>, command: &[u8]
 /// Passes at most `limit` blocks, until the exchange ends.
 fn pass_blocks<B: Socket + Faultless>(ends: &mut Ends<B>, first: Toward, limit: u16) -> Ending
     requires busy { ends.old.reader.phase ≡ Busy }
-    requires good { IsGood ends.old.bench }
-    requires power { IsOn ends.old.bench }
+    requires bench { HasPower ends.old.bench }
     ensures run { Exchanges limit (ends_of ends.old) (next_block first ends.old.blocks)
         (ends_of ends.new) (ended_of result ends.new.reader.answer) }
     ensures good { IsGood ends.new.bench }
@@ -98,8 +96,7 @@ fn pass_blocks<B: Socket + Faultless>(ends: &mut Ends<B>, first: Toward, limit: 
 /// If the block doesn't arrive, the reader's end times out.
 fn pass<B: Socket + Faultless>(ends: &mut Ends<B>, toward: Toward) -> ControlFlow<Ending, Toward>
     requires busy { ends.old.reader.phase ≡ Busy }
-    requires good { IsGood ends.old.bench }
-    requires power { IsOn ends.old.bench }
+    requires bench { HasPower ends.old.bench }
     ensures good { IsGood ends.new.bench }
     ensures power { OnOk (follows_of result ends.new.blocks ends.new.reader.answer) (IsOn ends.new.bench) }
     ensures busy { OnOk (follows_of result ends.new.blocks ends.new.reader.answer) (ends.new.reader.phase ≡ Busy) }
@@ -134,8 +131,7 @@ fn pass<B: Socket + Faultless>(ends: &mut Ends<B>, toward: Toward) -> ControlFlo
 /// Gives a command to the reader's end.
 fn begin(reader: &mut ReaderEnd, blocks: &mut Blocks, command: &[u8]) -> ControlFlow<Ending, Toward>
     requires idle { reader.old.phase ≢ Busy }
-    requires some { 1 ≤ length command.now }
-    requires size { length command.now ≤ COMMAND_LIMIT }
+    requires size { HasBetween 1 COMMAND_LIMIT command.now }
     ensures turns { ReaderTurns (reader_sends reader.old command.now) reader.new
         (follows_of result blocks.new reader.new.answer) }
     ensures busy { OnOk (follows_of result blocks.new reader.new.answer) (reader.new.phase ≡ Busy) }

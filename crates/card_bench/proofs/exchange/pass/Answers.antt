@@ -21,11 +21,12 @@ returns-in-Reply-clause-passes g c =
     (Ok (toward_reader c.turn_well.new.reply)))
     (sym c.in-Card.is)
     (takes_there _ _ _ _ _ _ c.deref.result.now (Ok (toward_reader c.turn_well.new.reply)) c.put.ensures.after came
-    (good-block _ _ c.deref.result _ (c.in-Reply.ensures c.requires.good).1))
+    (good-block _ _ c.deref.result _ (c.in-Reply.ensures c.requires.bench.good).1))
 
 pub returns-in-Reply-clause-power : goal.returns-in-Reply-clause-power
 returns-in-Reply-clause-power g c =
-    replies-on _ _ c.deref.result.now c.turn_well.new.reply c.requires.power (c.in-Reply.ensures c.requires.good).1.one
+    replies-on _ _ c.deref.result.now c.turn_well.new.reply c.requires.bench.power (c.in-Reply.ensures
+    c.requires.bench.good).1.one
 
 pub returns-in_default-clause-passes : goal.returns-in_default-clause-passes
 returns-in_default-clause-passes g c =
@@ -37,7 +38,7 @@ returns-in_default-clause-passes g c =
     (record { bench = c.turn_well.new.self; reader = c.args.ends.now.reader; line = c.put.new.self }) (Err power_lost))
     (sym c.in-Card.is)
     (takes_there _ _ _ _ _ _ c.deref.result.now (Err power_lost) c.put.ensures.after came
-    (lost-so c.turn_well.result c.turn_well.new.reply c.deref.result.now _ _ c.requires.power
+    (lost-so c.turn_well.result c.turn_well.new.reply c.deref.result.now _ _ c.requires.bench.power
     (tells-so c.turn_well.result c.turn_well.new.reply (λ i. GoodTurn _ (turn.Block c.deref.result) i _)
     (λ i. GoodBlock _ c.deref.result.now i _) (good-block _ _ c.deref.result)
-    (c.turn_well.ensures c.requires.good).1) c.in_default.not-Reply))
+    (c.turn_well.ensures c.requires.bench.good).1) c.in_default.not-Reply))

@@ -9,8 +9,8 @@ returns-in-Break-clause-run g c = ends _ _ _ _ _ _ c.loop.invariant.run _ _ (ome
 pub loop-init : goal.loop-init
 loop-init g c = record {
   busy = c.requires.busy;
-  good = c.requires.good;
-  power = c.requires.power;
+  good = c.requires.bench.good;
+  power = c.requires.bench.power;
   within = omega arith;
   run = begins _ _ _ _ (omega arith);
 }
@@ -30,3 +30,9 @@ loop-preserved g c =
 
 pub returns-clause-run : goal.returns-clause-run
 returns-clause-run g c = gives_up _ _ _ _ _ _ c.loop.invariant.run (omega arith)
+
+pub pass-requires-clause-bench : goal.pass-requires-clause-bench
+pass-requires-clause-bench g c = record {
+  good = c.loop.invariant.good;
+  power = c.loop.invariant.power;
+}
