@@ -2,10 +2,11 @@
 ghost use Rattle.std.specs.Prelude.{◌≡◌, ◌≤◌, ◌⊎◌, ◌==◌, if◌then◌else◌, length, None, Some, IfOk};
 ghost use Rattle.std.specs.Result.{result_err};
 ghost use Rattle.card_state.specs.declared.status.TheConstants.Sw.{NO_ROOM};
-ghost use Rattle.undo_journal.specs.Memory.{committed, IsReady};
+ghost use Rattle.undo_journal.specs.Memory.{committed};
 ghost use Rattle.ef_body.specs.declared.layout.TheConstants.{RECORD_WRITES};
-ghost use Rattle.ef_body.specs.Bodies.{cyclic_body_records, IsCyclic};
+ghost use Rattle.ef_body.specs.Bodies.{cyclic_body_records};
 ghost use Rattle.ef_body.specs.BodyCalls.{Commits, FindsRecord};
+ghost use Rattle.ef_body.specs.StoredBodies.{TakesRecord};
 ghost use Rattle.file_tree.specs.declared.kinds.EntryKind.TheVariants as kinds;
 ghost use Rattle.file_tree.specs.Kinds.{kind_byte};
 ghost use Rattle.card_model.specs.RecordCommands.{next_record, place_number, pointer_after, previous_record};
@@ -165,9 +166,7 @@ impl RecordFile {
         store: &mut Store<B>,
         bytes: &[u8],
     ) -> Result<(), StoreErr>
-        requires ready { IsReady store.old }
-        requires body { IsCyclic (committed store.old) slot.ring }
-        requires size { length bytes.now ≡ slot.ring.record_length }
+        requires body { TakesRecord store.old slot.ring bytes.now }
         ensures { Commits (RingBecomes self.wraps (committed store.old) slot.ring (replaced_in
             self.wraps (cyclic_body_records (committed store.old) slot.ring) slot.number bytes.now))
             RECORD_WRITES store.old store.new result }
@@ -215,9 +214,7 @@ impl RecordFile {
 impl Room {
     /// Adds a record, in one transaction.
     pub fn fill<B: Board>(self, store: &mut Store<B>, bytes: &[u8]) -> Result<(), StoreErr>
-        requires ready { IsReady store.old }
-        requires body { IsCyclic (committed store.old) (ring_room self) }
-        requires size { length bytes.now ≡ (ring_room self).record_length }
+        requires body { TakesRecord store.old (ring_room self) bytes.now }
         ensures { Commits (RingBecomes (wraps_room self) (committed store.old) (ring_room self) (appended_in
             (wraps_room self) (ring_room self).capacity (cyclic_body_records (committed store.old) (ring_room self))
             bytes.now)) RECORD_WRITES store.old store.new result }

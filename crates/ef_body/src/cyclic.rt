@@ -3,7 +3,7 @@ ghost use Rattle.std.specs.Prelude.{◌≡◌, ◌≤◌, ◌<◌, ◌⊎◌, �
 ghost use Rattle.std.specs.Prelude.{refl, nat_le, if◌then◌else◌};
 ghost use Rattle.std.specs.Result.{result_err};
 ghost use Rattle.undo_journal.specs.Commits.{CommitsByGate};
-ghost use Rattle.undo_journal.specs.Memory.{committed, IsReady};
+ghost use Rattle.undo_journal.specs.Memory.{committed};
 ghost use Rattle.undo_journal.specs.StoreCalls.{OnlyReads, Reads, Changes};
 ghost use Rattle.ef_body.specs.declared.layout.TheConstants.{RECORD_WRITES};
 ghost use Rattle.card_state.specs.declared.status.Sw.{Sw};
@@ -11,6 +11,7 @@ ghost use Rattle.card_state.specs.declared.status.TheConstants.Sw.{NO_ROOM};
 ghost use Rattle.card_state.specs.RecordLists.{front};
 ghost use Rattle.ef_contents.specs.Refusals.{missing_record, unraised, why_failed};
 ghost use Rattle.ef_body.specs.Bodies.{cyclic_body_records, IsCyclic};
+ghost use Rattle.ef_body.specs.StoredBodies.{HasRecords, TakesRecord};
 ghost use Rattle.ef_body.specs.BodyChanges.{record_put_writes, slot_offset, CyclicBecomes, Increases};
 ghost use Rattle.ef_body.specs.BodyCalls.{Commits, CommitsUnlessRefused, ReceivesSum};
 
@@ -81,9 +82,7 @@ impl Cyclic {
     /// # Errors
     /// 6A83 if there is no record. The store's failure: then the records are as before, or with the new one.
     pub fn update_oldest<B: Board>(self, store: &mut Store<B>, bytes: &[u8]) -> Result<(), BodyErr>
-        requires ready { IsReady store.old }
-        requires body { IsCyclic (committed store.old) self }
-        requires size { length bytes.now ≡ self.record_length }
+        requires body { TakesRecord store.old self bytes.now }
         ensures { CommitsUnlessRefused (missing_record (cyclic_body_records (committed store.old) self) 1)
             (CyclicBecomes (committed store.old) self (front (length (cyclic_body_records (committed store.old) self))
             bytes.now (cyclic_body_records (committed store.old) self))) RECORD_WRITES store.old store.new result }
@@ -98,9 +97,7 @@ impl Cyclic {
     /// # Errors
     /// The store's failure: then the records are as before, or with the new one. It refuses nothing.
     pub fn append<B: Board>(self, store: &mut Store<B>, bytes: &[u8]) -> Result<(), BodyErr>
-        requires ready { IsReady store.old }
-        requires body { IsCyclic (committed store.old) self }
-        requires size { length bytes.now ≡ self.record_length }
+        requires body { TakesRecord store.old self bytes.now }
         ensures { CommitsUnlessRefused None (CyclicBecomes (committed store.old) self
             (front self.capacity bytes.now (cyclic_body_records (committed store.old) self))) RECORD_WRITES store.old
             store.new result }
@@ -113,9 +110,7 @@ impl Cyclic {
     /// # Errors
     /// The store's failure: then the records are as before, or with the new one.
     pub fn push_front<B: Board>(self, store: &mut Store<B>, bytes: &[u8]) -> Result<(), StoreErr>
-        requires ready { IsReady store.old }
-        requires body { IsCyclic (committed store.old) self }
-        requires size { length bytes.now ≡ self.record_length }
+        requires body { TakesRecord store.old self bytes.now }
         ensures commits { Commits (CyclicBecomes (committed store.old) self
             (front self.capacity bytes.now (cyclic_body_records (committed store.old) self))) RECORD_WRITES store.old
             store.new result }
@@ -147,8 +142,7 @@ impl Cyclic {
         sent: &[u8],
         bytes: &mut ArrayVec<u8, N>,
     ) -> Result<RecordSlot, BodyErr>
-        requires ready { IsReady store.old }
-        requires body { IsCyclic (committed store.old) self }
+        requires body { HasRecords store.old self }
         requires sent { length sent.now ≤ self.record_length }
         requires room { self.record_length ≤ N }
         ensures found { IfOk result (λ slot. (slot.ring ≡ self) × (slot.number ≡ 1)) }
@@ -179,8 +173,7 @@ impl Cyclic {
         sent: &[u8],
         bytes: &mut ArrayVec<u8, N>,
     ) -> Result<(), BodyErr>
-        requires ready { IsReady store.old }
-        requires body { IsCyclic (committed store.old) self }
+        requires body { HasRecords store.old self }
         requires sent { length sent.now ≤ self.record_length }
         requires room { self.record_length ≤ N }
         ensures sum { ReceivesSum self.record_length (cyclic_body_records (committed store.old) self) sent.now

@@ -2,10 +2,11 @@
 ghost use Rattle.std.specs.Prelude.{◌≡◌, ◌-◌, ◌++◌, ◌∷◌, [], length, slice_set};
 ghost use Rattle.std.specs.Prelude.{ℕ, List, IfOk};
 ghost use Rattle.std.specs.Result.{result_err};
-ghost use Rattle.undo_journal.specs.Memory.{committed, IsReady};
+ghost use Rattle.undo_journal.specs.Memory.{committed};
 ghost use Rattle.ef_body.specs.declared.layout.TheConstants.{UPDATE_WRITES, RECORD_WRITES};
 ghost use Rattle.ef_contents.specs.Refusals.{missing_record, full};
 ghost use Rattle.ef_body.specs.Bodies.{linear_body_records, ring_of, IsLinear};
+ghost use Rattle.ef_body.specs.StoredBodies.{TakesLinear};
 ghost use Rattle.ef_body.specs.BodyChanges.{LinearBecomes};
 ghost use Rattle.ef_body.specs.BodyCalls.{CommitsUnlessRefused};
 ghost use Rattle.ef_body.specs.laws.Rings.{ring_is, ring_records};
@@ -76,9 +77,7 @@ impl Linear {
         number: u16,
         bytes: &[u8],
     ) -> Result<(), BodyErr>
-        requires ready { IsReady store.old }
-        requires body { IsLinear (committed store.old) self }
-        requires size { length bytes.now ≡ self.record_length }
+        requires body { TakesLinear store.old self bytes.now }
         ensures { CommitsUnlessRefused (missing_record (linear_body_records (committed store.old) self) number)
             (LinearBecomes (committed store.old) self (slice_set (linear_body_records (committed store.old) self)
             (number - 1) bytes.now)) UPDATE_WRITES store.old store.new result }
@@ -93,9 +92,7 @@ impl Linear {
     /// # Errors
     /// 6A84 if the EF is full. The store's failure: then the records are as before, or with the new one.
     pub fn append<B: Board>(self, store: &mut Store<B>, bytes: &[u8]) -> Result<(), BodyErr>
-        requires ready { IsReady store.old }
-        requires body { IsLinear (committed store.old) self }
-        requires size { length bytes.now ≡ self.record_length }
+        requires body { TakesLinear store.old self bytes.now }
         ensures { CommitsUnlessRefused (full self.capacity (linear_body_records (committed store.old) self))
             (LinearBecomes (committed store.old) self (linear_body_records (committed store.old) self ++ bytes.now
             ∷ []))

@@ -1,8 +1,9 @@
 //! Reading records.
 ghost use Rattle.std.specs.Prelude.{◌≤◌, OnOk};
-ghost use Rattle.undo_journal.specs.Memory.{committed, IsReady};
+ghost use Rattle.undo_journal.specs.Memory.{committed};
 ghost use Rattle.card_state.specs.RecordLists.{record_of};
-ghost use Rattle.ef_body.specs.Bodies.{cyclic_body_records, IsCyclic};
+ghost use Rattle.ef_body.specs.Bodies.{cyclic_body_records};
+ghost use Rattle.ef_body.specs.StoredBodies.{HasRecords};
 ghost use Rattle.ef_body.specs.BodyCalls.{ReadsInto};
 ghost use Rattle.ef_body.specs.ReadParts.{IsBlockOf};
 
@@ -23,8 +24,7 @@ impl RecordSlot {
         store: &mut Store<B>,
         bytes: &mut ArrayVec<u8, N>,
     ) -> Result<(), StoreErr>
-        requires ready { IsReady store.old }
-        requires body { IsCyclic (committed store.old) self.ring }
+        requires body { HasRecords store.old self.ring }
         requires room { self.ring.record_length ≤ N }
         ensures { ReadsInto (record_of (cyclic_body_records (committed store.old) self.ring) self.number) store.old
             store.new bytes.new.items result }
@@ -45,8 +45,7 @@ impl RecordSlot {
         block: &mut ChainBlock,
         bytes: &mut ArrayVec<u8, N>,
     ) -> Result<(), StoreErr>
-        requires ready { IsReady store.old }
-        requires body { IsCyclic (committed store.old) self.ring }
+        requires body { HasRecords store.old self.ring }
         requires room { self.ring.record_length ≤ N }
         requires block { IsBlockOf (committed store.old) self.ring.chain block.old }
         ensures block { OnOk result (IsBlockOf (committed store.old) self.ring.chain block.new) }

@@ -2,10 +2,11 @@
 ghost use Rattle.std.specs.Prelude.{◌≡◌, ◌≤◌, ◌<◌, ◌+◌, ◌-◌, ◌++◌, ◌∷◌, [], ℕ, cond, drop, false, nat_eq, length, OnOk};
 ghost use Rattle.std.specs.Prelude.{slice_index};
 ghost use Rattle.std.specs.List.{starts_with};
-ghost use Rattle.undo_journal.specs.Memory.{committed, IsReady};
+ghost use Rattle.undo_journal.specs.Memory.{committed};
 ghost use Rattle.undo_journal.specs.StoreCalls.{Learns};
 ghost use Rattle.card_state.specs.RecordLists.{record_of, stands_in, numbers_on, records_found};
-ghost use Rattle.ef_body.specs.Bodies.{cyclic_body_records, IsCyclic};
+ghost use Rattle.ef_body.specs.Bodies.{cyclic_body_records};
+ghost use Rattle.ef_body.specs.StoredBodies.{HasRecords};
 ghost use Rattle.ef_body.specs.BodyCalls.{ReadsInto};
 ghost use Rattle.ef_body.specs.ReadParts.{IsBlockOf};
 
@@ -66,8 +67,7 @@ fn record_holds<B: Board>(
     text: &[u8],
     block: &mut ChainBlock,
 ) -> Result<bool, StoreErr>
-    requires ready { IsReady store.old }
-    requires body { IsCyclic (committed store.old) body }
+    requires body { HasRecords store.old body }
     requires first { 1 ≤ number }
     requires last { number ≤ body.records }
     requires block { IsBlockOf (committed store.old) body.chain block.old }
@@ -135,8 +135,7 @@ impl RecordSlot {
         text: &[u8],
         numbers: &mut ArrayVec<u8, N>,
     ) -> Result<(), StoreErr>
-        requires ready { IsReady store.old }
-        requires body { IsCyclic (committed store.old) self.ring }
+        requires body { HasRecords store.old self.ring }
         requires room { self.ring.records ≤ N }
         ensures { ReadsInto (records_found direction self.number text.now (cyclic_body_records
             (committed store.old) self.ring))

@@ -10,7 +10,8 @@ ghost use Rattle.block_chain.specs.ChainChanges.{Overwrites, touched_blocks, tou
 ghost use Rattle.block_store.specs.Writes.{put_writes};
 ghost use Rattle.ef_body.specs.declared.layout.TheConstants.{RECORD_WRITES, UPDATE_WRITES};
 ghost use Rattle.card_state.specs.RecordLists.{front};
-ghost use Rattle.ef_body.specs.Bodies.{counts_word, cyclic_body_records, IsCyclic, LieIn};
+ghost use Rattle.ef_body.specs.Bodies.{counts_word, cyclic_body_records, LieIn};
+ghost use Rattle.ef_body.specs.StoredBodies.{TakesRecord};
 ghost use Rattle.undo_journal.specs.Spending.{transaction_writes};
 ghost use Rattle.ef_body.specs.BodyChanges.{record_put_writes, slot_offset, CyclicBecomes, PutsRecord, RecordsBecome};
 ghost use Rattle.ef_body.specs.BodyCalls.{Commits};
@@ -104,9 +105,7 @@ pub(crate) fn put_front<B: Board>(
     bytes: &[u8],
     records: u16,
 ) -> Result<(), StoreErr>
-    requires ready { IsReady store.old }
-    requires body { IsCyclic (committed store.old) body }
-    requires size { length bytes.now ≡ body.record_length }
+    requires body { TakesRecord store.old body bytes.now }
     requires some { 1 ≤ records }
     requires most { records ≤ body.capacity }
     requires more { records ≤ body.records + 1 }
@@ -128,9 +127,7 @@ impl RecordSlot {
     /// # Errors
     /// The store's failure: then the record is the old one or the new one. It refuses nothing.
     pub fn replace<B: Board>(self, store: &mut Store<B>, bytes: &[u8]) -> Result<(), StoreErr>
-        requires ready { IsReady store.old }
-        requires body { IsCyclic (committed store.old) self.ring }
-        requires size { length bytes.now ≡ self.ring.record_length }
+        requires body { TakesRecord store.old self.ring bytes.now }
         ensures commits { Commits (RecordsBecome (committed store.old) self.ring (slice_set
             (cyclic_body_records (committed store.old) self.ring) (self.number - 1) bytes.now)) UPDATE_WRITES store.old
             store.new result }
@@ -152,9 +149,7 @@ impl RecordSlot {
         store: &mut Store<B>,
         bytes: &[u8],
     ) -> Result<(), StoreErr>
-        requires ready { IsReady store.old }
-        requires body { IsCyclic (committed store.old) self.ring }
-        requires size { length bytes.now ≡ self.ring.record_length }
+        requires body { TakesRecord store.old self.ring bytes.now }
         ensures commits { Commits (CyclicBecomes (committed store.old) self.ring (front (length (cyclic_body_records
             (committed store.old) self.ring)) bytes.now (cyclic_body_records (committed store.old) self.ring)))
             RECORD_WRITES store.old store.new result }
@@ -172,9 +167,7 @@ impl FreeSlot {
     /// # Errors
     /// The store's failure: then the records are as before, or with the new one. It refuses nothing.
     pub fn append<B: Board>(self, store: &mut Store<B>, bytes: &[u8]) -> Result<(), StoreErr>
-        requires ready { IsReady store.old }
-        requires body { IsCyclic (committed store.old) self.ring }
-        requires size { length bytes.now ≡ self.ring.record_length }
+        requires body { TakesRecord store.old self.ring bytes.now }
         ensures commits { Commits (RecordsBecome (committed store.old) self.ring (cyclic_body_records
             (committed store.old) self.ring ++ bytes.now ∷ [])) RECORD_WRITES store.old store.new result }
         ensures counted { OnOk result (store.new.facts.writes ≡ store.old.facts.writes

@@ -47,8 +47,8 @@ raise-requires g c =
     let room : ring.record_length ≤ 256 = omega (arith, short) in (
       lit< tt,
       (
-        c.in_ok-file.ensures.store.ready,
-        (stands, (short-sent _ _ (sym c.is_too_long.ensures ∙ c.if-is_too_long.false), room)),
+        record { ready = c.in_ok-file.ensures.store.ready; body = stands },
+        (short-sent _ _ (sym c.is_too_long.ensures ∙ c.if-is_too_long.false), room),
       ),
     )
 
@@ -86,18 +86,6 @@ returns-then-asks_less g c =
     (increased-less c.requires.kept raised c.args.expected _ c.answer_of-response.ensures
     (sym c.asks_less.ensures ∙ c.if-asks_less.true) ∙ ap Some (sym c.right_length.ensures))
 
-pub replace_oldest-requires-clause-body : goal.replace_oldest-requires-clause-body
-replace_oldest-requires-clause-body g c =
-    increased-body c.requires.kept (is-raised c.args.amount.now c.find_records.ensures.store.only
-    c.in_ok-file.ensures.told (sym c.is_too_long.ensures ∙ c.if-is_too_long.false) c.in_ok-slot.ensures.store.only
-    c.in_ok-slot.ensures.found c.in_ok-slot.ensures.sum)
-
-pub replace_oldest-requires-clause-size : goal.replace_oldest-requires-clause-size
-replace_oldest-requires-clause-size g c =
-    increased-long c.requires.kept (is-raised c.args.amount.now c.find_records.ensures.store.only
-    c.in_ok-file.ensures.told (sym c.is_too_long.ensures ∙ c.if-is_too_long.false) c.in_ok-slot.ensures.store.only
-    c.in_ok-slot.ensures.found c.in_ok-slot.ensures.sum) _ c.deref.ensures.0
-
 pub returns-in_err-replace_oldest : goal.returns-in_err-replace_oldest
 returns-in_err-replace_oldest g c = record {
   serves = let raised = is-raised c.args.amount.now c.find_records.ensures.store.only
@@ -129,3 +117,16 @@ returns g c =
           c.replace_oldest.ensures.commits.by_gate _ c.in_ok-replace_oldest.ensures.commits.store
           c.in_ok-replace_oldest.ensures.commits.done;
     }
+
+pub replace_oldest-requires : goal.replace_oldest-requires
+replace_oldest-requires g c = record {
+  body = record {
+    ready = c.in_ok-slot.ensures.store.ready;
+    body = increased-body c.requires.kept (is-raised c.args.amount.now c.find_records.ensures.store.only
+        c.in_ok-file.ensures.told (sym c.is_too_long.ensures ∙ c.if-is_too_long.false) c.in_ok-slot.ensures.store.only
+        c.in_ok-slot.ensures.found c.in_ok-slot.ensures.sum);
+    size = increased-long c.requires.kept (is-raised c.args.amount.now c.find_records.ensures.store.only
+        c.in_ok-file.ensures.told (sym c.is_too_long.ensures ∙ c.if-is_too_long.false) c.in_ok-slot.ensures.store.only
+        c.in_ok-slot.ensures.found c.in_ok-slot.ensures.sum) _ c.deref.ensures.0;
+  };
+}

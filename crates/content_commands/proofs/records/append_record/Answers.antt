@@ -15,21 +15,6 @@ use Rattle.content_commands.proofs.RecordWrites.{append-decided, append-refused}
 use Rattle.command_base.specs.laws.Stopping.{none-failed, reply-failed}
 use Rattle.content_commands.proofs.records.append_record.Goals as goal
 
-pub fill-requires-clause-body : goal.fill-requires-clause-body
-fill-requires-clause-body g c =
-    let found = is-appendable c.args.bytes.now c.in_ok-room.room c.in_ok-file.ensures.told
-    c.in_ok-room.ensures.ring c.in_ok-room.ensures.wraps c.in_ok-room.ensures.refusal in
-    appended-body c.args.store.now c.find_records.new.store c.find_records.new.store c.requires.kept.ready
-    c.requires.kept.card c.args.current.now c.requires.kept.current c.find_records.ensures.store.only _ _ _ _ found
-
-pub fill-requires-clause-size : goal.fill-requires-clause-size
-fill-requires-clause-size g c =
-    let found = is-appendable c.args.bytes.now c.in_ok-room.room c.in_ok-file.ensures.told
-    c.in_ok-room.ensures.ring c.in_ok-room.ensures.wraps c.in_ok-room.ensures.refusal in
-    appended-long c.args.store.now c.find_records.new.store c.find_records.new.store c.requires.kept.ready
-    c.requires.kept.card
-    c.args.current.now c.requires.kept.current c.find_records.ensures.store.only _ _ _ _ found
-
 pub returns-in_err-fill : goal.returns-in_err-fill
 returns-in_err-fill g c = record {
   serves = let found = is-appendable c.args.bytes.now c.in_ok-room.room c.in_ok-file.ensures.told
@@ -93,3 +78,19 @@ returns-in_err-room g c =
     (λ status. served-refused (card_in old) (session_in old x) request status)
     (append-decided (committed old) c.requires.kept.ready.usable.committed_size c.requires.kept.card x c.args.target _
     c.in_ok-file.file found c.args.bytes.now found.named.unrefused ∙ sym c.in_err-room.ensures.refusal)
+
+pub fill-requires : goal.fill-requires
+fill-requires g c = record {
+  body = record {
+    ready = c.in_ok-file.ensures.store.ready;
+    body = let found = is-appendable c.args.bytes.now c.in_ok-room.room c.in_ok-file.ensures.told
+        c.in_ok-room.ensures.ring c.in_ok-room.ensures.wraps c.in_ok-room.ensures.refusal in
+        appended-body c.args.store.now c.find_records.new.store c.find_records.new.store c.requires.kept.ready
+        c.requires.kept.card c.args.current.now c.requires.kept.current c.find_records.ensures.store.only _ _ _ _ found;
+    size = let found = is-appendable c.args.bytes.now c.in_ok-room.room c.in_ok-file.ensures.told
+        c.in_ok-room.ensures.ring c.in_ok-room.ensures.wraps c.in_ok-room.ensures.refusal in
+        appended-long c.args.store.now c.find_records.new.store c.find_records.new.store c.requires.kept.ready
+        c.requires.kept.card
+        c.args.current.now c.requires.kept.current c.find_records.ensures.store.only _ _ _ _ found;
+  };
+}

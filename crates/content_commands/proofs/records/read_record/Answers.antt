@@ -1,4 +1,5 @@
-use Rattle.std.proofs.Common.{◌≡◌, ◌≤◌, lit<, ℕ, List, [], length, length-take, refl, sym, not, ◌==◌, ◌&&◌, ◌∙◌, ap, subst, arith}
+use Rattle.std.proofs.Common.{◌≡◌, ◌≤◌, lit<, ℕ, List, [], length, length-take, refl, sym, not, ◌==◌, ◌&&◌, ◌∙◌, ap}
+use Rattle.std.proofs.Common.{subst, arith}
 use Rattle.card_state.specs.declared.status.TheConstants.Sw.{DONE}
 use Rattle.undo_journal.specs.Memory.{committed}
 use Rattle.undo_journal.specs.laws.Calls.{reads_then}
@@ -26,7 +27,8 @@ use Rattle.ef_body.specs.declared.slot.RecordSlot.{RecordSlot}
 use Rattle.card_model.specs.Behaviours.{refused, outcome}
 use Rattle.content_commands.proofs.RecordBodies.{slot-few, slot-long}
 use Rattle.content_commands.proofs.RecordSteps.{choice-barred, choice-gone, chosen-body, chosen-has, current-is}
-use Rattle.content_commands.proofs.RecordSteps.{declined-empty, is-chosen, read-other, IsChosen, read-refused, read-whole}
+use Rattle.content_commands.proofs.RecordSteps.{declined-empty, is-chosen, read-other, IsChosen, read-refused}
+use Rattle.content_commands.proofs.RecordSteps.{read-whole}
 use Rattle.command_base.specs.laws.Executes.{answered, halted, handed}
 use Rattle.command_base.specs.laws.Stopping.{reply-failed}
 use Rattle.content_commands.proofs.records.read_record.Goals as goal
@@ -55,7 +57,7 @@ read-requires g c =
     c.args.current.now c.args.target _ _ _ found _ c.find_records.ensures.store.only.keeps.committed_words in
     let short = stands.slots.short in
     let room : c.in_ok-slot.slot.ring.record_length ≤ 258 = omega (arith, short) in
-    (lit< tt, (c.in_ok-file.ensures.store.ready, (stands, room)))
+    (lit< tt, (record { ready = c.in_ok-file.ensures.store.ready; body = stands }, room))
 
 pub returns-then-is_other_length : goal.returns-then-is_other_length
 returns-then-is_other_length g c =
@@ -116,7 +118,8 @@ returns g c =
     c.args.choice (chosen_in file (pointer_from x c.args.target) c.args.choice)) =
     c.pointing.ensures ∙ ap (pointing_from x c.args.target e) pointer in
     let size = ap (λ (l : List ℕ). length l) text ∙ long in
-    let short = (chosen-body (committed old) sized c.requires.kept.card x c.args.target _ _ _ found _ refl).slots.short in
+    let short = (chosen-body (committed old) sized c.requires.kept.card x c.args.target _ _ _ found _ refl).slots.short
+    in
     let same_ring = ap (λ (r : Ring). r.record_length) found.ring_is in
     let room : length c.read.new.bytes.items ≤ 256 = omega (arith, size, short, same_ring) in
     let current = current-is (committed old) sized c.requires.kept.card x c.args.target _ file found.named

@@ -29,7 +29,7 @@ search-requires g c =
     let few = stands.slots.few in
     let number = stands.number in
     let room : c.in_ok-slot.slot.ring.records ≤ 256 = omega (arith, few, number) in
-    (lit< tt, (c.in_ok-file.ensures.store.ready, (stands, room)))
+    (lit< tt, (record { ready = c.in_ok-file.ensures.store.ready; body = stands }, room))
 
 pub returns-then-asks_less : goal.returns-then-asks_less
 returns-then-asks_less g c =

@@ -17,21 +17,6 @@ use Rattle.content_commands.proofs.RecordWrites.{need-replaces, replaces-records
 use Rattle.command_base.specs.laws.Stopping.{none-failed, reply-failed}
 use Rattle.content_commands.proofs.records.update_record.Goals as goal
 
-pub replace-requires-clause-body : goal.replace-requires-clause-body
-replace-requires-clause-body g c =
-    let found = is-replaceable c.args.choice c.args.bytes.now c.in_ok-slot.slot c.replacing.ensures
-    c.in_ok-file.ensures.told c.pointer_at-pointer.ensures c.in_ok-slot.ensures.found c.in_ok-slot.ensures.refusal in
-    replaced-body c.args.store.now c.find_records.new.store c.find_records.new.store c.requires.kept.ready
-    c.requires.kept.card c.args.current.now c.requires.kept.current c.find_records.ensures.store.only _ _ _ _ _ found
-
-pub replace-requires-clause-size : goal.replace-requires-clause-size
-replace-requires-clause-size g c =
-    let found = is-replaceable c.args.choice c.args.bytes.now c.in_ok-slot.slot c.replacing.ensures
-    c.in_ok-file.ensures.told c.pointer_at-pointer.ensures c.in_ok-slot.ensures.found c.in_ok-slot.ensures.refusal in
-    replaced-long c.args.store.now c.find_records.new.store c.find_records.new.store c.requires.kept.ready
-    c.requires.kept.card
-    c.args.current.now c.requires.kept.current c.find_records.ensures.store.only _ _ _ _ _ found
-
 pub returns-in_err-replace : goal.returns-in_err-replace
 returns-in_err-replace g c = record {
   serves = let found = is-replaceable c.args.choice c.args.bytes.now c.in_ok-slot.slot c.replacing.ensures
@@ -108,3 +93,22 @@ returns-in_err-slot g c =
     c.in_ok-file.file found c.args.bytes.now c.args.choice
     (sym (need-replaces (card_in old) (session_in old x) c.args.target c.args.choice c.replacing.result
     c.replacing.ensures) ∙ found.named.unrefused) _ c.pointer_at-pointer.ensures ∙ sym c.in_err-slot.ensures.refusal)
+
+pub replace-requires : goal.replace-requires
+replace-requires g c = record {
+  body = record {
+    ready = c.in_ok-file.ensures.store.ready;
+    body = let found = is-replaceable c.args.choice c.args.bytes.now c.in_ok-slot.slot c.replacing.ensures
+        c.in_ok-file.ensures.told c.pointer_at-pointer.ensures c.in_ok-slot.ensures.found c.in_ok-slot.ensures.refusal
+        in
+        replaced-body c.args.store.now c.find_records.new.store c.find_records.new.store c.requires.kept.ready
+        c.requires.kept.card c.args.current.now c.requires.kept.current c.find_records.ensures.store.only _ _ _ _ _
+        found;
+    size = let found = is-replaceable c.args.choice c.args.bytes.now c.in_ok-slot.slot c.replacing.ensures
+        c.in_ok-file.ensures.told c.pointer_at-pointer.ensures c.in_ok-slot.ensures.found c.in_ok-slot.ensures.refusal
+        in
+        replaced-long c.args.store.now c.find_records.new.store c.find_records.new.store c.requires.kept.ready
+        c.requires.kept.card
+        c.args.current.now c.requires.kept.current c.find_records.ensures.store.only _ _ _ _ _ found;
+  };
+}

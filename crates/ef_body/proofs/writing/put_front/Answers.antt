@@ -7,7 +7,7 @@ use Rattle.ef_body.proofs.writing.put_front.Goals as goal
 
 pub put_record-requires-clause-lie : goal.put_record-requires-clause-lie
 put_record-requires-clause-lie g c =
-    slot_lies (committed c.args.store.now) c.args.body c.args.bytes.now c.requires.body c.requires.size
+    slot_lies (committed c.args.store.now) c.args.body c.args.bytes.now c.requires.body.body c.requires.body.size
     c.slot_of-start.result _
     c.slot_of-start.ensures.within c.offset_of-offset.ensures
 
@@ -15,7 +15,7 @@ pub returns-clause-commits : goal.returns-clause-commits
 returns-clause-commits g c =
     commits_weaker _ _ _ c.put_record.result _ _
     (cyclic_front (committed c.args.store.now) (committed c.put_record.new.store) c.args.body c.args.bytes.now
-    c.args.records c.requires.ready.usable.committed_size c.requires.body c.requires.size c.requires.some
+    c.args.records c.requires.body.ready.usable.committed_size c.requires.body.body c.requires.body.size c.requires.some
     c.requires.most c.requires.more c.slot_of-start.result c.offset_of-offset.result c.counts-told.result
     c.slot_of-start.ensures.slot c.offset_of-offset.ensures c.counts-told.ensures) c.put_record.ensures.commits
 

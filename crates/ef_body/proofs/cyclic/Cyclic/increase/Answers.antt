@@ -1,4 +1,4 @@
-use Rattle.std.proofs.Common.{◌∙◌, List, ℕ, ap, sym, length}
+use Rattle.std.proofs.Common.{rules, ◌∙◌, List, ℕ, ap, sym, length}
 use Rattle.undo_journal.specs.StoreCalls.{Changes}
 use Rattle.undo_journal.specs.Memory.{committed}
 use Rattle.undo_journal.specs.laws.Told.{changes_after}
@@ -10,15 +10,20 @@ use Rattle.ef_body.proofs.Refusing.{store_told}
 use Rattle.card_state.specs.laws.Spelling.{length-spelled}
 use Rattle.ef_body.proofs.cyclic.Cyclic.increase.Goals as goal
 
-pub replace_oldest-requires-clause-size : goal.replace_oldest-requires-clause-size
-replace_oldest-requires-clause-size g c =
-    let m = committed c.args.store.now in
-    ap (λ (l : List ℕ). length l) (c.deref.ensures.0 ∙ c.in_ok-newest.ensures.sum.bytes)
-    ∙ length-spelled c.args.self.record_length (raised_number (cyclic_body_records m c.args.self) c.args.sent.now)
-    ∙ ap (λ (r : Cyclic). r.record_length) (sym c.in_ok-newest.ensures.found.0)
-
 pub returns-clause-store : goal.returns-clause-store
 returns-clause-store g c =
     store_told c.replace_oldest.result c.from_store.result c.from_store.ensures
     (Changes RECORD_WRITES c.args.store.now c.replace_oldest.new.store)
     (changes_after _ _ _ _ _ c.raise.ensures.store.only c.replace_oldest.ensures.commits.store)
+
+pub replace_oldest-requires : goal.replace_oldest-requires
+replace_oldest-requires g c = record {
+  body = record {
+    ready = search rules;
+    body = search rules;
+    size = let m = committed c.args.store.now in
+        ap (λ (l : List ℕ). length l) (c.deref.ensures.0 ∙ c.in_ok-newest.ensures.sum.bytes)
+        ∙ length-spelled c.args.self.record_length (raised_number (cyclic_body_records m c.args.self) c.args.sent.now)
+        ∙ ap (λ (r : Cyclic). r.record_length) (sym c.in_ok-newest.ensures.found.0);
+  };
+}

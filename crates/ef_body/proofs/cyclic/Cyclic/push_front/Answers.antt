@@ -15,7 +15,7 @@ returns-clause-commits g c =
     let rs = cyclic_body_records m c.args.self in
     let is : c.appended.result ≡ min (length rs + 1) c.args.self.capacity =
     c.appended.ensures ∙ ap (λ (n : ℕ). min (n + 1) c.args.self.capacity) (sym (length-cyclic m c.args.self
-    c.requires.body)) in
+    c.requires.body.body)) in
     subst (λ (l : List (List ℕ)). Commits (CyclicBecomes m c.args.self l) RECORD_WRITES c.args.store.now
     c.put_front.new.store c.put_front.result)
     (front-most c.appended.result c.args.self.capacity c.args.bytes.now rs is) c.put_front.ensures.commits

@@ -20,7 +20,7 @@ returns-in_err-newest-clause-sum g c =
       buffer = inl (record { some = 0; is = c.clear.ensures });
       refusal = refused_undecided _ _ c.from_residual.ensures.1 _
           (unraised_unfound c.args.self.record_length rs c.args.sent.now _
-          (c.in_err-newest.ensures.refusal rs (length-cyclic m c.args.self c.requires.body)));
+          (c.in_err-newest.ensures.refusal rs (length-cyclic m c.args.self c.requires.body.body)));
     }
 
 pub returns-in_err-from_store-clause-sum : goal.returns-in_err-from_store-clause-sum
@@ -46,7 +46,8 @@ add-requires g c =
     let read = store_ok c.read.result c.in_ok-from_store.ensures _ c.read.ensures.bytes
     ∙ received_record c.args.self 1 c.in_ok-newest.newest at m in
     let long = ap (λ (l : List ℕ). length l) read
-    ∙ length-record m c.args.self 1 c.requires.ready.usable.committed_size c.requires.body (omega arith) some in
+    ∙ length-record m c.args.self 1 c.requires.body.ready.usable.committed_size c.requires.body.body (omega arith) some
+    in
     (search rules, omega (arith, long, c.requires.sent))
 
 pub returns-then-add-clause-sum : goal.returns-then-add-clause-sum
@@ -55,11 +56,12 @@ returns-then-add-clause-sum g c =
     let rs = cyclic_body_records m c.args.self in
     let at = c.in_ok-newest.ensures.found in
     let some = received_last c.args.self 1 c.in_ok-newest.newest at in
-    let many = length-cyclic m c.args.self c.requires.body in
+    let many = length-cyclic m c.args.self c.requires.body.body in
     let read = store_ok c.read.result c.in_ok-from_store.ensures _ c.read.ensures.bytes
     ∙ received_record c.args.self 1 c.in_ok-newest.newest at m in
     let long = ap (λ (l : List ℕ). length l) read
-    ∙ length-record m c.args.self 1 c.requires.ready.usable.committed_size c.requires.body (omega arith) some in
+    ∙ length-record m c.args.self 1 c.requires.body.ready.usable.committed_size c.requires.body.body (omega arith) some
+    in
     record {
       bytes = tt;
       emptied = c.clear-then-add.ensures;
@@ -76,11 +78,12 @@ returns-clause-sum g c =
     let rs = cyclic_body_records m c.args.self in
     let at = c.in_ok-newest.ensures.found in
     let some = received_last c.args.self 1 c.in_ok-newest.newest at in
-    let many = length-cyclic m c.args.self c.requires.body in
+    let many = length-cyclic m c.args.self c.requires.body.body in
     let read = store_ok c.read.result c.in_ok-from_store.ensures _ c.read.ensures.bytes
     ∙ received_record c.args.self 1 c.in_ok-newest.newest at m in
     let long = ap (λ (l : List ℕ). length l) read
-    ∙ length-record m c.args.self 1 c.requires.ready.usable.committed_size c.requires.body (omega arith) some in
+    ∙ length-record m c.args.self 1 c.requires.body.ready.usable.committed_size c.requires.body.body (omega arith) some
+    in
     let sum = is_sum c.args.self.record_length rs c.args.sent.now c.read.new.bytes.items c.add.new.number.items
     c.add.result (omega (arith, many, some)) read long c.add.ensures.size c.add.ensures.digits c.add.ensures.sum
     c.if-add.false in
@@ -93,3 +96,6 @@ returns-clause-sum g c =
           c.add.result (omega (arith, many, some)) read long c.add.ensures.size c.add.ensures.digits c.add.ensures.sum
           c.if-add.false;
     }
+
+pub read-requires : goal.read-requires
+read-requires g c = (search rules, (record { ready = c.requires.body.ready; body = search rules }, search rules))

@@ -1,3 +1,4 @@
+use Rattle.std.proofs.Common.{rules}
 use Rattle.std.proofs.Common.{length, subst}
 use Rattle.undo_journal.specs.Memory.{committed}
 use Rattle.ef_body.specs.declared.cyclic.Cyclic.{Cyclic}
@@ -15,16 +16,25 @@ returns-in_err-newest g c =
     let m = committed c.args.store.now in
     refused_commits _ _ c.from_residual.ensures.1 _
     (c.in_err-newest.ensures.refusal (cyclic_body_records m c.args.self)
-    (length-cyclic m c.args.self c.requires.body)) _
-    c.requires.ready _ _
+    (length-cyclic m c.args.self c.requires.body.body)) _
+    c.requires.body.ready _ _
 
 pub returns : goal.returns
 returns g c =
     let m = committed c.args.store.now in
     store_commits c.replace_oldest.result c.from_store.result c.from_store.ensures _
     (c.in_ok-newest.ensures.refusal (cyclic_body_records m c.args.self)
-    (length-cyclic m c.args.self c.requires.body)) _ _
+    (length-cyclic m c.args.self c.requires.body.body)) _ _
     _ _
     (subst (λ (r : Cyclic). Commits (CyclicBecomes m r (front (length (cyclic_body_records m r)) c.args.bytes.now
     (cyclic_body_records m r))) RECORD_WRITES c.args.store.now c.replace_oldest.new.store c.replace_oldest.result)
     c.in_ok-newest.ensures.found.0 c.replace_oldest.ensures.commits)
+
+pub replace_oldest-requires : goal.replace_oldest-requires
+replace_oldest-requires g c = record {
+  body = record {
+    ready = c.requires.body.ready;
+    body = search rules;
+    size = search rules;
+  };
+}

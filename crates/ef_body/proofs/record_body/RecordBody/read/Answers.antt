@@ -21,7 +21,7 @@ returns-in_err-slot g c =
 pub read-requires : goal.read-requires
 read-requires g c =
     let is = g.met.Self.RecordBody.ring_is (committed c.args.store.now) c.args.self c.requires.body in
-    search (rules, is)
+    (search rules, (record { ready = c.requires.ready; body = search (rules, is) }, search (rules, is)))
 
 pub returns : goal.returns
 returns g c =

@@ -22,7 +22,7 @@ returns-in_err-slot g c =
 pub search-requires : goal.search-requires
 search-requires g c =
     let is = g.met.Self.RecordBody.ring_is (committed c.args.store.now) c.args.self c.requires.body in
-    search (rules, is)
+    (search rules, (record { ready = c.requires.ready; body = search (rules, is) }, search (rules, is)))
 
 pub returns : goal.returns
 returns g c =

@@ -9,14 +9,11 @@ read_from-requires g c =
     let ring = c.args.self.ring in (
       search rules,
       (
-        c.requires.ready,
+        c.requires.body,
         (
-          c.requires.body,
-          (
-            c.requires.room,
-            first_is m ring.chain c.requires.body.slots.chain.leads c.first_of-block.result
-                c.first_of-block.ensures.number c.first_of-block.ensures.page (has_blocks m ring c.requires.body),
-          ),
+          c.requires.room,
+          first_is m ring.chain c.requires.body.body.slots.chain.leads c.first_of-block.result
+              c.first_of-block.ensures.number c.first_of-block.ensures.page (has_blocks m ring c.requires.body.body),
         ),
       ),
     )

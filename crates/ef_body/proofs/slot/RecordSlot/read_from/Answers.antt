@@ -17,11 +17,11 @@ read_bytes-requires g c =
     let ring = c.args.self.ring in
     let block = c.in_ok-block.field-0 in
     let same = c.go_to.ensures.store.only.keeps.committed_words in
-    let rest = rest_of m ring.chain c.requires.body.slots.chain.leads block c.in_ok-block.ensures.block in
+    let rest = rest_of m ring.chain c.requires.body.body.slots.chain.leads block c.in_ok-block.ensures.block in
     let at = c.offset_of-offset.ensures in
     let inside = slot-within ring.record_length c.slot_of.result ring.capacity c.slot_of.ensures.within in
-    let fits = c.requires.body.slots.fits in
-    let short = c.requires.body.slots.short in
+    let fits = c.requires.body.body.slots.fits in
+    let short = c.requires.body.body.slots.short in
     let many : length (chain (committed c.go_to.new.store) block.page) ≡ length (chain m block.page) =
     ap (λ (l : List ℕ). length (chain l block.page)) same in
     let number = c.in_ok-block.ensures.number in
@@ -52,9 +52,9 @@ returns-clause-record g c =
     let same = c.go_to.ensures.store.only.keeps.committed_words in
     let bytes = ap
     (λ (l : List ℕ). take ring.record_length (drop (offset % BLOCK_BYTES) (bytes_of l (chain l block.page)))) same
-    ∙ bytes_on m ring.chain c.requires.body.slots.chain.leads block offset ring.record_length
-    c.requires.ready.usable.committed_size c.in_ok-block.ensures.block c.in_ok-block.ensures.number
-    ∙ record_at m ring slot.number c.requires.body slot.from_first slot.to_last
+    ∙ bytes_on m ring.chain c.requires.body.body.slots.chain.leads block offset ring.record_length
+    c.requires.body.ready.usable.committed_size c.in_ok-block.ensures.block c.in_ok-block.ensures.number
+    ∙ record_at m ring slot.number c.requires.body.body slot.from_first slot.to_last
     c.slot_of.result _ c.slot_of.ensures.slot c.offset_of-offset.ensures in
     subst (λ (l : List ℕ). ReadsInto l c.args.store.now c.read_bytes.new.store c.read_bytes.new.out.items
     c.read_bytes.result) bytes (record {

@@ -9,20 +9,20 @@ use Rattle.ef_body.proofs.slot.RecordSlot.replace.Goals as goal
 
 pub put_bytes-requires-clause-lie : goal.put_bytes-requires-clause-lie
 put_bytes-requires-clause-lie g c =
-    slot_lies (committed c.args.store.now) c.args.self.ring c.args.bytes.now c.requires.body c.requires.size
+    slot_lies (committed c.args.store.now) c.args.self.ring c.args.bytes.now c.requires.body.body c.requires.body.size
     c.slot_of.result _
     c.slot_of.ensures.within c.offset_of-offset.ensures
 
 pub returns-clause-commits : goal.returns-clause-commits
 returns-clause-commits g c =
     let slot = c.args.self in
-    let short = c.requires.body.slots.short in
-    let few : length c.args.bytes.now ≤ 255 = omega (arith, short, c.requires.size) in
+    let short = c.requires.body.body.slots.short in
+    let few : length c.args.bytes.now ≤ 255 = omega (arith, short, c.requires.body.size) in
     let words = touched_few c.offset_of-offset.result (length c.args.bytes.now) few in
     let blocks = touched_few_blocks c.offset_of-offset.result (length c.args.bytes.now) few in
     commits_weaker _ _ _ c.put_bytes.result _ _
     (ring_put (committed c.args.store.now) (committed c.put_bytes.new.store) slot.ring slot.number c.args.bytes.now
-    c.requires.ready.usable.committed_size c.requires.body c.requires.size slot.from_first slot.to_last
+    c.requires.body.ready.usable.committed_size c.requires.body.body c.requires.body.size slot.from_first slot.to_last
     c.slot_of.result c.offset_of-offset.result c.slot_of.ensures.slot c.offset_of-offset.ensures)
     (commits_within _ _ _ _ _ _ (omega (arith, words, blocks)) c.put_bytes.ensures.commits)
 

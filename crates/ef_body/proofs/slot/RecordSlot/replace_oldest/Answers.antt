@@ -14,7 +14,7 @@ returns-clause-commits g c =
     let ring = c.args.self.ring in
     subst (λ (n : ℕ). Commits (CyclicBecomes m ring (front n c.args.bytes.now
     (cyclic_body_records m ring))) RECORD_WRITES
-    c.args.store.now c.put_front.new.store c.put_front.result) (sym (length-cyclic m ring c.requires.body))
+    c.args.store.now c.put_front.new.store c.put_front.result) (sym (length-cyclic m ring c.requires.body.body))
     c.put_front.ensures.commits
 
 pub returns-clause-counted : goal.returns-clause-counted

@@ -16,18 +16,13 @@ use Rattle.ef_body.proofs.slot.RecordSlot.search.Goals as goal
 
 pub loop-step-init : goal.loop-step-init
 loop-step-init g c = record {
-  ready = c.requires.ready;
+  ready = c.requires.body.ready;
   reads = reads_same _;
-  block = first_is (committed c.args.store.now) c.args.self.ring.chain c.requires.body.slots.chain.leads
+  block = first_is (committed c.args.store.now) c.args.self.ring.chain c.requires.body.body.slots.chain.leads
       c.first_of-block.result c.first_of-block.ensures.number c.first_of-block.ensures.page
-      (has_blocks (committed c.args.store.now) c.args.self.ring c.requires.body);
+      (has_blocks (committed c.args.store.now) c.args.self.ring c.requires.body.body);
   so_far = c.clear.ensures;
 }
-
-pub record_holds-requires-clause-body : goal.record_holds-requires-clause-body
-record_holds-requires-clause-body g c =
-    subst (λ (m : List ℕ). IsCyclic m c.args.self.ring) (sym c.loop-step.invariant.reads.keeps.committed_words)
-    c.requires.body
 
 pub record_holds-requires-clause-block : goal.record_holds-requires-clause-block
 record_holds-requires-clause-block g c =
@@ -48,8 +43,8 @@ note-requires g c =
     let so_far : length c.loop-step.numbers.items ≡ length (filter test (take c.loop-step.step numbers)) =
     ap (λ (l : List ℕ). length l) c.loop-step.invariant.so_far in
     let top = c.number_at-number.ensures.most in
-    let number = c.requires.body.number in
-    let capacity = c.requires.body.slots.few in (
+    let number = c.requires.body.body.number in
+    let capacity = c.requires.body.body.slots.few in (
       search rules,
       (omega (arith, so_far, few, taken, lt, most, c.requires.room), omega (arith, top, number, capacity)),
     )
@@ -84,7 +79,7 @@ returns-in_err-holds g c = record {
   bytes = search rules;
   any_exit = found_some c.args.direction c.args.self.number c.args.self.ring.records c.loop-step.step c.args.text.now
       (cyclic_body_records (committed c.args.store.now) c.args.self.ring) _ (length-cyclic (committed c.args.store.now)
-      c.args.self.ring c.requires.body) c.loop-step.invariant.so_far;
+      c.args.self.ring c.requires.body.body) c.loop-step.invariant.so_far;
   store = reads_handed _ _ _ _ c.from_residual.ensures.1
       (reads_on _ _ _ _ c.loop-step.invariant.reads c.in_err-holds.ensures.holds.store);
 }
@@ -97,7 +92,7 @@ returns g c =
     let test : ℕ → Bool = λ n. stands_in c.args.text.now (record_of (cyclic_body_records m body) n) in
     let steps = c.steps_of-steps.ensures in
     let all : length numbers ≤ c.loop-step.step = omega (arith, steps, c.loop-step-test.false) in
-    let many = length-cyclic m body c.requires.body in
+    let many = length-cyclic m body c.requires.body.body in
     record {
       bytes = c.loop-step.invariant.so_far ∙ ap (filter test) (take_all c.loop-step.step numbers all)
           ∙ ap (λ (n : ℕ). filter test (numbers_on c.args.direction c.args.self.number n)) (sym many);
@@ -105,3 +100,10 @@ returns g c =
           (cyclic_body_records m body) _ many c.loop-step.invariant.so_far;
       store = reads_so_far _ _ c.loop-step.invariant.reads c.loop-step.invariant.ready;
     }
+
+pub record_holds-requires-clause-body : goal.record_holds-requires-clause-body
+record_holds-requires-clause-body g c = record {
+  ready = c.loop-step.invariant.ready;
+  body = subst (λ (m : List ℕ). IsCyclic m c.args.self.ring) (sym c.loop-step.invariant.reads.keeps.committed_words)
+      c.requires.body.body;
+}
