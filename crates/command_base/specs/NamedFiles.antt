@@ -17,7 +17,9 @@ use Rattle.card_model.specs.Guards.{file_refusals}
 use Rattle.card_model.specs.Behaviours.{refused_by}
 use Rattle.card_model.specs.Reaching.{target_of}
 use Rattle.command_base.specs.Standing.{card_of}
-use Rattle.command_base.specs.Working.{IsElementary, session_of}
+use Rattle.undo_journal.specs.Memory.{Memory}
+use Rattle.card_model.specs.Requests.{IsTarget}
+use Rattle.command_base.specs.Working.{IsElementary, IsKept, session_of}
 
 -- true if a file of this kind has a structure that the command accepts
 abbrev pub fits : Structure → Kind → Bool
@@ -48,3 +50,8 @@ pub record IsNamed (m : List ℕ) (x : Current) (target : Target) (need : Need) 
   pub unrefused : refused_by (file_refusals (card_of m) (session_of (table m) x) target (fits need.structure) need.bit)
       ≡ None
   pub structure : IsTrue (fits_kind need.structure entry.kind)
+
+-- A working card, and a target that a command may have.
+pub record HasTarget (m : Memory) (x : Current) (target : Target) : Type 0 where
+  pub kept : IsKept m x
+  pub range : IsTarget target

@@ -1,10 +1,11 @@
 -- The template of a file, from its entry. No public clause names these definitions.
-use Rattle.std.specs.Prelude.{◌≢◌, ◌==◌, ◌&&◌, ℕ, nat_le, if◌then◌else◌, List, [], length, Option, Some, None}
+use Rattle.std.specs.Prelude.{◌≢◌, ◌==◌, ◌<◌, ◌&&◌, ℕ, nat_le, if◌then◌else◌, List, [], length, Option, Some, None}
 use Rattle.file_tree.specs.declared.entry.Entry.{Entry}
 use Rattle.file_tree.specs.declared.kinds.EntryKind.TheVariants as entry_kinds
 use Rattle.file_tree.specs.Kinds.{kind_byte}
 use Rattle.file_tree.specs.Entries.{life_told, name_of, rule_of}
-use Rattle.file_tree.specs.Table.{IsFileEntry}
+use Rattle.file_tree.specs.Table.{table, entry_in, IsFileEntry}
+use Rattle.undo_journal.specs.Memory.{Memory, committed, IsReady}
 use Rattle.card_model.specs.declared.requests.Returned.{Returned}
 use Rattle.card_model.specs.declared.requests.Returned.TheVariants.{Template, Nothing}
 use Rattle.card_state.specs.declared.fcp.Fcp.{Fcp}
@@ -19,6 +20,12 @@ use Rattle.card_model.specs.Templates.{fcp_text}
 pub record IsToldEntry (entry : Entry) : Type 0 where
   pub used : entry.kind ≢ kind_byte entry_kinds.Free
   pub file : IsFileEntry entry
+
+-- such an entry of a store that is ready
+pub record HasToldEntry (m : Memory) (e : ℕ) : Type 0 where
+  pub ready : IsReady m
+  pub within : e < 64
+  pub told : IsToldEntry (entry_in (table (committed m)) e)
 
 -- the parts of the template, from the entry of the file
 abbrev pub name_in_entry : Entry → Option (List ℕ)

@@ -3,15 +3,14 @@ ghost use Rattle.std.specs.Prelude.{◌≡◌, Some, option_map, IfOk, IfSome};
 ghost use Rattle.std.specs.Result.{result_err};
 ghost use Rattle.undo_journal.specs.StoreCalls.{Learns};
 ghost use Rattle.undo_journal.specs.Memory.{committed};
-ghost use Rattle.card_model.specs.Requests.{IsTarget};
 ghost use Rattle.card_state.specs.FileLives.{is_barred};
 ghost use Rattle.file_tree.specs.Table.{path_of};
 ghost use Rattle.card_model.specs.Guards.{file_refusals, missing as missing_status, allowed};
 ghost use Rattle.card_model.specs.Behaviours.{refused_by};
 ghost use Rattle.card_model.specs.Reaching.{target_of};
 ghost use Rattle.command_base.specs.Stops.{Checks, Looks};
-ghost use Rattle.command_base.specs.Working.{card_in, session_in, table_in, HasTargetFile, IsElementary, IsKept};
-ghost use Rattle.command_base.specs.NamedFiles.{file_refusal, fits, fits_kind, IsNamed};
+ghost use Rattle.command_base.specs.Working.{card_in, session_in, table_in, HasTargetFile, IsElementary};
+ghost use Rattle.command_base.specs.NamedFiles.{file_refusal, fits, fits_kind, HasTarget, IsNamed};
 
 use crate::access::allows;
 use crate::current::Current;
@@ -58,8 +57,7 @@ pub fn find_file<B: Board>(
     target: Target,
     need: Need,
 ) -> Result<TargetFile, Stop>
-    requires kept { IsKept store.old current.now }
-    requires target { IsTarget target }
+    requires target { HasTarget store.old current.now target }
     ensures { Looks store.old store.new result
         (λ file. IsNamed (committed store.old) current.now target need file.number file.entry)
         (λ refusal. refused_by (file_refusals (card_in store.old) (session_in store.old current.now) target
@@ -144,8 +142,7 @@ pub(crate) fn find_target<B: Board>(
     current: &Current,
     target: Target,
 ) -> Result<Option<u8>, StoreErr>
-    requires kept { IsKept store.old current.now }
-    requires target { IsTarget target }
+    requires target { HasTarget store.old current.now target }
     ensures found { Learns store.old store.new result
         (λ found. target_of (card_in store.old).tree (session_in store.old current.now) target
         ≡ option_map (path_of (table_in store.old)) found) }

@@ -1,10 +1,10 @@
 //! READ BINARY and UPDATE BINARY (ISO/IEC 7816-4, 11.3).
 ghost use Rattle.std.specs.Prelude.{◌≡◌, ◌==◌, if◌then◌else◌, []};
-ghost use Rattle.card_model.specs.Requests.{IsTarget, read_binary, update_binary, HasBetween};
+ghost use Rattle.card_model.specs.Requests.{read_binary, update_binary, HasBetween};
 ghost use Rattle.command_base.specs.Served.{Executes};
 ghost use Rattle.command_base.specs.InPlace.{ExecutesInPlace};
 ghost use Rattle.command_base.specs.Stops.{reply};
-ghost use Rattle.command_base.specs.Working.{IsKept};
+ghost use Rattle.command_base.specs.NamedFiles.{HasTarget};
 ghost use Rattle.card_model.specs.BinaryCommands.{end_status};
 
 use apdu_core::{Answer, BinaryPlace, Sw};
@@ -37,8 +37,7 @@ pub fn read_file<B: Board>(
     expected: u8,
     answer: &mut Answer,
 ) -> Result<Sw, Stop>
-    requires kept { IsKept store.old current.old }
-    requires target { IsTarget place.target }
+    requires target { HasTarget store.old current.old place.target }
     requires empty { answer.old.items ≡ [] }
     ensures { Executes (read_binary place.target place.offset expected) store.old current.old store.new current.new
         answer.new.items (reply result) }
@@ -57,8 +56,7 @@ pub fn update_file<B: Board>(
     place: BinaryPlace,
     bytes: &[u8],
 ) -> Result<Sw, Stop>
-    requires kept { IsKept store.old current.old }
-    requires target { IsTarget place.target }
+    requires target { HasTarget store.old current.old place.target }
     requires bytes { HasBetween 1 255 bytes.now }
     ensures { ExecutesInPlace (update_binary place.target place.offset bytes.now) store.old current.old store.new
         current.new [] (reply result) }

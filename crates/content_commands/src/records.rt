@@ -1,7 +1,7 @@
 //! READ, UPDATE, APPEND and SEARCH RECORD (ISO/IEC 7816-4, 11.4).
 ghost use Rattle.std.specs.Prelude.{◌≡◌, ◌≢◌, ◌≤◌, ◌==◌, ◌&&◌, not, [], length, Some};
 ghost use Rattle.undo_journal.specs.Memory.{committed};
-ghost use Rattle.card_model.specs.Requests.{IsTarget, append_record as appending, read_record as reading};
+ghost use Rattle.card_model.specs.Requests.{append_record as appending, read_record as reading};
 ghost use Rattle.card_model.specs.Requests.{search_record as searching, update_record as updating, HasBetween};
 ghost use Rattle.command_base.specs.declared.target_file.Structure.TheVariants as Structure;
 ghost use Rattle.card_model.specs.Behaviours.{refused_by};
@@ -10,7 +10,8 @@ ghost use Rattle.card_model.specs.Guards.{file_refusals};
 ghost use Rattle.command_base.specs.Served.{Executes};
 ghost use Rattle.command_base.specs.InPlace.{ExecutesInPlace};
 ghost use Rattle.command_base.specs.Stops.{reply, Looks};
-ghost use Rattle.command_base.specs.Working.{card_in, session_in, IsKept};
+ghost use Rattle.command_base.specs.Working.{card_in, session_in};
+ghost use Rattle.command_base.specs.NamedFiles.{HasTarget};
 ghost use Rattle.content_commands.specs.RecordParts.{need_replacing, IsRecordFile};
 ghost use Rattle.card_model.specs.RecordCommands.{pointer_found, search_status};
 
@@ -56,8 +57,7 @@ pub(crate) fn find_records<B: Board>(
     target: Target,
     need: Need,
 ) -> Result<RecordFile, Stop>
-    requires kept { IsKept store.old current.now }
-    requires target { IsTarget target }
+    requires target { HasTarget store.old current.now target }
     requires records { need.structure ≢ Structure.Bytes }
     ensures { Looks store.old store.new result
         (IsRecordFile (committed store.old) current.now target need)
@@ -78,8 +78,7 @@ pub fn read_record<B: Board>(
     expected: u8,
     answer: &mut Answer,
 ) -> Result<Sw, Stop>
-    requires kept { IsKept store.old current.old }
-    requires target { IsTarget target }
+    requires target { HasTarget store.old current.old target }
     requires empty { answer.old.items ≡ [] }
     ensures { Executes (reading target choice expected) store.old current.old store.new current.new
         answer.new.items (reply result) }
@@ -106,8 +105,7 @@ pub fn update_record<B: Board>(
     choice: RecordChoice,
     bytes: &[u8],
 ) -> Result<Sw, Stop>
-    requires kept { IsKept store.old current.old }
-    requires target { IsTarget target }
+    requires target { HasTarget store.old current.old target }
     requires bytes { HasBetween 1 255 bytes.now }
     ensures { ExecutesInPlace (updating target choice bytes.now) store.old current.old store.new current.new []
         (reply result) }
@@ -129,8 +127,7 @@ pub fn append_record<B: Board>(
     target: Target,
     bytes: &[u8],
 ) -> Result<Sw, Stop>
-    requires kept { IsKept store.old current.old }
-    requires target { IsTarget target }
+    requires target { HasTarget store.old current.old target }
     requires bytes { HasBetween 1 255 bytes.now }
     ensures { ExecutesInPlace (appending target bytes.now) store.old current.old store.new current.new []
         (reply result) }
@@ -154,8 +151,7 @@ pub fn search_record<B: Board>(
     expected: Option<u8>,
     answer: &mut Answer,
 ) -> Result<Sw, Stop>
-    requires kept { IsKept store.old current.old }
-    requires target { IsTarget target }
+    requires target { HasTarget store.old current.old target }
     requires few { length text.now ≤ 255 }
     requires empty { answer.old.items ≡ [] }
     ensures { Executes (searching target first direction text.now expected) store.old current.old store.new current.new

@@ -3,7 +3,7 @@
 ghost use Rattle.std.specs.Prelude.{◌≡◌, ◌⊎◌, ◌&&◌, ◌≤◌, nat_le, length, Some, IfOk, OnOk};
 ghost use Rattle.std.specs.Prelude.{MatchResult, if◌then◌else◌};
 ghost use Rattle.std.specs.Result.{result_err};
-ghost use Rattle.undo_journal.specs.Memory.{committed, current, InRuns, IsReady};
+ghost use Rattle.undo_journal.specs.Memory.{committed, current, InRuns};
 ghost use Rattle.undo_journal.specs.Lent.{memory_of};
 ghost use Rattle.undo_journal.specs.StoreCalls.{Learns, OnlyReads, Changes, SetsIn};
 ghost use Rattle.card_state.specs.declared.status.Sw.{Sw};
@@ -16,13 +16,13 @@ ghost use Rattle.file_tree.specs.Formats.{block_count};
 ghost use Rattle.file_tree.specs.Kinds.{kind_byte};
 ghost use Rattle.file_tree.specs.declared.layout.TheConstants.{CREATE_WRITES, MOST_FILE_BLOCKS};
 ghost use Rattle.file_tree.specs.Table.{table, path_of};
-ghost use Rattle.file_tree.specs.Trees.{tree_of, TreeStands};
+ghost use Rattle.file_tree.specs.Trees.{tree_of};
 ghost use Rattle.file_tree.specs.TreeChanges.{SameTree};
 ghost use Rattle.file_tree.specs.Indexes.{IsIndex};
 ghost use Rattle.file_changes.specs.Creations.{CreatesNew, TellsCreation, kind_number};
 ghost use Rattle.card_state.specs.NewFiles.{low_bits, short_for, short_of_new};
 ghost use Rattle.file_changes.specs.CreationRefusals.{creation_refusal};
-ghost use Rattle.file_lookup.specs.StoredFiles.{HasFile};
+ghost use Rattle.file_lookup.specs.StoredFiles.{HasFile, HasTree};
 ghost use Rattle.file_changes.specs.CreationParts.{FindsPlace, AddsFile, FillsAndAdds, FillsOrAdds};
 ghost use Rattle.file_changes.specs.CreationParts.{entry_for, record_length_of_kind, existing_of_kind};
 ghost use Rattle.file_changes.specs.CreationParts.{padded, no_chain, short_option};
@@ -195,9 +195,8 @@ fn write_file<B: Board>(
     entry: Entry,
     blocks: u16,
 ) -> Result<(), StoreErr>
-    requires ready { IsReady store.old }
+    requires tree { HasTree store.old }
     requires entry { IsNewEntry e entry }
-    requires tree { TreeStands (committed store.old) }
     requires enough { blocks ≤ length (free_chain (committed store.old)) }
     requires few { blocks ≤ MOST_FILE_BLOCKS }
     ensures any_exit { FillsOrAdds (committed store.old) e entry blocks (committed store.new) }

@@ -9,10 +9,10 @@ ghost use Rattle.undo_journal.specs.StoreCalls.{Learns, OnlyReads, Changes};
 ghost use Rattle.card_state.specs.LifeCycle.{life_cycle_byte};
 ghost use Rattle.card_state.specs.FileLives.{life_at, next_life};
 ghost use Rattle.file_tree.specs.States.{with_card_terminated, ChangesLife};
-ghost use Rattle.file_tree.specs.Table.{table, entry_in, path_of};
+ghost use Rattle.file_tree.specs.Table.{table, path_of};
 ghost use Rattle.file_tree.specs.Trees.{tree_of};
 ghost use Rattle.file_tree.specs.TreeParts.{TellsLife};
-ghost use Rattle.file_lookup.specs.StoredFiles.{HasFile};
+ghost use Rattle.file_lookup.specs.StoredFiles.{HasFile, HasStoredEntry};
 
 use crate::writing::two_bytes;
 use block_chain::HEADER_PAGE;
@@ -32,8 +32,7 @@ pub fn next_life_cycle<B: Board>(
     entry: &Entry,
     command: LifeCycleCommand,
 ) -> Result<Option<LifeCycle>, StoreErr>
-    requires file { HasFile store.old e }
-    requires entry { entry.now ≡ entry_in (table (committed store.old)) e }
+    requires entry { HasStoredEntry store.old e entry.now }
     ensures { Learns store.old store.new result (λ next. next
         ≡ next_life (tree_of (committed store.old)) (path_of (table (committed store.old)) e) command) }
 {

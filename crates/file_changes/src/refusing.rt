@@ -7,10 +7,9 @@ ghost use Rattle.card_state.specs.declared.status.TheConstants.Sw.{FILE_EXISTS, 
 ghost use Rattle.card_state.specs.FileControl.{IsShort, IsCreatable};
 ghost use Rattle.file_tree.specs.Table.{ancestor, table, path_of};
 ghost use Rattle.file_tree.specs.Trees.{tree_of};
-ghost use Rattle.file_tree.specs.Indexes.{IsIndex};
 ghost use Rattle.card_state.specs.NewFiles.{has_short_given};
 ghost use Rattle.file_changes.specs.CreationRefusals.{taken_refusal};
-ghost use Rattle.file_lookup.specs.StoredFiles.{HasFile};
+ghost use Rattle.file_lookup.specs.StoredFiles.{HasFile, HasIndexed};
 ghost use Rattle.file_changes.specs.CreationParts.{TellsFreeEntry};
 
 use card_state::{Fcp, ShortIdentifier, Sw};
@@ -100,8 +99,7 @@ pub(crate) fn taken<B: Board>(
     df: u8,
     fcp: &Fcp<'_>,
 ) -> Result<Option<Sw>, StoreErr>
-    requires df { HasFile store.old df }
-    requires index { IsIndex (table (committed store.old)) index.now }
+    requires df { HasIndexed store.old index.now df }
     requires fcp { IsCreatable fcp.now }
     ensures { Learns store.old store.new result (λ status. status
         ≡ taken_refusal (tree_of (committed store.old)) (path_of (table (committed store.old)) df) fcp.now) }

@@ -8,7 +8,7 @@ ghost use Rattle.file_tree.specs.Table.{table, entry_in, path_of};
 ghost use Rattle.file_tree.specs.Trees.{tree_of};
 ghost use Rattle.file_tree.specs.Entries.{is_allowed_by};
 ghost use Rattle.file_tree.specs.States.{barred_up};
-ghost use Rattle.file_lookup.specs.StoredFiles.{HasFile};
+ghost use Rattle.file_lookup.specs.StoredFiles.{HasFile, HasStoredEntry};
 
 use crate::reading::read_entry_head;
 use card_state::{AccessBit, LifeCycle, PinSet, allows};
@@ -51,8 +51,7 @@ pub fn is_below_barred<B: Board>(store: &mut Store<B>, e: u8, parent: u8) -> Res
 /// # Errors
 /// The store's failure: power was lost, or the device failed.
 pub fn is_barred_at<B: Board>(store: &mut Store<B>, e: u8, entry: &Entry) -> Result<bool, StoreErr>
-    requires file { HasFile store.old e }
-    requires entry { entry.now ≡ entry_in (table (committed store.old)) e }
+    requires entry { HasStoredEntry store.old e entry.now }
     ensures { Learns store.old store.new result (λ barred. barred
         ≡ is_barred (tree_of (committed store.old)) (path_of (table (committed store.old)) e)) }
 {

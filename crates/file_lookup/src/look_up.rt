@@ -11,7 +11,7 @@ ghost use Rattle.file_tree.specs.declared.kinds.EntryKind.TheVariants.{Free, Tra
 ghost use Rattle.file_tree.specs.Trees.{tree_of};
 ghost use Rattle.file_tree.specs.Indexes.{IsIndex};
 ghost use Rattle.file_tree.specs.TreeParts.{TellsShort, TellsBeside, TellsAbove};
-ghost use Rattle.file_lookup.specs.StoredFiles.{HasFile};
+ghost use Rattle.file_lookup.specs.StoredFiles.{HasFile, HasIndexed};
 
 use crate::reading::{read_entry, read_entry_head};
 use card_state::identifiers::MASTER_FILE;
@@ -63,8 +63,7 @@ fn find_beside<B: Board>(
     df: u8,
     identifier: u16,
 ) -> Result<Reached, StoreErr>
-    requires df { HasFile store.old df }
-    requires index { IsIndex (table (committed store.old)) index.now }
+    requires df { HasIndexed store.old index.now df }
     ensures { Learns store.old store.new result (TellsBeside (table (committed store.old)) df identifier) }
 {
     if df == 0 {
@@ -119,8 +118,7 @@ pub fn select<B: Board>(
     df: u8,
     identifier: u16,
 ) -> Result<Reached, StoreErr>
-    requires df { HasFile store.old df }
-    requires index { IsIndex (table (committed store.old)) index.now }
+    requires df { HasIndexed store.old index.now df }
     ensures found { IfOk result (λ found. option_map (path_of (table (committed store.old))) found
         ≡ reached (tree_of (committed store.old)) (path_of (table (committed store.old)) df) identifier) }
     ensures used { IfOk result (λ found. IfSome found (IsUsed (table (committed store.old)))) }

@@ -10,7 +10,7 @@ ghost use Rattle.file_tree.specs.Table.{table, path_of, IsUsed};
 ghost use Rattle.file_tree.specs.Trees.{tree_of, TreeStands};
 ghost use Rattle.file_tree.specs.Indexes.{IsIndex};
 ghost use Rattle.file_tree.specs.Naming.{BearsName, BearsNameAt, TellsNamed};
-ghost use Rattle.file_lookup.specs.StoredFiles.{HasFile};
+ghost use Rattle.file_lookup.specs.StoredFiles.{HasFile, HasTree};
 
 use crate::reading::{read_entry, read_entry_head};
 use card_state::limits::MOST_NAME_BYTES;
@@ -68,8 +68,7 @@ fn first_named<B: Board>(store: &mut Store<B>, name: &[u8]) -> Result<Reached, S
 /// # Errors
 /// The store's failure: power was lost, or the device failed.
 pub fn find_name<B: Board>(store: &mut Store<B>, name: &[u8]) -> Result<Reached, StoreErr>
-    requires ready { IsReady store.old }
-    requires tree { TreeStands (committed store.old) }
+    requires tree { HasTree store.old }
     ensures found { IfOk result (λ found. (df : Path) → option_map (path_of (table (committed store.old))) found
         ≡ selected (tree_of (committed store.old)) df (by_name name.now)) }
     ensures used { IfOk result (λ found. IfSome found (IsUsed (table (committed store.old)))) }

@@ -1,8 +1,7 @@
 //! SELECT (ISO/IEC 7816-4, 11.2.2).
-ghost use Rattle.std.specs.Prelude.{◌≡◌, ◌<◌, [], None, Some, option_map, IfOk, IfSome, OnErr};
+ghost use Rattle.std.specs.Prelude.{◌≡◌, [], None, Some, option_map, IfOk, IfSome, OnErr};
 ghost use Rattle.std.specs.Result.{result_err};
 ghost use Rattle.undo_journal.specs.StoreCalls.{Learns};
-ghost use Rattle.undo_journal.specs.Memory.{IsReady};
 ghost use Rattle.apdu_core.specs.ParsedCommands.{IsFilePath, IsSelector, identifiers_in, selection_of};
 ghost use Rattle.card_model.specs.Requests.{select as selection};
 ghost use Rattle.file_tree.specs.Table.{entry_in, path_of, IsUsed};
@@ -11,7 +10,7 @@ ghost use Rattle.card_model.specs.SelectCommand.{selection_status};
 ghost use Rattle.command_base.specs.Served.{Executes};
 ghost use Rattle.command_base.specs.Stops.{Looks, reply};
 ghost use Rattle.command_base.specs.Working.{card_in, session_in, table_in, IsIndexed};
-ghost use Rattle.command_base.specs.TemplateParts.{data_in, template_in, IsToldEntry};
+ghost use Rattle.command_base.specs.TemplateParts.{data_in, template_in, HasToldEntry, IsToldEntry};
 ghost use Rattle.card_model.specs.Guards.{IsGiven};
 
 use crate::templates::template_of;
@@ -103,9 +102,7 @@ fn give_data<B: Board>(
     expected: Option<u8>,
     answer: &mut Answer,
 ) -> Result<(), Stop>
-    requires ready { IsReady store.old }
-    requires within { e < 64 }
-    requires told { IsToldEntry (entry_in (table_in store.old) e) }
+    requires entry { HasToldEntry store.old e }
     requires empty { answer.old.items ≡ [] }
     ensures data { Looks store.old store.new result
         (λ _. IsGiven expected (data_in returned (entry_in (table_in store.old) e)) answer.new.items None)

@@ -38,18 +38,12 @@ pub returns-in-Select-clause-space : goal.returns-in-Select-clause-space
 unfolding commits
 returns-in-Select-clause-space g c = space_left _ _ _ _ _ _ _ _ c.select_file.ensures tt c.requires.whole.space
 
-pub read_file-requires-clause-target : goal.read_file-requires-clause-target
-read_file-requires-clause-target g c = (subst IsCommandInRange c.in-ReadBinary.is c.requires.in_range).0
-
 pub returns-in-ReadBinary-clause-serves : goal.returns-in-ReadBinary-clause-serves
 returns-in-ReadBinary-clause-serves g c = told _ _ _ _ _ _ _ c.in-ReadBinary.is _ c.read_file.ensures
 
 pub returns-in-ReadBinary-clause-space : goal.returns-in-ReadBinary-clause-space
 unfolding commits
 returns-in-ReadBinary-clause-space g c = space_left _ _ _ _ _ _ _ _ c.read_file.ensures tt c.requires.whole.space
-
-pub update_file-requires-clause-target : goal.update_file-requires-clause-target
-update_file-requires-clause-target g c = (subst IsCommandInRange c.in-UpdateBinary.is c.requires.in_range).0
 
 pub update_file-requires-clause-bytes : goal.update_file-requires-clause-bytes
 update_file-requires-clause-bytes g c =
@@ -70,18 +64,12 @@ pub returns-in-DeleteFile-clause-serves : goal.returns-in-DeleteFile-clause-serv
 returns-in-DeleteFile-clause-serves g c =
     silent _ _ _ _ _ _ _ c.in-DeleteFile.is _ c.requires.empty c.delete_file.ensures.serves
 
-pub read_record-requires-clause-target : goal.read_record-requires-clause-target
-read_record-requires-clause-target g c = (subst IsCommandInRange c.in-ReadRecord.is c.requires.in_range).0
-
 pub returns-in-ReadRecord-clause-serves : goal.returns-in-ReadRecord-clause-serves
 returns-in-ReadRecord-clause-serves g c = told _ _ _ _ _ _ _ c.in-ReadRecord.is _ c.read_record.ensures
 
 pub returns-in-ReadRecord-clause-space : goal.returns-in-ReadRecord-clause-space
 unfolding commits
 returns-in-ReadRecord-clause-space g c = space_left _ _ _ _ _ _ _ _ c.read_record.ensures tt c.requires.whole.space
-
-pub update_record-requires-clause-target : goal.update_record-requires-clause-target
-update_record-requires-clause-target g c = (subst IsCommandInRange c.in-UpdateRecord.is c.requires.in_range).0
 
 pub update_record-requires-clause-bytes : goal.update_record-requires-clause-bytes
 update_record-requires-clause-bytes g c =
@@ -94,9 +82,6 @@ returns-in-UpdateRecord-clause-serves g c =
 pub returns-in-UpdateRecord-clause-space : goal.returns-in-UpdateRecord-clause-space
 returns-in-UpdateRecord-clause-space g c = space_kept _ _ _ _ c.requires.whole.space c.update_record.ensures.space
 
-pub append_record-requires-clause-target : goal.append_record-requires-clause-target
-append_record-requires-clause-target g c = (subst IsCommandInRange c.in-AppendRecord.is c.requires.in_range).0
-
 pub append_record-requires-clause-bytes : goal.append_record-requires-clause-bytes
 append_record-requires-clause-bytes g c =
     let all = subst IsCommandInRange c.in-AppendRecord.is c.requires.in_range in (all.1, all.2)
@@ -107,9 +92,6 @@ returns-in-AppendRecord-clause-serves g c =
 
 pub returns-in-AppendRecord-clause-space : goal.returns-in-AppendRecord-clause-space
 returns-in-AppendRecord-clause-space g c = space_kept _ _ _ _ c.requires.whole.space c.append_record.ensures.space
-
-pub search_record-requires-clause-target : goal.search_record-requires-clause-target
-search_record-requires-clause-target g c = (subst IsCommandInRange c.in-SearchRecord.is c.requires.in_range).0
 
 pub search_record-requires-clause-few : goal.search_record-requires-clause-few
 search_record-requires-clause-few g c = (subst IsCommandInRange c.in-SearchRecord.is c.requires.in_range).3
@@ -267,4 +249,40 @@ pub select_file-requires-clause-card : goal.select_file-requires-clause-card
 select_file-requires-clause-card g c = record {
   kept = c.requires.whole.kept;
   index = c.requires.whole.index;
+}
+
+pub read_file-requires-clause-target : goal.read_file-requires-clause-target
+read_file-requires-clause-target g c = record {
+  kept = c.requires.whole.kept;
+  range = (subst IsCommandInRange c.in-ReadBinary.is c.requires.in_range).0;
+}
+
+pub update_file-requires-clause-target : goal.update_file-requires-clause-target
+update_file-requires-clause-target g c = record {
+  kept = c.requires.whole.kept;
+  range = (subst IsCommandInRange c.in-UpdateBinary.is c.requires.in_range).0;
+}
+
+pub read_record-requires-clause-target : goal.read_record-requires-clause-target
+read_record-requires-clause-target g c = record {
+  kept = c.requires.whole.kept;
+  range = (subst IsCommandInRange c.in-ReadRecord.is c.requires.in_range).0;
+}
+
+pub update_record-requires-clause-target : goal.update_record-requires-clause-target
+update_record-requires-clause-target g c = record {
+  kept = c.requires.whole.kept;
+  range = (subst IsCommandInRange c.in-UpdateRecord.is c.requires.in_range).0;
+}
+
+pub append_record-requires-clause-target : goal.append_record-requires-clause-target
+append_record-requires-clause-target g c = record {
+  kept = c.requires.whole.kept;
+  range = (subst IsCommandInRange c.in-AppendRecord.is c.requires.in_range).0;
+}
+
+pub search_record-requires-clause-target : goal.search_record-requires-clause-target
+search_record-requires-clause-target g c = record {
+  kept = c.requires.whole.kept;
+  range = (subst IsCommandInRange c.in-SearchRecord.is c.requires.in_range).0;
 }

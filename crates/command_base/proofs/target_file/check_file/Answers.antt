@@ -57,9 +57,6 @@ returns-in_err-allows g c = record {
       (reads_on _ _ _ _ c.is_barred_at.ensures.store.only c.in_err-allows.ensures.store);
 }
 
-pub is_barred_at-requires-clause-file : goal.is_barred_at-requires-clause-file
-is_barred_at-requires-clause-file g c = file_kept _ _ _ c.requires.file.kept c.requires.file.used
-
 pub allows-requires : goal.allows-requires
 allows-requires g c = record {
   file = record {
@@ -69,5 +66,13 @@ allows-requires g c = record {
         c.requires.file.used;
     entry = entry_still c.args.store.now c.is_barred_at.new.store c.args.file.now.number c.args.file.now.entry
         c.is_barred_at.ensures.store.only c.requires.file.entry;
+  };
+}
+
+pub is_barred_at-requires : goal.is_barred_at-requires
+is_barred_at-requires g c = record {
+  entry = record {
+    file = file_kept _ _ _ c.requires.file.kept c.requires.file.used;
+    entry = c.requires.file.entry;
   };
 }

@@ -51,7 +51,8 @@ returns-in_err-check_file g c = record {
       (λ (status : Sw). refused ≡ Some status)
       (refused-weaker c.in_err-check_file.field-0.0 (λ (status : Sw). verdict ≡ Some status)
       (λ (status : Sw). refused ≡ Some status) (λ (status : Sw) (due : verdict ≡ Some status).
-      entry-refusal m c.requires.kept.ready.usable.committed_size c.requires.kept.card c.args.current.now c.args.target
+      entry-refusal m c.requires.target.kept.ready.usable.committed_size c.requires.target.kept.card c.args.current.now
+      c.args.target
       c.args.need e file place
       ∙ ap (λ (y : Entry). file_refusal (is_barred (card_of m).tree (path_of t e)) (fits_kind c.args.need.structure
       y.kind) (allowed (card_of m) (session_of t c.args.current.now) (path_of t e) c.args.need.bit)) (sym entry)
@@ -77,7 +78,8 @@ returns g c = record {
       let entry : c.in_ok-entry.entry ≡ entry_in t e =
       c.in_ok-entry.ensures.entry ∙ ap (λ (l : List ℕ). entry_in (table l) e)
       c.find_target.ensures.found.store.only.keeps.committed_words in
-      let none = entry-refusal m c.requires.kept.ready.usable.committed_size c.requires.kept.card c.args.current.now
+      let none = entry-refusal m c.requires.target.kept.ready.usable.committed_size c.requires.target.kept.card
+      c.args.current.now
       c.args.target c.args.need e file place
       ∙ ap (λ (y : Entry). file_refusal (is_barred (card_of m).tree (path_of t e))
       (fits_kind c.args.need.structure y.kind)
@@ -86,7 +88,8 @@ returns g c = record {
       (fits_kind c.args.need.structure c.in_ok-entry.entry.kind)
       (allowed (card_of l) (session_of (table l) c.args.current.now) (path_of (table l) e) c.args.need.bit)) (sym same)
       ∙ c.in_ok-check_file.ensures.told in
-      entry-named m c.requires.kept.ready.usable.committed_size c.requires.kept.card c.args.current.now c.args.target
+      entry-named m c.requires.target.kept.ready.usable.committed_size c.requires.target.kept.card c.args.current.now
+      c.args.target
       c.args.need e file place none c.in_ok-entry.entry entry;
   store = reads_on _ _ _ _ (reads_then _ _ _ c.find_target.ensures.found.store.only c.read_entry.ensures.store.only)
       c.in_ok-check_file.ensures.store;
@@ -115,7 +118,7 @@ pub check_file-requires : goal.check_file-requires
 check_file-requires g c = record {
   file = record {
     kept = kept_still _ _ _ (reads_then _ _ _ c.find_target.ensures.found.store.only c.read_entry.ensures.store.only)
-        c.in_ok-entry.ensures.store.ready c.requires.kept;
+        c.in_ok-entry.ensures.store.ready c.requires.target.kept;
     used = let same = c.read_entry.ensures.store.only.keeps.committed_words
         ∙ c.find_target.ensures.found.store.only.keeps.committed_words in
         let file = subst (λ (o : Option ℕ). IfSome o (IsElementary (table (committed c.args.store.now))

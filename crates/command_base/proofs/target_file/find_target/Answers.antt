@@ -20,7 +20,7 @@ returns-in-Current-clause-found g c = record {
   told = let m = committed c.args.store.now in
       ap (λ (target : Target). target_of (card_of m).tree
       (session_of (table m) c.args.current.now) target) c.in-Current.is
-      ∙ current-path m c.requires.kept.card c.args.current.now c.requires.kept.current;
+      ∙ current-path m c.requires.target.kept.card c.args.current.now c.requires.target.kept.current;
   store = search rules;
 }
 
@@ -54,4 +54,4 @@ returns-in-Short-clause-child g c =
     elementary t df (Some e) child kind = record { child = child; kind = kind }
 
 pub find_short-requires-clause-df : goal.find_short-requires-clause-df
-find_short-requires-clause-df g c = df_kept _ _ c.requires.kept
+find_short-requires-clause-df g c = df_kept _ _ c.requires.target.kept

@@ -22,14 +22,16 @@ returns-in_err-file g c =
     let old = c.args.store.now in
     let x = c.args.current.now in
     halted (read_binary c.args.place.target c.args.place.offset c.args.expected) old x c.find_file.new.store (λ _. tt)
-    c.requires.kept.card c.requires.kept.current c.args.answer.now.items c.requires.empty _ _ c.from_residual.ensures.1
+    c.requires.target.kept.card c.requires.target.kept.current c.args.answer.now.items c.requires.empty _ _
+    c.from_residual.ensures.1
     c.in_err-file.ensures.store _ (read-refused (card_in old) (session_in old x) c.args.place.target c.args.place.offset
     c.args.expected) c.in_err-file.ensures.told
 
 pub read-requires : goal.read-requires
 read-requires g c =
-    let stands = found-body (committed c.args.store.now) c.requires.kept.ready.usable.committed_size
-    c.requires.kept.card c.args.current.now c.args.place.target Read c.in_ok-file.file.number c.in_ok-file.file.entry
+    let stands = found-body (committed c.args.store.now) c.requires.target.kept.ready.usable.committed_size
+    c.requires.target.kept.card c.args.current.now c.args.place.target Read c.in_ok-file.file.number
+    c.in_ok-file.file.entry
     c.in_ok-file.ensures.told c.body_of-body.result c.body_of-body.ensures (committed c.find_file.new.store)
     c.find_file.ensures.store.only.keeps.committed_words in
     let most = asked-most c.args.expected (omega arith) in
@@ -48,11 +50,12 @@ returns-in_err-read g c =
     c.read.ensures.any_exit in
     let reads = reads_on old mid c.read.new.store _ c.find_file.ensures.store.only
     (body-reads mid c.read.new.store e c.in_err-read.ensures.store) in
-    halted-with request old x c.read.new.store (λ _. tt) c.requires.kept.card c.requires.kept.current text room _ stop
+    halted-with request old x c.read.new.store (λ _. tt) c.requires.target.kept.card c.requires.target.kept.current
+    text room _ stop
     c.from_residual-in_err-read.ensures.1 reads
     (body-said _ _ _ e c.in_err-read.ensures.refusal c.in_err-read.ensures.refused (λ status past kept. (
       kept.0,
-      found-read-past (committed old) c.requires.kept.ready.usable.committed_size c.requires.kept.card x
+      found-read-past (committed old) c.requires.target.kept.ready.usable.committed_size c.requires.target.kept.card x
           c.args.place.target c.in_ok-file.file.number c.in_ok-file.file.entry c.in_ok-file.ensures.told
           c.body_of-body.result
           c.body_of-body.ensures (committed mid) c.find_file.ensures.store.only.keeps.committed_words
@@ -78,12 +81,13 @@ returns g c =
     ∙ ap (λ (n : ℕ). take n (drop c.args.place.offset (transparent_bytes (committed mid) body))) c.most_of.ensures in
     let current = sym c.naming.ensures in
     let status = sym (c.read_status.ensures ∙ ap (λ (n : ℕ). end_status n c.args.expected) c.len.ensures.value) in
-    answered request old x new (λ _. tt) c.requires.kept.card c.naming.result text c.read_status.result
+    answered request old x new (λ _. tt) c.requires.target.kept.card c.naming.result text c.read_status.result
     (reads_then old mid new c.find_file.ensures.store.only c.read.ensures.store.only) c.in_ok-read.ensures.store.ready
     (subst (λ (y : Current). IsCurrent (table_in old) y) current
-    (named-current (committed old) x e found.file c.args.place.target c.requires.kept.current))
+    (named-current (committed old) x e found.file c.args.place.target c.requires.target.kept.current))
     room
-    (found-read (committed old) c.requires.kept.ready.usable.committed_size c.requires.kept.card x c.args.place.target e
+    (found-read (committed old) c.requires.target.kept.ready.usable.committed_size c.requires.target.kept.card x
+    c.args.place.target e
     c.in_ok-file.file.entry found body c.body_of-body.ensures (committed mid)
     c.find_file.ensures.store.only.keeps.committed_words c.args.place.offset c.args.expected
     c.in_ok-read.ensures.refusal text given

@@ -19,13 +19,15 @@ returns-in_err-file g c =
     let x = c.args.current.now in
     halted-in-place (update_binary c.args.place.target c.args.place.offset c.args.bytes.now) old x
     c.find_file.new.store (λ _. tt)
-    c.requires.kept.card c.requires.kept.current [] refl _ _ c.from_residual.ensures.1 c.in_err-file.ensures.store _
+    c.requires.target.kept.card c.requires.target.kept.current [] refl _ _ c.from_residual.ensures.1
+    c.in_err-file.ensures.store _
     (update-refused (card_in old) (session_in old x) c.args.place.target c.args.place.offset c.args.bytes.now)
     c.in_err-file.ensures.told
 
 pub update-requires-clause-body : goal.update-requires-clause-body
 update-requires-clause-body g c =
-    found-body (committed c.args.store.now) c.requires.kept.ready.usable.committed_size c.requires.kept.card
+    found-body (committed c.args.store.now) c.requires.target.kept.ready.usable.committed_size
+    c.requires.target.kept.card
     c.args.current.now c.args.place.target Update c.in_ok-file.file.number c.in_ok-file.file.entry
     c.in_ok-file.ensures.told
     c.body_of-body.result c.body_of-body.ensures (committed c.find_file.new.store)
@@ -35,9 +37,11 @@ pub returns-in_err-update : goal.returns-in_err-update
 returns-in_err-update g c = record {
   serves = let old = c.args.store.now in
       let mid = c.find_file.new.store in
-      found-stopped old mid c.requires.kept.ready c.requires.kept.card c.args.current.now c.args.place.target
+      found-stopped old mid c.requires.target.kept.ready c.requires.target.kept.card c.args.current.now
+      c.args.place.target
       c.in_ok-file.file.number c.in_ok-file.file.entry c.in_ok-file.ensures.told c.body_of-body.result
-      c.body_of-body.ensures c.args.place.offset c.args.bytes.now c.find_file.ensures.store.only c.requires.kept.current
+      c.body_of-body.ensures c.args.place.offset c.args.bytes.now c.find_file.ensures.store.only
+      c.requires.target.kept.current
       c.in_ok-file.ensures.store.ready
       c.update.new.store c.update.ensures.commits.any_exit c.update.ensures.commits.by_gate
       c.update.ensures.commits.store.reports
@@ -59,18 +63,20 @@ returns g c = record {
       let new = c.update.new.store in
       let request = update_binary c.args.place.target c.args.place.offset c.args.bytes.now in
       subst (λ (y : Current). Executes request old x new y [] (Ok DONE)) (sym c.naming.ensures)
-      (found-made old mid c.requires.kept.ready c.requires.kept.card x c.args.place.target c.in_ok-file.file.number
+      (found-made old mid c.requires.target.kept.ready c.requires.target.kept.card x c.args.place.target
+      c.in_ok-file.file.number
       c.in_ok-file.file.entry c.in_ok-file.ensures.told c.body_of-body.result
       c.body_of-body.ensures c.args.place.offset c.args.bytes.now c.find_file.ensures.store.only
       c.in_ok-update.ensures.commits.refusal
       new c.update.ensures.commits.any_exit c.update.ensures.commits.by_gate c.update.ensures.commits.store.reports
       c.update.ensures.commits.store.writes
-      c.in_ok-update.ensures.commits.done c.in_ok-update.ensures.commits.store.ready c.requires.kept.current);
+      c.in_ok-update.ensures.commits.done c.in_ok-update.ensures.commits.store.ready c.requires.target.kept.current);
   space = let old = c.args.store.now in
       let x = c.args.current.now in
       let mid = c.find_file.new.store in
       let new = c.update.new.store in
-      found-space old mid c.requires.kept.ready c.requires.kept.card x c.args.place.target c.in_ok-file.file.number
+      found-space old mid c.requires.target.kept.ready c.requires.target.kept.card x c.args.place.target
+      c.in_ok-file.file.number
       c.in_ok-file.file.entry c.in_ok-file.ensures.told c.body_of-body.result
       c.body_of-body.ensures c.args.place.offset c.args.bytes.now c.find_file.ensures.store.only
       c.in_ok-update.ensures.commits.refusal

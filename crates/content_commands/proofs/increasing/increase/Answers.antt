@@ -130,3 +130,9 @@ replace_oldest-requires g c = record {
         c.in_ok-slot.ensures.found c.in_ok-slot.ensures.sum) _ c.deref.ensures.0;
   };
 }
+
+pub find_records-requires-clause-target : goal.find_records-requires-clause-target
+find_records-requires-clause-target g c = record {
+  kept = c.requires.kept;
+  range = tt;
+}

@@ -19,9 +19,9 @@ pub returns-in_err-fill : goal.returns-in_err-fill
 returns-in_err-fill g c = record {
   serves = let found = is-appendable c.args.bytes.now c.in_ok-room.room c.in_ok-file.ensures.told
       c.in_ok-room.ensures.ring c.in_ok-room.ensures.wraps c.in_ok-room.ensures.refusal in
-      appended-torn c.args.store.now c.find_records.new.store c.fill.new.store c.requires.kept.ready
-      c.requires.kept.card
-      c.args.current.now c.requires.kept.current c.find_records.ensures.store.only _ _ _ _ found
+      appended-torn c.args.store.now c.find_records.new.store c.fill.new.store c.requires.target.kept.ready
+      c.requires.target.kept.card
+      c.args.current.now c.requires.target.kept.current c.find_records.ensures.store.only _ _ _ _ found
       c.fill.ensures.any_exit c.fill.ensures.by_gate _
       c.in_err-fill.ensures.store _ _ (reply-failed _ _ c.from_residual-in_err-fill.ensures.1) refl;
   space = none-failed _ _ _ c.from_residual-in_err-fill.ensures.1;
@@ -31,8 +31,9 @@ pub added-requires : goal.added-requires
 added-requires g c =
     let found = is-appendable c.args.bytes.now c.in_ok-room.room c.in_ok-file.ensures.told
     c.in_ok-room.ensures.ring c.in_ok-room.ensures.wraps c.in_ok-room.ensures.refusal in
-    appended-few c.args.store.now c.find_records.new.store c.find_records.new.store c.requires.kept.ready
-    c.requires.kept.card c.args.current.now c.requires.kept.current c.find_records.ensures.store.only _ _ _ _ found
+    appended-few c.args.store.now c.find_records.new.store c.find_records.new.store c.requires.target.kept.ready
+    c.requires.target.kept.card c.args.current.now c.requires.target.kept.current c.find_records.ensures.store.only _ _
+    _ _ found
 
 pub returns : goal.returns
 returns g c = record {
@@ -42,16 +43,17 @@ returns g c = record {
       c.in_ok-room.ensures.ring c.in_ok-room.ensures.wraps c.in_ok-room.ensures.refusal in
       subst (λ (y : Current). Executes (append_record c.args.target c.args.bytes.now) old x c.fill.new.store y []
       (Ok DONE)) (sym c.pointing.ensures)
-      (appended-done old c.find_records.new.store c.fill.new.store c.requires.kept.ready c.requires.kept.card x
-      c.requires.kept.current c.find_records.ensures.store.only c.args.target c.args.bytes.now c.in_ok-file.file
+      (appended-done old c.find_records.new.store c.fill.new.store c.requires.target.kept.ready
+      c.requires.target.kept.card x
+      c.requires.target.kept.current c.find_records.ensures.store.only c.args.target c.args.bytes.now c.in_ok-file.file
       c.in_ok-room.room found
       c.fill.ensures.any_exit c.fill.ensures.by_gate _ c.in_ok-fill.ensures.store c.in_ok-fill.ensures.done
       c.in_ok-fill.ensures.store.ready c.added.result c.added.ensures);
   space = let found = is-appendable c.args.bytes.now c.in_ok-room.room c.in_ok-file.ensures.told
       c.in_ok-room.ensures.ring c.in_ok-room.ensures.wraps c.in_ok-room.ensures.refusal in
-      appended-space c.args.store.now c.find_records.new.store c.fill.new.store c.requires.kept.ready
-      c.requires.kept.card
-      c.args.current.now c.requires.kept.current c.find_records.ensures.store.only _ _ _ _ found
+      appended-space c.args.store.now c.find_records.new.store c.fill.new.store c.requires.target.kept.ready
+      c.requires.target.kept.card
+      c.args.current.now c.requires.target.kept.current c.find_records.ensures.store.only _ _ _ _ found
       c.fill.ensures.any_exit c.fill.ensures.by_gate _
       c.in_ok-fill.ensures.store c.in_ok-fill.ensures.done;
 }
@@ -61,7 +63,8 @@ returns-in_err-file g c =
     let old = c.args.store.now in
     let x = c.args.current.now in
     let request = append_record c.args.target c.args.bytes.now in
-    halted-in-place request old x c.find_records.new.store (λ _. tt) c.requires.kept.card c.requires.kept.current []
+    halted-in-place request old x c.find_records.new.store (λ _. tt) c.requires.target.kept.card
+    c.requires.target.kept.current []
     refl _ _ c.from_residual.ensures.1 c.in_err-file.ensures.store _
     (λ status refused. served-refused (card_in old) (session_in old x) request status
     (append-refused (card_in old) (session_in old x) c.args.target status c.args.bytes.now refused))
@@ -73,10 +76,12 @@ returns-in_err-room g c =
     let x = c.args.current.now in
     let request = append_record c.args.target c.args.bytes.now in
     let found = c.in_ok-file.ensures.told in
-    halted-in-place request old x c.find_records.new.store (λ _. tt) c.requires.kept.card c.requires.kept.current []
+    halted-in-place request old x c.find_records.new.store (λ _. tt) c.requires.target.kept.card
+    c.requires.target.kept.current []
     refl _ (Refused c.in_err-room.field-0.0) c.from_residual-in_err-room.ensures.1 c.in_ok-file.ensures.store _
     (λ status. served-refused (card_in old) (session_in old x) request status)
-    (append-decided (committed old) c.requires.kept.ready.usable.committed_size c.requires.kept.card x c.args.target _
+    (append-decided (committed old) c.requires.target.kept.ready.usable.committed_size c.requires.target.kept.card x
+    c.args.target _
     c.in_ok-file.file found c.args.bytes.now found.named.unrefused ∙ sym c.in_err-room.ensures.refusal)
 
 pub fill-requires : goal.fill-requires
@@ -85,12 +90,13 @@ fill-requires g c = record {
     ready = c.in_ok-file.ensures.store.ready;
     body = let found = is-appendable c.args.bytes.now c.in_ok-room.room c.in_ok-file.ensures.told
         c.in_ok-room.ensures.ring c.in_ok-room.ensures.wraps c.in_ok-room.ensures.refusal in
-        appended-body c.args.store.now c.find_records.new.store c.find_records.new.store c.requires.kept.ready
-        c.requires.kept.card c.args.current.now c.requires.kept.current c.find_records.ensures.store.only _ _ _ _ found;
+        appended-body c.args.store.now c.find_records.new.store c.find_records.new.store c.requires.target.kept.ready
+        c.requires.target.kept.card c.args.current.now c.requires.target.kept.current c.find_records.ensures.store.only
+        _ _ _ _ found;
     size = let found = is-appendable c.args.bytes.now c.in_ok-room.room c.in_ok-file.ensures.told
         c.in_ok-room.ensures.ring c.in_ok-room.ensures.wraps c.in_ok-room.ensures.refusal in
-        appended-long c.args.store.now c.find_records.new.store c.find_records.new.store c.requires.kept.ready
-        c.requires.kept.card
-        c.args.current.now c.requires.kept.current c.find_records.ensures.store.only _ _ _ _ found;
+        appended-long c.args.store.now c.find_records.new.store c.find_records.new.store c.requires.target.kept.ready
+        c.requires.target.kept.card
+        c.args.current.now c.requires.target.kept.current c.find_records.ensures.store.only _ _ _ _ found;
   };
 }

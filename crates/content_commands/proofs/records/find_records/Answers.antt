@@ -21,7 +21,8 @@ pub of-requires-clause-told : goal.of-requires-clause-told
 of-requires-clause-told g c =
     let named = c.in_ok-file.ensures.told in
     subst IsToldEntry (sym named.entry_is)
-    (told-entry (committed c.args.store.now) c.requires.kept.ready.usable.committed_size c.requires.kept.card
+    (told-entry (committed c.args.store.now) c.requires.target.kept.ready.usable.committed_size
+    c.requires.target.kept.card
     c.in_ok-file.file.number named.file.child.used)
 
 pub returns : goal.returns

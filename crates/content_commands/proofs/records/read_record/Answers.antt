@@ -52,8 +52,8 @@ pub read-requires : goal.read-requires
 read-requires g c =
     let found = is-chosen c.args.choice c.in_ok-slot.slot c.in_ok-file.ensures.told
     c.pointer_at-pointer.ensures c.in_ok-slot.ensures.found in
-    let stands = chosen-body (committed c.args.store.now) c.requires.kept.ready.usable.committed_size
-    c.requires.kept.card
+    let stands = chosen-body (committed c.args.store.now) c.requires.target.kept.ready.usable.committed_size
+    c.requires.target.kept.card
     c.args.current.now c.args.target _ _ _ found _ c.find_records.ensures.store.only.keeps.committed_words in
     let short = stands.slots.short in
     let room : c.in_ok-slot.slot.ring.record_length ≤ 258 = omega (arith, short) in
@@ -64,19 +64,20 @@ returns-then-is_other_length g c =
     let old = c.args.store.now in
     let x = c.args.current.now in
     let file = c.in_ok-file.file in
-    let sized = c.requires.kept.ready.usable.committed_size in
+    let sized = c.requires.target.kept.ready.usable.committed_size in
     let found = is-chosen c.args.choice c.in_ok-slot.slot c.in_ok-file.ensures.told
     c.pointer_at-pointer.ensures c.in_ok-slot.ensures.found in
     let has = chosen-has _ _ _ _ _ _ found in
-    let long = record_long (committed old) sized c.requires.kept.card x c.args.target c.args.choice file _ found in
+    let long = record_long (committed old) sized c.requires.target.kept.card x c.args.target c.args.choice file _ found
+    in
     let other = ap (λ (n : ℕ). not (c.args.expected == 0) && not (c.args.expected == n)) long
     ∙ sym c.is_other_length.ensures ∙ c.if-is_other_length.true in
     let status = other_status file.ring.record_length c.from.result _ c.right_length.result long c.from.ensures
     c.right_length.ensures in
     declined-empty (read_record c.args.target c.args.choice c.args.expected) old x c.find_records.new.store
-    c.args.answer.now.items c.requires.empty (λ _. tt) c.requires.kept.card c.right_length.result
-    c.find_records.ensures.store.only c.in_ok-file.ensures.store.ready c.requires.kept.current
-    (read-other (committed old) sized c.requires.kept.card x c.args.target _
+    c.args.answer.now.items c.requires.empty (λ _. tt) c.requires.target.kept.card c.right_length.result
+    c.find_records.ensures.store.only c.in_ok-file.ensures.store.ready c.requires.target.kept.current
+    (read-other (committed old) sized c.requires.target.kept.card x c.args.target _
     file found.named found.named.named.unrefused c.args.choice c.args.expected has other
     ∙ ap (refused (card_in old) (session_in old x)) status)
 
@@ -84,8 +85,8 @@ pub pointer_after-after-requires : goal.pointer_after-after-requires
 pointer_after-after-requires g c =
     let found = is-chosen c.args.choice c.in_ok-slot.slot c.in_ok-file.ensures.told
     c.pointer_at-pointer.ensures c.in_ok-slot.ensures.found in
-    let stands = chosen-body (committed c.args.store.now) c.requires.kept.ready.usable.committed_size
-    c.requires.kept.card
+    let stands = chosen-body (committed c.args.store.now) c.requires.target.kept.ready.usable.committed_size
+    c.requires.target.kept.card
     c.args.current.now c.args.target _ _ _ found _ refl in
     let few = slot-few (committed c.args.store.now) c.in_ok-slot.slot stands in
     omega (arith, few)
@@ -96,7 +97,7 @@ returns g c =
     let x = c.args.current.now in
     let file = c.in_ok-file.file in
     let e = file.number in
-    let sized = c.requires.kept.ready.usable.committed_size in
+    let sized = c.requires.target.kept.ready.usable.committed_size in
     let same = c.find_records.ensures.store.only.keeps.committed_words in
     let found = is-chosen c.args.choice c.in_ok-slot.slot c.in_ok-file.ensures.told
     c.pointer_at-pointer.ensures c.in_ok-slot.ensures.found in
@@ -106,7 +107,8 @@ returns g c =
     (pointer_from x
     c.args.target) c.args.choice) =
     c.in_ok-read.ensures.bytes ∙ (λ i. record_of (cyclic_body_records (same i) (found.ring_is i)) (number i)) in
-    let long = record_long (committed old) sized c.requires.kept.card x c.args.target c.args.choice file _ found in
+    let long = record_long (committed old) sized c.requires.target.kept.card x c.args.target c.args.choice file _ found
+    in
     let whole = ap (λ (n : ℕ). not (c.args.expected == 0) && not (c.args.expected == n)) long
     ∙ sym c.is_other_length.ensures ∙ c.if-is_other_length.false in
     let pointer : c.pointer_after-after.result ≡ pointer_after (pointer_from x c.args.target) c.args.choice
@@ -118,21 +120,22 @@ returns g c =
     c.args.choice (chosen_in file (pointer_from x c.args.target) c.args.choice)) =
     c.pointing.ensures ∙ ap (pointing_from x c.args.target e) pointer in
     let size = ap (λ (l : List ℕ). length l) text ∙ long in
-    let short = (chosen-body (committed old) sized c.requires.kept.card x c.args.target _ _ _ found _ refl).slots.short
+    let short = (chosen-body (committed old) sized c.requires.target.kept.card x c.args.target _ _ _ found _
+    refl).slots.short
     in
     let same_ring = ap (λ (r : Ring). r.record_length) found.ring_is in
     let room : length c.read.new.bytes.items ≤ 256 = omega (arith, size, short, same_ring) in
-    let current = current-is (committed old) sized c.requires.kept.card x c.args.target _ file found.named
-    c.requires.kept.current
+    let current = current-is (committed old) sized c.requires.target.kept.card x c.args.target _ file found.named
+    c.requires.target.kept.current
     (pointer_after (pointer_from x c.args.target) c.args.choice (chosen_in file (pointer_from x c.args.target)
     c.args.choice)) in
     answered (read_record c.args.target c.args.choice c.args.expected) old x
-    c.read.new.store (λ _. tt) c.requires.kept.card c.pointing.result c.read.new.bytes.items DONE
+    c.read.new.store (λ _. tt) c.requires.target.kept.card c.pointing.result c.read.new.bytes.items DONE
     (reads_then old c.find_records.new.store c.read.new.store c.find_records.ensures.store.only
     c.read.ensures.store.only) c.in_ok-read.ensures.store.ready
     (subst (λ (y : Current). IsCurrent (table_in old) y) (sym y_is) current)
     room
-    (read-whole (committed old) sized c.requires.kept.card x c.args.target _ file found.named
+    (read-whole (committed old) sized c.requires.target.kept.card x c.args.target _ file found.named
     found.named.named.unrefused
     c.args.choice c.args.expected has whole
     ∙ (λ i. outcome (card_in old) (session_in old (sym y_is i)) (sym text i) DONE))
@@ -142,7 +145,8 @@ returns-in_err-file g c =
     let old = c.args.store.now in
     let x = c.args.current.now in
     halted (read_record c.args.target c.args.choice c.args.expected) old x c.find_records.new.store (λ _. tt)
-    c.requires.kept.card c.requires.kept.current c.args.answer.now.items c.requires.empty _ _ c.from_residual.ensures.1
+    c.requires.target.kept.card c.requires.target.kept.current c.args.answer.now.items c.requires.empty _ _
+    c.from_residual.ensures.1
     c.in_err-file.ensures.store _
     (λ status refused. read-refused (card_in old) (session_in old x) c.args.target status c.args.choice
     (choice-barred (card_in old) (session_in old x) c.args.target status c.args.choice refused) c.args.expected)
@@ -155,11 +159,13 @@ returns-in_err-slot g c =
     let found = c.in_ok-file.ensures.told in
     let status = c.in_err-slot.field-0.0 in
     halted (read_record c.args.target c.args.choice c.args.expected) old x c.find_records.new.store (λ _. tt)
-    c.requires.kept.card c.requires.kept.current c.args.answer.now.items c.requires.empty _ (Refused status)
+    c.requires.target.kept.card c.requires.target.kept.current c.args.answer.now.items c.requires.empty _ (Refused
+    status)
     c.from_residual-in_err-slot.ensures.1 c.in_ok-file.ensures.store _
     (λ status refused. read-refused (card_in old) (session_in old x) c.args.target status c.args.choice refused
     c.args.expected)
-    (choice-gone (committed old) c.requires.kept.ready.usable.committed_size c.requires.kept.card x c.args.target _
+    (choice-gone (committed old) c.requires.target.kept.ready.usable.committed_size c.requires.target.kept.card x
+    c.args.target _
     c.in_ok-file.file found found.named.unrefused c.args.choice status _ c.pointer_at-pointer.ensures
     c.in_err-slot.ensures.refusal)
 
@@ -175,13 +181,13 @@ returns-in_err-read g c =
     let found = is-chosen c.args.choice c.in_ok-slot.slot c.in_ok-file.ensures.told
     c.pointer_at-pointer.ensures c.in_ok-slot.ensures.found in
     let same = c.find_records.ensures.store.only.keeps.committed_words in
-    let stands = chosen-body (committed c.args.store.now) c.requires.kept.ready.usable.committed_size
-    c.requires.kept.card c.args.current.now c.args.target _ _ _ found _ same in
-    let sized = subst IsMemory (sym same) c.requires.kept.ready.usable.committed_size in
+    let stands = chosen-body (committed c.args.store.now) c.requires.target.kept.ready.usable.committed_size
+    c.requires.target.kept.card c.args.current.now c.args.target _ _ _ found _ same in
+    let sized = subst IsMemory (sym same) c.requires.target.kept.ready.usable.committed_size in
     let long = slot-long (committed c.find_records.new.store) c.in_ok-slot.slot sized stands in
     let short = stands.slots.short in
     handed (read_record c.args.target c.args.choice c.args.expected) c.args.store.now c.args.current.now
-    c.read.new.store c.requires.kept.card c.args.current.now c.read.new.bytes.items _ c.in_err-read.field-0.0
+    c.read.new.store c.requires.target.kept.card c.args.current.now c.read.new.bytes.items _ c.in_err-read.field-0.0
     (reply-failed _ _ c.from_residual-in_err-read.ensures.1)
     (reads_on c.args.store.now c.find_records.new.store c.read.new.store _ c.find_records.ensures.store.only
     c.in_err-read.ensures.store) (part_short _ _ (omega (arith, long, short)) c.in_err-read.ensures.any_exit)

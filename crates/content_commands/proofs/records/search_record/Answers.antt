@@ -23,8 +23,8 @@ pub search-requires : goal.search-requires
 search-requires g c =
     let found = is-chosen (At c.args.first) c.in_ok-slot.slot c.in_ok-file.ensures.told
     c.pointer_at-pointer.ensures c.in_ok-slot.ensures.found in
-    let stands = chosen-body (committed c.args.store.now) c.requires.kept.ready.usable.committed_size
-    c.requires.kept.card
+    let stands = chosen-body (committed c.args.store.now) c.requires.target.kept.ready.usable.committed_size
+    c.requires.target.kept.card
     c.args.current.now c.args.target _ _ _ found _ c.find_records.ensures.store.only.keeps.committed_words in
     let few = stands.slots.few in
     let number = stands.number in
@@ -51,10 +51,12 @@ returns-then-asks_less g c =
     ∙ c.if-asks_less.true in
     let status = ap right_length (sym numbers) ∙ sym c.right_length.ensures in
     declined-empty (search_record c.args.target c.args.first c.args.direction c.args.text.now c.args.expected) old x
-    c.search.new.store c.args.answer.now.items c.requires.empty (λ _. tt) c.requires.kept.card c.right_length.result
+    c.search.new.store c.args.answer.now.items c.requires.empty (λ _. tt) c.requires.target.kept.card
+    c.right_length.result
     (reads_then old c.find_records.new.store c.search.new.store c.find_records.ensures.store.only
-    c.search.ensures.store.only) c.in_ok-search.ensures.store.ready c.requires.kept.current
-    (search-less (committed old) c.requires.kept.ready.usable.committed_size c.requires.kept.card x c.args.target _
+    c.search.ensures.store.only) c.in_ok-search.ensures.store.ready c.requires.target.kept.current
+    (search-less (committed old) c.requires.target.kept.ready.usable.committed_size c.requires.target.kept.card x
+    c.args.target _
     file found.named found.named.named.unrefused c.args.first c.args.direction c.args.text.now c.args.expected
     has less
     ∙ ap (refused (card_in old) (session_in old x)) status)
@@ -65,7 +67,7 @@ returns g c =
     let x = c.args.current.now in
     let file = c.in_ok-file.file in
     let e = file.number in
-    let sized = c.requires.kept.ready.usable.committed_size in
+    let sized = c.requires.target.kept.ready.usable.committed_size in
     let same = c.find_records.ensures.store.only.keeps.committed_words in
     let found = is-chosen (At c.args.first) c.in_ok-slot.slot c.in_ok-file.ensures.told
     c.pointer_at-pointer.ensures c.in_ok-slot.ensures.found in
@@ -89,16 +91,17 @@ returns g c =
     let given_is : c.give.new.answer.items ≡ given c.args.expected all =
     c.give.ensures.given ∙ ap (given c.args.expected) numbers in
     let status : c.status_of.result ≡ search_status all = c.status_of.ensures ∙ ap search_status numbers in
-    let current = current-is (committed old) sized c.requires.kept.card x c.args.target _ file found.named
-    c.requires.kept.current
+    let current = current-is (committed old) sized c.requires.target.kept.card x c.args.target _ file found.named
+    c.requires.target.kept.current
     (pointer_found (pointer_from x c.args.target) all) in
     answered (search_record c.args.target c.args.first c.args.direction c.args.text.now c.args.expected) old x
-    c.search.new.store (λ _. tt) c.requires.kept.card c.pointing.result c.give.new.answer.items c.status_of.result
+    c.search.new.store (λ _. tt) c.requires.target.kept.card c.pointing.result c.give.new.answer.items
+    c.status_of.result
     (reads_then old c.find_records.new.store c.search.new.store c.find_records.ensures.store.only
     c.search.ensures.store.only) c.in_ok-search.ensures.store.ready
     (subst (λ (y : Current). IsCurrent (table_in old) y) (sym y_is) current)
     c.give.ensures.room
-    (search-whole (committed old) sized c.requires.kept.card x c.args.target _ file found.named
+    (search-whole (committed old) sized c.requires.target.kept.card x c.args.target _ file found.named
     found.named.named.unrefused
     c.args.first c.args.direction c.args.text.now c.args.expected has enough
     ∙ (λ i. outcome (card_in old) (session_in old (sym y_is i)) (sym given_is i) (sym status i)))
@@ -108,7 +111,7 @@ returns-in_err-file g c =
     let old = c.args.store.now in
     let x = c.args.current.now in
     halted (search_record c.args.target c.args.first c.args.direction c.args.text.now c.args.expected) old x
-    c.find_records.new.store (λ _. tt) c.requires.kept.card c.requires.kept.current
+    c.find_records.new.store (λ _. tt) c.requires.target.kept.card c.requires.target.kept.current
     c.args.answer.now.items c.requires.empty _ _ c.from_residual.ensures.1 c.in_err-file.ensures.store _
     (λ status refused. search-refused (card_in old) (session_in old x) c.args.target status c.args.first
     (choice-barred (card_in old) (session_in old x) c.args.target status (At c.args.first) refused)
@@ -121,12 +124,13 @@ returns-in_err-slot g c =
     let found = c.in_ok-file.ensures.told in
     let status = c.in_err-slot.field-0.0 in
     halted (search_record c.args.target c.args.first c.args.direction c.args.text.now c.args.expected) old x
-    c.find_records.new.store (λ _. tt) c.requires.kept.card c.requires.kept.current
+    c.find_records.new.store (λ _. tt) c.requires.target.kept.card c.requires.target.kept.current
     c.args.answer.now.items c.requires.empty _ (Refused status) c.from_residual-in_err-slot.ensures.1
     c.in_ok-file.ensures.store _
     (λ status refused. search-refused (card_in old) (session_in old x) c.args.target status c.args.first refused
     c.args.direction c.args.text.now c.args.expected)
-    (choice-gone (committed old) c.requires.kept.ready.usable.committed_size c.requires.kept.card x c.args.target _
+    (choice-gone (committed old) c.requires.target.kept.ready.usable.committed_size c.requires.target.kept.card x
+    c.args.target _
     c.in_ok-file.file found found.named.unrefused (At c.args.first) status _ c.pointer_at-pointer.ensures
     c.in_err-slot.ensures.refusal)
 
@@ -135,7 +139,7 @@ returns-in_err-search g c =
     let none : length c.args.answer.now.items ≡ 0 = ap (λ (l : List ℕ). length l) c.requires.empty in
     handed (search_record c.args.target c.args.first c.args.direction c.args.text.now c.args.expected)
     c.args.store.now
-    c.args.current.now c.search.new.store c.requires.kept.card c.args.current.now c.args.answer.now.items _
+    c.args.current.now c.search.new.store c.requires.target.kept.card c.args.current.now c.args.answer.now.items _
     c.in_err-search.field-0.0 (reply-failed _ _ c.from_residual-in_err-search.ensures.1)
     (reads_on c.args.store.now c.find_records.new.store c.search.new.store _ c.find_records.ensures.store.only
     c.in_err-search.ensures.store) (omega (arith, none))

@@ -21,9 +21,9 @@ pub returns-in_err-replace : goal.returns-in_err-replace
 returns-in_err-replace g c = record {
   serves = let found = is-replaceable c.args.choice c.args.bytes.now c.in_ok-slot.slot c.replacing.ensures
       c.in_ok-file.ensures.told c.pointer_at-pointer.ensures c.in_ok-slot.ensures.found c.in_ok-slot.ensures.refusal in
-      replaced-torn c.args.store.now c.find_records.new.store c.replace.new.store c.requires.kept.ready
-      c.requires.kept.card
-      c.args.current.now c.requires.kept.current c.find_records.ensures.store.only _ _ _ _ _ found
+      replaced-torn c.args.store.now c.find_records.new.store c.replace.new.store c.requires.target.kept.ready
+      c.requires.target.kept.card
+      c.args.current.now c.requires.target.kept.current c.find_records.ensures.store.only _ _ _ _ _ found
       c.replace.ensures.any_exit c.replace.ensures.by_gate _ c.in_err-replace.ensures.store _ _
       (reply-failed _ _ c.from_residual-in_err-replace.ensures.1) refl;
   space = none-failed _ _ _ c.from_residual-in_err-replace.ensures.1;
@@ -33,8 +33,9 @@ pub pointer_replaced-after-requires : goal.pointer_replaced-after-requires
 pointer_replaced-after-requires g c =
     let found = is-replaceable c.args.choice c.args.bytes.now c.in_ok-slot.slot c.replacing.ensures
     c.in_ok-file.ensures.told c.pointer_at-pointer.ensures c.in_ok-slot.ensures.found c.in_ok-slot.ensures.refusal in
-    replaced-few c.args.store.now c.find_records.new.store c.find_records.new.store c.requires.kept.ready
-    c.requires.kept.card c.args.current.now c.requires.kept.current c.find_records.ensures.store.only _ _ _ _ _ found
+    replaced-few c.args.store.now c.find_records.new.store c.find_records.new.store c.requires.target.kept.ready
+    c.requires.target.kept.card c.args.current.now c.requires.target.kept.current c.find_records.ensures.store.only _ _
+    _ _ _ found
 
 pub returns : goal.returns
 returns g c = record {
@@ -48,8 +49,10 @@ returns g c = record {
       subst (λ (y : Current). Executes (update_record c.args.target choice c.args.bytes.now) old x c.replace.new.store
       y []
       (Ok DONE)) (sym c.pointing.ensures)
-      (replaced-done old c.find_records.new.store c.replace.new.store c.requires.kept.ready c.requires.kept.card x
-      c.requires.kept.current c.find_records.ensures.store.only c.args.target choice c.args.bytes.now file slot found
+      (replaced-done old c.find_records.new.store c.replace.new.store c.requires.target.kept.ready
+      c.requires.target.kept.card x
+      c.requires.target.kept.current c.find_records.ensures.store.only c.args.target choice c.args.bytes.now file slot
+      found
       c.replace.ensures.any_exit c.replace.ensures.by_gate _ c.in_ok-replace.ensures.store
       c.in_ok-replace.ensures.done
       c.in_ok-replace.ensures.store.ready c.pointer_replaced-after.result (c.pointer_replaced-after.ensures
@@ -57,9 +60,9 @@ returns g c = record {
       c.pointer_at-pointer.ensures));
   space = let found = is-replaceable c.args.choice c.args.bytes.now c.in_ok-slot.slot c.replacing.ensures
       c.in_ok-file.ensures.told c.pointer_at-pointer.ensures c.in_ok-slot.ensures.found c.in_ok-slot.ensures.refusal in
-      replaced-space c.args.store.now c.find_records.new.store c.replace.new.store c.requires.kept.ready
-      c.requires.kept.card
-      c.args.current.now c.requires.kept.current c.find_records.ensures.store.only _ _ _ _ _ found
+      replaced-space c.args.store.now c.find_records.new.store c.replace.new.store c.requires.target.kept.ready
+      c.requires.target.kept.card
+      c.args.current.now c.requires.target.kept.current c.find_records.ensures.store.only _ _ _ _ _ found
       c.replace.ensures.any_exit c.replace.ensures.by_gate _ c.in_ok-replace.ensures.store
       c.in_ok-replace.ensures.done;
 }
@@ -73,7 +76,8 @@ returns-in_err-file g c =
     let old = c.args.store.now in
     let x = c.args.current.now in
     let request = update_record c.args.target c.args.choice c.args.bytes.now in
-    halted-in-place request old x c.find_records.new.store (λ _. tt) c.requires.kept.card c.requires.kept.current []
+    halted-in-place request old x c.find_records.new.store (λ _. tt) c.requires.target.kept.card
+    c.requires.target.kept.current []
     refl _ _ c.from_residual.ensures.1 c.in_err-file.ensures.store _
     (λ status refused. served-refused (card_in old) (session_in old x) request status
     (update-refused (card_in old) (session_in old x) c.args.target status c.args.choice c.args.bytes.now
@@ -86,10 +90,12 @@ returns-in_err-slot g c =
     let x = c.args.current.now in
     let request = update_record c.args.target c.args.choice c.args.bytes.now in
     let found = c.in_ok-file.ensures.told in
-    halted-in-place request old x c.find_records.new.store (λ _. tt) c.requires.kept.card c.requires.kept.current []
+    halted-in-place request old x c.find_records.new.store (λ _. tt) c.requires.target.kept.card
+    c.requires.target.kept.current []
     refl _ (Refused c.in_err-slot.field-0.0) c.from_residual-in_err-slot.ensures.1 c.in_ok-file.ensures.store _
     (λ status. served-refused (card_in old) (session_in old x) request status)
-    (update-decided (committed old) c.requires.kept.ready.usable.committed_size c.requires.kept.card x c.args.target _
+    (update-decided (committed old) c.requires.target.kept.ready.usable.committed_size c.requires.target.kept.card x
+    c.args.target _
     c.in_ok-file.file found c.args.bytes.now c.args.choice
     (sym (need-replaces (card_in old) (session_in old x) c.args.target c.args.choice c.replacing.result
     c.replacing.ensures) ∙ found.named.unrefused) _ c.pointer_at-pointer.ensures ∙ sym c.in_err-slot.ensures.refusal)
@@ -101,14 +107,15 @@ replace-requires g c = record {
     body = let found = is-replaceable c.args.choice c.args.bytes.now c.in_ok-slot.slot c.replacing.ensures
         c.in_ok-file.ensures.told c.pointer_at-pointer.ensures c.in_ok-slot.ensures.found c.in_ok-slot.ensures.refusal
         in
-        replaced-body c.args.store.now c.find_records.new.store c.find_records.new.store c.requires.kept.ready
-        c.requires.kept.card c.args.current.now c.requires.kept.current c.find_records.ensures.store.only _ _ _ _ _
+        replaced-body c.args.store.now c.find_records.new.store c.find_records.new.store c.requires.target.kept.ready
+        c.requires.target.kept.card c.args.current.now c.requires.target.kept.current c.find_records.ensures.store.only
+        _ _ _ _ _
         found;
     size = let found = is-replaceable c.args.choice c.args.bytes.now c.in_ok-slot.slot c.replacing.ensures
         c.in_ok-file.ensures.told c.pointer_at-pointer.ensures c.in_ok-slot.ensures.found c.in_ok-slot.ensures.refusal
         in
-        replaced-long c.args.store.now c.find_records.new.store c.find_records.new.store c.requires.kept.ready
-        c.requires.kept.card
-        c.args.current.now c.requires.kept.current c.find_records.ensures.store.only _ _ _ _ _ found;
+        replaced-long c.args.store.now c.find_records.new.store c.find_records.new.store c.requires.target.kept.ready
+        c.requires.target.kept.card
+        c.args.current.now c.requires.target.kept.current c.find_records.ensures.store.only _ _ _ _ _ found;
   };
 }

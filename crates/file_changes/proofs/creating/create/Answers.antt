@@ -213,14 +213,6 @@ returns-in_err-short-clause-store g c =
     (reads_change _ _ _ _ c.requires.df.ready.idle
     (reads_on _ _ _ _ c.find_place.ensures.store.only c.in_err-short.ensures.store))
 
-pub write_file-requires-clause-ready : goal.write_file-requires-clause-ready
-write_file-requires-clause-ready g c = c.in_ok-short.ensures.store.ready
-
-pub write_file-requires-clause-tree : goal.write_file-requires-clause-tree
-write_file-requires-clause-tree g c =
-    subst (λ (l : List ℕ). TreeStands l) (sym (c.short_of.ensures.store.only.keeps.committed_words
-    ∙ c.find_place.ensures.store.only.keeps.committed_words)) c.requires.df.tree
-
 pub returns-in_err-write_file-clause-done : goal.returns-in_err-write_file-clause-done
 returns-in_err-write_file-clause-done g c = none_ok _ _ _ c.from_residual-in_err-write_file.ensures.1
 
@@ -322,4 +314,11 @@ write_file-requires-clause-entry g c = record {
       found.2.small;
   used = λ none.
       some_kind c.args.fcp.now.kind (sym (ap (λ (x : Entry). x.kind) c.entry_for.ensures) ∙ none);
+}
+
+pub write_file-requires-clause-tree : goal.write_file-requires-clause-tree
+write_file-requires-clause-tree g c = record {
+  ready = c.in_ok-short.ensures.store.ready;
+  tree = subst (λ (l : List ℕ). TreeStands l) (sym (c.short_of.ensures.store.only.keeps.committed_words
+      ∙ c.find_place.ensures.store.only.keeps.committed_words)) c.requires.df.tree;
 }

@@ -29,12 +29,6 @@ place_told m now df fcp (Refused status) same none told =
 place_told m now df fcp (At e) same none told =
     let there = subst (λ (l : List ℕ). TellsPlace l df fcp.kind (At e)) same told in (none, there.0, there.1)
 
-pub taken-requires-clause-df : goal.taken-requires-clause-df
-taken-requires-clause-df g c = c.requires.df
-
-pub taken-requires-clause-index : goal.taken-requires-clause-index
-taken-requires-clause-index g c = c.requires.space.index
-
 pub taken-requires-clause-fcp : goal.taken-requires-clause-fcp
 taken-requires-clause-fcp g c = c.requires.fcp
 
@@ -68,4 +62,10 @@ place_for-requires g c = record {
   df = file_still _ _ _ c.taken.ensures.store.only c.in_ok-status.ensures.store.ready c.requires.df;
   free = c.requires.space.free ∙ ap (λ (l : List ℕ). free_space (block_count l) (tree_of l))
       (sym c.taken.ensures.store.only.keeps.committed_words);
+}
+
+pub taken-requires-clause-df : goal.taken-requires-clause-df
+taken-requires-clause-df g c = record {
+  file = c.requires.df;
+  index = c.requires.space.index;
 }

@@ -42,7 +42,7 @@ first_free_in m after now ps n run same blocks only free found =
 pub fill-requires-clause-free : goal.fill-requires-clause-free
 fill-requires-clause-free g c =
     let m = committed c.args.store.now in
-    laid_has_free (block_count m) m (extents (table m)) c.requires.tree.blocks
+    laid_has_free (block_count m) m (extents (table m)) c.requires.tree.tree.blocks
 
 pub returns-clause-any_exit : goal.returns-clause-any_exit
 returns-clause-any_exit g c =
@@ -90,22 +90,22 @@ returns-in_err-run-clause-store g c =
 pub returns-in_err-run-clause-by_gate : goal.returns-in_err-run-clause-by_gate
 returns-in_err-run-clause-by_gate g c =
     let m = committed c.args.store.now in
-    let sized = c.requires.ready.usable.committed_size in
+    let sized = c.requires.tree.ready.usable.committed_size in
     record {
       filled = committed c.fill.new.store;
-      tree = filled m (committed c.fill.new.store) _ sized c.requires.tree c.fill.ensures.any_exit;
+      tree = filled m (committed c.fill.new.store) _ sized c.requires.tree.tree c.fill.ensures.any_exit;
       gate = inl refl;
     }
 
 pub returns-clause-by_gate : goal.returns-clause-by_gate
 returns-clause-by_gate g c =
     let m = committed c.args.store.now in
-    let sized = c.requires.ready.usable.committed_size in
+    let sized = c.requires.tree.ready.usable.committed_size in
     let sets = c.add_file-work.ensures.store.sets in
     let last = c.store-1.given.1 (sym (sets.same_store ∙ c.begin-txn.ensures.same_store)) in
     record {
       filled = committed c.fill.new.store;
-      tree = filled m (committed c.fill.new.store) _ sized c.requires.tree c.fill.ensures.any_exit;
+      tree = filled m (committed c.fill.new.store) _ sized c.requires.tree.tree c.fill.ensures.any_exit;
       gate = ends_by_gate _ _ c.fill.new.store _ (memory_of c.add_file-work.new.txn) _ _ c.begin-txn.ensures.same last
           sets.kept c.end.ensures.any_exit;
     }
@@ -113,8 +113,8 @@ returns-clause-by_gate g c =
 pub add_file-work-requires-clause-blocks : goal.add_file-work-requires-clause-blocks
 add_file-work-requires-clause-blocks g c = record {
   free = let m = committed c.args.store.now in
-      let sized = c.requires.ready.usable.committed_size in
-      let after = filled m (committed c.fill.new.store) _ sized c.requires.tree c.fill.ensures.any_exit in
+      let sized = c.requires.tree.ready.usable.committed_size in
+      let after = filled m (committed c.fill.new.store) _ sized c.requires.tree.tree c.fill.ensures.any_exit in
       let ready : IsReady c.fill.new.store = search rules in
       let same : current (memory_of c.begin-txn.result) ≡ committed c.fill.new.store =
       ap current c.begin-txn.ensures.same ∙ sym ready.same in
@@ -122,8 +122,8 @@ add_file-work-requires-clause-blocks g c = record {
       subst family (sym same) (laid_has_free (block_count (committed c.fill.new.store)) (committed c.fill.new.store)
       (extents (table (committed c.fill.new.store))) after.stands.blocks);
   enough = let m = committed c.args.store.now in
-      let sized = c.requires.ready.usable.committed_size in
-      let after = filled m (committed c.fill.new.store) _ sized c.requires.tree c.fill.ensures.any_exit in
+      let sized = c.requires.tree.ready.usable.committed_size in
+      let after = filled m (committed c.fill.new.store) _ sized c.requires.tree.tree c.fill.ensures.any_exit in
       let ready : IsReady c.fill.new.store = search rules in
       let same : current (memory_of c.begin-txn.result) ≡ committed c.fill.new.store =
       ap current c.begin-txn.ensures.same ∙ sym ready.same in
@@ -133,12 +133,12 @@ add_file-work-requires-clause-blocks g c = record {
   first = λ some.
       let m = committed c.args.store.now in
       let n = c.args.blocks in
-      let sized = c.requires.ready.usable.committed_size in
-      let after = filled m (committed c.fill.new.store) _ sized c.requires.tree c.fill.ensures.any_exit in
+      let sized = c.requires.tree.ready.usable.committed_size in
+      let after = filled m (committed c.fill.new.store) _ sized c.requires.tree.tree c.fill.ensures.any_exit in
       let ready : IsReady c.fill.new.store = search rules in
       let same : current (memory_of c.begin-txn.result) ≡ committed c.fill.new.store =
       ap current c.begin-txn.ensures.same ∙ sym ready.same in
-      let free = laid_has_free (block_count m) m (extents (table m)) c.requires.tree.blocks in
+      let free = laid_has_free (block_count m) m (extents (table m)) c.requires.tree.tree.blocks in
       let blocks = blocks_take m n (free_chain m) (leads_blocks m _ 0 (free_chain m) free.leads) in
       first_free_in m (committed c.fill.new.store) _ (take n (free_chain m)) n _ same blocks c.fill.ensures.any_exit
       after.free (c.in_ok-run.ensures.found some);

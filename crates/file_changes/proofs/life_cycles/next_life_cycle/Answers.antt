@@ -13,13 +13,13 @@ pub returns-then-barred : goal.returns-then-barred
 returns-then-barred g c = record {
   told = let m = committed c.args.store.now in
       let e = c.args.e in
-      let rules = c.requires.file.tree.entries in
+      let rules = c.requires.entry.file.tree.entries in
       ap (λ (b : Bool). if b then None else state_after c.args.command (life_told c.args.entry.now))
       (sym c.if-barred.true)
       ∙ ap₂ (λ (b : Bool) (life : LifeCycle). if b then None else state_after c.args.command life)
-      (c.in_ok-barred.ensures.told ∙ barred_told m rules e c.requires.file.used)
-      (ap (λ (x : Entry). life_told x) c.requires.entry ∙ sym
-      (life_told_there m rules e c.requires.file.used));
+      (c.in_ok-barred.ensures.told ∙ barred_told m rules e c.requires.entry.file.used)
+      (ap (λ (x : Entry). life_told x) c.requires.entry.entry ∙ sym
+      (life_told_there m rules e c.requires.entry.file.used));
   store = c.in_ok-barred.ensures.store;
 }
 
@@ -27,14 +27,14 @@ pub returns : goal.returns
 returns g c = record {
   told = let m = committed c.args.store.now in
       let e = c.args.e in
-      let rules = c.requires.file.tree.entries in
+      let rules = c.requires.entry.file.tree.entries in
       c.next_state.ensures ∙ ap (λ (life : LifeCycle). state_after c.args.command life) c.life_cycle.ensures
       ∙ ap (λ (b : Bool). if b then None else state_after c.args.command (life_told c.args.entry.now))
       (sym c.if-barred.false)
       ∙ ap₂ (λ (b : Bool) (life : LifeCycle). if b then None else state_after c.args.command life)
-      (c.in_ok-barred.ensures.told ∙ barred_told m rules e c.requires.file.used)
-      (ap (λ (x : Entry). life_told x) c.requires.entry ∙ sym
-      (life_told_there m rules e c.requires.file.used));
+      (c.in_ok-barred.ensures.told ∙ barred_told m rules e c.requires.entry.file.used)
+      (ap (λ (x : Entry). life_told x) c.requires.entry.entry ∙ sym
+      (life_told_there m rules e c.requires.entry.file.used));
   store = c.in_ok-barred.ensures.store;
 }
 
@@ -45,7 +45,7 @@ returns-in_err-barred g c = record {
 }
 
 pub is_below_barred-requires-clause-file : goal.is_below_barred-requires-clause-file
-is_below_barred-requires-clause-file g c = c.requires.file
+is_below_barred-requires-clause-file g c = c.requires.entry.file
 
 pub is_below_barred-requires-clause-parent : goal.is_below_barred-requires-clause-parent
-is_below_barred-requires-clause-parent g c = ap (λ (x : Entry). x.parent) c.requires.entry
+is_below_barred-requires-clause-parent g c = ap (λ (x : Entry). x.parent) c.requires.entry.entry

@@ -24,12 +24,6 @@ name_is_taken m rules entries name text found taken read same is told =
     let of_entries : List Entry → Type 0 = λ t. TellsNamed t text found in
     name_told m rules name found (subst of_text same (subst of_entries read told)) ∙ sym is
 
-pub find_name-requires-clause-ready : goal.find_name-requires-clause-ready
-find_name-requires-clause-ready g c = c.requires.df.ready
-
-pub find_name-requires-clause-tree : goal.find_name-requires-clause-tree
-find_name-requires-clause-tree g c = c.requires.df.tree
-
 pub returns-in_err-named : goal.returns-in_err-named
 returns-in_err-named g c = record {
   told = none_ok _ _ _ c.from_residual.ensures.1;
@@ -44,13 +38,13 @@ is_short_taken-requires-clause-short g c =
 pub returns : goal.returns
 returns g c = record {
   told = let m = committed c.args.store.now in
-      let rules = c.requires.df.tree.entries in
+      let rules = c.requires.df.file.tree.entries in
       let tree = tree_of m in
       let path = path_of (table m) c.args.df in
       let fcp = c.args.fcp.now in
       let child : exists tree (path ++ fcp.identifier ∷ []) ≡ c.is_some.result =
-      child_told m rules c.args.df fcp.identifier c.child-child.result c.requires.df.used
-      (c.child-child.ensures m c.requires.index)
+      child_told m rules c.args.df fcp.identifier c.child-child.result c.requires.df.file.used
+      (c.child-child.ensures m c.requires.df.index)
       ∙ sym c.is_some.ensures in
       let named : has_name tree (name_bytes fcp.kind) ≡ c.is_some-2.result =
       name_is_taken m rules (table m) (name_bytes fcp.kind) _ c.in_ok-named.named c.is_some-2.result refl c.name.ensures
@@ -73,4 +67,12 @@ returns-in_err-short g c = record {
 
 pub is_short_taken-requires-clause-df : goal.is_short_taken-requires-clause-df
 is_short_taken-requires-clause-df g c =
-    file_still _ _ _ c.find_name.ensures.store.only c.in_ok-named.ensures.store.ready c.requires.df
+    file_still _ _ _ c.find_name.ensures.store.only c.in_ok-named.ensures.store.ready c.requires.df.file
+
+pub find_name-requires : goal.find_name-requires
+find_name-requires g c = record {
+  tree = record {
+    ready = c.requires.df.file.ready;
+    tree = c.requires.df.file.tree;
+  };
+}

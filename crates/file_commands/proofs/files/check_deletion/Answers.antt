@@ -123,18 +123,6 @@ returns-in_err-own g c = record {
       c.in_err-own.ensures.store);
 }
 
-pub is_barred_at-requires-clause-file : goal.is_barred_at-requires-clause-file
-is_barred_at-requires-clause-file g c =
-    file_kept _ _ _ (kept_still _ _ _ c.read_entry.ensures.store.only c.in_ok-entry.ensures.store.ready
-    c.requires.file.kept)
-    (used_still c.args.store.now c.read_entry.new.store c.args.file.now.entry.parent c.read_entry.ensures.store.only
-    c.requires.above)
-
-pub is_barred_at-requires-clause-entry : goal.is_barred_at-requires-clause-entry
-is_barred_at-requires-clause-entry g c =
-    entry_still c.args.store.now c.read_entry.new.store c.args.file.now.entry.parent c.in_ok-entry.entry
-    c.read_entry.ensures.store.only c.in_ok-entry.ensures.entry
-
 pub allows-requires : goal.allows-requires
 allows-requires g c = record {
   file = record {
@@ -159,5 +147,17 @@ allows-requires-2 g c = record {
     entry = entry_still c.args.store.now c.allows.new.store c.args.file.now.entry.parent c.in_ok-entry.entry
         (reads_then _ _ _ (reads_then _ _ _ c.read_entry.ensures.store.only c.is_barred_at.ensures.store.only)
         c.allows.ensures.store.only) c.in_ok-entry.ensures.entry;
+  };
+}
+
+pub is_barred_at-requires : goal.is_barred_at-requires
+is_barred_at-requires g c = record {
+  entry = record {
+    file = file_kept _ _ _ (kept_still _ _ _ c.read_entry.ensures.store.only c.in_ok-entry.ensures.store.ready
+        c.requires.file.kept)
+        (used_still c.args.store.now c.read_entry.new.store c.args.file.now.entry.parent c.read_entry.ensures.store.only
+        c.requires.above);
+    entry = entry_still c.args.store.now c.read_entry.new.store c.args.file.now.entry.parent c.in_ok-entry.entry
+        c.read_entry.ensures.store.only c.in_ok-entry.ensures.entry;
   };
 }

@@ -97,16 +97,6 @@ returns-in_err-is_barred_at g c = record {
       (reads_on _ _ _ _ c.read_entry.ensures.store.only c.in_err-is_barred_at.ensures.store);
 }
 
-pub is_barred_at-requires-clause-file : goal.is_barred_at-requires-clause-file
-is_barred_at-requires-clause-file g c =
-    df_kept _ _
-    (kept_still _ _ _ c.read_entry.ensures.store.only c.in_ok-entry.ensures.store.ready c.requires.kept)
-
-pub is_barred_at-requires-clause-entry : goal.is_barred_at-requires-clause-entry
-is_barred_at-requires-clause-entry g c =
-    entry_still c.args.store.now c.read_entry.new.store c.args.current.now.df c.in_ok-entry.entry
-    c.read_entry.ensures.store.only c.in_ok-entry.ensures.entry
-
 pub allows-requires : goal.allows-requires
 allows-requires g c = record {
   file = record {
@@ -118,5 +108,15 @@ allows-requires g c = record {
     entry = entry_still c.args.store.now c.is_barred_at.new.store c.args.current.now.df c.in_ok-entry.entry
         (reads_then _ _ _ c.read_entry.ensures.store.only c.is_barred_at.ensures.store.only)
         c.in_ok-entry.ensures.entry;
+  };
+}
+
+pub is_barred_at-requires : goal.is_barred_at-requires
+is_barred_at-requires g c = record {
+  entry = record {
+    file = df_kept _ _
+        (kept_still _ _ _ c.read_entry.ensures.store.only c.in_ok-entry.ensures.store.ready c.requires.kept);
+    entry = entry_still c.args.store.now c.read_entry.new.store c.args.current.now.df c.in_ok-entry.entry
+        c.read_entry.ensures.store.only c.in_ok-entry.ensures.entry;
   };
 }

@@ -41,5 +41,10 @@ returns-in-Identifier-clause-found g c =
       store = search rules;
     }
 
-pub select-requires-clause-df : goal.select-requires-clause-df
-select-requires-clause-df g c = df_kept _ _ c.requires.card.kept
+pub select-requires : goal.select-requires
+select-requires g c = record {
+  df = record {
+    file = df_kept _ _ c.requires.card.kept;
+    index = c.requires.card.index;
+  };
+}

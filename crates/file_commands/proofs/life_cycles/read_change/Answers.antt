@@ -87,16 +87,6 @@ returns-in_err-changed_by g c = record {
       c.in_ok-allowed.ensures.store);
 }
 
-pub next_life_cycle-requires-clause-file : goal.next_life_cycle-requires-clause-file
-next_life_cycle-requires-clause-file g c =
-    file_kept _ _ _ (kept_still _ _ _ c.read_entry.ensures.store.only c.in_ok-entry.ensures.store.ready c.requires.kept)
-    (used_still c.args.store.now c.read_entry.new.store c.args.number c.read_entry.ensures.store.only c.requires.used)
-
-pub next_life_cycle-requires-clause-entry : goal.next_life_cycle-requires-clause-entry
-next_life_cycle-requires-clause-entry g c =
-    entry_still c.args.store.now c.read_entry.new.store c.args.number c.in_ok-entry.entry
-    c.read_entry.ensures.store.only c.in_ok-entry.ensures.entry
-
 pub allows-requires : goal.allows-requires
 allows-requires g c = record {
   file = record {
@@ -107,5 +97,17 @@ allows-requires g c = record {
     entry = entry_still c.args.store.now c.next_life_cycle.new.store c.args.number c.in_ok-entry.entry
         (reads_then _ _ _ c.read_entry.ensures.store.only c.next_life_cycle.ensures.store.only)
         c.in_ok-entry.ensures.entry;
+  };
+}
+
+pub next_life_cycle-requires : goal.next_life_cycle-requires
+next_life_cycle-requires g c = record {
+  entry = record {
+    file = file_kept _ _ _ (kept_still _ _ _ c.read_entry.ensures.store.only c.in_ok-entry.ensures.store.ready
+        c.requires.kept)
+        (used_still c.args.store.now c.read_entry.new.store c.args.number c.read_entry.ensures.store.only
+        c.requires.used);
+    entry = entry_still c.args.store.now c.read_entry.new.store c.args.number c.in_ok-entry.entry
+        c.read_entry.ensures.store.only c.in_ok-entry.ensures.entry;
   };
 }

@@ -23,24 +23,25 @@ told m e x own up stands used is here above =
 pub returns-then-bars : goal.returns-then-bars
 returns-then-bars g c = record {
   told = let m = committed c.args.store.now in
-      told m c.args.e c.args.entry.now true (barred_up (table m) 7 c.args.e) c.requires.file.tree c.requires.file.used
-      c.requires.entry (sym c.if-bars.true ∙ c.bars.ensures ∙ ap bars c.life_cycle.ensures)
+      told m c.args.e c.args.entry.now true (barred_up (table m) 7 c.args.e) c.requires.entry.file.tree
+      c.requires.entry.file.used
+      c.requires.entry.entry (sym c.if-bars.true ∙ c.bars.ensures ∙ ap bars c.life_cycle.ensures)
       (λ i. barred_up (table m) 7 c.args.e);
-  store = reads_none _ c.requires.file.ready;
+  store = reads_none _ c.requires.entry.file.ready;
 }
 
 pub returns : goal.returns
 returns g c = record {
   told = let m = committed c.args.store.now in
-      IfOk-weaker _ _ _ (λ barred is. told m c.args.e c.args.entry.now false barred c.requires.file.tree
-      c.requires.file.used
-      c.requires.entry (sym c.if-bars.false ∙ c.bars.ensures ∙ ap bars c.life_cycle.ensures) is)
+      IfOk-weaker _ _ _ (λ barred is. told m c.args.e c.args.entry.now false barred c.requires.entry.file.tree
+      c.requires.entry.file.used
+      c.requires.entry.entry (sym c.if-bars.false ∙ c.bars.ensures ∙ ap bars c.life_cycle.ensures) is)
       c.is_below_barred.ensures.told;
   store = search rules;
 }
 
 pub is_below_barred-requires-clause-parent : goal.is_below_barred-requires-clause-parent
-is_below_barred-requires-clause-parent g c = ap (λ (x : Entry). x.parent) c.requires.entry
+is_below_barred-requires-clause-parent g c = ap (λ (x : Entry). x.parent) c.requires.entry.entry
 
 pub is_below_barred-requires-clause-file : goal.is_below_barred-requires-clause-file
-is_below_barred-requires-clause-file g c = c.requires.file
+is_below_barred-requires-clause-file g c = c.requires.entry.file

@@ -17,18 +17,18 @@ some_if false e = refl
 pub read_entry-requires-clause-within : goal.read_entry-requires-clause-within
 read_entry-requires-clause-within g c =
     let m = committed c.args.store.now in
-    used_small m c.in-Some.beside (c.in-Some.ensures m c.requires.index).0.used
+    used_small m c.in-Some.beside (c.in-Some.ensures m c.requires.df.index).0.used
 
 pub returns-then-df-eq0 : goal.returns-then-df-eq0
 returns-then-df-eq0 g c = record {
   told = λ some. absurd (some c.if-df-eq0.true);
-  store = reads_none _ c.requires.df.ready;
+  store = reads_none _ c.requires.df.file.ready;
 }
 
 pub returns-in_default : goal.returns-in_default
 returns-in_default g c = record {
   told = search rules;
-  store = reads_none _ c.requires.df.ready;
+  store = reads_none _ c.requires.df.file.ready;
 }
 
 pub returns-in_err-other : goal.returns-in_err-other
@@ -41,10 +41,11 @@ pub returns : goal.returns
 returns g c = record {
   told = let m = committed c.args.store.now in
       let of_parent : ℕ → Type 0 = λ p. TellsChild (table m) p c.args.identifier (Some c.in-Some.beside) in
-      let told = subst of_parent (c.parent.ensures m c.requires.df.tree.entries c.requires.df.used c.requires.index)
-      (c.in-Some.ensures m c.requires.index) in
+      let told = subst of_parent (c.parent.ensures m c.requires.df.file.tree.entries c.requires.df.file.used
+      c.requires.df.index)
+      (c.in-Some.ensures m c.requires.df.index) in
       beside_there (table m) c.args.df c.args.identifier c.in-Some.beside c.in_ok-other.other c.then_some.result
-      c.requires.df.tree.entries.identifiers c.if-df-eq0.false told c.in_ok-other.ensures.entry
+      c.requires.df.file.tree.entries.identifiers c.if-df-eq0.false told c.in_ok-other.ensures.entry
       (c.then_some.ensures ∙ ap (λ (found : Bool). then_some found c.in-Some.beside)
       (kind_test _ _ _ c.has_kind.ensures)
       ∙ some_if (c.in_ok-other.other.kind == 1) c.in-Some.beside);

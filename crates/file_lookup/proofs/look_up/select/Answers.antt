@@ -10,14 +10,14 @@ use Rattle.file_lookup.proofs.look_up.select.Goals as goal
 pub returns-in-Some-clause-found : goal.returns-in-Some-clause-found
 returns-in-Some-clause-found g c =
     let m = committed c.args.store.now in
-    reached_child m c.requires.df.tree.entries c.args.df c.args.identifier c.requires.df.used c.in-Some.child
-    (c.in-Some.ensures m c.requires.index)
+    reached_child m c.requires.df.file.tree.entries c.args.df c.args.identifier c.requires.df.file.used c.in-Some.child
+    (c.in-Some.ensures m c.requires.df.index)
 
 pub returns-in-Some-clause-used : goal.returns-in-Some-clause-used
-returns-in-Some-clause-used g c = (c.in-Some.ensures (committed c.args.store.now) c.requires.index).0.used
+returns-in-Some-clause-used g c = (c.in-Some.ensures (committed c.args.store.now) c.requires.df.index).0.used
 
 pub returns-in-Some-clause-store : goal.returns-in-Some-clause-store
-returns-in-Some-clause-store g c = reads_none _ c.requires.df.ready
+returns-in-Some-clause-store g c = reads_none _ c.requires.df.file.ready
 
 pub returns-in_err-beside-clause-found : goal.returns-in_err-beside-clause-found
 returns-in_err-beside-clause-found g c = none_ok _ _ _ c.from_residual.ensures.1
@@ -32,8 +32,9 @@ pub returns-in-Some-2-clause-found : goal.returns-in-Some-2-clause-found
 returns-in-Some-2-clause-found g c =
     let m = committed c.args.store.now in
     let told : Option ℕ → Type 0 = λ o. TellsBeside (table m) c.args.df c.args.identifier o in
-    reached_beside m c.requires.df.tree.entries c.args.df c.args.identifier c.requires.df.used c.in-Some-2.beside
-    (c.in_default.ensures m c.requires.index) (subst told c.in-Some-2.is c.in_ok-beside.ensures.told)
+    reached_beside m c.requires.df.file.tree.entries c.args.df c.args.identifier c.requires.df.file.used
+    c.in-Some-2.beside
+    (c.in_default.ensures m c.requires.df.index) (subst told c.in-Some-2.is c.in_ok-beside.ensures.told)
 
 pub returns-in-Some-2-clause-used : goal.returns-in-Some-2-clause-used
 returns-in-Some-2-clause-used g c =
@@ -48,18 +49,20 @@ pub returns-clause-found : goal.returns-clause-found
 returns-clause-found g c =
     let m = committed c.args.store.now in
     let told : Option ℕ → Type 0 = λ o. TellsBeside (table m) c.args.df c.args.identifier o in
-    reached_above m c.requires.df.tree.entries c.args.df c.args.identifier c.requires.df.used c.find_above.result
-    (c.in_default.ensures m c.requires.index) (subst told c.in_default-2.is c.in_ok-beside.ensures.told)
-    (c.find_above.ensures m c.requires.df.tree.entries c.requires.df.used c.requires.index)
+    reached_above m c.requires.df.file.tree.entries c.args.df c.args.identifier c.requires.df.file.used
+    c.find_above.result
+    (c.in_default.ensures m c.requires.df.index) (subst told c.in_default-2.is c.in_ok-beside.ensures.told)
+    (c.find_above.ensures m c.requires.df.file.tree.entries c.requires.df.file.used c.requires.df.index)
 
 pub returns-clause-used : goal.returns-clause-used
 returns-clause-used g c =
     let m = committed c.args.store.now in
-    told_above_used m c.requires.df.tree.entries c.args.df c.args.identifier c.requires.df.used c.find_above.result
-    (c.find_above.ensures m c.requires.df.tree.entries c.requires.df.used c.requires.index)
+    told_above_used m c.requires.df.file.tree.entries c.args.df c.args.identifier c.requires.df.file.used
+    c.find_above.result
+    (c.find_above.ensures m c.requires.df.file.tree.entries c.requires.df.file.used c.requires.df.index)
 
 pub returns-clause-store : goal.returns-clause-store
 returns-clause-store g c = c.in_ok-beside.ensures.store
 
-pub find_beside-requires-clause-df : goal.find_beside-requires-clause-df
-find_beside-requires-clause-df g c = c.requires.df
+pub find_beside-requires : goal.find_beside-requires
+find_beside-requires g c = record { df = c.requires.df }

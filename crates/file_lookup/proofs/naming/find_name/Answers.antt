@@ -6,7 +6,7 @@ use Rattle.file_lookup.proofs.naming.find_name.Goals as goal
 
 pub returns-clause-found : goal.returns-clause-found
 returns-clause-found g c =
-    IfOk-weaker _ _ _ (name_reached (committed c.args.store.now) c.requires.tree.entries c.args.name.now)
+    IfOk-weaker _ _ _ (name_reached (committed c.args.store.now) c.requires.tree.tree.entries c.args.name.now)
     c.first_named.ensures.told
 
 pub returns-clause-used : goal.returns-clause-used

@@ -106,8 +106,21 @@ returns-in-PathFromCurrent-clause-used g c =
     c.find_path.ensures.used (committed c.args.store.now) c.requires.card.kept.card.tree
     (df_used (table_in c.args.store.now) c.args.current c.requires.card.kept.current) c.requires.card.index
 
-pub select-requires-clause-df : goal.select-requires-clause-df
-select-requires-clause-df g c = df_kept _ _ c.requires.card.kept
-
 pub find_parent-requires : goal.find_parent-requires
 find_parent-requires g c = record { df = df_kept _ _ c.requires.card.kept }
+
+pub select-requires : goal.select-requires
+select-requires g c = record {
+  df = record {
+    file = df_kept _ _ c.requires.card.kept;
+    index = c.requires.card.index;
+  };
+}
+
+pub find_name-requires : goal.find_name-requires
+find_name-requires g c = record {
+  tree = record {
+    ready = c.requires.card.kept.ready;
+    tree = c.requires.card.kept.card.tree;
+  };
+}

@@ -50,7 +50,8 @@ returns-in_err-give_template-in-Template-clause-data g c = record {
 }
 
 pub give_template-requires-clause-told : goal.give_template-requires-clause-told
-give_template-requires-clause-told g c = subst IsToldEntry (sym c.in_ok-entry-in-Template.ensures.entry) c.requires.told
+give_template-requires-clause-told g c = subst IsToldEntry (sym c.in_ok-entry-in-Template.ensures.entry)
+    c.requires.entry.told
 
 pub returns-in_err-entry-in-Template-clause-data : goal.returns-in_err-entry-in-Template-clause-data
 returns-in_err-entry-in-Template-clause-data g c = record {

@@ -47,21 +47,6 @@ read_entry_head-requires-clause-within g c =
     let m = committed c.args.store.now in
     used_small m c.in-Some.e (subst (λ (o : Option ℕ). IfSome o (IsUsed (table m))) c.in-Some.is c.in_ok-e.ensures.used)
 
-pub give_data-requires-clause-within : goal.give_data-requires-clause-within
-give_data-requires-clause-within g c =
-    let m = committed c.args.store.now in
-    used_small m c.in-Some.e (subst (λ (o : Option ℕ). IfSome o (IsUsed (table m))) c.in-Some.is c.in_ok-e.ensures.used)
-
-pub give_data-requires-clause-told : goal.give_data-requires-clause-told
-give_data-requires-clause-told g c =
-    let m = committed c.args.store.now in
-    let e = c.in-Some.e in
-    let used = subst (λ (o : Option ℕ). IfSome o (IsUsed (table m))) c.in-Some.is c.in_ok-e.ensures.used in
-    let same = c.read_entry_head.ensures.store.only.keeps.committed_words
-    ∙ c.find_selected.ensures.found.store.only.keeps.committed_words in
-    subst (λ (l : List ℕ). IsToldEntry (entry_in (table l) e)) (sym same)
-    (told-entry m c.requires.card.kept.ready.usable.committed_size c.requires.card.kept.card e used)
-
 pub returns-in_err-e : goal.returns-in_err-e
 returns-in_err-e g c =
     let none : length c.args.answer.now.items ≡ 0 = ap (λ (l : List ℕ). length l) c.requires.empty in
@@ -141,3 +126,18 @@ returns g c =
     c.requires.card.kept.card e used c.requires.card.kept.ready.usable.committed_size x (selection_of c.args.selector)
     returned expected place given.0
     ∙ (λ i. outcome (card_of m) (session_of t (current i)) (sym given.1 i) (status i)))
+
+pub give_data-requires-clause-entry : goal.give_data-requires-clause-entry
+give_data-requires-clause-entry g c = record {
+  ready = c.in_ok-head.ensures.store.ready;
+  within = let m = committed c.args.store.now in
+      used_small m c.in-Some.e (subst (λ (o : Option ℕ). IfSome o (IsUsed (table m))) c.in-Some.is
+      c.in_ok-e.ensures.used);
+  told = let m = committed c.args.store.now in
+      let e = c.in-Some.e in
+      let used = subst (λ (o : Option ℕ). IfSome o (IsUsed (table m))) c.in-Some.is c.in_ok-e.ensures.used in
+      let same = c.read_entry_head.ensures.store.only.keeps.committed_words
+      ∙ c.find_selected.ensures.found.store.only.keeps.committed_words in
+      subst (λ (l : List ℕ). IsToldEntry (entry_in (table l) e)) (sym same)
+      (told-entry m c.requires.card.kept.ready.usable.committed_size c.requires.card.kept.card e used);
+}
