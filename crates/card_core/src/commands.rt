@@ -28,7 +28,6 @@ pub(crate) fn run_command<B: Board>(
     answer: &mut Answer,
 ) -> Result<Sw, StoreErr>
     requires whole { IsWholeCard parts.old }
-    requires empty { answer.old.items ≡ [] }
     ensures carries { ExecutesBytes command.now parts.old.store parts.old.current parts.new.store parts.new.current
         answer.new.items result }
     ensures space { OnOk result (parts.new.free ≡ space_in parts.new.store) }
@@ -45,12 +44,12 @@ fn parse_and_run<B: Board>(
     answer: &mut Answer,
 ) -> Result<Sw, Stop>
     requires whole { IsWholeCard parts.old }
-    requires empty { answer.old.items ≡ [] }
     ensures carries { ExecutesBytes command.now parts.old.store parts.old.current parts.new.store parts.new.current
         answer.new.items (reply result) }
     ensures space { OnOk (reply result) (parts.new.free ≡ space_in parts.new.store) }
     ensures index { OnOk (reply result) (IsIndex (table_in parts.new.store) parts.new.index) }
 {
+    answer.clear();
     let command = match Command::parse(command) {
         Ok(command) => command,
         Err(refusal) => return Err(Stop::Refused(refusal)),
@@ -69,7 +68,6 @@ fn dispatch<B: Board>(
     answer: &mut Answer,
 ) -> Result<Sw, Stop>
     requires whole { IsWholeCard parts.old }
-    requires empty { answer.old.items ≡ [] }
     requires in_range { IsCommandInRange command.now }
     ensures serves { Executes (request_of command.now) parts.old.store parts.old.current parts.new.store
         parts.new.current
@@ -77,6 +75,7 @@ fn dispatch<B: Board>(
     ensures space { OnOk (reply result) (parts.new.free ≡ space_in parts.new.store) }
     ensures index { OnOk (reply result) (IsIndex (table_in parts.new.store) parts.new.index) }
 {
+    answer.clear();
     let CardParts {
         store,
         current,

@@ -38,10 +38,10 @@ pub fn read_file<B: Board>(
     answer: &mut Answer,
 ) -> Result<Sw, Stop>
     requires target { HasTarget store.old current.old place.target }
-    requires empty { answer.old.items ≡ [] }
     ensures { Executes (read_binary place.target place.offset expected) store.old current.old store.new current.new
         answer.new.items (reply result) }
 {
+    answer.clear();
     let file = find_file(store, current, place.target, READING)?;
     let body = body_of(&file.entry);
     body.read(store, place.offset, most_of(expected), answer)?;

@@ -33,10 +33,10 @@ pub fn increase<B: Board>(
 ) -> Result<Sw, Stop>
     requires kept { IsKept store.old current.old }
     requires few { length amount.now ≤ 255 }
-    requires empty { answer.old.items ≡ [] }
     ensures { ExecutesInPlace (increasing amount.now expected) store.old current.old store.new current.new
         answer.new.items (reply result) }
 {
+    answer.clear();
     let file = find_records(store, current, Target::Current, INCREASING)?;
     if is_too_long(file.ring, amount) {
         return Err(Stop::Refused(Sw::WRONG_LENGTH));

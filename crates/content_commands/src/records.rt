@@ -79,10 +79,10 @@ pub fn read_record<B: Board>(
     answer: &mut Answer,
 ) -> Result<Sw, Stop>
     requires target { HasTarget store.old current.old target }
-    requires empty { answer.old.items ≡ [] }
     ensures { Executes (reading target choice expected) store.old current.old store.new current.new
         answer.new.items (reply result) }
 {
+    answer.clear();
     let file = find_records(store, current, target, READING)?;
     let pointer = current.pointer_at(target);
     let slot = file.find_chosen(pointer, choice)?;
@@ -153,10 +153,10 @@ pub fn search_record<B: Board>(
 ) -> Result<Sw, Stop>
     requires target { HasTarget store.old current.old target }
     requires few { length text.now ≤ 255 }
-    requires empty { answer.old.items ≡ [] }
     ensures { Executes (searching target first direction text.now expected) store.old current.old store.new current.new
         answer.new.items (reply result) }
 {
+    answer.clear();
     let file = find_records(store, current, target, READING)?;
     let pointer = current.pointer_at(target);
     let slot = file.find_chosen(pointer, RecordChoice::At(first))?;

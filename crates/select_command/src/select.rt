@@ -40,10 +40,10 @@ pub fn select_file<B: Board>(
 ) -> Result<Sw, Stop>
     requires card { IsIndexed store.old current.old index.now }
     requires selector { IsSelector selector }
-    requires empty { answer.old.items ≡ [] }
     ensures { Executes (selection (selection_of selector.entry) returned expected) store.old current.old store.new
         current.new answer.new.items (reply result) }
 {
+    answer.clear();
     let Some(e) = find_selected(store, index, *current, selector)? else {
         return Err(Stop::Refused(Sw::FILE_NOT_FOUND));
     };
@@ -103,13 +103,13 @@ fn give_data<B: Board>(
     answer: &mut Answer,
 ) -> Result<(), Stop>
     requires entry { HasToldEntry store.old e }
-    requires empty { answer.old.items ≡ [] }
     ensures data { Looks store.old store.new result
         (λ _. IsGiven expected (data_in returned (entry_in (table_in store.old) e)) answer.new.items None)
         (λ refusal. IsGiven expected (data_in returned (entry_in (table_in store.old) e))
         answer.new.items (Some refusal)) }
     ensures nothing { OnErr result (answer.new.items ≡ []) }
 {
+    answer.clear();
     match returned {
         Returned::Nothing => Ok(()),
         Returned::Template => {
@@ -128,9 +128,9 @@ fn give_data<B: Board>(
 #[inline(never)]
 fn give_template(entry: &Entry, expected: Option<u8>, answer: &mut Answer) -> Result<(), Sw>
     requires told { IsToldEntry entry.now }
-    requires empty { answer.old.items ≡ [] }
     ensures { IsGiven expected (template_in entry.now) answer.new.items (result_err result) }
 {
+    answer.clear();
     let template = template_of(entry);
     if asks_less(expected, &template) {
         return Err(right_length(&template));

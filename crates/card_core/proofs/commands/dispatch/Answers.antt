@@ -51,18 +51,18 @@ update_file-requires-clause-bytes g c =
 
 pub returns-in-UpdateBinary-clause-serves : goal.returns-in-UpdateBinary-clause-serves
 returns-in-UpdateBinary-clause-serves g c =
-    silent _ _ _ _ _ _ _ c.in-UpdateBinary.is _ c.requires.empty c.update_file.ensures.serves
+    silent _ _ _ _ _ _ _ c.in-UpdateBinary.is _ c.clear.ensures c.update_file.ensures.serves
 
 pub returns-in-UpdateBinary-clause-space : goal.returns-in-UpdateBinary-clause-space
 returns-in-UpdateBinary-clause-space g c = space_kept _ _ _ _ c.requires.whole.space c.update_file.ensures.space
 
 pub returns-in-CreateFile-clause-serves : goal.returns-in-CreateFile-clause-serves
 returns-in-CreateFile-clause-serves g c =
-    silent _ _ _ _ _ _ _ c.in-CreateFile.is _ c.requires.empty c.create_file.ensures.serves
+    silent _ _ _ _ _ _ _ c.in-CreateFile.is _ c.clear.ensures c.create_file.ensures.serves
 
 pub returns-in-DeleteFile-clause-serves : goal.returns-in-DeleteFile-clause-serves
 returns-in-DeleteFile-clause-serves g c =
-    silent _ _ _ _ _ _ _ c.in-DeleteFile.is _ c.requires.empty c.delete_file.ensures.serves
+    silent _ _ _ _ _ _ _ c.in-DeleteFile.is _ c.clear.ensures c.delete_file.ensures.serves
 
 pub returns-in-ReadRecord-clause-serves : goal.returns-in-ReadRecord-clause-serves
 returns-in-ReadRecord-clause-serves g c = told _ _ _ _ _ _ _ c.in-ReadRecord.is _ c.read_record.ensures
@@ -77,7 +77,7 @@ update_record-requires-clause-bytes g c =
 
 pub returns-in-UpdateRecord-clause-serves : goal.returns-in-UpdateRecord-clause-serves
 returns-in-UpdateRecord-clause-serves g c =
-    silent _ _ _ _ _ _ _ c.in-UpdateRecord.is _ c.requires.empty c.update_record.ensures.serves
+    silent _ _ _ _ _ _ _ c.in-UpdateRecord.is _ c.clear.ensures c.update_record.ensures.serves
 
 pub returns-in-UpdateRecord-clause-space : goal.returns-in-UpdateRecord-clause-space
 returns-in-UpdateRecord-clause-space g c = space_kept _ _ _ _ c.requires.whole.space c.update_record.ensures.space
@@ -88,7 +88,7 @@ append_record-requires-clause-bytes g c =
 
 pub returns-in-AppendRecord-clause-serves : goal.returns-in-AppendRecord-clause-serves
 returns-in-AppendRecord-clause-serves g c =
-    silent _ _ _ _ _ _ _ c.in-AppendRecord.is _ c.requires.empty c.append_record.ensures.serves
+    silent _ _ _ _ _ _ _ c.in-AppendRecord.is _ c.clear.ensures c.append_record.ensures.serves
 
 pub returns-in-AppendRecord-clause-space : goal.returns-in-AppendRecord-clause-space
 returns-in-AppendRecord-clause-space g c = space_kept _ _ _ _ c.requires.whole.space c.append_record.ensures.space
@@ -114,7 +114,7 @@ returns-in-Increase-clause-space g c = space_kept _ _ _ _ c.requires.whole.space
 
 pub returns-in-ChangeLifeCycle-clause-serves : goal.returns-in-ChangeLifeCycle-clause-serves
 returns-in-ChangeLifeCycle-clause-serves g c =
-    silent _ _ _ _ _ _ _ c.in-ChangeLifeCycle.is _ c.requires.empty c.change_life_cycle.ensures.serves
+    silent _ _ _ _ _ _ _ c.in-ChangeLifeCycle.is _ c.clear.ensures c.change_life_cycle.ensures.serves
 
 pub returns-in-ChangeLifeCycle-clause-space : goal.returns-in-ChangeLifeCycle-clause-space
 returns-in-ChangeLifeCycle-clause-space g c =
@@ -122,7 +122,7 @@ returns-in-ChangeLifeCycle-clause-space g c =
 
 pub returns-in-TerminateCardUsage-clause-serves : goal.returns-in-TerminateCardUsage-clause-serves
 returns-in-TerminateCardUsage-clause-serves g c =
-    silent _ _ _ _ _ _ _ c.in-TerminateCardUsage.is _ c.requires.empty c.terminate_card_usage.ensures
+    silent _ _ _ _ _ _ _ c.in-TerminateCardUsage.is _ c.clear.ensures c.terminate_card_usage.ensures
 
 pub returns-in-TerminateCardUsage-clause-space : goal.returns-in-TerminateCardUsage-clause-space
 unfolding commits
@@ -130,7 +130,7 @@ returns-in-TerminateCardUsage-clause-space g c =
     space_left _ _ _ _ _ _ _ _ c.terminate_card_usage.ensures (refl, tt) c.requires.whole.space
 
 pub returns-in-Verify-clause-serves : goal.returns-in-Verify-clause-serves
-returns-in-Verify-clause-serves g c = silent _ _ _ _ _ _ _ c.in-Verify.is _ c.requires.empty c.verify.ensures
+returns-in-Verify-clause-serves g c = silent _ _ _ _ _ _ _ c.in-Verify.is _ c.clear.ensures c.verify.ensures
 
 pub returns-in-Verify-clause-space : goal.returns-in-Verify-clause-space
 unfolding commits
@@ -138,7 +138,7 @@ returns-in-Verify-clause-space g c = space_left _ _ _ _ _ _ _ _ c.verify.ensures
 
 pub returns-in-ChangeReferenceData-clause-serves : goal.returns-in-ChangeReferenceData-clause-serves
 returns-in-ChangeReferenceData-clause-serves g c =
-    silent _ _ _ _ _ _ _ c.in-ChangeReferenceData.is _ c.requires.empty c.change_reference_data.ensures
+    silent _ _ _ _ _ _ _ c.in-ChangeReferenceData.is _ c.clear.ensures c.change_reference_data.ensures
 
 pub returns-in-ChangeReferenceData-clause-space : goal.returns-in-ChangeReferenceData-clause-space
 unfolding commits
@@ -150,7 +150,7 @@ returns-in-ChangeReferenceData-clause-space g c =
 
 pub returns-in-ResetRetryCounter-clause-serves : goal.returns-in-ResetRetryCounter-clause-serves
 returns-in-ResetRetryCounter-clause-serves g c =
-    silent _ _ _ _ _ _ _ c.in-ResetRetryCounter.is _ c.requires.empty c.reset_retry_counter.ensures
+    silent _ _ _ _ _ _ _ c.in-ResetRetryCounter.is _ c.clear.ensures c.reset_retry_counter.ensures
 
 pub returns-in-ResetRetryCounter-clause-space : goal.returns-in-ResetRetryCounter-clause-space
 unfolding commits
@@ -159,7 +159,7 @@ returns-in-ResetRetryCounter-clause-space g c =
 
 pub returns-in-ChangeRequirement-clause-serves : goal.returns-in-ChangeRequirement-clause-serves
 returns-in-ChangeRequirement-clause-serves g c =
-    silent _ _ _ _ _ _ _ c.in-ChangeRequirement.is _ c.requires.empty c.change_requirement.ensures
+    silent _ _ _ _ _ _ _ c.in-ChangeRequirement.is _ c.clear.ensures c.change_requirement.ensures
 
 pub returns-in-ChangeRequirement-clause-space : goal.returns-in-ChangeRequirement-clause-space
 unfolding commits
@@ -251,22 +251,10 @@ select_file-requires-clause-card g c = record {
   index = c.requires.whole.index;
 }
 
-pub read_file-requires-clause-target : goal.read_file-requires-clause-target
-read_file-requires-clause-target g c = record {
-  kept = c.requires.whole.kept;
-  range = (subst IsCommandInRange c.in-ReadBinary.is c.requires.in_range).0;
-}
-
 pub update_file-requires-clause-target : goal.update_file-requires-clause-target
 update_file-requires-clause-target g c = record {
   kept = c.requires.whole.kept;
   range = (subst IsCommandInRange c.in-UpdateBinary.is c.requires.in_range).0;
-}
-
-pub read_record-requires-clause-target : goal.read_record-requires-clause-target
-read_record-requires-clause-target g c = record {
-  kept = c.requires.whole.kept;
-  range = (subst IsCommandInRange c.in-ReadRecord.is c.requires.in_range).0;
 }
 
 pub update_record-requires-clause-target : goal.update_record-requires-clause-target
@@ -285,4 +273,20 @@ pub search_record-requires-clause-target : goal.search_record-requires-clause-ta
 search_record-requires-clause-target g c = record {
   kept = c.requires.whole.kept;
   range = (subst IsCommandInRange c.in-SearchRecord.is c.requires.in_range).0;
+}
+
+pub read_file-requires : goal.read_file-requires
+read_file-requires g c = record {
+  target = record {
+    kept = c.requires.whole.kept;
+    range = (subst IsCommandInRange c.in-ReadBinary.is c.requires.in_range).0;
+  };
+}
+
+pub read_record-requires : goal.read_record-requires
+read_record-requires g c = record {
+  target = record {
+    kept = c.requires.whole.kept;
+    range = (subst IsCommandInRange c.in-ReadRecord.is c.requires.in_range).0;
+  };
 }

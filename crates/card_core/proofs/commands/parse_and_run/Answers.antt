@@ -20,10 +20,10 @@ returns-in_err-state-clause-carries g c =
     let x = c.args.parts.now.current in
     let new = c.header_word.new.store in
     let bytes = c.args.command.now in
-    subst (λ (r : Result Sw StoreErr). ExecutesBytes bytes old x new x c.args.answer.now.items r) (sym (err-is _ _
+    subst (λ (r : Result Sw StoreErr). ExecutesBytes bytes old x new x c.clear.new.self.items r) (sym (err-is _ _
     (reply-failed _ _ c.from_residual.ensures.1)))
     (subst (λ (text : List ℕ). ExecutesBytes bytes old x new x text (Err c.in_err-state.field-0.0))
-    (sym c.requires.empty) (failed-reading bytes old new x c.requires.whole.kept x c.in_err-state.field-0.0
+    (sym c.clear.ensures) (failed-reading bytes old new x c.requires.whole.kept x c.in_err-state.field-0.0
     c.in_err-state.ensures.store.only c.in_err-state.ensures.store.tells))
 
 pub returns-then-state-ne-CARD_IN_USE-clause-carries : goal.returns-then-state-ne-CARD_IN_USE-clause-carries
@@ -34,7 +34,7 @@ returns-then-state-ne-CARD_IN_USE-clause-carries g c =
     let bytes = c.args.command.now in
     let told = in-use-is (committed old) ∙ ap (λ (n : ℕ). n == 0) (sym c.in_ok-state.ensures.told) in
     let ended = told ∙ ne_eqb _ _ c.if-state-ne-CARD_IN_USE.true in
-    subst (λ (text : List ℕ). ExecutesBytes bytes old x new x text (Ok CONDITIONS_NOT_SATISFIED)) (sym c.requires.empty)
+    subst (λ (text : List ℕ). ExecutesBytes bytes old x new x text (Ok CONDITIONS_NOT_SATISFIED)) (sym c.clear.ensures)
     (use-ended bytes old new x c.requires.whole.kept (request_of c.in-Ok.command) c.in-Ok.ensures.asked
     ended c.in_ok-state.ensures.store.only c.in_ok-state.ensures.store.ready)
 
@@ -60,7 +60,7 @@ returns-in-Err-clause-carries g c =
     let x = c.args.parts.now.current in
     let bytes = c.args.command.now in
     let status = c.in-Err.refusal in
-    subst (λ (text : List ℕ). ExecutesBytes bytes old x old x text (Ok status)) (sym c.requires.empty)
+    subst (λ (text : List ℕ). ExecutesBytes bytes old x old x text (Ok status)) (sym c.clear.ensures)
     (refused-by-form bytes old old x c.requires.whole.kept status c.in-Err.ensures.asked
     (reads_same old) c.requires.whole.kept.ready)
 

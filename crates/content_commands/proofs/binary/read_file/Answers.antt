@@ -22,7 +22,7 @@ returns-in_err-file g c =
     let old = c.args.store.now in
     let x = c.args.current.now in
     halted (read_binary c.args.place.target c.args.place.offset c.args.expected) old x c.find_file.new.store (λ _. tt)
-    c.requires.target.kept.card c.requires.target.kept.current c.args.answer.now.items c.requires.empty _ _
+    c.requires.target.kept.card c.requires.target.kept.current c.clear.new.self.items c.clear.ensures _ _
     c.from_residual.ensures.1
     c.in_err-file.ensures.store _ (read-refused (card_in old) (session_in old x) c.args.place.target c.args.place.offset
     c.args.expected) c.in_err-file.ensures.told

@@ -21,7 +21,7 @@ use Rattle.content_commands.proofs.increasing.increase.Goals as goal
 
 pub returns-in_err-file : goal.returns-in_err-file
 returns-in_err-file g c =
-    increase-halted c.requires.kept c.args.amount.now c.args.expected _ c.requires.empty _ _ c.from_residual.ensures.1
+    increase-halted c.requires.kept c.args.amount.now c.args.expected _ c.clear.ensures _ _ c.from_residual.ensures.1
     c.in_err-file.ensures.store
     (refused-weaker _ _ _ (λ status.
     increase-barred (card_in c.args.store.now) (session_in c.args.store.now c.args.current.now) status
@@ -30,7 +30,7 @@ returns-in_err-file g c =
 pub returns-then-is_too_long : goal.returns-then-is_too_long
 returns-then-is_too_long g c =
     let found = c.in_ok-file.ensures.told in
-    increase-halted c.requires.kept c.args.amount.now c.args.expected _ c.requires.empty (Err (Refused WRONG_LENGTH))
+    increase-halted c.requires.kept c.args.amount.now c.args.expected _ c.clear.ensures (Err (Refused WRONG_LENGTH))
     (Refused WRONG_LENGTH) refl c.in_ok-file.ensures.store
     (increase-long (committed c.args.store.now) c.requires.kept.ready.usable.committed_size c.requires.kept.card
     c.args.current.now _ c.in_ok-file.file found c.args.amount.now c.args.expected found.named.unrefused
@@ -59,7 +59,7 @@ returns-in_err-slot g c =
     let found = c.in_ok-file.ensures.told in
     let reads = c.find_records.ensures.store.only in
     let e = c.in_err-slot.field-0.0 in
-    increase-halted c.requires.kept sent c.args.expected _ c.requires.empty _ (stop_of_body e)
+    increase-halted c.requires.kept sent c.args.expected _ c.clear.ensures _ (stop_of_body e)
     c.from_residual-in_err-slot.ensures.1
     (reads_on _ _ _ _ reads (body-reads _ _ e c.in_err-slot.ensures.store))
     (body-decided _ _ e c.in_err-slot.ensures.sum.refusal (λ status due.
@@ -80,7 +80,7 @@ returns-then-asks_less g c =
     let raised = is-raised c.args.amount.now c.find_records.ensures.store.only
     c.in_ok-file.ensures.told (sym c.is_too_long.ensures ∙ c.if-is_too_long.false) c.in_ok-slot.ensures.store.only
     c.in_ok-slot.ensures.found c.in_ok-slot.ensures.sum in
-    increase-halted c.requires.kept c.args.amount.now c.args.expected _ c.requires.empty
+    increase-halted c.requires.kept c.args.amount.now c.args.expected _ c.clear.ensures
     (Err (Refused c.right_length.result)) (Refused c.right_length.result) refl
     (reads_on _ _ _ _ c.find_records.ensures.store.only c.in_ok-slot.ensures.store)
     (increased-less c.requires.kept raised c.args.expected _ c.answer_of-response.ensures
@@ -94,7 +94,7 @@ returns-in_err-replace_oldest g c = record {
       increased-torn c.requires.kept raised c.args.expected _ c.answer_of-response.ensures
       (sym c.asks_less.ensures ∙ c.if-asks_less.false) _ c.deref.ensures.0 c.replace_oldest.new.store
       c.replace_oldest.ensures.commits.any_exit c.replace_oldest.ensures.commits.by_gate _
-      c.in_err-replace_oldest.ensures.commits.store c.args.answer.now.items c.requires.empty _ _
+      c.in_err-replace_oldest.ensures.commits.store c.clear.new.self.items c.clear.ensures _ _
       (reply-failed _ _ c.from_residual-in_err-replace_oldest.ensures.1) refl;
   space = none-failed _ _ _ c.from_residual-in_err-replace_oldest.ensures.1;
 }

@@ -75,7 +75,7 @@ returns-then-is_other_length g c =
     let status = other_status file.ring.record_length c.from.result _ c.right_length.result long c.from.ensures
     c.right_length.ensures in
     declined-empty (read_record c.args.target c.args.choice c.args.expected) old x c.find_records.new.store
-    c.args.answer.now.items c.requires.empty (λ _. tt) c.requires.target.kept.card c.right_length.result
+    c.clear.new.self.items c.clear.ensures (λ _. tt) c.requires.target.kept.card c.right_length.result
     c.find_records.ensures.store.only c.in_ok-file.ensures.store.ready c.requires.target.kept.current
     (read-other (committed old) sized c.requires.target.kept.card x c.args.target _
     file found.named found.named.named.unrefused c.args.choice c.args.expected has other
@@ -145,7 +145,7 @@ returns-in_err-file g c =
     let old = c.args.store.now in
     let x = c.args.current.now in
     halted (read_record c.args.target c.args.choice c.args.expected) old x c.find_records.new.store (λ _. tt)
-    c.requires.target.kept.card c.requires.target.kept.current c.args.answer.now.items c.requires.empty _ _
+    c.requires.target.kept.card c.requires.target.kept.current c.clear.new.self.items c.clear.ensures _ _
     c.from_residual.ensures.1
     c.in_err-file.ensures.store _
     (λ status refused. read-refused (card_in old) (session_in old x) c.args.target status c.args.choice
@@ -159,7 +159,7 @@ returns-in_err-slot g c =
     let found = c.in_ok-file.ensures.told in
     let status = c.in_err-slot.field-0.0 in
     halted (read_record c.args.target c.args.choice c.args.expected) old x c.find_records.new.store (λ _. tt)
-    c.requires.target.kept.card c.requires.target.kept.current c.args.answer.now.items c.requires.empty _ (Refused
+    c.requires.target.kept.card c.requires.target.kept.current c.clear.new.self.items c.clear.ensures _ (Refused
     status)
     c.from_residual-in_err-slot.ensures.1 c.in_ok-file.ensures.store _
     (λ status refused. read-refused (card_in old) (session_in old x) c.args.target status c.args.choice refused

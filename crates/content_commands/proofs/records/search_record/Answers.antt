@@ -51,7 +51,7 @@ returns-then-asks_less g c =
     ∙ c.if-asks_less.true in
     let status = ap right_length (sym numbers) ∙ sym c.right_length.ensures in
     declined-empty (search_record c.args.target c.args.first c.args.direction c.args.text.now c.args.expected) old x
-    c.search.new.store c.args.answer.now.items c.requires.empty (λ _. tt) c.requires.target.kept.card
+    c.search.new.store c.clear.new.self.items c.clear.ensures (λ _. tt) c.requires.target.kept.card
     c.right_length.result
     (reads_then old c.find_records.new.store c.search.new.store c.find_records.ensures.store.only
     c.search.ensures.store.only) c.in_ok-search.ensures.store.ready c.requires.target.kept.current
@@ -112,7 +112,7 @@ returns-in_err-file g c =
     let x = c.args.current.now in
     halted (search_record c.args.target c.args.first c.args.direction c.args.text.now c.args.expected) old x
     c.find_records.new.store (λ _. tt) c.requires.target.kept.card c.requires.target.kept.current
-    c.args.answer.now.items c.requires.empty _ _ c.from_residual.ensures.1 c.in_err-file.ensures.store _
+    c.clear.new.self.items c.clear.ensures _ _ c.from_residual.ensures.1 c.in_err-file.ensures.store _
     (λ status refused. search-refused (card_in old) (session_in old x) c.args.target status c.args.first
     (choice-barred (card_in old) (session_in old x) c.args.target status (At c.args.first) refused)
     c.args.direction c.args.text.now c.args.expected) c.in_err-file.ensures.told
@@ -125,7 +125,7 @@ returns-in_err-slot g c =
     let status = c.in_err-slot.field-0.0 in
     halted (search_record c.args.target c.args.first c.args.direction c.args.text.now c.args.expected) old x
     c.find_records.new.store (λ _. tt) c.requires.target.kept.card c.requires.target.kept.current
-    c.args.answer.now.items c.requires.empty _ (Refused status) c.from_residual-in_err-slot.ensures.1
+    c.clear.new.self.items c.clear.ensures _ (Refused status) c.from_residual-in_err-slot.ensures.1
     c.in_ok-file.ensures.store _
     (λ status refused. search-refused (card_in old) (session_in old x) c.args.target status c.args.first refused
     c.args.direction c.args.text.now c.args.expected)
@@ -136,10 +136,10 @@ returns-in_err-slot g c =
 
 pub returns-in_err-search : goal.returns-in_err-search
 returns-in_err-search g c =
-    let none : length c.args.answer.now.items ≡ 0 = ap (λ (l : List ℕ). length l) c.requires.empty in
+    let none : length c.clear.new.self.items ≡ 0 = ap (λ (l : List ℕ). length l) c.clear.ensures in
     handed (search_record c.args.target c.args.first c.args.direction c.args.text.now c.args.expected)
     c.args.store.now
-    c.args.current.now c.search.new.store c.requires.target.kept.card c.args.current.now c.args.answer.now.items _
+    c.args.current.now c.search.new.store c.requires.target.kept.card c.args.current.now c.clear.new.self.items _
     c.in_err-search.field-0.0 (reply-failed _ _ c.from_residual-in_err-search.ensures.1)
     (reads_on c.args.store.now c.find_records.new.store c.search.new.store _ c.find_records.ensures.store.only
     c.in_err-search.ensures.store) (omega (arith, none))

@@ -20,8 +20,8 @@ nothing-given (Some le) text is = (no-less le, is, omega (arith, ap (λ (l : Lis
 pub returns-in-Nothing-clause-data : goal.returns-in-Nothing-clause-data
 returns-in-Nothing-clause-data g c = record {
   told = let entry = entry_in (table (committed c.args.store.now)) c.args.e in
-      subst (λ (r : Returned). IsGiven c.args.expected (data_in r entry) c.args.answer.now.items None)
-      (sym c.in-Nothing.is) (nothing-given c.args.expected c.args.answer.now.items c.requires.empty);
+      subst (λ (r : Returned). IsGiven c.args.expected (data_in r entry) c.clear.new.self.items None)
+      (sym c.in-Nothing.is) (nothing-given c.args.expected c.clear.new.self.items c.clear.ensures);
   store = search rules;
 }
 
@@ -49,14 +49,16 @@ returns-in_err-give_template-in-Template-clause-data g c = record {
       c.from_residual-in_err-give_template-in-Template.ensures.1 _ _ c.in_ok-entry-in-Template.ensures.store;
 }
 
-pub give_template-requires-clause-told : goal.give_template-requires-clause-told
-give_template-requires-clause-told g c = subst IsToldEntry (sym c.in_ok-entry-in-Template.ensures.entry)
-    c.requires.entry.told
-
 pub returns-in_err-entry-in-Template-clause-data : goal.returns-in_err-entry-in-Template-clause-data
 returns-in_err-entry-in-Template-clause-data g c = record {
   told = finds-stopped _ (Failed c.in_err-entry-in-Template.field-0.0)
       c.from_residual.ensures.1 _ _ tt;
   store = reads-stopped _ (Failed c.in_err-entry-in-Template.field-0.0) c.from_residual.ensures.1 _ _
       c.in_err-entry-in-Template.ensures.store;
+}
+
+pub give_template-requires : goal.give_template-requires
+give_template-requires g c = record {
+  told = subst IsToldEntry (sym c.in_ok-entry-in-Template.ensures.entry)
+      c.requires.entry.told;
 }

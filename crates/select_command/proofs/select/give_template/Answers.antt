@@ -6,7 +6,7 @@ pub returns-then-asks_less : goal.returns-then-asks_less
 returns-then-asks_less c =
     let told = c.template_of-template.ensures in (
       ap (asks_less c.args.expected) (sym told) ∙ sym c.asks_less.ensures ∙ c.if-asks_less.true,
-      c.requires.empty,
+      c.clear.ensures,
       c.right_length.ensures ∙ ap right_length told,
     )
 

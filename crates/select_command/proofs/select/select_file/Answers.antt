@@ -36,7 +36,7 @@ returns-in_default g c =
     let s = session_of t x in
     let request = select (selection_of c.args.selector) c.args.returned c.args.expected in
     subst (λ (l : List ℕ). Executes request old x c.find_selected.new.store x l (Ok FILE_NOT_FOUND))
-    (sym c.requires.empty) (declined request old x c.find_selected.new.store (λ _. tt) c.requires.card.kept.card
+    (sym c.clear.ensures) (declined request old x c.find_selected.new.store (λ _. tt) c.requires.card.kept.card
     FILE_NOT_FOUND c.find_selected.ensures.found.store.only
     c.in_ok-e.ensures.found.store.ready c.requires.card.kept.current
     (select-missed (card_of m) s (selection_of c.args.selector) c.args.returned c.args.expected
@@ -49,18 +49,18 @@ read_entry_head-requires-clause-within g c =
 
 pub returns-in_err-e : goal.returns-in_err-e
 returns-in_err-e g c =
-    let none : length c.args.answer.now.items ≡ 0 = ap (λ (l : List ℕ). length l) c.requires.empty in
+    let none : length c.clear.new.self.items ≡ 0 = ap (λ (l : List ℕ). length l) c.clear.ensures in
     handed (select (selection_of c.args.selector) c.args.returned c.args.expected) c.args.store.now c.args.current.now
-    c.find_selected.new.store c.requires.card.kept.card c.args.current.now c.args.answer.now.items _
+    c.find_selected.new.store c.requires.card.kept.card c.args.current.now c.clear.new.self.items _
     c.in_err-e.field-0.0
     (reply-failed _ _ c.from_residual.ensures.1) c.in_err-e.ensures.found.store (omega (arith, none))
 
 pub returns-in_err-head : goal.returns-in_err-head
 returns-in_err-head g c =
-    let none : length c.args.answer.now.items ≡ 0 = ap (λ (l : List ℕ). length l) c.requires.empty in
+    let none : length c.clear.new.self.items ≡ 0 = ap (λ (l : List ℕ). length l) c.clear.ensures in
     handed (select (selection_of c.args.selector) c.args.returned c.args.expected) c.args.store.now c.args.current.now
     c.read_entry_head.new.store c.requires.card.kept.card c.args.current.now
-    c.args.answer.now.items _ c.in_err-head.field-0.0 (reply-failed _ _ c.from_residual-in_err-head.ensures.1)
+    c.clear.new.self.items _ c.in_err-head.field-0.0 (reply-failed _ _ c.from_residual-in_err-head.ensures.1)
     (reads_on _ _ _ _ c.find_selected.ensures.found.store.only c.in_err-head.ensures.store) (omega (arith, none))
 
 pub returns-in_err-give_data : goal.returns-in_err-give_data
@@ -127,17 +127,19 @@ returns g c =
     returned expected place given.0
     ∙ (λ i. outcome (card_of m) (session_of t (current i)) (sym given.1 i) (status i)))
 
-pub give_data-requires-clause-entry : goal.give_data-requires-clause-entry
-give_data-requires-clause-entry g c = record {
-  ready = c.in_ok-head.ensures.store.ready;
-  within = let m = committed c.args.store.now in
-      used_small m c.in-Some.e (subst (λ (o : Option ℕ). IfSome o (IsUsed (table m))) c.in-Some.is
-      c.in_ok-e.ensures.used);
-  told = let m = committed c.args.store.now in
-      let e = c.in-Some.e in
-      let used = subst (λ (o : Option ℕ). IfSome o (IsUsed (table m))) c.in-Some.is c.in_ok-e.ensures.used in
-      let same = c.read_entry_head.ensures.store.only.keeps.committed_words
-      ∙ c.find_selected.ensures.found.store.only.keeps.committed_words in
-      subst (λ (l : List ℕ). IsToldEntry (entry_in (table l) e)) (sym same)
-      (told-entry m c.requires.card.kept.ready.usable.committed_size c.requires.card.kept.card e used);
+pub give_data-requires : goal.give_data-requires
+give_data-requires g c = record {
+  entry = record {
+    ready = c.in_ok-head.ensures.store.ready;
+    within = let m = committed c.args.store.now in
+        used_small m c.in-Some.e (subst (λ (o : Option ℕ). IfSome o (IsUsed (table m))) c.in-Some.is
+        c.in_ok-e.ensures.used);
+    told = let m = committed c.args.store.now in
+        let e = c.in-Some.e in
+        let used = subst (λ (o : Option ℕ). IfSome o (IsUsed (table m))) c.in-Some.is c.in_ok-e.ensures.used in
+        let same = c.read_entry_head.ensures.store.only.keeps.committed_words
+        ∙ c.find_selected.ensures.found.store.only.keeps.committed_words in
+        subst (λ (l : List ℕ). IsToldEntry (entry_in (table l) e)) (sym same)
+        (told-entry m c.requires.card.kept.ready.usable.committed_size c.requires.card.kept.card e used);
+  };
 }
