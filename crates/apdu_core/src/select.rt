@@ -4,6 +4,7 @@ ghost use Rattle.apdu_core.specs.ParsedCommands.{selection_of, IsSelector};
 ghost use Rattle.card_model.specs.CommandTable.{select_row, is_way, is_returned, returned_by, names_file, named_file};
 ghost use Rattle.apdu_core.specs.Parsing.{Parses, NamesWhere};
 ghost use Rattle.apdu_core.specs.WayParts.{way_byte};
+ghost use Rattle.apdu_core.specs.declared.select.Way.TheVariants.{ByIdentifier};
 
 use crate::commands::{Command, Parsed};
 use crate::form::{CommandBody, Operands};
@@ -86,10 +87,10 @@ impl<'a> Selector<'a> {
         }
     }
 
-    /// Returns the master file for no bytes, else by identifier.
+    /// Returns the file that two bytes of identifier name, or the master file for no bytes.
     fn by_identifier(sent: &'a [u8]) -> Option<Selector<'a>>
-        ensures file { NamesWhere result (names_file 0x00 (length sent.now)) (λ selector.
-            selection_of selector ≡ named_file 0x00 sent.now) }
+        ensures file { NamesWhere result (names_file (way_byte ByIdentifier) (length sent.now)) (λ selector.
+            selection_of selector ≡ named_file (way_byte ByIdentifier) sent.now) }
         ensures ranges { IfSome result IsSelector }
     {
         match sent {

@@ -7,10 +7,11 @@ use Rattle.card_state.specs.Spaces.{free_space}
 use Rattle.file_tree.specs.Trees.{tree_of}
 use Rattle.file_tree.specs.Table.{table}
 use Rattle.file_tree.specs.Indexes.{IsIndex}
-use Rattle.file_tree.specs.declared.layout.TheConstants.{MARK, OLD_END_PAGE, OLD_MARK}
+use Rattle.file_tree.specs.declared.layout.TheConstants.{CARD_TERMINATED, MARK, OLD_END_PAGE, OLD_MARK}
 use Rattle.pin_store.specs.Pages.{ArePinPages, AreMarks}
 use Rattle.command_base.specs.Standing.{IsAnyCard, IsCard, IsHeader, IsOldCard, IsOldHeader}
 use Rattle.card_start.specs.declared.check.Checked.{Checked}
+use Rattle.card_start.specs.declared.check.HeaderWords.{HeaderWords}
 use Rattle.card_start.specs.declared.memory_format.MemoryFormat.{MemoryFormat}
 use Rattle.card_start.specs.declared.memory_format.MemoryFormat.TheVariants.{One, Two}
 
@@ -23,12 +24,14 @@ abbrev pub IsCardIn : MemoryFormat → List ℕ → Type 0
 IsCardIn One m = IsOldCard m
 IsCardIn Two m = IsCard m
 
--- these three words (mark, page where the blocks end, state) are a header of this format, or of none
-abbrev pub AreHeaderWords : ℕ → ℕ → ℕ → Option MemoryFormat → Type 0
-AreHeaderWords mark end state None =
-    ((mark ≡ MARK) → (OLD_END_PAGE ≤ end) → (state ≤ 1) → ⊥) × ((mark ≡ OLD_MARK) → (state ≤ 1) → ⊥)
-AreHeaderWords mark end state (Some One) = (mark ≡ OLD_MARK) × (state ≤ 1)
-AreHeaderWords mark end state (Some Two) = (mark ≡ MARK) × (OLD_END_PAGE ≤ end) × (state ≤ 1)
+-- the words of a header tell this format, or none
+abbrev pub TellsFormat : HeaderWords → Option MemoryFormat → Type 0
+TellsFormat header None =
+    ((header.mark ≡ MARK) → (OLD_END_PAGE ≤ header.end) → (header.state ≤ CARD_TERMINATED) → ⊥)
+    × ((header.mark ≡ OLD_MARK) → (header.state ≤ CARD_TERMINATED) → ⊥)
+TellsFormat header (Some One) = (header.mark ≡ OLD_MARK) × (header.state ≤ CARD_TERMINATED)
+TellsFormat header (Some Two) =
+    (header.mark ≡ MARK) × (OLD_END_PAGE ≤ header.end) × (header.state ≤ CARD_TERMINATED)
 
 -- the PINs are valid for this format: in format 2 each has a mark
 abbrev pub HoldsPins : MemoryFormat → List ℕ → Type 0

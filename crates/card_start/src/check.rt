@@ -5,7 +5,7 @@ ghost use Rattle.undo_journal.specs.Memory.{committed, IsReady};
 ghost use Rattle.block_chain.specs.BlockWords.{word};
 ghost use Rattle.block_chain.specs.declared.layout.TheConstants.{HEADER_PAGE};
 ghost use Rattle.nvm_board.specs.declared.board.TheConstants.{PAGE_WORDS};
-ghost use Rattle.card_start.specs.StartParts.{AreHeaderWords, HoldsPins, TellsCard, TellsHeader};
+ghost use Rattle.card_start.specs.StartParts.{HoldsPins, TellsCard, TellsFormat, TellsHeader};
 
 use crate::memory_format::MemoryFormat;
 use block_chain::HEADER_PAGE;
@@ -30,19 +30,31 @@ pub fn header_word<B: Board>(store: &mut Store<B>, place: u16) -> Result<u32, St
     store.read(PAGE_WORDS * HEADER_PAGE + place)
 }
 
-/// Returns the format of a header, from three of its words.
-/// They are its mark, the page where the blocks end, and the state.
-fn format_of(mark: u32, end: u32, state: u32) -> Option<MemoryFormat>
-    ensures { AreHeaderWords mark end state result }
-{
-    if state > CARD_TERMINATED {
-        None
-    } else if mark == OLD_MARK {
-        Some(MemoryFormat::One)
-    } else if mark == MARK && end >= u32::from(OLD_END_PAGE) {
-        Some(MemoryFormat::Two)
-    } else {
-        None
+/// The words of a header that tell the format of its memory.
+#[derive(Clone, Copy)]
+pub(crate) struct HeaderWords {
+    /// The mark of the format.
+    pub mark: u32,
+    /// The page where the blocks end.
+    pub end: u32,
+    /// The state of the card.
+    pub state: u32,
+}
+
+impl HeaderWords {
+    /// Returns the format that the mark names, if the header is valid.
+    fn format(self) -> Option<MemoryFormat>
+        ensures { TellsFormat self result }
+    {
+        if self.state > CARD_TERMINATED {
+            None
+        } else if self.mark == OLD_MARK {
+            Some(MemoryFormat::One)
+        } else if self.mark == MARK && self.end >= u32::from(OLD_END_PAGE) {
+            Some(MemoryFormat::Two)
+        } else {
+            None
+        }
     }
 }
 
@@ -55,7 +67,8 @@ fn find_format<B: Board>(store: &mut Store<B>) -> Result<Option<MemoryFormat>, S
     let mark = header_word(store, MARK_WORD)?;
     let end = header_word(store, PAGES_WORD)?;
     let state = header_word(store, STATE_WORD)?;
-    Ok(format_of(mark, end, state))
+    let header = HeaderWords { mark, end, state };
+    Ok(header.format())
 }
 
 /// Returns true if the PINs are valid for this format.
