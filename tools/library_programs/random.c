@@ -137,6 +137,31 @@ static void make_wrong(uint32_t *words)
     soffitfennel_remove(&card);
 }
 
+/* Without a card each function says so, also with a wrong size. */
+static void ask_none(soffitfennel_card *none)
+{
+    uint8_t bytes[SOFFITFENNEL_ROOM] = {0}, out[SOFFITFENNEL_ROOM];
+    uint32_t words[1];
+    uint16_t blocks, entries;
+    size_t size, offset;
+
+    for (size_t room = SOFFITFENNEL_ROOM - 1; room <= SOFFITFENNEL_ROOM; room++) {
+        must(soffitfennel_command(none, bytes, 5, out, room, &size) == SOFFITFENNEL_ABSENT, "a command to no card");
+        must(soffitfennel_block(none, bytes, 5, out, room, &size) == SOFFITFENNEL_ABSENT, "a block to no card");
+    }
+    for (uint32_t number = 0; number <= 1; number++) {
+        must(soffitfennel_cut(none, number, 0) == SOFFITFENNEL_ABSENT, "a cut of no card");
+        must(soffitfennel_lose(none, number) == SOFFITFENNEL_ABSENT, "a lost block of no card");
+        must(soffitfennel_garble(none, number) == SOFFITFENNEL_ABSENT, "a garbled block of no card");
+    }
+    must(soffitfennel_power_on(none) == SOFFITFENNEL_ABSENT, "power on of no card");
+    must(soffitfennel_power_off(none) == SOFFITFENNEL_ABSENT, "power off of no card");
+    must(soffitfennel_free(none, &blocks, &entries) == SOFFITFENNEL_ABSENT, "free space of no card");
+    must(soffitfennel_words(none, words, 1, &size) == SOFFITFENNEL_ABSENT, "words of no card");
+    must(soffitfennel_write(none, &offset, out, 1, &size) == SOFFITFENNEL_ABSENT, "a write of no card");
+    must(*none == NULL, "a card out of nothing");
+}
+
 /* Removes the card, and makes another one of its words. */
 static void make_again(struct held *it)
 {
@@ -152,7 +177,7 @@ static void make_again(struct held *it)
         put_words(image, words);
         must(!it->is_kept || memcmp(image, it->image, sizeof image) == 0, "the stored image isn't the memory");
         soffitfennel_remove(&it->card);
-        must(it->card == NULL && soffitfennel_power_on(&it->card) == SOFFITFENNEL_ABSENT, "a removed card answers");
+        ask_none(&it->card);
         it->is_kept = random_below(2) == 0;
         memcpy(it->image, image, sizeof image);
         outcome = soffitfennel_insert(&it->card, words, count, it->is_kept);
