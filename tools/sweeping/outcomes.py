@@ -2,7 +2,7 @@
 import json
 from collections import Counter, defaultdict
 from collections.abc import Iterable, Sequence
-from itertools import groupby, islice
+from itertools import groupby
 from os.path import commonprefix
 
 from .engine import PROBE
@@ -12,19 +12,9 @@ from explaining.templates import count
 
 BEFORE, AFTER, UNCHANGED = "as before the command", "as after the command", "as before the command, and as after it"
 TAKEN, OTHER = "with a try taken", "neither as before nor as after"
-# a command of more bytes goes in two blocks
-FIELD_LIMIT = 254
 # how many characters of a line, and how many numbers of writes, are shown
 SHOWN, MOST_DIGITS, MOST_NUMBERS = 30, 60, 12
-# what a run found: the free space, and what each line of the probe printed
-Found = tuple[str, ...]
-
-
-def answer_of(items: list[str]) -> str:
-    """What a line prints, from the items of its turns: a word as "mute", the bytes of its I-blocks, or its block."""
-    words = [it for it in items if it.islower()]
-    inside = [it[6:-2] for it in items if it[2] in "0246" and it[4:6] != "00"]
-    return words[-1] if words else "< " + ("".join(inside) if inside and len(items) > 1 else items[0])
+Found = tuple[str, ...]  # the free space, and what each line of the probe printed
 
 
 class Sweep:
@@ -37,13 +27,12 @@ class Sweep:
         self.digits = orders[orders.index(PROBE) - 1].removeprefix("apdu ").upper()
         self.name = read_table()["command"].get(self.digits[:4], "the command")
         self.writes, self.depth = [it for it in lines if "kind" in it], lines[-1]["depth"]
-        last = lines[1]["turns"].split()[-1]
-        self.answer = last if last.islower() else last[6:-2]
-        self.stages = self.stages_from(*map(self.found, lines[:2]))
+        self.answer = lines[1]["answer"]
+        self.stages = self.stages_from(*(tuple(it["found"]) for it in lines[:2]))
         # the runs with each outcome: those of each cut, and of all; the outcomes are in order of appearance
         self.cells: defaultdict[tuple[int, int], Counter[Found]] = defaultdict(Counter)
         for it in sorted((it for it in lines if "mask" in it), key=lambda it: (it["write"], it["number"])):
-            self.cells[it["write"], it["mask"]][self.found(it)] += it["runs"]
+            self.cells[it["write"], it["mask"]][tuple(it["found"])] += it["runs"]
         self.outcomes = sum(self.cells.values(), Counter())
         self.runs = self.outcomes.total()
         self.first = {it: cut for cut, runs in reversed(self.cells.items()) for it in runs}
@@ -51,13 +40,6 @@ class Sweep:
         # the writes at which the outcome turns: with no new word it differs from that with all
         self.commits = [it["write"] for it in self.writes
                         if self.cells[it["write"], 0].keys() != self.cells[it["write"], 2 ** it["words"] - 1].keys()]
-
-    def found(self, result: dict) -> Found:
-        """What a run found, from a line of the report: the words of the free space, then the items of each look."""
-        items = iter(result["found"].split())
-        free = " ".join(islice(items, 3))
-        sizes = (4 + (len(it) > len("apdu ") + 2 * FIELD_LIMIT) if it[0] == "a" else 1 for it in self.looks[1:])
-        return (free, *(answer_of(list(islice(items, size))) for size in sizes))
 
     def stages_from(self, before: Found, after: Found) -> dict[Found, str]:
         """The stages of the command, by how what a run found begins. A right PIN has one more, with a try less."""

@@ -1,14 +1,15 @@
 -- What is printed of a sweep, put together from its parts.
-use Rattle.std.specs.Prelude.{◌≡◌, ◌⊎◌, ◌+◌, ◌-◌, ◌^◌, ℕ, zero, suc, List, [], ◌∷◌, ◌++◌, codes}
+use Rattle.std.specs.Prelude.{◌≡◌, ◌⊎◌, ◌+◌, ◌-◌, ◌^◌, ℕ, zero, suc, List, [], ◌∷◌, ◌++◌, codes, take, drop}
 use Rattle.std.proofs.Common.{refl, sym, ◌∙◌, ap, subst, arith, append-nil}
 use Rattle.nvm_board.specs.Facts.{Facts}
+use Rattle.bench_turns.specs.declared.turn.Item.{Item}
 use Rattle.bench_turns.specs.declared.turn.Turn.{Turn}
 use Rattle.card_sweeps.specs.Masks.{mask_of}
 use Rattle.card_sweeps.specs.Sweeps.{CutsCommand}
 use Rattle.sweep_cli.specs.declared.device_writes.DeviceWrite.{DeviceWrite}
 use Rattle.sweep_cli.specs.DeviceWrites.{kinds_text, write_text}
 use Rattle.sweep_cli.specs.ReportParts.{AddsText}
-use Rattle.sweep_cli.specs.Printing.{cut_head, total_text}
+use Rattle.sweep_cli.specs.Printing.{cut_head, last_item, look_text, looks_text, total_text}
 use Rattle.sweep_cli.specs.Reporting.{AreKindsOrNone, AreResults, AreWrites, HasSections, IsCutOrNone, IsDeviceWrite}
 use Rattle.sweep_cli.specs.Reporting.{IsFound, IsLastWrite, IsOfPart, IsSparedBy, IsWrite, Sweeping, TextsInTurn}
 use Rattle.sweep_cli.specs.Reporting.{WritesInTurn}
@@ -22,10 +23,10 @@ mask-is words (suc zero) mask none all single = omega (arith, all refl)
 mask-is words (suc (suc bit)) mask none all single = single bit (omega arith)
 
 -- the same results, whose lines begin with a head that is said otherwise
-pub results-under : (head other : List ℕ) (depth : ℕ) (probe : List Turn) (board : Facts) (text : List ℕ)
-    → head ≡ other → AreResults head depth probe board text → AreResults other depth probe board text
-results-under head other depth probe board text same results =
-    subst (λ (h : List ℕ). AreResults h depth probe board text) same results
+pub results-under : (looks head other : List ℕ) (depth : ℕ) (probe : List Turn) (board : Facts) (text : List ℕ)
+    → head ≡ other → AreResults looks head depth probe board text → AreResults looks other depth probe board text
+results-under looks head other depth probe board text same results =
+    subst (λ (h : List ℕ). AreResults looks h depth probe board text) same results
 
 -- a cut that is none of the part
 pub none-put : {B : Type 0} {facts : B → Facts} {torn : B → ℕ} (sweeping : Sweeping facts torn) (write words i : ℕ) (old : List ℕ) → (IsOfPart sweeping.part write i → ⊥)
@@ -40,7 +41,7 @@ none-put sweeping write words i old other = record {
 pub cut-put : {B : Type 0} {facts : B → Facts} {torn : B → ℕ} (sweeping : Sweeping facts torn) (write words i mask : ℕ) (left : Facts) (old new : List ℕ)
     → mask ≡ mask_of words i → IsOfPart sweeping.part write i
     → CutsCommand write mask sweeping.board sweeping.prepare sweeping.command left
-    → AddsText (AreResults (cut_head write i mask) sweeping.depth sweeping.probe left) old new
+    → AddsText (AreResults sweeping.looks (cut_head write i mask) sweeping.depth sweeping.probe left) old new
     → AddsText (IsCutOrNone sweeping write words i) old new
 cut-put sweeping write words i mask left old new same own cut results = record {
   more = results.more;
@@ -49,7 +50,7 @@ cut-put sweeping write words i mask left old new same own cut results = record {
       left = left;
       cut = subst (λ (m : ℕ). CutsCommand write m sweeping.board sweeping.prepare sweeping.command left) same cut;
       results = subst
-          (λ (m : ℕ). AreResults (cut_head write i m) sweeping.depth sweeping.probe left results.more) same
+          (λ (m : ℕ). AreResults sweeping.looks (cut_head write i m) sweeping.depth sweeping.probe left results.more) same
           results.holds;
     };
     other = λ others. absurd (others own);
@@ -150,3 +151,15 @@ kinds-next number it later = refl
 pub kinds-none : (number : ℕ) → kinds_text number [] ≡ []
 unfolding kinds_text
 kinds-none number = refl
+
+-- the next line of the probe
+pub looks-next : (size : ℕ) (sizes : List ℕ) (items : List Item) → looks_text (size ∷ sizes) items
+    ≡ (codes ", \"" ++ (look_text (take size items) (last_item (take size items)) ++ codes "\""))
+    ++ looks_text sizes (drop size items)
+unfolding looks_text
+looks-next size sizes items = refl
+
+-- no line is left
+pub looks-none : (items : List Item) → looks_text [] items ≡ []
+unfolding looks_text
+looks-none items = refl

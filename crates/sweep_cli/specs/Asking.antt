@@ -1,6 +1,6 @@
 -- What the lines of a sweep script ask for.
 use Rattle.std.specs.Prelude.{◌≡◌, ◌-◌, ◌&&◌, nat_eq, nat_le, ℕ, zero, suc, Bool, true, false, List, []}
-use Rattle.std.specs.Prelude.{◌∷◌, ◌++◌, drop, codes, Option, Some, None, if◌then◌else◌}
+use Rattle.std.specs.Prelude.{◌∷◌, ◌++◌, drop, length, codes, Option, Some, None, if◌then◌else◌}
 use Rattle.std.specs.Cmp.Lexicographic.{pointwise}
 use Rattle.bench_lines.specs.Orders.{Order, begins_with, order_of}
 use Rattle.bench_lines.specs.Orders as order
@@ -16,17 +16,18 @@ use Rattle.sweep_cli.specs.declared.steps.Step.TheVariants.{On, Off, Block}
 use Rattle.sweep_cli.specs.Framing.{exchange, last_command_block, steps_before}
 
 -- What the lines so far ask for: the section of the next line, the steps before the last block of the command, that
--- block, the steps of the probe, and the number of power-ons to cut.
+-- block, the steps of the probe, the number of steps of each of its lines, and the number of power-ons to cut.
 pub record Asked : Type 0 where
   pub section : Section
   pub prepare : List Step
   pub command : List ℕ
   pub probe : List Step
+  pub looks : List ℕ
   pub depth : ℕ
 
 -- before the first line
 abbrev pub unasked : Asked
-unasked = record { section = Prepare; prepare = []; command = []; probe = []; depth = 1 }
+unasked = record { section = Prepare; prepare = []; command = []; probe = []; looks = []; depth = 1 }
 
 -- what a script asks for
 abbrev pub asked_of : SweepScript → Asked
@@ -35,6 +36,7 @@ asked_of s = record {
   prepare = s.prepare.items;
   command = s.command;
   probe = s.probe.items;
+  looks = s.looks.items;
   depth = s.depth;
 }
 
@@ -68,7 +70,7 @@ abbrev pub adds : Asked → Section → List Step → Option Asked
 adds asked Prepare steps = Some (record asked { prepare = asked.prepare ++ steps })
 adds asked Command steps = None
 adds asked AfterCommand steps = None
-adds asked Probe steps = Some (record asked { probe = asked.probe ++ steps })
+adds asked Probe steps = Some (record asked { probe = asked.probe ++ steps; looks = asked.looks ++ length steps ∷ [] })
 
 -- A command. Between the marks it is the one that is cut; all its blocks but the last are sent before.
 abbrev pub sends : Asked → Section → List ℕ → Option Asked

@@ -12,6 +12,7 @@ sweeping_of facts torn plan = record {
   prepare = plan.prepare.now;
   command = plan.command.now;
   probe = plan.probe.now;
+  looks = plan.looks.now;
   depth = plan.depth;
   part = plan.part;
 }

@@ -35,23 +35,24 @@ pub record Sweeping {B : Type 0} (facts : B → Facts) (torn : B → ℕ) : Type
   pub prepare : List Turn
   pub command : List ℕ
   pub probe : List Turn
+  pub looks : List ℕ
   pub depth : ℕ
   pub part : SweepPart
 
 -- The results of all runs after a cut that left this board, each with the number of its runs. At the end of that count
--- the sweep stops. Each line begins with the head.
-pub record AreResults (head : List ℕ) (depth : ℕ) (probe : List Turn) (board : Facts) (text : List ℕ) : Type 0 where
+-- the sweep stops. Each line begins with the head, and shows what each line of the probe prints, by its number of turns.
+pub record AreResults (looks head : List ℕ) (depth : ℕ) (probe : List Turn) (board : Facts) (text : List ℕ) : Type 0 where
   pub runs : ℕ
   pub seen : List Seen
   pub tally : IsTally runs seen
   pub all : runs < 2 ^ 32 - 1 → CountsRuns (AreAllBehind depth probe board) [] seen
-  pub text_is : text ≡ results_text head seen
+  pub text_is : text ≡ results_text looks head seen
 
 -- a cut at this device write of `words` words, with mask number i, counted from 0
 pub record IsCutText {B : Type 0} {facts : B → Facts} {torn : B → ℕ} (sweeping : Sweeping facts torn) (write words i : ℕ) (text : List ℕ) : Type 0 where
   pub left : Facts
   pub cut : CutsCommand write (mask_of words i) sweeping.board sweeping.prepare sweeping.command left
-  pub results : AreResults (cut_head write i (mask_of words i)) sweeping.depth sweeping.probe left text
+  pub results : AreResults sweeping.looks (cut_head write i (mask_of words i)) sweeping.depth sweeping.probe left text
 
 -- A cut is printed if it is of the part.
 pub record IsCutOrNone {B : Type 0} {facts : B → Facts} {torn : B → ℕ} (sweeping : Sweeping facts torn) (write words i : ℕ) (text : List ℕ) : Type 0 where
@@ -145,7 +146,7 @@ pub record IsFound {B : Type 0} {facts : B → Facts} {torn : B → ℕ} (sweepi
   pub trace : List Item
   pub left : Facts
   pub played : PlaysOn sweeping.board turns trace left
-  pub results : AreResults (stage_head stage trace) 0 sweeping.probe left text
+  pub results : AreResults sweeping.looks (stage_head stage trace) 0 sweeping.probe left text
 
 -- What is found without the command, what is found after it, the kinds of its writes, and each cut of it.
 pub record HasSections {B : Type 0} {facts : B → Facts} {torn : B → ℕ} (sweeping : Sweeping facts torn) (whole : List Turn) (text : List ℕ) : Type 0 where
@@ -166,6 +167,7 @@ pub record IsReport {B : Type 0} (facts : B → Facts) (torn : B → ℕ) (board
   pub prepare : AreTurns script.prepare.items sweeping.prepare
   pub command : sweeping.command ≡ script.command
   pub probe : AreTurns script.probe.items sweeping.probe
+  pub looks : sweeping.looks ≡ script.looks.items
   pub depth : sweeping.depth ≡ script.depth
   pub part_is : sweeping.part ≡ part
   pub whole : List Turn

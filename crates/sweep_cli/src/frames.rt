@@ -1,5 +1,5 @@
 //! How a command goes to the card: as the blocks that the reader's end sends after RESYNCH.
-ghost use Rattle.std.specs.Prelude.{◌≡◌, ◌≤◌, ◌<◌, ◌++◌, length, IfOk, OnOk};
+ghost use Rattle.std.specs.Prelude.{◌≡◌, ◌≤◌, ◌<◌, ◌++◌, ◌∷◌, [], length, IfOk, OnOk};
 ghost use Rattle.t1_link.specs.declared.outgoing.TheConstants.{LONGEST_COMMAND};
 ghost use Rattle.sweep_cli.specs.Framing.{exchange, first_sent, last_command_block, second_sent, steps_before};
 
@@ -44,6 +44,27 @@ pub fn push_command(
         }
     }
     OwnBlock::new(alloc, &block)
+}
+
+/// Appends the steps that carry out a command of the probe, and their number.
+///
+/// # Errors
+/// There is too little memory.
+pub fn push_look(
+    alloc: Global,
+    command: &[u8],
+    steps: &mut Vec<Step>,
+    looks: &mut Vec<usize>,
+) -> Result<(), AllocError>
+    requires some { 1 ≤ length command.now }
+    requires size { length command.now ≤ LONGEST_COMMAND }
+    ensures steps { OnOk result (steps.new.items ≡ steps.old.items ++ exchange command.now) }
+    ensures looks { OnOk result (looks.new.items ≡ looks.old.items ++ length (exchange command.now) ∷ []) }
+{
+    let before = steps.len();
+    push_exchange(alloc, command, steps)?;
+    looks.push(steps.len() - before)?;
+    Ok(())
 }
 
 /// Appends the steps that carry out a command and fetch its whole answer.

@@ -24,6 +24,7 @@ pub struct Plan<'a, B: ReadableBoard> {
     pub prepare: &'a [Turn<'a>],
     pub command: &'a [u8],
     pub probe: &'a [Turn<'a>],
+    pub looks: &'a [usize],
     pub depth: u8,
     pub part: SweepPart,
 }
@@ -37,11 +38,11 @@ fn push_behind<B: ReadableBoard + Drop>(
     text: &mut String,
 ) -> Result<(), AllocError>
     ensures { OnOk result (HasCard (B.facts left.now).words
-        → AddsText (AreResults head.now depth plan.now.probe.now (B.facts left.now))
+        → AddsText (AreResults plan.now.looks.now head.now depth plan.now.probe.now (B.facts left.now))
         (string_bytes text.old) (string_bytes text.new)) }
 {
     let found = sweep_behind(plan.alloc, left, plan.probe, depth)?;
-    push_results(plan.alloc, text, head, &found.seen)
+    push_results(plan.alloc, text, plan.looks, head, &found.seen)
 }
 
 /// Appends the result of the probe after turns on a copy of the board.
@@ -70,7 +71,7 @@ fn push_cut<B: ReadableBoard + Drop>(
     text: &mut String,
 ) -> Result<(), AllocError>
     ensures { OnOk result (HasCard (B.facts left.now).words
-        → AddsText (AreResults (cut_head write i mask) plan.now.depth plan.now.probe.now (B.facts left.now))
+        → AddsText (AreResults plan.now.looks.now (cut_head write i mask) plan.now.depth plan.now.probe.now (B.facts left.now))
         (string_bytes text.old) (string_bytes text.new)) }
 {
     let head = cut_head(plan.alloc, write, i, mask)?;

@@ -90,6 +90,7 @@ fn swept<B: ReadableBoard + Drop>(
         prepare: &turns.prepare,
         command: script.command.as_slice(),
         probe: &turns.probe,
+        looks: &script.looks,
         depth: script.depth,
         part,
     };

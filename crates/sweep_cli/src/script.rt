@@ -8,7 +8,7 @@ ghost use Rattle.sweep_cli.specs.Asking.{sends, sets_depth, take_line, takes, un
 ghost use Rattle.sweep_cli.specs.SweepEndings.{ReadingStopsBy};
 
 use crate::fault::{LineError, LineStop, SweepFault};
-use crate::frames::{push_command, push_exchange};
+use crate::frames::{push_command, push_exchange, push_look};
 use crate::steps::{OwnBlock, Step, push_block};
 use bench_lines::{GivenBytes, LineBytes, LineEnd, LineFault, Order, read_line};
 use std::alloc::{AllocError, Global};
@@ -38,6 +38,8 @@ pub struct SweepScript {
     pub command: OwnBlock,
     /// The steps after the uncut power-on.
     pub probe: Vec<Step>,
+    /// The number of these steps for each line of the probe.
+    pub looks: Vec<usize>,
     /// The number of power-ons to cut after each cut of the command.
     pub depth: u8,
 }
@@ -52,6 +54,7 @@ impl SweepScript {
             prepare: Vec::new(alloc),
             command: OwnBlock::new(alloc, &[])?,
             probe: Vec::new(alloc),
+            looks: Vec::new(alloc),
             depth: 1,
         })
     }
@@ -166,7 +169,10 @@ impl SweepScript {
     {
         match self.section {
             Section::Prepare => self.prepare.push(step)?,
-            Section::Probe => self.probe.push(step)?,
+            Section::Probe => {
+                self.probe.push(step)?;
+                self.looks.push(1)?;
+            }
             Section::Command | Section::AfterCommand => return Err(LineStop::Bad(
                 LineError::NoCommand,
             )),
@@ -184,7 +190,7 @@ impl SweepScript {
     {
         match self.section {
             Section::Prepare => push_exchange(alloc, command, &mut self.prepare)?,
-            Section::Probe => push_exchange(alloc, command, &mut self.probe)?,
+            Section::Probe => push_look(alloc, command, &mut self.probe, &mut self.looks)?,
             Section::Command => {
                 self.command = push_command(alloc, command, &mut self.prepare)?;
                 self.section = Section::AfterCommand;

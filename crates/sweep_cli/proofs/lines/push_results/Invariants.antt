@@ -4,4 +4,4 @@ use Rattle.sweep_cli.proofs.lines.push_results.Given as goal
 
 abbrev pub invariant-loop-seen : goal.invariant-loop-seen
 invariant-loop-seen l =
-    string_bytes l.text ≡ string_bytes l.fn.text ++ results_text l.head (take l.seen-index l.results)
+    string_bytes l.text ≡ string_bytes l.fn.text ++ results_text l.looks l.head (take l.seen-index l.results)

@@ -9,7 +9,7 @@ returns g c =
     let found = c.in_ok-found.found in
     on-ok c.push_results.result _ _
     (λ written card. record {
-      more = results_text c.args.head.now found.seen.items;
+      more = results_text c.args.plan.now.looks.now c.args.head.now found.seen.items;
       holds = record {
         runs = found.runs;
         seen = found.seen.items;
@@ -17,7 +17,7 @@ returns g c =
         all = c.in_ok-found.ensures.complete card;
         text_is = refl;
       };
-      all = written ∙ ap (λ (l : List Seen). string_bytes c.args.text.now ++ results_text c.args.head.now l)
+      all = written ∙ ap (λ (l : List Seen). string_bytes c.args.text.now ++ results_text c.args.plan.now.looks.now c.args.head.now l)
           c.deref.ensures.value;
     })
     c.push_results.ensures

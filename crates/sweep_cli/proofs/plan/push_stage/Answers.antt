@@ -14,6 +14,6 @@ returns g c = on-ok c.push_behind.result _ _
       trace = _;
       left = _;
       played = played;
-      results = results-under _ _ _ _ _ text head_is results;
+      results = results-under _ _ _ _ _ _ text head_is results;
     }) (behind played.has_card))
     c.push_behind.ensures

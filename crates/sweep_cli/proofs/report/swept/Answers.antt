@@ -13,9 +13,10 @@ returns g c =
       prepare = are-turns-same _ _ _ _ refl c.deref.ensures.value turns.prepare;
       command = c.as_slice.ensures;
       probe = are-turns-same _ _ _ _ refl c.deref-2.ensures.value turns.probe;
+      looks = c.deref-3.ensures.value;
       depth = refl;
       part_is = refl;
       whole = _;
-      is_whole = are-turns-same _ _ _ _ refl c.deref-3.ensures.value turns.whole;
+      is_whole = are-turns-same _ _ _ _ refl c.deref-4.ensures.value turns.whole;
       sections = sections-first _ _ _ _ c.new-text.ensures.bytes sections;
     }
