@@ -14,7 +14,8 @@ use Rattle.bench_turns.specs.Plays.{BringsNoFault, IsGood, Plays, PlaysBlock, Te
 use Rattle.bench_turns.specs.Turns.{GoodBlock, GoodTurn, TakesBlock}
 
 -- what holds of the item holds of it in other words
-pub tells-so : (told : TurnResult) (block : List ℕ) (P Q : Item → Type 0) → ((i : Item) → P i → Q i) → TellsItem told block P
+pub tells-so : (told : TurnResult) (block : List ℕ) (P Q : Item → Type 0) → ((i : Item) → P i → Q i)
+    → TellsItem told block P
     → TellsItem told block Q
 tells-so turned.Atr block P Q weaker holds = weaker item.Atr holds
 tells-so turned.Quiet block P Q weaker holds = weaker item.Quiet holds

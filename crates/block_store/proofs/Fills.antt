@@ -1,5 +1,6 @@
 -- The first free blocks, as they are filled one by one.
-use Rattle.std.proofs.Common.{◌≡◌, ◌+◌, ◌-◌, ◌<◌, ◌≤◌, ℕ, List, length, slice_index, take, replicate, refl, sym, ◌∙◌, ap}
+use Rattle.std.proofs.Common.{◌≡◌, ◌+◌, ◌-◌, ◌<◌, ◌≤◌, ◌∙◌, ℕ, List, length, slice_index, take, replicate}
+use Rattle.std.proofs.Common.{refl, sym, ap}
 use Rattle.std.proofs.Common.{subst, inl, arith, get_or-take}
 use Rattle.std.proofs.lemmas.List.{length-replicate, length-take-le}
 use Rattle.nvm_board.specs.Facts.{address, IsMemory}

@@ -220,7 +220,8 @@ module _ (board left : Facts) (first armed last : BenchState) (told : TurnResult
         good = good;
         good_left = played.0;
         cut = good-block armed last command item.Dark
-            (subst (λ (t : TurnResult). TellsItem t reply (λ i. GoodTurn armed (turn.Block command) i last)) dark played.1);
+            (subst (λ (t : TurnResult). TellsItem t reply (λ i. GoodTurn armed (turn.Block command) i last)) dark
+            played.1);
         left_is = left_is;
         fired = fired;
         has_card = left-card played.0;

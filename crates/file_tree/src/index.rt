@@ -6,7 +6,8 @@ ghost use Rattle.file_tree.specs.declared.entry.Entry.{Entry};
 ghost use Rattle.file_tree.specs.Table.{table, entry_in, path_of, IsUsed, IsTable};
 ghost use Rattle.file_tree.specs.Trees.{tree_of, TreeStands};
 ghost use Rattle.file_tree.specs.TreeChanges.{Deletes};
-ghost use Rattle.file_tree.specs.Indexes.{AddsEntry, AreSorted, IsBlankIndex, IsFreeIn, IsIndex, TellsChild, TellsIndex};
+ghost use Rattle.file_tree.specs.Indexes.{AddsEntry, AreSorted, IsBlankIndex, IsFreeIn, IsIndex, TellsChild};
+ghost use Rattle.file_tree.specs.Indexes.{TellsIndex};
 ghost use Rattle.file_tree.specs.Indexes.{child_by_identifier};
 ghost use Rattle.file_tree.specs.IndexParts.{TellsPut, parent_by, is_outside};
 

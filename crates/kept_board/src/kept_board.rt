@@ -9,8 +9,8 @@ use nvm_board::{Armed, Board, DeviceErr, Faultless, PAGE_WORDS, Socket, WornOut}
 use simulated_boards::CutBoard;
 
 /// A board in working memory that can be cut, and its follower, if it has one. The follower is handed the words of each
-/// device write, once, in order, as the write left them: of a torn one too. A follower that fails changes nothing of the
-/// board, and is handed nothing more.
+/// device write, once, in order, as the write left them: of a torn one too. A follower that fails changes nothing of
+/// the board, and is handed nothing more.
 #[derive(Drop)]
 pub struct KeptBoard<F: Follower> {
     cut: CutBoard,

@@ -35,7 +35,8 @@ impl FaultBoard {
     ghost use Rattle.nvm_board.specs.declared.board.TheConstants.{PAGE_WORDS};
     ghost use Rattle.simulated_boards.specs.declared.fault_board.Counted.TheVariants.{Calls, Writes};
     ghost use Rattle.nvm_board.specs.Facts.{address, pages_of};
-    ghost use Rattle.simulated_boards.specs.Faulty.{fault_facts, counting, IsNewFaultBoard, SetsFault, IsFaulty, LeavesRun};
+    ghost use Rattle.simulated_boards.specs.Faulty.{fault_facts, counting, IsNewFaultBoard, SetsFault, IsFaulty};
+    ghost use Rattle.simulated_boards.specs.Faulty.{LeavesRun};
 
     /// Returns a powered board of 1,024 pages without a fault set. All its words and counts are 0. `Armed::arm` sets
     /// a fault at a call, whatever the mask.

@@ -1,5 +1,6 @@
 -- Writes that are copied out of a log and collected, and the bytes of a write.
-use Rattle.std.specs.Prelude.{◌≡◌, ◌≢◌, ◌≤◌, ◌<◌, ◌+◌, ◌-◌, ◌⊎◌, ◌++◌, ℕ, zero, suc, List, [], ◌∷◌, length, take, drop, map}
+use Rattle.std.specs.Prelude.{◌≡◌, ◌≢◌, ◌≤◌, ◌<◌, ◌+◌, ◌-◌, ◌⊎◌, ◌++◌, ℕ, zero, suc, List, []}
+use Rattle.std.specs.Prelude.{◌∷◌, length, take, drop, map}
 use Rattle.std.specs.Prelude.{Option, None, Some, min, get_or}
 use Rattle.std.specs.Int.{w32, to_be_bytes}
 use Rattle.std.proofs.Common.{◌∙◌, ap, arith, refl, subst, sym}

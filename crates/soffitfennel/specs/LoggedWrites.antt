@@ -1,5 +1,6 @@
 -- The device writes of a board, and the bytes of its image that each changes.
-use Rattle.std.specs.Prelude.{◌≡◌, ◌<◌, ◌-◌, ◌+◌, ◌++◌, ◌∷◌, ◌%◌, ◌^◌, ℕ, Bool, true, false, List, [], length, take, drop}
+use Rattle.std.specs.Prelude.{◌≡◌, ◌<◌, ◌-◌, ◌+◌, ◌++◌, ◌∷◌, ◌%◌, ◌^◌, ℕ, Bool, true, false, List, [], length}
+use Rattle.std.specs.Prelude.{take, drop}
 use Rattle.std.specs.Int.{w32, to_be_bytes}
 use Rattle.std.specs.List.{flat_map}
 use Rattle.circular_buffer.specs.Buffer.{buffer, keep_last}

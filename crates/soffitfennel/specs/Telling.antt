@@ -16,7 +16,8 @@ use Rattle.card_bench.specs.DeskStates.{print_of}
 use Rattle.card_bench.specs.Performing.{Performs}
 use Rattle.card_bench.specs.Prints.{IsJustWritten}
 use Rattle.script_output.specs.Printouts.{Print}
-use Rattle.script_output.specs.Printouts.{prints_nothing, prints_atr, prints_mute, prints_dark, prints_lost, prints_bytes}
+use Rattle.script_output.specs.Printouts.{prints_nothing, prints_atr, prints_mute, prints_dark, prints_lost}
+use Rattle.script_output.specs.Printouts.{prints_bytes}
 use Rattle.script_output.specs.Printouts.{prints_free}
 use Rattle.soffitfennel.specs.SessionStates.{SessionState, begun_at}
 use Rattle.soffitfennel.specs.LoggedWrites.{fresh_count, image_bytes, log_room, run_of, writes_since}
@@ -71,7 +72,7 @@ pub record LogsWrites (earlier : ℕ) (now : SessionState) : Type 0 where
   pub kept : 0 < now.room → AreLogged earlier now
 
 -- The card is kept, and the log of its board has lost a write since an earlier count, or has more than there is room
--- for.
+-- for. The desk hides its board, so this may be another one with the same facts, without a log.
 pub record LosesWrites (earlier room : ℕ) (now : SessionState) : Type 0 where
   pub kept : 0 < room
   pub board : KeptBoard WriteLog

@@ -9,7 +9,7 @@ use circular_buffer::HeapCircularBuffer;
 use kept_board::Follower;
 use std::alloc::{AllocError, Global};
 
-/// The writes that the log of a kept card holds. A call makes fewer.
+/// The writes that the log of a kept card holds. No contract bounds the writes of a call.
 pub const LOG_WRITES: usize = 4096;
 
 /// Returns an empty buffer for the writes of a kept card, or one without room.

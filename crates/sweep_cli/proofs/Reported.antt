@@ -29,7 +29,8 @@ results-under looks head other depth probe board text same results =
     subst (λ (h : List ℕ). AreResults looks h depth probe board text) same results
 
 -- a cut that is none of the part
-pub none-put : {B : Type 0} {facts : B → Facts} {torn : B → ℕ} (sweeping : Sweeping facts torn) (write words i : ℕ) (old : List ℕ) → (IsOfPart sweeping.part write i → ⊥)
+pub none-put : {B : Type 0} {facts : B → Facts} {torn : B → ℕ} (sweeping : Sweeping facts torn) (write words i : ℕ)
+    (old : List ℕ) → (IsOfPart sweeping.part write i → ⊥)
     → AddsText (IsCutOrNone sweeping write words i) old old
 none-put sweeping write words i old other = record {
   more = [];
@@ -38,7 +39,8 @@ none-put sweeping write words i old other = record {
 }
 
 -- the cut with this mask
-pub cut-put : {B : Type 0} {facts : B → Facts} {torn : B → ℕ} (sweeping : Sweeping facts torn) (write words i mask : ℕ) (left : Facts) (old new : List ℕ)
+pub cut-put : {B : Type 0} {facts : B → Facts} {torn : B → ℕ} (sweeping : Sweeping facts torn)
+    (write words i mask : ℕ) (left : Facts) (old new : List ℕ)
     → mask ≡ mask_of words i → IsOfPart sweeping.part write i
     → CutsCommand write mask sweeping.board sweeping.prepare sweeping.command left
     → AddsText (AreResults sweeping.looks (cut_head write i mask) sweeping.depth sweeping.probe left) old new
@@ -50,7 +52,8 @@ cut-put sweeping write words i mask left old new same own cut results = record {
       left = left;
       cut = subst (λ (m : ℕ). CutsCommand write m sweeping.board sweeping.prepare sweeping.command left) same cut;
       results = subst
-          (λ (m : ℕ). AreResults sweeping.looks (cut_head write i m) sweeping.depth sweeping.probe left results.more) same
+          (λ (m : ℕ). AreResults sweeping.looks (cut_head write i m) sweeping.depth sweeping.probe left results.more)
+          same
           results.holds;
     };
     other = λ others. absurd (others own);
@@ -59,7 +62,8 @@ cut-put sweeping write words i mask left old new same own cut results = record {
 }
 
 -- a write that others made, as its first mask shows
-pub unmade-put : {B : Type 0} {facts : B → Facts} {torn : B → ℕ} (sweeping : Sweeping facts torn) (write : ℕ) (old : List ℕ)
+pub unmade-put : {B : Type 0} {facts : B → Facts} {torn : B → ℕ} (sweeping : Sweeping facts torn) (write : ℕ)
+    (old : List ℕ)
     → IsSparedBy sweeping write 0
     → AddsText (IsLastWrite sweeping write) old old
 unfolding TextsInTurn
@@ -77,7 +81,8 @@ unmade-put sweeping write old spared = record {
 }
 
 -- all writes, up to the first that others made
-pub writes-put : {B : Type 0} {facts : B → Facts} {torn : B → ℕ} (sweeping : Sweeping facts torn) (writes : ℕ) (old each last new : List ℕ)
+pub writes-put : {B : Type 0} {facts : B → Facts} {torn : B → ℕ} (sweeping : Sweeping facts torn) (writes : ℕ)
+    (old each last new : List ℕ)
     → AddsText (TextsInTurn (λ n. IsWrite sweeping (n + 1)) writes) old each
     → AddsText (λ t. IsLastWrite sweeping (writes + 1) t ⊎ ((writes ≡ 2 ^ 32 - 1) × (t ≡ []))) each last
     → new ≡ last ++ total_text writes sweeping.depth → AddsText (AreWrites sweeping) old new
@@ -97,12 +102,14 @@ writes-put sweeping writes old each last new some end text = record {
 }
 
 -- no device write yet
-pub writes-none : {B : Type 0} {facts : B → Facts} {torn : B → ℕ} (sweeping : Sweeping facts torn) (all : List DeviceWrite) → all ≡ [] → WritesInTurn sweeping 0 all
+pub writes-none : {B : Type 0} {facts : B → Facts} {torn : B → ℕ} (sweeping : Sweeping facts torn)
+    (all : List DeviceWrite) → all ≡ [] → WritesInTurn sweeping 0 all
 unfolding WritesInTurn
 writes-none sweeping all is = is
 
 -- one device write more
-pub writes-next : {B : Type 0} {facts : B → Facts} {torn : B → ℕ} (sweeping : Sweeping facts torn) (n : ℕ) (before all : List DeviceWrite) (it : DeviceWrite)
+pub writes-next : {B : Type 0} {facts : B → Facts} {torn : B → ℕ} (sweeping : Sweeping facts torn) (n : ℕ)
+    (before all : List DeviceWrite) (it : DeviceWrite)
     → WritesInTurn sweeping n before → IsDeviceWrite sweeping (n + 1) it → all ≡ before ++ it ∷ []
     → WritesInTurn sweeping (n + 1) all
 unfolding WritesInTurn
@@ -112,7 +119,8 @@ writes-next sweeping n before all it some next pushed =
     subst (λ (m : ℕ). WritesInTurn sweeping m all) same more
 
 -- the sections of a report, one after the other
-pub sections-put : {B : Type 0} {facts : B → Facts} {torn : B → ℕ} (sweeping : Sweeping facts torn) (whole : List Turn) (old one two three new : List ℕ)
+pub sections-put : {B : Type 0} {facts : B → Facts} {torn : B → ℕ} (sweeping : Sweeping facts torn)
+    (whole : List Turn) (old one two three new : List ℕ)
     → AddsText (IsFound sweeping (codes "before") sweeping.prepare) old one
     → AddsText (IsFound sweeping (codes "after") whole) one two → AddsText (AreKindsOrNone sweeping) two three
     → AddsText (AreWrites sweeping) three new → AddsText (HasSections sweeping whole) old new
@@ -136,7 +144,8 @@ sections-put sweeping whole old one two three new before after kinds cuts = reco
 }
 
 -- the sections of a report that begins with them
-pub sections-first : {B : Type 0} {facts : B → Facts} {torn : B → ℕ} (sweeping : Sweeping facts torn) (whole : List Turn) (old new : List ℕ) → old ≡ []
+pub sections-first : {B : Type 0} {facts : B → Facts} {torn : B → ℕ} (sweeping : Sweeping facts torn)
+    (whole : List Turn) (old new : List ℕ) → old ≡ []
     → AddsText (HasSections sweeping whole) old new → HasSections sweeping whole new
 sections-first sweeping whole old new none some =
     subst (HasSections sweeping whole) (sym (some.all ∙ ap (λ (l : List ℕ). l ++ some.more) none)) some.holds

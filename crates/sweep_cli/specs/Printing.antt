@@ -1,5 +1,5 @@
--- The lines of a report. Each is a JSON object. A result takes up one line, which begins with the head of its cut, or of
--- the stage before or after the command.
+-- The lines of a report. Each is a JSON object. A result takes up one line, which begins with the head of its cut, or
+-- of the stage before or after the command.
 use Rattle.std.specs.Prelude.{◌-◌, ◌&&◌, ℕ, List, [], ◌∷◌, ◌++◌, codes, decimal, flat_map, length, take, drop}
 use Rattle.std.specs.Prelude.{nat_eq, nat_lt, slice_get, slice_index, slice_range, Option, Some, None, if◌then◌else◌}
 use Rattle.hex.specs.Hex.{encode_upper}
@@ -47,7 +47,8 @@ abbrev pub cut_head : ℕ → ℕ → ℕ → List ℕ
 cut_head write i mask = codes "{\"write\": " ++ (decimal write ++ (codes ", \"number\": " ++ (decimal i
     ++ (codes ", \"mask\": " ++ (decimal mask ++ codes ", ")))))
 
--- what a line of the probe prints if its last item is a block: the bytes of its only block, or the answer in its I-blocks
+-- what a line of the probe prints if its last item is a block: the bytes of its only block, or the answer in its
+-- I-blocks
 abbrev pub reply_text : List Item → Item → List ℕ
 reply_text items Atr = []
 reply_text items Quiet = []

@@ -24,7 +24,8 @@ pub record AddsText (Is : List ℕ → Type 0) (old new : List ℕ) : Type 0 whe
   pub all : new ≡ old ++ more
 
 -- A mask after the first: its cut was appended if it is of the part and happened, and nothing otherwise.
-abbrev pub AddsMaskText : {B : Type 0} {facts : B → Facts} {torn : B → ℕ} → Sweeping facts torn → ℕ → ℕ → ℕ → Bool → List ℕ → List ℕ → Type 0
+abbrev pub AddsMaskText : {B : Type 0} {facts : B → Facts} {torn : B → ℕ} → Sweeping facts torn → ℕ → ℕ → ℕ → Bool →
+    List ℕ → List ℕ → Type 0
 AddsMaskText sweeping write words i true old new = AddsText (IsCutOrNone sweeping write words i) old new
 AddsMaskText sweeping write words i false old new =
     IsSparedBy sweeping write (mask_of words i) × (new ≡ old)

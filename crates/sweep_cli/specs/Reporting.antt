@@ -28,8 +28,8 @@ abbrev pub IsFirstPart : SweepPart → Type 0
 IsFirstPart part = part.index ≡ 0
 
 -- What a sweep tries: on copies of a board, a command after a preparation, power-ons that are cut, and a probe. It
--- tries one part of the cuts. `facts` and `torn` are the facts of such a board, and the number of words of its last torn
--- write.
+-- tries one part of the cuts. `facts` and `torn` are the facts of such a board, and the number of words of its last
+-- torn write.
 pub record Sweeping {B : Type 0} (facts : B → Facts) (torn : B → ℕ) : Type 0 where
   pub board : Facts
   pub prepare : List Turn
@@ -40,22 +40,26 @@ pub record Sweeping {B : Type 0} (facts : B → Facts) (torn : B → ℕ) : Type
   pub part : SweepPart
 
 -- The results of all runs after a cut that left this board, each with the number of its runs. At the end of that count
--- the sweep stops. Each line begins with the head, and shows what each line of the probe prints, by its number of turns.
-pub record AreResults (looks head : List ℕ) (depth : ℕ) (probe : List Turn) (board : Facts) (text : List ℕ) : Type 0 where
-  pub runs : ℕ
-  pub seen : List Seen
-  pub tally : IsTally runs seen
-  pub all : runs < 2 ^ 32 - 1 → CountsRuns (AreAllBehind depth probe board) [] seen
-  pub text_is : text ≡ results_text looks head seen
+-- the sweep stops. Each line begins with the head, and shows what each line of the probe prints, by its number of
+-- turns.
+pub record AreResults (looks head : List ℕ) (depth : ℕ) (probe : List Turn) (board : Facts) (text : List ℕ) : Type 0
+  where
+    pub runs : ℕ
+    pub seen : List Seen
+    pub tally : IsTally runs seen
+    pub all : runs < 2 ^ 32 - 1 → CountsRuns (AreAllBehind depth probe board) [] seen
+    pub text_is : text ≡ results_text looks head seen
 
 -- a cut at this device write of `words` words, with mask number i, counted from 0
-pub record IsCutText {B : Type 0} {facts : B → Facts} {torn : B → ℕ} (sweeping : Sweeping facts torn) (write words i : ℕ) (text : List ℕ) : Type 0 where
+pub record IsCutText {B : Type 0} {facts : B → Facts} {torn : B → ℕ} (sweeping : Sweeping facts torn)
+    (write words i : ℕ) (text : List ℕ) : Type 0 where
   pub left : Facts
   pub cut : CutsCommand write (mask_of words i) sweeping.board sweeping.prepare sweeping.command left
   pub results : AreResults sweeping.looks (cut_head write i (mask_of words i)) sweeping.depth sweeping.probe left text
 
 -- A cut is printed if it is of the part.
-pub record IsCutOrNone {B : Type 0} {facts : B → Facts} {torn : B → ℕ} (sweeping : Sweeping facts torn) (write words i : ℕ) (text : List ℕ) : Type 0 where
+pub record IsCutOrNone {B : Type 0} {facts : B → Facts} {torn : B → ℕ} (sweeping : Sweeping facts torn)
+    (write words i : ℕ) (text : List ℕ) : Type 0 where
   pub own : IsOfPart sweeping.part write i → IsCutText sweeping write words i text
   pub other : (IsOfPart sweeping.part write i → ⊥) → text ≡ []
 
@@ -66,7 +70,8 @@ TextsInTurn IsText (suc n) text =
     (before last : List ℕ) × TextsInTurn IsText n before × IsText n last × (text ≡ before ++ last)
 
 -- The torn write has this many words, as the board after the cut with the first mask reports.
-pub record HasWords {B : Type 0} {facts : B → Facts} {torn : B → ℕ} (sweeping : Sweeping facts torn) (write words : ℕ) : Type 0 where
+pub record HasWords {B : Type 0} {facts : B → Facts} {torn : B → ℕ} (sweeping : Sweeping facts torn)
+    (write words : ℕ) : Type 0 where
   pub left : B
   pub cut : CutsCommand write 0 sweeping.board sweeping.prepare sweeping.command (facts left)
   pub told : words ≡ words_tried (torn left)
@@ -76,13 +81,15 @@ abbrev pub IsSparedBy : {B : Type 0} {facts : B → Facts} {torn : B → ℕ} �
 IsSparedBy sweeping write mask = SparesCommand write mask sweeping.board sweeping.prepare sweeping.command
 
 -- each cut of a device write, with each mask for its number of words
-pub record IsWrite {B : Type 0} {facts : B → Facts} {torn : B → ℕ} (sweeping : Sweeping facts torn) (write : ℕ) (text : List ℕ) : Type 0 where
+pub record IsWrite {B : Type 0} {facts : B → Facts} {torn : B → ℕ} (sweeping : Sweeping facts torn) (write : ℕ)
+    (text : List ℕ) : Type 0 where
   pub words : ℕ
   pub has_words : HasWords sweeping write words
   pub each : TextsInTurn (IsCutOrNone sweeping write words) (mask_count_of words) text
 
 -- The command doesn't make this write: a cut with one of the masks doesn't happen, and no further mask is tried.
-pub record IsLastWrite {B : Type 0} {facts : B → Facts} {torn : B → ℕ} (sweeping : Sweeping facts torn) (write : ℕ) (text : List ℕ) : Type 0 where
+pub record IsLastWrite {B : Type 0} {facts : B → Facts} {torn : B → ℕ} (sweeping : Sweeping facts torn) (write : ℕ)
+    (text : List ℕ) : Type 0 where
   pub words : ℕ
   pub masks : ℕ
   pub few : masks < mask_count_of words
@@ -91,12 +98,14 @@ pub record IsLastWrite {B : Type 0} {facts : B → Facts} {torn : B → ℕ} (sw
   pub spared : IsSparedBy sweeping write (mask_of words masks)
 
 -- the cuts of a write, made by the command or not
-abbrev pub IsWriteIf : {B : Type 0} {facts : B → Facts} {torn : B → ℕ} → Sweeping facts torn → ℕ → Bool → List ℕ → Type 0
+abbrev pub IsWriteIf : {B : Type 0} {facts : B → Facts} {torn : B → ℕ} → Sweeping facts torn → ℕ → Bool → List ℕ →
+    Type 0
 IsWriteIf sweeping write true text = IsWrite sweeping write text
 IsWriteIf sweeping write false text = IsLastWrite sweeping write text
 
 -- each device write, up to the first that the command doesn't make, and the number of them
-pub record AreWrites {B : Type 0} {facts : B → Facts} {torn : B → ℕ} (sweeping : Sweeping facts torn) (text : List ℕ) : Type 0 where
+pub record AreWrites {B : Type 0} {facts : B → Facts} {torn : B → ℕ} (sweeping : Sweeping facts torn) (text : List ℕ)
+    : Type 0 where
   pub writes : ℕ
   pub each : List ℕ
   pub last : List ℕ
@@ -106,7 +115,8 @@ pub record AreWrites {B : Type 0} {facts : B → Facts} {torn : B → ℕ} (swee
 
 -- A device write: the number of words that the board reports after the cut with the first mask, and what the write does
 -- to the memory. Cuts with the first mask and the second leave the memories before and after it.
-pub record IsDeviceWrite {B : Type 0} {facts : B → Facts} {torn : B → ℕ} (sweeping : Sweeping facts torn) (write : ℕ) (it : DeviceWrite) : Type 0 where
+pub record IsDeviceWrite {B : Type 0} {facts : B → Facts} {torn : B → ℕ} (sweeping : Sweeping facts torn) (write : ℕ)
+    (it : DeviceWrite) : Type 0 where
   pub before : B
   pub cut : CutsCommand write 0 sweeping.board sweeping.prepare sweeping.command (facts before)
   pub words_are : it.words ≡ words_tried (torn before)
@@ -114,42 +124,53 @@ pub record IsDeviceWrite {B : Type 0} {facts : B → Facts} {torn : B → ℕ} (
   pub whole : CutsCommand write (mask_of it.words 1) sweeping.board sweeping.prepare sweeping.command (facts after)
   pub kind_is : IsWriteKind it.words (facts before).words (facts after).words it.kind
 
--- the command makes fewer writes: a cut at this one doesn't happen
-abbrev pub IsUnmade : {B : Type 0} {facts : B → Facts} {torn : B → ℕ} → Sweeping facts torn → ℕ → Type 0
-IsUnmade sweeping write = (mask : ℕ) × IsSparedBy sweeping write mask
+-- The command makes fewer writes: a cut at this one doesn't happen, with the first mask or with the second.
+pub record IsUnmade {B : Type 0} {facts : B → Facts} {torn : B → ℕ} (sweeping : Sweeping facts torn) (write : ℕ)
+    : Type 0 where
+  pub words : ℕ
+  pub masks : ℕ
+  pub few : masks ≤ 1
+  pub has_words : 1 ≤ masks → HasWords sweeping write words
+  pub spared : IsSparedBy sweeping write (mask_of words masks)
 
 -- the first `n` device writes, in order
-unfoldable pub WritesInTurn : {B : Type 0} {facts : B → Facts} {torn : B → ℕ} → Sweeping facts torn → ℕ → List DeviceWrite → Type 0
+unfoldable pub WritesInTurn : {B : Type 0} {facts : B → Facts} {torn : B → ℕ} → Sweeping facts torn → ℕ → List
+    DeviceWrite → Type 0
 WritesInTurn sweeping zero all = all ≡ []
 WritesInTurn sweeping (suc n) all = (before : List DeviceWrite) × (it : DeviceWrite) × WritesInTurn sweeping n before
     × IsDeviceWrite sweeping (n + 1) it × (all ≡ before ++ it ∷ [])
 
 -- all device writes of the command
-pub record AreDeviceWrites {B : Type 0} {facts : B → Facts} {torn : B → ℕ} (sweeping : Sweeping facts torn) (all : List DeviceWrite) : Type 0 where
+pub record AreDeviceWrites {B : Type 0} {facts : B → Facts} {torn : B → ℕ} (sweeping : Sweeping facts torn)
+    (all : List DeviceWrite) : Type 0 where
   pub writes : ℕ
   pub each : WritesInTurn sweeping writes all
   pub done : IsUnmade sweeping (writes + 1) ⊎ (writes ≡ 2 ^ 32 - 1)
 
 -- the kinds of the device writes
-pub record AreKinds {B : Type 0} {facts : B → Facts} {torn : B → ℕ} (sweeping : Sweeping facts torn) (text : List ℕ) : Type 0 where
+pub record AreKinds {B : Type 0} {facts : B → Facts} {torn : B → ℕ} (sweeping : Sweeping facts torn) (text : List ℕ)
+    : Type 0 where
   pub all : List DeviceWrite
   pub are : AreDeviceWrites sweeping all
   pub text_is : text ≡ kinds_text 1 all
 
 -- Only the first part has the kinds.
-pub record AreKindsOrNone {B : Type 0} {facts : B → Facts} {torn : B → ℕ} (sweeping : Sweeping facts torn) (text : List ℕ) : Type 0 where
+pub record AreKindsOrNone {B : Type 0} {facts : B → Facts} {torn : B → ℕ} (sweeping : Sweeping facts torn)
+    (text : List ℕ) : Type 0 where
   pub first : IsFirstPart sweeping.part → AreKinds sweeping text
   pub later : (IsFirstPart sweeping.part → ⊥) → text ≡ []
 
 -- the items of these turns, and the result of an uncut power-on and the probe after them
-pub record IsFound {B : Type 0} {facts : B → Facts} {torn : B → ℕ} (sweeping : Sweeping facts torn) (stage : List ℕ) (turns : List Turn) (text : List ℕ) : Type 0 where
+pub record IsFound {B : Type 0} {facts : B → Facts} {torn : B → ℕ} (sweeping : Sweeping facts torn) (stage : List ℕ)
+    (turns : List Turn) (text : List ℕ) : Type 0 where
   pub trace : List Item
   pub left : Facts
   pub played : PlaysOn sweeping.board turns trace left
   pub results : AreResults sweeping.looks (stage_head stage trace) 0 sweeping.probe left text
 
 -- What is found without the command, what is found after it, the kinds of its writes, and each cut of it.
-pub record HasSections {B : Type 0} {facts : B → Facts} {torn : B → ℕ} (sweeping : Sweeping facts torn) (whole : List Turn) (text : List ℕ) : Type 0 where
+pub record HasSections {B : Type 0} {facts : B → Facts} {torn : B → ℕ} (sweeping : Sweeping facts torn)
+    (whole : List Turn) (text : List ℕ) : Type 0 where
   pub before : List ℕ
   pub after : List ℕ
   pub kinds : List ℕ
@@ -161,7 +182,8 @@ pub record HasSections {B : Type 0} {facts : B → Facts} {torn : B → ℕ} (sw
   pub text_is : text ≡ before ++ after ++ kinds ++ cuts
 
 -- the report of a sweep on a board
-pub record IsReport {B : Type 0} (facts : B → Facts) (torn : B → ℕ) (board : Facts) (script : SweepScript) (part : SweepPart) (text : List ℕ) : Type 0 where
+pub record IsReport {B : Type 0} (facts : B → Facts) (torn : B → ℕ) (board : Facts) (script : SweepScript)
+    (part : SweepPart) (text : List ℕ) : Type 0 where
   pub sweeping : Sweeping facts torn
   pub board_is : sweeping.board ≡ board
   pub prepare : AreTurns script.prepare.items sweeping.prepare
@@ -175,7 +197,8 @@ pub record IsReport {B : Type 0} (facts : B → Facts) (torn : B → ℕ) (board
   pub sections : HasSections sweeping whole text
 
 -- A script was read to its end, and the report of a sweep of it was written.
-pub record WritesReport {B : Type 0} (facts : B → Facts) (torn : B → ℕ) (board : Facts) (script left : Option (List ℕ)) (part : SweepPart)
+pub record WritesReport {B : Type 0} (facts : B → Facts) (torn : B → ℕ) (board : Facts)
+    (script left : Option (List ℕ)) (part : SweepPart)
     (old new : Option (List ℕ)) : Type 0 where
   pub asked : SweepScript
   pub read : IsRead script left (asked_of asked)

@@ -65,7 +65,8 @@ ReadingStopsBy Write old new = ⊥
 ReadingStopsBy Memory old new = Unit {0}
 
 -- A script was read to its end, and the first bytes of the report of a sweep of it were written.
-pub record WritesInto {B : Type 0} (facts : B → Facts) (torn : B → ℕ) (board : Facts) (script left : Option (List ℕ)) (part : SweepPart)
+pub record WritesInto {B : Type 0} (facts : B → Facts) (torn : B → ℕ) (board : Facts) (script left : Option (List ℕ))
+    (part : SweepPart)
     (old new : Option (List ℕ)) : Type 0 where
   pub asked : SweepScript
   pub read : IsRead script left (asked_of asked)

@@ -1,6 +1,7 @@
 //! The lines of a report. Each is a JSON object.
 ghost use Rattle.std.specs.Prelude.{◌≡◌, ◌++◌, OnOk, IfOk, flat_map, string_bytes};
-ghost use Rattle.sweep_cli.specs.Printing.{answer_text, cut_head, sent_field, field_text, last_item, look_text, looks_text};
+ghost use Rattle.sweep_cli.specs.Printing.{answer_text, cut_head, sent_field, field_text, last_item, look_text};
+ghost use Rattle.sweep_cli.specs.Printing.{looks_text};
 ghost use Rattle.sweep_cli.specs.Printing.{reply_text, result_text, results_text, stage_head, total_text, word_text};
 
 use card_bench::Item;

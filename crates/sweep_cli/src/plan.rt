@@ -71,7 +71,8 @@ fn push_cut<B: ReadableBoard + Drop>(
     text: &mut String,
 ) -> Result<(), AllocError>
     ensures { OnOk result (HasCard (B.facts left.now).words
-        → AddsText (AreResults plan.now.looks.now (cut_head write i mask) plan.now.depth plan.now.probe.now (B.facts left.now))
+        → AddsText (AreResults plan.now.looks.now (cut_head write i mask) plan.now.depth plan.now.probe.now
+        (B.facts left.now))
         (string_bytes text.old) (string_bytes text.new)) }
 {
     let head = cut_head(plan.alloc, write, i, mask)?;
@@ -111,7 +112,8 @@ fn push_mask<B: ReadableBoard + Drop>(
     requires later { 1 ≤ i }
     requires place { i < mask_count_of words }
     ensures { IfOk result (λ came. HasCard (B.facts plan.now.board.now).words
-        → AddsMaskText (sweeping_of B.facts B.torn plan.now) write words i came (string_bytes text.old) (string_bytes text.new)) }
+        → AddsMaskText (sweeping_of B.facts B.torn plan.now) write words i came
+        (string_bytes text.old) (string_bytes text.new)) }
 {
     if !plan.part.has(write, i) {
         return Ok(true);
@@ -141,7 +143,8 @@ fn push_write<B: ReadableBoard + Drop>(
 ) -> Result<bool, AllocError>
     requires { 1 ≤ write }
     ensures { IfOk result (λ made. HasCard (B.facts plan.now.board.now).words
-        → AddsText (IsWriteIf (sweeping_of B.facts B.torn plan.now) write made) (string_bytes text.old) (string_bytes text.new)) }
+        → AddsText (IsWriteIf (sweeping_of B.facts B.torn plan.now) write made)
+        (string_bytes text.old) (string_bytes text.new)) }
 {
     let Some(left) = cut_at(plan.alloc, plan.board, plan.prepare, plan.command, write, 0)? else {
         return Ok(false);
@@ -229,7 +232,8 @@ pub fn push_first_part<B: ReadableBoard + Drop>(
     text: &mut String,
 ) -> Result<(), AllocError>
     ensures { OnOk result (HasCard (B.facts plan.now.board.now).words
-        → AddsText (AreKindsOrNone (sweeping_of B.facts B.torn plan.now)) (string_bytes text.old) (string_bytes text.new)) }
+        → AddsText (AreKindsOrNone (sweeping_of B.facts B.torn plan.now))
+        (string_bytes text.old) (string_bytes text.new)) }
 {
     if !plan.part.is_first() {
         return Ok(());

@@ -63,7 +63,8 @@ fn push_sections<B: ReadableBoard + Drop>(
     text: &mut String,
 ) -> Result<(), AllocError>
     ensures { OnOk result (HasCard (B.facts plan.now.board.now).words
-        → AddsText (HasSections (sweeping_of B.facts B.torn plan.now) whole.now) (string_bytes text.old) (string_bytes text.new)) }
+        → AddsText (HasSections (sweeping_of B.facts B.torn plan.now) whole.now)
+        (string_bytes text.old) (string_bytes text.new)) }
 {
     push_stage(plan, "before", plan.prepare, text)?;
     push_stage(plan, "after", whole, text)?;
@@ -114,7 +115,8 @@ pub fn report<B: ReadableBoard + Drop, R: BufRead, W: Write>(
     requires card { HasCard (B.facts board.now).words }
     requires uncut { (B.facts board.now).pending ≡ None }
     // The text is the report of a sweep of the script that was read.
-    ensures told { OnOk result (WritesReport B.facts B.torn (B.facts board.now) (R.remaining reader.old) (R.remaining reader.new)
+    ensures told { OnOk result (WritesReport B.facts B.torn (B.facts board.now)
+        (R.remaining reader.old) (R.remaining reader.new)
         part (W.contents writer.old) (W.contents writer.new)) }
     // A bad line is the first one. `Read` occurs within a line. At `Write` the first bytes of the report are written.
     ensures stopped { IfErr result (λ fault. SweepStopsBy B.facts B.torn (B.facts board.now) part fault

@@ -8,7 +8,8 @@ use Rattle.card_sweeps.proofs.sweeping.start_cut.Goals.{in-Dark, in_default}
 
 pub returns-clause-spared : goal.returns-clause-spared
 returns-clause-spared g c =
-    let lit : c.match-matches.matches ≡ false → c.turn_well-turned.result ≡ turned.Dark → ⊥ = elim c.match-matches.branch [
+    let lit : c.match-matches.matches ≡ false → c.turn_well-turned.result ≡ turned.Dark → ⊥ =
+    elim c.match-matches.branch [
       | in-Dark w ↦ λ is e. true≢false (sym w.matches-is ∙ is)
       | in_default w ↦ λ is e. w.in_default.not-Dark e
     ] in

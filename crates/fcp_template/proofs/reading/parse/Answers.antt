@@ -35,7 +35,8 @@ reads_none text none =
     inr ((λ os t. none (objects_text os) (record { spelled = t.spelled; short = t.short })), refl)
 
 -- and as nothing else
-reads_only : (text : List ℕ) (read other : Result Fcp FcpFault) → FcpReads text read → FcpReads text other → other ≡ read
+reads_only : (text : List ℕ) (read other : Result Fcp FcpFault) → FcpReads text read → FcpReads text other
+    → other ≡ read
 reads_only text read other mine reads = fcp_read-is text other reads ∙ sym (fcp_read-is text read mine)
 
 pub returns-in-Some-clause-reads : goal.returns-in-Some-clause-reads

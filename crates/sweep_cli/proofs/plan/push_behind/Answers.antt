@@ -17,7 +17,8 @@ returns g c =
         all = c.in_ok-found.ensures.complete card;
         text_is = refl;
       };
-      all = written ∙ ap (λ (l : List Seen). string_bytes c.args.text.now ++ results_text c.args.plan.now.looks.now c.args.head.now l)
+      all = written ∙ ap (λ (l : List Seen). string_bytes c.args.text.now ++ results_text c.args.plan.now.looks.now
+          c.args.head.now l)
           c.deref.ensures.value;
     })
     c.push_results.ensures

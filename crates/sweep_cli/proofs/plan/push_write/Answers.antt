@@ -9,7 +9,8 @@ use Rattle.sweep_cli.proofs.plan.push_write.Goals as goal
 pub loop-i-init : goal.loop-i-init
 loop-i-init g c = λ card.
     let cut = rw c.in-Some.is at c.in_ok-left.ensures.cut in
-    let IsText = IsCutOrNone (sweeping_of g.B.Board.facts g.B.Sweepable.torn c.args.plan.now) c.args.write c.words_to_try-words.result in
+    let IsText = IsCutOrNone (sweeping_of g.B.Board.facts g.B.Sweepable.torn c.args.plan.now) c.args.write
+    c.words_to_try-words.result in
     in-turn-next IsText 0 _ _ _ (in-turn-none IsText _)
     (c.in_ok-push_first.ensures (cut card) c.words_to_try-words.result)
 

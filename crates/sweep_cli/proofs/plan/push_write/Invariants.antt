@@ -6,5 +6,6 @@ use Rattle.sweep_cli.proofs.plan.push_write.Given as goal
 
 abbrev pub invariant-loop-i : goal.invariant-loop-i
 invariant-loop-i g l = HasCard (g.B.Board.facts l.plan.board.now).words
-    → AddsText (TextsInTurn (IsCutOrNone (sweeping_of g.B.Board.facts g.B.Sweepable.torn l.plan) l.write l.words) l.i) (string_bytes l.fn.text)
+    → AddsText (TextsInTurn (IsCutOrNone (sweeping_of g.B.Board.facts g.B.Sweepable.torn l.plan) l.write l.words)
+    l.i) (string_bytes l.fn.text)
     (string_bytes l.text)

@@ -6,5 +6,6 @@ use Rattle.sweep_cli.proofs.plan.push_writes.Given as goal
 
 abbrev pub invariant-loop-writes : goal.invariant-loop-writes
 invariant-loop-writes g l = HasCard (g.B.Board.facts l.plan.board.now).words
-    → AddsText (TextsInTurn (λ n. IsWrite (sweeping_of g.B.Board.facts g.B.Sweepable.torn l.plan) (n + 1)) l.writes) (string_bytes l.fn.text)
+    → AddsText (TextsInTurn (λ n. IsWrite (sweeping_of g.B.Board.facts g.B.Sweepable.torn l.plan) (n + 1)) l.writes)
+    (string_bytes l.fn.text)
     (string_bytes l.text)

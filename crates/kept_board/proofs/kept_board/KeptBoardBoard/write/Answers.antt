@@ -1,4 +1,5 @@
-use Rattle.std.proofs.Common.{◌≡◌, ◌≤◌, ◌+◌, ◌*◌, ℕ, Bool, false, List, length, Option, Some, None, is_some, refl, ap, arith}
+use Rattle.std.proofs.Common.{◌≡◌, ◌≤◌, ◌+◌, ◌*◌, ℕ, Bool, false, List, length, Option, Some, None, is_some}
+use Rattle.std.proofs.Common.{refl, ap, arith}
 use Rattle.std.proofs.Common.{true≢false, not, ◌∙◌}
 use Rattle.kept_board.specs.Handed.{HandsOn, Run, handed_to}
 use Rattle.simulated_boards.specs.Cut.{cut_facts}

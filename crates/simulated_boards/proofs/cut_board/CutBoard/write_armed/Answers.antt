@@ -4,7 +4,8 @@ use Rattle.simulated_boards.specs.Cut.{ArmAfter}
 use Rattle.nvm_board.specs.Facts.{Facts, address, Answered, IsLostRightly}
 use Rattle.nvm_board.specs.laws.Torn.{Torn-IsTornBy}
 use Rattle.simulated_boards.specs.Ram.{ram_facts}
-use Rattle.simulated_boards.proofs.WithArm.{with_arm, answered_armed, lost_armed, error_armed, spared_err, answered_spared}
+use Rattle.simulated_boards.proofs.WithArm.{with_arm, answered_armed, lost_armed, error_armed, spared_err}
+use Rattle.simulated_boards.proofs.WithArm.{answered_spared}
 use Rattle.simulated_boards.proofs.WithArm.{spared_ok, answered_torn, arm_spent, aims_armed, aims_nearer}
 use Rattle.simulated_boards.proofs.cut_board.CutBoard.write_armed.Goals as goal
 
