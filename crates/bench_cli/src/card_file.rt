@@ -1,7 +1,7 @@
 //! Opens the file of a card, or makes one with the factory card.
 ghost use Rattle.std.specs.Prelude.{IfOk};
 ghost use Rattle.command_base.specs.Finding.{HasCard};
-ghost use Rattle.kept_board.specs.Kept.{kept_facts};
+ghost use Rattle.kept_board.specs.Kept.{kept_words};
 
 use crate::kept_file::{CardBoard, KeptFile, PAGE_BYTES};
 use crate::options::CardOptions;
@@ -41,7 +41,7 @@ pub enum CardFault {
 
 /// Returns the card in the file, or the factory card in a new file.
 pub fn open_card(rt: &HostRuntime, options: &CardOptions) -> Result<CardBoard, CardFault>
-    ensures { IfOk result (λ board. HasCard (kept_facts board).words) }
+    ensures { IfOk result (λ board. HasCard (kept_words board)) }
 {
     let path = options.path.as_str();
     match OpenOptions::new().read(true).write(true).open(rt, path) {
@@ -53,7 +53,7 @@ pub fn open_card(rt: &HostRuntime, options: &CardOptions) -> Result<CardBoard, C
 
 /// Returns the card in an open file.
 fn read_card(alloc: Global, mut file: File, options: &CardOptions) -> Result<CardBoard, CardFault>
-    ensures { IfOk result (λ board. HasCard (kept_facts board).words) }
+    ensures { IfOk result (λ board. HasCard (kept_words board)) }
 {
     lock(&file)?;
     let size = match file.metadata() {
@@ -76,7 +76,7 @@ fn read_card(alloc: Global, mut file: File, options: &CardOptions) -> Result<Car
 /// Makes a file with the factory card, whole or not at all.
 /// It is written under another name first, and renamed once the disk has it.
 fn make_card(rt: &HostRuntime, options: &CardOptions) -> Result<CardBoard, CardFault>
-    ensures { IfOk result (λ board. HasCard (kept_facts board).words) }
+    ensures { IfOk result (λ board. HasCard (kept_words board)) }
 {
     let pages = options.new_pages();
     let Ok(board) = factory_board_of(rt.alloc(), pages) else {

@@ -4,7 +4,7 @@
 
 ghost use Rattle.std.specs.Prelude.{◌≡◌, MatchResult, IfOk};
 ghost use Rattle.command_base.specs.Finding.{HasCard};
-ghost use Rattle.kept_board.specs.Kept.{kept_facts};
+ghost use Rattle.kept_board.specs.Kept.{kept_words};
 ghost use Rattle.script_output.specs.Faults.{status_of};
 
 mod card_file;
@@ -75,7 +75,7 @@ enum NoBoard {
 
 /// Returns the board with the card that the command line asks for.
 fn board_of(rt: &HostRuntime, asked: Asked) -> Result<CardBoard, NoBoard>
-    ensures { IfOk result (λ board. HasCard (kept_facts board).words) }
+    ensures { IfOk result (λ board. HasCard (kept_words board)) }
 {
     match asked {
         Asked::Factory => match factory_board(rt.alloc()) {

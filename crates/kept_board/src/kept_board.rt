@@ -20,12 +20,13 @@ pub struct KeptBoard<F: Follower> {
 
 impl<F: Follower> KeptBoard<F> {
     ghost use Rattle.std.specs.Prelude.{true};
-    ghost use Rattle.kept_board.specs.Handed.{HandsOn, handed_to};
-    ghost use Rattle.kept_board.specs.Kept.{kept_facts};
+    ghost use Rattle.nvm_board.specs.History.{and_run, run_in};
+    ghost use Rattle.kept_board.specs.Handed.{HandsOn, log_of};
+    ghost use Rattle.kept_board.specs.Kept.{kept_facts, kept_log, kept_words};
 
     /// The board, and a follower that has its words already, or none.
     pub fn new(cut: CutBoard, follower: Option<F>) -> KeptBoard<F>
-        ensures facts { kept_facts result ≡ cut_facts cut }
+        ensures facts { kept_facts F.log result ≡ record (cut_facts cut) { log = log_of F.log follower } }
         ensures follower { result.follower ≡ follower }
         ensures follows { result.follows ≡ true }
     {
@@ -38,7 +39,7 @@ impl<F: Follower> KeptBoard<F> {
 
     /// The words, with power on or off.
     pub fn words(&self) -> &[u32]
-        ensures { result.now ≡ (kept_facts self.now).words }
+        ensures { result.now ≡ kept_words self.now }
     {
         self.cut.words()
     }
@@ -56,8 +57,10 @@ impl<F: Follower> KeptBoard<F> {
         requires size { size ≤ PAGE_WORDS }
         requires within { at + size ≤ length (cut_facts self.old.cut).words }
         ensures cut { self.new.cut ≡ self.old.cut }
-        ensures handed { HandsOn self.old.follows at size (cut_facts self.old.cut).words
-            (handed_to F.handed self.old.follower) (handed_to F.handed self.new.follower) }
+        ensures handed { HandsOn self.old.follows (run_in (kept_words self.old) at size)
+            (log_of F.log self.old.follower) (log_of F.log self.new.follower) }
+        ensures logged { kept_log F.log self.new
+            ≡ and_run (kept_log F.log self.old) (run_in (kept_words self.old) at size) }
     {
         if !self.follows {
             return;
@@ -69,40 +72,46 @@ impl<F: Follower> KeptBoard<F> {
 }
 
 impl<F: Follower> Board for KeptBoard<F> {
-    ghost use Rattle.std.specs.Prelude.{◌≡◌, ◌<◌, length};
+    ghost use Rattle.std.specs.Prelude.{◌≡◌, ◌<◌, true, false, length};
     ghost use Rattle.nvm_board.specs.declared.board.TheConstants.{SECRETS};
     ghost use Rattle.nvm_board.specs.BoardCalls.{TellsWord, FitsPage, Writes, Compares};
     ghost use Rattle.nvm_board.specs.Facts.{address};
+    ghost use Rattle.nvm_board.specs.History.{run_in};
     ghost use Rattle.simulated_boards.specs.Cut.{cut_facts, WritesOrTears};
-    ghost use Rattle.simulated_boards.specs.laws.Counts.{cut_is_board};
-    ghost use Rattle.kept_board.specs.Handed.{HandsOn, handed_to};
-    ghost use Rattle.kept_board.specs.Kept.{kept_facts};
+    ghost use Rattle.kept_board.specs.Handed.{HandsOn, log_of};
+    ghost use Rattle.kept_board.specs.Kept.{kept_facts, kept_words};
+    ghost use Rattle.kept_board.specs.laws.Logging.{kept_is_board};
 
-    ghost facts = { kept_facts };
+    ghost facts = { kept_facts F.log };
 
     fn pages(&self) -> u16 {
         self.cut.pages()
     }
 
     fn read(&mut self, at: u16) -> Result<u32, DeviceErr>
-        requires { at < length (cut_facts self.old.cut).words }
-        ensures tells { TellsWord at (cut_facts self.old.cut) (cut_facts self.new.cut) result }
+        requires { at < length (kept_words self.old) }
+        ensures tells { TellsWord at (kept_facts F.log self.old) (kept_facts F.log self.new) result }
         ensures follower { self.new.follower ≡ self.old.follower }
     {
         self.cut.read(at)
     }
 
     fn write(&mut self, page: u16, first: u8, words: &[u32]) -> Result<(), DeviceErr>
-        requires { FitsPage page first words.now (cut_facts self.old.cut) }
-        ensures writes { WritesOrTears (address page first) words.now self.old.cut self.new.cut result }
-        ensures handed { HandsOn self.old.follows (address page first) (length words.now)
-            (cut_facts self.new.cut).words (handed_to F.handed self.old.follower)
-            (handed_to F.handed self.new.follower) }
+        requires { FitsPage page first words.now (kept_facts F.log self.old) }
+        ensures writes { Writes (address page first) words.now (kept_facts F.log self.old)
+            (kept_facts F.log self.new) result }
+        ensures cut { WritesOrTears (address page first) words.now self.old.cut self.new.cut result }
+        ensures handed { (cut_facts self.old.cut).dark ≡ false → HandsOn self.old.follows
+            (run_in (kept_words self.new) (address page first) (length words.now))
+            (log_of F.log self.old.follower) (log_of F.log self.new.follower) }
+
+        // Nothing is written without power.
+        ensures off { (cut_facts self.old.cut).dark ≡ true → self.new.follower ≡ self.old.follower }
     {
-        let result = self.cut.write(page, first, words);
-        if self.follower.is_none() {
-            return result;
+        if self.follower.is_none() || self.cut.is_dark() {
+            return self.cut.write(page, first, words);
         }
+        let result = self.cut.write(page, first, words);
         let at = usize::from(PAGE_WORDS) * usize::from(page) + usize::from(first);
         self.hand_on(at, words.len());
         result
@@ -110,13 +119,14 @@ impl<F: Follower> Board for KeptBoard<F> {
 
     fn compare(&mut self, secret: u8, kept: &[u8; 8], shown: &[u8; 8]) -> Result<bool, DeviceErr>
         requires { secret < SECRETS }
-        ensures compares { Compares secret kept.now shown.now (cut_facts self.old.cut) (cut_facts self.new.cut) result }
+        ensures compares { Compares secret kept.now shown.now (kept_facts F.log self.old)
+            (kept_facts F.log self.new) result }
         ensures follower { self.new.follower ≡ self.old.follower }
     {
         self.cut.compare(secret, kept, shown)
     }
 
-    ghost is_board = { λ b. cut_is_board b.cut };
+    ghost is_board = { kept_is_board F.log };
 }
 
 impl<F: Follower> Socket for KeptBoard<F> {

@@ -1,8 +1,9 @@
 -- The write that a set cut falls into.
 use Rattle.std.specs.Prelude.{◌≡◌, ◌⊎◌, ◌+◌, ◌≤◌, ◌==◌, ℕ, true, if◌then◌else◌, Option, None, Some, option_map}
-use Rattle.std.specs.Prelude.{is_some, IfSome}
+use Rattle.std.specs.Prelude.{is_some, IfSome, List, length}
 use Rattle.nvm_board.specs.declared.board.Arm.{Arm}
 use Rattle.nvm_board.specs.Facts.{Facts}
+use Rattle.nvm_board.specs.History.{Run, and_runs, replayed}
 
 -- The write that a cut falls into, counted from 1 at the board's first write, and the mask of the cut. The contract
 -- of an armed board says which words are torn.
@@ -39,11 +40,21 @@ KeepsAim old new = (aim new ≡ aim old) ⊎ HasFallen old new
 abbrev pub events : Facts → ℕ
 events f = f.writes + f.cuts + f.faults
 
--- A read or a comparison doesn't change the aim, and takes no event back. A board without power is unchanged.
+-- The board wrote runs, in order. The words have them put in, the log has them behind the earlier ones, and each is a
+-- counted event.
+pub record WritesRuns (old new : Facts) : Type 0 where
+  pub runs : List Run
+  pub words : new.words ≡ replayed old.words runs
+  pub log : new.log ≡ and_runs old.log runs
+  pub counted : events old + length runs ≤ events new
+
+-- A read or a comparison doesn't change the aim, takes no event back, and is not logged. A board without power is
+-- unchanged.
 pub record AimStays (old new : Facts) : Type 0 where
   pub off : old.dark ≡ true → new ≡ old
   pub aim : aim new ≡ aim old
   pub more : events old ≤ events new
+  pub log : new.log ≡ old.log
 
 -- The cut falls into the very next write.
 pub record FallsNext (old new : Facts) : Type 0 where
@@ -59,9 +70,10 @@ pub record AimsAtWrite (old new : Facts) : Type 0 where
   pub cut : (aim new ≡ aim old) ⊎ FallsNext old new
 
 -- Any calls on a board leave the aim as it is, until the cut falls. They take no event back, and words change only if
--- an event is counted. A board without power is unchanged.
+-- an event is counted, by the runs that the board wrote. A board without power is unchanged.
 pub record AimsOn (old new : Facts) : Type 0 where
   pub off : old.dark ≡ true → new ≡ old
   pub cut : KeepsAim old new
   pub more : events old ≤ events new
   pub still : events new ≡ events old → new.words ≡ old.words
+  pub wrote : WritesRuns old new

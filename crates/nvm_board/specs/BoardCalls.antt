@@ -1,11 +1,11 @@
 -- The calls of a board: their results and their effects.
 use Rattle.std.specs.Prelude.{◌≡◌, ◌⊎◌, ◌+◌, ◌↔◌, if◌then◌else◌, ℕ, List, Bool, Result, IsTrue, IfOk, OnOk, OnErr, ◌<◌}
-use Rattle.std.specs.Prelude.{◌≤◌, ◌-◌, Some, length, slice_index}
-use Rattle.nvm_board.specs.declared.board.Arm.{Arm}
+use Rattle.std.specs.Prelude.{◌≤◌, ◌-◌, Some, false, length, slice_index}
 use Rattle.nvm_board.specs.declared.board.DeviceErr.{DeviceErr}
 use Rattle.nvm_board.specs.declared.board.TheConstants.{PAGE_WORDS}
 use Rattle.nvm_board.specs.Facts.{Facts, Answered, IsLostRightly, RisesAt, raised, pages_of}
 use Rattle.nvm_board.specs.Aims.{AimStays, AimsAtWrite}
+use Rattle.nvm_board.specs.History.{and_run, run_in}
 use Rattle.nvm_board.specs.Torn.{Torn, written}
 
 -- A read returns the word at an address. Words and counts of writes, comparisons and matches are unchanged.
@@ -26,7 +26,8 @@ pub record FitsPage (number first : ℕ) (words : List ℕ) (board : Facts) : Ty
   pub run : first + length words ≤ PAGE_WORDS
 
 -- A write turns each word of a run, from an address on, from old to new. After an error each of them is old or new,
--- independently of the others. No other call raises the count of writes.
+-- independently of the others. A powered board logs the run as the write left it. No other call raises the count of
+-- writes.
 pub record Writes {T : Type 0} (at : ℕ) (run : List ℕ) (old new : Facts) (result : Result T DeviceErr) : Type 0 where
   pub done : OnOk result (new.words ≡ written old.words at run)
   pub torn : Torn old.words at run new.words
@@ -35,6 +36,7 @@ pub record Writes {T : Type 0} (at : ℕ) (run : List ℕ) (old new : Facts) (re
   pub cut : AimsAtWrite old new
   pub counted : OnOk result (new.writes ≡ old.writes + 1)
   pub counted_err : OnErr result ((new.writes ≡ old.writes) ⊎ (new.writes ≡ old.writes + 1))
+  pub log : old.dark ≡ false → new.log ≡ and_run old.log (run_in new.words at (length run))
   pub compares : new.compares ≡ old.compares
   pub matches : new.matches ≡ old.matches
 

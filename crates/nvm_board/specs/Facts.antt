@@ -6,10 +6,11 @@ use Rattle.nvm_board.specs.declared.board.Arm.{Arm}
 use Rattle.nvm_board.specs.declared.board.DeviceErr.{DeviceErr}
 use Rattle.nvm_board.specs.declared.board.DeviceErr.TheVariants.{PowerLost, Fault}
 use Rattle.nvm_board.specs.declared.board.TheConstants.{COUNT_END, PAGE_WORDS, LEAST_PAGES, MOST_PAGES, SECRETS}
+use Rattle.nvm_board.specs.History.{Log}
 
 -- The facts of a board: all that contracts say about it. `dark` is true if power is off. `due` is the number of cuts
--- that may still come. `pending` is the cut or fault that is set. The other fields are counts; `compares` and
--- `matches` have one per secret.
+-- that may still come. `pending` is the cut or fault that is set. `log` has the last device writes, on a board that
+-- logs them. The other fields are counts; `compares` and `matches` have one per secret.
 pub record Facts : Type 0 where
   pub words : List ℕ
   pub dark : Bool
@@ -20,6 +21,7 @@ pub record Facts : Type 0 where
   pub writes : ℕ
   pub compares : List ℕ
   pub matches : List ℕ
+  pub log : Option Log
 
 -- The address of a word by its page and its index in the page.
 abbrev pub address : ℕ → ℕ → ℕ
@@ -35,7 +37,7 @@ pub record IsMemory (words : List ℕ) : Type 0 where
   pub least : LEAST_PAGES ≤ pages_of words
   pub most : pages_of words ≤ MOST_PAGES
 
--- A new board with this number of pages: powered, all words and counts 0, no cut set.
+-- A new board with this number of pages: powered, all words and counts 0, no cut set, no log.
 abbrev pub new_board : ℕ → Facts
 new_board pages = record {
   words = replicate (PAGE_WORDS * pages) 0;
@@ -47,6 +49,7 @@ new_board pages = record {
   writes = 0;
   compares = replicate SECRETS 0;
   matches = replicate SECRETS 0;
+  log = None;
 }
 
 -- Each number is a word of 32 bits.

@@ -1,3 +1,4 @@
+pub mod History
 pub mod Facts
 pub mod Aims
 pub mod Torn

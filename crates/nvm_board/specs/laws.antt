@@ -1,4 +1,5 @@
 -- Laws of the definitions, with their proofs.
 pub mod Aims
+pub mod History
 pub mod Sizes
 pub mod Torn

@@ -175,6 +175,7 @@ aim_stays_armed a old new same stays = record {
   off = λ off. ap (with_arm a) (stays.off off);
   aim = aim-armed a new ∙ ap (λ (n : ℕ). aimed n a) same ∙ sym (aim-armed a old);
   more = stays.more;
+  log = stays.log;
 }
 
 -- a call that leaves the arm, and makes no write, leaves where the cut falls

@@ -14,4 +14,5 @@ ram_facts b = record {
   writes = b.writes;
   compares = b.compares;
   matches = b.matches;
+  log = None;
 }

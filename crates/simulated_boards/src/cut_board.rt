@@ -88,6 +88,13 @@ impl CutBoard {
         self.ram.words()
     }
 
+    /// Returns true if power is off.
+    pub fn is_dark(&self) -> bool
+        ensures { result ≡ (cut_facts self.now).dark }
+    {
+        self.ram.is_dark()
+    }
+
     /// Whether a cut is to come.
     pub fn pending(&self) -> bool
         ensures { result ≡ is_some (cut_facts self.now).pending }

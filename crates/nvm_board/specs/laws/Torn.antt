@@ -68,6 +68,30 @@ pub Torn-all : (m run : List ℕ) (at : ℕ) → Torn m at run (written m at run
 Torn-all m [] at = refl
 Torn-all m (w ∷ run) at = inr (Torn-all (slice_set m at w) run (at + 1))
 
+-- a torn run leaves as many words
+pub length-Torn : (m run after : List ℕ) (at : ℕ) → Torn m at run after → length after ≡ length m
+length-Torn m [] after at e = ap length e
+length-Torn m (w ∷ run) after at (inl old) = length-Torn m run after (at + 1) old
+length-Torn m (w ∷ run) after at (inr new) =
+    length-Torn (slice_set m at w) run after (at + 1) new ∙ length-set m at w
+
+-- and a word outside of it stays
+pub Torn-elsewhere : (m run after : List ℕ) (at k : ℕ) → Torn m at run after → (k < at) ⊎ (at + length run ≤ k)
+    → slice_index after k ≡ slice_index m k
+Torn-elsewhere m [] after at k e outside = ap (λ (l : List ℕ). slice_index l k) e
+Torn-elsewhere m (w ∷ run) after at k (inl old) (inl before) =
+    let lt : k < at + 1 = omega arith in Torn-elsewhere m run after (at + 1) k old (inl lt)
+Torn-elsewhere m (w ∷ run) after at k (inl old) (inr past) =
+    let le : at + 1 + length run ≤ k = omega arith in Torn-elsewhere m run after (at + 1) k old (inr le)
+Torn-elsewhere m (w ∷ run) after at k (inr new) (inl before) =
+    let lt : k < at + 1 = omega arith in
+    let other : k ≢ at = omega arith in
+    Torn-elsewhere (slice_set m at w) run after (at + 1) k new (inl lt) ∙ get_or-set_other m at k w 0 other
+Torn-elsewhere m (w ∷ run) after at k (inr new) (inr past) =
+    let le : at + 1 + length run ≤ k = omega arith in
+    let other : k ≢ at = omega arith in
+    Torn-elsewhere (slice_set m at w) run after (at + 1) k new (inr le) ∙ get_or-set_other m at k w 0 other
+
 -- a run after a word that stayed old, by index
 each-old : (m run after : List ℕ) (at w : ℕ) → IsMixture m (at + 1) run after → (k : ℕ) → k < suc (length run)
     → (slice_index after (at + k) ≡ slice_index m (at + k)) ⊎ (slice_index after (at + k) ≡ slice_index (w ∷ run) k)

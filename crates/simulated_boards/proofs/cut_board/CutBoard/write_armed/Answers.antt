@@ -31,6 +31,7 @@ returns-in-Some c =
         cut = search rules;
         counted = search rules;
         counted_err = search rules;
+        log = λ lit. refl;
         compares = search rules;
         matches = search rules;
       };
@@ -58,6 +59,7 @@ returns-in_err-write c =
         cut = aims_armed a old new told.uncounted told.writes.cut;
         counted = search rules;
         counted_err = search rules;
+        log = λ lit. refl;
         compares = told.writes.compares;
         matches = told.writes.matches;
       };
@@ -88,6 +90,7 @@ returns c =
         cut = aims_nearer a b old new was_lit told.counted nearer.none nearer.before never;
         counted = told.counted;
         counted_err = search rules;
+        log = λ lit. refl;
         compares = told.compares;
         matches = told.matches;
       };

@@ -19,6 +19,7 @@ returns-in-None c =
         cut = aims_unarmed a old new c.in-None.is told.cut;
         counted = told.counted;
         counted_err = told.counted_err;
+        log = λ lit. refl;
         compares = told.compares;
         matches = told.matches;
       };

@@ -22,6 +22,7 @@ returns-in-Some-clause-writes c = record {
   cut = search rules;
   counted = search rules;
   counted_err = search rules;
+  log = λ lit. refl;
   compares = search rules;
   matches = search rules;
 }
@@ -39,6 +40,7 @@ returns-in_err-write-clause-writes c =
       cut = search rules;
       counted = search rules;
       counted_err = search rules;
+      log = λ lit. refl;
       compares = told.compares;
       matches = told.matches;
     }

@@ -15,6 +15,7 @@ returns-then-self-clause-writes c = record {
   cut = search rules;
   counted = search rules;
   counted_err = search rules;
+  log = λ lit. refl;
   compares = search rules;
   matches = search rules;
 }
@@ -31,6 +32,7 @@ returns-then-self-2-clause-writes c = record {
   cut = search rules;
   counted = search rules;
   counted_err = search rules;
+  log = λ lit. refl;
   compares = search rules;
   matches = search rules;
 }
@@ -55,6 +57,7 @@ returns-clause-writes c =
       cut = search rules;
       counted = refl;
       counted_err = search rules;
+      log = λ lit. refl;
       compares = refl;
       matches = refl;
     }
