@@ -2,6 +2,7 @@
 use Rattle.std.specs.Prelude.{◌≡◌, ◌≢◌, ◌⊎◌, ◌+◌, ◌≤◌, ℕ, true, List, [], ◌∷◌, ◌++◌, refl}
 use Rattle.std.proofs.Common.{ap, arith, sym, subst, inl, inr, ⊎_elim}
 use Rattle.nvm_board.specs.Facts.{Facts, Fails, Steady}
+use Rattle.nvm_board.specs.laws.History.{wrote_off, wrote_same}
 use Rattle.bench_turns.specs.declared.turn.Turn.{Turn}
 use Rattle.bench_turns.specs.declared.turn.Item.{Item}
 use Rattle.t1_link.specs.CardTable.{link_step}
@@ -125,6 +126,7 @@ plays_cut old new got out cut found stage paid shown writes advances stands = re
     more = advances.more;
     cut = aims-off old.card.facts new.card.facts advances.cut.cut;
     still = λ none fine same. absurd (omega (arith, none));
+    wrote = wrote_off old.card.facts new.card.facts advances.cut.wrote;
   };
   well = λ good. tt;
   guesses = paid-few (on old) (off (record new.card.facts { dark = true })) paid;
@@ -143,6 +145,7 @@ keeps_power a b cuts due faults advances = record {
   more = advances.more;
   cut = advances.cut.cut;
   still = λ none fine same. advances.cut.still (omega (arith, cuts, fine, same));
+  wrote = advances.cut.wrote;
 }
 
 -- the counts of a card that isn't dark, after a block that it answers
@@ -195,6 +198,7 @@ hears_nothing old new facts got is same =
         more = omega arith;
         cut = inl refl;
         still = λ none fine same. refl;
+        wrote = wrote_same facts;
       };
       well = λ good. tt;
       guesses = pays-nothing (off facts) (off facts) refl refl;

@@ -1,8 +1,9 @@
 -- A power-on, by how the start of the card ended.
 use Rattle.std.specs.Prelude.{◌≡◌, ◌≤◌, ◌+◌, ◌⊎◌, ℕ, true, false, List, Option, IfSome}
 use Rattle.std.proofs.Common.{arith, ap, ap₂, inl, inr, refl, subst, sym, ◌∙◌, true≢false}
-use Rattle.nvm_board.specs.Aims.{Aim, aim, AimsOn, KeepsAim, events}
+use Rattle.nvm_board.specs.Aims.{Aim, aim, AimsOn, KeepsAim, WritesRuns, events}
 use Rattle.nvm_board.specs.Facts.{Facts, GoesDark, IsMemory, IsWorn, IsWornOut, Steady}
+use Rattle.nvm_board.specs.laws.History.{wrote_none, wrote_off, wrote_same, wrote_then}
 use Rattle.undo_journal.specs.declared.layout.TheConstants.{PAIRS}
 use Rattle.undo_journal.specs.Spending.{WritesAtMost, rollback_writes, start_writes}
 use Rattle.undo_journal.specs.Undo.{gate}
@@ -35,6 +36,7 @@ turns_off old new is = subst (λ (b : BenchState). Plays old turn.Off item.Quiet
     more = omega arith;
     cut = inl refl;
     still = λ none fine same. refl;
+    wrote = wrote_off (bench_facts old) (bench_facts old) (wrote_same (bench_facts old));
   };
   well = λ good. tt;
   guesses = pays-nothing old (off (record (bench_facts old) { dark = true })) refl refl;
@@ -69,6 +71,8 @@ module _ (old : BenchState) (dark : Facts) (darkened : dark ≡ record (bench_fa
           more = omega (arith, writes);
           cut = inl (ap aim is);
           still = λ none fine same. words;
+          wrote = wrote_none (bench_facts old) new words (ap (λ (f : Facts). f.log) is)
+              (omega (arith, writes, cuts, faults));
         };
         well = λ good. tt;
         guesses = pays-nothing old (off new) (ap found words) (ap comparisons is);
@@ -122,6 +126,14 @@ module _ (old : BenchState) (dark : Facts) (darkened : dark ≡ record (bench_fa
     lit-still : (new : Facts) → AimsOn lit new → events new ≡ events lit → new.words ≡ (bench_facts old).words
     lit-still new aims none = aims.still none ∙ lit-words
 
+    -- what is written after the power-on is written after it went off
+    lit-wrote : (new : Facts) → AimsOn lit new → WritesRuns (bench_facts old) new
+    lit-wrote new aims = wrote_then (bench_facts old) lit new
+        (wrote_none (bench_facts old) lit lit-words
+        (ap (λ (f : Facts). f.log) lights ∙ ap (λ (f : Facts). f.log) darkened)
+        (omega (arith, lit-writes, lit-cuts, lit-faults)))
+        aims.wrote
+
     -- what a start takes of the board's counts
     start-wears : (new : Facts) → WritesAtMost (power_on_writes lit) lit new → HasCard (bench_facts old).words
         → new.faults ≡ (bench_facts old).faults → Wears (turn_writes old turn.On) (bench_facts old) new
@@ -162,6 +174,7 @@ module _ (old : BenchState) (dark : Facts) (darkened : dark ≡ record (bench_fa
             cut = lit-aims p.card.facts spent.cut.cut;
             still = λ none fine same. lit-still p.card.facts spent.cut
                 (omega (arith, power.cuts, lit-cuts, fine, lit-faults, same, lit-writes));
+            wrote = lit-wrote p.card.facts spent.cut;
           };
           well = λ good. started.state;
           guesses = pays-nothing old (on p) (found-again p.card.facts.words again) (counts ∙ lit-counts);
@@ -208,6 +221,7 @@ module _ (old : BenchState) (dark : Facts) (darkened : dark ≡ record (bench_fa
           cut = aims-off lit stopped spent.cut.cut;
           more = spent.cut.more;
           still = spent.cut.still;
+          wrote = wrote_off lit stopped spent.cut.wrote;
         };
         compares = spent.compares;
         matches = spent.matches;
@@ -230,6 +244,7 @@ module _ (old : BenchState) (dark : Facts) (darkened : dark ≡ record (bench_fa
               more = let more = spent-so.more in omega (arith, more, lit-writes);
               cut = lit-aims new spent-so.cut.cut;
               still = λ none fine same. absurd (omega (arith, none));
+              wrote = lit-wrote new spent-so.cut;
             };
             well = λ good. tt;
             guesses = guesses;
@@ -263,6 +278,7 @@ module _ (old : BenchState) (dark : Facts) (darkened : dark ≡ record (bench_fa
               cut = lit-aims new spent-so.cut.cut;
               still = λ none fine same. lit-still new spent-so.cut
                   (omega (arith, same_cuts, cuts, fine, lit-faults, same, lit-writes));
+              wrote = lit-wrote new spent-so.cut;
             };
             well = λ good. tt;
             guesses = guesses;

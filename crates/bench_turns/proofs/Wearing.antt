@@ -126,7 +126,7 @@ counts-last n most writes lost old new some few once spends wears left =
       matches = risen n most old.matches new.matches wears.secret some small wears.matches left.matches;
     }
 
-few-writes : (old : BenchState) (t : Turn) → turn_writes old t ≤ turn_steps old t
+pub few-writes : (old : BenchState) (t : Turn) → turn_writes old t ≤ turn_steps old t
 few-writes old turn.On = omega arith
 few-writes old turn.Off = omega arith
 few-writes old (turn.Block got) = omega arith
@@ -141,7 +141,7 @@ few-steps old turn.On = by_format (is_format_2 (words_found (bench_facts old).wo
     by_format true = omega arith
     by_format false = omega arith
 
-one-dark : (i : Item) → dark_of i ≤ 1
+pub one-dark : (i : Item) → dark_of i ≤ 1
 one-dark item.Atr = omega arith
 one-dark item.Quiet = omega arith
 one-dark item.Mute = omega arith

@@ -6,6 +6,8 @@ use Rattle.undo_journal.specs.Undo.{gate, undo, data_words, IsSound}
 use Rattle.undo_journal.proofs.Saving.{committed-shut, gate-shut}
 use Rattle.undo_journal.proofs.Lasting.{gate-commits, commit-sound, set-back}
 use Rattle.undo_journal.specs.Batches.{batch_writes}
+use Rattle.undo_journal.specs.laws.Calls.{within_more}
+use Rattle.undo_journal.specs.laws.Memory.{writes_then}
 use Rattle.undo_journal.specs.BatchParts.{working}
 use Rattle.undo_journal.proofs.Costing.{commit-none, commit-some}
 use Rattle.nvm_board.specs.laws.Sizes.{least_words}
@@ -86,3 +88,11 @@ returns-clause-last g c =
     let all = commit-some before _ (before.facts.writes + batch_writes before.waiting + 1) c.in_ok-flush.ensures.used
     c.if-batch-eq0.false refl in
     inr (omega (arith, all, c.in_ok-flush.ensures.counted, c.write_gate.ensures.writes.more))
+
+pub returns-clause-writes : goal.returns-clause-writes
+returns-clause-writes g c =
+    let before = working (g.B.Board.facts c.args.board.now) c.args.batch.now in
+    let all = commit-some before _ (before.facts.writes + batch_writes before.waiting + 1) c.in_ok-flush.ensures.used
+    c.if-batch-eq0.false refl in
+    within_more (batch_writes before.waiting + 1) _ _ _ (omega (arith, all))
+    (writes_then (batch_writes before.waiting) 1 _ _ _ c.in_ok-flush.ensures.writes c.write_gate.ensures.writes)

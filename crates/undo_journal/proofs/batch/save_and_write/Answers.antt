@@ -1,7 +1,9 @@
 use Rattle.std.proofs.Common.{◌+◌, ◌*◌, ℕ, List, length, inr, sym, ◌∙◌, ap, arith, subst}
 use Rattle.std.proofs.Math.ListN.{length-set}
 use Rattle.nvm_board.specs.laws.Torn.{length-written}
-use Rattle.undo_journal.specs.Batches.{AreSets}
+use Rattle.undo_journal.specs.Batches.{AreSets, runs_from}
+use Rattle.undo_journal.specs.laws.Calls.{spends_after, within_more}
+use Rattle.undo_journal.specs.laws.Memory.{writes_then}
 use Rattle.std.proofs.lemmas.Result.{on_ok_weaker}
 use Rattle.undo_journal.proofs.Pairs.{length-pair_words}
 use Rattle.undo_journal.proofs.Saving.{pairs-torn, pairs-sound, gate-torn, gate-sound, named-raised, current-raised}
@@ -144,3 +146,17 @@ write_words-requires-clause-sets g c =
     ap count c.in_ok-write_gate.ensures.done ∙ length-set paired GATE _ ∙ ap count c.in_ok-write_pairs.ensures.done
     ∙ length-written read c.deref.result.now (JOURNAL + 2 * c.args.used) ∙ ap count c.in_ok-pairs.ensures.reads.words in
     subst (λ (n : ℕ). AreSets n 0 c.args.sets.now) (sym size) c.requires.sets
+
+pub returns-in_err-write_gate-clause-writes : goal.returns-in_err-write_gate-clause-writes
+returns-in_err-write_gate-clause-writes g c =
+    let some = writes-some c.args.sets.now c.requires.some in
+    within_more 2 _ _ _ (omega (arith, some)) (spends_after 2 _ _ _ c.in_ok-pairs.ensures.reads
+    (writes_then 1 1 _ _ _ c.in_ok-write_pairs.ensures.writes c.in_err-write_gate.ensures.writes))
+
+pub returns-clause-writes : goal.returns-clause-writes
+returns-clause-writes g c =
+    let some = writes-some c.args.sets.now c.requires.some in
+    let saved = writes_then 1 1 _ _ _ c.in_ok-write_pairs.ensures.writes c.in_ok-write_gate.ensures.writes in
+    within_more (2 + runs_from 0 c.args.sets.now) _ _ _ (omega (arith, some))
+    (spends_after (2 + runs_from 0 c.args.sets.now) _ _ _ c.in_ok-pairs.ensures.reads
+    (writes_then 2 (runs_from 0 c.args.sets.now) _ _ _ saved c.write_words.ensures.writes))

@@ -117,3 +117,29 @@ returns-clause-counted g c =
     let all = rollback_some c.args.count c.if-count-eq0.false in
     on_ok_weaker c.write_gate.result (λ one. omega (arith, one, all, c.loop-left.invariant.writes))
     c.write_gate.ensures.counted
+
+pub returns-in_err-put_back-clause-writes : goal.returns-in_err-put_back-clause-writes
+returns-in_err-put_back-clause-writes g c =
+    let all = rollback_some c.args.count c.if-count-eq0.false in
+    let kept = c.loop-left.invariant in
+    let cost = c.put_back.ensures.writes in
+    record {
+      writes = omega (arith, all, kept.writes, cost.writes);
+      more = omega (arith, kept.more, cost.more);
+      cut = aims_then _ _ _ kept.cut cost.cut;
+      compares = cost.compares ∙ kept.compares;
+      matches = cost.matches ∙ kept.matches;
+    }
+
+pub returns-clause-writes : goal.returns-clause-writes
+returns-clause-writes g c =
+    let all = rollback_some c.args.count c.if-count-eq0.false in
+    let kept = c.loop-left.invariant in
+    let cost = c.write_gate.ensures.writes in
+    record {
+      writes = omega (arith, all, kept.writes, cost.writes);
+      more = omega (arith, kept.more, cost.more);
+      cut = aims_then _ _ _ kept.cut cost.cut;
+      compares = cost.compares ∙ kept.compares;
+      matches = cost.matches ∙ kept.matches;
+    }

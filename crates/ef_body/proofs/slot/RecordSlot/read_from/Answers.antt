@@ -1,7 +1,7 @@
 use Rattle.std.proofs.Common.{rules, ◌≡◌, ◌∙◌, ℕ, List, length, take, drop, arith, ap, sym, subst, ◌%◌}
 use Rattle.std.proofs.lemmas.Result.{on_ok_weaker}
 use Rattle.undo_journal.specs.Memory.{committed}
-use Rattle.undo_journal.specs.laws.Told.{reads_on}
+use Rattle.undo_journal.specs.laws.Told.{reads_handed, reads_on}
 use Rattle.block_chain.specs.Chains.{Leads, chain, bytes_of}
 use Rattle.block_chain.specs.declared.layout.TheConstants.{BLOCK_BYTES}
 use Rattle.ef_body.specs.BodyCalls.{ReadsInto}
@@ -41,6 +41,13 @@ read_bytes-requires g c =
         ),
       ),
     )
+
+pub returns-in_err-block-clause-record : goal.returns-in_err-block-clause-record
+returns-in_err-block-clause-record g c = record {
+  bytes = search rules;
+  any_exit = record { some = 0; is = c.clear.ensures };
+  store = reads_handed _ _ _ _ c.from_residual.ensures.1 c.in_err-block.ensures.store;
+}
 
 pub returns-clause-record : goal.returns-clause-record
 returns-clause-record g c =
