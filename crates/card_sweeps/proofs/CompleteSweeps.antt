@@ -7,8 +7,8 @@ use Rattle.bench_turns.specs.declared.turn.Turn.{Turn}
 use Rattle.card_sweeps.specs.declared.tally.Seen.{Seen}
 use Rattle.card_sweeps.specs.Masks.{mask_of, mask_count_of, words_tried}
 use Rattle.card_sweeps.specs.Sweeps.{CutsCommand, CutsStart, SparesStart, EndsIn}
-use Rattle.card_sweeps.specs.SweptRuns.{InTurn, IsOneLook, AreBehindCut, AreAllBehind, SparesCommand, AreOfMask}
-use Rattle.card_sweeps.specs.SweptRuns.{AreOfWrite, AreOfLastWrite, AreAllRuns}
+use Rattle.card_sweeps.specs.SweptRuns.{InTurn, IsOneLook, AreBehindCut, AreAllBehind, AreOfMask, IsUnmade}
+use Rattle.card_sweeps.specs.SweptRuns.{AreOfWrite, AreOfUnmadeWrite, AreAllRuns}
 use Rattle.card_sweeps.specs.Tallies.{Finding, CountsOne, CountsEach, CountsRuns}
 
 -- runs that are counted, and then others
@@ -171,23 +171,23 @@ pub counts-last : {B : Type 0} (facts : B → Facts) (torn : B
     → ℕ) (depth number words i : ℕ) (board : Facts) (prepare : List Turn) (command : List ℕ)
     (probe : List Turn) (old new : List Seen) → i < mask_count_of words
     → CountsRuns (InTurn (AreOfMask facts torn board prepare command probe depth number words) i) old new
-    → SparesCommand number (mask_of words i) board prepare command
-    → CountsRuns (AreOfLastWrite facts torn board prepare command probe depth number) old new
-counts-last facts torn depth number words i board prepare command probe old new few each spared =
+    → IsUnmade number board prepare command
+    → CountsRuns (AreOfUnmadeWrite facts torn board prepare command probe depth number) old new
+counts-last facts torn depth number words i board prepare command probe old new few each unmade =
     counts-weaker (InTurn (AreOfMask facts torn board prepare command probe depth number words) i)
-    (AreOfLastWrite facts torn board prepare command probe depth number) old new
-    (λ all parts. record { words = words; masks = i; few = few; each = parts; spared = spared }) each
+    (AreOfUnmadeWrite facts torn board prepare command probe depth number) old new
+    (λ all parts. record { words = words; masks = i; few = few; each = parts; unmade = unmade }) each
 
 -- all writes of the command, and the one that it doesn't make
 pub counts-command : {B : Type 0} (facts : B → Facts) (torn : B
     → ℕ) (depth writes : ℕ) (board : Facts) (prepare : List Turn) (command : List ℕ) (probe : List Turn)
     (old between new : List Seen) → CountsRuns (InTurn (λ n. AreOfWrite facts torn board prepare command probe depth
     (n + 1)) writes)
-    old between → CountsRuns (AreOfLastWrite facts torn board prepare command probe depth (writes + 1)) between new
+    old between → CountsRuns (AreOfUnmadeWrite facts torn board prepare command probe depth (writes + 1)) between new
     → CountsRuns (AreAllRuns facts torn board prepare command probe depth) old new
 counts-command facts torn depth writes board prepare command probe old between new each last =
     counts-both (InTurn (λ n. AreOfWrite facts torn board prepare command probe depth (n + 1)) writes)
-    (AreOfLastWrite facts torn board prepare command probe depth (writes + 1))
+    (AreOfUnmadeWrite facts torn board prepare command probe depth (writes + 1))
     (AreAllRuns facts torn board prepare command probe depth) old
     between new (λ before end parts one. record {
       writes = writes;

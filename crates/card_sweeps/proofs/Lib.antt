@@ -3,3 +3,4 @@ pub mod CompleteSweeps
 pub mod SweepLemmas
 pub mod StageLemmas
 pub mod SparedLemmas
+pub mod OtherMasks

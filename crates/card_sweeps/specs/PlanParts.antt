@@ -7,7 +7,7 @@ use Rattle.card_sweeps.specs.declared.sweeping.Stop.{Stop}
 use Rattle.card_sweeps.specs.declared.sweeping.Stop.TheVariants.{Full}
 use Rattle.card_sweeps.specs.declared.tally.Sweep.{Sweep}
 use Rattle.card_sweeps.specs.Sweeps.{GivenByRun}
-use Rattle.card_sweeps.specs.SweptRuns.{AreAllRuns, AreOfLastWrite, AreOfWrite}
+use Rattle.card_sweeps.specs.SweptRuns.{AreAllRuns, AreOfUnmadeWrite, AreOfWrite}
 use Rattle.card_sweeps.specs.Tallies.{Finding, findings, Adds, CountsRuns}
 
 -- the board at the start of each run
@@ -29,7 +29,7 @@ abbrev pub AreAtWrite : {B : Type 0} → (B → Facts) → (B → ℕ) → Plan 
 AreAtWrite facts torn plan k true all =
     AreOfWrite facts torn (board_of facts plan) plan.prepare.now plan.command.now plan.probe.now plan.depth k all
 AreAtWrite facts torn plan k false all =
-    AreOfLastWrite facts torn (board_of facts plan) plan.prepare.now plan.command.now plan.probe.now plan.depth k all
+    AreOfUnmadeWrite facts torn (board_of facts plan) plan.prepare.now plan.command.now plan.probe.now plan.depth k all
 
 -- The effect of a part of a sweep on the tally, if the board has a card state. Each added finding is one of these. A
 -- completed part has counted all its runs, in order. It reports a full tally only if no further run can be counted.

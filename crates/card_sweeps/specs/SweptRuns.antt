@@ -12,7 +12,7 @@ use Rattle.card_sweeps.specs.Masks.{mask_of, mask_count_of, words_tried}
 use Rattle.card_sweeps.specs.Sweeps.{CutsCommand, CutsStart, SparesStart, EndsIn, off_with}
 use Rattle.card_sweeps.specs.Tallies.{Finding}
 
--- The command makes fewer writes, so that a cut set for this one doesn't happen in it.
+-- The command makes fewer writes, so that a cut set for this one, with this mask, doesn't happen in it.
 pub record SparesCommand (number mask : ℕ) (board : Facts) (prepare : List Turn) (command : List ℕ) : Type 0 where
   pub trace : List Item
   pub item : Item
@@ -25,6 +25,10 @@ pub record SparesCommand (number mask : ℕ) (board : Facts) (prepare : List Tur
   pub good_left : IsGood last
   pub sent : GoodBlock armed command item last
   pub spared : (item ≢ Dark) ⊎ (is_some (bench_facts last).pending ≡ true)
+
+-- The command doesn't make this write: no cut set for it happens, whatever its mask.
+abbrev pub IsUnmade : ℕ → Facts → List Turn → List ℕ → Type 0
+IsUnmade number board prepare command = (mask : ℕ) → SparesCommand number mask board prepare command
 
 -- the concatenated findings of `n` parts, in order
 unfoldable pub InTurn : (ℕ → List Finding → Type 0) → ℕ → List Finding → Type 0
@@ -76,14 +80,14 @@ pub record AreOfWrite {B : Type 0} (facts : B → Facts) (torn : B → ℕ) (boa
   pub fit : words ≤ 16
   pub each : InTurn (AreOfMask facts torn board prepare command probe depth number words) (mask_count_of words) all
 
--- The command doesn't make this write: a cut with one of the masks doesn't happen, and no further mask is tried.
-pub record AreOfLastWrite {B : Type 0} (facts : B → Facts) (torn : B → ℕ) (board : Facts) (prepare : List Turn)
+-- The command doesn't make this write. A cut with one of the masks shows this, and no further mask is tried.
+pub record AreOfUnmadeWrite {B : Type 0} (facts : B → Facts) (torn : B → ℕ) (board : Facts) (prepare : List Turn)
     (command : List ℕ) (probe : List Turn) (depth number : ℕ) (all : List Finding) : Type 0 where
   pub words : ℕ
   pub masks : ℕ
   pub few : masks < mask_count_of words
   pub each : InTurn (AreOfMask facts torn board prepare command probe depth number words) masks all
-  pub spared : SparesCommand number (mask_of words masks) board prepare command
+  pub unmade : IsUnmade number board prepare command
 
 -- All runs: the command is cut at each of its writes. (There are at most 4,294,967,295 of them.)
 pub record AreAllRuns {B : Type 0} (facts : B → Facts) (torn : B → ℕ) (board : Facts) (prepare : List Turn)
@@ -92,6 +96,6 @@ pub record AreAllRuns {B : Type 0} (facts : B → Facts) (torn : B → ℕ) (boa
   pub before : List Finding
   pub last : List Finding
   pub each : InTurn (λ n. AreOfWrite facts torn board prepare command probe depth (n + 1)) writes before
-  pub done : AreOfLastWrite facts torn board prepare command probe depth (writes + 1) last ⊎ ((writes ≡ 2 ^ 32 - 1)
+  pub done : AreOfUnmadeWrite facts torn board prepare command probe depth (writes + 1) last ⊎ ((writes ≡ 2 ^ 32 - 1)
       × (last ≡ []))
   pub all_are : all ≡ before ++ last

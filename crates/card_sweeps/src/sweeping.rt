@@ -9,7 +9,7 @@ ghost use Rattle.bench_turns.specs.Turns.{Runs};
 ghost use Rattle.card_sweeps.specs.Tallies.{findings, times_seen, CountsRuns};
 ghost use Rattle.card_sweeps.specs.declared.sweeping.Stop.TheVariants.{Memory};
 ghost use Rattle.card_sweeps.specs.PlanParts.{board_of, AreAll, AreAtWrite, IsGivenBy, Sweeps};
-ghost use Rattle.card_sweeps.specs.SweptRuns.{SparesCommand, IsOneLook, AreAllBehind, AreAllRuns};
+ghost use Rattle.card_sweeps.specs.SweptRuns.{IsUnmade, IsOneLook, AreAllBehind, AreAllRuns};
 ghost use Rattle.card_sweeps.specs.Sweeps.{CutsCommand, CutsStart, SparesStart, EndsIn, EndsBehindStarts};
 ghost use Rattle.card_sweeps.specs.Sweeps.{GivenByRun, PlaysOn, free_of};
 
@@ -108,8 +108,8 @@ pub fn cut_at<B: Sweepable + Drop>(
     requires { 1 ≤ number }
     ensures cut { IfOk result (λ cut. IfSome cut (λ left. HasCard (B.facts board.now).words
         → CutsCommand number mask (B.facts board.now) prepare.now command.now (B.facts left))) }
-    ensures spared { IfOk result (λ cut. IfNone cut (HasCard (B.facts board.now).words
-        → SparesCommand number mask (B.facts board.now) prepare.now command.now)) }
+    ensures unmade { IfOk result (λ cut. IfNone cut (HasCard (B.facts board.now).words
+        → IsUnmade number (B.facts board.now) prepare.now command.now)) }
 {
     let plan = Plan {
         alloc,
@@ -212,8 +212,8 @@ fn command_cut<B: Sweepable + Drop>(
     requires { 1 ≤ k }
     ensures cut { IfOk result (λ cut. IfSome cut (λ left. HasCard (board_of B.facts plan.now).words
         → CutsCommand k mask (board_of B.facts plan.now) plan.now.prepare.now plan.now.command.now (B.facts left))) }
-    ensures spared { IfOk result (λ cut. IfNone cut (HasCard (board_of B.facts plan.now).words
-        → SparesCommand k mask (board_of B.facts plan.now) plan.now.prepare.now plan.now.command.now)) }
+    ensures unmade { IfOk result (λ cut. IfNone cut (HasCard (board_of B.facts plan.now).words
+        → IsUnmade k (board_of B.facts plan.now) plan.now.prepare.now plan.now.command.now)) }
 {
     let mut bench = Bench::new(plan.board.copy(plan.alloc)?);
     let _ = played(plan.alloc, &mut bench, plan.prepare)?;

@@ -11,7 +11,7 @@ use Rattle.sweep_cli.specs.DeviceWrites.{kinds_text, write_text}
 use Rattle.sweep_cli.specs.ReportParts.{AddsText}
 use Rattle.sweep_cli.specs.Printing.{cut_head, last_item, look_text, looks_text, total_text}
 use Rattle.sweep_cli.specs.Reporting.{AreKindsOrNone, AreResults, AreWrites, HasSections, IsCutOrNone, IsDeviceWrite}
-use Rattle.sweep_cli.specs.Reporting.{IsFound, IsLastWrite, IsOfPart, IsSparedBy, IsWrite, Sweeping, TextsInTurn}
+use Rattle.sweep_cli.specs.Reporting.{IsFound, IsUnmadeWrite, IsOfPart, IsWrite, LacksWrite, Sweeping, TextsInTurn}
 use Rattle.sweep_cli.specs.Reporting.{WritesInTurn}
 use Rattle.sweep_cli.proofs.Put.{four-parts, three-parts}
 
@@ -61,13 +61,13 @@ cut-put sweeping write words i mask left old new same own cut results = record {
   all = results.all;
 }
 
--- a write that others made, as its first mask shows
+-- a write that the command doesn't make, as the first mask shows
 pub unmade-put : {B : Type 0} {facts : B → Facts} {torn : B → ℕ} (sweeping : Sweeping facts torn) (write : ℕ)
     (old : List ℕ)
-    → IsSparedBy sweeping write 0
-    → AddsText (IsLastWrite sweeping write) old old
+    → LacksWrite sweeping write
+    → AddsText (IsUnmadeWrite sweeping write) old old
 unfolding TextsInTurn
-unmade-put sweeping write old spared = record {
+unmade-put sweeping write old unmade = record {
   more = [];
   holds = record {
     words = 1;
@@ -75,16 +75,16 @@ unmade-put sweeping write old spared = record {
     few = omega arith;
     has_words = λ some. absurd (omega (arith, some));
     each = refl;
-    spared = spared;
+    unmade = unmade;
   };
   all = sym (append-nil old);
 }
 
--- all writes, up to the first that others made
+-- all writes, up to the first that the command doesn't make
 pub writes-put : {B : Type 0} {facts : B → Facts} {torn : B → ℕ} (sweeping : Sweeping facts torn) (writes : ℕ)
     (old each last new : List ℕ)
     → AddsText (TextsInTurn (λ n. IsWrite sweeping (n + 1)) writes) old each
-    → AddsText (λ t. IsLastWrite sweeping (writes + 1) t ⊎ ((writes ≡ 2 ^ 32 - 1) × (t ≡ []))) each last
+    → AddsText (λ t. IsUnmadeWrite sweeping (writes + 1) t ⊎ ((writes ≡ 2 ^ 32 - 1) × (t ≡ []))) each last
     → new ≡ last ++ total_text writes sweeping.depth → AddsText (AreWrites sweeping) old new
 writes-put sweeping writes old each last new some end text = record {
   more = some.more ++ end.more ++ total_text writes sweeping.depth;

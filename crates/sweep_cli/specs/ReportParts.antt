@@ -1,9 +1,8 @@
 -- What the parts of the program append to the report. No public clause names these.
 use Rattle.std.specs.Prelude.{◌≡◌, ℕ, Bool, true, false, List, ◌++◌}
 use Rattle.nvm_board.specs.Facts.{Facts}
-use Rattle.card_sweeps.specs.Masks.{mask_of}
 use Rattle.sweep_cli.specs.declared.plan.Plan.{Plan}
-use Rattle.sweep_cli.specs.Reporting.{Sweeping, IsCutOrNone, IsSparedBy}
+use Rattle.sweep_cli.specs.Reporting.{Sweeping, IsCutOrNone, LacksWrite}
 
 -- the sweep of a plan
 abbrev pub sweeping_of : {B : Type 0} (facts : B → Facts) (torn : B → ℕ) → Plan B → Sweeping facts torn
@@ -23,9 +22,10 @@ pub record AddsText (Is : List ℕ → Type 0) (old new : List ℕ) : Type 0 whe
   pub holds : Is more
   pub all : new ≡ old ++ more
 
--- A mask after the first: its cut was appended if it is of the part and happened, and nothing otherwise.
+-- A mask after the first: its cut was appended if it is of the part. If it doesn't happen, the command doesn't make
+-- the write, and nothing was appended.
 abbrev pub AddsMaskText : {B : Type 0} {facts : B → Facts} {torn : B → ℕ} → Sweeping facts torn → ℕ → ℕ → ℕ → Bool →
     List ℕ → List ℕ → Type 0
 AddsMaskText sweeping write words i true old new = AddsText (IsCutOrNone sweeping write words i) old new
 AddsMaskText sweeping write words i false old new =
-    IsSparedBy sweeping write (mask_of words i) × (new ≡ old)
+    LacksWrite sweeping write × (new ≡ old)

@@ -8,7 +8,7 @@ use Rattle.bench_turns.specs.declared.turn.Item.{Item}
 use Rattle.card_sweeps.specs.declared.tally.Seen.{Seen}
 use Rattle.card_sweeps.specs.Masks.{mask_of, mask_count_of, words_tried}
 use Rattle.card_sweeps.specs.Sweeps.{CutsCommand, PlaysOn}
-use Rattle.card_sweeps.specs.SweptRuns.{AreAllBehind, SparesCommand}
+use Rattle.card_sweeps.specs.SweptRuns.{AreAllBehind, IsUnmade}
 use Rattle.card_sweeps.specs.Tallies.{CountsRuns, IsTally}
 use Rattle.sweep_cli.specs.declared.device_writes.DeviceWrite.{DeviceWrite}
 use Rattle.sweep_cli.specs.declared.parts.SweepPart.{SweepPart}
@@ -76,9 +76,9 @@ pub record HasWords {B : Type 0} {facts : B → Facts} {torn : B → ℕ} (sweep
   pub cut : CutsCommand write 0 sweeping.board sweeping.prepare sweeping.command (facts left)
   pub told : words ≡ words_tried (torn left)
 
--- the command makes fewer writes, so that a cut with this mask doesn't happen
-abbrev pub IsSparedBy : {B : Type 0} {facts : B → Facts} {torn : B → ℕ} → Sweeping facts torn → ℕ → ℕ → Type 0
-IsSparedBy sweeping write mask = SparesCommand write mask sweeping.board sweeping.prepare sweeping.command
+-- The command doesn't make this device write: no cut at it happens, whatever its mask.
+abbrev pub LacksWrite : {B : Type 0} {facts : B → Facts} {torn : B → ℕ} → Sweeping facts torn → ℕ → Type 0
+LacksWrite sweeping write = IsUnmade write sweeping.board sweeping.prepare sweeping.command
 
 -- each cut of a device write, with each mask for its number of words
 pub record IsWrite {B : Type 0} {facts : B → Facts} {torn : B → ℕ} (sweeping : Sweeping facts torn) (write : ℕ)
@@ -87,21 +87,21 @@ pub record IsWrite {B : Type 0} {facts : B → Facts} {torn : B → ℕ} (sweepi
   pub has_words : HasWords sweeping write words
   pub each : TextsInTurn (IsCutOrNone sweeping write words) (mask_count_of words) text
 
--- The command doesn't make this write: a cut with one of the masks doesn't happen, and no further mask is tried.
-pub record IsLastWrite {B : Type 0} {facts : B → Facts} {torn : B → ℕ} (sweeping : Sweeping facts torn) (write : ℕ)
+-- The command doesn't make this write. A cut with one of the masks shows this, and no further mask is tried.
+pub record IsUnmadeWrite {B : Type 0} {facts : B → Facts} {torn : B → ℕ} (sweeping : Sweeping facts torn) (write : ℕ)
     (text : List ℕ) : Type 0 where
   pub words : ℕ
   pub masks : ℕ
   pub few : masks < mask_count_of words
   pub has_words : 1 ≤ masks → HasWords sweeping write words
   pub each : TextsInTurn (IsCutOrNone sweeping write words) masks text
-  pub spared : IsSparedBy sweeping write (mask_of words masks)
+  pub unmade : LacksWrite sweeping write
 
 -- the cuts of a write, made by the command or not
 abbrev pub IsWriteIf : {B : Type 0} {facts : B → Facts} {torn : B → ℕ} → Sweeping facts torn → ℕ → Bool → List ℕ →
     Type 0
 IsWriteIf sweeping write true text = IsWrite sweeping write text
-IsWriteIf sweeping write false text = IsLastWrite sweeping write text
+IsWriteIf sweeping write false text = IsUnmadeWrite sweeping write text
 
 -- each device write, up to the first that the command doesn't make, and the number of them
 pub record AreWrites {B : Type 0} {facts : B → Facts} {torn : B → ℕ} (sweeping : Sweeping facts torn) (text : List ℕ)
@@ -110,7 +110,7 @@ pub record AreWrites {B : Type 0} {facts : B → Facts} {torn : B → ℕ} (swee
   pub each : List ℕ
   pub last : List ℕ
   pub are_writes : TextsInTurn (λ n. IsWrite sweeping (n + 1)) writes each
-  pub done : IsLastWrite sweeping (writes + 1) last ⊎ ((writes ≡ 2 ^ 32 - 1) × (last ≡ []))
+  pub done : IsUnmadeWrite sweeping (writes + 1) last ⊎ ((writes ≡ 2 ^ 32 - 1) × (last ≡ []))
   pub text_is : text ≡ each ++ last ++ total_text writes sweeping.depth
 
 -- A device write: the number of words that the board reports after the cut with the first mask, and what the write does
@@ -124,15 +124,6 @@ pub record IsDeviceWrite {B : Type 0} {facts : B → Facts} {torn : B → ℕ} (
   pub whole : CutsCommand write (mask_of it.words 1) sweeping.board sweeping.prepare sweeping.command (facts after)
   pub kind_is : IsWriteKind it.words (facts before).words (facts after).words it.kind
 
--- The command makes fewer writes: a cut at this one doesn't happen, with the first mask or with the second.
-pub record IsUnmade {B : Type 0} {facts : B → Facts} {torn : B → ℕ} (sweeping : Sweeping facts torn) (write : ℕ)
-    : Type 0 where
-  pub words : ℕ
-  pub masks : ℕ
-  pub few : masks ≤ 1
-  pub has_words : 1 ≤ masks → HasWords sweeping write words
-  pub spared : IsSparedBy sweeping write (mask_of words masks)
-
 -- the first `n` device writes, in order
 unfoldable pub WritesInTurn : {B : Type 0} {facts : B → Facts} {torn : B → ℕ} → Sweeping facts torn → ℕ → List
     DeviceWrite → Type 0
@@ -145,7 +136,7 @@ pub record AreDeviceWrites {B : Type 0} {facts : B → Facts} {torn : B → ℕ}
     (all : List DeviceWrite) : Type 0 where
   pub writes : ℕ
   pub each : WritesInTurn sweeping writes all
-  pub done : IsUnmade sweeping (writes + 1) ⊎ (writes ≡ 2 ^ 32 - 1)
+  pub done : LacksWrite sweeping (writes + 1) ⊎ (writes ≡ 2 ^ 32 - 1)
 
 -- the kinds of the device writes
 pub record AreKinds {B : Type 0} {facts : B → Facts} {torn : B → ℕ} (sweeping : Sweeping facts torn) (text : List ℕ)

@@ -6,7 +6,7 @@ ghost use Rattle.card_sweeps.specs.Sweeps.{CutsCommand};
 ghost use Rattle.sweep_cli.specs.Printing.{cut_head};
 ghost use Rattle.sweep_cli.specs.ReportParts.{AddsText, AddsMaskText, sweeping_of};
 ghost use Rattle.sweep_cli.specs.Reporting.{AreDeviceWrites, AreKindsOrNone, AreResults, AreWrites, IsCutOrNone};
-ghost use Rattle.sweep_cli.specs.Reporting.{IsDeviceWrite, IsFound, IsUnmade, IsWriteIf};
+ghost use Rattle.sweep_cli.specs.Reporting.{IsDeviceWrite, IsFound, IsWriteIf, LacksWrite};
 
 use crate::device_writes::{DeviceWrite, WriteKind, push_kinds};
 use crate::lines::{cut_head, push_results, push_total, stage_head};
@@ -186,8 +186,8 @@ fn device_write<B: ReadableBoard + Drop>(
     requires { 1 ≤ write }
     ensures made { IfOk result (λ made. IfSome made (λ it. HasCard (B.facts plan.now.board.now).words
         → IsDeviceWrite (sweeping_of B.facts B.torn plan.now) write it)) }
-    ensures spared { IfOk result (λ made. IfNone made (HasCard (B.facts plan.now.board.now).words
-        → IsUnmade (sweeping_of B.facts B.torn plan.now) write)) }
+    ensures unmade { IfOk result (λ made. IfNone made (HasCard (B.facts plan.now.board.now).words
+        → LacksWrite (sweeping_of B.facts B.torn plan.now) write)) }
 {
     let Some(unwritten) = cut_at(plan.alloc, plan.board, plan.prepare, plan.command, write, 0)?
     else {

@@ -2,24 +2,25 @@ use Rattle.std.proofs.Common.{◌≡◌, ◌∙◌, ap, false, sym, true, true�
 use Rattle.std.proofs.lemmas.Option.{IfSome_then}
 use Rattle.bench_turns.specs.declared.turn_result.TurnResult.TheVariants as turned
 use Rattle.card_sweeps.specs.Sweeps.{off_with}
+use Rattle.card_sweeps.proofs.OtherMasks.{unmade-by}
 use Rattle.card_sweeps.proofs.SweepLemmas.{cuts-command, if-none, spares-command}
 use Rattle.card_sweeps.proofs.sweeping.command_cut.Goals as goal
 use Rattle.card_sweeps.proofs.sweeping.command_cut.Goals.{in-Dark, in_default}
 
-pub returns-clause-spared : goal.returns-clause-spared
-returns-clause-spared g c =
+pub returns-clause-unmade : goal.returns-clause-unmade
+returns-clause-unmade g c =
     let lit : c.match-matches.matches ≡ false → c.turn_well-turned.result ≡ turned.Dark → ⊥ =
     elim c.match-matches.branch [
       | in-Dark w ↦ λ is e. true≢false (sym w.matches-is ∙ is)
       | in_default w ↦ λ is e. w.in_default.not-Dark e
     ] in
     if-none c.cut_board.result _ _
-    (λ spared card. spares-command _ _ _ _ _ _ _ _ _ _
+    (λ spared card. unmade-by _ _ _ _ _ (spares-command _ _ _ _ _ _ _ _ _ _
     (g.met.B.Faultless.faultless c.args.plan.now.board.now).faults
     (g.met.B.Faultless.faultless c.args.plan.now.board.now).due
     (c.new-bench.ensures ∙ ap off_with c.in_ok-copy.ensures) c.into_board.ensures lit spared card _ _ _
     c.args.plan.now.command c.in_ok-played.ensures c.arm_well.ensures.good c.arm_well.ensures.armed
-    c.turn_well-turned.ensures)
+    c.turn_well-turned.ensures))
     c.cut_board.ensures.spared
 
 pub returns-clause-cut : goal.returns-clause-cut

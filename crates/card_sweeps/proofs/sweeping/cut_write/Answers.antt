@@ -1,7 +1,6 @@
 use Rattle.std.proofs.Common.{◌≡◌, ◌<◌, ◌≤◌, ◌∙◌, ℕ, ap, arith, subst, rules}
 use Rattle.card_sweeps.specs.Masks.{mask_of, mask_count_of, words_tried}
 use Rattle.card_sweeps.specs.Sweeps.{CutsCommand}
-use Rattle.card_sweeps.specs.SweptRuns.{SparesCommand}
 use Rattle.card_sweeps.specs.PlanParts.{board_of}
 use Rattle.card_sweeps.proofs.TallyLemmas.{adds-none, adds-on, adds-weaker}
 use Rattle.card_sweeps.proofs.SweepLemmas.{given-by-run}
@@ -45,9 +44,9 @@ pub returns-in_default : goal.returns-in_default
 returns-in_default g c = record {
   given = λ card. adds-none _ _;
   complete = λ card.
-      let spared = rw c.in_default.is at c.in_ok-torn.ensures.spared in
+      let unmade = rw c.in_default.is at c.in_ok-torn.ensures.unmade in
       let few : 0 < mask_count_of 1 = omega arith in
-      counts-last g.B.Board.facts g.B.Sweepable.torn _ _ 1 0 _ _ _ _ _ _ few (counts-none _ _) (spared card);
+      counts-last g.B.Board.facts g.B.Sweepable.torn _ _ 1 0 _ _ _ _ _ _ few (counts-none _ _) (unmade card);
   full = search rules;
 }
 
@@ -73,15 +72,10 @@ returns-in_default-2 g c = record {
   given = c.loop-i.invariant.so_far;
   complete = λ card.
       let words = c.words_to_try-words.result in
-      let spared = rw c.in_default-2.is at c.in_ok-torn-2.ensures.spared in
-      let mask : c.mask_at.result ≡ mask_of words c.loop-i.i =
-      mask-is words c.loop-i.i c.mask_at.result c.mask_at.ensures.none c.mask_at.ensures.all c.mask_at.ensures.single in
-      let Spares : ℕ → Type 0 = λ m. SparesCommand c.args.k m (board_of g.B.Board.facts c.args.plan.now)
-      c.args.plan.now.prepare.now c.args.plan.now.command.now in
+      let unmade = rw c.in_default-2.is at c.in_ok-torn-2.ensures.unmade in
       let few : c.loop-i.i < mask_count_of words = omega (arith, c.loop-i-test.true, c.mask_count-i-end.ensures) in
       counts-last g.B.Board.facts g.B.Sweepable.torn _ _ words c.loop-i.i _ _ _ _ _ _ few
-      (c.loop-i.invariant.counted card)
-      (subst Spares mask (spared card));
+      (c.loop-i.invariant.counted card) (unmade card);
   full = search rules;
 }
 

@@ -1,7 +1,6 @@
-use Rattle.std.proofs.Common.{◌∙◌, ap, arith, subst, List, ℕ}
+use Rattle.std.proofs.Common.{◌∙◌, ap, subst, List, ℕ}
 use Rattle.card_sweeps.specs.Masks.{words_tried}
 use Rattle.card_sweeps.specs.Sweeps.{CutsCommand}
-use Rattle.card_sweeps.specs.SweptRuns.{SparesCommand}
 use Rattle.sweep_cli.specs.DeviceWrites.{IsWriteKind}
 use Rattle.sweep_cli.proofs.Reported.{mask-is}
 use Rattle.sweep_cli.proofs.plan.device_write.Goals as goal
@@ -28,31 +27,8 @@ returns-clause-made g c = λ card.
           c.of-kind.ensures);
     }
 
-pub returns-in_default-clause-spared : goal.returns-in_default-clause-spared
-returns-in_default-clause-spared g c = λ card. record {
-  words = 1;
-  masks = 0;
-  few = omega arith;
-  has_words = λ some. absurd (omega (arith, some));
-  spared = (rw c.in_default.is at c.in_ok-unwritten.ensures.spared) card;
-}
+pub returns-in_default-clause-unmade : goal.returns-in_default-clause-unmade
+returns-in_default-clause-unmade g c = rw c.in_default.is at c.in_ok-unwritten.ensures.unmade
 
-pub returns-in_default-2-clause-spared : goal.returns-in_default-2-clause-spared
-returns-in_default-2-clause-spared g c = λ card.
-    let cut = rw c.in-Some.is at c.in_ok-unwritten.ensures.cut in
-    let spared = rw c.in_default-2.is at c.in_ok-written.ensures.spared in
-    let mask = c.mask_at.ensures in
-    let plan = c.args.plan.now in
-    record {
-      words = c.words_to_try-words.result;
-      masks = 1;
-      few = omega arith;
-      has_words = λ _. record {
-        left = c.in-Some.unwritten;
-        cut = cut card;
-        told = c.words_to_try-words.ensures.tried ∙ ap words_tried c.torn_words.ensures.last;
-      };
-      spared = subst
-          (λ (m : ℕ). SparesCommand c.args.write m (g.B.Board.facts plan.board.now) plan.prepare.now plan.command.now)
-          (mask-is c.words_to_try-words.result 1 c.mask_at.result mask.none mask.all mask.single) (spared card);
-    }
+pub returns-in_default-2-clause-unmade : goal.returns-in_default-2-clause-unmade
+returns-in_default-2-clause-unmade g c = rw c.in_default-2.is at c.in_ok-written.ensures.unmade

@@ -13,7 +13,7 @@ pub returns-in_default : goal.returns-in_default
 returns-in_default g c = λ card. record {
   writes = c.loop-writes.writes;
   each = c.loop-writes.invariant card;
-  done = inl ((rw c.in_default.is at c.in_ok-write.ensures.spared) card);
+  done = inl ((rw c.in_default.is at c.in_ok-write.ensures.unmade) card);
 }
 
 pub returns : goal.returns

@@ -20,12 +20,12 @@ loop-i-preserved g c = λ card.
 
 pub returns-in_default : goal.returns-in_default
 returns-in_default g c = λ card.
-    unmade-put _ _ _ ((rw c.in_default.is at c.in_ok-left.ensures.spared) card)
+    unmade-put _ _ _ ((rw c.in_default.is at c.in_ok-left.ensures.unmade) card)
 
 pub returns-then-not-branch : goal.returns-then-not-branch
 returns-then-not-branch g c = λ card.
     let so_far = c.loop-i.invariant card in
-    let spared = rw c.if-not-branch.true at (c.in_ok-push_mask.ensures card) in
+    let unmade = rw c.if-not-branch.true at (c.in_ok-push_mask.ensures card) in
     let cut = rw c.in-Some.is at c.in_ok-left.ensures.cut in
     record {
       more = so_far.more;
@@ -39,9 +39,9 @@ returns-then-not-branch g c = λ card.
           told = c.words_to_try-words.ensures.tried ∙ ap words_tried c.torn_words.ensures.last;
         };
         each = so_far.holds;
-        spared = spared.0;
+        unmade = unmade.0;
       };
-      all = spared.1 ∙ so_far.all;
+      all = unmade.1 ∙ so_far.all;
     }
 
 pub returns : goal.returns

@@ -1,0 +1,247 @@
+-- A cut that doesn't happen doesn't happen with another mask either: until a cut falls, its mask changes nothing.
+use Rattle.std.specs.Prelude.{◌≡◌, ◌≢◌, ◌≤◌, ◌+◌, ◌-◌, ◌⊎◌, ◌==◌, ℕ, List, Bool, true, false, Option, None, Some}
+use Rattle.std.specs.Prelude.{is_some, option_map, if◌then◌else◌, IfSome, Result, Ok, Err}
+use Rattle.std.proofs.Common.{◌∙◌, ap, inl, inr, refl, subst, sym}
+use Rattle.std.proofs.Math.Logic.{⊎_map}
+use Rattle.card_state.specs.declared.status.Sw.{Sw}
+use Rattle.nvm_board.specs.declared.board.Arm.{Arm}
+use Rattle.nvm_board.specs.Aims.{Aim, KeepsAim, aim, due_of}
+use Rattle.nvm_board.specs.Facts.{Facts}
+use Rattle.card_model.specs.Behaviours.{Attempt}
+use Rattle.card_model.specs.Cards.{Card}
+use Rattle.card_model.specs.CommandTable.{asked}
+use Rattle.card_model.specs.Requests.{Request}
+use Rattle.card_model.specs.Sessions.{Session}
+use Rattle.card_model.specs.Steps.{attempt_of}
+use Rattle.card_start.specs.Running.{card_found}
+use Rattle.command_base.specs.Counting.{CountsAnswered, CountsShown}
+use Rattle.command_base.specs.declared.spending.TheConstants.{COMMAND_WRITES}
+use Rattle.t1_link.specs.CardTable.{Reaction, link_step, replies, runs}
+use Rattle.bench_turns.specs.declared.turn.Turn.{Turn}
+use Rattle.bench_turns.specs.declared.turn.Item.{Item}
+use Rattle.bench_turns.specs.declared.turn.Item.TheVariants.{Atr, Quiet, Mute, Dark, Reply}
+use Rattle.bench_turns.specs.BenchStates.{BenchState, off, on, bench_facts, with_facts, IsArmed}
+use Rattle.bench_turns.specs.CardBlocks.{BlockCounts, BlockStands, IsBlockStage, Powered, Replies}
+use Rattle.bench_turns.specs.Guessing.{GuessesFew}
+use Rattle.bench_turns.specs.Plays.{IsGood}
+use Rattle.bench_turns.specs.Turns.{GoodBlock, Spends, TakesBlock, TurnIsCut, Wears, dark_of}
+use Rattle.card_sweeps.specs.SweptRuns.{IsUnmade, SparesCommand}
+
+-- what is set, with another mask
+abbrev set_masked : ℕ → Option Arm → Option Arm
+set_masked mask set = option_map (λ (arm : Arm). record arm { mask = mask }) set
+
+-- where it falls
+abbrev aim_masked : ℕ → Option Aim → Option Aim
+aim_masked mask aimed = option_map (λ (a : Aim). record a { mask = mask }) aimed
+
+abbrev masked : ℕ → Facts → Facts
+masked mask f = record f { pending = set_masked mask f.pending }
+
+abbrev powered_masked : ℕ → Powered → Powered
+powered_masked mask p = record p { card = record p.card { facts = masked mask p.card.facts } }
+
+abbrev bench_masked : ℕ → BenchState → BenchState
+bench_masked mask (off f) = off (masked mask f)
+bench_masked mask (on p) = on (powered_masked mask p)
+
+facts-masked : (mask : ℕ) (b : BenchState) → bench_facts (bench_masked mask b) ≡ masked mask (bench_facts b)
+facts-masked mask (off f) = refl
+facts-masked mask (on p) = refl
+
+with-masked : (mask : ℕ) (b : BenchState) (f : Facts)
+    → bench_masked mask (with_facts b f) ≡ with_facts b (masked mask f)
+with-masked mask (off was) f = refl
+with-masked mask (on p) f = refl
+
+-- as much is set, and due
+some-masked : (mask : ℕ) (set : Option Arm) → is_some (set_masked mask set) ≡ is_some set
+some-masked mask None = refl
+some-masked mask (Some arm) = refl
+
+due-masked : (mask : ℕ) (f : Facts) → f.due ≡ due_of f.pending → (masked mask f).due ≡ due_of (masked mask f).pending
+due-masked mask f due = due ∙ ap (λ (is : Bool). if is then 1 else 0) (sym (some-masked mask f.pending))
+
+-- it falls into the same write
+aim-masked : (mask : ℕ) (f : Facts) → aim (masked mask f) ≡ aim_masked mask (aim f)
+aim-masked mask f = by_due (f.due == 0) f.pending
+  where
+    by_due : (none : Bool) (set : Option Arm)
+        → (if none then None else option_map (λ (arm : Arm). record {
+          write = f.writes + arm.whole_writes + 1;
+          mask = arm.mask;
+        }) (set_masked mask set)) ≡ aim_masked mask (if none then None else option_map (λ (arm : Arm). record {
+          write = f.writes + arm.whole_writes + 1;
+          mask = arm.mask;
+        }) set)
+    by_due true set = refl
+    by_due false None = refl
+    by_due false (Some arm) = refl
+
+there-masked : (mask writes : ℕ) (aimed : Option Aim)
+    → IfSome aimed (λ a. (writes + 1 ≡ a.write) ⊎ (writes ≡ a.write))
+    → IfSome (aim_masked mask aimed) (λ a. (writes + 1 ≡ a.write) ⊎ (writes ≡ a.write))
+there-masked mask writes None there = there
+there-masked mask writes (Some a) there = there
+
+keeps-masked : (mask : ℕ) (old new : Facts) → KeepsAim old new → KeepsAim (masked mask old) (masked mask new)
+keeps-masked mask old new (inl same) =
+    inl (aim-masked mask new ∙ ap (aim_masked mask) same ∙ sym (aim-masked mask old))
+keeps-masked mask old new (inr fell) = inr (record {
+  dark = fell.dark;
+  none = aim-masked mask new ∙ ap (aim_masked mask) fell.none;
+  there = subst (λ (aimed : Option Aim). IfSome aimed (λ a. (new.writes + 1 ≡ a.write) ⊎ (new.writes ≡ a.write)))
+      (sym (aim-masked mask old)) (there-masked mask new.writes (aim old) fell.there);
+})
+
+spends-masked : (mask lost : ℕ) (old new : Facts) → Spends lost old new
+    → Spends lost (masked mask old) (masked mask new)
+spends-masked mask lost old new s = record {
+  cuts = s.cuts;
+  due = s.due;
+  faults = s.faults;
+  more = s.more;
+  cut = keeps-masked mask old new s.cut;
+  still = s.still;
+}
+
+-- the command that runs is the same
+shown-masked : (mask : ℕ) (shown : Option Attempt) (c : Card) (old new : Facts) → CountsShown shown c old new
+    → CountsShown shown c (masked mask old) (masked mask new)
+shown-masked mask None c old new counts = counts
+shown-masked mask (Some a) c old new counts =
+    record { compared = counts.compared; matched = counts.matched; charged = counts.charged }
+
+answered-masked : (mask : ℕ) (request : Result Request Sw) (c : Card) (s : Session) (old new : Facts)
+    → CountsAnswered request c s old new → CountsAnswered request c s (masked mask old) (masked mask new)
+answered-masked mask (Ok request) c s old new counts =
+    λ used allowed. shown-masked mask (attempt_of request) c old new (counts used allowed)
+answered-masked mask (Err status) c s old new counts = counts
+
+counts-masked : (mask : ℕ) (old new : Powered) (r : Reaction) → BlockCounts old r new
+    → BlockCounts (powered_masked mask old) r (powered_masked mask new)
+counts-masked mask old new (replies block) counts = counts
+counts-masked mask old new (runs command) counts =
+    answered-masked mask (asked command) (card_found old.card) old.card.session old.card.facts new.card.facts counts
+
+stage-masked : (mask : ℕ) (old : Powered) (r : Reaction) (c : Card) → IsBlockStage old r c
+    → IsBlockStage (powered_masked mask old) r c
+stage-masked mask old (replies block) c stage = stage
+stage-masked mask old (runs command) c stage = stage
+
+stands-masked : (mask : ℕ) (old : Powered) (r : Reaction) (m : List ℕ) → BlockStands old r m
+    → BlockStands (powered_masked mask old) r m
+stands-masked mask old (replies block) m stands = stands
+stands-masked mask old (runs command) m stands = stands
+
+replies-masked : (mask : ℕ) (old new : Powered) (got out : List ℕ) → Replies old got new out
+    → Replies (powered_masked mask old) got (powered_masked mask new) out
+replies-masked mask old new got out r = record {
+  power = record {
+    was_lit = r.power.was_lit;
+    lit = r.power.lit;
+    faults = r.power.faults;
+    cuts = r.power.cuts;
+    due = r.power.due;
+  };
+  state = r.state;
+  card = r.card;
+  session = r.session;
+  link = r.link;
+  block = r.block;
+  counted = counts-masked mask old new (link_step old.link got).reaction r.counted;
+}
+
+cut-masked : (mask : ℕ) (old : Powered) (got : List ℕ) (new : BenchState) → TurnIsCut old got new
+    → TurnIsCut (powered_masked mask old) got (bench_masked mask new)
+cut-masked mask old got (off f) cut = record {
+  power = cut.power;
+  run = cut.run;
+  stage = stage-masked mask old (link_step old.link got).reaction _ cut.stage;
+  word = stands-masked mask old (link_step old.link got).reaction _ cut.word;
+}
+cut-masked mask old got (on p) cut = absurd cut.power
+
+takes-masked : (mask : ℕ) (old : BenchState) (got : List ℕ) (i : Item) (new : BenchState) → TakesBlock old got i new
+    → TakesBlock (bench_masked mask old) got i (bench_masked mask new)
+takes-masked mask (off f) got Atr new taken = absurd taken
+takes-masked mask (off f) got Quiet new taken = absurd taken
+takes-masked mask (off f) got Mute new taken = ap (bench_masked mask) taken
+takes-masked mask (off f) got Dark new taken = absurd taken
+takes-masked mask (off f) got (Reply block) new taken = absurd taken
+takes-masked mask (on p) got Atr new taken = absurd taken
+takes-masked mask (on p) got Quiet new taken = absurd taken
+takes-masked mask (on p) got Mute new taken = absurd taken
+takes-masked mask (on p) got Dark new taken = cut-masked mask p got new taken
+takes-masked mask (on p) got (Reply block) (off f) taken = absurd taken
+takes-masked mask (on p) got (Reply block) (on q) taken = replies-masked mask p q got block taken
+
+facts-then : (mask : ℕ) (Holds : Facts → Facts → Type 0) (old new : BenchState)
+    → Holds (masked mask (bench_facts old)) (masked mask (bench_facts new))
+    → Holds (bench_facts (bench_masked mask old)) (bench_facts (bench_masked mask new))
+facts-then mask Holds (off f) (off h) holds = holds
+facts-then mask Holds (off f) (on q) holds = holds
+facts-then mask Holds (on p) (off h) holds = holds
+facts-then mask Holds (on p) (on q) holds = holds
+
+guesses-masked : (mask : ℕ) (old new : BenchState) → GuessesFew old new
+    → GuessesFew (bench_masked mask old) (bench_masked mask new)
+guesses-masked mask (off f) (off h) g = record { values = g.values; unblocking_values = g.unblocking_values }
+guesses-masked mask (off f) (on q) g = record { values = g.values; unblocking_values = g.unblocking_values }
+guesses-masked mask (on p) (off h) g = record { values = g.values; unblocking_values = g.unblocking_values }
+guesses-masked mask (on p) (on q) g = record { values = g.values; unblocking_values = g.unblocking_values }
+
+-- the same block, with another mask set before it
+block-masked : (mask : ℕ) (old : BenchState) (got : List ℕ) (i : Item) (new : BenchState) → GoodBlock old got i new
+    → GoodBlock (bench_masked mask old) got i (bench_masked mask new)
+block-masked mask old got i new good =
+    let wears = good.wears in
+    record {
+      one = takes-masked mask old got i new good.one;
+      counts = facts-then mask (Spends (dark_of i)) old new
+          (spends-masked mask (dark_of i) (bench_facts old) (bench_facts new) good.counts);
+      wears = facts-then mask (Wears COMMAND_WRITES) old new (record {
+        faults = wears.faults;
+        writes = wears.writes;
+        secret = wears.secret;
+        compares = wears.compares;
+        matches = wears.matches;
+      });
+      guesses = guesses-masked mask old new good.guesses;
+    }
+
+good-masked : (mask : ℕ) (b : BenchState) → IsGood b → IsGood (bench_masked mask b)
+good-masked mask (off f) good =
+    record { has_card = good.has_card; faults = good.faults; due = due-masked mask f good.due; well = tt }
+good-masked mask (on p) good =
+    record { has_card = good.has_card; faults = good.faults; due = due-masked mask p.card.facts good.due; well = good.well }
+
+armed-masked : (number mask other : ℕ) (old new : BenchState) → IsArmed number mask old new
+    → IsArmed number other old (bench_masked other new)
+armed-masked number mask other old new arm =
+    let due = ap (λ (f : Facts). f.due) (facts-masked other new) in
+    record {
+      due = subst (λ (n : ℕ). n ≤ 1) (sym due) arm.due;
+      same = ap (bench_masked other) arm.same ∙ with-masked other old _ ∙ ap (λ (n : ℕ). with_facts old
+          (record (bench_facts old) { due = n; pending = Some (record { whole_writes = number - 1; mask = other }) }))
+          (sym due);
+    }
+
+pub unmade-by : (number mask : ℕ) (board : Facts) (prepare : List Turn) (command : List ℕ)
+    → SparesCommand number mask board prepare command → IsUnmade number board prepare command
+unmade-by number mask board prepare command s = λ other. record {
+  trace = s.trace;
+  item = s.item;
+  prepared = s.prepared;
+  armed = bench_masked other s.armed;
+  last = bench_masked other s.last;
+  before = s.before;
+  arm = armed-masked number mask other s.prepared s.armed s.arm;
+  good = good-masked other s.armed s.good;
+  good_left = good-masked other s.last s.good_left;
+  sent = block-masked other s.armed command s.item s.last s.sent;
+  spared = ⊎_map (λ (other_item : s.item ≢ Dark). other_item)
+      (λ (set : is_some (bench_facts s.last).pending ≡ true).
+      ap (λ (f : Facts). is_some f.pending) (facts-masked other s.last)
+      ∙ some-masked other (bench_facts s.last).pending ∙ set) s.spared;
+}
