@@ -12,3 +12,4 @@ pub mod ScriptInWorld
 pub mod ReaderSays
 pub mod LineWear
 pub mod NewBoards
+pub mod WrittenLines
