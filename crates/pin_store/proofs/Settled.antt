@@ -1,6 +1,6 @@
 -- What the calls of a charge, and of an end, leave together: reads, a comparison, and then writes that set the PIN.
 use Rattle.std.specs.Prelude.{◌-◌, if◌then◌else◌, Bool, true, false, Option, Some, Result, Ok, Err, IsErrAnd}
-use Rattle.std.proofs.Common.{◌≡◌, ◌⊎◌, ◌<◌, ◌↔◌, ℕ, List, refl, sym, ◌∙◌, ap, subst, inl, inr, true≢false, arith}
+use Rattle.std.proofs.Common.{◌≡◌, ◌⊎◌, ◌<◌, ◌↔◌, ◌+◌, ℕ, List, refl, sym, ◌∙◌, ap, subst, inl, inr, true≢false, arith}
 use Rattle.std.proofs.Math.Logic.{⊎_map}
 use Rattle.nvm_board.specs.Aims.{AimStays}
 use Rattle.nvm_board.specs.Facts.{Facts, RisesAt, raised}
@@ -10,10 +10,11 @@ use Rattle.undo_journal.specs.StoreCalls.{Changes, Leaves, OnlyReads, UnlessFail
 use Rattle.undo_journal.specs.Memory.{Memory, IsIdle, IsReady, KeepsWords, Reports, committed}
 use Rattle.undo_journal.specs.laws.Memory.{reports_then}
 use Rattle.undo_journal.specs.Spending.{WritesAtMost}
+use Rattle.undo_journal.specs.Undo.{gate}
 use Rattle.card_state.specs.Secrets.{Pin, kept, owner, tries_left, with_tries}
 use Rattle.pin_store.specs.Pages.{pin_at, ArePinPages, SetsPin}
 use Rattle.pin_store.specs.Trials.{pin_in, store_failure, Charges, Compared, ComparesOnce, EndsByOutcome}
-use Rattle.pin_store.specs.Trials.{IsMatch, IsWrong, SetsByMatch}
+use Rattle.pin_store.specs.Trials.{IsMatch, IsWrong, SetsByMatch, trial_end_writes}
 use Rattle.pin_store.specs.declared.errors.PinErr.{PinErr}
 use Rattle.pin_store.specs.declared.errors.PinErr.TheVariants as pin_err
 use Rattle.pin_store.specs.declared.errors.Outcome.{Outcome}
@@ -22,6 +23,10 @@ use Rattle.pin_store.specs.declared.errors.Outcome.TheVariants.{Matched, Wrong}
 -- where what is committed stays, the pages of PINs do
 pub pages_stay : (m after : List ℕ) → after ≡ m → ArePinPages m → ArePinPages after
 pages_stay m after same pages = subst (λ (l : List ℕ). ArePinPages l) (sym same) pages
+
+-- reads leave the gate
+pub gate_kept : (a b : Memory) → OnlyReads a b → gate a.facts.words ≡ 0 → gate b.facts.words ≡ 0
+gate_kept a b reads shut = ap gate reads.board.words ∙ shut
 
 -- a failure of the store, handed on as the reason why no try is charged, is told
 pub charge_handed : {T : Type 0} (n : ℕ) (a b : Memory) (r : Result T PinErr) (e : StoreErr)
@@ -196,3 +201,20 @@ pub end_told : (secret : ℕ) (shown : List ℕ) (now : Pin) (a c : Memory) (tol
     → SetsByMatch secret shown now a c → EndsByOutcome secret shown now a c told
 end_told secret shown now a c told is sets =
     subst (λ (o : Outcome). EndsByOutcome secret shown now a c o) (sym is) sets
+
+-- a mismatch writes nothing, and sets nothing
+pub wrong_ends : (secret : ℕ) (shown : List ℕ) (now : Pin) (a b : Memory) (told : Outcome) → (told ≡ Matched → ⊥)
+    → Compared secret shown a b told → EndsByOutcome secret shown now a b told
+wrong_ends secret shown now a b Matched not compared = absurd (not refl)
+wrong_ends secret shown now a b (Wrong left) not compared = compared
+
+-- and makes no device write
+pub wrong_counts : (n : ℕ) (told : Outcome) (a b : ℕ) → (told ≡ Matched → ⊥) → b ≡ a → b ≡ a + trial_end_writes n told
+wrong_counts n Matched a b not same = absurd (not refl)
+wrong_counts n (Wrong left) a b not same = omega (arith, same)
+
+-- after a match the PIN is set
+pub match_counts : (n : ℕ) (told : Outcome) (a b c : ℕ) → told ≡ Matched → b ≡ a → c ≡ b + n
+    → c ≡ a + trial_end_writes n told
+match_counts n Matched a b c is same made = omega (arith, same, made)
+match_counts n (Wrong left) a b c is same made = absurd (cc)

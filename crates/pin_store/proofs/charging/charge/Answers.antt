@@ -1,5 +1,6 @@
-use Rattle.std.proofs.Common.{◌<◌, sym, ◌∙◌, inl, refl, arith, rules}
-use Rattle.pin_store.proofs.Settled.{pages_stay, charge_handed, charges, charges_or_not}
+use Rattle.std.proofs.Common.{◌<◌, sym, ◌∙◌, inl, refl, arith}
+use Rattle.pin_store.proofs.Settled.{pages_stay, charge_handed, charges, charges_or_not, gate_kept}
+use Rattle.undo_journal.specs.laws.Exits.{none_ok}
 use Rattle.undo_journal.specs.laws.Told.{reads_change, changes_after}
 use Rattle.pin_store.proofs.charging.charge.Goals as goal
 
@@ -8,10 +9,10 @@ returns-in_err-left-clause-takes g c = record {
   any_exit = inl c.tries.ensures.store.only.keeps.committed_words;
   kept = λ _. c.tries.ensures.store.only;
   pages = pages_stay _ _ c.tries.ensures.store.only.keeps.committed_words c.requires.pins.pages;
-  shut = search rules;
+  shut = λ shut. gate_kept _ _ c.tries.ensures.store.only shut;
   store = charge_handed 1 _ _ _ _ c.from_residual.ensures.1
       (reads_change 1 _ _ _ c.requires.pins.ready.idle c.in_err-left.ensures.store);
-  counted = search rules;
+  counted = none_ok _ _ _ c.from_residual.ensures.1;
 }
 
 pub returns-then-left-eq0-clause-takes : goal.returns-then-left-eq0-clause-takes
@@ -19,9 +20,9 @@ returns-then-left-eq0-clause-takes g c = record {
   any_exit = inl c.tries.ensures.store.only.keeps.committed_words;
   kept = λ _. c.tries.ensures.store.only;
   pages = pages_stay _ _ c.tries.ensures.store.only.keeps.committed_words c.requires.pins.pages;
-  shut = search rules;
+  shut = λ shut. gate_kept _ _ c.tries.ensures.store.only shut;
   store = reads_change 1 _ _ _ c.requires.pins.ready.idle c.in_ok-left.ensures.store;
-  counted = search rules;
+  counted = tt;
 }
 
 pub returns-then-left-eq0-clause-blocked : goal.returns-then-left-eq0-clause-blocked
@@ -36,10 +37,10 @@ returns-in_err-put_left-clause-takes g c = record {
   kept = λ none. absurd (c.if-left-eq0.false (c.in_ok-left.ensures.left ∙ none));
   pages = c.put_left.ensures.pages (pages_stay _ _ c.tries.ensures.store.only.keeps.committed_words
       c.requires.pins.pages);
-  shut = search rules;
+  shut = λ shut. c.put_left.ensures.by_gate (gate_kept _ _ c.tries.ensures.store.only shut);
   store = charge_handed 1 _ _ _ _ c.from_residual-in_err-put_left.ensures.1
       (changes_after 1 _ _ _ _ c.tries.ensures.store.only c.in_err-put_left.ensures.store);
-  counted = search rules;
+  counted = none_ok _ _ _ c.from_residual-in_err-put_left.ensures.1;
 }
 
 pub returns-clause-takes : goal.returns-clause-takes
@@ -50,9 +51,10 @@ returns-clause-takes g c = record {
   kept = λ none. absurd (c.if-left-eq0.false (c.in_ok-left.ensures.left ∙ none));
   pages = c.put_left.ensures.pages (pages_stay _ _ c.tries.ensures.store.only.keeps.committed_words
       c.requires.pins.pages);
-  shut = search rules;
+  shut = λ shut. c.put_left.ensures.by_gate (gate_kept _ _ c.tries.ensures.store.only shut);
   store = changes_after 1 _ _ _ _ c.tries.ensures.store.only c.in_ok-put_left.ensures.store;
-  counted = search rules;
+  counted = let read = c.tries.ensures.store.only.board.writes in
+      let made = c.in_ok-put_left.ensures.counted in omega (arith, read, made);
 }
 
 pub returns-clause-done : goal.returns-clause-done

@@ -1,20 +1,21 @@
-use Rattle.std.proofs.Common.{inl, rules}
+use Rattle.std.proofs.Common.{inl}
 use Rattle.card_state.specs.Secrets.{verified_pin}
 use Rattle.pin_store.specs.Trials.{pin_in}
 use Rattle.pin_store.proofs.Settled.{pages_stay, compares_more, compares_then, match_told, matched_sets}
-use Rattle.pin_store.proofs.Settled.{matched_sets_or_not, end_told}
+use Rattle.pin_store.proofs.Settled.{matched_sets_or_not, end_told, match_counts, wrong_counts, wrong_ends}
+use Rattle.undo_journal.specs.laws.Exits.{none_ok}
 use Rattle.undo_journal.specs.laws.Told.{leaves_on, leaves_handed, changes_leave}
 use Rattle.pin_store.proofs.settling.settle.Goals as goal
 
 pub returns-in_err-outcome : goal.returns-in_err-outcome
 returns-in_err-outcome g c = record {
   any_exit = inl c.compare.ensures.kept;
-  done = search rules;
-  by_gate = search rules;
+  done = none_ok _ _ _ c.from_residual.ensures.1;
+  by_gate = c.compare.ensures.shut;
   pages = pages_stay _ _ c.compare.ensures.kept c.requires.pins.pages;
-  store = search rules;
+  store = leaves_handed _ _ _ _ c.from_residual.ensures.1 c.in_err-outcome.ensures.store;
   spends = compares_more 1 _ _ _ c.compare.ensures.spends;
-  counted = search rules;
+  counted = none_ok _ _ _ c.from_residual.ensures.1;
 }
 
 pub returns-in_err-put_tries : goal.returns-in_err-put_tries
@@ -24,13 +25,13 @@ returns-in_err-put_tries g c = record {
       c.in_ok-outcome.outcome c.in-Matched.is c.in_ok-outcome.ensures.done) c.compare.ensures.kept
       c.put_tries.ensures.store.writes
       c.put_tries.ensures.any_exit;
-  done = search rules;
-  by_gate = search rules;
+  done = none_ok _ _ _ c.from_residual-in_err-put_tries.ensures.1;
+  by_gate = λ shut. c.put_tries.ensures.by_gate (c.compare.ensures.shut shut);
   pages = c.put_tries.ensures.pages (pages_stay _ _ c.compare.ensures.kept c.requires.pins.pages);
   store = leaves_handed _ _ _ _ c.from_residual-in_err-put_tries.ensures.1
       (leaves_on _ _ _ _ c.compare.ensures.store.reports (changes_leave _ _ _ _ c.in_err-put_tries.ensures.store));
   spends = compares_then 1 _ _ _ _ c.compare.ensures.spends c.put_tries.ensures.store.writes;
-  counted = search rules;
+  counted = none_ok _ _ _ c.from_residual-in_err-put_tries.ensures.1;
 }
 
 pub returns-in_ok-put_tries : goal.returns-in_ok-put_tries
@@ -48,20 +49,22 @@ returns-in_ok-put_tries g c = record {
       c.in_ok-outcome.outcome c.in-Matched.is c.in_ok-outcome.ensures.done) c.compare.ensures.kept
       c.put_tries.ensures.store.writes
       c.in_ok-put_tries.ensures.done);
-  by_gate = search rules;
+  by_gate = λ shut. c.put_tries.ensures.by_gate (c.compare.ensures.shut shut);
   pages = c.put_tries.ensures.pages (pages_stay _ _ c.compare.ensures.kept c.requires.pins.pages);
   store = leaves_on _ _ _ _ c.compare.ensures.store.reports (changes_leave _ _ _ _ c.in_ok-put_tries.ensures.store);
   spends = compares_then 1 _ _ _ _ c.compare.ensures.spends c.put_tries.ensures.store.writes;
-  counted = search rules;
+  counted = match_counts 1 c.in_ok-outcome.outcome _ _ _ c.in-Matched.is
+      c.compare.ensures.writes c.in_ok-put_tries.ensures.counted;
 }
 
 pub returns-in_default : goal.returns-in_default
 returns-in_default g c = record {
   any_exit = inl c.compare.ensures.kept;
-  done = search rules;
-  by_gate = search rules;
+  done = wrong_ends c.args.charged c.args.shown.now _ c.args.store.now c.compare.new.store c.in_ok-outcome.outcome
+      c.in_default.not-Matched c.in_ok-outcome.ensures.done;
+  by_gate = c.compare.ensures.shut;
   pages = pages_stay _ _ c.compare.ensures.kept c.requires.pins.pages;
-  store = search rules;
+  store = c.in_ok-outcome.ensures.store;
   spends = compares_more 1 _ _ _ c.compare.ensures.spends;
-  counted = search rules;
+  counted = wrong_counts 1 c.in_ok-outcome.outcome _ _ c.in_default.not-Matched c.compare.ensures.writes;
 }
