@@ -1,4 +1,4 @@
-use Rattle.std.proofs.Common.{◌≡◌, ◌||◌, ℕ, Bool, List, true, sym, ◌∙◌, ap, rules}
+use Rattle.std.proofs.Common.{◌≡◌, ◌||◌, ℕ, Bool, List, true, sym, ◌∙◌, ap}
 use Rattle.undo_journal.specs.Memory.{committed}
 use Rattle.undo_journal.specs.laws.Calls.{reads_then}
 use Rattle.card_state.specs.declared.access_mode.AccessBit.TheVariants.{DeleteChild, DeleteSelf}
@@ -21,7 +21,7 @@ use Rattle.file_commands.proofs.files.check_deletion.Goals as goal
 
 pub returns-in_err-by_parent : goal.returns-in_err-by_parent
 returns-in_err-by_parent g c = record {
-  told = search rules;
+  told = finds-stopped _ (Failed c.in_err-by_parent.field-0.0) c.from_residual-in_err-by_parent.ensures.1 _ _ tt;
   store = reads-stopped _ (Failed c.in_err-by_parent.field-0.0) c.from_residual-in_err-by_parent.ensures.1 _ _
       (reads_on _ _ _ _ (reads_then _ _ _
       (reads_then _ _ _ c.read_entry.ensures.store.only c.is_barred_at.ensures.store.only) c.allows.ensures.store.only)
@@ -104,20 +104,20 @@ read_entry-requires-clause-within g c =
 
 pub returns-in_err-entry : goal.returns-in_err-entry
 returns-in_err-entry g c = record {
-  told = search rules;
+  told = finds-stopped _ (Failed c.in_err-entry.field-0.0) c.from_residual.ensures.1 _ _ tt;
   store = reads-stopped _ (Failed c.in_err-entry.field-0.0) c.from_residual.ensures.1 _ _ c.in_err-entry.ensures.store;
 }
 
 pub returns-in_err-barred : goal.returns-in_err-barred
 returns-in_err-barred g c = record {
-  told = search rules;
+  told = finds-stopped _ (Failed c.in_err-barred.field-0.0) c.from_residual-in_err-barred.ensures.1 _ _ tt;
   store = reads-stopped _ (Failed c.in_err-barred.field-0.0) c.from_residual-in_err-barred.ensures.1 _ _
       (reads_on _ _ _ _ c.read_entry.ensures.store.only c.in_err-barred.ensures.store);
 }
 
 pub returns-in_err-own : goal.returns-in_err-own
 returns-in_err-own g c = record {
-  told = search rules;
+  told = finds-stopped _ (Failed c.in_err-own.field-0.0) c.from_residual-in_err-own.ensures.1 _ _ tt;
   store = reads-stopped _ (Failed c.in_err-own.field-0.0) c.from_residual-in_err-own.ensures.1 _ _
       (reads_on _ _ _ _ (reads_then _ _ _ c.read_entry.ensures.store.only c.is_barred_at.ensures.store.only)
       c.in_err-own.ensures.store);

@@ -1,4 +1,4 @@
-use Rattle.std.proofs.Common.{◌∙◌, sym, rules}
+use Rattle.std.proofs.Common.{◌∙◌, sym}
 use Rattle.undo_journal.specs.Memory.{committed}
 use Rattle.undo_journal.specs.laws.Calls.{reads_then}
 use Rattle.undo_journal.specs.laws.Told.{reads_on}
@@ -10,7 +10,7 @@ use Rattle.file_commands.proofs.Creations.{barred-is, permits-is, unread-step}
 use Rattle.file_commands.proofs.FileSteps.{create-barred, create-denied}
 use Rattle.command_base.specs.laws.Readings.{df_kept, df_used, entry_still, kept_still, used_still}
 use Rattle.command_base.specs.declared.stop.Stop.TheVariants.{Failed}
-use Rattle.command_base.specs.laws.Stopping.{reads-stopped}
+use Rattle.command_base.specs.laws.Stopping.{finds-stopped, reads-stopped}
 use Rattle.file_commands.proofs.files.find_new_file.Goals as goal
 
 pub returns-then-branch : goal.returns-then-branch
@@ -38,7 +38,7 @@ returns-in_default g c = record {
 
 pub returns-in_err-allows : goal.returns-in_err-allows
 returns-in_err-allows g c = record {
-  told = search rules;
+  told = finds-stopped _ (Failed c.in_err-allows.field-0.0) c.from_residual-in_err-allows.ensures.1 _ _ tt;
   store = reads-stopped _ (Failed c.in_err-allows.field-0.0) c.from_residual-in_err-allows.ensures.1 _ _
       (reads_on _ _ _ _ (reads_then _ _ _ c.read_entry.ensures.store.only c.is_barred_at.ensures.store.only)
       c.in_err-allows.ensures.store);
@@ -92,7 +92,7 @@ read_entry-requires-clause-within g c =
 
 pub returns-in_err-is_barred_at : goal.returns-in_err-is_barred_at
 returns-in_err-is_barred_at g c = record {
-  told = search rules;
+  told = finds-stopped _ (Failed c.in_err-is_barred_at.field-0.0) c.from_residual-in_err-is_barred_at.ensures.1 _ _ tt;
   store = reads-stopped _ (Failed c.in_err-is_barred_at.field-0.0) c.from_residual-in_err-is_barred_at.ensures.1 _ _
       (reads_on _ _ _ _ c.read_entry.ensures.store.only c.in_err-is_barred_at.ensures.store);
 }

@@ -1,7 +1,7 @@
 use Rattle.undo_journal.specs.Memory.{committed}
 use Rattle.undo_journal.specs.laws.Calls.{reads_then}
 use Rattle.file_tree.specs.laws.Nodes.{used_small}
-use Rattle.std.proofs.Common.{◌≡◌, sym, ◌∙◌, rules}
+use Rattle.std.proofs.Common.{◌≡◌, sym, ◌∙◌}
 use Rattle.command_base.specs.laws.Readings.{entry_still, file_kept, kept_still, used_still}
 use Rattle.card_state.specs.FileLives.{next_life}
 use Rattle.file_tree.specs.Table.{table, entry_in, path_of}
@@ -21,20 +21,20 @@ read_entry-requires-clause-within g c = used_small (committed c.args.store.now) 
 
 pub returns-in_err-entry : goal.returns-in_err-entry
 returns-in_err-entry g c = record {
-  told = search rules;
+  told = finds-stopped _ (Failed c.in_err-entry.field-0.0) c.from_residual.ensures.1 _ _ tt;
   store = reads-stopped _ (Failed c.in_err-entry.field-0.0) c.from_residual.ensures.1 _ _ c.in_err-entry.ensures.store;
 }
 
 pub returns-in_err-next : goal.returns-in_err-next
 returns-in_err-next g c = record {
-  told = search rules;
+  told = finds-stopped _ (Failed c.in_err-next.field-0.0) c.from_residual-in_err-next.ensures.1 _ _ tt;
   store = reads-stopped _ (Failed c.in_err-next.field-0.0) c.from_residual-in_err-next.ensures.1 _ _
       (reads_on _ _ _ _ c.read_entry.ensures.store.only c.in_err-next.ensures.store);
 }
 
 pub returns-in_err-allowed : goal.returns-in_err-allowed
 returns-in_err-allowed g c = record {
-  told = search rules;
+  told = finds-stopped _ (Failed c.in_err-allowed.field-0.0) c.from_residual-in_err-allowed.ensures.1 _ _ tt;
   store = reads-stopped _ (Failed c.in_err-allowed.field-0.0) c.from_residual-in_err-allowed.ensures.1 _ _
       (reads_on _ _ _ _ (reads_then _ _ _ c.read_entry.ensures.store.only c.next_life_cycle.ensures.store.only)
       c.in_err-allowed.ensures.store);
