@@ -1,11 +1,64 @@
-use Rattle.std.proofs.Common.{ℕ, List, Option, subst, ◌∙◌, rules}
+use Rattle.std.proofs.Common.{ℕ, List, Option, subst, sym, ◌∙◌, true≢false}
 use Rattle.undo_journal.specs.Memory.{committed}
+use Rattle.undo_journal.specs.laws.Calls.{reads_then}
+use Rattle.undo_journal.specs.laws.Exits.{none_ok}
+use Rattle.undo_journal.specs.laws.Told.{reads_handed, reads_on}
 use Rattle.tree_check.specs.Surveys.{TellsTree}
 use Rattle.tree_check.specs.declared.tree.Survey.{Survey}
 use Rattle.card_start.specs.declared.memory_format.MemoryFormat.{MemoryFormat}
 use Rattle.card_start.specs.StartParts.{HoldsPins, TellsHeader}
-use Rattle.card_start.proofs.Entries.{card_told}
+use Rattle.card_start.proofs.Entries.{card_told, no_header, no_pins, no_tree}
 use Rattle.card_start.proofs.check.find_card.Goals as goal
+
+pub returns-in_err-format : goal.returns-in_err-format
+returns-in_err-format g c = record {
+  told = none_ok _ _ _ c.from_residual.ensures.1;
+  store = reads_handed _ _ _ _ c.from_residual.ensures.1 c.in_err-format.ensures.store;
+}
+
+pub returns-in_default : goal.returns-in_default
+returns-in_default g c = record {
+  told = let m = committed c.args.store.now in
+      no_header m (subst (λ (o : Option MemoryFormat). TellsHeader m o) c.in_default.is c.in_ok-format.ensures.told);
+  store = c.in_ok-format.ensures.store;
+}
+
+pub returns-in_err-has_pins : goal.returns-in_err-has_pins
+returns-in_err-has_pins g c = record {
+  told = none_ok _ _ _ c.from_residual-in_err-has_pins.ensures.1;
+  store = reads_handed _ _ _ _ c.from_residual-in_err-has_pins.ensures.1
+      (reads_on _ _ _ _ c.find_format.ensures.store.only c.in_err-has_pins.ensures.store);
+}
+
+pub returns-then-not-branch : goal.returns-then-not-branch
+returns-then-not-branch g c = record {
+  told = let m = committed c.args.store.now in
+      let first = c.find_format.ensures.store.only.keeps.committed_words in
+      let header = subst (λ (o : Option MemoryFormat). TellsHeader m o) c.in-Some.is c.in_ok-format.ensures.told in
+      no_pins m c.in-Some.format header
+      (λ holds. true≢false (sym (c.in_ok-has_pins.ensures.told.1
+      (subst (λ (l : List ℕ). HoldsPins c.in-Some.format l) (sym first) holds)) ∙ c.if-not-branch.true));
+  store = reads_on _ _ _ _ c.find_format.ensures.store.only c.in_ok-has_pins.ensures.store;
+}
+
+pub returns-in_err-tree : goal.returns-in_err-tree
+returns-in_err-tree g c = record {
+  told = none_ok _ _ _ c.from_residual-in_err-tree.ensures.1;
+  store = reads_handed _ _ _ _ c.from_residual-in_err-tree.ensures.1
+      (reads_on _ _ _ _ (reads_then _ _ _ c.find_format.ensures.store.only c.has_pins.ensures.store.only)
+      c.in_err-tree.ensures.store);
+}
+
+pub returns-in_default-2 : goal.returns-in_default-2
+returns-in_default-2 g c = record {
+  told = let m = committed c.args.store.now in
+      let second = c.has_pins.ensures.store.only.keeps.committed_words
+      ∙ c.find_format.ensures.store.only.keeps.committed_words in
+      no_tree m (subst (λ (o : Option Survey). TellsTree m o) c.in_default-2.is
+      (subst (λ (l : List ℕ). TellsTree l c.in_ok-tree.field-0) second c.in_ok-tree.ensures.tree));
+  store = reads_on _ _ _ _ (reads_then _ _ _ c.find_format.ensures.store.only c.has_pins.ensures.store.only)
+      c.in_ok-tree.ensures.store;
+}
 
 pub returns : goal.returns
 returns g c = record {
@@ -18,5 +71,6 @@ returns g c = record {
       let tree = subst (λ (o : Option Survey). TellsTree m o) c.in-Some-2.is
       (subst (λ (l : List ℕ). TellsTree l c.in_ok-tree.field-0) second c.in_ok-tree.ensures.tree) in
       (card_told m c.in-Some.format header pins tree.0, tree.1, tree.2);
-  store = search rules;
+  store = reads_on _ _ _ _ (reads_then _ _ _ c.find_format.ensures.store.only c.has_pins.ensures.store.only)
+      c.in_ok-tree.ensures.store;
 }

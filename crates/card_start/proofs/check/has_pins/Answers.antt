@@ -7,7 +7,8 @@ use Rattle.card_start.specs.declared.memory_format.MemoryFormat.TheVariants.{Two
 use Rattle.pin_store.specs.Pages.{AreMarks}
 use Rattle.card_start.specs.StartParts.{HoldsPins}
 use Rattle.pin_store.specs.Pages.{ArePinPages}
-use Rattle.undo_journal.specs.laws.Told.{reads_on}
+use Rattle.undo_journal.specs.laws.Exits.{none_ok}
+use Rattle.undo_journal.specs.laws.Told.{reads_handed, reads_on}
 use Rattle.card_start.proofs.check.has_pins.Goals as goal
 
 -- where the PINs may be those of a card, their marks tell
@@ -27,4 +28,10 @@ returns-in-Two g c = record {
       (committed c.are_pins.new.store) (c.in_ok-are_pins.ensures.told.0 c.if-not-branch.false) c.are_marks.result
       c.are_pins.ensures.store.only.keeps.committed_words c.are_marks.ensures.told);
   store = reads_on _ _ _ _ c.are_pins.ensures.store.only c.are_marks.ensures.store;
+}
+
+pub returns-in_err-are_pins : goal.returns-in_err-are_pins
+returns-in_err-are_pins g c = record {
+  told = none_ok _ _ _ c.from_residual.ensures.1;
+  store = reads_handed _ _ _ _ c.from_residual.ensures.1 c.in_err-are_pins.ensures.store;
 }

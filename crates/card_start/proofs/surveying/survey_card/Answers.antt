@@ -1,16 +1,21 @@
-use Rattle.std.proofs.Common.{ℕ, List, Some, None, sym, ◌∙◌, ap, subst, inl, inr}
+use Rattle.std.proofs.Common.{ℕ, List, Option, Some, None, sym, ◌∙◌, ap, subst, inl, inr}
 use Rattle.undo_journal.specs.StoreCalls.{Changes}
 use Rattle.undo_journal.specs.Memory.{committed}
-use Rattle.undo_journal.specs.laws.Told.{changes_after, changes_handed}
+use Rattle.undo_journal.specs.laws.Exits.{none_ok}
+use Rattle.undo_journal.specs.laws.Told.{changes_after, changes_handed, reads_change}
 use Rattle.file_tree.specs.Table.{table}
-use Rattle.command_base.specs.laws.CardLaws.{card_format}
+use Rattle.command_base.specs.laws.CardLaws.{card_format, old_mark}
 use Rattle.std.proofs.Common.{arith, ⊎_elim}
 use Rattle.block_chain.specs.BlockWords.{word}
 use Rattle.block_chain.specs.declared.layout.TheConstants.{HEADER_PAGE}
 use Rattle.file_tree.specs.declared.layout.TheConstants.{MARK_WORD}
 use Rattle.file_tree.specs.Indexes.{IsIndex}
+use Rattle.file_tree.specs.Trees.{TreeStands}
+use Rattle.migration.specs.Migrating.{Migrates}
 use Rattle.card_model.specs.Cards.{card_space}
 use Rattle.command_base.specs.Standing.{card_of, IsCard, IsOldCard}
+use Rattle.card_start.specs.StartParts.{TellsCard}
+use Rattle.card_start.specs.declared.check.Checked.{Checked}
 use Rattle.card_start.proofs.Migrated.{found-free, found-one, found-two, found-where, grown-space, renewal-writes}
 use Rattle.card_start.proofs.Migrated.{renewal-none}
 use Rattle.card_start.proofs.Migrated.{renewed-card}
@@ -117,3 +122,93 @@ returns-in_ok-migrate-in-One-clause-card g c =
           (found-free m mid _ c.in-Some.found same c.in-Some.is told),
       found-where m mid after _ c.in-Some.found same c.in-Some.is told migrates,
     )
+
+pub returns-in_err-found-clause-any_exit : goal.returns-in_err-found-clause-any_exit
+returns-in_err-found-clause-any_exit g c = inl c.find_card.ensures.store.only.keeps.committed_words
+
+pub returns-in_err-found-clause-card : goal.returns-in_err-found-clause-card
+returns-in_err-found-clause-card g c = none_ok _ _ _ c.from_residual.ensures.1
+
+pub returns-in_err-found-clause-counted : goal.returns-in_err-found-clause-counted
+returns-in_err-found-clause-counted g c = none_ok _ _ _ c.from_residual.ensures.1
+
+pub returns-in_err-found-clause-idle : goal.returns-in_err-found-clause-idle
+returns-in_err-found-clause-idle g c = λ new. c.find_card.ensures.store.only
+
+pub returns-in_err-found-clause-store : goal.returns-in_err-found-clause-store
+returns-in_err-found-clause-store g c =
+    changes_handed _ _ _ _ _ c.from_residual.ensures.1
+    (reads_change _ _ _ _ c.requires.ready.idle c.in_err-found.ensures.store)
+
+pub returns-in_default-clause-any_exit : goal.returns-in_default-clause-any_exit
+returns-in_default-clause-any_exit g c = inl c.find_card.ensures.store.only.keeps.committed_words
+
+pub returns-in_default-clause-card : goal.returns-in_default-clause-card
+returns-in_default-clause-card g c =
+    subst (λ (o : Option Checked). TellsCard (committed c.args.store.now) o) c.in_default.is c.in_ok-found.ensures.told
+
+pub returns-in_default-clause-last : goal.returns-in_default-clause-last
+returns-in_default-clause-last g c =
+    inl (ap (λ (l : List ℕ). word l HEADER_PAGE MARK_WORD) c.find_card.ensures.store.only.keeps.committed_words)
+
+pub returns-in_default-clause-idle : goal.returns-in_default-clause-idle
+returns-in_default-clause-idle g c = λ new. c.find_card.ensures.store.only
+
+pub returns-in_default-clause-store : goal.returns-in_default-clause-store
+returns-in_default-clause-store g c = reads_change _ _ _ _ c.requires.ready.idle c.in_ok-found.ensures.store
+
+pub migrate-requires-clause-ready : goal.migrate-requires-clause-ready
+migrate-requires-clause-ready g c = c.in_ok-found.ensures.store.ready
+
+pub migrate-requires-clause-tree : goal.migrate-requires-clause-tree
+migrate-requires-clause-tree g c =
+    let m = committed c.args.store.now in
+    let old = found-one m _ c.in-Some.found c.in-Some.is c.in-One.is c.in_ok-found.ensures.told in
+    subst TreeStands (sym c.find_card.ensures.store.only.keeps.committed_words) old.tree
+
+pub migrate-requires-clause-old : goal.migrate-requires-clause-old
+migrate-requires-clause-old g c =
+    let m = committed c.args.store.now in
+    let old = found-one m _ c.in-Some.found c.in-Some.is c.in-One.is c.in_ok-found.ensures.told in
+    old_mark _ (subst IsOldCard (sym c.find_card.ensures.store.only.keeps.committed_words) old)
+
+pub returns-in_err-migrate-in-One-clause-any_exit : goal.returns-in_err-migrate-in-One-clause-any_exit
+returns-in_err-migrate-in-One-clause-any_exit g c =
+    let m = committed c.args.store.now in
+    let old = found-one m _ c.in-Some.found c.in-Some.is c.in-One.is c.in_ok-found.ensures.told in
+    let migrates = subst (λ (l : List ℕ). Migrates l (committed c.migrate.new.store))
+    c.find_card.ensures.store.only.keeps.committed_words c.in_err-migrate-in-One.ensures.any_exit in
+    inr (old, migrates)
+
+pub returns-in_err-migrate-in-One-clause-idle : goal.returns-in_err-migrate-in-One-clause-idle
+returns-in_err-migrate-in-One-clause-idle g c =
+    λ new. absurd (new (found-one (committed c.args.store.now) _ c.in-Some.found c.in-Some.is c.in-One.is
+    c.in_ok-found.ensures.told))
+
+pub returns-in_ok-migrate-in-One-clause-any_exit : goal.returns-in_ok-migrate-in-One-clause-any_exit
+returns-in_ok-migrate-in-One-clause-any_exit g c =
+    let m = committed c.args.store.now in
+    let old = found-one m _ c.in-Some.found c.in-Some.is c.in-One.is c.in_ok-found.ensures.told in
+    let migrates = subst (λ (l : List ℕ). Migrates l (committed c.migrate.new.store))
+    c.find_card.ensures.store.only.keeps.committed_words c.in_ok-migrate-in-One.ensures.any_exit in
+    inr (old, migrates)
+
+pub returns-in_ok-migrate-in-One-clause-idle : goal.returns-in_ok-migrate-in-One-clause-idle
+returns-in_ok-migrate-in-One-clause-idle g c =
+    λ new. absurd (new (found-one (committed c.args.store.now) _ c.in-Some.found c.in-Some.is c.in-One.is
+    c.in_ok-found.ensures.told))
+
+pub returns-in_err-migrate-in-One-clause-card : goal.returns-in_err-migrate-in-One-clause-card
+returns-in_err-migrate-in-One-clause-card g c = none_ok _ _ _ c.from_residual-in_err-migrate-in-One.ensures.1
+
+pub returns-in_err-migrate-in-One-clause-counted : goal.returns-in_err-migrate-in-One-clause-counted
+returns-in_err-migrate-in-One-clause-counted g c = none_ok _ _ _ c.from_residual-in_err-migrate-in-One.ensures.1
+
+pub returns-in-Two-clause-any_exit : goal.returns-in-Two-clause-any_exit
+returns-in-Two-clause-any_exit g c = inl c.find_card.ensures.store.only.keeps.committed_words
+
+pub returns-in-Two-clause-idle : goal.returns-in-Two-clause-idle
+returns-in-Two-clause-idle g c = λ new. c.find_card.ensures.store.only
+
+pub returns-in-Two-clause-store : goal.returns-in-Two-clause-store
+returns-in-Two-clause-store g c = reads_change _ _ _ _ c.requires.ready.idle c.in_ok-found.ensures.store
