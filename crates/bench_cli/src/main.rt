@@ -7,16 +7,9 @@ ghost use Rattle.command_base.specs.Finding.{HasCard};
 ghost use Rattle.kept_board.specs.Kept.{kept_words};
 ghost use Rattle.script_output.specs.Faults.{status_of};
 
-mod card_file;
-mod kept_file;
-mod options;
-mod page_count;
-
 use card_bench::{factory_board, run_on};
-use card_file::{CardFault, open_card};
+use card_file::{Asked, CardBoard, CardFault, open_card, read_words};
 use kept_board::KeptBoard;
-use kept_file::CardBoard;
-use options::{Asked, read_words};
 use script_output::RunFault;
 use std::env;
 use std::io::{self, BufReader, ErrorKind};

@@ -4,12 +4,11 @@ pub mod DeskTurns
 pub mod ExchangeInWorld
 pub mod ExchangeRuns
 pub mod ExchangeSteps
-pub mod FormatLemmas
+pub mod FirstDesks
 pub mod FreeTold
 pub mod GuessedLines
 pub mod ScriptLines
 pub mod ScriptInWorld
 pub mod ReaderSays
 pub mod LineWear
-pub mod NewBoards
 pub mod WrittenLines

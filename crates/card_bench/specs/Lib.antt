@@ -7,4 +7,4 @@ pub mod ExchangeParts
 pub mod Performing
 pub mod ScriptWorlds
 pub mod ScriptEndings
-pub mod Images
+pub use Rattle.card_boards.specs.Images

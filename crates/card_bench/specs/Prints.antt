@@ -1,8 +1,8 @@
 -- The output of a script, line by line.
-use Rattle.std.specs.Prelude.{◌≡◌, ◌≤◌, ℕ, List, [], ◌∷◌, ◌++◌, None, Some, true, replicate}
-use Rattle.nvm_board.specs.declared.board.TheConstants.{LEAST_PAGES, SECRETS}
+use Rattle.std.specs.Prelude.{◌≡◌, ℕ, List, [], ◌∷◌, ◌++◌, None, Some, true}
 use Rattle.nvm_board.specs.Facts.{Facts}
 use Rattle.card_start.specs.Factory.{factory_card}
+pub use Rattle.card_boards.specs.NewlyWritten.{IsJustWritten}
 use Rattle.bench_lines.specs.Orders.{Order}
 use Rattle.bench_turns.specs.BenchStates.{bench_card, bench_facts, off, IsOff}
 use Rattle.card_bench.specs.Exchanges.{Desk}
@@ -19,19 +19,6 @@ PrintsLines old (line ∷ others) new out =
     (order : Order) × (between : Desk) × (prints : Print) × (rest : List ℕ)
     × (order_of line ≡ Some order) × Performs order old between prints × IsGood between.bench
     × PrintsLines between others new rest × (out ≡ text_of prints ++ rest)
-
--- The counters of a new board of these pages with a card image: at most one device write a page, all others zero, and
--- no pending cut.
-pub record IsNewlyWritten (pages : ℕ) (f : Facts) : Type 0 where
-  pub due : f.due ≡ 0
-  pub cuts : f.cuts ≡ 0
-  pub writes : f.writes ≤ pages
-  pub compares : f.compares ≡ replicate SECRETS 0
-  pub matches : f.matches ≡ replicate SECRETS 0
-
--- the same of 1,024 pages
-abbrev pub IsJustWritten : Facts → Type 0
-IsJustWritten f = IsNewlyWritten LEAST_PAGES f
 
 -- The first desk: the factory card on a new board of 896 blocks, power off, and no pending faults on the line.
 pub record IsFirstDesk (d : Desk) : Type 0 where

@@ -3,8 +3,6 @@
 
 mod desk;
 mod exchange;
-mod factory;
-mod image;
 pub mod laws;
 mod line;
 mod line_result;
@@ -13,10 +11,9 @@ mod sweepable;
 
 pub use bench_lines::{COMMAND_LIMIT, Order};
 pub use bench_turns::{Item, Turn};
+pub use card_boards::{NoCard, factory_board, factory_board_of, image_board};
 pub use card_turns::Bench;
 pub use desk::Desk;
-pub use factory::{factory_board, factory_board_of};
-pub use image::{NoCard, image_board};
 pub use line_result::LineResult;
 pub use script::{run, run_on};
 pub use sweepable::Sweepable;

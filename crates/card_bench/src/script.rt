@@ -7,8 +7,8 @@ ghost use Rattle.bench_turns.specs.Plays.{IsGood};
 ghost use Rattle.command_base.specs.Finding.{HasCard};
 
 use crate::desk::Desk;
-use crate::factory::factory_board;
 use bench_lines::{GivenBytes, LineBytes, LineEnd, LineFault, Order, SCRIPT_LIMIT, read_line};
+use card_boards::factory_board;
 use kept_board::Followed;
 use nvm_board::{Armed, Faultless, has_no_fault};
 use script_output::{NO_TEXT, RunFault};

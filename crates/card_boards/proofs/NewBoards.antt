@@ -22,8 +22,8 @@ use Rattle.bench_turns.specs.BenchStates.{off}
 use Rattle.bench_turns.specs.Lasting.{HasLeft}
 use Rattle.bench_turns.specs.declared.turn.Turn.TheVariants as turn
 use Rattle.bench_turns.proofs.Wearing.{few-renewal, few-steps, not-worn}
-use Rattle.card_bench.specs.Images.{IsFaultOf, IsRefusedRightly}
-use Rattle.card_bench.specs.declared.image.NoCard.TheVariants.{Start}
+use Rattle.card_boards.specs.Images.{IsFaultOf, IsRefusedRightly}
+use Rattle.card_boards.specs.declared.image.NoCard.TheVariants.{Start}
 
 -- a rollback makes a write for each pair that counts, fewer than 2 ^ 32, and one for the gate
 few-rolled : (f : Facts) → gate f.words < 2 ^ 32 → start_writes f ≤ 4294967296

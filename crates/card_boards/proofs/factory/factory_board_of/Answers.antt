@@ -9,8 +9,8 @@ use Rattle.undo_journal.specs.Spending.{WritesAtMost}
 use Rattle.card_start.specs.declared.memory_format.MemoryFormat.TheVariants.{Two}
 use Rattle.card_start.specs.Factory.{factory_card, Formats}
 use Rattle.command_base.specs.Finding.{Finds}
-use Rattle.card_bench.proofs.FormatLemmas.{format_succeeds, just_written, new_blocks, new_pages, none_due}
-use Rattle.card_bench.proofs.factory.factory_board_of.Goals as goal
+use Rattle.card_boards.proofs.FormatLemmas.{format_succeeds, just_written, new_blocks, new_pages, none_due}
+use Rattle.card_boards.proofs.factory.factory_board_of.Goals as goal
 
 -- a new board takes the factory card
 formats : (pages : ℕ) (old : Facts) (r : Result CutBoard (CutBoard × DeviceErr)) → pages ≤ MOST_PAGES

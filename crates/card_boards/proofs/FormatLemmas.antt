@@ -1,5 +1,5 @@
 -- Formatting a new board succeeds: no cut is due, and no count stands at its end.
-use Rattle.std.specs.Prelude.{◌≡◌, ◌<◌, ◌≤◌, ◌-◌, ◌*◌, ℕ, zero, suc, true, false}
+use Rattle.std.specs.Prelude.{◌≡◌, ◌<◌, ◌≤◌, ◌-◌, ◌*◌, ℕ, zero, suc, false}
 use Rattle.std.specs.Prelude.{List, Option, None, Some, Err, Contains, length}
 use Rattle.std.specs.Prelude.{replicate, slice_index_or, refl}
 use Rattle.std.proofs.Common.{arith, inl, inr, subst, sym, ap, ◌∙◌, true≢false}
@@ -13,14 +13,7 @@ use Rattle.std.proofs.lemmas.List.{length-replicate}
 use Rattle.nvm_board.specs.laws.Sizes.{pages_same}
 use Rattle.command_base.specs.Standing.{board_blocks}
 use Rattle.undo_journal.specs.Spending.{WritesAtMost}
-use Rattle.card_start.specs.Factory.{factory_card}
-use Rattle.command_base.specs.Finding.{Finds}
-use Rattle.bench_turns.specs.BenchStates.{BenchState, off, bench_card, bench_facts, IsOff}
-use Rattle.t1_link.specs.ReaderTable.{Reader}
-use Rattle.card_bench.specs.declared.line.Line.{Line}
-use Rattle.card_bench.specs.Exchanges.{Desk}
-use Rattle.bench_turns.specs.Plays.{IsGood}
-use Rattle.card_bench.specs.Prints.{IsFirstDesk, IsJustWritten, IsNewlyWritten, desk_of}
+use Rattle.card_boards.specs.NewlyWritten.{IsNewlyWritten}
 
 -- a new board has room for as many blocks as it has pages from page 128 on
 pub new_pages : (n : ℕ) (old : Facts) → old ≡ new_board n → pages_of old.words ≡ n
@@ -96,33 +89,3 @@ just_written n old new is steady spent =
 pub none_due : (pending : Option Arm) → due_of pending ≡ 0 → pending ≡ None
 none_due None due = refl
 none_due (Some arm) due = absurd (omega (arith, due))
-
--- the desk with the factory's board
-pub first_desk : (d : Desk) (f : Facts) → d.bench ≡ off (record f { dark = true }) → d.reader ≡ None
-    → d.line ≡ record { lose = None; garble = None } → Finds f.words (factory_card 896) → IsJustWritten f → f.faults ≡ 0
-    → f.due ≡ due_of f.pending → IsFirstDesk d
-first_desk d f bench reader line finds counts faults due = record {
-  power = subst IsOff (sym bench) refl;
-  good = subst IsGood (sym bench) (record { has_card = finds.has_card; faults = faults; due = due; well = tt });
-  card = subst (λ (b : BenchState). bench_card b ≡ factory_card 896) (sym bench) finds.card;
-  counts = subst (λ (b : BenchState). IsJustWritten (bench_facts b)) (sym bench) (record {
-    due = counts.due;
-    cuts = counts.cuts;
-    writes = counts.writes;
-    compares = counts.compares;
-    matches = counts.matches;
-  });
-  reader = reader;
-  line = line;
-}
-
--- a desk is told by its three parts
-pub desk_is : (d : Desk) (f : Facts) → d.bench ≡ off (record f { dark = true }) → d.reader ≡ None
-    → d.line ≡ record { lose = None; garble = None } → d ≡ desk_of f
-desk_is d f bench reader line =
-    ap (λ (b : BenchState). with_parts b d.reader d.line) bench
-    ∙ ap (λ (r : Option Reader). with_parts (off (record f { dark = true })) r d.line) reader
-    ∙ ap (λ (l : Line). with_parts (off (record f { dark = true })) None l) line
-  where
-    with_parts : BenchState → Option Reader → Line → Desk
-    with_parts bench reader line = record { bench = bench; reader = reader; line = line }

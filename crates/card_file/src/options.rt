@@ -2,7 +2,7 @@
 ghost use Rattle.std.specs.Prelude.{◌≤◌, map, take};
 ghost use Rattle.std.specs.String.{string_bytes};
 ghost use Rattle.std.specs.Vec.Iter.{into_iter_items, into_iter_len};
-ghost use Rattle.bench_cli.specs.OptionParts.{no_options, GivenOptions, IsAskedBy, TakesWords};
+ghost use Rattle.card_file.specs.CommandLines.{no_options, GivenOptions, IsAskedBy, TakesWords};
 ghost use Rattle.nvm_board.specs.declared.board.TheConstants.{LEAST_PAGES, MOST_PAGES};
 
 use crate::page_count::PageCount;
@@ -64,7 +64,7 @@ struct Reading {
 impl Reading {
     ghost use Rattle.std.specs.Prelude.{◌≡◌};
     ghost use Rattle.std.specs.String.{string_bytes};
-    ghost use Rattle.bench_cli.specs.OptionParts.{options_read, no_options, IsAskedBy, TakesOption, TakesRole};
+    ghost use Rattle.card_file.specs.CommandLines.{options_read, no_options, IsAskedBy, TakesOption, TakesRole};
 
     /// Returns that no word was read.
     fn new() -> Reading

@@ -5,7 +5,7 @@ ghost use Rattle.kept_board.specs.Kept.{kept_words};
 
 use crate::kept_file::{CardBoard, KeptFile, PAGE_BYTES};
 use crate::options::CardOptions;
-use card_bench::{NoCard, factory_board_of, image_board};
+use card_boards::{NoCard, factory_board_of, image_board};
 use kept_board::KeptBoard;
 use nvm_board::{LEAST_PAGES, MOST_PAGES};
 use simulated_boards::CutBoard;

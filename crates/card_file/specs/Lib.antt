@@ -1,2 +1,2 @@
 -- The program's command line: its words, and what they ask for.
-pub mod OptionParts
+pub mod CommandLines

@@ -1,6 +1,6 @@
 use Rattle.std.proofs.Common.{◌∙◌}
-use Rattle.card_bench.proofs.NewBoards.{refused_rightly}
-use Rattle.card_bench.proofs.image.image_board.Goals as goal
+use Rattle.card_boards.proofs.NewBoards.{refused_rightly}
+use Rattle.card_boards.proofs.image.image_board.Goals as goal
 
 pub returns-in-Err-clause-none : goal.returns-in-Err-clause-none
 returns-in-Err-clause-none c =

@@ -3,10 +3,10 @@ ghost use Rattle.std.specs.Prelude.{◌≡◌, IfOk, IfErr};
 ghost use Rattle.simulated_boards.specs.Cut.{cut_facts};
 ghost use Rattle.simulated_boards.specs.Given.{board_with};
 ghost use Rattle.command_base.specs.Finding.{HasCard};
-ghost use Rattle.card_bench.specs.Images.{IsRefusedRightly};
+ghost use Rattle.card_boards.specs.Images.{IsRefusedRightly};
 
+use card_core::Card;
 use card_start::StartFault;
-use card_turns::Powered;
 use simulated_boards::CutBoard;
 use std::alloc::Global;
 
@@ -37,7 +37,7 @@ pub fn image_board(alloc: Global, words: Vec<u32>) -> Result<CutBoard, NoCard>
     let Ok(copy) = board.copy(alloc) else {
         return Err(NoCard::Memory);
     };
-    match Powered::start(copy) {
+    match Card::start(copy) {
         Ok(_) => Ok(board),
         Err((_, fault)) => Err(NoCard::Start(fault)),
     }

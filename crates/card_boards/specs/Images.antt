@@ -6,8 +6,8 @@ use Rattle.card_start.specs.declared.faults.StartFault.{StartFault}
 use Rattle.card_start.specs.declared.faults.StartFault.TheVariants.{BadJournal, Damaged, PowerLost, Fault}
 use Rattle.command_base.specs.Finding.{HasCard, words_found}
 use Rattle.command_base.specs.Standing.{IsAnyCard}
-use Rattle.card_bench.specs.declared.image.NoCard.{NoCard}
-use Rattle.card_bench.specs.declared.image.NoCard.TheVariants.{Memory, Size, Start}
+use Rattle.card_boards.specs.declared.image.NoCard.{NoCard}
+use Rattle.card_boards.specs.declared.image.NoCard.TheVariants.{Memory, Size, Start}
 
 -- Power-on fails by these words: undo isn't defined, or the words after it are no valid card image. A new board loses
 -- no power, and has no fault.

@@ -1,0 +1,2 @@
+mod FormatLemmas
+mod NewBoards

@@ -1,0 +1,3 @@
+-- New boards with a card.
+pub mod NewlyWritten
+pub mod Images
