@@ -1,5 +1,5 @@
 use Rattle.std.specs.Prelude.{is_some, IsSome}
-use Rattle.std.proofs.Common.{◌≡◌, ◌⊎◌, ◌<◌, ◌+◌, ℕ, List, Err, Option, None, Some, Result, ap, sym, subst, ◌∙◌, inl}
+use Rattle.std.proofs.Common.{◌≡◌, ◌⊎◌, ◌<◌, ℕ, List, Err, Option, None, Some, Result, ap, sym, subst, ◌∙◌, inl}
 use Rattle.std.proofs.Common.{arith, true≢false}
 use Rattle.std.proofs.Math.Logic.{⊎_map}
 use Rattle.undo_journal.specs.StoreCalls.{Changes, UnlessFailed}
