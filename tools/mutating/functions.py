@@ -6,8 +6,11 @@ from dataclasses import dataclass
 from functools import lru_cache
 from pathlib import Path
 
-HEAD = re.compile(r"^( *)(pub )?(?:pub\(\w+\) )?(?:final )?(const )?fn (\w+)")
+HEAD = re.compile(r"^( *)(pub )?(?:pub\(\w+\) )?(?:final )?(const )?(?:extern \"C\" )?fn (\w+)")
 BLOCK = re.compile(r"(?:pub )?(?:impl|trait)\b")
+ROOTS = ("lib", "main")
+PARAMETERS = re.compile(r"<[^<>]*>")
+OWNER = re.compile(r"(?:pub )?(?:impl|trait) *(\w+)(?: for (\w+))?")
 
 
 @dataclass(frozen=True)
@@ -16,6 +19,8 @@ class Function:
 
     path: str
     name: str
+    # the type that it is a method of, with the trait's name behind, or nothing
+    owner: str
     begin: int
     end: int
     # other functions and constants may be computed by its body
@@ -26,9 +31,18 @@ class Function:
     def has(self, path: str, line: int) -> bool:
         """True for a line of it, or of a file of its own proof."""
         if path.startswith("proofs/"):
-            parts = Path(path).parts
-            return parts[1] in (Path(self.path).stem, self.name) and self.name in parts[1:-1]
+            return self.is_proved_in(Path(path).parts[1:-1])
         return path == self.path and self.begin <= line <= self.end
+
+    def is_proved_in(self, folders: tuple[str, ...]) -> bool:
+        """True for the folders of its own proof. Those of a method begin with the module of its type, which may be in
+        another source. The root's functions have no module. A plus stands before a recursive function."""
+        names = tuple(it.removeprefix("+") for it in folders)
+        if self.owner:
+            return (self.owner, self.name) in zip(names, names[1:])
+        module = Path(self.path).stem
+        home = (self.name,) if module in ROOTS else (module, self.name)
+        return names[: len(home)] == home
 
 
 def functions_in(path: str, text: str) -> list[Function]:
@@ -44,7 +58,8 @@ def functions_in(path: str, text: str) -> list[Function]:
             end = next((it for it in range(at, len(lines)) if lines[it] == f"{head[1]}}}"), at)
         is_open = bool(head[2]) or implements_trait(lines, at)
         is_promise = is_open and has_ensures(lines[at : end + 1], head[1])
-        found.append(Function(path, head[4], begin_of(lines, at), end + 1, bool(head[3]), is_promise))
+        owner = owner_of(lines, at)
+        found.append(Function(path, head[4], owner, begin_of(lines, at), end + 1, bool(head[3]), is_promise))
     return found
 
 
@@ -55,11 +70,25 @@ def begin_of(lines: list[str], head: int) -> int:
     return head + 1
 
 
+def block_of(lines: list[str], at: int) -> str:
+    """The head of the innermost block of methods before a line, or nothing."""
+    if not lines[at].startswith(" "):
+        return ""
+    return next((it for it in reversed(lines[:at]) if BLOCK.match(it)), "")
+
+
 def implements_trait(lines: list[str], at: int) -> bool:
     """True if the innermost block of methods before a line implements a trait."""
-    if not lines[at].startswith(" "):
-        return False
-    return " for " in next((it for it in reversed(lines[:at]) if BLOCK.match(it)), "")
+    return " for " in block_of(lines, at)
+
+
+def owner_of(lines: list[str], at: int) -> str:
+    """The type of the innermost block of methods before a line, with the trait's name behind, or nothing."""
+    head = block_of(lines, at)
+    while PARAMETERS.search(head):
+        head = PARAMETERS.sub("", head)
+    named = OWNER.match(head)
+    return f"{named[2]}{named[1]}" if named and named[2] else named[1] if named else ""
 
 
 def has_ensures(lines: list[str], indent: str) -> bool:
