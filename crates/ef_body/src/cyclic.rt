@@ -87,8 +87,8 @@ impl Cyclic {
             (CyclicBecomes (committed store.old) self (front (length (cyclic_body_records (committed store.old) self))
             bytes.now (cyclic_body_records (committed store.old) self))) RECORD_WRITES store.old store.new result }
     {
-        let newest = self.find(1)?;
-        from_store(newest.replace_oldest(store, bytes))
+        let record = self.find(1)?;
+        from_store(record.replace_oldest(store, bytes))
     }
 
     /// Adds a record in front, in one transaction. If the EF is full, it drops the oldest one (APPEND RECORD, ISO/IEC
