@@ -3,3 +3,4 @@ pub mod Put
 pub mod Reported
 pub mod ReadSo
 pub mod Stopped
+mod SweepWords

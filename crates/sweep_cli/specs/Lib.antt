@@ -4,6 +4,7 @@ pub mod Asking
 pub mod Printing
 pub mod DeviceWrites
 pub mod CommandLineParts
+pub mod SweepOptionParts
 pub mod ExitStatuses
 pub mod Reporting
 pub mod SweepEndings

@@ -1,4 +1,9 @@
 //! The options of the command line.
+ghost use Rattle.std.specs.Prelude.{map, take};
+ghost use Rattle.std.specs.String.{string_bytes};
+ghost use Rattle.std.specs.Vec.Iter.{into_iter_items, into_iter_len};
+ghost use Rattle.sweep_cli.specs.SweepOptionParts.{AsksForSweep, GivenSweep, IsWholeSweep};
+
 use crate::parts::SweepPart;
 use std::vec::IntoIter;
 
@@ -11,24 +16,74 @@ pub struct Options {
     pub part: SweepPart,
 }
 
-/// Reads the words after the program's name.
-/// Returns `None` if one is unknown, or a path is missing.
-pub fn read_words(words: IntoIter<String>) -> Option<Options> {
-    let mut card = None;
-    let mut part = SweepPart::whole();
-    let mut is_path = false;
-    for word in words {
-        if is_path {
-            card = Some(word);
-            is_path = false;
-        } else if word.as_str() == "--card" {
-            is_path = true;
-        } else {
-            part = SweepPart::parse(&word)?;
+/// The words that were read so far.
+#[derive(Drop)]
+struct Reading {
+    card: Option<String>,
+    part: SweepPart,
+    /// Whether the next word is the path of a card.
+    is_path: bool,
+}
+
+impl Reading {
+    ghost use Rattle.std.specs.Prelude.{IfNone, IfSome};
+    ghost use Rattle.std.specs.String.{string_bytes};
+    ghost use Rattle.sweep_cli.specs.SweepOptionParts.{sweep_given, EndsSweepWords, IsUnknownWord, IsWholeSweep};
+    ghost use Rattle.sweep_cli.specs.SweepOptionParts.{TakesSweepWord};
+
+    /// Returns that no word was read.
+    fn new() -> Reading
+        ensures { IsWholeSweep (sweep_given result) }
+    {
+        Reading {
+            card: None,
+            part: SweepPart::whole(),
+            is_path: false,
         }
     }
-    if is_path {
-        return None;
+
+    /// Takes the next word. Returns `None` if it is unknown.
+    fn take(&mut self, word: String) -> Option<()>
+        ensures taken { IfSome result (λ _. TakesSweepWord (sweep_given self.old) (string_bytes word)
+            (sweep_given self.new)) }
+        ensures unknown { IfNone result (IsUnknownWord (sweep_given self.old) (string_bytes word)) }
+    {
+        if self.is_path {
+            self.card = Some(word);
+            self.is_path = false;
+        } else if word.as_bytes() == b"--card".as_slice() {
+            self.is_path = true;
+        } else {
+            self.part = SweepPart::parse(word.as_str())?;
+        }
+        Some(())
     }
-    Some(Options { card, part })
+
+    /// Returns what the words ask for, or `None` if a path is missing.
+    fn asked(self) -> Option<Options>
+        ensures { EndsSweepWords (sweep_given self) result }
+    {
+        let Reading {
+            card,
+            part,
+            is_path,
+        } = self;
+        if is_path {
+            return None;
+        }
+        Some(Options { card, part })
+    }
+}
+
+/// Reads the words after the program's name.
+/// Returns `None` if one is unknown, or a path is missing.
+pub fn read_words(words: IntoIter<String>) -> Option<Options>
+    ensures { (first : GivenSweep) × IsWholeSweep first
+        × AsksForSweep first (map string_bytes (take (into_iter_len words) (into_iter_items words))) result }
+{
+    let mut reading = Reading::new();
+    for word in words {
+        reading.take(word)?;
+    }
+    reading.asked()
 }
