@@ -1,9 +1,7 @@
-use Rattle.std.proofs.Common.{◌+◌, ◌*◌, ℕ, List, length, inr, sym, ◌∙◌, ap, arith, subst}
+use Rattle.std.proofs.Common.{◌+◌, ◌*◌, ℕ, List, length, inr, sym, ◌∙◌, ap, arith, refl, subst}
 use Rattle.std.proofs.Math.ListN.{length-set}
 use Rattle.nvm_board.specs.laws.Torn.{length-written}
 use Rattle.undo_journal.specs.Batches.{AreSets, runs_from}
-use Rattle.undo_journal.specs.laws.Calls.{spends_after, within_more}
-use Rattle.undo_journal.specs.laws.Memory.{writes_then}
 use Rattle.std.proofs.lemmas.Result.{on_ok_weaker}
 use Rattle.undo_journal.proofs.Pairs.{length-pair_words}
 use Rattle.undo_journal.proofs.Saving.{pairs-torn, pairs-sound, gate-torn, gate-sound, named-raised, current-raised}
@@ -11,7 +9,11 @@ use Rattle.undo_journal.specs.laws.Joining.{writes-some}
 use Rattle.std.specs.Prelude.{◌≤◌}
 use Rattle.nvm_board.specs.Facts.{IsMemory}
 use Rattle.std.proofs.Common.{◌<◌, ◌≡◌, ⊎_elim, get_or-set_same, slice_set}
-use Rattle.undo_journal.specs.Undo.{gate}
+use Rattle.undo_journal.specs.Undo.{gate, data_words, undo, IsSound}
+use Rattle.undo_journal.specs.laws.Calls.{keeping_spends, spends_after, within_more}
+use Rattle.undo_journal.specs.laws.Exits.{none_ok}
+use Rattle.undo_journal.specs.laws.Memory.{writes_then}
+use Rattle.undo_journal.proofs.Telling.{answered_after, answered_err, steady_then}
 use Rattle.nvm_board.specs.laws.Sizes.{least_words}
 use Rattle.undo_journal.specs.declared.layout.TheConstants.{GATE, JOURNAL, JOURNAL_END}
 use Rattle.undo_journal.proofs.batch.save_and_write.Goals as goal
@@ -147,16 +149,88 @@ write_words-requires-clause-sets g c =
     ∙ length-written read c.deref.result.now (JOURNAL + 2 * c.args.used) ∙ ap count c.in_ok-pairs.ensures.reads.words in
     subst (λ (n : ℕ). AreSets n 0 c.args.sets.now) (sym size) c.requires.sets
 
+pub returns-in_err-pairs-clause-done : goal.returns-in_err-pairs-clause-done
+returns-in_err-pairs-clause-done g c = none_ok _ _ _ c.from_residual.ensures.1
+
+pub returns-in_err-pairs-clause-counts : goal.returns-in_err-pairs-clause-counts
+returns-in_err-pairs-clause-counts g c = none_ok _ _ _ c.from_residual.ensures.1
+
+pub returns-in_err-pairs-clause-counted : goal.returns-in_err-pairs-clause-counted
+returns-in_err-pairs-clause-counted g c = none_ok _ _ _ c.from_residual.ensures.1
+
+pub returns-in_err-pairs-clause-kept : goal.returns-in_err-pairs-clause-kept
+returns-in_err-pairs-clause-kept g c =
+    ap (λ (m : List ℕ). data_words (undo m)) c.in_err-pairs.ensures.reads.words
+
+pub returns-in_err-pairs-clause-sound : goal.returns-in_err-pairs-clause-sound
+returns-in_err-pairs-clause-sound g c = subst IsSound (sym c.in_err-pairs.ensures.reads.words) c.requires.sound
+
+pub returns-in_err-pairs-clause-light : goal.returns-in_err-pairs-clause-light
+returns-in_err-pairs-clause-light g c =
+    answered_err _ _ _ _ c.from_residual.ensures.1 c.in_err-pairs.ensures.light
+
+pub returns-in_err-pairs-clause-writes : goal.returns-in_err-pairs-clause-writes
+returns-in_err-pairs-clause-writes g c = keeping_spends _ _ _ c.in_err-pairs.ensures.reads
+
+pub returns-in_err-write_pairs-clause-done : goal.returns-in_err-write_pairs-clause-done
+returns-in_err-write_pairs-clause-done g c = none_ok _ _ _ c.from_residual-in_err-write_pairs.ensures.1
+
+pub returns-in_err-write_pairs-clause-counts : goal.returns-in_err-write_pairs-clause-counts
+returns-in_err-write_pairs-clause-counts g c = none_ok _ _ _ c.from_residual-in_err-write_pairs.ensures.1
+
+pub returns-in_err-write_pairs-clause-counted : goal.returns-in_err-write_pairs-clause-counted
+returns-in_err-write_pairs-clause-counted g c = none_ok _ _ _ c.from_residual-in_err-write_pairs.ensures.1
+
+pub returns-in_err-write_pairs-clause-light : goal.returns-in_err-write_pairs-clause-light
+returns-in_err-write_pairs-clause-light g c =
+    answered_err _ _ _ _ c.from_residual-in_err-write_pairs.ensures.1
+    (answered_after _ _ _ _ (c.in_ok-pairs.ensures.light.ok refl) c.in_err-write_pairs.ensures.light)
+
+pub returns-in_err-write_pairs-clause-writes : goal.returns-in_err-write_pairs-clause-writes
+returns-in_err-write_pairs-clause-writes g c =
+    let all = writes-some c.args.sets.now c.requires.some in
+    within_more 1 _ _ _ (omega (arith, all))
+    (spends_after 1 _ _ _ c.in_ok-pairs.ensures.reads c.in_err-write_pairs.ensures.writes)
+
+pub returns-in_err-write_gate-clause-done : goal.returns-in_err-write_gate-clause-done
+returns-in_err-write_gate-clause-done g c = none_ok _ _ _ c.from_residual-in_err-write_gate.ensures.1
+
+pub returns-in_err-write_gate-clause-counts : goal.returns-in_err-write_gate-clause-counts
+returns-in_err-write_gate-clause-counts g c = none_ok _ _ _ c.from_residual-in_err-write_gate.ensures.1
+
+pub returns-in_err-write_gate-clause-counted : goal.returns-in_err-write_gate-clause-counted
+returns-in_err-write_gate-clause-counted g c = none_ok _ _ _ c.from_residual-in_err-write_gate.ensures.1
+
+pub returns-in_err-write_gate-clause-light : goal.returns-in_err-write_gate-clause-light
+returns-in_err-write_gate-clause-light g c =
+    answered_err _ _ _ _ c.from_residual-in_err-write_gate.ensures.1
+    (answered_after _ _ _ _
+    (steady_then _ _ _ (c.in_ok-pairs.ensures.light.ok refl) (c.in_ok-write_pairs.ensures.light.ok refl))
+    c.in_err-write_gate.ensures.light)
+
 pub returns-in_err-write_gate-clause-writes : goal.returns-in_err-write_gate-clause-writes
 returns-in_err-write_gate-clause-writes g c =
-    let some = writes-some c.args.sets.now c.requires.some in
-    within_more 2 _ _ _ (omega (arith, some)) (spends_after 2 _ _ _ c.in_ok-pairs.ensures.reads
+    let all = writes-some c.args.sets.now c.requires.some in
+    within_more 2 _ _ _ (omega (arith, all))
+    (spends_after 2 _ _ _ c.in_ok-pairs.ensures.reads
     (writes_then 1 1 _ _ _ c.in_ok-write_pairs.ensures.writes c.in_err-write_gate.ensures.writes))
+
+pub returns-clause-sound : goal.returns-clause-sound
+returns-clause-sound g c = c.write_words.ensures.sound
+
+pub returns-clause-light : goal.returns-clause-light
+returns-clause-light g c =
+    answered_after _ _ _ _
+    (steady_then _ _ _
+    (steady_then _ _ _ (c.in_ok-pairs.ensures.light.ok refl) (c.in_ok-write_pairs.ensures.light.ok refl))
+    (c.in_ok-write_gate.ensures.light.ok refl))
+    c.write_words.ensures.light
 
 pub returns-clause-writes : goal.returns-clause-writes
 returns-clause-writes g c =
-    let some = writes-some c.args.sets.now c.requires.some in
-    let saved = writes_then 1 1 _ _ _ c.in_ok-write_pairs.ensures.writes c.in_ok-write_gate.ensures.writes in
-    within_more (2 + runs_from 0 c.args.sets.now) _ _ _ (omega (arith, some))
+    let all = writes-some c.args.sets.now c.requires.some in
+    within_more (2 + runs_from 0 c.args.sets.now) _ _ _ (omega (arith, all))
     (spends_after (2 + runs_from 0 c.args.sets.now) _ _ _ c.in_ok-pairs.ensures.reads
-    (writes_then 2 (runs_from 0 c.args.sets.now) _ _ _ saved c.write_words.ensures.writes))
+    (writes_then 2 _ _ _ _
+    (writes_then 1 1 _ _ _ c.in_ok-write_pairs.ensures.writes c.in_ok-write_gate.ensures.writes)
+    c.write_words.ensures.writes))

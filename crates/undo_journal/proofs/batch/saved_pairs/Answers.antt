@@ -5,7 +5,8 @@ use Rattle.nvm_board.specs.laws.Aims.{aims_stay}
 use Rattle.undo_journal.specs.declared.batch.Waiting.{Waiting}
 use Rattle.undo_journal.specs.Batches.{AreSets}
 use Rattle.undo_journal.specs.JournalParts.{pair_words}
-use Rattle.undo_journal.proofs.Telling.{steady_then}
+use Rattle.undo_journal.specs.laws.Exits.{none_ok}
+use Rattle.undo_journal.proofs.Telling.{answered_after, answered_err, steady_then}
 use Rattle.undo_journal.proofs.Waits.{sets-lower}
 use Rattle.undo_journal.proofs.batch.saved_pairs.Goals as goal
 
@@ -47,4 +48,24 @@ loop-set-preserved g c =
           ∙ append_assoc c.loop-set.words.items (s.at ∷ slice_index m s.at ∷ []) (pair_words m (drop (i + 1) ps))
           ∙ ap (λ (l : List Waiting). c.loop-set.words.items ++ pair_words m l) (sym next)
           ∙ kept.so_far;
+    }
+
+pub returns-in_err-earlier-clause-words : goal.returns-in_err-earlier-clause-words
+returns-in_err-earlier-clause-words g c = none_ok _ _ _ c.from_residual.ensures.1
+
+pub returns-in_err-earlier-clause-light : goal.returns-in_err-earlier-clause-light
+returns-in_err-earlier-clause-light g c =
+    answered_err _ _ _ _ c.from_residual.ensures.1
+    (answered_after _ _ _ _ c.loop-set.invariant.steady c.in_err-earlier.ensures.light)
+
+pub returns-in_err-earlier-clause-reads : goal.returns-in_err-earlier-clause-reads
+returns-in_err-earlier-clause-reads g c =
+    let kept = c.loop-set.invariant.reads in
+    let read = c.in_err-earlier.ensures in
+    record {
+      cut = aims_stay _ _ _ kept.cut read.cut;
+      words = read.words ∙ kept.words;
+      writes = read.writes ∙ kept.writes;
+      compares = read.compares ∙ kept.compares;
+      matches = read.matches ∙ kept.matches;
     }

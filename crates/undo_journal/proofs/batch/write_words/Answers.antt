@@ -3,7 +3,8 @@ use Rattle.nvm_board.specs.laws.Aims.{aims_then, aims_written}
 use Rattle.undo_journal.specs.declared.batch.Waiting.{Waiting}
 use Rattle.undo_journal.specs.Batches.{AreSets, runs_from}
 use Rattle.undo_journal.specs.JournalParts.{first_words}
-use Rattle.undo_journal.proofs.Telling.{steady_then}
+use Rattle.undo_journal.specs.laws.Exits.{none_ok}
+use Rattle.undo_journal.proofs.Telling.{answered_after, answered_err, steady_then}
 use Rattle.undo_journal.proofs.RunLaws.{turn-few, turn-inside, turn-runs, sets-drop}
 use Rattle.undo_journal.proofs.Turning.{turn-torn, turn-same, turn-named, turn-left}
 use Rattle.undo_journal.proofs.batch.write_words.Goals as goal
@@ -103,3 +104,14 @@ loop-rest-preserved g c =
       compares = wrote.compares ∙ kept.compares;
       matches = wrote.matches ∙ kept.matches;
     }
+
+pub returns-in_err-write-clause-done : goal.returns-in_err-write-clause-done
+returns-in_err-write-clause-done g c = none_ok _ _ _ c.from_residual.ensures.1
+
+pub returns-in_err-write-clause-counted : goal.returns-in_err-write-clause-counted
+returns-in_err-write-clause-counted g c = none_ok _ _ _ c.from_residual.ensures.1
+
+pub returns-in_err-write-clause-light : goal.returns-in_err-write-clause-light
+returns-in_err-write-clause-light g c =
+    answered_err _ _ _ _ c.from_residual.ensures.1
+    (answered_after _ _ _ _ c.loop-rest.invariant.steady c.in_err-write.ensures.light)
