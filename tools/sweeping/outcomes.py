@@ -14,7 +14,7 @@ BEFORE, AFTER, UNCHANGED = "as before the command", "as after the command", "as 
 TAKEN, OTHER = "with a try taken", "neither as before nor as after"
 # how many characters of a line, and how many numbers of writes, are shown
 SHOWN, MOST_DIGITS, MOST_NUMBERS = 30, 60, 12
-Found = tuple[str, ...]  # the free space, and what each line of the probe printed
+Found = tuple[str, ...]  # the free space, and the answer of each line of the probe
 
 
 class Sweep:

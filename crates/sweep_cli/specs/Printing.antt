@@ -47,8 +47,8 @@ abbrev pub cut_head : ℕ → ℕ → ℕ → List ℕ
 cut_head write i mask = codes "{\"write\": " ++ (decimal write ++ (codes ", \"number\": " ++ (decimal i
     ++ (codes ", \"mask\": " ++ (decimal mask ++ codes ", ")))))
 
--- what a line of the probe prints if its last item is a block: the bytes of its only block, or the answer in its
--- I-blocks
+-- the answer of a line of the probe whose last item is a block: the bytes of its only block, or the information fields
+-- of its I-blocks
 abbrev pub reply_text : List Item → Item → List ℕ
 reply_text items Atr = []
 reply_text items Quiet = []
@@ -57,12 +57,12 @@ reply_text items Dark = []
 reply_text items (Reply block) =
     codes "< " ++ (if nat_eq (length items) 1 then encode_upper block else flat_map field_text items)
 
--- what a line of the probe prints, by the last item of its turns: a word, or a reply
+-- the answer of a line of the probe, by the last item of its turns: a word, or a reply
 abbrev pub look_text : List Item → Option Item → List ℕ
 look_text items None = []
 look_text items (Some last) = word_text last ++ reply_text items last
 
--- what the lines of the probe print; each has this many turns
+-- the answers of the lines of the probe; each has this many turns
 unfoldable pub looks_text : List ℕ → List Item → List ℕ
 looks_text [] items = []
 looks_text (size ∷ sizes) items = (codes ", \"" ++ (look_text (take size items) (last_item (take size items))
@@ -73,7 +73,7 @@ abbrev pub runs_text : Seen → List ℕ
 runs_text s = codes "\"runs\": " ++ (decimal s.count ++ (codes ", \"found\": [\"free " ++ (decimal s.free.blocks
     ++ (codes " " ++ (decimal s.free.entries ++ codes "\"")))))
 
--- a result after this head: the number of its runs, the free space, and what each line of the probe prints
+-- a result after this head: the number of its runs, the free space, and the answer of each line of the probe
 unfoldable pub result_text : List ℕ → List ℕ → Seen → List ℕ
 result_text looks head s = (head ++ runs_text s) ++ looks_text looks s.trace.items ++ codes "]}\n"
 

@@ -40,7 +40,7 @@ pub record Sweeping {B : Type 0} (facts : B → Facts) (torn : B → ℕ) : Type
   pub part : SweepPart
 
 -- The results of all runs after a cut that left this board, each with the number of its runs. At the end of that count
--- the sweep stops. Each line begins with the head, and shows what each line of the probe prints, by its number of
+-- the sweep stops. Each line begins with the head, and has the answer of each line of the probe, by its number of
 -- turns.
 pub record AreResults (looks head : List ℕ) (depth : ℕ) (probe : List Turn) (board : Facts) (text : List ℕ) : Type 0
   where
@@ -114,7 +114,8 @@ pub record AreWrites {B : Type 0} {facts : B → Facts} {torn : B → ℕ} (swee
   pub text_is : text ≡ each ++ last ++ total_text writes sweeping.depth
 
 -- A device write: the number of words that the board reports after the cut with the first mask, and what the write does
--- to the memory. Cuts with the first mask and the second leave the memories before and after it.
+-- to the memory. Cuts with the first mask and the second leave the memories before and after it. (No clause says which
+-- words of the write a mask makes new.)
 pub record IsDeviceWrite {B : Type 0} {facts : B → Facts} {torn : B → ℕ} (sweeping : Sweeping facts torn) (write : ℕ)
     (it : DeviceWrite) : Type 0 where
   pub before : B

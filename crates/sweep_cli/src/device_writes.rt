@@ -31,7 +31,7 @@ pub enum WriteKind {
     Words,
     /// It is one data word, while no pair counts.
     Alone,
-    /// It fills a free block, while no pair counts.
+    /// It is several data words, while no pair counts.
     Fill,
     /// It changes no word.
     Same,

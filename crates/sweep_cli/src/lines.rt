@@ -105,7 +105,7 @@ fn push_reply(
     }
 }
 
-/// Appends what a line of the probe prints. `items` are those of its turns.
+/// Appends the answer of a line of the probe. `items` are those of its turns.
 fn push_look(alloc: Global, text: &mut String, items: &[Item]) -> Result<(), AllocError>
     ensures { OnOk result (string_bytes text.new ≡ string_bytes text.old ++ look_text items.now (last_item items.now)) }
 {
@@ -116,7 +116,7 @@ fn push_look(alloc: Global, text: &mut String, items: &[Item]) -> Result<(), All
     push_reply(alloc, text, items, last)
 }
 
-/// Appends what each line of the probe prints. `looks` has the number of turns of each.
+/// Appends the answer of each line of the probe. `looks` has the number of turns of each.
 fn push_looks(
     alloc: Global,
     text: &mut String,
