@@ -103,6 +103,7 @@ spends-masked mask lost old new s = record {
   more = s.more;
   cut = keeps-masked mask old new s.cut;
   still = s.still;
+  wrote = record { runs = s.wrote.runs; words = s.wrote.words; log = s.wrote.log; counted = s.wrote.counted };
 }
 
 -- the command that runs is the same
