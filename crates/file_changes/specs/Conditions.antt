@@ -1,6 +1,6 @@
 -- What calls that change a tree of files require.
 use Rattle.std.specs.Prelude.{◌≡◌, ◌≢◌, ◌<◌, ◌≤◌, ℕ, List, length}
-use Rattle.undo_journal.specs.Memory.{Memory, committed, room, IsOpen, IsReady}
+use Rattle.undo_journal.specs.Memory.{Memory, committed, IsReady}
 use Rattle.block_chain.specs.declared.chain.FreeRun.{FreeRun}
 use Rattle.block_chain.specs.ChainChanges.{IsFirstFree}
 use Rattle.block_chain.specs.Chains.{HasFree, free_chain}
@@ -15,11 +15,6 @@ use Rattle.file_tree.specs.Indexes.{IsIndex}
 use Rattle.file_tree.specs.Table.{table, entry_in}
 use Rattle.file_tree.specs.Trees.{tree_of, TreeStands}
 use Rattle.file_lookup.specs.StoredFiles.{HasFile}
-
--- An open transaction has room for n more words.
-pub record HasRoom (m : Memory) (n : ℕ) : Type 0 where
-  pub ready : IsOpen m
-  pub enough : n ≤ room m
 
 -- The number of an entry, and the entry of a file for it.
 pub record IsNewEntry (e : ℕ) (entry : Entry) : Type 0 where

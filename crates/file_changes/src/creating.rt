@@ -11,7 +11,7 @@ ghost use Rattle.card_state.specs.declared.fcp.ShortIdentifier.TheVariants.{Abse
 ghost use Rattle.card_state.specs.FileControl.{IsCreatable};
 ghost use Rattle.block_chain.specs.Chains.{free_chain};
 ghost use Rattle.file_changes.specs.Adding.{AddsByGate};
-ghost use Rattle.file_changes.specs.Conditions.{HasDf, HasFreeBlocks, HasRoom, IsNewEntry, IsSurveyed};
+ghost use Rattle.file_changes.specs.Conditions.{HasDf, HasFreeBlocks, IsNewEntry, IsSurveyed};
 ghost use Rattle.file_tree.specs.Formats.{block_count};
 ghost use Rattle.file_tree.specs.Kinds.{kind_byte};
 ghost use Rattle.file_tree.specs.declared.layout.TheConstants.{CREATE_WRITES, MOST_FILE_BLOCKS};
@@ -26,6 +26,7 @@ ghost use Rattle.file_lookup.specs.StoredFiles.{HasFile, HasTree};
 ghost use Rattle.file_changes.specs.CreationParts.{FindsPlace, AddsFile, FillsAndAdds, FillsOrAdds};
 ghost use Rattle.file_changes.specs.CreationParts.{entry_for, record_length_of_kind, existing_of_kind};
 ghost use Rattle.file_changes.specs.CreationParts.{padded, no_chain, short_option};
+ghost use Rattle.undo_journal.specs.Rooms.{HasRoom};
 
 use crate::placing::{Place, place_for};
 use crate::refusing::taken;

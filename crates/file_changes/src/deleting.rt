@@ -19,9 +19,10 @@ ghost use Rattle.file_tree.specs.TableEnd.{IsTableEnd};
 ghost use Rattle.file_tree.specs.Trees.{tree_of};
 ghost use Rattle.file_tree.specs.TreeChanges.{Deletes, with_freed};
 ghost use Rattle.file_tree.specs.Indexes.{IsIndex};
-ghost use Rattle.file_changes.specs.Conditions.{HasLowerFile, HasRoom};
+ghost use Rattle.file_changes.specs.Conditions.{HasLowerFile};
 ghost use Rattle.file_changes.specs.DeletionParts.{IsPart, IsRemoval, CanGive, FreesEntries, GoesWith, Removes};
 ghost use Rattle.file_changes.specs.DeletionParts.{extents_in, entry_if_gone};
+ghost use Rattle.undo_journal.specs.Rooms.{HasRoom};
 
 use arrayvec::ArrayVec;
 use block_chain::{Chain, Extent};

@@ -7,8 +7,9 @@ ghost use Rattle.undo_journal.specs.Lent.{memory_of};
 ghost use Rattle.undo_journal.specs.StoreCalls.{SetsIn};
 ghost use Rattle.block_chain.specs.BlockWords.{word_bytes};
 ghost use Rattle.file_tree.specs.Entries.{entry_told};
-ghost use Rattle.file_changes.specs.Conditions.{HasRoom, IsNewEntry};
+ghost use Rattle.file_changes.specs.Conditions.{IsNewEntry};
 ghost use Rattle.file_changes.specs.CreationParts.{WritesEntry};
+ghost use Rattle.undo_journal.specs.Rooms.{HasRoom};
 
 use file_tree::{ENTRY_WORDS, Entry, entry_address};
 use undo_journal::{Board, StoreErr, Txn};

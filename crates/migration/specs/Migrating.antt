@@ -1,5 +1,5 @@
 -- The migration from format 1 to format 2: the memory at each exit, and the cost.
-use Rattle.std.specs.Prelude.{◌≡◌, ◌⊎◌, ◌<◌, ◌+◌, ◌-◌, ℕ, List, length}
+use Rattle.std.specs.Prelude.{◌≡◌, ◌⊎◌, ◌<◌, ◌+◌, ◌-◌, ℕ, List, length, ◌≢◌}
 use Rattle.nvm_board.specs.Facts.{pages_of}
 use Rattle.block_chain.specs.BlockWords.{word}
 use Rattle.block_chain.specs.declared.layout.TheConstants.{HEADER_PAGE}
@@ -9,6 +9,7 @@ use Rattle.file_tree.specs.Trees.{tree_of, TreeStands}
 use Rattle.pin_store.specs.declared.layout.TheConstants.{FIRST_PIN_PAGE, PIN_MARK_WORD}
 use Rattle.pin_store.specs.Pages.{KeepsSecrets}
 use Rattle.migration.specs.declared.migrating.TheConstants.{RENAME_WRITES}
+use Rattle.undo_journal.specs.Memory.{Memory, committed, IsReady}
 
 -- The memory has the same files, PINs and state, and each file has the same entry.
 pub record KeepsCard (m after : List ℕ) : Type 0 where
@@ -38,3 +39,9 @@ pub record Migrates (m after : List ℕ) : Type 0 where
 -- The device writes of a migration to `pages` pages: one per new block for its link, and the transaction.
 abbrev pub migration_writes : ℕ → ℕ
 migration_writes pages = pages - OLD_END_PAGE + RENAME_WRITES
+
+-- The store is ready, and its words are a valid tree of files in another format than 2.
+pub record HasOldTree (m : Memory) : Type 0 where
+  pub ready : IsReady m
+  pub tree : TreeStands (committed m)
+  pub old : word (committed m) HEADER_PAGE MARK_WORD ≢ MARK

@@ -3,17 +3,18 @@ ghost use Rattle.std.specs.Prelude.{◌≡◌, ◌≢◌, ◌⊎◌, ◌+◌, �
 ghost use Rattle.std.specs.Result.{result_err};
 ghost use Rattle.nvm_board.specs.Facts.{pages_of};
 ghost use Rattle.undo_journal.specs.Commits.{CommitsByGate};
-ghost use Rattle.undo_journal.specs.Memory.{committed, commit_writes, current, room, CountsCommit, IsIdle};
-ghost use Rattle.undo_journal.specs.Memory.{IsReady, IsOpen};
+ghost use Rattle.undo_journal.specs.Memory.{committed, commit_writes, current, CountsCommit, IsIdle};
+ghost use Rattle.undo_journal.specs.Memory.{IsReady};
 ghost use Rattle.undo_journal.specs.Lent.{memory_of};
 ghost use Rattle.undo_journal.specs.StoreCalls.{Changes, SetsIn};
 ghost use Rattle.block_chain.specs.BlockWords.{word};
 ghost use Rattle.block_chain.specs.declared.layout.TheConstants.{HEADER_PAGE};
 ghost use Rattle.file_tree.specs.declared.layout.TheConstants.{OLD_END_PAGE, MARK, MARK_WORD};
 ghost use Rattle.file_tree.specs.Trees.{TreeStands};
-ghost use Rattle.migration.specs.Migrating.{IsMigrated, Migrates, migration_writes};
+ghost use Rattle.migration.specs.Migrating.{IsMigrated, Migrates, migration_writes, HasOldTree};
 ghost use Rattle.migration.specs.MigratingParts.{FillsFirstBatch, IsRenamed, JoinsFirst, MarksPins, RenamesHeader};
 ghost use Rattle.migration.specs.MigratingParts.{SetsFirst};
+ghost use Rattle.undo_journal.specs.Rooms.{HasRoom};
 
 use block_chain::{FREE_HEAD, HEADER_PAGE};
 use block_store::link_pages;
@@ -26,8 +27,7 @@ pub const RENAME_WRITES: u16 = 15;
 
 /// Sets the mark of each PIN. These are eight sets, which fill a batch.
 fn mark_pins<B: Board>(txn: &mut Txn<'_, B>) -> Result<(), StoreErr>
-    requires ready { IsOpen (memory_of txn.old) }
-    requires room { 8 ≤ room (memory_of txn.old) }
+    requires { HasRoom (memory_of txn.old) 8 }
     ensures done { OnOk result (MarksPins 8 (current (memory_of txn.old)) (current (memory_of txn.new))) }
     ensures store { SetsIn 8 txn.old txn.new (result_err result) }
     ensures fills { OnOk result (IsIdle (memory_of txn.old) → FillsFirstBatch (memory_of txn.old) (memory_of txn.new)) }
@@ -44,8 +44,7 @@ fn mark_pins<B: Board>(txn: &mut Txn<'_, B>) -> Result<(), StoreErr>
 
 /// Sets page 1,024 as the first free block. Without new blocks it sets nothing.
 fn set_first<B: Board>(txn: &mut Txn<'_, B>, end: u16) -> Result<(), StoreErr>
-    requires ready { IsOpen (memory_of txn.old) }
-    requires room { 1 ≤ room (memory_of txn.old) }
+    requires { HasRoom (memory_of txn.old) 1 }
     ensures done { OnOk result (SetsFirst end (current (memory_of txn.old)) (current (memory_of txn.new))) }
     ensures store { SetsIn 1 txn.old txn.new (result_err result) }
     ensures joins { OnOk result (JoinsFirst end (memory_of txn.old) (memory_of txn.new)) }
@@ -60,8 +59,7 @@ fn set_first<B: Board>(txn: &mut Txn<'_, B>, end: u16) -> Result<(), StoreErr>
 
 /// Sets the header. It sets the first free block, if there are new ones, the page where the blocks end, and the mark.
 fn rename_header<B: Board>(txn: &mut Txn<'_, B>, end: u16) -> Result<(), StoreErr>
-    requires ready { IsOpen (memory_of txn.old) }
-    requires room { 3 ≤ room (memory_of txn.old) }
+    requires { HasRoom (memory_of txn.old) 3 }
     ensures done { OnOk result (RenamesHeader end (current (memory_of txn.old)) (current (memory_of txn.new))) }
     ensures store { SetsIn 3 txn.old txn.new (result_err result) }
     ensures counted { OnOk result ((memory_of txn.old).waiting ≡ []
@@ -77,8 +75,7 @@ fn rename_header<B: Board>(txn: &mut Txn<'_, B>, end: u16) -> Result<(), StoreEr
 
 /// Sets the mark of each PIN, then the header.
 fn rename<B: Board>(txn: &mut Txn<'_, B>, end: u16) -> Result<(), StoreErr>
-    requires ready { IsOpen (memory_of txn.old) }
-    requires room { 11 ≤ room (memory_of txn.old) }
+    requires { HasRoom (memory_of txn.old) 11 }
     ensures done { OnOk result (IsRenamed end (current (memory_of txn.old)) (current (memory_of txn.new))) }
     ensures store { SetsIn 11 txn.old txn.new (result_err result) }
     ensures counted { OnOk result (CountsCommit RENAME_WRITES (memory_of txn.old) (memory_of txn.new)) }
@@ -111,9 +108,7 @@ fn become_new<B: Board>(store: &mut Store<B>, end: u16) -> Result<(), StoreErr>
 /// # Errors
 /// The store's failure: power was lost, or the device failed.
 pub fn migrate<B: Board>(store: &mut Store<B>) -> Result<(), StoreErr>
-    requires ready { IsReady store.old }
-    requires tree { TreeStands (committed store.old) }
-    requires old { word (committed store.old) HEADER_PAGE MARK_WORD ≢ MARK }
+    requires { HasOldTree store.old }
     ensures any_exit { Migrates (committed store.old) (committed store.new) }
     ensures done { OnOk result (IsMigrated (committed store.old) (committed store.new)) }
     ensures store { Changes (migration_writes (pages_of (committed store.old))) store.old

@@ -2,11 +2,12 @@
 ghost use Rattle.std.specs.Prelude.{◌≡◌, ◌≤◌, if◌then◌else◌};
 ghost use Rattle.undo_journal.specs.Commits.{CommitsByGate, StaysShut};
 ghost use Rattle.undo_journal.specs.Lent.{memory_of};
-ghost use Rattle.undo_journal.specs.Memory.{room, IsOpen, IsReady};
+ghost use Rattle.undo_journal.specs.Memory.{IsReady};
 ghost use Rattle.card_state.specs.Secrets.{changed_pin, marked_pin, reset_pin, tries_left, verified_pin, with_tries};
 ghost use Rattle.pin_store.specs.PutParts.{PutsIts, SetsIts};
 ghost use Rattle.pin_store.specs.RenewalParts.{renewal_runs, renewal_sets, renewing_writes, renewed_pin};
 ghost use Rattle.pin_store.specs.Trials.{pin_in};
+ghost use Rattle.undo_journal.specs.Rooms.{HasRoom};
 
 use crate::layout::{PIN_MARK_WORD, TRIES, UNBLOCKING_TRIES};
 use crate::secret::Secret;
@@ -27,8 +28,7 @@ pub(crate) enum Renewal<'a> {
 /// Sets the tries of a PIN to 3, and its value. In a transaction, it sets words 0, 2 and 3 of the page, in this
 /// order.
 fn set_value<B: Board>(txn: &mut Txn<'_, B>, secret: Secret, new: &[u8; 8]) -> Result<(), StoreErr>
-    requires ready { IsOpen (memory_of txn.old) }
-    requires room { 3 ≤ room (memory_of txn.old) }
+    requires { HasRoom (memory_of txn.old) 3 }
     ensures { SetsIts 3 2 secret (changed_pin new.now) txn.old txn.new result }
 {
     let [first, second] = words_of(new);
@@ -39,8 +39,7 @@ fn set_value<B: Board>(txn: &mut Txn<'_, B>, secret: Secret, new: &[u8; 8]) -> R
 /// Sets all tries of a PIN, and its value. The tries are 3, the unblocking tries 10. In a transaction, it sets words
 /// 0 to 3 of the page, in this order.
 fn set_all<B: Board>(txn: &mut Txn<'_, B>, secret: Secret, new: &[u8; 8]) -> Result<(), StoreErr>
-    requires ready { IsOpen (memory_of txn.old) }
-    requires room { 4 ≤ room (memory_of txn.old) }
+    requires { HasRoom (memory_of txn.old) 4 }
     ensures { SetsIts 4 1 secret (reset_pin new.now) txn.old txn.new result }
 {
     let [first, second] = words_of(new);
@@ -52,8 +51,7 @@ fn set_all<B: Board>(txn: &mut Txn<'_, B>, secret: Secret, new: &[u8; 8]) -> Res
 
 /// Sets the tries of a PIN to 3, and its mark. In a transaction, it sets words 0 and 6 of the page, in this order.
 fn set_mark<B: Board>(txn: &mut Txn<'_, B>, secret: Secret, enabled: bool) -> Result<(), StoreErr>
-    requires ready { IsOpen (memory_of txn.old) }
-    requires room { 2 ≤ room (memory_of txn.old) }
+    requires { HasRoom (memory_of txn.old) 2 }
     ensures { SetsIts 2 2 secret (marked_pin enabled) txn.old txn.new result }
 {
     txn.set_run(secret.address_of(0), &[u32::from(TRIES)])?;
@@ -94,8 +92,7 @@ fn set_renewed<B: Board>(
     secret: Secret,
     renewal: Renewal<'_>,
 ) -> Result<(), StoreErr>
-    requires ready { IsOpen (memory_of txn.old) }
-    requires room { 4 ≤ room (memory_of txn.old) }
+    requires { HasRoom (memory_of txn.old) 4 }
     ensures { SetsIts (renewal_sets renewal.entry) (renewal_runs renewal.entry) secret (renewed_pin renewal.entry)
         txn.old txn.new result }
 {

@@ -1,8 +1,9 @@
 //! Sets that wait and are written eight together: device writes, counted, and words before or after a cut at each of
 //! them, and at each of those of the opening after it.
 ghost use Rattle.std.specs.Prelude.{◌≤◌, OnOk};
-ghost use Rattle.undo_journal.specs.Memory.{room, IsOpen, IsReady};
+ghost use Rattle.undo_journal.specs.Memory.{IsReady};
 ghost use Rattle.undo_journal.specs.Lent.{memory_of};
+ghost use Rattle.undo_journal.specs.Rooms.{HasRoom};
 
 use crate::endings::{End, MASKS};
 use crate::fixtures::opened;
@@ -20,8 +21,7 @@ const AFTER: [u32; 5] = [3, 2, 9, 1, 8];
 /// Eight of them fill a batch.
 /// Words 5, 2048 to 2050, 2052 and 3000 to 3002 are in the batch; 3003 to 3007 wait.
 fn set_words<B: Board>(txn: &mut Txn<'_, B>) -> Result<(), StoreErr>
-    requires ready { IsOpen (memory_of txn.old) }
-    requires room { 14 ≤ room (memory_of txn.old) }
+    requires { HasRoom (memory_of txn.old) 14 }
 {
     txn.set(5, 1)?;
     txn.set(2052, 9)?;

@@ -1,8 +1,9 @@
 //! The store: the words after a cut at each write, of a change and of the recovery after it; and errors.
 //! `card_vectors` tests which journals are bad.
 ghost use Rattle.std.specs.Prelude.{◌≤◌, OnOk};
-ghost use Rattle.undo_journal.specs.Memory.{room, IsOpen, IsReady};
+ghost use Rattle.undo_journal.specs.Memory.{IsReady};
 ghost use Rattle.undo_journal.specs.Lent.{memory_of};
+ghost use Rattle.undo_journal.specs.Rooms.{HasRoom};
 
 use crate::endings::{End, MASKS};
 use crate::fixtures::{opened, with_words};
@@ -41,8 +42,7 @@ fn found<B: Board>(store: &mut Store<B>) -> Result<[u32; 3], StoreErr>
 
 /// Sets four words, two of them equal, so that three wait. The read before makes no write.
 fn set_words<B: Board>(txn: &mut Txn<'_, B>) -> Result<(), StoreErr>
-    requires ready { IsOpen (memory_of txn.old) }
-    requires room { 4 ≤ room (memory_of txn.old) }
+    requires { HasRoom (memory_of txn.old) 4 }
 {
     txn.read(5)?;
     txn.set(5, 1)?;

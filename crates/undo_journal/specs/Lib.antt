@@ -9,6 +9,7 @@ pub mod Undo
 pub mod Spending
 pub mod Batches
 pub mod Memory
+pub mod Rooms
 pub mod Commits
 pub mod Endings
 pub mod BatchParts

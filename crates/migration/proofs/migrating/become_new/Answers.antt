@@ -9,10 +9,6 @@ use Rattle.migration.specs.declared.migrating.TheConstants.{RENAME_WRITES}
 use Rattle.migration.specs.MigratingParts.{IsRenamed}
 use Rattle.migration.proofs.migrating.become_new.Goals as goal
 
-pub rename-work-requires-clause-ready : goal.rename-work-requires-clause-ready
-rename-work-requires-clause-ready g c =
-    subst (λ (m : Memory). IsOpen m) (sym c.begin-txn.ensures.same) c.requires.ready.usable
-
 pub returns-clause-any_exit : goal.returns-clause-any_exit
 returns-clause-any_exit g c =
     let set = c.rename-work.ensures in
@@ -72,3 +68,9 @@ returns-clause-last g c =
     omega (arith, all, most, first, ended)))
     c.end.ensures.last)
     c.end.ensures.any_exit
+
+pub rename-work-requires : goal.rename-work-requires
+rename-work-requires g c = record {
+  ready = subst (λ (m : Memory). IsOpen m) (sym c.begin-txn.ensures.same) c.requires.ready.usable;
+  enough = omega (arith, c.begin-txn.ensures.room);
+}

@@ -20,3 +20,15 @@ returns-clause-done g c =
     on_ok_weaker c.rename_header.result
     (λ header. both_renamed c.args.end (current (memory_of c.args.txn.now)) (current (memory_of c.mark_pins.new.txn)) _
     c.in_ok-mark_pins.ensures.done header) c.rename_header.ensures.done
+
+pub mark_pins-requires : goal.mark_pins-requires
+mark_pins-requires g c = record {
+  ready = c.requires.ready;
+  enough = omega (arith, c.requires.enough);
+}
+
+pub rename_header-requires : goal.rename_header-requires
+rename_header-requires g c = record {
+  ready = c.in_ok-mark_pins.ensures.store.ready;
+  enough = let left = c.mark_pins.ensures.store.sets.room in omega (arith, left, c.requires.enough);
+}

@@ -61,3 +61,9 @@ returns-clause-spends g c = λ none.
     (pages_wait c.from.result (memory_of c.args.txn.now) first paged
     (first_waits c.args.end _ first none c.in_ok-set_first.ensures.joins)
     c.in_ok-set.ensures.joins) c.set-2.ensures.spends
+
+pub set_first-requires : goal.set_first-requires
+set_first-requires g c = record {
+  ready = c.requires.ready;
+  enough = omega (arith, c.requires.enough);
+}

@@ -8,13 +8,6 @@ use Rattle.pin_store.specs.Pages.{pin_at, SetsPin}
 use Rattle.pin_store.specs.laws.AllPins.{renewed_pages}
 use Rattle.pin_store.proofs.putting.put_renewed.Goals as goal
 
-pub set_renewed-work-requires-clause-ready : goal.set_renewed-work-requires-clause-ready
-set_renewed-work-requires-clause-ready g c =
-    subst (λ (m : Memory). IsOpen m) (sym c.begin-txn.ensures.same) c.requires.ready.usable
-
-pub set_renewed-work-requires-clause-room : goal.set_renewed-work-requires-clause-room
-set_renewed-work-requires-clause-room g c = omega (arith, c.begin-txn.ensures.room)
-
 pub returns : goal.returns
 returns g c =
     let set = c.set_renewed-work.ensures in
@@ -40,3 +33,9 @@ returns g c =
           (memory_of c.set_renewed-work.new.txn) _ _ c.begin-txn.ensures.same last c.requires.ready set.counted
           c.end.ensures.answered c.end.ensures.counted;
     }
+
+pub set_renewed-work-requires : goal.set_renewed-work-requires
+set_renewed-work-requires g c = record {
+  ready = subst (λ (m : Memory). IsOpen m) (sym c.begin-txn.ensures.same) c.requires.ready.usable;
+  enough = omega (arith, c.begin-txn.ensures.room);
+}
