@@ -4,19 +4,20 @@ ghost use Rattle.std.specs.Prelude.{slice_index, ◌%◌, ◌==◌, if◌then◌
 ghost use Rattle.undo_journal.specs.Undo.{IsDataAddress};
 ghost use Rattle.std.specs.Result.{result_err};
 ghost use Rattle.block_chain.specs.ChainChanges.{touched_blocks, touched_words, IsFirstFree, OnlyContent, Overwrites};
-ghost use Rattle.undo_journal.specs.Memory.{committed, current, room, CountsCommit, EndsAt, ContinuesRun, InRuns};
-ghost use Rattle.undo_journal.specs.Memory.{IsIdle, IsOpen, IsReady};
-ghost use Rattle.block_chain.specs.declared.layout.TheConstants.{BLOCK_BYTES, BLOCK_WORDS, FILE_BYTES};
+ghost use Rattle.undo_journal.specs.Memory.{committed, current, CountsCommit, EndsAt, ContinuesRun, InRuns};
+ghost use Rattle.undo_journal.specs.Memory.{IsIdle, IsOpen};
+ghost use Rattle.block_chain.specs.declared.layout.TheConstants.{BLOCK_BYTES, BLOCK_WORDS};
 ghost use Rattle.undo_journal.specs.StoreCalls.{Changes, ReadsIn, SetsIn};
-ghost use Rattle.block_chain.specs.Chains.{free_chain, bytes_of, IsChain, chain_of, HasFree};
+ghost use Rattle.block_chain.specs.Chains.{free_chain, bytes_of, chain_of};
 ghost use Rattle.block_chain.specs.ChainParts.{byte_over, PutsWord};
 ghost use Rattle.block_store.specs.JoinParts.{JoinsAt};
 ghost use Rattle.block_chain.specs.BlockWords.{link, word_bytes, IsBlock};
 ghost use Rattle.block_store.specs.Writes.{put_writes, WaitInBlocks};
 ghost use Rattle.nvm_board.specs.Facts.{address};
-ghost use Rattle.nvm_board.specs.declared.board.TheConstants.{MOST_PAGES};
 ghost use Rattle.nvm_board.specs.Torn.{Torn, written};
 ghost use Rattle.undo_journal.specs.Lent.{memory_of};
+ghost use Rattle.undo_journal.specs.Rooms.{HasRoom};
+ghost use Rattle.block_store.specs.StoredBlocks.{HasBlock, HasOpenLink, LieIn, OffersBlocks};
 
 use crate::words::{next, read_head, read_link, walk};
 use block_chain::{BLOCK_BYTES, BLOCK_WORDS, Chain, FreeRun, WORD_BYTES};
@@ -101,10 +102,9 @@ fn put_word<B: Board>(
     offset: u16,
     bytes: &[u8],
 ) -> Result<(), StoreErr>
-    requires ready { IsOpen (memory_of txn.old) }
+    requires room { HasRoom (memory_of txn.old) 1 }
     requires block { IsBlock (current (memory_of txn.old)) page }
     requires small { 4 * k + 3 < 65536 }
-    requires room { 0 < room (memory_of txn.old) }
     ensures done { OnOk result (PutsWord (current (memory_of txn.old)) page k offset bytes.now
         (current (memory_of txn.new))) }
     ensures store { SetsIn 1 txn.old txn.new (result_err result) }
@@ -121,9 +121,7 @@ fn put_word<B: Board>(
 /// Returns the block of word k, by that of the word before. A block ends before word k if k is a multiple of
 /// `BLOCK_WORDS`.
 fn block_of_word<B: Board>(txn: &mut Txn<'_, B>, page: u16, k: u16) -> Result<u16, StoreErr>
-    requires ready { IsOpen (memory_of txn.old) }
-    requires block { IsBlock (current (memory_of txn.old)) page }
-    requires small { link (current (memory_of txn.old)) page < MOST_PAGES }
+    requires { HasOpenLink (memory_of txn.old) page }
     ensures page { IfOk result (λ after. after
         ≡ (if k % BLOCK_WORDS == 0 then link (current (memory_of txn.old)) page else page)) }
     ensures store { ReadsIn txn.old txn.new (result_err result) }
@@ -146,11 +144,8 @@ pub fn set_bytes<B: Board>(
     offset: u16,
     bytes: &[u8],
 ) -> Result<(), StoreErr>
-    requires ready { IsOpen (memory_of txn.old) }
-    requires chain { IsChain (current (memory_of txn.old)) chain.first (chain_of (current (memory_of txn.old)) chain) }
-    requires within { offset + length bytes.now ≤ BLOCK_BYTES * length (chain_of (current (memory_of txn.old)) chain) }
-    requires small { offset + length bytes.now ≤ FILE_BYTES }
-    requires room { touched_words offset (length bytes.now) ≤ room (memory_of txn.old) }
+    requires room { HasRoom (memory_of txn.old) (touched_words offset (length bytes.now)) }
+    requires lie { LieIn (current (memory_of txn.old)) chain offset (length bytes.now) }
     ensures done { OnOk result (Overwrites (current (memory_of txn.old))
         (chain_of (current (memory_of txn.old)) chain) offset bytes.now (current (memory_of txn.new))) }
     ensures store { SetsIn (touched_words offset (length bytes.now)) txn.old txn.new (result_err result) }
@@ -182,8 +177,7 @@ fn fill_block<B: Board>(
     page: u16,
     words: &[u32; BLOCK_WORDS as usize],
 ) -> Result<(), StoreErr>
-    requires ready { IsReady store.old }
-    requires block { IsBlock (committed store.old) page }
+    requires { HasBlock store.old page }
     ensures any_exit { Torn (committed store.old) (address page 1) words.now (committed store.new) }
     ensures done { OnOk result (committed store.new ≡ written (committed store.old) (address page 1) words.now) }
     ensures store { Changes 1 store.old store.new (result_err result) }
@@ -200,9 +194,7 @@ fn fill_block<B: Board>(
 // It isn't inlined: the loop keeps its values in registers that way.
 #[inline(never)]
 pub fn fill<B: Board>(store: &mut Store<B>, n: u16, byte: u8) -> Result<FreeRun, StoreErr>
-    requires ready { IsReady store.old }
-    requires free { HasFree (committed store.old) }
-    requires enough { n ≤ length (free_chain (committed store.old)) }
+    requires { OffersBlocks store.old n }
     ensures found { IfOk result (λ run. 1 ≤ n → IsFirstFree (committed store.old) n run) }
     ensures any_exit { OnlyContent (committed store.old)
         (take n (free_chain (committed store.old))) (committed store.new) }

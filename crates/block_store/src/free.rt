@@ -1,12 +1,14 @@
 //! The free blocks.
 ghost use Rattle.std.specs.Prelude.{◌≡◌, ◌+◌, ◌*◌, ◌<◌, ◌≤◌, IfOk, OnOk, length};
 ghost use Rattle.std.specs.Result.{result_err};
-ghost use Rattle.undo_journal.specs.Memory.{committed, current, room, IsReady, IsOpen};
+ghost use Rattle.undo_journal.specs.Memory.{committed, current};
 ghost use Rattle.undo_journal.specs.Lent.{memory_of};
 ghost use Rattle.undo_journal.specs.StoreCalls.{Reads, SetsIn};
 ghost use Rattle.block_chain.specs.Chains.{free_chain, HasFree, AreApart};
-ghost use Rattle.block_chain.specs.ChainChanges.{Takes, GivesBack, IsFirstFree};
+ghost use Rattle.block_chain.specs.ChainChanges.{Takes, GivesBack};
 ghost use Rattle.block_chain.specs.ChainParts.{first_block, joined_chains};
+ghost use Rattle.undo_journal.specs.Rooms.{HasRoom};
+ghost use Rattle.block_store.specs.StoredBlocks.{HasFreeChain, HasFreeRun};
 
 use crate::words::{head, read_head, read_link};
 use block_chain::{Chain, FREE_HEAD, FreeRun};
@@ -17,8 +19,7 @@ use undo_journal::{Board, PAGE_WORDS, Store, StoreErr, Txn};
 /// # Errors
 /// The store's failure: power was lost, or the device failed.
 pub fn free_count<B: Board>(store: &mut Store<B>) -> Result<u16, StoreErr>
-    requires ready { IsReady store.old }
-    requires free { HasFree (committed store.old) }
+    requires { HasFreeChain store.old }
     ensures count { IfOk result (λ count. count ≡ length (free_chain (committed store.old))) }
     ensures store { Reads store.old store.new (result_err result) }
 {
@@ -36,12 +37,8 @@ pub fn free_count<B: Board>(store: &mut Store<B>) -> Result<u16, StoreErr>
 /// # Errors
 /// The store's failure: power was lost, or the device failed.
 pub fn take<B: Board>(txn: &mut Txn<'_, B>, n: u16, run: FreeRun) -> Result<(), StoreErr>
-    requires ready { IsOpen (memory_of txn.old) }
-    requires free { HasFree (current (memory_of txn.old)) }
-    requires some { 1 ≤ n }
-    requires enough { n ≤ length (free_chain (current (memory_of txn.old))) }
-    requires first { IsFirstFree (current (memory_of txn.old)) n run }
-    requires room { 2 ≤ room (memory_of txn.old) }
+    requires room { HasRoom (memory_of txn.old) 2 }
+    requires blocks { HasFreeRun (current (memory_of txn.old)) n run }
     ensures done { OnOk result (Takes (current (memory_of txn.old)) n run.chain (current (memory_of txn.new))) }
     ensures store { SetsIn 2 txn.old txn.new (result_err result) }
 {
@@ -55,10 +52,9 @@ pub fn take<B: Board>(txn: &mut Txn<'_, B>, n: u16, run: FreeRun) -> Result<(), 
 /// # Errors
 /// The store's failure: power was lost, or the device failed.
 pub fn give_back<B: Board>(txn: &mut Txn<'_, B>, chains: &[Chain]) -> Result<(), StoreErr>
-    requires ready { IsOpen (memory_of txn.old) }
+    requires room { HasRoom (memory_of txn.old) (length chains.now + 1) }
     requires free { HasFree (current (memory_of txn.old)) }
     requires apart { AreApart (current (memory_of txn.old)) chains.now }
-    requires room { length chains.now + 1 ≤ room (memory_of txn.old) }
     ensures done { OnOk result (GivesBack (current (memory_of txn.old)) chains.now (current (memory_of txn.new))) }
     ensures store { SetsIn (length chains.now + 1) txn.old txn.new (result_err result) }
     ensures none { length chains.now ≡ 0 → memory_of txn.new ≡ memory_of txn.old }
@@ -72,10 +68,9 @@ pub fn give_back<B: Board>(txn: &mut Txn<'_, B>, chains: &[Chain]) -> Result<(),
 
 /// Joins chains to the free one, and returns its new first block.
 fn join<B: Board>(txn: &mut Txn<'_, B>, chains: &[Chain]) -> Result<u16, StoreErr>
-    requires ready { IsOpen (memory_of txn.old) }
+    requires room { HasRoom (memory_of txn.old) (length chains.now) }
     requires free { HasFree (current (memory_of txn.old)) }
     requires apart { AreApart (current (memory_of txn.old)) chains.now }
-    requires room { length chains.now ≤ room (memory_of txn.old) }
     ensures page { IfOk result (λ page. page ≡ first_block (current (memory_of txn.old)) chains.now) }
     ensures done { OnOk result (current (memory_of txn.new) ≡ joined_chains (current (memory_of txn.old)) chains.now) }
     ensures store { SetsIn (length chains.now) txn.old txn.new (result_err result) }

@@ -1,11 +1,10 @@
 //! Linking pages after the blocks of a memory, so that they can become blocks.
 ghost use Rattle.std.specs.Prelude.{◌≡◌, ◌==◌, ◌+◌, ◌-◌, ◌<◌, ◌≤◌, if◌then◌else◌, OnOk};
 ghost use Rattle.std.specs.Result.{result_err};
-ghost use Rattle.nvm_board.specs.Facts.{pages_of};
-ghost use Rattle.undo_journal.specs.Memory.{committed, IsReady};
+ghost use Rattle.undo_journal.specs.Memory.{committed};
 ghost use Rattle.undo_journal.specs.StoreCalls.{Changes};
-ghost use Rattle.block_chain.specs.declared.layout.TheConstants.{FIRST_BLOCK_PAGE};
 ghost use Rattle.block_chain.specs.ChainChanges.{LinksAlone, LinksFirst, AreLinked};
+ghost use Rattle.block_store.specs.StoredBlocks.{HasPages};
 
 use undo_journal::{Board, Store, StoreErr};
 
@@ -28,10 +27,7 @@ pub fn link_pages<B: Board>(
     end: u16,
     rest: u16,
 ) -> Result<(), StoreErr>
-    requires ready { IsReady store.old }
-    requires blocks { FIRST_BLOCK_PAGE ≤ first }
-    requires order { first ≤ end }
-    requires inside { end ≤ pages_of (committed store.old) }
+    requires { HasPages store.old first end }
     ensures any_exit { LinksAlone first end (committed store.old) (committed store.new) }
     ensures ascending { LinksFirst first end rest (committed store.old) (committed store.new) }
     ensures done { OnOk result (AreLinked first end rest (committed store.new)) }

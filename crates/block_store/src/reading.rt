@@ -3,13 +3,13 @@ ghost use Rattle.std.specs.Prelude.{◌≡◌, ◌+◌, ◌-◌, ◌*◌, ◌/�
 ghost use Rattle.std.specs.Prelude.{slice_index, ◌==◌, if◌then◌else◌};
 ghost use Rattle.std.specs.Result.{result_err};
 ghost use Rattle.arrayvec.specs.ArrayVec.{array_vec_len};
-ghost use Rattle.nvm_board.specs.declared.board.TheConstants.{MOST_PAGES};
-ghost use Rattle.undo_journal.specs.Memory.{committed, IsReady};
+ghost use Rattle.undo_journal.specs.Memory.{committed};
 ghost use Rattle.undo_journal.specs.StoreCalls.{Reads};
 ghost use Rattle.block_chain.specs.declared.layout.TheConstants.{BLOCK_BYTES, BLOCK_WORDS, FILE_BYTES};
-ghost use Rattle.block_chain.specs.BlockWords.{link, word, word_bytes, IsBlock};
-ghost use Rattle.block_chain.specs.Chains.{Leads, chain, chain_bytes, chain_of};
+ghost use Rattle.block_chain.specs.BlockWords.{link, word, word_bytes};
+ghost use Rattle.block_chain.specs.Chains.{chain, chain_bytes, chain_of};
 ghost use Rattle.block_chain.specs.ChainChanges.{AppendsSome};
+ghost use Rattle.block_store.specs.StoredBlocks.{HasBlock, HasChain, HasLink};
 
 use crate::words::read_link;
 use arrayvec::ArrayVec;
@@ -29,8 +29,7 @@ fn byte_of(word: u32, place: u16) -> u8
 /// # Errors
 /// The store's failure: power was lost, or the device failed.
 pub fn block_at<B: Board>(store: &mut Store<B>, first: u16, k: u16) -> Result<u16, StoreErr>
-    requires ready { IsReady store.old }
-    requires leads { Leads (committed store.old) first (chain (committed store.old) first) 0 }
+    requires chain { HasChain store.old first }
     requires within { k < length (chain (committed store.old) first) }
     ensures page { IfOk result (λ page. page ≡ slice_index (chain (committed store.old) first) k) }
     ensures store { Reads store.old store.new (result_err result) }
@@ -44,8 +43,7 @@ pub fn block_at<B: Board>(store: &mut Store<B>, first: u16, k: u16) -> Result<u1
 
 /// The content word at a place of a block.
 fn read_word<B: Board>(store: &mut Store<B>, page: u16, place: u16) -> Result<u32, StoreErr>
-    requires ready { IsReady store.old }
-    requires block { IsBlock (committed store.old) page }
+    requires block { HasBlock store.old page }
     requires place { place < BLOCK_WORDS }
     ensures word { IfOk result (λ read. read ≡ word (committed store.old) page (1 + place)) }
     ensures store { Reads store.old store.new (result_err result) }
@@ -65,8 +63,7 @@ fn place_of_byte(offset: u16) -> u16
 /// # Errors
 /// The store's failure: power was lost, or the device failed.
 pub fn byte_at<B: Board>(store: &mut Store<B>, chain: Chain, offset: u16) -> Result<u8, StoreErr>
-    requires ready { IsReady store.old }
-    requires leads { Leads (committed store.old) chain.first (chain_of (committed store.old) chain) 0 }
+    requires chain { HasChain store.old chain.first }
     requires within { offset < BLOCK_BYTES * length (chain_of (committed store.old) chain) }
     ensures byte { IfOk result (λ byte. byte ≡ slice_index (chain_bytes (committed store.old) chain) offset) }
     ensures store { Reads store.old store.new (result_err result) }
@@ -149,9 +146,7 @@ fn block_of_byte<B: Board>(
     place: u16,
     at: u16,
 ) -> Result<u16, StoreErr>
-    requires ready { IsReady store.old }
-    requires block { IsBlock (committed store.old) page }
-    requires small { link (committed store.old) page < MOST_PAGES }
+    requires link { HasLink store.old page }
     requires place { place ≡ at / 4 % BLOCK_WORDS }
     ensures page { IfOk result (λ next. next
         ≡ (if at % BLOCK_BYTES == 0 then link (committed store.old) page else page)) }
@@ -176,8 +171,7 @@ pub fn read_bytes<B: Board, const N: usize>(
     count: u16,
     out: &mut ArrayVec<u8, N>,
 ) -> Result<(), StoreErr>
-    requires ready { IsReady store.old }
-    requires leads { Leads (committed store.old) chain.first (chain_of (committed store.old) chain) 0 }
+    requires chain { HasChain store.old chain.first }
     requires within { offset + count ≤ BLOCK_BYTES * length (chain_of (committed store.old) chain) }
     requires small { offset + count ≤ FILE_BYTES }
     requires room { array_vec_len out.old + count ≤ N }

@@ -1,21 +1,20 @@
 //! Links of blocks, read from a store or in a transaction.
 ghost use Rattle.std.specs.Prelude.{◌≡◌, ◌*◌, ◌<◌, length, IfOk, slice_index};
 ghost use Rattle.std.specs.Result.{result_err};
-ghost use Rattle.nvm_board.specs.declared.board.TheConstants.{MOST_PAGES};
-ghost use Rattle.undo_journal.specs.Memory.{committed, current, IsReady, IsOpen};
+ghost use Rattle.undo_journal.specs.Memory.{committed, current};
 ghost use Rattle.undo_journal.specs.Lent.{memory_of};
 ghost use Rattle.undo_journal.specs.StoreCalls.{Reads, ReadsIn};
-ghost use Rattle.block_chain.specs.Chains.{Leads, chain};
-ghost use Rattle.block_chain.specs.BlockWords.{link, IsBlock};
+ghost use Rattle.block_chain.specs.Chains.{chain};
+ghost use Rattle.block_chain.specs.BlockWords.{link};
 ghost use Rattle.block_chain.specs.declared.layout.TheConstants.{FREE_HEAD};
+ghost use Rattle.block_store.specs.StoredBlocks.{HasFreeHead, HasLink, HasOpenChain, HasOpenFreeHead, HasOpenLink};
 
 use block_chain::FREE_HEAD;
 use undo_journal::{Board, PAGE_WORDS, Store, StoreErr, Txn};
 
 /// Returns the page of the first free block, or 0.
 pub(crate) fn read_head<B: Board>(store: &mut Store<B>) -> Result<u16, StoreErr>
-    requires ready { IsReady store.old }
-    requires small { slice_index (committed store.old) FREE_HEAD < MOST_PAGES }
+    requires { HasFreeHead store.old }
     ensures page { IfOk result (λ page. page ≡ slice_index (committed store.old) FREE_HEAD) }
     ensures store { Reads store.old store.new (result_err result) }
 {
@@ -25,9 +24,7 @@ pub(crate) fn read_head<B: Board>(store: &mut Store<B>) -> Result<u16, StoreErr>
 
 /// Returns the page of the next block in the chain, or 0.
 pub(crate) fn read_link<B: Board>(store: &mut Store<B>, page: u16) -> Result<u16, StoreErr>
-    requires ready { IsReady store.old }
-    requires block { IsBlock (committed store.old) page }
-    requires small { link (committed store.old) page < MOST_PAGES }
+    requires { HasLink store.old page }
     ensures page { IfOk result (λ next. next ≡ link (committed store.old) page) }
     ensures store { Reads store.old store.new (result_err result) }
 {
@@ -37,8 +34,7 @@ pub(crate) fn read_link<B: Board>(store: &mut Store<B>, page: u16) -> Result<u16
 
 /// Returns the page of the first free block, or 0.
 pub(crate) fn head<B: Board>(txn: &mut Txn<'_, B>) -> Result<u16, StoreErr>
-    requires ready { IsOpen (memory_of txn.old) }
-    requires small { slice_index (current (memory_of txn.old)) FREE_HEAD < MOST_PAGES }
+    requires { HasOpenFreeHead (memory_of txn.old) }
     ensures page { IfOk result (λ page. page ≡ slice_index (current (memory_of txn.old)) FREE_HEAD) }
     ensures store { ReadsIn txn.old txn.new (result_err result) }
 {
@@ -48,9 +44,7 @@ pub(crate) fn head<B: Board>(txn: &mut Txn<'_, B>) -> Result<u16, StoreErr>
 
 /// Returns the page of the next block in the chain, or 0.
 pub(crate) fn next<B: Board>(txn: &mut Txn<'_, B>, page: u16) -> Result<u16, StoreErr>
-    requires ready { IsOpen (memory_of txn.old) }
-    requires block { IsBlock (current (memory_of txn.old)) page }
-    requires small { link (current (memory_of txn.old)) page < MOST_PAGES }
+    requires { HasOpenLink (memory_of txn.old) page }
     ensures page { IfOk result (λ next. next ≡ link (current (memory_of txn.old)) page) }
     ensures store { ReadsIn txn.old txn.new (result_err result) }
 {
@@ -60,8 +54,7 @@ pub(crate) fn next<B: Board>(txn: &mut Txn<'_, B>, page: u16) -> Result<u16, Sto
 
 /// Returns block k of a chain, by its first block.
 pub(crate) fn walk<B: Board>(txn: &mut Txn<'_, B>, first: u16, k: u16) -> Result<u16, StoreErr>
-    requires ready { IsOpen (memory_of txn.old) }
-    requires leads { Leads (current (memory_of txn.old)) first (chain (current (memory_of txn.old)) first) 0 }
+    requires chain { HasOpenChain (memory_of txn.old) first }
     requires within { k < length (chain (current (memory_of txn.old)) first) }
     ensures page { IfOk result (λ page. page ≡ slice_index (chain (current (memory_of txn.old)) first) k) }
     ensures store { ReadsIn txn.old txn.new (result_err result) }

@@ -11,9 +11,6 @@ use Rattle.undo_journal.specs.laws.Exits.{none_ok}
 use Rattle.undo_journal.specs.laws.Told.{changes_handed, changes_on, changes_within, reads_after, reads_change}
 use Rattle.block_store.proofs.bytes.fill.Goals as goal
 
-pub read_head-requires-clause-small : goal.read_head-requires-clause-small
-read_head-requires-clause-small g c = head_small _ _ _ c.requires.ready.usable.committed_size c.requires.free.leads
-
 pub loop-i-init : goal.loop-i-init
 loop-i-init g c =
     let m = committed c.args.store.now in
@@ -28,13 +25,6 @@ loop-i-init g c =
       counted = (let none = c.read_head.ensures.store.only.board.writes in omega (arith, none));
     }
 
-pub fill_block-requires-clause-block : goal.fill_block-requires-clause-block
-fill_block-requires-clause-block g c =
-    let m = committed c.args.store.now in
-    let lt : c.loop-i._i < c.args.n = omega (arith, c.loop-i-test.true) in
-    block_to_fill m c.args.n c.requires.free c.requires.ready.usable.committed_size c.requires.enough c.loop-i._i
-    c.loop-i.page lt c.loop-i.invariant.page (committed c.loop-i.store) c.loop-i.invariant.only.size
-
 pub returns-in_err-fill_block-clause-any_exit : goal.returns-in_err-fill_block-clause-any_exit
 returns-in_err-fill_block-clause-any_exit g c =
     let m = committed c.args.store.now in
@@ -44,28 +34,6 @@ returns-in_err-fill_block-clause-any_exit g c =
     (committed c.loop-i.store) (committed c.fill_block.new.store) c.from_be_bytes-word.result
     c.loop-i.invariant.changes.ready.usable.committed_size c.loop-i.invariant.only c.fill_block.ensures.any_exit in
     only
-
-pub read_link-requires-clause-block : goal.read_link-requires-clause-block
-read_link-requires-clause-block g c =
-    let m = committed c.args.store.now in
-    let lt : c.loop-i._i < c.args.n = omega (arith, c.loop-i-test.true) in
-    let only = only_filled m c.args.n c.requires.free
-    c.requires.ready.usable.committed_size c.requires.enough c.loop-i._i c.loop-i.page lt c.loop-i.invariant.page
-    (committed c.loop-i.store) (committed c.fill_block.new.store) c.from_be_bytes-word.result
-    c.loop-i.invariant.changes.ready.usable.committed_size c.loop-i.invariant.only c.fill_block.ensures.any_exit in
-    block_to_fill m c.args.n c.requires.free c.requires.ready.usable.committed_size c.requires.enough c.loop-i._i
-    c.loop-i.page lt c.loop-i.invariant.page (committed c.fill_block.new.store) only.size
-
-pub read_link-requires-clause-small : goal.read_link-requires-clause-small
-read_link-requires-clause-small g c =
-    let m = committed c.args.store.now in
-    let lt : c.loop-i._i < c.args.n = omega (arith, c.loop-i-test.true) in
-    let only = only_filled m c.args.n c.requires.free
-    c.requires.ready.usable.committed_size c.requires.enough c.loop-i._i c.loop-i.page lt c.loop-i.invariant.page
-    (committed c.loop-i.store) (committed c.fill_block.new.store) c.from_be_bytes-word.result
-    c.loop-i.invariant.changes.ready.usable.committed_size c.loop-i.invariant.only c.fill_block.ensures.any_exit in
-    next_small m c.args.n c.requires.free c.requires.ready.usable.committed_size c.requires.enough c.loop-i._i
-    c.loop-i.page lt c.loop-i.invariant.page _ only
 
 pub returns-in_err-page-clause-any_exit : goal.returns-in_err-page-clause-any_exit
 returns-in_err-page-clause-any_exit g c =
@@ -199,3 +167,39 @@ returns-clause-counted g c =
 
 pub returns-clause-store : goal.returns-clause-store
 returns-clause-store g c = changes_within c.loop-i._i _ _ _ _ c.loop-i.invariant.in_range c.loop-i.invariant.changes
+
+pub read_head-requires : goal.read_head-requires
+read_head-requires g c = record {
+  ready = c.requires.ready;
+  small = head_small _ _ _ c.requires.ready.usable.committed_size c.requires.free.leads;
+}
+
+pub fill_block-requires : goal.fill_block-requires
+fill_block-requires g c = record {
+  ready = c.loop-i.invariant.changes.ready;
+  block = let m = committed c.args.store.now in
+      let lt : c.loop-i._i < c.args.n = omega (arith, c.loop-i-test.true) in
+      block_to_fill m c.args.n c.requires.free c.requires.ready.usable.committed_size c.requires.enough c.loop-i._i
+      c.loop-i.page lt c.loop-i.invariant.page (committed c.loop-i.store) c.loop-i.invariant.only.size;
+}
+
+pub read_link-requires : goal.read_link-requires
+read_link-requires g c = record {
+  ready = c.in_ok-fill_block.ensures.store.ready;
+  block = let m = committed c.args.store.now in
+      let lt : c.loop-i._i < c.args.n = omega (arith, c.loop-i-test.true) in
+      let only = only_filled m c.args.n c.requires.free
+      c.requires.ready.usable.committed_size c.requires.enough c.loop-i._i c.loop-i.page lt c.loop-i.invariant.page
+      (committed c.loop-i.store) (committed c.fill_block.new.store) c.from_be_bytes-word.result
+      c.loop-i.invariant.changes.ready.usable.committed_size c.loop-i.invariant.only c.fill_block.ensures.any_exit in
+      block_to_fill m c.args.n c.requires.free c.requires.ready.usable.committed_size c.requires.enough c.loop-i._i
+      c.loop-i.page lt c.loop-i.invariant.page (committed c.fill_block.new.store) only.size;
+  small = let m = committed c.args.store.now in
+      let lt : c.loop-i._i < c.args.n = omega (arith, c.loop-i-test.true) in
+      let only = only_filled m c.args.n c.requires.free
+      c.requires.ready.usable.committed_size c.requires.enough c.loop-i._i c.loop-i.page lt c.loop-i.invariant.page
+      (committed c.loop-i.store) (committed c.fill_block.new.store) c.from_be_bytes-word.result
+      c.loop-i.invariant.changes.ready.usable.committed_size c.loop-i.invariant.only c.fill_block.ensures.any_exit in
+      next_small m c.args.n c.requires.free c.requires.ready.usable.committed_size c.requires.enough c.loop-i._i
+      c.loop-i.page lt c.loop-i.invariant.page _ only;
+}

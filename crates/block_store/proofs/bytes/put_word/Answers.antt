@@ -17,12 +17,12 @@ use Rattle.block_chain.specs.declared.layout.TheConstants.{BLOCK_WORDS}
 
 pub new_word-requires-clause-place : goal.new_word-requires-clause-place
 new_word-requires-clause-place g c =
-    let block = c.requires.block in let size = c.requires.ready.current_size in
+    let block = c.requires.block in let size = c.requires.room.ready.current_size in
     (inr (omega (arith, block.0)), omega (arith, block.1, size))
 
 pub set-requires-clause-place : goal.set-requires-clause-place
 set-requires-clause-place g c =
-    let block = c.requires.block in let size = c.requires.ready.current_size in
+    let block = c.requires.block in let size = c.requires.room.ready.current_size in
     let same = ap (λ (l : List ℕ). length l) c.new_word.ensures.store.only.reads.keeps.current_words in
     (inr (omega (arith, block.0)), omega (arith, block.1, size, same))
 

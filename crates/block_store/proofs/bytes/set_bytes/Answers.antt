@@ -48,7 +48,8 @@ loop-k-init g c =
           c.walk.ensures.store.only.reads idle;
       put = put_first m (chain_of m c.args.chain) _
           c.args.offset
-          c.args.bytes.now c.requires.chain c.requires.within c.requires.small c.requires.ready.current_size
+          c.args.bytes.now c.requires.lie.chain c.requires.lie.within c.requires.lie.small
+          c.requires.room.ready.current_size
           _ _ some c.in_ok-page.ensures.page c.walk.ensures.store.only.reads.keeps.current_words;
     }
 
@@ -57,21 +58,20 @@ loop-k-init g c =
 pub put_word-requires-clause-block : goal.put_word-requires-clause-block
 put_word-requires-clause-block g c =
     let m = current (memory_of c.args.txn.now) in
-    word_block m (chain_of m c.args.chain) _ c.args.offset c.args.bytes.now c.requires.chain c.requires.within
-    c.requires.small c.requires.ready.current_size _ _ _ c.loop-k.invariant.put (omega (arith, c.loop-k-test.true))
+    word_block m (chain_of m c.args.chain) _ c.args.offset c.args.bytes.now c.requires.lie.chain c.requires.lie.within
+    c.requires.lie.small c.requires.room.ready.current_size _ _ _ c.loop-k.invariant.put (omega (
+      arith,
+      c.loop-k-test.true,
+    ))
 
 pub put_word-requires-clause-small : goal.put_word-requires-clause-small
 put_word-requires-clause-small g c =
     let m = current (memory_of c.args.txn.now) in
-    word_small m (chain_of m c.args.chain) _ c.args.offset c.args.bytes.now c.requires.chain c.requires.within
-    c.requires.small c.requires.ready.current_size _ _ _ c.loop-k.invariant.put (omega (arith, c.loop-k-test.true))
-
-pub put_word-requires-clause-room : goal.put_word-requires-clause-room
-put_word-requires-clause-room g c =
-    let m = current (memory_of c.args.txn.now) in
-    let fits = word_fits m (chain_of m c.args.chain) _ c.args.offset c.args.bytes.now c.requires.chain c.requires.within
-    c.requires.small c.requires.ready.current_size _ _ _ c.loop-k.invariant.put (omega (arith, c.loop-k-test.true)) in
-    omega (arith, fits, c.loop-k.invariant.sets.room, c.requires.room)
+    word_small m (chain_of m c.args.chain) _ c.args.offset c.args.bytes.now c.requires.lie.chain c.requires.lie.within
+    c.requires.lie.small c.requires.room.ready.current_size _ _ _ c.loop-k.invariant.put (omega (
+      arith,
+      c.loop-k-test.true,
+    ))
 
 pub returns-in_err-put_word-clause-done : goal.returns-in_err-put_word-clause-done
 returns-in_err-put_word-clause-done g c = none_ok _ _ _ c.from_residual-in_err-put_word.ensures.1
@@ -79,24 +79,14 @@ returns-in_err-put_word-clause-done g c = none_ok _ _ _ c.from_residual-in_err-p
 pub returns-in_err-put_word-clause-store : goal.returns-in_err-put_word-clause-store
 returns-in_err-put_word-clause-store g c =
     let m = current (memory_of c.args.txn.now) in
-    let fits = word_fits m (chain_of m c.args.chain) _ c.args.offset c.args.bytes.now c.requires.chain c.requires.within
-    c.requires.small c.requires.ready.current_size _ _ _ c.loop-k.invariant.put (omega (arith, c.loop-k-test.true)) in
+    let fits = word_fits m (chain_of m c.args.chain) _ c.args.offset c.args.bytes.now c.requires.lie.chain
+    c.requires.lie.within
+    c.requires.lie.small c.requires.room.ready.current_size _ _ _ c.loop-k.invariant.put (omega (
+      arith,
+      c.loop-k-test.true,
+    )) in
     sets_in_handed _ _ _ _ _ c.from_residual-in_err-put_word.ensures.1
     (sets_in_on _ _ _ _ _ _ _ fits c.loop-k.invariant.sets c.in_err-put_word.ensures.store)
-
-pub block_of_word-requires-clause-block : goal.block_of_word-requires-clause-block
-block_of_word-requires-clause-block g c =
-    let m = current (memory_of c.args.txn.now) in
-    put_block m (chain_of m c.args.chain) _ c.args.offset c.args.bytes.now c.requires.chain c.requires.within
-    c.requires.small c.requires.ready.current_size _ _ _ c.loop-k.invariant.put (omega (arith, c.loop-k-test.true)) _
-    c.in_ok-put_word.ensures.done
-
-pub block_of_word-requires-clause-small : goal.block_of_word-requires-clause-small
-block_of_word-requires-clause-small g c =
-    let m = current (memory_of c.args.txn.now) in
-    link_small m (chain_of m c.args.chain) _ c.args.offset c.args.bytes.now c.requires.chain c.requires.within
-    c.requires.small c.requires.ready.current_size _ _ _ c.loop-k.invariant.put (omega (arith, c.loop-k-test.true)) _
-    c.in_ok-put_word.ensures.done
 
 pub returns-in_err-page-2-clause-done : goal.returns-in_err-page-2-clause-done
 returns-in_err-page-2-clause-done g c = none_ok _ _ _ c.from_residual-in_err-page-2.ensures.1
@@ -104,8 +94,12 @@ returns-in_err-page-2-clause-done g c = none_ok _ _ _ c.from_residual-in_err-pag
 pub returns-in_err-page-2-clause-store : goal.returns-in_err-page-2-clause-store
 returns-in_err-page-2-clause-store g c =
     let m = current (memory_of c.args.txn.now) in
-    let fits = word_fits m (chain_of m c.args.chain) _ c.args.offset c.args.bytes.now c.requires.chain c.requires.within
-    c.requires.small c.requires.ready.current_size _ _ _ c.loop-k.invariant.put (omega (arith, c.loop-k-test.true)) in
+    let fits = word_fits m (chain_of m c.args.chain) _ c.args.offset c.args.bytes.now c.requires.lie.chain
+    c.requires.lie.within
+    c.requires.lie.small c.requires.room.ready.current_size _ _ _ c.loop-k.invariant.put (omega (
+      arith,
+      c.loop-k-test.true,
+    )) in
     let put = sets_then _ _ _ _ _ _ fits c.loop-k.invariant.sets c.put_word.ensures.store.sets in
     sets_in_handed _ _ _ _ _ c.from_residual-in_err-page-2.ensures.1 (record {
       ready = tt;
@@ -127,15 +121,19 @@ loop-k-preserved g c =
           c.put_word.ensures.goes_on c.loop-k.invariant.put.from c.in_ok-put_word.ensures.next _
           c.block_of_word.ensures.store.only.reads _ _ c.in_ok-page-2.ensures.page;
       counted = λ idle. counted-more (chain_of m c.args.chain) (c.args.offset / 4)
-          k _ _ _ _ _ (c.loop-k.invariant.counted idle) c.requires.chain.once c.loop-k.invariant.put.from (word_within m
-          (chain_of m c.args.chain) _ c.args.offset c.args.bytes.now c.requires.chain c.requires.within c.requires.small
-          c.requires.ready.current_size _ _ _ c.loop-k.invariant.put (omega (arith, c.loop-k-test.true)))
-          (word_block m (chain_of m c.args.chain) _ c.args.offset c.args.bytes.now c.requires.chain c.requires.within
-          c.requires.small c.requires.ready.current_size _ _ _ c.loop-k.invariant.put
+          k _ _ _ _ _ (c.loop-k.invariant.counted idle) c.requires.lie.chain.once c.loop-k.invariant.put.from
+          (word_within m
+          (chain_of m c.args.chain) _ c.args.offset c.args.bytes.now c.requires.lie.chain c.requires.lie.within
+          c.requires.lie.small
+          c.requires.room.ready.current_size _ _ _ c.loop-k.invariant.put (omega (arith, c.loop-k-test.true)))
+          (word_block m (chain_of m c.args.chain) _ c.args.offset c.args.bytes.now c.requires.lie.chain
+          c.requires.lie.within
+          c.requires.lie.small c.requires.room.ready.current_size _ _ _ c.loop-k.invariant.put
           (omega (arith, c.loop-k-test.true))).0
           c.loop-k.invariant.put.block c.in_ok-put_word.ensures.joins c.block_of_word.ensures.store.only.reads;
-      put = put_more m (chain_of m c.args.chain) _ c.args.offset c.args.bytes.now c.requires.chain c.requires.within
-          c.requires.small c.requires.ready.current_size _
+      put = put_more m (chain_of m c.args.chain) _ c.args.offset c.args.bytes.now c.requires.lie.chain
+          c.requires.lie.within
+          c.requires.lie.small c.requires.room.ready.current_size _
           _ _ c.loop-k.invariant.put (omega (arith, c.loop-k-test.true)) _ c.in_ok-put_word.ensures.done
           _ _ c.block_of_word.ensures.store.only.reads.keeps.current_words c.in_ok-page-2.ensures.page;
     }
@@ -145,14 +143,18 @@ loop-k-preserved g c =
 pub returns-clause-done : goal.returns-clause-done
 returns-clause-done g c =
     let m = current (memory_of c.args.txn.now) in
-    put_last m (chain_of m c.args.chain) _ c.args.offset c.args.bytes.now c.requires.chain c.requires.within
-    c.requires.small c.requires.ready.current_size _ _ _ c.loop-k.invariant.put (omega (arith, c.loop-k-test.false))
+    put_last m (chain_of m c.args.chain) _ c.args.offset c.args.bytes.now c.requires.lie.chain c.requires.lie.within
+    c.requires.lie.small c.requires.room.ready.current_size _ _ _ c.loop-k.invariant.put (omega (
+      arith,
+      c.loop-k-test.false,
+    ))
 
 pub returns-clause-store : goal.returns-clause-store
 returns-clause-store g c =
     let m = current (memory_of c.args.txn.now) in
     let few = put_few m (chain_of m c.args.chain) _
-    c.args.offset c.args.bytes.now c.requires.chain c.requires.within c.requires.small c.requires.ready.current_size
+    c.args.offset c.args.bytes.now c.requires.lie.chain c.requires.lie.within c.requires.lie.small
+    c.requires.room.ready.current_size
     _ _ _ c.loop-k.invariant.put (omega (arith, c.loop-k.invariant.within)) in
     record {
       sets = sets_weaker _ _ _ _ few c.loop-k.invariant.sets;
@@ -231,3 +233,41 @@ returns-in_err-put_word-clause-waits g c = none_ok _ _ _ c.from_residual-in_err-
 
 pub returns-in_err-page-2-clause-waits : goal.returns-in_err-page-2-clause-waits
 returns-in_err-page-2-clause-waits g c = none_ok _ _ _ c.from_residual-in_err-page-2.ensures.1
+
+pub put_word-requires-clause-room : goal.put_word-requires-clause-room
+put_word-requires-clause-room g c = record {
+  ready = c.loop-k.invariant.ready;
+  enough = let m = current (memory_of c.args.txn.now) in
+      let fits = word_fits m (chain_of m c.args.chain) _ c.args.offset c.args.bytes.now c.requires.lie.chain
+      c.requires.lie.within
+      c.requires.lie.small c.requires.room.ready.current_size _ _ _ c.loop-k.invariant.put (omega (
+        arith,
+        c.loop-k-test.true,
+      )) in
+      omega (arith, fits, c.loop-k.invariant.sets.room, c.requires.room.enough);
+}
+
+pub block_of_word-requires : goal.block_of_word-requires
+block_of_word-requires g c = record {
+  ready = c.in_ok-put_word.ensures.store.ready;
+  block = let m = current (memory_of c.args.txn.now) in
+      put_block m (chain_of m c.args.chain) _ c.args.offset c.args.bytes.now c.requires.lie.chain c.requires.lie.within
+      c.requires.lie.small c.requires.room.ready.current_size _ _ _ c.loop-k.invariant.put (omega (
+        arith,
+        c.loop-k-test.true,
+      )) _
+      c.in_ok-put_word.ensures.done;
+  small = let m = current (memory_of c.args.txn.now) in
+      link_small m (chain_of m c.args.chain) _ c.args.offset c.args.bytes.now c.requires.lie.chain c.requires.lie.within
+      c.requires.lie.small c.requires.room.ready.current_size _ _ _ c.loop-k.invariant.put (omega (
+        arith,
+        c.loop-k-test.true,
+      )) _
+      c.in_ok-put_word.ensures.done;
+}
+
+pub walk-requires-clause-chain : goal.walk-requires-clause-chain
+walk-requires-clause-chain g c = record {
+  ready = c.requires.room.ready;
+  leads = c.requires.lie.chain.leads;
+}

@@ -7,25 +7,6 @@ use Rattle.undo_journal.specs.laws.Exits.{none_ok}
 use Rattle.undo_journal.specs.laws.Told.{reads_handed, reads_on}
 use Rattle.block_store.proofs.free.free_count.Goals as goal
 
-pub read_head-requires-clause-small : goal.read_head-requires-clause-small
-read_head-requires-clause-small g c = head_small _ _ _ c.requires.ready.usable.committed_size c.requires.free.leads
-
-pub read_link-requires-clause-block : goal.read_link-requires-clause-block
-read_link-requires-clause-block g c =
-    let m = committed c.args.store.now in
-    let some : c.loop-page.page ≢ 0 = omega (arith, c.loop-page-test.true) in
-    (at_some m _ _
-    (free_chain m) c.loop-page.count c.loop-page.page c.loop-page.invariant.reads.keeps.committed_words
-    c.requires.ready.usable.committed_size c.requires.free.leads c.loop-page.invariant.place some).block
-
-pub read_link-requires-clause-small : goal.read_link-requires-clause-small
-read_link-requires-clause-small g c =
-    let m = committed c.args.store.now in
-    let some : c.loop-page.page ≢ 0 = omega (arith, c.loop-page-test.true) in
-    (at_some m _ _
-    (free_chain m) c.loop-page.count c.loop-page.page c.loop-page.invariant.reads.keeps.committed_words
-    c.requires.ready.usable.committed_size c.requires.free.leads c.loop-page.invariant.place some).small
-
 pub loop-page-preserved : goal.loop-page-preserved
 loop-page-preserved g c =
     let m = committed c.args.store.now in
@@ -79,3 +60,24 @@ loop-page-smaller g c =
     (free_chain m) c.loop-page.count c.loop-page.page c.loop-page.invariant.reads.keeps.committed_words
     c.requires.ready.usable.committed_size c.requires.free.leads c.loop-page.invariant.place some in
     omega (arith, here.within)
+
+pub read_head-requires : goal.read_head-requires
+read_head-requires g c = record {
+  ready = c.requires.ready;
+  small = head_small _ _ _ c.requires.ready.usable.committed_size c.requires.free.leads;
+}
+
+pub read_link-requires : goal.read_link-requires
+read_link-requires g c = record {
+  ready = c.loop-page.invariant.ready;
+  block = let m = committed c.args.store.now in
+      let some : c.loop-page.page ≢ 0 = omega (arith, c.loop-page-test.true) in
+      (at_some m _ _
+      (free_chain m) c.loop-page.count c.loop-page.page c.loop-page.invariant.reads.keeps.committed_words
+      c.requires.ready.usable.committed_size c.requires.free.leads c.loop-page.invariant.place some).block;
+  small = let m = committed c.args.store.now in
+      let some : c.loop-page.page ≢ 0 = omega (arith, c.loop-page-test.true) in
+      (at_some m _ _
+      (free_chain m) c.loop-page.count c.loop-page.page c.loop-page.invariant.reads.keeps.committed_words
+      c.requires.ready.usable.committed_size c.requires.free.leads c.loop-page.invariant.place some).small;
+}

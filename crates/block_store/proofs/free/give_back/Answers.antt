@@ -25,7 +25,7 @@ returns-clause-done g c =
     let after : current (memory_of c.set.new.self) ≡ slice_set (joined_chains m cs) (address HEADER_PAGE FREE_HEAD_WORD)
     (first_block m cs) = done ∙ (λ i. slice_set (words i) (address HEADER_PAGE FREE_HEAD_WORD) (page i)) in
     subst family (sym after)
-    (gives_back m cs c.requires.ready.current_size c.requires.free c.requires.apart)) c.set.ensures.done
+    (gives_back m cs c.requires.room.ready.current_size c.requires.free c.requires.apart)) c.set.ensures.done
 
 pub returns-clause-store : goal.returns-clause-store
 returns-clause-store g c =
@@ -43,3 +43,9 @@ pub returns-then-is_empty-clause-done : goal.returns-then-is_empty-clause-done
 returns-then-is_empty-clause-done g c =
     let none : length c.args.chains.now ≡ 0 = search rules in
     gives_none (current (memory_of c.args.txn.now)) c.args.chains.now none c.requires.free
+
+pub join-requires-clause-room : goal.join-requires-clause-room
+join-requires-clause-room g c = record {
+  ready = c.requires.room.ready;
+  enough = omega (arith, c.requires.room.enough);
+}

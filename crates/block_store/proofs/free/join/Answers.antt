@@ -15,9 +15,6 @@ use Rattle.undo_journal.specs.laws.Told.{sets_in_handed}
 use Rattle.block_store.proofs.free.join.Goals as goal
 use Rattle.nvm_board.specs.declared.board.TheConstants.{PAGE_WORDS}
 
-pub head-requires-clause-small : goal.head-requires-clause-small
-head-requires-clause-small g c = head_small _ _ _ c.requires.ready.current_size c.requires.free.leads
-
 pub loop-left-init : goal.loop-left-init
 loop-left-init g c =
     let m = current (memory_of c.args.txn.now) in
@@ -44,7 +41,7 @@ set-requires-clause-place g c =
     let lt : c.loop-left.left - 1 < length c.args.chains.now =
     omega (arith, c.loop-left.invariant.within, c.loop-left-test.true) in
     let block = whole_block m _ (c.requires.apart.each (c.loop-left.left - 1) (record { first = 0; last = 0 }) lt) in
-    let size = c.requires.ready.current_size in
+    let size = c.requires.room.ready.current_size in
     let same = ap (λ (l : List ℕ). length l) c.loop-left.invariant.words
     ∙ length-joined m (drop c.loop-left.left c.args.chains.now) in
     (inr (omega (arith, block.0)), omega (arith, block.1, size, same))
@@ -103,3 +100,9 @@ returns-in_err-set-clause-store g c =
           sets_then _ _ _ _ _ _ fits c.loop-left.invariant.sets c.set.ensures.store.sets;
       tells = c.in_err-set.ensures.store.tells;
     })
+
+pub head-requires : goal.head-requires
+head-requires g c = record {
+  ready = c.requires.room.ready;
+  small = head_small _ _ _ c.requires.room.ready.current_size c.requires.free.leads;
+}

@@ -18,7 +18,7 @@ pub returns-clause-done : goal.returns-clause-done
 returns-clause-done g c =
     let m = current (memory_of c.args.txn.now) in
     let run = c.args.run in
-    let found = c.requires.first in
+    let found = c.requires.blocks.first in
     let first : current (memory_of c.set.new.self) ≡ slice_set m (address run.chain.last 0) 0 =
     let at : PAGE_WORDS * run.chain.last ≡ address run.chain.last 0 = omega arith in
     c.in_ok-set.ensures.done ∙ ap (λ (k : ℕ). slice_set m k 0) at in
@@ -26,8 +26,9 @@ returns-clause-done g c =
     on_then _ _ c.set-2.result
     (λ done. subst family (sym (done ∙ ap₂ (λ (l : List ℕ) (w : ℕ). slice_set l (address HEADER_PAGE FREE_HEAD_WORD) w)
     first c.from.ensures))
-    (takes m c.args.n run.chain.last run.rest c.requires.ready.current_size c.requires.free c.requires.some
-    c.requires.enough found.last found.after run.chain found.first refl))
+    (takes m c.args.n run.chain.last run.rest c.requires.room.ready.current_size c.requires.blocks.free
+    c.requires.blocks.some
+    c.requires.blocks.enough found.last found.after run.chain found.first refl))
     c.set-2.ensures.done
 
 pub returns-in_err-set-clause-done : goal.returns-in_err-set-clause-done

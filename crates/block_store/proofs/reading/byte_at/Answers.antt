@@ -11,17 +11,6 @@ use Rattle.undo_journal.specs.laws.Exits.{none_ok}
 use Rattle.undo_journal.specs.laws.Told.{reads_handed, reads_on, reads_so_far}
 use Rattle.block_store.proofs.reading.byte_at.Goals as goal
 
-pub read_word-requires-clause-block : goal.read_word-requires-clause-block
-read_word-requires-clause-block g c =
-    let m = committed c.args.store.now in
-    let ps = chain_of m c.args.chain in
-    let place_in : c.args.offset / BLOCK_BYTES < length ps = omega (arith, c.requires.within) in
-    let family : ℕ → Type 0 = λ q. IsBlock (committed c.block_at.new.store) q in
-    let words : List ℕ → Type 0 = λ l. IsBlock l (slice_index ps (c.args.offset / BLOCK_BYTES)) in
-    subst family (sym c.in_ok-page.ensures.page)
-    (subst words (sym c.block_at.ensures.store.only.keeps.committed_words)
-    (leads_block m _ 0 ps (c.args.offset / BLOCK_BYTES) c.requires.leads place_in))
-
 pub returns-clause-byte : goal.returns-clause-byte
 returns-clause-byte g c =
     let m = committed c.args.store.now in
@@ -37,8 +26,8 @@ returns-clause-byte g c =
     ∙ ap₂ (λ (l : List ℕ) (q : ℕ). word l q (1 + offset / 4 % BLOCK_WORDS)) words page in
     c.byte_of.ensures
     ∙ ap (λ (w : ℕ). slice_index (word_bytes w) (offset % 4)) read
-    ∙ sym (index-bytes_of m ps offset c.requires.ready.usable.committed_size
-    (leads_blocks m _ 0 ps c.requires.leads) c.requires.within)
+    ∙ sym (index-bytes_of m ps offset c.requires.chain.ready.usable.committed_size
+    (leads_blocks m _ 0 ps c.requires.chain.leads) c.requires.within)
 
 pub returns-in_err-page-clause-byte : goal.returns-in_err-page-clause-byte
 returns-in_err-page-clause-byte g c = none_ok _ _ _ c.from_residual.ensures.1
@@ -59,3 +48,16 @@ pub returns-clause-store : goal.returns-clause-store
 returns-clause-store g c =
     reads_so_far _ _ (reads_then _ _ _ c.block_at.ensures.store.only c.read_word.ensures.store.only)
     c.in_ok-word.ensures.store.ready
+
+pub read_word-requires-clause-block : goal.read_word-requires-clause-block
+read_word-requires-clause-block g c = record {
+  ready = c.in_ok-page.ensures.store.ready;
+  block = let m = committed c.args.store.now in
+      let ps = chain_of m c.args.chain in
+      let place_in : c.args.offset / BLOCK_BYTES < length ps = omega (arith, c.requires.within) in
+      let family : ℕ → Type 0 = λ q. IsBlock (committed c.block_at.new.store) q in
+      let words : List ℕ → Type 0 = λ l. IsBlock l (slice_index ps (c.args.offset / BLOCK_BYTES)) in
+      subst family (sym c.in_ok-page.ensures.page)
+      (subst words (sym c.block_at.ensures.store.only.keeps.committed_words)
+      (leads_block m _ 0 ps (c.args.offset / BLOCK_BYTES) c.requires.chain.leads place_in));
+}

@@ -22,7 +22,7 @@ pub returns-then-count-eq0-clause-any_exit : goal.returns-then-count-eq0-clause-
 returns-then-count-eq0-clause-any_exit g c = none_appended c.args.out.now.items _
 
 pub returns-then-count-eq0-clause-store : goal.returns-then-count-eq0-clause-store
-returns-then-count-eq0-clause-store g c = reads_none _ c.requires.ready
+returns-then-count-eq0-clause-store g c = reads_none _ c.requires.chain.ready
 
 -- the first block isn't found
 
@@ -55,14 +55,6 @@ loop-at-init g c = record {
 pub read_word-requires-clause-place : goal.read_word-requires-clause-place
 read_word-requires-clause-place g c = omega (arith, c.loop-at.invariant.placed)
 
-pub read_word-requires-clause-block : goal.read_word-requires-clause-block
-read_word-requires-clause-block g c =
-    let m = committed c.args.store.now in
-    (block_here m
-    (chain_of m c.args.chain) _ c.args.offset c.args.count c.requires.ready.usable.committed_size c.requires.leads
-    c.requires.within
-    _ _ _ c.loop-at.invariant.reads.keeps.committed_words c.loop-at.invariant.bytes.block c.loop-at-test.true).block
-
 pub returns-in_err-word-clause-done : goal.returns-in_err-word-clause-done
 returns-in_err-word-clause-done g c = none_ok _ _ _ c.from_residual-in_err-word.ensures.1
 
@@ -70,7 +62,8 @@ pub returns-in_err-word-clause-any_exit : goal.returns-in_err-word-clause-any_ex
 returns-in_err-word-clause-any_exit g c =
     let m = committed c.args.store.now in
     some_bytes m
-    (chain_of m c.args.chain) _ c.args.offset c.args.count c.requires.ready.usable.committed_size c.requires.leads
+    (chain_of m c.args.chain) _ c.args.offset c.args.count c.requires.chain.ready.usable.committed_size
+    c.requires.chain.leads
     c.requires.within
     _ _ _ c.loop-at.invariant.bytes.within c.loop-at.invariant.bytes.so_far
 
@@ -99,24 +92,6 @@ next_place-place-requires-clause-place g c =
 pub block_of_byte-requires-clause-place : goal.block_of_byte-requires-clause-place
 block_of_byte-requires-clause-place g c = c.next_place-place.ensures
 
-pub block_of_byte-requires-clause-block : goal.block_of_byte-requires-clause-block
-block_of_byte-requires-clause-block g c =
-    let m = committed c.args.store.now in
-    let same = c.read_word.ensures.store.only.keeps.committed_words ∙ c.loop-at.invariant.reads.keeps.committed_words in
-    (block_here m
-    (chain_of m c.args.chain) _ c.args.offset c.args.count c.requires.ready.usable.committed_size c.requires.leads
-    c.requires.within
-    _ _ _ same c.loop-at.invariant.bytes.block c.loop-at-test.true).block
-
-pub block_of_byte-requires-clause-small : goal.block_of_byte-requires-clause-small
-block_of_byte-requires-clause-small g c =
-    let m = committed c.args.store.now in
-    let same = c.read_word.ensures.store.only.keeps.committed_words ∙ c.loop-at.invariant.reads.keeps.committed_words in
-    (block_here m
-    (chain_of m c.args.chain) _ c.args.offset c.args.count c.requires.ready.usable.committed_size c.requires.leads
-    c.requires.within
-    _ _ _ same c.loop-at.invariant.bytes.block c.loop-at-test.true).small
-
 pub returns-in_err-page-2-clause-done : goal.returns-in_err-page-2-clause-done
 returns-in_err-page-2-clause-done g c = none_ok _ _ _ c.from_residual-in_err-page-2.ensures.1
 
@@ -126,7 +101,8 @@ returns-in_err-page-2-clause-any_exit g c =
     let here = c.in_ok-word.ensures.word
     ∙ ap (λ (p : ℕ). word (committed c.loop-at.store) c.loop-at.page (1 + p)) c.loop-at.invariant.placed in
     some_more m
-    (chain_of m c.args.chain) _ c.args.offset c.args.count c.requires.ready.usable.committed_size c.requires.leads
+    (chain_of m c.args.chain) _ c.args.offset c.args.count c.requires.chain.ready.usable.committed_size
+    c.requires.chain.leads
     c.requires.within
     _ _ _ _ _ _ _ _ c.loop-at.invariant.reads.keeps.committed_words c.loop-at.invariant.bytes
     c.bytes_in_word-some.ensures.word c.bytes_in_word-some.ensures.end here
@@ -149,7 +125,8 @@ loop-at-preserved g c =
       reads = reads_then _ _ _ c.loop-at.invariant.reads
           (reads_then _ _ _ c.read_word.ensures.store.only c.block_of_byte.ensures.store.only);
       bytes = read_more m
-          (chain_of m c.args.chain) _ c.args.offset c.args.count c.requires.ready.usable.committed_size c.requires.leads
+          (chain_of m c.args.chain) _ c.args.offset c.args.count c.requires.chain.ready.usable.committed_size
+          c.requires.chain.leads
           c.requires.within
           _ _ _ _ _ _ _ _ c.loop-at.invariant.reads.keeps.committed_words c.loop-at.invariant.bytes
           c.bytes_in_word-some.ensures.word c.bytes_in_word-some.ensures.end here
@@ -169,9 +146,42 @@ pub returns-clause-any_exit : goal.returns-clause-any_exit
 returns-clause-any_exit g c =
     let m = committed c.args.store.now in
     some_bytes m
-    (chain_of m c.args.chain) _ c.args.offset c.args.count c.requires.ready.usable.committed_size c.requires.leads
+    (chain_of m c.args.chain) _ c.args.offset c.args.count c.requires.chain.ready.usable.committed_size
+    c.requires.chain.leads
     c.requires.within
     _ _ _ c.loop-at.invariant.bytes.within c.loop-at.invariant.bytes.so_far
 
 pub returns-clause-store : goal.returns-clause-store
 returns-clause-store g c = reads_so_far _ _ c.loop-at.invariant.reads c.loop-at.invariant.ready
+
+pub read_word-requires-clause-block : goal.read_word-requires-clause-block
+read_word-requires-clause-block g c = record {
+  ready = c.loop-at.invariant.ready;
+  block = let m = committed c.args.store.now in
+      (block_here m
+      (chain_of m c.args.chain) _ c.args.offset c.args.count c.requires.chain.ready.usable.committed_size
+      c.requires.chain.leads
+      c.requires.within
+      _ _ _ c.loop-at.invariant.reads.keeps.committed_words c.loop-at.invariant.bytes.block c.loop-at-test.true).block;
+}
+
+pub block_of_byte-requires-clause-link : goal.block_of_byte-requires-clause-link
+block_of_byte-requires-clause-link g c = record {
+  ready = c.in_ok-word.ensures.store.ready;
+  block = let m = committed c.args.store.now in
+      let same = c.read_word.ensures.store.only.keeps.committed_words ∙ c.loop-at.invariant.reads.keeps.committed_words
+      in
+      (block_here m
+      (chain_of m c.args.chain) _ c.args.offset c.args.count c.requires.chain.ready.usable.committed_size
+      c.requires.chain.leads
+      c.requires.within
+      _ _ _ same c.loop-at.invariant.bytes.block c.loop-at-test.true).block;
+  small = let m = committed c.args.store.now in
+      let same = c.read_word.ensures.store.only.keeps.committed_words ∙ c.loop-at.invariant.reads.keeps.committed_words
+      in
+      (block_here m
+      (chain_of m c.args.chain) _ c.args.offset c.args.count c.requires.chain.ready.usable.committed_size
+      c.requires.chain.leads
+      c.requires.within
+      _ _ _ same c.loop-at.invariant.bytes.block c.loop-at-test.true).small;
+}

@@ -1,16 +1,15 @@
-use Rattle.std.proofs.Common.{◌≡◌, ◌+◌, ◌*◌, ◌/◌, ◌%◌, slice_index, ◌∙◌, ap, inr, arith}
+use Rattle.std.proofs.Common.{◌≡◌, ◌+◌, ◌*◌, slice_index, ◌∙◌, ap, inr, arith}
 use Rattle.std.proofs.lemmas.Result.{IfOk-weaker}
 use Rattle.nvm_board.specs.Facts.{address}
 use Rattle.nvm_board.specs.declared.board.TheConstants.{PAGE_WORDS}
-use Rattle.block_chain.specs.declared.layout.TheConstants.{BLOCK_WORDS}
 use Rattle.nvm_board.specs.laws.Sizes.{page_within}
 use Rattle.undo_journal.specs.Memory.{committed}
 use Rattle.block_store.proofs.reading.read_word.Goals as goal
 
 pub read_committed-requires-clause-place : goal.read_committed-requires-clause-place
 read_committed-requires-clause-place g c =
-    let block = c.requires.block in
-    let inside = page_within _ c.args.page c.requires.ready.usable.committed_size block.1 in
+    let block = c.requires.block.block in
+    let inside = page_within _ c.args.page c.requires.block.ready.usable.committed_size block.1 in
     (inr (omega (arith, block.0)), omega (arith, inside))
 
 pub returns-clause-word : goal.returns-clause-word

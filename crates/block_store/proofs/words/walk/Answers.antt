@@ -15,21 +15,15 @@ here : (g : Over) (c : goal.After-next-arg-1 g)
 here g c =
     let within : c.loop-i._i < length (chain (current (memory_of c.args.txn.now)) c.args.first) =
     omega (arith, c.requires.within, c.loop-i-test.true) in
-    at_block _ _ _ _ _ _ c.loop-i.invariant.reads.reads.keeps.current_words c.requires.ready.current_size
-    c.requires.leads c.loop-i.invariant.place within
-
-pub next-requires-clause-block : goal.next-requires-clause-block
-next-requires-clause-block g c = (here g c).block
-
-pub next-requires-clause-small : goal.next-requires-clause-small
-next-requires-clause-small g c = (here g c).small
+    at_block _ _ _ _ _ _ c.loop-i.invariant.reads.reads.keeps.current_words c.requires.chain.ready.current_size
+    c.requires.chain.leads c.loop-i.invariant.place within
 
 pub loop-i-preserved : goal.loop-i-preserved
 loop-i-preserved g c =
     let within : c.loop-i._i < length (chain (current (memory_of c.args.txn.now)) c.args.first) =
     omega (arith, c.requires.within, c.loop-i-test.true) in
-    let at = at_block _ _ _ _ _ _ c.loop-i.invariant.reads.reads.keeps.current_words c.requires.ready.current_size
-    c.requires.leads c.loop-i.invariant.place within in
+    let at = at_block _ _ _ _ _ _ c.loop-i.invariant.reads.reads.keeps.current_words c.requires.chain.ready.current_size
+    c.requires.chain.leads c.loop-i.invariant.place within in
     record {
       ready = c.in_ok-page.ensures.store.ready;
       reads = txn_reads_then _ _ _ c.loop-i.invariant.reads c.next.ensures.store.only;
@@ -43,3 +37,10 @@ pub returns-in_err-page-clause-store : goal.returns-in_err-page-clause-store
 returns-in_err-page-clause-store g c =
     reads_in_handed _ _ _ _ c.from_residual.ensures.1
     (reads_in_on _ _ _ _ c.loop-i.invariant.reads c.in_err-page.ensures.store)
+
+pub next-requires : goal.next-requires
+next-requires g c = record {
+  ready = c.loop-i.invariant.ready;
+  block = (here g c).block;
+  small = (here g c).small;
+}

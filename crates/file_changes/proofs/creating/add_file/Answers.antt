@@ -13,24 +13,6 @@ returns-then-blocks-eq0-clause-done g c =
 pub returns-then-blocks-eq0-clause-store : goal.returns-then-blocks-eq0-clause-store
 returns-then-blocks-eq0-clause-store g c = sets_in_within 11 13 _ _ _ (lit< tt) c.write_entry.ensures.store
 
-pub take-requires-clause-ready : goal.take-requires-clause-ready
-take-requires-clause-ready g c = c.requires.room.ready
-
-pub take-requires-clause-free : goal.take-requires-clause-free
-take-requires-clause-free g c = c.requires.blocks.free
-
-pub take-requires-clause-some : goal.take-requires-clause-some
-take-requires-clause-some g c = omega (arith, c.if-blocks-eq0.false)
-
-pub take-requires-clause-enough : goal.take-requires-clause-enough
-take-requires-clause-enough g c = c.requires.blocks.enough
-
-pub take-requires-clause-first : goal.take-requires-clause-first
-take-requires-clause-first g c = c.requires.blocks.first (omega (arith, c.if-blocks-eq0.false))
-
-pub take-requires-clause-room : goal.take-requires-clause-room
-take-requires-clause-room g c = omega (arith, c.requires.room.enough)
-
 pub returns-in_err-take-clause-done : goal.returns-in_err-take-clause-done
 returns-in_err-take-clause-done g c = none_ok _ _ _ c.from_residual.ensures.1
 
@@ -87,4 +69,18 @@ pub write_entry-requires-2-clause-room : goal.write_entry-requires-2-clause-room
 write_entry-requires-2-clause-room g c = record {
   ready = c.in_ok-take.ensures.store.ready;
   enough = omega (arith, c.requires.room.enough, c.take.ensures.store.sets.room);
+}
+
+pub take-requires-clause-room : goal.take-requires-clause-room
+take-requires-clause-room g c = record {
+  ready = c.requires.room.ready;
+  enough = omega (arith, c.requires.room.enough);
+}
+
+pub take-requires-clause-blocks : goal.take-requires-clause-blocks
+take-requires-clause-blocks g c = record {
+  free = c.requires.blocks.free;
+  some = omega (arith, c.if-blocks-eq0.false);
+  enough = c.requires.blocks.enough;
+  first = c.requires.blocks.first (omega (arith, c.if-blocks-eq0.false));
 }

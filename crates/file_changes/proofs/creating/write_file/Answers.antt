@@ -39,11 +39,6 @@ first_free_in : (m after now ps : List ℕ) (n : ℕ) (run : FreeRun) → now �
 first_free_in m after now ps n run same blocks only free found =
     subst (λ (l : List ℕ). IsFirstFree l n run) (sym same) (first_free_kept m after ps n run blocks only free found)
 
-pub fill-requires-clause-free : goal.fill-requires-clause-free
-fill-requires-clause-free g c =
-    let m = committed c.args.store.now in
-    laid_has_free (block_count m) m (extents (table m)) c.requires.tree.tree.blocks
-
 pub returns-clause-any_exit : goal.returns-clause-any_exit
 returns-clause-any_exit g c =
     let m = committed c.args.store.now in
@@ -148,4 +143,12 @@ pub add_file-work-requires-clause-room : goal.add_file-work-requires-clause-room
 add_file-work-requires-clause-room g c = record {
   ready = subst (λ (m : Memory). IsOpen m) (sym c.begin-txn.ensures.same) c.in_ok-run.ensures.store.ready.usable;
   enough = omega (arith, c.begin-txn.ensures.room);
+}
+
+pub fill-requires : goal.fill-requires
+fill-requires g c = record {
+  ready = c.requires.tree.ready;
+  free = let m = committed c.args.store.now in
+      laid_has_free (block_count m) m (extents (table m)) c.requires.tree.tree.blocks;
+  enough = c.requires.enough;
 }

@@ -13,9 +13,6 @@ returns-in_err-free_part-clause-store g c =
     sets_in_handed _ _ _ _ _ c.from_residual.ensures.1
     (sets_in_within _ _ _ _ _ (omega arith) c.in_err-free_part.ensures.store)
 
-pub give_back-requires-clause-ready : goal.give_back-requires-clause-ready
-give_back-requires-clause-ready g c = c.in_ok-free_part.ensures.store.ready
-
 pub give_back-requires-clause-free : goal.give_back-requires-clause-free
 give_back-requires-clause-free g c =
     let apart = c.requires.apart in (apart.2 _ (c.in_ok-free_part.ensures.done apart.0 apart.1)).0
@@ -23,12 +20,6 @@ give_back-requires-clause-free g c =
 pub give_back-requires-clause-apart : goal.give_back-requires-clause-apart
 give_back-requires-clause-apart g c =
     let apart = c.requires.apart in (apart.2 _ (c.in_ok-free_part.ensures.done apart.0 apart.1)).1
-
-pub give_back-requires-clause-room : goal.give_back-requires-clause-room
-give_back-requires-clause-room g c =
-    let room = c.requires.room.enough in
-    let left = c.free_part.ensures.store.sets.room in
-    omega (arith, room, left)
 
 pub returns-clause-done : goal.returns-clause-done
 returns-clause-done g c =
@@ -50,4 +41,12 @@ free_part-requires g c = record {
     ready = c.requires.room.ready;
     enough = let room = c.requires.room.enough in omega (arith, room);
   };
+}
+
+pub give_back-requires-clause-room : goal.give_back-requires-clause-room
+give_back-requires-clause-room g c = record {
+  ready = c.in_ok-free_part.ensures.store.ready;
+  enough = let room = c.requires.room.enough in
+      let left = c.free_part.ensures.store.sets.room in
+      omega (arith, room, left);
 }
