@@ -1,7 +1,7 @@
 -- Record files as the code describes them (ISO/IEC 7816-4, 11.4). No public clause names these definitions.
 use Rattle.std.specs.Prelude.{◌≡◌, ◌⊎◌, ◌+◌, ◌*◌, ◌==◌, ◌&&◌, ℕ, Bool, true, false, not}
 use Rattle.std.specs.Prelude.{nat_le, if◌then◌else◌}
-use Rattle.std.specs.Prelude.{◌-◌, ◌++◌, ◌∷◌, slice_set, List, [], length, Option, None, Some}
+use Rattle.std.specs.Prelude.{◌-◌, ◌++◌, ◌∷◌, slice_set, List, [], length, Option, None, Some, ◌≤◌}
 use Rattle.card_state.specs.declared.access_mode.AccessBit.TheVariants.{Update}
 use Rattle.card_state.specs.declared.status.Sw.{Sw}
 use Rattle.card_state.specs.declared.status.TheConstants.Sw.{NO_ROOM, RECORD_NOT_FOUND, WRONG_LENGTH}
@@ -27,6 +27,7 @@ use Rattle.command_base.specs.declared.target_file.Structure.TheVariants.{Record
 use Rattle.command_base.specs.NamedFiles.{IsNamed}
 use Rattle.file_tree.specs.Kinds.{kind_byte}
 use Rattle.file_tree.specs.declared.kinds.EntryKind.TheVariants as entry_kinds
+use Rattle.command_base.specs.TemplateParts.{IsToldEntry}
 
 -- the address of the word of an entry with its number of records
 abbrev pub told_address : ℕ → ℕ
@@ -116,3 +117,9 @@ structure_replaced (At place) = Linear
 
 abbrev pub need_replacing : RecordChoice → Need
 need_replacing choice = record { structure = structure_replaced choice; bit = Update }
+
+-- The number of an entry, and its entry, which is that of a record file.
+pub record IsRecordEntry (e : ℕ) (entry : Entry) : Type 0 where
+  pub number : e ≤ 63
+  pub told : IsToldEntry entry
+  pub records : (entry.kind ≡ kind_byte entry_kinds.Linear) ⊎ (entry.kind ≡ kind_byte entry_kinds.Cyclic)

@@ -13,7 +13,7 @@ ghost use Rattle.card_model.specs.RecordCommands.{next_record, place_number, poi
 ghost use Rattle.content_commands.specs.RecordParts.{appended_in, chosen_in, is_full_in, number_added_in};
 ghost use Rattle.content_commands.specs.RecordParts.{number_replaced_in, record_file_in};
 ghost use Rattle.content_commands.specs.RecordParts.{replaced_in, ring_room, unadded, unreplaced};
-ghost use Rattle.content_commands.specs.RecordParts.{wraps_room, RingBecomes};
+ghost use Rattle.content_commands.specs.RecordParts.{wraps_room, RingBecomes, IsRecordEntry};
 ghost use Rattle.command_base.specs.TemplateParts.{IsToldEntry};
 
 use apdu_core::{RecordChoice, RecordPlace};
@@ -45,9 +45,7 @@ pub(crate) enum Room {
 impl RecordFile {
     /// Returns the record file of a used entry.
     pub fn of(number: u8, entry: &Entry) -> RecordFile
-        requires number { number ≤ 63 }
-        requires told { IsToldEntry entry.now }
-        requires records { (entry.now.kind ≡ kind_byte kinds.Linear) ⊎ (entry.now.kind ≡ kind_byte kinds.Cyclic) }
+        requires { IsRecordEntry number entry.now }
         ensures { result ≡ record_file_in number entry.now }
     {
         let ring = Cyclic {

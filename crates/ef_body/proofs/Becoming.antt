@@ -15,7 +15,7 @@ use Rattle.ef_contents.specs.Records.{slot_record, newest_first}
 use Rattle.card_state.specs.RecordLists.{front, record_of}
 use Rattle.ef_body.specs.Bodies.{counts_word, number_told, start_told, linear_body_records, cyclic_body_records}
 use Rattle.ef_body.specs.Bodies.{IsLinear}
-use Rattle.ef_body.specs.Bodies.{IsCyclic, LieIn}
+use Rattle.ef_body.specs.Bodies.{IsCyclic}
 use Rattle.ef_body.specs.BodyChanges.{LinearBecomes, CyclicBecomes, RecordsBecome, PutsRecord}
 use Rattle.ef_body.specs.laws.Lists.{slot_before, slot_before-small}
 use Rattle.ef_body.specs.laws.Lists.{newest_first-front, newest_first-put, newest_first-back, length-newest_first}
@@ -25,6 +25,7 @@ use Rattle.ef_body.specs.laws.Rings.{told_number, told_start, length-linear, cyc
 use Rattle.ef_contents.specs.laws.Slots.{slot-within, slot-take, length-slot}
 use Rattle.std.proofs.Math.Nat.{mod-lt}
 use Rattle.ef_body.proofs.Putting.{chain_kept, before_kept}
+use Rattle.block_store.specs.StoredBlocks.{LieIn}
 
 -- as many bytes as the blocks have
 pub ring_fits : (m : List ℕ) (c : Cyclic) → IsMemory m → IsCyclic m c

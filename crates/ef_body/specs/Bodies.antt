@@ -2,7 +2,7 @@
 use Rattle.std.specs.Prelude.{◌≡◌, ◌<◌, ◌≤◌, ◌+◌, ◌*◌, ◌/◌, ◌%◌, ℕ, List, length, slice_index, take}
 use Rattle.undo_journal.specs.declared.layout.TheConstants.{GATE}
 use Rattle.block_chain.specs.declared.chain.Chain.{Chain}
-use Rattle.block_chain.specs.declared.layout.TheConstants.{BLOCK_BYTES, FILE_BYTES}
+use Rattle.block_chain.specs.declared.layout.TheConstants.{BLOCK_BYTES}
 use Rattle.block_chain.specs.Chains.{IsChain, chain_of, chain_bytes}
 use Rattle.ef_body.specs.declared.transparent.Transparent.{Transparent}
 use Rattle.ef_body.specs.declared.linear.Linear.{Linear}
@@ -43,12 +43,6 @@ ring_of body = record {
   start = 0;
   told_at = body.told_at;
 }
-
--- `count` bytes from an offset on lie in the blocks of a chain, within the greatest size of a file.
-pub record LieIn (m : List ℕ) (blocks : Chain) (offset count : ℕ) : Type 0 where
-  pub chain : IsChain m blocks.first (chain_of m blocks)
-  pub within : offset + count ≤ BLOCK_BYTES * length (chain_of m blocks)
-  pub small : offset + count ≤ FILE_BYTES
 
 -- A valid transparent body: 1 to 32,767 bytes in the blocks of its chain.
 pub record IsTransparent (m : List ℕ) (body : Transparent) : Type 0 where

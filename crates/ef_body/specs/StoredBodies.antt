@@ -1,9 +1,23 @@
 -- Bodies of EFs in a store: what calls that read or change them require.
-use Rattle.std.specs.Prelude.{◌≡◌, ℕ, List, length}
+use Rattle.std.specs.Prelude.{◌≡◌, ℕ, List, length, ◌≤◌, ◌+◌}
 use Rattle.undo_journal.specs.Memory.{Memory, committed, IsReady}
 use Rattle.ef_body.specs.declared.cyclic.Cyclic.{Cyclic}
 use Rattle.ef_body.specs.declared.linear.Linear.{Linear}
-use Rattle.ef_body.specs.Bodies.{IsCyclic, IsLinear}
+use Rattle.ef_body.specs.Bodies.{IsCyclic, IsLinear, IsTransparent}
+use Rattle.block_chain.specs.declared.chain.Chain.{Chain}
+use Rattle.block_store.specs.StoredBlocks.{LieIn}
+use Rattle.ef_body.specs.declared.transparent.Transparent.{Transparent}
+
+-- The store is ready, and its words have the bytes of a transparent EF.
+pub record HasBytes (m : Memory) (file : Transparent) : Type 0 where
+  pub ready : IsReady m
+  pub body : IsTransparent (committed m) file
+
+-- The store is ready, and at most 255 bytes from an offset on lie in a chain.
+pub record TakesBytes (m : Memory) (blocks : Chain) (offset count : ℕ) : Type 0 where
+  pub ready : IsReady m
+  pub lie : LieIn (committed m) blocks offset count
+  pub few : count ≤ 255
 
 -- The store is ready, and its words have these records.
 pub record HasRecords (m : Memory) (ring : Cyclic) : Type 0 where
@@ -21,3 +35,16 @@ pub record TakesLinear (m : Memory) (records : Linear) (bytes : List ℕ) : Type
   pub ready : IsReady m
   pub body : IsLinear (committed m) records
   pub size : length bytes ≡ records.record_length
+
+-- The store takes a record, and `records` is the number of records of a cyclic EF with it in front.
+pub record TakesFront (m : Memory) (ring : Cyclic) (bytes : List ℕ) (records : ℕ) : Type 0 where
+  pub body : TakesRecord m ring bytes
+  pub some : 1 ≤ records
+  pub most : records ≤ ring.capacity
+  pub more : records ≤ ring.records + 1
+
+-- The store has records, none shorter than an amount of `count` bytes or longer than a buffer of `most` bytes.
+pub record TakesAmount (m : Memory) (ring : Cyclic) (count most : ℕ) : Type 0 where
+  pub body : HasRecords m ring
+  pub sent : count ≤ ring.record_length
+  pub room : ring.record_length ≤ most

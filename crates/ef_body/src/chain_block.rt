@@ -1,10 +1,11 @@
 //! A block of a chain, from which the links lead on to those behind it.
 ghost use Rattle.std.specs.Prelude.{◌≡◌, ◌≤◌, ◌<◌, ℕ, List, length, IfOk};
 ghost use Rattle.std.specs.Result.{result_err};
-ghost use Rattle.undo_journal.specs.Memory.{committed, IsReady};
+ghost use Rattle.undo_journal.specs.Memory.{committed};
 ghost use Rattle.undo_journal.specs.StoreCalls.{Reads};
 ghost use Rattle.block_chain.specs.Chains.{Leads, chain_of};
 ghost use Rattle.ef_body.specs.ReadParts.{IsBlockOf};
+ghost use Rattle.block_store.specs.StoredBlocks.{HasChain};
 
 use block_chain::Chain;
 use block_store::block_at;
@@ -52,8 +53,7 @@ impl ChainBlock {
         chain: Chain,
         number: u16,
     ) -> Result<ChainBlock, StoreErr>
-        requires ready { IsReady store.old }
-        requires leads { Leads (committed store.old) chain.first (chain_of (committed store.old) chain) 0 }
+        requires chain { HasChain store.old chain.first }
         requires block { IsBlockOf (committed store.old) chain self }
         requires within { number < length (chain_of (committed store.old) chain) }
         ensures number { IfOk result (λ block. block.number ≡ number) }

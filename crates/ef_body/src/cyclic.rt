@@ -11,7 +11,7 @@ ghost use Rattle.card_state.specs.declared.status.TheConstants.Sw.{NO_ROOM};
 ghost use Rattle.card_state.specs.RecordLists.{front};
 ghost use Rattle.ef_contents.specs.Refusals.{missing_record, unraised, why_failed};
 ghost use Rattle.ef_body.specs.Bodies.{cyclic_body_records, IsCyclic};
-ghost use Rattle.ef_body.specs.StoredBodies.{HasRecords, TakesRecord};
+ghost use Rattle.ef_body.specs.StoredBodies.{TakesRecord, TakesAmount};
 ghost use Rattle.ef_body.specs.BodyChanges.{record_put_writes, slot_offset, CyclicBecomes, Increases};
 ghost use Rattle.ef_body.specs.BodyCalls.{Commits, CommitsUnlessRefused, ReceivesSum};
 
@@ -142,9 +142,7 @@ impl Cyclic {
         sent: &[u8],
         bytes: &mut ArrayVec<u8, N>,
     ) -> Result<RecordSlot, BodyErr>
-        requires body { HasRecords store.old self }
-        requires sent { length sent.now ≤ self.record_length }
-        requires room { self.record_length ≤ N }
+        requires { TakesAmount store.old self (length sent.now) N }
         ensures found { IfOk result (λ slot. (slot.ring ≡ self) × (slot.number ≡ 1)) }
         ensures sum { ReceivesSum self.record_length (cyclic_body_records (committed store.old) self) sent.now
             bytes.new.items result }
@@ -173,9 +171,7 @@ impl Cyclic {
         sent: &[u8],
         bytes: &mut ArrayVec<u8, N>,
     ) -> Result<(), BodyErr>
-        requires body { HasRecords store.old self }
-        requires sent { length sent.now ≤ self.record_length }
-        requires room { self.record_length ≤ N }
+        requires { TakesAmount store.old self (length sent.now) N }
         ensures sum { ReceivesSum self.record_length (cyclic_body_records (committed store.old) self) sent.now
             bytes.new.items result }
         ensures any_exit { (committed store.new ≡ committed store.old)

@@ -8,7 +8,7 @@ ghost use Rattle.card_state.specs.RecordLists.{record_of, stands_in, numbers_on,
 ghost use Rattle.ef_body.specs.Bodies.{cyclic_body_records};
 ghost use Rattle.ef_body.specs.StoredBodies.{HasRecords};
 ghost use Rattle.ef_body.specs.BodyCalls.{ReadsInto};
-ghost use Rattle.ef_body.specs.ReadParts.{IsBlockOf};
+ghost use Rattle.ef_body.specs.ReadParts.{IsBlockOf, IsRecordNumber};
 
 use crate::chain_block::ChainBlock;
 use crate::cyclic::Cyclic;
@@ -83,9 +83,7 @@ fn record_holds<B: Board>(
 
 /// Returns the number of records that a search reads.
 fn steps_of(direction: Direction, first: u16, records: u16) -> u16
-    requires some { 1 ≤ first }
-    requires last { first ≤ records }
-    requires few { records ≤ 254 }
+    requires { IsRecordNumber first records }
     ensures { result ≡ length (numbers_on direction first records) }
 {
     match direction {
@@ -96,9 +94,7 @@ fn steps_of(direction: Direction, first: u16, records: u16) -> u16
 
 /// Returns the number of the record at a step of the search.
 fn number_at(direction: Direction, first: u16, records: u16, step: u16) -> u16
-    requires some { 1 ≤ first }
-    requires last { first ≤ records }
-    requires few { records ≤ 254 }
+    requires first { IsRecordNumber first records }
     requires step { step < length (numbers_on direction first records) }
     ensures number { result ≡ slice_index (numbers_on direction first records) step }
     ensures from { 1 ≤ result }

@@ -1,5 +1,6 @@
 //! The slots of a ring of records, and the results of lookups: a record, or a free slot.
 ghost use Rattle.std.specs.Prelude.{◌≡◌, ◌≤◌, ◌<◌, ◌+◌, ◌-◌, ◌*◌, ◌%◌};
+ghost use Rattle.ef_body.specs.ReadParts.{IsSlotNumber};
 
 use crate::cyclic::Cyclic;
 
@@ -22,10 +23,7 @@ pub struct FreeSlot {
 /// Returns the slot of a number. The first slot follows the last one, so the slot before that of record 1 has the
 /// capacity as its number.
 pub(crate) fn slot_of(ring: Cyclic, number: u16) -> u16
-    requires start { ring.start < ring.capacity }
-    requires few { ring.capacity ≤ 254 }
-    requires first { 1 ≤ number }
-    requires last { number ≤ ring.capacity }
+    requires { IsSlotNumber ring number }
     ensures slot { result ≡ (ring.start + number - 1) % ring.capacity }
     ensures within { result < ring.capacity }
 {

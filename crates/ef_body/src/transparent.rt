@@ -1,15 +1,16 @@
 //! Transparent EFs: bytes (ISO/IEC 7816-4, 7.3.2 and 11.3).
 ghost use Rattle.std.specs.Prelude.{◌≡◌, ◌≤◌, ◌<◌, ◌+◌, ◌↔◌, min, length, take, drop, IsTrue, OnOk};
-ghost use Rattle.undo_journal.specs.Memory.{committed, IsReady};
+ghost use Rattle.undo_journal.specs.Memory.{committed};
 ghost use Rattle.undo_journal.specs.Spending.{transaction_writes, WritesAtMost};
 ghost use Rattle.card_state.specs.FileTrees.{overwrite};
 ghost use Rattle.block_chain.specs.ChainChanges.{touched_blocks, touched_words};
 ghost use Rattle.block_store.specs.Writes.{put_writes};
 ghost use Rattle.ef_contents.specs.Refusals.{past_end, overlong};
-ghost use Rattle.ef_body.specs.Bodies.{transparent_bytes, IsTransparent};
+ghost use Rattle.ef_body.specs.Bodies.{transparent_bytes};
 ghost use Rattle.ef_body.specs.BodyChanges.{TransparentBecomes};
 ghost use Rattle.ef_contents.specs.UpdateWrites.{update_writes};
 ghost use Rattle.ef_body.specs.BodyCalls.{CommitsUnlessRefused, ReadsUnlessRefused};
+ghost use Rattle.ef_body.specs.StoredBodies.{HasBytes};
 
 use crate::writing::put_bytes;
 use arrayvec::ArrayVec;
@@ -55,8 +56,7 @@ impl Transparent {
         most: u16,
         bytes: &mut ArrayVec<u8, N>,
     ) -> Result<(), BodyErr>
-        requires ready { IsReady store.old }
-        requires body { IsTransparent (committed store.old) self }
+        requires body { HasBytes store.old self }
         requires room { most ≤ N }
         ensures { ReadsUnlessRefused (past_end (transparent_bytes (committed store.old) self) offset)
             (take most (drop offset (transparent_bytes (committed store.old) self))) store.old store.new
@@ -82,8 +82,7 @@ impl Transparent {
         offset: u16,
         bytes: &[u8],
     ) -> Result<(), BodyErr>
-        requires ready { IsReady store.old }
-        requires body { IsTransparent (committed store.old) self }
+        requires body { HasBytes store.old self }
         requires few { length bytes.now ≤ 255 }
         ensures commits { CommitsUnlessRefused (overlong (transparent_bytes (committed store.old) self) offset
             bytes.now) (TransparentBecomes (committed store.old) self (overwrite (transparent_bytes

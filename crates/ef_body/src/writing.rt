@@ -1,7 +1,7 @@
 //! Writing the bodies of EFs, each time in one transaction.
 ghost use Rattle.std.specs.Prelude.{◌≡◌, ◌≤◌, ◌<◌, ◌+◌, ◌*◌, ◌-◌, ◌++◌, ◌∷◌, [], length, slice_set, OnOk};
 ghost use Rattle.std.specs.Result.{result_err};
-ghost use Rattle.undo_journal.specs.Memory.{committed, current, room, CountsCommit, InRuns, IsOpen, IsReady};
+ghost use Rattle.undo_journal.specs.Memory.{committed, current, CountsCommit, InRuns};
 ghost use Rattle.undo_journal.specs.StoreCalls.{SetsIn};
 ghost use Rattle.undo_journal.specs.Lent.{memory_of};
 ghost use Rattle.undo_journal.specs.declared.layout.TheConstants.{GATE};
@@ -10,11 +10,13 @@ ghost use Rattle.block_chain.specs.ChainChanges.{Overwrites, touched_blocks, tou
 ghost use Rattle.block_store.specs.Writes.{put_writes};
 ghost use Rattle.ef_body.specs.declared.layout.TheConstants.{RECORD_WRITES, UPDATE_WRITES};
 ghost use Rattle.card_state.specs.RecordLists.{front};
-ghost use Rattle.ef_body.specs.Bodies.{counts_word, cyclic_body_records, LieIn};
-ghost use Rattle.ef_body.specs.StoredBodies.{TakesRecord};
+ghost use Rattle.ef_body.specs.Bodies.{counts_word, cyclic_body_records};
+ghost use Rattle.ef_body.specs.StoredBodies.{TakesRecord, TakesFront, TakesBytes};
 ghost use Rattle.undo_journal.specs.Spending.{transaction_writes};
 ghost use Rattle.ef_body.specs.BodyChanges.{record_put_writes, slot_offset, CyclicBecomes, PutsRecord, RecordsBecome};
 ghost use Rattle.ef_body.specs.BodyCalls.{Commits};
+ghost use Rattle.undo_journal.specs.Rooms.{HasRoom};
+ghost use Rattle.block_store.specs.StoredBlocks.{LieIn};
 
 use crate::cyclic::Cyclic;
 use crate::slot::{FreeSlot, RecordSlot, offset_of, slot_of};
@@ -36,9 +38,7 @@ pub(crate) fn put_bytes<B: Board>(
     offset: u16,
     bytes: &[u8],
 ) -> Result<(), StoreErr>
-    requires ready { IsReady store.old }
-    requires lie { LieIn (committed store.old) chain offset (length bytes.now) }
-    requires few { length bytes.now ≤ 255 }
+    requires { TakesBytes store.old chain offset (length bytes.now) }
     ensures commits { Commits (Overwrites (committed store.old) (blocks_of_chain (committed store.old) chain) offset
         bytes.now) (transaction_writes (touched_words offset (length bytes.now)) (touched_blocks offset
         (length bytes.now))) store.old store.new result }
@@ -59,9 +59,7 @@ fn put_record<B: Board>(
     told_at: u16,
     told: u32,
 ) -> Result<(), StoreErr>
-    requires ready { IsReady store.old }
-    requires lie { LieIn (committed store.old) chain offset (length bytes.now) }
-    requires few { length bytes.now ≤ 255 }
+    requires bytes { TakesBytes store.old chain offset (length bytes.now) }
     requires entry { told_at < GATE }
     ensures commits { Commits (PutsRecord (committed store.old) chain offset bytes.now told_at told) RECORD_WRITES
         store.old store.new result }
@@ -82,10 +80,9 @@ fn set_record<B: Board>(
     told_at: u16,
     told: u32,
 ) -> Result<(), StoreErr>
-    requires ready { IsOpen (memory_of txn.old) }
+    requires room { HasRoom (memory_of txn.old) (touched_words offset (length bytes.now) + 1) }
     requires lie { LieIn (current (memory_of txn.old)) chain offset (length bytes.now) }
     requires entry { told_at < GATE }
-    requires room { touched_words offset (length bytes.now) + 1 ≤ room (memory_of txn.old) }
     ensures done { OnOk result (PutsRecord (current (memory_of txn.old)) chain offset bytes.now told_at told (current
         (memory_of txn.new))) }
     ensures store { SetsIn (touched_words offset (length bytes.now) + 1) txn.old txn.new (result_err result) }
@@ -105,10 +102,7 @@ pub(crate) fn put_front<B: Board>(
     bytes: &[u8],
     records: u16,
 ) -> Result<(), StoreErr>
-    requires body { TakesRecord store.old body bytes.now }
-    requires some { 1 ≤ records }
-    requires most { records ≤ body.capacity }
-    requires more { records ≤ body.records + 1 }
+    requires { TakesFront store.old body bytes.now records }
     ensures commits { Commits (CyclicBecomes (committed store.old) body (front records bytes.now (cyclic_body_records
         (committed store.old) body))) RECORD_WRITES store.old store.new result }
     ensures counted { OnOk result (store.new.facts.writes ≡ store.old.facts.writes

@@ -34,8 +34,17 @@ read-requires g c =
     c.in_ok-file.file.entry
     c.in_ok-file.ensures.told c.body_of-body.result c.body_of-body.ensures (committed c.find_file.new.store)
     c.find_file.ensures.store.only.keeps.committed_words in
-    let most = asked-most c.args.expected (omega arith) in
-    (lit< tt, (c.in_ok-file.ensures.store.ready, (stands, omega (arith, most, c.most_of.ensures))))
+    let most = asked-most c.args.expected (omega arith) in (
+      lit< tt,
+      (
+        record { ready = c.in_ok-file.ensures.store.ready; body = stands },
+        omega (
+          arith,
+          most,
+          c.most_of.ensures,
+        ),
+      ),
+    )
 
 pub returns-in_err-read : goal.returns-in_err-read
 returns-in_err-read g c =

@@ -24,15 +24,6 @@ returns-in_err-file g c =
     (update-refused (card_in old) (session_in old x) c.args.place.target c.args.place.offset c.args.bytes.now)
     c.in_err-file.ensures.told
 
-pub update-requires-clause-body : goal.update-requires-clause-body
-update-requires-clause-body g c =
-    found-body (committed c.args.store.now) c.requires.target.kept.ready.usable.committed_size
-    c.requires.target.kept.card
-    c.args.current.now c.args.place.target Update c.in_ok-file.file.number c.in_ok-file.file.entry
-    c.in_ok-file.ensures.told
-    c.body_of-body.result c.body_of-body.ensures (committed c.find_file.new.store)
-    c.find_file.ensures.store.only.keeps.committed_words
-
 pub returns-in_err-update : goal.returns-in_err-update
 returns-in_err-update g c = record {
   serves = let old = c.args.store.now in
@@ -83,4 +74,15 @@ returns g c = record {
       new c.update.ensures.commits.any_exit c.update.ensures.commits.by_gate c.update.ensures.commits.store.reports
       c.update.ensures.commits.store.writes
       c.in_ok-update.ensures.commits.done;
+}
+
+pub update-requires-clause-body : goal.update-requires-clause-body
+update-requires-clause-body g c = record {
+  ready = c.in_ok-file.ensures.store.ready;
+  body = found-body (committed c.args.store.now) c.requires.target.kept.ready.usable.committed_size
+      c.requires.target.kept.card
+      c.args.current.now c.args.place.target Update c.in_ok-file.file.number c.in_ok-file.file.entry
+      c.in_ok-file.ensures.told
+      c.body_of-body.result c.body_of-body.ensures (committed c.find_file.new.store)
+      c.find_file.ensures.store.only.keeps.committed_words;
 }

@@ -46,10 +46,11 @@ raise-requires g c =
     let short = stands.slots.short in
     let room : ring.record_length ≤ 256 = omega (arith, short) in (
       lit< tt,
-      (
-        record { ready = c.in_ok-file.ensures.store.ready; body = stands },
-        (short-sent _ _ (sym c.is_too_long.ensures ∙ c.if-is_too_long.false), room),
-      ),
+      record {
+        body = record { ready = c.in_ok-file.ensures.store.ready; body = stands };
+        sent = short-sent _ _ (sym c.is_too_long.ensures ∙ c.if-is_too_long.false);
+        room = room;
+      },
     )
 
 pub returns-in_err-slot : goal.returns-in_err-slot

@@ -11,20 +11,6 @@ use Rattle.command_base.specs.laws.Told.{told-entry}
 use Rattle.command_base.specs.laws.Stopping.{finds-stopped, reads-stopped}
 use Rattle.content_commands.proofs.records.find_records.Goals as goal
 
-pub of-requires-clause-number : goal.of-requires-clause-number
-of-requires-clause-number g c =
-    let named = c.in_ok-file.ensures.told in
-    let small = used_small (committed c.args.store.now) c.in_ok-file.file.number named.file.child.used in
-    omega (arith, small)
-
-pub of-requires-clause-told : goal.of-requires-clause-told
-of-requires-clause-told g c =
-    let named = c.in_ok-file.ensures.told in
-    subst IsToldEntry (sym named.entry_is)
-    (told-entry (committed c.args.store.now) c.requires.target.kept.ready.usable.committed_size
-    c.requires.target.kept.card
-    c.in_ok-file.file.number named.file.child.used)
-
 pub returns : goal.returns
 returns g c = record {
   told = let m = committed c.args.store.now in
@@ -43,13 +29,22 @@ returns g c = record {
   store = search rules;
 }
 
-pub of-requires-clause-records : goal.of-requires-clause-records
-of-requires-clause-records g c =
-    let named = c.in_ok-file.ensures.told in
-    record_kind c.args.need.structure c.in_ok-file.file.entry.kind c.requires.records named.structure
-
 pub returns-in_err-file : goal.returns-in_err-file
 returns-in_err-file g c = record {
   told = finds-stopped _ _ c.from_residual.ensures.1 _ _ c.in_err-file.ensures.told;
   store = reads-stopped _ _ c.from_residual.ensures.1 _ _ c.in_err-file.ensures.store;
+}
+
+pub of-requires : goal.of-requires
+of-requires g c = record {
+  number = let named = c.in_ok-file.ensures.told in
+      let small = used_small (committed c.args.store.now) c.in_ok-file.file.number named.file.child.used in
+      omega (arith, small);
+  told = let named = c.in_ok-file.ensures.told in
+      subst IsToldEntry (sym named.entry_is)
+      (told-entry (committed c.args.store.now) c.requires.target.kept.ready.usable.committed_size
+      c.requires.target.kept.card
+      c.in_ok-file.file.number named.file.child.used);
+  records = let named = c.in_ok-file.ensures.told in
+      record_kind c.args.need.structure c.in_ok-file.file.entry.kind c.requires.records named.structure;
 }

@@ -12,27 +12,6 @@ use Rattle.block_store.specs.Writes.{put_writes}
 use Rattle.ef_body.proofs.Putting.{touched_few}
 use Rattle.ef_body.proofs.writing.put_bytes.Goals as goal
 
-pub set_bytes-work-requires-clause-ready : goal.set_bytes-work-requires-clause-ready
-set_bytes-work-requires-clause-ready g c =
-    subst (λ (m : Memory). IsOpen m) (sym c.begin-txn.ensures.same) c.requires.ready.usable
-
-pub set_bytes-work-requires-clause-chain : goal.set_bytes-work-requires-clause-chain
-set_bytes-work-requires-clause-chain g c =
-    subst (λ (m : List ℕ). IsChain m c.args.chain.first (chain_of m c.args.chain))
-    (begun c.args.store.now (memory_of c.begin-txn.result) c.begin-txn.ensures.same c.requires.ready)
-    c.requires.lie.chain
-
-pub set_bytes-work-requires-clause-within : goal.set_bytes-work-requires-clause-within
-set_bytes-work-requires-clause-within g c =
-    subst (λ (m : List ℕ). c.args.offset + length c.args.bytes.now ≤ BLOCK_BYTES * length (chain_of m c.args.chain))
-    (begun c.args.store.now (memory_of c.begin-txn.result) c.begin-txn.ensures.same c.requires.ready)
-    c.requires.lie.within
-
-pub set_bytes-work-requires-clause-room : goal.set_bytes-work-requires-clause-room
-set_bytes-work-requires-clause-room g c =
-    let most = touched_few c.args.offset (length c.args.bytes.now) c.requires.few in
-    omega (arith, most, c.begin-txn.ensures.room)
-
 pub returns-clause-commits : goal.returns-clause-commits
 returns-clause-commits g c =
     let set = c.set_bytes-work.ensures in
@@ -63,3 +42,22 @@ returns-clause-counted g c =
     ends_counted (put_writes c.args.offset (length c.args.bytes.now)) c.set_bytes-work.result
     c.end.result _ _ (memory_of c.set_bytes-work.new.txn) _ _ c.begin-txn.ensures.same last
     c.requires.ready set.counted c.end.ensures.answered c.end.ensures.counted
+
+pub set_bytes-work-requires-clause-room : goal.set_bytes-work-requires-clause-room
+set_bytes-work-requires-clause-room g c = record {
+  ready = subst (λ (m : Memory). IsOpen m) (sym c.begin-txn.ensures.same) c.requires.ready.usable;
+  enough = let most = touched_few c.args.offset (length c.args.bytes.now) c.requires.few in
+      omega (arith, most, c.begin-txn.ensures.room);
+}
+
+pub set_bytes-work-requires-clause-lie : goal.set_bytes-work-requires-clause-lie
+set_bytes-work-requires-clause-lie g c = record {
+  chain = subst (λ (m : List ℕ). IsChain m c.args.chain.first (chain_of m c.args.chain))
+      (begun c.args.store.now (memory_of c.begin-txn.result) c.begin-txn.ensures.same c.requires.ready)
+      c.requires.lie.chain;
+  within = subst (λ (m : List ℕ). c.args.offset + length c.args.bytes.now ≤ BLOCK_BYTES * length (chain_of m
+      c.args.chain))
+      (begun c.args.store.now (memory_of c.begin-txn.result) c.begin-txn.ensures.same c.requires.ready)
+      c.requires.lie.within;
+  small = c.requires.lie.small;
+}

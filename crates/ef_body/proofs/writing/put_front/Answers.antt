@@ -1,15 +1,9 @@
-use Rattle.std.proofs.Common.{◌*◌, ◌∙◌, ℕ, ap, length}
+use Rattle.std.proofs.Common.{◌*◌, ◌∙◌, ℕ, ap, length, arith}
 use Rattle.undo_journal.specs.Memory.{committed}
 use Rattle.ef_body.specs.BodyChanges.{record_put_writes, slot_offset}
 use Rattle.ef_body.proofs.Becoming.{cyclic_front, slot_lies}
 use Rattle.ef_body.proofs.Calling.{commits_weaker, counted_at}
 use Rattle.ef_body.proofs.writing.put_front.Goals as goal
-
-pub put_record-requires-clause-lie : goal.put_record-requires-clause-lie
-put_record-requires-clause-lie g c =
-    slot_lies (committed c.args.store.now) c.args.body c.args.bytes.now c.requires.body.body c.requires.body.size
-    c.slot_of-start.result _
-    c.slot_of-start.ensures.within c.offset_of-offset.ensures
 
 pub returns-clause-commits : goal.returns-clause-commits
 returns-clause-commits g c =
@@ -26,3 +20,12 @@ returns-clause-counted g c =
     (slot_offset c.args.body c.args.body.capacity)
     (c.offset_of-offset.ensures ∙ ap (λ (s : ℕ). s * c.args.body.record_length) slot)
     c.put_record.ensures.counted
+
+pub put_record-requires-clause-bytes : goal.put_record-requires-clause-bytes
+put_record-requires-clause-bytes g c = record {
+  ready = c.requires.body.ready;
+  lie = slot_lies (committed c.args.store.now) c.args.body c.args.bytes.now c.requires.body.body c.requires.body.size
+      c.slot_of-start.result _
+      c.slot_of-start.ensures.within c.offset_of-offset.ensures;
+  few = let short = c.requires.body.body.slots.short in omega (arith, short, c.requires.body.size);
+}

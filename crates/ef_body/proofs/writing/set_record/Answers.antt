@@ -13,7 +13,7 @@ use Rattle.ef_body.proofs.writing.set_record.Goals as goal
 
 pub set-requires-clause-room : goal.set-requires-clause-room
 set-requires-clause-room g c =
-    let left = c.set_bytes.ensures.store.sets.room in omega (arith, left, c.requires.room)
+    let left = c.set_bytes.ensures.store.sets.room in omega (arith, left, c.requires.room.enough)
 
 pub returns-in_err-set_bytes-clause-store : goal.returns-in_err-set_bytes-clause-store
 returns-in_err-set_bytes-clause-store g c =
@@ -35,7 +35,7 @@ returns-clause-done g c =
     c.args.told_at c.args.told).
     puts m (current (memory_of c.set_bytes.new.txn)) (current (memory_of c.set.new.self)) c.args.chain
     c.args.offset
-    c.args.bytes.now c.args.told_at c.args.told c.requires.ready.current_size c.requires.lie.chain c.requires.entry
+    c.args.bytes.now c.args.told_at c.args.told c.requires.room.ready.current_size c.requires.lie.chain c.requires.entry
     c.in_ok-set_bytes.ensures.done done) c.set.ensures.done
 
 pub returns-in_err-set_bytes-clause-runs : goal.returns-in_err-set_bytes-clause-runs
@@ -60,3 +60,9 @@ returns-clause-counted g c =
     λ idle. record-counted c.args.offset (length c.args.bytes.now) set (memory_of c.args.txn.now)
     (memory_of c.set_bytes.new.txn) (memory_of c.set.new.self) c.requires.entry (put.counted idle) (put.waits idle)
     joins) c.set.ensures.joins
+
+pub set_bytes-requires-clause-room : goal.set_bytes-requires-clause-room
+set_bytes-requires-clause-room g c = record {
+  ready = c.requires.room.ready;
+  enough = omega (arith, c.requires.room.enough);
+}

@@ -28,15 +28,15 @@ read_bytes-requires g c =
     let size = rest.size in (
       search rules,
       (
-        c.in_ok-block.ensures.store.ready,
+        record {
+          ready = c.in_ok-block.ensures.store.ready;
+          leads = subst (λ (l : List ℕ). Leads l block.page (chain l block.page) 0) (sym same) rest.leads;
+        },
         (
-          subst (λ (l : List ℕ). Leads l block.page (chain l block.page) 0) (sym same) rest.leads,
+          omega (arith, at, inside, fits, many, number, size),
           (
-            omega (arith, at, inside, fits, many, number, size),
-            (
-              omega (arith, short),
-              omega (arith, length-emptied _ c.clear.ensures, c.requires.room),
-            ),
+            omega (arith, short),
+            omega (arith, length-emptied _ c.clear.ensures, c.requires.room),
           ),
         ),
       ),
@@ -69,3 +69,9 @@ returns-clause-record g c =
       any_exit = some_appended _ _ _ c.clear.ensures c.read_bytes.ensures.any_exit;
       store = reads_on _ _ _ _ c.go_to.ensures.store.only c.read_bytes.ensures.store;
     })
+
+pub go_to-requires-clause-chain : goal.go_to-requires-clause-chain
+go_to-requires-clause-chain g c = record {
+  ready = c.requires.body.ready;
+  leads = c.requires.body.body.slots.chain.leads;
+}

@@ -7,12 +7,6 @@ use Rattle.ef_body.proofs.Calling.{commits_weaker, commits_within, counted_at}
 use Rattle.ef_body.proofs.Putting.{touched_few, touched_few_blocks}
 use Rattle.ef_body.proofs.slot.RecordSlot.replace.Goals as goal
 
-pub put_bytes-requires-clause-lie : goal.put_bytes-requires-clause-lie
-put_bytes-requires-clause-lie g c =
-    slot_lies (committed c.args.store.now) c.args.self.ring c.args.bytes.now c.requires.body.body c.requires.body.size
-    c.slot_of.result _
-    c.slot_of.ensures.within c.offset_of-offset.ensures
-
 pub returns-clause-commits : goal.returns-clause-commits
 returns-clause-commits g c =
     let slot = c.args.self in
@@ -33,3 +27,13 @@ returns-clause-counted g c =
     (slot_offset c.args.self.ring c.args.self.number)
     (c.offset_of-offset.ensures ∙ ap (λ (s : ℕ). s * c.args.self.ring.record_length) slot)
     c.put_bytes.ensures.counted
+
+pub put_bytes-requires : goal.put_bytes-requires
+put_bytes-requires g c = record {
+  ready = c.requires.body.ready;
+  lie = slot_lies (committed c.args.store.now) c.args.self.ring c.args.bytes.now c.requires.body.body
+      c.requires.body.size
+      c.slot_of.result _
+      c.slot_of.ensures.within c.offset_of-offset.ensures;
+  few = let short = c.requires.body.body.slots.short in omega (arith, short, c.requires.body.size);
+}

@@ -14,28 +14,27 @@ returns-then-ends_at g c =
     let m = committed c.args.store.now in
     refused_reads _ WRONG_OFFSET refl _
     (offset_past (transparent_bytes m c.args.self) c.args.self.size c.args.offset c.ends_at.result
-    (length-transparent m c.args.self c.requires.ready.usable.committed_size c.requires.body) c.ends_at.ensures
-    c.if-ends_at.true) _ c.requires.ready _ _ c.clear.ensures
+    (length-transparent m c.args.self c.requires.body.ready.usable.committed_size c.requires.body.body)
+    c.ends_at.ensures
+    c.if-ends_at.true) _ c.requires.body.ready _ _ c.clear.ensures
 
 pub read_bytes-requires : goal.read_bytes-requires
 read_bytes-requires g c =
     let m = committed c.args.store.now in
     let low = inside (transparent_bytes m c.args.self) c.args.self.size c.args.offset c.ends_at.result
-    (length-transparent m c.args.self c.requires.ready.usable.committed_size c.requires.body) c.ends_at.ensures
+    (length-transparent m c.args.self c.requires.body.ready.usable.committed_size c.requires.body.body)
+    c.ends_at.ensures
     c.if-ends_at.false in
     let is = c.smaller-count.ensures in
-    let fits = c.requires.body.fits in (
+    let fits = c.requires.body.body.fits in (
       search rules,
       (
-        c.requires.ready,
+        record { ready = c.requires.body.ready; leads = c.requires.body.body.chain.leads },
         (
-          c.requires.body.chain.leads,
+          omega (arith, low, is, fits),
           (
-            omega (arith, low, is, fits),
-            (
-              (let size = c.requires.body.size in omega (arith, low, is, size)),
-              omega (arith, is, length-emptied _ c.clear.ensures, c.requires.room),
-            ),
+            (let size = c.requires.body.body.size in omega (arith, low, is, size)),
+            omega (arith, is, length-emptied _ c.clear.ensures, c.requires.room),
           ),
         ),
       ),
@@ -44,7 +43,7 @@ read_bytes-requires g c =
 pub returns : goal.returns
 returns g c =
     let m = committed c.args.store.now in
-    let long = length-transparent m c.args.self c.requires.ready.usable.committed_size c.requires.body in
+    let long = length-transparent m c.args.self c.requires.body.ready.usable.committed_size c.requires.body.body in
     let low = inside (transparent_bytes m c.args.self) c.args.self.size c.args.offset c.ends_at.result long
     c.ends_at.ensures c.if-ends_at.false in
     store_reads c.read_bytes.result c.from_store.result c.from_store.ensures _
@@ -52,7 +51,8 @@ returns g c =
     c.ends_at.ensures c.if-ends_at.false) _ _ _ _
     (subst (λ (l : List ℕ). ReadsInto l c.args.store.now c.read_bytes.new.store c.read_bytes.new.out.items
     c.read_bytes.result)
-    (taken_within m c.args.self c.requires.ready.usable.committed_size c.requires.body c.args.offset c.args.most
+    (taken_within m c.args.self c.requires.body.ready.usable.committed_size c.requires.body.body c.args.offset
+    c.args.most
     c.smaller-count.result low c.smaller-count.ensures) (record {
       bytes = on_ok_weaker c.read_bytes.result (all_appended _ _ _ c.clear.ensures) c.read_bytes.ensures.done;
       any_exit = some_appended _ _ _ c.clear.ensures c.read_bytes.ensures.any_exit;

@@ -12,39 +12,25 @@ use Rattle.ef_body.proofs.transparent.Transparent.update.Goals as goal
 pub returns-then-ends_at-clause-commits : goal.returns-then-ends_at-clause-commits
 returns-then-ends_at-clause-commits g c =
     let m = committed c.args.store.now in
-    let long = length-transparent m c.args.self c.requires.ready.usable.committed_size c.requires.body in
+    let long = length-transparent m c.args.self c.requires.body.ready.usable.committed_size c.requires.body.body in
     refused_commits _ WRONG_OFFSET refl _
     (update_past (transparent_bytes m c.args.self) c.args.self.size c.args.offset c.ends_at.result long
-    c.ends_at.ensures c.args.bytes.now c.if-ends_at.true) _ c.requires.ready _ _
+    c.ends_at.ensures c.args.bytes.now c.if-ends_at.true) _ c.requires.body.ready _ _
 
 pub returns-then-ends_before-clause-commits : goal.returns-then-ends_before-clause-commits
 returns-then-ends_before-clause-commits g c =
     let m = committed c.args.store.now in
-    let long = length-transparent m c.args.self c.requires.ready.usable.committed_size c.requires.body in
+    let long = length-transparent m c.args.self c.requires.body.ready.usable.committed_size c.requires.body.body in
     refused_commits _ NO_ROOM refl _
     (new_past (transparent_bytes m c.args.self) c.args.self.size c.args.offset c.ends_at.result long c.ends_at.ensures
     c.args.bytes.now c.ends_before.result c.ends_before.ensures c.if-ends_at.false c.if-ends_before.true) _
-    c.requires.ready _ _
-
-pub put_bytes-requires-clause-lie : goal.put_bytes-requires-clause-lie
-put_bytes-requires-clause-lie g c =
-    let m = committed c.args.store.now in
-    let within = new_fits (transparent_bytes m c.args.self) c.args.self.size c.args.offset c.ends_at.result
-    (length-transparent m c.args.self c.requires.ready.usable.committed_size c.requires.body) c.ends_at.ensures
-    c.args.bytes.now c.ends_before.result c.ends_before.ensures c.if-ends_at.false c.if-ends_before.false in
-    let fits = c.requires.body.fits in
-    let size = c.requires.body.size in
-    record {
-      chain = c.requires.body.chain;
-      within = omega (arith, within, fits);
-      small = omega (arith, within, size);
-    }
+    c.requires.body.ready _ _
 
 pub returns-clause-commits : goal.returns-clause-commits
 returns-clause-commits g c =
     let m = committed c.args.store.now in
     let n = committed c.put_bytes.new.store in
-    let long = length-transparent m c.args.self c.requires.ready.usable.committed_size c.requires.body in
+    let long = length-transparent m c.args.self c.requires.body.ready.usable.committed_size c.requires.body.body in
     let within = new_fits (transparent_bytes m c.args.self) c.args.self.size c.args.offset c.ends_at.result long
     c.ends_at.ensures c.args.bytes.now c.ends_before.result c.ends_before.ensures c.if-ends_at.false
     c.if-ends_before.false in
@@ -53,7 +39,8 @@ returns-clause-commits g c =
     c.ends_at.ensures c.args.bytes.now c.ends_before.result c.ends_before.ensures c.if-ends_at.false
     c.if-ends_before.false) _ _ _ _
     (commits_weaker _ _ _ c.put_bytes.result _ _
-    (bytes_put m n c.args.self c.args.offset c.args.bytes.now c.requires.ready.usable.committed_size c.requires.body
+    (bytes_put m n c.args.self c.args.offset c.args.bytes.now c.requires.body.ready.usable.committed_size
+    c.requires.body.body
     within) c.put_bytes.ensures.commits)
 
 pub returns-clause-writes : goal.returns-clause-writes
@@ -64,3 +51,21 @@ returns-clause-writes g c =
 pub returns-clause-counted : goal.returns-clause-counted
 returns-clause-counted g c =
     store_done c.put_bytes.result c.from_store.result c.from_store.ensures _ c.put_bytes.ensures.counted
+
+pub put_bytes-requires : goal.put_bytes-requires
+put_bytes-requires g c = record {
+  ready = c.requires.body.ready;
+  lie = let m = committed c.args.store.now in
+      let within = new_fits (transparent_bytes m c.args.self) c.args.self.size c.args.offset c.ends_at.result
+      (length-transparent m c.args.self c.requires.body.ready.usable.committed_size c.requires.body.body)
+      c.ends_at.ensures
+      c.args.bytes.now c.ends_before.result c.ends_before.ensures c.if-ends_at.false c.if-ends_before.false in
+      let fits = c.requires.body.body.fits in
+      let size = c.requires.body.body.size in
+      record {
+        chain = c.requires.body.body.chain;
+        within = omega (arith, within, fits);
+        small = omega (arith, within, size);
+      };
+  few = c.requires.few;
+}
