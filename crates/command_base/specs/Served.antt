@@ -16,7 +16,7 @@ use Rattle.command_base.specs.Comparing.{comparisons, ComparesAsked, ComparesBy}
 use Rattle.command_base.specs.Counting.{CountsAnswered, CountsServed}
 use Rattle.card_model.specs.Behaviours.{outcome}
 use Rattle.command_base.specs.CommandWrites.{most_writes, writes_of}
-use Rattle.card_model.specs.Steps.{commits, ChangesNothing, IsStage, carried_out, served, IsDoing, moves_files}
+use Rattle.card_model.specs.Steps.{ChangesNothing, IsStage, carried_out, served, IsDoing, moves_files}
 use Rattle.command_base.specs.Standing.{IsCard}
 use Rattle.command_base.specs.CommitWords.{StandsAsked, StandsServed}
 use Rattle.command_base.specs.Working.{card_in, session_in, table_in, IsKept}

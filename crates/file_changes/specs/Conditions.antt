@@ -15,6 +15,8 @@ use Rattle.file_tree.specs.Indexes.{IsIndex}
 use Rattle.file_tree.specs.Table.{table, entry_in}
 use Rattle.file_tree.specs.Trees.{tree_of, TreeStands}
 use Rattle.file_lookup.specs.StoredFiles.{HasFile}
+use Rattle.card_state.specs.FileControl.{IsCreatable}
+use Rattle.card_state.specs.declared.fcp.Fcp.{Fcp}
 
 -- The number of an entry, and the entry of a file for it.
 pub record IsNewEntry (e : ℕ) (entry : Entry) : Type 0 where
@@ -42,3 +44,9 @@ pub record IsSurveyed (m : Memory) (space : FreeSpace) (files : Index) : Type 0 
 pub record HasLowerFile (m : Memory) (e : ℕ) : Type 0 where
   pub file : HasFile m e
   pub below : 0 < e
+
+-- A file in a store, the free space and the index of its tree, and the parameters of a new file.
+pub record TakesFile (m : Memory) (e : ℕ) (free : FreeSpace) (files : Index) (new : Fcp) : Type 0 where
+  pub df : HasFile m e
+  pub space : IsSurveyed m free files
+  pub fcp : IsCreatable new

@@ -7,7 +7,7 @@ use Rattle.card_state.specs.declared.status.TheConstants.Sw.{CONDITIONS_NOT_SATI
 use Rattle.card_state.specs.declared.fcp.Fcp.{Fcp}
 use Rattle.card_state.specs.declared.fcp.FileKind.{FileKind}
 use Rattle.card_state.specs.FileControl.{short_of_kind, name_bytes}
-use Rattle.card_state.specs.FileTrees.{dedicated, Path, Tree, exists}
+use Rattle.card_state.specs.FileTrees.{Path, Tree, exists}
 use Rattle.card_state.specs.NewFiles.{has_name, has_short_given, has_no_room}
 
 -- The refusal by a name in use: a child has the identifier, a DF has the name, or a child has the given short

@@ -1,6 +1,6 @@
 -- Steps inside a deletion. No public clause uses these definitions.
 use Rattle.std.specs.Prelude.{◌≡◌, ◌≢◌, ◌↔◌, ◌==◌, ◌⊎◌, ◌<◌, ◌+◌, ◌&&◌, ℕ, Bool, false, not, if◌then◌else◌, List, []}
-use Rattle.std.specs.Prelude.{map, length, slice_index_or, IsTrue, Option, None, Some}
+use Rattle.std.specs.Prelude.{map, length, slice_index_or, IsTrue, Option, None, Some, ◌≤◌}
 use Rattle.std.specs.List.{range_with_len, sum_by, cons_option}
 use Rattle.nvm_board.specs.declared.board.TheConstants.{PAGE_WORDS}
 use Rattle.block_chain.specs.declared.chain.Chain.{Chain}
@@ -19,6 +19,7 @@ use Rattle.file_tree.specs.Table.{table, entry_in, extents, free_entries}
 use Rattle.file_tree.specs.Subtrees.{leads_up}
 use Rattle.file_tree.specs.Kinds.{kind_byte}
 use Rattle.file_tree.specs.declared.kinds.EntryKind.TheVariants.{Free}
+use Rattle.undo_journal.specs.Memory.{Memory, committed, IsReady}
 
 -- True if entry `f` is used and in the subtree of `top`.
 abbrev pub is_gone : List Entry → ℕ → ℕ → Bool
@@ -35,6 +36,12 @@ part_below t top = map (going t top) (range_with_len 0 64)
 -- an entry, if it goes with another one
 abbrev pub entry_if_gone : List Entry → ℕ → ℕ → Option Entry
 entry_if_gone t top f = if is_gone t top f then Some (entry_in t f) else None
+
+-- The number of an entry, for which a part has room.
+pub record HasPlaceFor (part : Part) (e : ℕ) : Type 0 where
+  pub within : e < 64
+  pub count : part.count < 64
+  pub room : length part.extents.items < 64
 
 -- the extent of an entry, if one is given that has one
 abbrev pub extents_in : Option Entry → List Extent
@@ -79,3 +86,9 @@ pub record Removes (m : List ℕ) (part : List Entry) (chains : List Chain) (aft
 -- Once the entries are freed, the chains can be given back.
 abbrev pub CanGive : List ℕ → List Entry → List Chain → Type 0
 CanGive m part chains = (between : List ℕ) → FreesEntries m part between → HasFree between × AreApart between chains
+
+-- The store is ready, and the chains are at most 64 and those of a part that goes.
+pub record CanRemove (m : Memory) (marks : List Bool) (chains : List Chain) : Type 0 where
+  pub ready : IsReady m
+  pub apart : (part : List Entry) × GoesWith marks part × CanGive (committed m) part chains
+  pub few : length chains ≤ 64

@@ -21,8 +21,9 @@ ghost use Rattle.file_tree.specs.TreeChanges.{Deletes, with_freed};
 ghost use Rattle.file_tree.specs.Indexes.{IsIndex};
 ghost use Rattle.file_changes.specs.Conditions.{HasLowerFile};
 ghost use Rattle.file_changes.specs.DeletionParts.{IsPart, IsRemoval, CanGive, FreesEntries, GoesWith, Removes};
-ghost use Rattle.file_changes.specs.DeletionParts.{extents_in, entry_if_gone};
+ghost use Rattle.file_changes.specs.DeletionParts.{extents_in, entry_if_gone, HasPlaceFor, CanRemove};
 ghost use Rattle.undo_journal.specs.Rooms.{HasRoom};
+ghost use Rattle.file_lookup.specs.StoredFiles.{HasEntry, HasTableEnd};
 
 use arrayvec::ArrayVec;
 use block_chain::{Chain, Extent};
@@ -63,9 +64,7 @@ impl Part {
 
     /// Adds an entry that goes, if one is given.
     fn add(&mut self, e: u8, entry: Option<Entry>)
-        requires within { e < 64 }
-        requires count { self.old.count < 64 }
-        requires room { length self.old.extents.items < 64 }
+        requires { HasPlaceFor self.old e }
         ensures goes { self.new.goes ≡ (if is_some entry then slice_set self.old.goes e true else self.old.goes) }
         ensures count { self.new.count ≡ self.old.count + (if is_some entry then 1 else 0) }
         ensures extents { self.new.extents.items ≡ self.old.extents.items ++ extents_in entry }
@@ -83,8 +82,7 @@ impl Part {
 
 /// Returns the parent of each entry, from the heads of the entries before `end`.
 fn read_parents<B: Board>(store: &mut Store<B>, end: u8) -> Result<[u8; 256], StoreErr>
-    requires ready { IsReady store.old }
-    requires end { IsTableEnd (table (committed store.old)) end }
+    requires { HasTableEnd store.old end }
     ensures parents { IfOk result (λ parents. (e : ℕ) → e < 256
         → slice_index parents e ≡ (entry_in (table (committed store.old)) e).parent) }
     ensures store { Reads store.old store.new (result_err result) }
@@ -104,8 +102,7 @@ fn deleted_entry<B: Board>(
     top: u8,
     e: u8,
 ) -> Result<Option<Entry>, StoreErr>
-    requires ready { IsReady store.old }
-    requires within { e < 64 }
+    requires entry { HasEntry store.old e }
     requires parents { (f : ℕ) → f < 256
         → slice_index parents.now f ≡ (entry_in (table (committed store.old)) f).parent }
     ensures { Learns store.old store.new result (λ found. found ≡ entry_if_gone (table (committed store.old)) top e) }
@@ -194,9 +191,7 @@ fn take_away<B: Board>(
 
 /// Frees entries and chains in one transaction.
 fn remove<B: Board>(store: &mut Store<B>, marks: &Marks, chains: &[Chain]) -> Result<(), StoreErr>
-    requires ready { IsReady store.old }
-    requires apart { (part : List Entry) × GoesWith marks.now part × CanGive (committed store.old) part chains.now }
-    requires few { length chains.now ≤ 64 }
+    requires { CanRemove store.old marks.now chains.now }
     ensures any_exit { (committed store.new ≡ committed store.old) ⊎ ((part : List Entry) → GoesWith marks.now part
         → Removes (committed store.old) part chains.now (committed store.new)) }
     ensures done { OnOk result ((part : List Entry) → GoesWith marks.now part

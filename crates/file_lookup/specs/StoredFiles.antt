@@ -1,11 +1,22 @@
 -- A file in a store: the precondition of calls that read or change it.
-use Rattle.std.specs.Prelude.{◌≡◌, ℕ}
+use Rattle.std.specs.Prelude.{◌≡◌, ℕ, ◌<◌}
 use Rattle.undo_journal.specs.Memory.{Memory, IsReady, committed}
 use Rattle.file_tree.specs.declared.entry.Entry.{Entry}
 use Rattle.file_tree.specs.declared.index.Index.{Index}
 use Rattle.file_tree.specs.Indexes.{IsIndex}
 use Rattle.file_tree.specs.Table.{table, entry_in, IsUsed}
 use Rattle.file_tree.specs.Trees.{TreeStands}
+use Rattle.file_tree.specs.TableEnd.{IsTableEnd}
+
+-- The store is ready, and the table has an entry of this number, used or free.
+pub record HasEntry (m : Memory) (e : ℕ) : Type 0 where
+  pub ready : IsReady m
+  pub within : e < 64
+
+-- The store is ready, and all entries of its table from a number on are free.
+pub record HasTableEnd (m : Memory) (e : ℕ) : Type 0 where
+  pub ready : IsReady m
+  pub end : IsTableEnd (table (committed m)) e
 
 -- The store is ready, its words are a valid tree, and the entry has a file.
 pub record HasFile (m : Memory) (e : ℕ) : Type 0 where

@@ -10,7 +10,7 @@ ghost use Rattle.file_tree.specs.Table.{table, path_of, IsUsed};
 ghost use Rattle.file_tree.specs.Trees.{tree_of, TreeStands};
 ghost use Rattle.file_tree.specs.Indexes.{IsIndex};
 ghost use Rattle.file_tree.specs.Naming.{BearsName, BearsNameAt, TellsNamed};
-ghost use Rattle.file_lookup.specs.StoredFiles.{HasFile, HasTree};
+ghost use Rattle.file_lookup.specs.StoredFiles.{HasFile, HasTree, HasEntry};
 
 use crate::reading::{read_entry, read_entry_head};
 use card_state::limits::MOST_NAME_BYTES;
@@ -33,8 +33,7 @@ fn is_as_long(head: EntryHead, name: &[u8]) -> bool
 
 /// An entry is a dedicated file's with this name. The whole entry is read only where its head tells as long a name.
 fn bears_name_at<B: Board>(store: &mut Store<B>, e: u8, name: &[u8]) -> Result<bool, StoreErr>
-    requires ready { IsReady store.old }
-    requires within { e < 64 }
+    requires { HasEntry store.old e }
     ensures { Learns store.old store.new result (λ bears. IsTrue bears
         ↔ BearsNameAt (table (committed store.old)) name.now e) }
 {

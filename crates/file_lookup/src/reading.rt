@@ -9,6 +9,7 @@ ghost use Rattle.file_tree.specs.Entries.{head_of};
 ghost use Rattle.file_tree.specs.Table.{table, entry_in};
 ghost use Rattle.file_tree.specs.TableEnd.{IsTableEnd};
 ghost use Rattle.file_tree.specs.declared.layout.TheConstants.{FIRST_ENTRY_PAGE};
+ghost use Rattle.file_lookup.specs.StoredFiles.{HasEntry};
 
 use arrayvec::ArrayVec;
 use file_tree::{ENTRIES_END, ENTRY_WORDS, Entry, EntryHead, entry_address};
@@ -16,8 +17,7 @@ use undo_journal::{Board, Store, StoreErr};
 
 /// Returns the words of an entry, each read once.
 fn read_words<B: Board>(store: &mut Store<B>, e: u8) -> Result<[u32; ENTRY_WORDS], StoreErr>
-    requires ready { IsReady store.old }
-    requires within { e < 64 }
+    requires { HasEntry store.old e }
     ensures words { IfOk result (λ words. (k : ℕ) → k < 11
         → slice_index words k ≡ word (committed store.old) (1 + e) k) }
     ensures store { Reads store.old store.new (result_err result) }
@@ -36,8 +36,7 @@ fn read_words<B: Board>(store: &mut Store<B>, e: u8) -> Result<[u32; ENTRY_WORDS
 /// The store's failure: power was lost, or the device failed.
 #[inline(never)]
 pub fn read_entry<B: Board>(store: &mut Store<B>, e: u8) -> Result<Entry, StoreErr>
-    requires ready { IsReady store.old }
-    requires within { e < 64 }
+    requires { HasEntry store.old e }
     ensures entry { IfOk result (λ entry. entry ≡ entry_in (table (committed store.old)) e) }
     ensures store { Reads store.old store.new (result_err result) }
 {
@@ -47,8 +46,7 @@ pub fn read_entry<B: Board>(store: &mut Store<B>, e: u8) -> Result<Entry, StoreE
 
 /// Returns an entry by its number. Of a free entry it reads only the first word.
 fn read_used<B: Board>(store: &mut Store<B>, e: u8) -> Result<Entry, StoreErr>
-    requires ready { IsReady store.old }
-    requires within { e < 64 }
+    requires { HasEntry store.old e }
     ensures entry { IfOk result (λ entry. entry ≡ entry_in (table (committed store.old)) e) }
     ensures store { Reads store.old store.new (result_err result) }
 {
@@ -106,8 +104,7 @@ pub fn fill_table<B: Board, const N: usize>(
 /// # Errors
 /// The store's failure: power was lost, or the device failed.
 pub fn read_entry_head<B: Board>(store: &mut Store<B>, e: u8) -> Result<EntryHead, StoreErr>
-    requires ready { IsReady store.old }
-    requires within { e < 64 }
+    requires { HasEntry store.old e }
     ensures head { IfOk result (λ head. head ≡ head_of (entry_in (table (committed store.old)) e)) }
     ensures store { Reads store.old store.new (result_err result) }
 {

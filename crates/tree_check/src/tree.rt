@@ -5,9 +5,9 @@ ghost use Rattle.std.specs.Result.{result_err};
 ghost use Rattle.undo_journal.specs.Memory.{committed, IsReady};
 ghost use Rattle.undo_journal.specs.StoreCalls.{Learns, Reads};
 ghost use Rattle.file_tree.specs.Table.{table, extents, free_entries, IsTable};
-ghost use Rattle.file_tree.specs.TableEnd.{IsTableEnd};
 ghost use Rattle.file_tree.specs.Trees.{TellsSpace};
 ghost use Rattle.tree_check.specs.Surveys.{IsBlankListing, TellsListing, TellsTree};
+ghost use Rattle.file_lookup.specs.StoredFiles.{HasTableEnd};
 
 use crate::format::read_block_count;
 use crate::table::{count_free, is_table, list_extents};
@@ -107,8 +107,7 @@ fn list_many<B: Board>(
     end: u8,
     listing: &mut Listing,
 ) -> Result<bool, StoreErr>
-    requires ready { IsReady store.old }
-    requires end { IsTableEnd (table (committed store.old)) end }
+    requires end { HasTableEnd store.old end }
     requires blank { IsBlankListing listing.old }
     ensures { Learns store.old store.new result (TellsListing (table (committed store.old)) listing.new) }
 {
@@ -123,8 +122,7 @@ fn list_entries<B: Board, const N: usize>(
     entries: &mut ArrayVec<Entry, N>,
     listing: &mut Listing,
 ) -> Result<bool, StoreErr>
-    requires ready { IsReady store.old }
-    requires end { IsTableEnd (table (committed store.old)) end }
+    requires end { HasTableEnd store.old end }
     requires room { end ≤ N }
     requires empty { entries.old.items ≡ [] }
     requires blank { IsBlankListing listing.old }

@@ -3,7 +3,7 @@ use Rattle.std.specs.Prelude.{◌≡◌, ◌≢◌, ◌↔◌, ◌==◌, ◌<◌
 use Rattle.std.specs.Prelude.{cond, if◌then◌else◌, IsTrue, List, [], ◌∷◌}
 use Rattle.std.specs.Prelude.{map, length, replicate, slice_index_or, slice_set}
 use Rattle.std.specs.Prelude.{Option, None, Some, is_some}
-use Rattle.std.specs.List.{range_with_len, cons_option, sum_by}
+use Rattle.std.specs.List.{range_with_len, cons_option}
 use Rattle.std.proofs.Common.{refl, sym, ◌∙◌, ap, subst, arith, inl, inr, below_more, true≢false}
 use Rattle.std.proofs.Common.{append-nil, get_or-set_same, get_or-set_other}
 use Rattle.std.proofs.Math.ListN.{length-set}
@@ -20,7 +20,7 @@ use Rattle.file_tree.specs.Subtrees.{leads_up}
 use Rattle.file_tree.specs.Table.{entry_in, extents, free_entries}
 use Rattle.file_tree.specs.laws.Costs.{extent_of-none}
 use Rattle.file_tree.specs.laws.Tables.{index-mapped}
-use Rattle.file_changes.specs.DeletionParts.{is_gone, going, entry_if_gone, extents_in, part_below, GoesWith, IsPart}
+use Rattle.file_changes.specs.DeletionParts.{is_gone, going, entry_if_gone, extents_in, part_below, IsPart}
 
 -- the first so many entries of the part
 abbrev pub part_to : List Entry → ℕ → ℕ → List Entry

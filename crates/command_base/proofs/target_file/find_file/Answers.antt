@@ -21,13 +21,6 @@ use Rattle.command_base.specs.laws.Stopping.{finds-stopped, reads-stopped, refus
 use Rattle.command_base.specs.declared.stop.Stop.TheVariants.{Failed}
 use Rattle.command_base.proofs.target_file.find_file.Goals as goal
 
-pub read_entry-requires-clause-within : goal.read_entry-requires-clause-within
-read_entry-requires-clause-within g c =
-    let t = table (committed c.args.store.now) in
-    let file = subst (λ (o : Option ℕ). IfSome o (IsElementary t c.args.current.now.df)) c.in-Some.is
-    c.in_ok-number.ensures.child in
-    used_small (committed c.args.store.now) c.in-Some.number file.child.used
-
 pub returns-in_err-check_file : goal.returns-in_err-check_file
 returns-in_err-check_file g c = record {
   told = let m = committed c.args.store.now in
@@ -128,4 +121,13 @@ check_file-requires g c = record {
         ∙ ap (λ (l : List ℕ). entry_in (table l) c.in-Some.number)
         (sym c.read_entry.ensures.store.only.keeps.committed_words);
   };
+}
+
+pub read_entry-requires : goal.read_entry-requires
+read_entry-requires g c = record {
+  ready = search rules;
+  within = let t = table (committed c.args.store.now) in
+      let file = subst (λ (o : Option ℕ). IfSome o (IsElementary t c.args.current.now.df)) c.in-Some.is
+      c.in_ok-number.ensures.child in
+      used_small (committed c.args.store.now) c.in-Some.number file.child.used;
 }

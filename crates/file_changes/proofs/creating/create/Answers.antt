@@ -163,9 +163,6 @@ returns-in_err-write_file-clause-any_exit g c =
     inr is.creates)
     c.write_file.ensures.any_exit
 
-pub find_place-requires-clause-fcp : goal.find_place-requires-clause-fcp
-find_place-requires-clause-fcp g c = c.requires.fcp
-
 pub returns-in_err-entry-clause-any_exit : goal.returns-in_err-entry-clause-any_exit
 returns-in_err-entry-clause-any_exit g c =
     inl (same_tree (committed c.args.store.now) _ c.requires.df.tree
@@ -295,17 +292,10 @@ has_df : (m : Memory) (df : ℕ) → IsReady m → TreeStands (committed m) → 
     → HasFile m df
 has_df m df ready tree kind = record { ready = ready; tree = tree; used = used_df (committed m) df kind }
 
-pub find_place-requires-clause-df : goal.find_place-requires-clause-df
-find_place-requires-clause-df g c =
-    has_df c.args.store.now c.args.df c.requires.df.ready c.requires.df.tree c.requires.df.df
-
 pub short_of-requires-clause-df : goal.short_of-requires-clause-df
 short_of-requires-clause-df g c =
     file_still _ _ _ c.find_place.ensures.store.only c.in_ok-entry.ensures.store.ready
     (has_df c.args.store.now c.args.df c.requires.df.ready c.requires.df.tree c.requires.df.df)
-
-pub find_place-requires-clause-space : goal.find_place-requires-clause-space
-find_place-requires-clause-space g c = c.requires.space
 
 pub write_file-requires-clause-entry : goal.write_file-requires-clause-entry
 write_file-requires-clause-entry g c = record {
@@ -321,4 +311,11 @@ write_file-requires-clause-tree g c = record {
   ready = c.in_ok-short.ensures.store.ready;
   tree = subst (λ (l : List ℕ). TreeStands l) (sym (c.short_of.ensures.store.only.keeps.committed_words
       ∙ c.find_place.ensures.store.only.keeps.committed_words)) c.requires.df.tree;
+}
+
+pub find_place-requires : goal.find_place-requires
+find_place-requires g c = record {
+  df = has_df c.args.store.now c.args.df c.requires.df.ready c.requires.df.tree c.requires.df.df;
+  space = c.requires.space;
+  fcp = c.requires.fcp;
 }

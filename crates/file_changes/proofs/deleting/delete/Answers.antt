@@ -1,6 +1,6 @@
 use Rattle.undo_journal.specs.laws.Transactions.{by_gate_after}
 use Rattle.undo_journal.specs.laws.Exits.{none_ok}
-use Rattle.std.proofs.Common.{◌≡◌, ℕ, List, ◌∙◌, inl, inr, ⊎_elim}
+use Rattle.std.proofs.Common.{◌≡◌, List, ◌∙◌, inl, inr, ⊎_elim, rules, arith}
 use Rattle.undo_journal.specs.Memory.{committed}
 use Rattle.file_tree.specs.declared.entry.Entry.{Entry}
 use Rattle.file_changes.specs.DeletionParts.{part_below, GoesWith, Removes}
@@ -8,17 +8,6 @@ use Rattle.file_tree.specs.Table.{table}
 use Rattle.file_changes.specs.laws.Removals.{can_give, removed_deletes, removed_space}
 use Rattle.undo_journal.specs.laws.Told.{changes_after, reads_change, changes_handed}
 use Rattle.file_changes.proofs.deleting.delete.Goals as goal
-
-pub remove-requires-clause-apart : goal.remove-requires-clause-apart
-remove-requires-clause-apart g c =
-    let m = committed c.args.store.now in
-    let sized = c.requires.file.file.ready.usable.committed_size in
-    let read = c.removal_of.ensures.store.only.keeps.committed_words in (
-      part_below (table m) c.args.e,
-      c.in_ok-removal.ensures.told.goes,
-      can_give m _ c.args.e sized c.requires.file.file.tree c.requires.file.below c.requires.file.file.used _
-          c.in_ok-removal.ensures.told read _ c.as_slice.ensures.value,
-    )
 
 pub returns-in_err-remove-clause-any_exit : goal.returns-in_err-remove-clause-any_exit
 returns-in_err-remove-clause-any_exit g c =
@@ -76,9 +65,6 @@ returns-in_err-removal-clause-store g c =
     changes_handed _ _ _ _ _ c.from_residual.ensures.1
     (reads_change _ _ _ _ c.requires.file.file.ready.idle c.in_err-removal.ensures.store)
 
-pub remove-requires-clause-ready : goal.remove-requires-clause-ready
-remove-requires-clause-ready g c = c.in_ok-removal.ensures.store.ready
-
 pub returns-in_err-remove-clause-done : goal.returns-in_err-remove-clause-done
 returns-in_err-remove-clause-done g c = none_ok _ _ _ c.from_residual-in_err-remove.ensures.1
 
@@ -114,3 +100,17 @@ returns-clause-index g c =
 
 pub removal_of-requires : goal.removal_of-requires
 removal_of-requires g c = record { file = c.requires.file }
+
+pub remove-requires : goal.remove-requires
+remove-requires g c = record {
+  ready = c.in_ok-removal.ensures.store.ready;
+  apart = let m = committed c.args.store.now in
+      let sized = c.requires.file.file.ready.usable.committed_size in
+      let read = c.removal_of.ensures.store.only.keeps.committed_words in (
+        part_below (table m) c.args.e,
+        c.in_ok-removal.ensures.told.goes,
+        can_give m _ c.args.e sized c.requires.file.file.tree c.requires.file.below c.requires.file.file.used _
+            c.in_ok-removal.ensures.told read _ c.as_slice.ensures.value,
+      );
+  few = search (rules, arith);
+}

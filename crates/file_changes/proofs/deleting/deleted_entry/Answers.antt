@@ -1,4 +1,4 @@
-use Rattle.std.proofs.Common.{rules, ◌≡◌, ◌≢◌, ◌==◌, ◌&&◌, ℕ, Bool, true, false, not, if◌then◌else◌, List}
+use Rattle.std.proofs.Common.{rules, ◌≡◌, ◌==◌, ◌&&◌, ℕ, Bool, true, false, not, if◌then◌else◌, List}
 use Rattle.std.proofs.Common.{Option, None, Some}
 use Rattle.std.proofs.Common.{slice_index, inl, inr, refl, sym, ◌∙◌, ap}
 use Rattle.std.proofs.lemmas.Bool.{eq-eqb}
@@ -10,7 +10,6 @@ use Rattle.file_tree.specs.declared.entry.Entry.{Entry}
 use Rattle.file_tree.specs.Subtrees.{leads_up}
 use Rattle.file_tree.specs.Table.{table, entry_in}
 use Rattle.file_tree.specs.laws.Kinds.{kind_of_unused}
-use Rattle.file_changes.specs.DeletionParts.{entry_if_gone}
 use Rattle.file_changes.proofs.deleting.deleted_entry.Goals as goal
 
 -- an entry is given by whether it is used, and whether it leads up
@@ -29,7 +28,7 @@ returns-then-not-is_within g c = record {
       c.is_within.ensures (λ f. (entry_in t f).parent) (λ f told small answers.
       let read : told ≡ slice_index c.args.parents.now f = search rules in read ∙ c.requires.parents f small) in
       sym (ap (by t c.args.e free) (sym within ∙ c.if-not-is_within.true) ∙ none_by t c.args.e free);
-  store = reads_none _ c.requires.ready;
+  store = reads_none _ c.requires.entry.ready;
 }
 
 pub returns-in_err-entry : goal.returns-in_err-entry

@@ -1,9 +1,8 @@
-use Rattle.std.proofs.Common.{rules, ◌≡◌, ◌≤◌, ◌<◌, ◌+◌, ◌-◌, ℕ, List, length, Option, sym, ◌∙◌, ap, subst, arith}
+use Rattle.std.proofs.Common.{rules, ◌≡◌, ◌<◌, ◌+◌, ◌-◌, ℕ, List, length, sym, ◌∙◌, ap, subst, arith}
 use Rattle.undo_journal.specs.Memory.{committed}
 use Rattle.undo_journal.specs.laws.Calls.{reads_then}
 use Rattle.undo_journal.specs.laws.Exits.{none_ok}
 use Rattle.undo_journal.specs.laws.Told.{reads_handed, reads_on, reads_so_far}
-use Rattle.file_tree.specs.declared.entry.Entry.{Entry}
 use Rattle.file_tree.specs.Table.{table, entry_in}
 use Rattle.file_tree.specs.TableEnd.{IsTableEnd}
 use Rattle.file_changes.specs.DeletionParts.{entry_if_gone}
@@ -18,14 +17,6 @@ returns-in_err-end g c = record {
   told = none_ok _ _ _ c.from_residual.ensures.1;
   store = reads_handed _ _ _ _ c.from_residual.ensures.1 c.in_err-end.ensures.end.store;
 }
-
-pub read_parents-requires-clause-ready : goal.read_parents-requires-clause-ready
-read_parents-requires-clause-ready g c = c.in_ok-end.ensures.end.store.ready
-
-pub read_parents-requires-clause-end : goal.read_parents-requires-clause-end
-read_parents-requires-clause-end g c =
-    subst (λ (l : List ℕ). IsTableEnd (table l) c.in_ok-end.end)
-    (sym c.find_end.ensures.end.store.only.keeps.committed_words) c.in_ok-end.ensures.end.told
 
 pub returns-in_err-parents : goal.returns-in_err-parents
 returns-in_err-parents g c = record {
@@ -42,9 +33,6 @@ loop-e-init g c = record {
   so_far = part_none _ _ _ c.new-part.ensures.goes c.new-part.ensures.count c.new-part.ensures.extents;
 }
 
-pub deleted_entry-requires-clause-ready : goal.deleted_entry-requires-clause-ready
-deleted_entry-requires-clause-ready g c = c.loop-e.invariant.ready
-
 pub deleted_entry-requires-clause-parents : goal.deleted_entry-requires-clause-parents
 deleted_entry-requires-clause-parents g c = λ f small.
     c.in_ok-parents.ensures.parents f small
@@ -57,22 +45,6 @@ returns-in_err-entry g c = record {
   store = reads_handed _ _ _ _ c.from_residual-in_err-entry.ensures.1
       (reads_on _ _ _ _ c.loop-e.invariant.reads c.in_err-entry.ensures.store);
 }
-
-pub add-requires-clause-count : goal.add-requires-clause-count
-add-requires-clause-count g c =
-    let lt : c.loop-e.e < c.in_ok-end.end = search rules in
-    let most = c.in_ok-end.ensures.end.told.most in
-    let small : c.loop-e.e < 64 = omega (arith, lt, most) in
-    let count = c.loop-e.invariant.so_far.count in
-    omega (arith, small, count)
-
-pub add-requires-clause-room : goal.add-requires-clause-room
-add-requires-clause-room g c =
-    let lt : c.loop-e.e < c.in_ok-end.end = search rules in
-    let most = c.in_ok-end.ensures.end.told.most in
-    let small : c.loop-e.e < 64 = omega (arith, lt, most) in
-    let few = c.loop-e.invariant.few in
-    omega (arith, small, few)
 
 pub loop-e-preserved : goal.loop-e-preserved
 loop-e-preserved g c =
@@ -101,4 +73,34 @@ returns g c = record {
       part_whole t c.args.top c.loop-e.part (parts_rest t c.args.top c.loop-e.part c.loop-e.e (64 - c.loop-e.e) left
       (λ e from. table_end.free e (omega (arith, from, end))) c.loop-e.invariant.so_far);
   store = reads_so_far _ _ c.loop-e.invariant.reads c.loop-e.invariant.ready;
+}
+
+pub read_parents-requires : goal.read_parents-requires
+read_parents-requires g c = record {
+  ready = c.in_ok-end.ensures.end.store.ready;
+  end = subst (λ (l : List ℕ). IsTableEnd (table l) c.in_ok-end.end)
+      (sym c.find_end.ensures.end.store.only.keeps.committed_words) c.in_ok-end.ensures.end.told;
+}
+
+pub deleted_entry-requires-clause-entry : goal.deleted_entry-requires-clause-entry
+deleted_entry-requires-clause-entry g c = record {
+  ready = c.loop-e.invariant.ready;
+  within = let lt : c.loop-e.e < c.in_ok-end.end = search rules in let most = c.in_ok-end.ensures.end.told.most in
+      omega (arith, lt, most);
+}
+
+pub add-requires : goal.add-requires
+add-requires g c = record {
+  within = let lt : c.loop-e.e < c.in_ok-end.end = search rules in let most = c.in_ok-end.ensures.end.told.most in
+      omega (arith, lt, most);
+  count = let lt : c.loop-e.e < c.in_ok-end.end = search rules in
+      let most = c.in_ok-end.ensures.end.told.most in
+      let small : c.loop-e.e < 64 = omega (arith, lt, most) in
+      let count = c.loop-e.invariant.so_far.count in
+      omega (arith, small, count);
+  room = let lt : c.loop-e.e < c.in_ok-end.end = search rules in
+      let most = c.in_ok-end.ensures.end.told.most in
+      let small : c.loop-e.e < 64 = omega (arith, lt, most) in
+      let few = c.loop-e.invariant.few in
+      omega (arith, small, few);
 }

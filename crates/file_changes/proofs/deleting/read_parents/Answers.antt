@@ -1,4 +1,4 @@
-use Rattle.std.proofs.Common.{rules, ◌≡◌, ◌≢◌, ◌≤◌, ◌<◌, ℕ, List, length, slice_index, refl, sym, ◌∙◌}
+use Rattle.std.proofs.Common.{rules, ◌≡◌, ◌≢◌, ◌≤◌, ◌<◌, ℕ, List, length, refl, sym, ◌∙◌}
 use Rattle.std.proofs.Common.{ap, arith, below_more}
 use Rattle.std.proofs.Common.{⊎_elim, get_or-set_other}
 use Rattle.std.proofs.Math.ListN.{length-set}

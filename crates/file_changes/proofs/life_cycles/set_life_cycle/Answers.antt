@@ -40,9 +40,6 @@ returns-then-has_life_cycle-clause-done g c =
     (ap (λ (x : Entry). x.life) (sym c.in_ok-entry.ensures.entry)
     ∙ c.has_life_cycle.ensures.0 c.if-has_life_cycle.true))
 
-pub read_entry-requires-clause-within : goal.read_entry-requires-clause-within
-read_entry-requires-clause-within g c = used_small (committed c.args.store.now) c.args.e c.requires.file.used
-
 pub entry_address-requires : goal.entry_address-requires
 entry_address-requires g c = used_small (committed c.args.store.now) c.args.e c.requires.file.used
 
@@ -95,9 +92,6 @@ returns-clause-stays g c = λ here. absurd (true≢false (sym (c.has_life_cycle.
     (has_byte (committed c.args.store.now) c.args.e c.args.state c.in_ok-entry.entry c.requires.file.tree
     c.requires.file.used c.in_ok-entry.ensures.entry here)) ∙ c.if-has_life_cycle.false))
 
-pub read_entry-requires-clause-ready : goal.read_entry-requires-clause-ready
-read_entry-requires-clause-ready g c = c.requires.file.ready
-
 pub returns-in_err-entry-clause-any_exit : goal.returns-in_err-entry-clause-any_exit
 returns-in_err-entry-clause-any_exit g c = inl c.read_entry.ensures.store.only.keeps.committed_words
 
@@ -139,3 +133,9 @@ pub returns-clause-by_gate : goal.returns-clause-by_gate
 returns-clause-by_gate g c =
     by_gate_after c.args.store.now c.read_entry.new.store c.write_word.new.store
     c.read_entry.ensures.store.only.keeps.committed_words c.write_word.ensures.by_gate
+
+pub read_entry-requires : goal.read_entry-requires
+read_entry-requires g c = record {
+  ready = c.requires.file.ready;
+  within = used_small (committed c.args.store.now) c.args.e c.requires.file.used;
+}

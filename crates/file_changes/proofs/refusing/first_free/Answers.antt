@@ -1,5 +1,4 @@
-use Rattle.std.proofs.Common.{rules, ◌≡◌, ◌≤◌, ◌<◌, ℕ, List, sym, ◌∙◌, ap, arith, below_more}
-use Rattle.undo_journal.specs.Memory.{committed}
+use Rattle.std.proofs.Common.{rules, ◌≤◌, ◌<◌, ℕ, List, sym, ◌∙◌, ap, arith, below_more}
 use Rattle.undo_journal.specs.laws.Calls.{reads_then}
 use Rattle.undo_journal.specs.laws.Exits.{none_ok}
 use Rattle.undo_journal.specs.laws.Told.{reads_handed, reads_on, reads_so_far}

@@ -1,4 +1,4 @@
-use Rattle.std.proofs.Common.{rules, ◌≡◌, ◌≢◌, ◌<◌, ◌+◌, ◌-◌, ℕ, List, refl, sym, ◌∙◌, ap, subst, arith, true≢false}
+use Rattle.std.proofs.Common.{rules, ◌≡◌, ◌<◌, ◌+◌, ◌-◌, ℕ, List, refl, sym, ◌∙◌, ap, subst, arith, true≢false}
 use Rattle.undo_journal.specs.Memory.{committed}
 use Rattle.undo_journal.specs.laws.Calls.{reads_same, reads_then}
 use Rattle.undo_journal.specs.laws.Exits.{none_ok}
@@ -18,13 +18,6 @@ loop-step-init g c = record {
   used = c.requires.df.used;
   left = refl;
 }
-
-pub read_entry_head-requires-clause-ready : goal.read_entry_head-requires-clause-ready
-read_entry_head-requires-clause-ready g c = c.loop-step.invariant.ready
-
-pub read_entry_head-requires-clause-within : goal.read_entry_head-requires-clause-within
-read_entry_head-requires-clause-within g c =
-    used_small (committed c.args.store.now) c.loop-step.at c.loop-step.invariant.used
 
 pub returns-then-at-eq0 : goal.returns-then-at-eq0
 returns-then-at-eq0 g c = record {
@@ -73,4 +66,10 @@ returns g c = record {
       ≡ c.loop-step.at = c.loop-step.invariant.left ∙ ancestor-none t n c.loop-step.at none in
       rw is (search rules);
   store = reads_so_far _ _ c.loop-step.invariant.reads c.loop-step.invariant.ready;
+}
+
+pub read_entry_head-requires : goal.read_entry_head-requires
+read_entry_head-requires g c = record {
+  ready = c.loop-step.invariant.ready;
+  within = used_small (committed c.args.store.now) c.loop-step.at c.loop-step.invariant.used;
 }

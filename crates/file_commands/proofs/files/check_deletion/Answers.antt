@@ -98,10 +98,6 @@ returns-in_err-check g c = record {
       c.in_ok-by_parent.ensures.store);
 }
 
-pub read_entry-requires-clause-within : goal.read_entry-requires-clause-within
-read_entry-requires-clause-within g c =
-    used_small (committed c.args.store.now) c.args.file.now.entry.parent c.requires.above
-
 pub returns-in_err-entry : goal.returns-in_err-entry
 returns-in_err-entry g c = record {
   told = finds-stopped _ (Failed c.in_err-entry.field-0.0) c.from_residual.ensures.1 _ _ tt;
@@ -160,4 +156,10 @@ is_barred_at-requires g c = record {
     entry = entry_still c.args.store.now c.read_entry.new.store c.args.file.now.entry.parent c.in_ok-entry.entry
         c.read_entry.ensures.store.only c.in_ok-entry.ensures.entry;
   };
+}
+
+pub read_entry-requires : goal.read_entry-requires
+read_entry-requires g c = record {
+  ready = c.requires.file.kept.ready;
+  within = used_small (committed c.args.store.now) c.args.file.now.entry.parent c.requires.above;
 }

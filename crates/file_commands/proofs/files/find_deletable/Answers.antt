@@ -36,12 +36,6 @@ returns-then-number-eq0 g c = record {
   store = search rules;
 }
 
-pub read_entry-requires-clause-within : goal.read_entry-requires-clause-within
-read_entry-requires-clause-within g c =
-    let m = committed c.args.store.now in
-    used_small m c.in-Some.number
-    (subst (λ (o : Option ℕ). IfSome o (IsUsed (table m))) c.in-Some.is c.in_ok-number.ensures.used)
-
 pub returns-in_err-check_deletion : goal.returns-in_err-check_deletion
 returns-in_err-check_deletion g c = record {
   told = let m = committed c.args.store.now in
@@ -145,4 +139,12 @@ check_deletion-requires-clause-file g c = record {
       c.in-Some.is c.in_ok-number.ensures.used);
   entry = entry_still c.find_subject.new.store c.read_entry.new.store c.in-Some.number c.in_ok-entry.entry
       c.read_entry.ensures.store.only c.in_ok-entry.ensures.entry;
+}
+
+pub read_entry-requires : goal.read_entry-requires
+read_entry-requires g c = record {
+  ready = search rules;
+  within = let m = committed c.args.store.now in
+      used_small m c.in-Some.number
+      (subst (λ (o : Option ℕ). IfSome o (IsUsed (table m))) c.in-Some.is c.in_ok-number.ensures.used);
 }

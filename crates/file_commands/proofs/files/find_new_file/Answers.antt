@@ -85,11 +85,6 @@ returns g c = record {
       c.in_ok-allows.ensures.store;
 }
 
-pub read_entry-requires-clause-within : goal.read_entry-requires-clause-within
-read_entry-requires-clause-within g c =
-    let old = c.args.store.now in
-    used_small (committed old) c.args.current.now.df (df_kept old c.args.current.now c.requires.kept).used
-
 pub returns-in_err-is_barred_at : goal.returns-in_err-is_barred_at
 returns-in_err-is_barred_at g c = record {
   told = finds-stopped _ (Failed c.in_err-is_barred_at.field-0.0) c.from_residual-in_err-is_barred_at.ensures.1 _ _ tt;
@@ -119,4 +114,11 @@ is_barred_at-requires g c = record {
     entry = entry_still c.args.store.now c.read_entry.new.store c.args.current.now.df c.in_ok-entry.entry
         c.read_entry.ensures.store.only c.in_ok-entry.ensures.entry;
   };
+}
+
+pub read_entry-requires : goal.read_entry-requires
+read_entry-requires g c = record {
+  ready = c.requires.kept.ready;
+  within = let old = c.args.store.now in
+      used_small (committed old) c.args.current.now.df (df_kept old c.args.current.now c.requires.kept).used;
 }

@@ -16,9 +16,6 @@ use Rattle.command_base.specs.declared.stop.Stop.TheVariants.{Refused, Failed}
 use Rattle.command_base.specs.laws.Stopping.{finds-stopped, reads-stopped}
 use Rattle.file_commands.proofs.life_cycles.read_change.Goals as goal
 
-pub read_entry-requires-clause-within : goal.read_entry-requires-clause-within
-read_entry-requires-clause-within g c = used_small (committed c.args.store.now) c.args.number c.requires.used
-
 pub returns-in_err-entry : goal.returns-in_err-entry
 returns-in_err-entry g c = record {
   told = finds-stopped _ (Failed c.in_err-entry.field-0.0) c.from_residual.ensures.1 _ _ tt;
@@ -110,4 +107,10 @@ next_life_cycle-requires g c = record {
     entry = entry_still c.args.store.now c.read_entry.new.store c.args.number c.in_ok-entry.entry
         c.read_entry.ensures.store.only c.in_ok-entry.ensures.entry;
   };
+}
+
+pub read_entry-requires : goal.read_entry-requires
+read_entry-requires g c = record {
+  ready = c.requires.kept.ready;
+  within = used_small (committed c.args.store.now) c.args.number c.requires.used;
 }

@@ -38,13 +38,6 @@ step_up t n k at above x b tells one some is there told known =
     ∙ ap (λ (a : Bool). a || barred_up t k above)
     (ap (λ (y : EntryHead). bars (state_told y.life)) (sym there) ∙ sym told ∙ known)
 
-pub read_entry_head-requires-clause-within : goal.read_entry_head-requires-clause-within
-read_entry_head-requires-clause-within g c =
-    let m = committed c.args.store.now in
-    used_small m c.loop-step.above (used_above
-    (table m) c.loop-step.at c.loop-step.above c.requires.file.tree.entries c.if-at-eq0.false
-    c.loop-step.invariant.used c.loop-step.invariant.parent)
-
 pub returns-then-at-eq0 : goal.returns-then-at-eq0
 returns-then-at-eq0 g c = record {
   told = let t = table (committed c.args.store.now) in
@@ -92,12 +85,18 @@ returns g c = record {
   store = reads_so_far _ _ c.loop-step.invariant.reads c.loop-step.invariant.ready;
 }
 
-pub read_entry_head-requires-clause-ready : goal.read_entry_head-requires-clause-ready
-read_entry_head-requires-clause-ready g c = c.loop-step.invariant.ready
-
 pub returns-in_err-head : goal.returns-in_err-head
 returns-in_err-head g c = record {
   told = none_ok _ _ _ c.from_residual.ensures.1;
   store = reads_handed _ _ _ _ c.from_residual.ensures.1
       (reads_on _ _ _ _ c.loop-step.invariant.reads c.in_err-head.ensures.store);
+}
+
+pub read_entry_head-requires : goal.read_entry_head-requires
+read_entry_head-requires g c = record {
+  ready = c.loop-step.invariant.ready;
+  within = let m = committed c.args.store.now in
+      used_small m c.loop-step.above (used_above
+      (table m) c.loop-step.at c.loop-step.above c.requires.file.tree.entries c.if-at-eq0.false
+      c.loop-step.invariant.used c.loop-step.invariant.parent);
 }

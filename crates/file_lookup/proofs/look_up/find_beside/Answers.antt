@@ -14,11 +14,6 @@ some_if : (b : Bool) (e : ℕ) → then_some b e ≡ (if b then Some e else None
 some_if true e = refl
 some_if false e = refl
 
-pub read_entry-requires-clause-within : goal.read_entry-requires-clause-within
-read_entry-requires-clause-within g c =
-    let m = committed c.args.store.now in
-    used_small m c.in-Some.beside (c.in-Some.ensures m c.requires.df.index).0.used
-
 pub returns-then-df-eq0 : goal.returns-then-df-eq0
 returns-then-df-eq0 g c = record {
   told = λ some. absurd (some c.if-df-eq0.true);
@@ -50,4 +45,11 @@ returns g c = record {
       (kind_test _ _ _ c.has_kind.ensures)
       ∙ some_if (c.in_ok-other.other.kind == 1) c.in-Some.beside);
   store = c.in_ok-other.ensures.store;
+}
+
+pub read_entry-requires : goal.read_entry-requires
+read_entry-requires g c = record {
+  ready = search rules;
+  within = let m = committed c.args.store.now in
+      used_small m c.in-Some.beside (c.in-Some.ensures m c.requires.df.index).0.used;
 }

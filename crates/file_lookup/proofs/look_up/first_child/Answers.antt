@@ -28,9 +28,6 @@ told_of_head x head df n is names =
     let told : NamesChild (head_of x) df n = subst (λ (h : EntryHead). NamesChild h df n) is names in
     record { used = told.0; parent = told.1; short = told.2 }
 
-pub read_entry_head-requires-clause-ready : goal.read_entry_head-requires-clause-ready
-read_entry_head-requires-clause-ready g c = c.loop-e.invariant.ready
-
 pub loop-e-preserved : goal.loop-e-preserved
 loop-e-preserved g c =
     let m = committed c.args.store.now in
@@ -71,4 +68,10 @@ returns-then-is_child g c = record {
       child_there (table m) c.args.df e c.args.short (entry_in (table m) e) refl some
       (told_of_head _ _ _ _ is (c.is_child.ensures.0 c.if-is_child.true));
   store = reads_on _ _ _ _ c.loop-e.invariant.reads c.in_ok-head.ensures.store;
+}
+
+pub read_entry_head-requires : goal.read_entry_head-requires
+read_entry_head-requires g c = record {
+  ready = c.loop-e.invariant.ready;
+  within = omega (arith, c.loop-e-test.true);
 }

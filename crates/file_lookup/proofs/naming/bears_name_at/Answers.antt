@@ -1,9 +1,9 @@
-use Rattle.std.proofs.Common.{◌≡◌, ◌<◌, ℕ, List, length, min, sym, ◌∙◌, ap, subst, true≢false}
+use Rattle.std.proofs.Common.{◌≡◌, ℕ, List, sym, ◌∙◌, ap, subst, true≢false}
 use Rattle.undo_journal.specs.Memory.{committed}
 use Rattle.undo_journal.specs.laws.Exits.{none_ok}
 use Rattle.undo_journal.specs.laws.Told.{reads_handed, reads_on}
 use Rattle.file_tree.specs.declared.entry.Entry.{Entry}
-use Rattle.file_tree.specs.Naming.{BearsName, BearsNameAt}
+use Rattle.file_tree.specs.Naming.{BearsName}
 use Rattle.file_tree.specs.Table.{table, entry_in}
 use Rattle.file_tree.specs.laws.Refusing.{head_as_long}
 use Rattle.file_lookup.proofs.naming.bears_name_at.Goals as goal

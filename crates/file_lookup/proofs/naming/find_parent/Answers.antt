@@ -12,9 +12,6 @@ use Rattle.file_lookup.proofs.naming.find_parent.Goals as goal
 pub returns-then-df-eq0-clause-found : goal.returns-then-df-eq0-clause-found
 returns-then-df-eq0-clause-found g c = parent_of_master (committed c.args.store.now) c.args.df c.if-df-eq0.true
 
-pub read_entry-requires-clause-within : goal.read_entry-requires-clause-within
-read_entry-requires-clause-within g c = used_small (committed c.args.store.now) c.args.df c.requires.df.used
-
 pub returns-clause-found : goal.returns-clause-found
 returns-clause-found g c =
     let m = committed c.args.store.now in
@@ -35,9 +32,6 @@ pub returns-then-df-eq0-clause-store : goal.returns-then-df-eq0-clause-store
 returns-then-df-eq0-clause-store g c =
     reads_none _ c.requires.df.ready
 
-pub read_entry-requires-clause-ready : goal.read_entry-requires-clause-ready
-read_entry-requires-clause-ready g c = c.requires.df.ready
-
 pub returns-in_err-entry-clause-found : goal.returns-in_err-entry-clause-found
 returns-in_err-entry-clause-found g c = none_ok _ _ _ c.from_residual.ensures.1
 
@@ -50,3 +44,9 @@ returns-in_err-entry-clause-store g c =
 
 pub returns-clause-store : goal.returns-clause-store
 returns-clause-store g c = c.in_ok-entry.ensures.store
+
+pub read_entry-requires : goal.read_entry-requires
+read_entry-requires g c = record {
+  ready = c.requires.df.ready;
+  within = used_small (committed c.args.store.now) c.args.df c.requires.df.used;
+}

@@ -1,4 +1,4 @@
-use Rattle.std.proofs.Common.{rules, ◌≡◌, ◌≤◌, ◌<◌, ◌↔◌, ◌∙◌, ℕ, List, IsTrue, length, sym, ap, subst, arith}
+use Rattle.std.proofs.Common.{rules, ◌≡◌, ◌≤◌, ◌<◌, ◌↔◌, ◌∙◌, ℕ, List, IsTrue, length, sym, subst, arith}
 use Rattle.std.proofs.Common.{below_more}
 use Rattle.std.proofs.Common.{true≢false}
 use Rattle.undo_journal.specs.Memory.{committed}

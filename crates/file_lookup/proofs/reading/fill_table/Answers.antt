@@ -37,9 +37,6 @@ returns-clause-table g c =
     let all : c.loop-e.e ≡ c.args.end = search rules in
     c.loop-e.invariant.so_far ∙ ap (λ (n : ℕ). take n (table m)) all
 
-pub read_used-requires-clause-ready : goal.read_used-requires-clause-ready
-read_used-requires-clause-ready g c = c.loop-e.invariant.ready
-
 pub returns-in_err-read_used-clause-table : goal.returns-in_err-read_used-clause-table
 returns-in_err-read_used-clause-table g c = none_ok _ _ _ c.from_residual.ensures.1
 
@@ -51,3 +48,9 @@ returns-in_err-read_used-clause-store g c =
 pub returns-clause-store : goal.returns-clause-store
 returns-clause-store g c =
     reads_so_far _ _ c.loop-e.invariant.reads c.loop-e.invariant.ready
+
+pub read_used-requires : goal.read_used-requires
+read_used-requires g c = record {
+  ready = c.loop-e.invariant.ready;
+  within = omega (arith, c.loop-e-test.true, c.requires.within);
+}

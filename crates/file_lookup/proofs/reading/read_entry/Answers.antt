@@ -16,9 +16,6 @@ returns-clause-entry g c =
     (λ k lt. c.in_ok-words.ensures.words k lt ∙ sym (index-page_words m (1 + c.args.e) k (omega (arith, lt))))
     ∙ sym (entry_in-table m c.args.e c.requires.within)
 
-pub read_words-requires-clause-ready : goal.read_words-requires-clause-ready
-read_words-requires-clause-ready g c = c.requires.ready
-
 pub returns-in_err-words-clause-entry : goal.returns-in_err-words-clause-entry
 returns-in_err-words-clause-entry g c = none_ok _ _ _ c.from_residual.ensures.1
 
@@ -28,3 +25,9 @@ returns-in_err-words-clause-store g c =
 
 pub returns-clause-store : goal.returns-clause-store
 returns-clause-store g c = c.in_ok-words.ensures.store
+
+pub read_words-requires : goal.read_words-requires
+read_words-requires g c = record {
+  ready = c.requires.ready;
+  within = c.requires.within;
+}

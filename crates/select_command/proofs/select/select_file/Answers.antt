@@ -1,5 +1,5 @@
 use Rattle.std.proofs.Common.{◌≡◌, ℕ, List, [], length, Option, None, Some, Ok, IfSome, option_map, subst, sym, ◌∙◌}
-use Rattle.std.proofs.Common.{ap, arith}
+use Rattle.std.proofs.Common.{ap, arith, rules}
 use Rattle.undo_journal.specs.Memory.{committed}
 use Rattle.undo_journal.specs.laws.Calls.{reads_then}
 use Rattle.undo_journal.specs.laws.Told.{reads_on}
@@ -41,11 +41,6 @@ returns-in_default g c =
     c.in_ok-e.ensures.found.store.ready c.requires.card.kept.current
     (select-missed (card_of m) s (selection_of c.args.selector) c.args.returned c.args.expected
     (c.in_ok-e.ensures.found.told ∙ ap (λ (o : Option ℕ). option_map (path_of t) o) c.in_default.is)))
-
-pub read_entry_head-requires-clause-within : goal.read_entry_head-requires-clause-within
-read_entry_head-requires-clause-within g c =
-    let m = committed c.args.store.now in
-    used_small m c.in-Some.e (subst (λ (o : Option ℕ). IfSome o (IsUsed (table m))) c.in-Some.is c.in_ok-e.ensures.used)
 
 pub returns-in_err-e : goal.returns-in_err-e
 returns-in_err-e g c =
@@ -142,4 +137,12 @@ give_data-requires g c = record {
         subst (λ (l : List ℕ). IsToldEntry (entry_in (table l) e)) (sym same)
         (told-entry m c.requires.card.kept.ready.usable.committed_size c.requires.card.kept.card e used);
   };
+}
+
+pub read_entry_head-requires : goal.read_entry_head-requires
+read_entry_head-requires g c = record {
+  ready = search rules;
+  within = let m = committed c.args.store.now in
+      used_small m c.in-Some.e (subst (λ (o : Option ℕ). IfSome o (IsUsed (table m))) c.in-Some.is
+      c.in_ok-e.ensures.used);
 }

@@ -19,16 +19,16 @@ pub fill-requires-clause-size : goal.fill-requires-clause-size
 fill-requires-clause-size g c =
     let m = committed c.args.store.now in
     let is = ap (λ (t : List Entry). length t) (c.as_slice-all.ensures.value ∙ c.in_ok-fill_table.ensures.table) in
-    let long = length_front (table m) c.args.end (length-table m) c.requires.end in
-    let most = c.requires.end.most in
+    let long = length_front (table m) c.args.end (length-table m) c.requires.end.end in
+    let most = c.requires.end.end.most in
     omega (arith, is, long, most)
 
 pub is_table-requires-clause-some : goal.is_table-requires-clause-some
 is_table-requires-clause-some g c =
     let m = committed c.args.store.now in
     let is = ap (λ (t : List Entry). length t) (c.as_slice-all.ensures.value ∙ c.in_ok-fill_table.ensures.table) in
-    let long = length_front (table m) c.args.end (length-table m) c.requires.end in
-    let some = c.requires.end.some in
+    let long = length_front (table m) c.args.end (length-table m) c.requires.end.end in
+    let some = c.requires.end.end.some in
     omega (arith, is, long, some)
 
 pub returns-in_err-fill_table : goal.returns-in_err-fill_table
@@ -50,7 +50,7 @@ returns-then-not-fill g c = record {
       let family : List Entry → Type 0 = λ t. HaveIdentifiers t in
       filled _ _ _ false c.if-not-fill.true c.fill.ensures
       (subst family (sym (c.as_slice-all.ensures.value ∙ c.in_ok-fill_table.ensures.table))
-      (front_identifiers (table m) c.args.end (length-table m) c.requires.end rules.identifiers));
+      (front_identifiers (table m) c.args.end (length-table m) c.requires.end.end rules.identifiers));
   store = c.in_ok-fill_table.ensures.store;
 }
 
@@ -61,7 +61,7 @@ returns-then-not-is_table g c = record {
       let family : List Entry → Type 0 = λ t. IsTable t in
       true≢false (sym (c.is_table.ensures.1
       (subst family (sym (c.as_slice-all.ensures.value ∙ c.in_ok-fill_table.ensures.table))
-      (front_table (table m) c.args.end (length-table m) c.requires.end rules))) ∙ c.if-not-is_table.true);
+      (front_table (table m) c.args.end (length-table m) c.requires.end.end rules))) ∙ c.if-not-is_table.true);
   store = c.in_ok-fill_table.ensures.store;
 }
 
@@ -75,13 +75,13 @@ returns g c = record {
       let indexed = filled _ _ _ true c.if-not-fill.false c.fill.ensures in
       let is_index : List Entry → Type 0 = λ s. IsIndex s c.fill.new.self in
       let is_ruled : List Entry → Type 0 = λ s. IsTable s in
-      let free = free_front t n size c.requires.end in
+      let free = free_front t n size c.requires.end.end in
       let number = c.count_free.ensures.free ∙ ap free_entries read in
       record {
-        rules = whole_table t n size c.requires.end
+        rules = whole_table t n size c.requires.end.end
             (subst is_ruled read (c.is_table.ensures.0 c.if-not-is_table.false));
-        index = whole_index t n size c.requires.end c.fill.new.self (subst is_index read indexed.1);
-        extents = c.list_extents.ensures ∙ ap extents read ∙ extents_front t n size c.requires.end;
+        index = whole_index t n size c.requires.end.end c.fill.new.self (subst is_index read indexed.1);
+        extents = c.list_extents.ensures ∙ ap extents read ∙ extents_front t n size c.requires.end.end;
         free = omega (arith, free, number);
       };
   store = c.in_ok-fill_table.ensures.store;

@@ -18,24 +18,19 @@ list_entries-requires g c =
     let few : c.in_ok-end.end ≤ 46 = omega (arith, c.from.ensures, c.if-from-le-FEW_ENTRIES.true) in (
       omega arith,
       (
-        c.in_ok-end.ensures.end.store.ready,
+        record {
+          ready = c.in_ok-end.ensures.end.store.ready;
+          end = still_end _ _ _ c.find_end.ensures.end.store.only.keeps.committed_words c.in_ok-end.ensures.end.told;
+        },
         (
-          still_end _ _ _
-              c.find_end.ensures.end.store.only.keeps.committed_words c.in_ok-end.ensures.end.told,
+          few,
           (
-            few,
-            (
-              c.new-entries.ensures,
-              c.requires.blank,
-            ),
+            c.new-entries.ensures,
+            c.requires.blank,
           ),
         ),
       ),
     )
-
-pub list_many-requires-clause-end : goal.list_many-requires-clause-end
-list_many-requires-clause-end g c =
-    still_end _ _ _ c.find_end.ensures.end.store.only.keeps.committed_words c.in_ok-end.ensures.end.told
 
 pub returns-in_err-end : goal.returns-in_err-end
 returns-in_err-end g c = record {
@@ -60,4 +55,10 @@ returns-else-from-le-FEW_ENTRIES g c = record {
   told = told_before _ _ _ c.list_many.result c.find_end.ensures.end.store.only.keeps.committed_words
       c.list_many.ensures.told;
   store = reads_on _ _ _ _ c.find_end.ensures.end.store.only c.list_many.ensures.store;
+}
+
+pub list_many-requires-clause-end : goal.list_many-requires-clause-end
+list_many-requires-clause-end g c = record {
+  ready = c.in_ok-end.ensures.end.store.ready;
+  end = still_end _ _ _ c.find_end.ensures.end.store.only.keeps.committed_words c.in_ok-end.ensures.end.told;
 }
