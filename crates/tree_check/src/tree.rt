@@ -4,10 +4,11 @@ ghost use Rattle.std.specs.Prelude.{◌≡◌, ◌≤◌, [], IfOk};
 ghost use Rattle.std.specs.Result.{result_err};
 ghost use Rattle.undo_journal.specs.Memory.{committed, IsReady};
 ghost use Rattle.undo_journal.specs.StoreCalls.{Learns, Reads};
-ghost use Rattle.file_tree.specs.Table.{table, extents, free_entries, IsTable};
+ghost use Rattle.file_tree.specs.Table.{table};
 ghost use Rattle.file_tree.specs.Trees.{TellsSpace};
 ghost use Rattle.tree_check.specs.Surveys.{IsBlankListing, TellsListing, TellsTree};
 ghost use Rattle.file_lookup.specs.StoredFiles.{HasTableEnd};
+ghost use Rattle.tree_check.specs.SurveyParts.{HasTable};
 
 use crate::format::read_block_count;
 use crate::table::{count_free, is_table, list_extents};
@@ -148,10 +149,7 @@ fn find_free<B: Board>(
     laid: &[Extent],
     entries: u16,
 ) -> Result<Option<FreeSpace>, StoreErr>
-    requires ready { IsReady store.old }
-    requires extents { laid.now ≡ extents (table (committed store.old)) }
-    requires entries { entries ≡ free_entries (table (committed store.old)) }
-    requires rules { IsTable (table (committed store.old)) }
+    requires { HasTable store.old laid.now entries }
     ensures tree { IfOk result (TellsSpace (committed store.old)) }
     ensures store { Reads store.old store.new (result_err result) }
 {

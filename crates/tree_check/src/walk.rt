@@ -3,14 +3,14 @@ ghost use Rattle.std.specs.Prelude.{◌≡◌, ◌+◌, ◌-◌, ◌<◌, ◌≤
 ghost use Rattle.std.specs.Prelude.{false, length, slice_set};
 ghost use Rattle.std.specs.Result.{result_err};
 ghost use Rattle.nvm_board.specs.declared.board.TheConstants.{MOST_PAGES};
-ghost use Rattle.undo_journal.specs.Memory.{committed, IsReady};
+ghost use Rattle.undo_journal.specs.Memory.{committed};
 ghost use Rattle.undo_journal.specs.StoreCalls.{Reads};
 ghost use Rattle.block_chain.specs.Chains.{chain};
 ghost use Rattle.block_chain.specs.Layout.{TellsFreeBlocks};
 ghost use Rattle.block_chain.specs.ChainParts.{times_marked, AreBlank, AreBlockMarks, IsUnmarkedChain};
 ghost use Rattle.tree_check.specs.WalkParts.{IsWalked};
-ghost use Rattle.nvm_board.specs.Facts.{pages_of};
 ghost use Rattle.block_chain.specs.declared.layout.TheConstants.{FIRST_BLOCK_PAGE};
+ghost use Rattle.tree_check.specs.SurveyParts.{HasBlocks, HasPagesBefore, CanMark};
 
 use block_chain::{Extent, FIRST_BLOCK_PAGE, FREE_HEAD, MOST_BLOCKS};
 use undo_journal::{Board, PAGE_WORDS, Store, StoreErr};
@@ -27,9 +27,7 @@ pub(crate) struct Walked {
 
 /// Marks a block before the page `end`, unless it is marked already.
 fn mark(page: u32, end: u16, seen: &mut [u8]) -> bool
-    requires some { FIRST_BLOCK_PAGE ≤ end }
-    requires most { end ≤ MOST_PAGES }
-    requires marks { AreBlockMarks end seen.old }
+    requires { CanMark end seen.old }
     ensures new { IsTrue result ↔ (((FIRST_BLOCK_PAGE ≤ page) × (page < end)) × (times_marked seen.old page ≡ 0)) }
     ensures marks { IsTrue result → seen.new ≡ slice_set seen.old (page - FIRST_BLOCK_PAGE) 1 }
     ensures kept { result ≡ false → seen.new ≡ seen.old }
@@ -56,9 +54,7 @@ fn walk_over<B: Board>(
     end: u16,
     seen: &mut [u8],
 ) -> Result<Option<Walked>, StoreErr>
-    requires ready { IsReady store.old }
-    requires some { FIRST_BLOCK_PAGE ≤ end }
-    requires inside { end ≤ pages_of (committed store.old) }
+    requires pages { HasPagesBefore store.old end }
     requires marks { AreBlockMarks end seen.old }
     ensures walked { IfOk result (λ walked. IfSome walked (λ w. IsWalked
         end (committed store.old) first seen.old w seen.new)) }
@@ -94,8 +90,7 @@ pub fn lay<B: Board>(
     extents: &[Extent],
     count: u16,
 ) -> Result<Option<u16>, StoreErr>
-    requires ready { IsReady store.old }
-    requires inside { FIRST_BLOCK_PAGE + count ≤ pages_of (committed store.old) }
+    requires { HasBlocks store.old count }
     ensures found { IfOk result (λ free. TellsFreeBlocks count (committed store.old) extents.now free) }
     ensures store { Reads store.old store.new (result_err result) }
 {
@@ -115,8 +110,7 @@ fn lay_many<B: Board>(
     extents: &[Extent],
     count: u16,
 ) -> Result<Option<u16>, StoreErr>
-    requires ready { IsReady store.old }
-    requires inside { FIRST_BLOCK_PAGE + count ≤ pages_of (committed store.old) }
+    requires { HasBlocks store.old count }
     ensures found { IfOk result (λ free. TellsFreeBlocks count (committed store.old) extents.now free) }
     ensures store { Reads store.old store.new (result_err result) }
 {
@@ -132,8 +126,7 @@ fn lay_marked<B: Board>(
     count: u16,
     seen: &mut [u8],
 ) -> Result<Option<u16>, StoreErr>
-    requires ready { IsReady store.old }
-    requires inside { FIRST_BLOCK_PAGE + count ≤ pages_of (committed store.old) }
+    requires blocks { HasBlocks store.old count }
     requires room { count ≤ length seen.old }
     requires blank { AreBlank seen.old }
     ensures found { IfOk result (λ free. TellsFreeBlocks count (committed store.old) extents.now free) }

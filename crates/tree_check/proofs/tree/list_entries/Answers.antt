@@ -1,4 +1,4 @@
-use Rattle.std.proofs.Common.{◌≡◌, Bool, true, false, List, length, sym, ◌∙◌, ap, subst, arith, true≢false}
+use Rattle.std.proofs.Common.{◌≡◌, Bool, true, false, List, length, sym, ◌∙◌, ap, subst, arith, true≢false, rules}
 use Rattle.undo_journal.specs.Memory.{committed}
 use Rattle.undo_journal.specs.laws.Exits.{none_ok}
 use Rattle.undo_journal.specs.laws.Told.{reads_handed}
@@ -22,14 +22,6 @@ fill-requires-clause-size g c =
     let long = length_front (table m) c.args.end (length-table m) c.requires.end.end in
     let most = c.requires.end.end.most in
     omega (arith, is, long, most)
-
-pub is_table-requires-clause-some : goal.is_table-requires-clause-some
-is_table-requires-clause-some g c =
-    let m = committed c.args.store.now in
-    let is = ap (λ (t : List Entry). length t) (c.as_slice-all.ensures.value ∙ c.in_ok-fill_table.ensures.table) in
-    let long = length_front (table m) c.args.end (length-table m) c.requires.end.end in
-    let some = c.requires.end.end.some in
-    omega (arith, is, long, some)
 
 pub returns-in_err-fill_table : goal.returns-in_err-fill_table
 returns-in_err-fill_table g c = record {
@@ -85,4 +77,19 @@ returns g c = record {
         free = omega (arith, free, number);
       };
   store = c.in_ok-fill_table.ensures.store;
+}
+
+pub is_table-requires : goal.is_table-requires
+is_table-requires g c = record {
+  some = let m = committed c.args.store.now in
+      let is = ap (λ (t : List Entry). length t) (c.as_slice-all.ensures.value ∙ c.in_ok-fill_table.ensures.table) in
+      let long = length_front (table m) c.args.end (length-table m) c.requires.end.end in
+      let some = c.requires.end.end.some in
+      omega (arith, is, long, some);
+  size = let m = committed c.args.store.now in
+      let is = ap (λ (t : List Entry). length t) (c.as_slice-all.ensures.value ∙ c.in_ok-fill_table.ensures.table) in
+      let long = length_front (table m) c.args.end (length-table m) c.requires.end.end in
+      let most = c.requires.end.end.most in
+      omega (arith, is, long, most);
+  apart = search (rules, arith);
 }

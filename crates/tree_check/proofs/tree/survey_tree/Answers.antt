@@ -15,22 +15,6 @@ listed_is : (t : List Entry) (listing : Listing) (b answer : Bool) → b ≡ ans
     → TellsListing t listing answer
 listed_is t listing b answer is told = subst (λ (r : Bool). TellsListing t listing r) is told
 
-pub find_free-requires-clause-extents : goal.find_free-requires-clause-extents
-find_free-requires-clause-extents g c =
-    let is = listed_is _ _ _ true c.if-not-listed.false c.in_ok-listed.ensures.told in
-    c.as_slice.ensures.value ∙ is.extents
-    ∙ ap (λ (l : List ℕ). extents (table l)) (sym c.list_files.ensures.store.only.keeps.committed_words)
-
-pub find_free-requires-clause-entries : goal.find_free-requires-clause-entries
-find_free-requires-clause-entries g c =
-    let is = listed_is _ _ _ true c.if-not-listed.false c.in_ok-listed.ensures.told in
-    is.free ∙ ap (λ (l : List ℕ). free_entries (table l)) (sym c.list_files.ensures.store.only.keeps.committed_words)
-
-pub find_free-requires-clause-rules : goal.find_free-requires-clause-rules
-find_free-requires-clause-rules g c =
-    let is = listed_is _ _ _ true c.if-not-listed.false c.in_ok-listed.ensures.told in
-    subst (λ (l : List ℕ). IsTable (table l)) (sym c.list_files.ensures.store.only.keeps.committed_words) is.rules
-
 -- what was found of the free space, by the words before
 told_before : (m now : List ℕ) (o answer : Option FreeSpace) → now ≡ m → o ≡ answer
     → TellsSpace now o → TellsSpace m answer
@@ -72,3 +56,15 @@ pub returns-in_err-free-clause-store : goal.returns-in_err-free-clause-store
 returns-in_err-free-clause-store g c =
     reads_handed _ _ _ _ c.from_residual-in_err-free.ensures.1
     (reads_on _ _ _ _ c.list_files.ensures.store.only c.in_err-free.ensures.store)
+
+pub find_free-requires : goal.find_free-requires
+find_free-requires g c = record {
+  ready = c.in_ok-listed.ensures.store.ready;
+  extents = let is = listed_is _ _ _ true c.if-not-listed.false c.in_ok-listed.ensures.told in
+      c.as_slice.ensures.value ∙ is.extents
+      ∙ ap (λ (l : List ℕ). extents (table l)) (sym c.list_files.ensures.store.only.keeps.committed_words);
+  entries = let is = listed_is _ _ _ true c.if-not-listed.false c.in_ok-listed.ensures.told in
+      is.free ∙ ap (λ (l : List ℕ). free_entries (table l)) (sym c.list_files.ensures.store.only.keeps.committed_words);
+  rules = let is = listed_is _ _ _ true c.if-not-listed.false c.in_ok-listed.ensures.told in
+      subst (λ (l : List ℕ). IsTable (table l)) (sym c.list_files.ensures.store.only.keeps.committed_words) is.rules;
+}

@@ -34,7 +34,8 @@ walk_over-requires-clause-marks g c = record {
 
 -- the free chain, after the header is read
 head_is : (g : Over) (c : goal.In-None g) → c.in_ok-head.head ≡ slice_index (committed c.args.store.now) FREE_HEAD
-head_is g c = c.in_ok-head.ensures.word ∙ ap (λ (l : List ℕ). slice_index l FREE_HEAD) (sym c.requires.ready.same)
+head_is g c = c.in_ok-head.ensures.word ∙ ap (λ (l : List ℕ). slice_index l FREE_HEAD) (sym
+    c.requires.blocks.ready.same)
 
 pub returns-in-None-clause-found : goal.returns-in-None-clause-found
 returns-in-None-clause-found g c = λ laid.
@@ -62,7 +63,7 @@ loop-i-init g c =
     let m = committed c.args.store.now in
     let read = c.read.ensures.reads.keeps.committed_words in
     let head : c.in_ok-head.head ≡ slice_index m FREE_HEAD =
-    c.in_ok-head.ensures.word ∙ ap (λ (l : List ℕ). slice_index l FREE_HEAD) (sym c.requires.ready.same) in
+    c.in_ok-head.ensures.word ∙ ap (λ (l : List ℕ). slice_index l FREE_HEAD) (sym c.requires.blocks.ready.same) in
     let walked = some_at _ _ _ c.in-Some.is c.in_ok-walked.ensures.walked in
     let family : List ℕ → Type 0 =
     λ l. IsWalked (FIRST_BLOCK_PAGE + c.args.count) l c.in_ok-head.head c.args.seen.now
@@ -159,7 +160,8 @@ returns-clause-found g c =
     let family : ℕ → Type 0 = λ k. AreLaidSoFar (FIRST_BLOCK_PAGE + c.args.count) m es k
     c.loop-i.seen c.loop-i.blocks in
     let whole : c.loop-i.blocks ≡ c.args.count = c.if-blocks-count.false in (
-      laid_all c.args.count m es c.loop-i.seen c.loop-i.blocks c.requires.ready.usable.committed_size c.requires.inside
+      laid_all c.args.count m es c.loop-i.seen c.loop-i.blocks c.requires.blocks.ready.usable.committed_size
+          c.requires.blocks.inside
           (subst family all c.loop-i.invariant.so_far) whole,
       c.loop-i.invariant.free,
     )
@@ -192,7 +194,14 @@ returns-then-not-is_extent-clause-found g c = λ laid.
       | then-not-is_extent-via-then-not-is_extent v ↦ true≢false (sym yes ∙ v.if-not-is_extent.true)
       | then-not-is_extent-via-else-not-is_extent+then-walked-blocks v ↦ (
           let over : MOST_BLOCKS - c.loop-i.blocks < c.in-Some-2.walked.blocks = v.if-walked-blocks.true in
-          omega (arith, over, fits, blocks, c.requires.inside, c.requires.ready.usable.committed_size.most))
+          omega (
+            arith,
+            over,
+            fits,
+            blocks,
+            c.requires.blocks.inside,
+            c.requires.blocks.ready.usable.committed_size.most,
+          ))
     ]
 
 pub returns-in_err-head-clause-found : goal.returns-in_err-head-clause-found
@@ -200,7 +209,7 @@ returns-in_err-head-clause-found g c = none_ok _ _ _ c.from_residual.ensures.1
 
 pub returns-in_err-head-clause-store : goal.returns-in_err-head-clause-store
 returns-in_err-head-clause-store g c =
-    reads_handed _ _ _ _ c.from_residual.ensures.1 (c.in_err-head.ensures.store c.requires.ready.idle)
+    reads_handed _ _ _ _ c.from_residual.ensures.1 (c.in_err-head.ensures.store c.requires.blocks.ready.idle)
 
 pub returns-in_err-walked-clause-found : goal.returns-in_err-walked-clause-found
 returns-in_err-walked-clause-found g c = none_ok _ _ _ c.from_residual-in_err-walked.ensures.1

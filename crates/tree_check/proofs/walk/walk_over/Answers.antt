@@ -26,7 +26,7 @@ fits_at store m end from n page old new walked ready inside fit =
 
 pub loop-last-init : goal.loop-last-init
 loop-last-init g c = record {
-  ready = c.requires.ready;
+  ready = c.requires.pages.ready;
   reads = reads_same _;
   within = omega arith;
   walked = walked_none _ _ _ _ c.requires.marks;
@@ -41,7 +41,7 @@ loop-last-preserved g c =
     let fit : ((FIRST_BLOCK_PAGE ≤ page) × (page < c.args.end)) × (times_marked c.loop-last.seen page ≡ 0) =
     c.mark.ensures.new.0 c.loop-last-test.true in
     let some : page ≢ 0 = let least = fit.0.0 in λ e. let z : ⊥ = omega (arith, e, least) in z in
-    let fits = fits_at _ _ _ _ _ _ _ _ invariant.walked c.requires.ready c.requires.inside fit in
+    let fits = fits_at _ _ _ _ _ _ _ _ invariant.walked c.requires.pages.ready c.requires.pages.inside fit in
     let seen : c.mark.new.seen ≡ slice_set c.loop-last.seen (page - FIRST_BLOCK_PAGE) 1 =
     c.mark.ensures.marks c.loop-last-test.true in
     let next : c.in_ok-page.page ≡ link m page =
@@ -49,7 +49,7 @@ loop-last-preserved g c =
     ∙ ap (λ (k : ℕ). slice_index (committed c.loop-last.store) k) at)
     ∙ ap (λ (l : List ℕ). link l page) invariant.reads.keeps.committed_words in
     let more = walked_more c.args.end m c.args.first c.loop-last.blocks page c.args.seen.now c.loop-last.seen
-    invariant.walked c.requires.ready.usable.committed_size c.requires.inside fits some fit.0 fit.1 in
+    invariant.walked c.requires.pages.ready.usable.committed_size c.requires.pages.inside fits some fit.0 fit.1 in
     record {
       ready = c.in_ok-page.ensures.store.ready;
       reads = reads_then _ _ _ invariant.reads c.read_committed.ensures.store.only;
@@ -67,7 +67,7 @@ returns-then-page-ne0-clause-stale g c = λ _.
     let page = c.loop-last.page in
     let some : page ≢ 0 = c.if-page-ne0.true in
     stale_there c.args.end m c.args.first c.loop-last.blocks page c.args.seen.now c.loop-last.seen
-    c.loop-last.invariant.walked c.requires.ready.usable.committed_size c.loop-last.invariant.within some
+    c.loop-last.invariant.walked c.requires.pages.ready.usable.committed_size c.loop-last.invariant.within some
     (λ fit. true≢false (sym (c.mark.ensures.new.1 fit) ∙ c.loop-last-test.false))
 
 pub returns-clause-walked : goal.returns-clause-walked
@@ -109,17 +109,27 @@ pub returns-clause-store : goal.returns-clause-store
 returns-clause-store g c = reads_so_far _ _ c.loop-last.invariant.reads c.loop-last.invariant.ready
 
 pub loop-last-smaller : goal.loop-last-smaller
-loop-last-smaller g c = let fits = fits_at _ _ _ _ _ _ _ _ c.loop-last.invariant.walked c.requires.ready
-    c.requires.inside (c.mark.ensures.new.0 c.loop-last-test.true) in omega (arith, fits)
+loop-last-smaller g c = let fits = fits_at _ _ _ _ _ _ _ _ c.loop-last.invariant.walked c.requires.pages.ready
+    c.requires.pages.inside (c.mark.ensures.new.0 c.loop-last-test.true) in omega (arith, fits)
 
 pub overflow_add-blocks : goal.overflow_add-blocks
-overflow_add-blocks g c = let fits = fits_at _ _ _ _ _ _ _ _ c.loop-last.invariant.walked c.requires.ready
-    c.requires.inside (c.mark.ensures.new.0 c.loop-last-test.true) in omega (arith, fits)
+overflow_add-blocks g c = let fits = fits_at _ _ _ _ _ _ _ _ c.loop-last.invariant.walked c.requires.pages.ready
+    c.requires.pages.inside (c.mark.ensures.new.0 c.loop-last-test.true) in omega (arith, fits)
 
 pub overflow_cast-last : goal.overflow_cast-last
 overflow_cast-last g c = let block = (c.mark.ensures.new.0 c.loop-last-test.true).0 in
-    let most = c.requires.ready.usable.committed_size.most in omega (arith, block.1, c.requires.inside, most)
+    let most = c.requires.pages.ready.usable.committed_size.most in omega (
+      arith,
+      block.1,
+      c.requires.pages.inside,
+      most,
+    )
 
 pub overflow_mul-last : goal.overflow_mul-last
 overflow_mul-last g c = let block = (c.mark.ensures.new.0 c.loop-last-test.true).0 in
-    let most = c.requires.ready.usable.committed_size.most in omega (arith, block.1, c.requires.inside, most)
+    let most = c.requires.pages.ready.usable.committed_size.most in omega (
+      arith,
+      block.1,
+      c.requires.pages.inside,
+      most,
+    )
