@@ -215,7 +215,12 @@ good-masked : (mask : ℕ) (b : BenchState) → IsGood b → IsGood (bench_maske
 good-masked mask (off f) good =
     record { has_card = good.has_card; faults = good.faults; due = due-masked mask f good.due; well = tt }
 good-masked mask (on p) good =
-    record { has_card = good.has_card; faults = good.faults; due = due-masked mask p.card.facts good.due; well = good.well }
+    record {
+      has_card = good.has_card;
+      faults = good.faults;
+      due = due-masked mask p.card.facts good.due;
+      well = good.well;
+    }
 
 armed-masked : (number mask other : ℕ) (old new : BenchState) → IsArmed number mask old new
     → IsArmed number other old (bench_masked other new)

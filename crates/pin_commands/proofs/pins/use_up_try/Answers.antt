@@ -40,7 +40,8 @@ none-due due none some = true≢false (sym some ∙ ap (λ (o : Option Sw). is_s
 charges-after : (secret : ℕ) (a b c : Memory) → committed b ≡ committed a → Charges secret b c → Charges secret a c
 charges-after secret a b c same charges = record {
   left = subst (λ (l : List ℕ). 0 < tries_left secret (pin_at l (owner secret))) same charges.left;
-  charged = subst (λ (l : List ℕ). SetsPin l (owner secret) (charged_pin secret (pin_at l (owner secret))) (committed c))
+  charged = subst
+      (λ (l : List ℕ). SetsPin l (owner secret) (charged_pin secret (pin_at l (owner secret))) (committed c))
       same charges.charged;
 }
 

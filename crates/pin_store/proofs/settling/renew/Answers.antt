@@ -76,5 +76,7 @@ returns-in_default g c = record {
   pages = pages_stay _ _ c.compare.ensures.kept c.requires.pins.pages;
   store = c.in_ok-outcome.ensures.store;
   spends = compares_more (renewing_writes c.args.renewal) _ _ _ c.compare.ensures.spends;
-  counted = wrong_counts (renewing_writes c.args.renewal) c.in_ok-outcome.outcome _ _ c.in_default.not-Matched c.compare.ensures.writes;
+  counted =
+      wrong_counts (renewing_writes c.args.renewal) c.in_ok-outcome.outcome _ _ c.in_default.not-Matched
+      c.compare.ensures.writes;
 }

@@ -64,7 +64,8 @@ returns-clause-writes g c =
     let first = c.from-3.ensures in
     let words = ap (λ (n : ℕ). n * c.from-2.result) c.from.ensures in
     omega (arith, words, pages, first) in
-    subst (λ (cut : CutBoard). Writes at run (with_log before old) (with_log after (cut_facts cut)) c.write-result.result)
+    subst
+    (λ (cut : CutBoard). Writes at run (with_log before old) (with_log after (cut_facts cut)) c.write-result.result)
     (sym c.hand_on.ensures.cut)
     (writes_logged before after old new (λ off. absurd (true≢false (sym off ∙ lit))) at run c.write-result.result
     c.write-result.ensures.writes (λ on. c.hand_on.ensures.logged
