@@ -1,3 +1,5 @@
 pub mod Addresses
 pub mod CallLaws
+pub mod LogLaws
+pub mod OrderLaws
 pub mod WriteLaws

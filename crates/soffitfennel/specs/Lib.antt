@@ -1,3 +1,4 @@
+pub mod CollectingParts
 pub mod LoggedWrites
 pub mod OwningParts
 pub mod SessionStates

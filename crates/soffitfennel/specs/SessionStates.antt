@@ -1,21 +1,28 @@
 -- The state of a `Session`.
-use Rattle.std.specs.Prelude.{ℕ, List, []}
+use Rattle.std.specs.Prelude.{ℕ, List, [], Bool, false}
 use Rattle.nvm_board.specs.Facts.{Facts}
-use Rattle.kept_board.specs.Handed.{Run}
+use Rattle.nvm_board.specs.History.{Run}
 use Rattle.card_bench.specs.Exchanges.{Desk}
 use Rattle.script_output.specs.Printouts.{Print, prints_nothing}
 use Rattle.card_bench.specs.Prints.{desk_of}
+use Rattle.soffitfennel.specs.LoggedWrites.{begun_log, log_room}
 
--- the desk, the output of its last order, the writes of that order that the caller has not taken, how many of them
--- there is room for, and the log's count of writes
+-- The desk, the output of its last order, the writes of that order that the caller has not taken, and how many of them
+-- there is room for. `overran` is true after an order that made more.
 pub record SessionState : Type 0 where
   pub desk : Desk
   pub prints : Print
   pub untaken : List Run
   pub room : ℕ
-  pub count : ℕ
+  pub overran : Bool
 
--- the first state of a card on a board: power off, no reader, no pending fault of the line, and no writes
-abbrev pub begun_at : Facts → ℕ → SessionState
-begun_at facts room =
-    record { desk = desk_of facts; prints = prints_nothing; untaken = []; room = room; count = 0 }
+-- The first state of a card on a board: power off, no reader, no pending fault of the line, and no writes. A kept card
+-- has an empty log.
+abbrev pub begun_at : Facts → Bool → SessionState
+begun_at facts kept = record {
+  desk = desk_of (record facts { log = begun_log kept });
+  prints = prints_nothing;
+  untaken = [];
+  room = log_room kept;
+  overran = false;
+}

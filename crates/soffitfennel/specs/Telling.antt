@@ -1,11 +1,10 @@
 -- The outcome of a call from C, and its bytes.
-use Rattle.std.specs.Prelude.{◌≡◌, ◌≢◌, ◌≤◌, ◌<◌, ◌*◌, ◌⊎◌, ℕ, ℤ, pos, Bool, false, List, [], ◌∷◌, Option, None, Some}
-use Rattle.std.specs.Prelude.{Result, Ok, Err, length, take, map}
+use Rattle.std.specs.Prelude.{◌≡◌, ◌≢◌, ◌≤◌, ◌<◌, ◌*◌, ◌⊎◌, ℕ, ℤ, pos, Bool, true, false, List, [], ◌∷◌, Option, None}
+use Rattle.std.specs.Prelude.{Some, Result, Ok, Err, length, take}
+use Rattle.nvm_board.specs.Aims.{WritesRuns}
 use Rattle.nvm_board.specs.Facts.{Facts, IsMemory}
+use Rattle.nvm_board.specs.History.{Run, replayed}
 use Rattle.simulated_boards.specs.Given.{board_with}
-use Rattle.kept_board.specs.Handed.{Run}
-use Rattle.kept_board.specs.Kept.{kept_facts}
-use Rattle.kept_board.specs.declared.kept_board.KeptBoard.{KeptBoard}
 use Rattle.card_start.specs.Factory.{factory_card}
 use Rattle.command_base.specs.Finding.{Finds, HasCard}
 use Rattle.bench_lines.specs.Orders.{Order, IsOrderSized, Free}
@@ -20,14 +19,13 @@ use Rattle.script_output.specs.Printouts.{prints_nothing, prints_atr, prints_mut
 use Rattle.script_output.specs.Printouts.{prints_bytes}
 use Rattle.script_output.specs.Printouts.{prints_free}
 use Rattle.soffitfennel.specs.SessionStates.{SessionState, begun_at}
-use Rattle.soffitfennel.specs.LoggedWrites.{fresh_count, image_bytes, log_room, run_of, writes_since}
+use Rattle.soffitfennel.specs.LoggedWrites.{image_bytes, run_of}
 use Rattle.soffitfennel.specs.declared.session.Outcome.{Outcome}
 use Rattle.soffitfennel.specs.declared.session.Outcome.TheVariants as outcome
 use Rattle.soffitfennel.specs.declared.session.Told.{Told}
 use Rattle.soffitfennel.specs.declared.session.TheConstants.{ROOM}
 use Rattle.soffitfennel.specs.declared.write.Write.{Write}
 use Rattle.soffitfennel.specs.declared.write.TheConstants.{WORD_BYTES}
-use Rattle.soffitfennel.specs.declared.write_log.WriteLog.{WriteLog}
 
 -- the number that C sees
 abbrev pub outcome_number : Outcome → ℤ
@@ -56,29 +54,31 @@ print_outcome (prints_free free) = outcome.Done
 abbrev pub told_print : Told → Print
 told_print told = print_of told.came told.bytes.items told.bytes.items
 
--- The writes are those that a log has since an earlier count. The log is of a board with the same facts. The desk hides
--- its board, so no clause says that it is this one.
-pub record AreLogged (earlier : ℕ) (now : SessionState) : Type 0 where
-  pub board : KeptBoard WriteLog
-  pub log : WriteLog
-  pub facts : kept_facts board ≡ bench_facts now.desk.bench
-  pub follows : board.follower ≡ Some log
-  pub count : now.count ≡ log.count
-  pub untaken : now.untaken ≡ map run_of (writes_since earlier log)
+-- the facts of a session's board
+abbrev pub session_facts : SessionState → Facts
+session_facts s = bench_facts s.desk.bench
 
--- The writes of an order. A card that isn't kept has none to take, and counts none.
-pub record LogsWrites (earlier : ℕ) (now : SessionState) : Type 0 where
-  pub unkept : now.room ≡ 0 → (now.untaken ≡ []) × (now.count ≡ earlier)
-  pub kept : 0 < now.room → AreLogged earlier now
+-- The device writes of a kept card in an order are those that its board made and logged: each once, in order, with the
+-- words that it left. Put into the words before the order, they make the words after it.
+pub record HandsOver (was now : SessionState) : Type 0 where
+  pub made : WritesRuns (session_facts was) (session_facts now)
+  pub all : now.untaken ≡ made.runs
+  pub image : (session_facts now).words ≡ replayed (session_facts was).words now.untaken
+  pub whole : (was.overran ≡ false) × (now.overran ≡ false)
 
--- The card is kept, and the log of its board has lost a write since an earlier count, or has more than there is room
--- for. The desk hides its board, so this may be another one with the same facts, without a log.
-pub record LosesWrites (earlier room : ℕ) (now : SessionState) : Type 0 where
-  pub kept : 0 < room
-  pub board : KeptBoard WriteLog
-  pub facts : kept_facts board ≡ bench_facts now.desk.bench
-  pub many : (log : WriteLog) → board.follower ≡ Some log → (length log.writes.items < fresh_count earlier log.count)
-      ⊎ (room < fresh_count earlier log.count)
+-- The writes of an order. A card that isn't kept has none to take.
+pub record LogsWrites (was now : SessionState) : Type 0 where
+  pub unkept : now.room ≡ 0 → now.untaken ≡ []
+  pub kept : 0 < now.room → HandsOver was now
+
+-- The card is kept, and its board made more device writes in the order than there is room for, or did so in an earlier
+-- one.
+pub record LosesWrites (was now : SessionState) : Type 0 where
+  pub kept : 0 < was.room
+  pub made : WritesRuns (session_facts was) (session_facts now)
+  pub many : (was.overran ≡ true) ⊎ (was.room < length made.runs)
+  pub none : now.untaken ≡ []
+  pub overran : now.overran ≡ true
 
 -- An order runs. The memory has a card state after it, the board had no fault, and the guess law holds.
 pub record IsPerformed (order : Order) (was now : SessionState) : Type 0 where
@@ -96,9 +96,9 @@ pub record HasUntaken (was now : SessionState) : Type 0 where
 -- the result of an order is the output, and its writes are logged; or writes were left; or one was lost
 abbrev pub TellsResult : Order → SessionState → SessionState → Result Told Outcome → Type 0
 TellsResult order was now (Ok told) =
-    IsPerformed order was now × (told_print told ≡ now.prints) × LogsWrites was.count now
+    IsPerformed order was now × (told_print told ≡ now.prints) × LogsWrites was now
 TellsResult order was now (Err why) = ((why ≡ outcome.Untaken) × HasUntaken was now)
-    ⊎ ((why ≡ outcome.Overrun) × IsPerformed order was now × LosesWrites was.count was.room now)
+    ⊎ ((why ≡ outcome.Overrun) × IsPerformed order was now × LosesWrites was now)
 
 -- An order to a card. Without a card nothing is done.
 abbrev pub AnswersOrder : Order → Option SessionState → Option SessionState → Result Told Outcome → Type 0
@@ -112,9 +112,9 @@ abbrev pub CallRuns : Order → Option SessionState → Option SessionState → 
 CallRuns order None now result Holds Fails = (now ≡ None) × (result ≡ outcome.Absent) × Fails
 CallRuns order (Some was) None result Holds Fails = ⊥
 CallRuns order (Some was) (Some now) result Holds Fails =
-    (IsPerformed order was now × (result ≡ print_outcome now.prints) × Holds now.prints × LogsWrites was.count now)
+    (IsPerformed order was now × (result ≡ print_outcome now.prints) × Holds now.prints × LogsWrites was now)
     ⊎ (Fails × (((result ≡ outcome.Untaken) × HasUntaken was now)
-    ⊎ ((result ≡ outcome.Overrun) × IsPerformed order was now × LosesWrites was.count was.room now)))
+    ⊎ ((result ≡ outcome.Overrun) × IsPerformed order was now × LosesWrites was now)))
 
 -- the buffer begins with these bytes, and their number is returned
 pub record CopiesOut (bytes new : List ℕ) (size : ℕ) : Type 0 where
@@ -176,12 +176,12 @@ FitsCall order out = IsOrderSized order × (ROOM ≤ length out)
 
 -- the first state of a card of these words
 abbrev pub inserted : List ℕ → Bool → SessionState
-inserted words kept = begun_at (board_with words) (log_room kept)
+inserted words kept = begun_at (board_with words) kept
 
 -- a handle has the factory card, in the first state on a new board of 896 blocks, and it isn't kept
 pub record IsFactoryFresh (now : Option SessionState) : Type 0 where
   pub board : Facts
-  pub begun : now ≡ Some (begun_at board (log_room false))
+  pub begun : now ≡ Some (begun_at board false)
   pub card : Finds board.words (factory_card 896)
   pub counts : IsJustWritten board
   pub uncut : board.pending ≡ None

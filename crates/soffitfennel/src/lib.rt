@@ -1,6 +1,7 @@
 //! The card as a library for C: a card is a pointer that the caller keeps, and doesn't look behind.
 #![tactic(auto)]
 
+mod collected;
 mod handle;
 mod held;
 mod session;
@@ -16,7 +17,6 @@ ghost use Rattle.soffitfennel.specs.SessionStates.{begun_at};
 ghost use Rattle.soffitfennel.specs.Telling.{AnswersOrder, FitsCall, IsFactoryFresh, ReadsWords, RefusesCall};
 ghost use Rattle.soffitfennel.specs.Telling.{RefusesWords, ReturnsSpace, TakesFrom, TakesWrite, Tells};
 ghost use Rattle.soffitfennel.specs.Telling.{TellsBytes, TellsWords, inserted, outcome_number, refusal_of};
-ghost use Rattle.soffitfennel.specs.LoggedWrites.{log_room};
 ghost use Rattle.soffitfennel.specs.declared.write.TheConstants.{WRITE_BYTES};
 
 use crate::handle::Handle;
@@ -169,7 +169,7 @@ fn take_write(card: Handle, alloc: Global) -> (Handle, Result<Option<Write>, Out
 /// Puts a card on a board behind a handle, if there is memory for it.
 fn put(alloc: Global, card: &mut Handle, board: CutBoard, kept: bool) -> Outcome
     requires { HasCard (cut_facts board).words }
-    ensures done { result ≡ Outcome.Done → card.new.value ≡ Some (begun_at (cut_facts board) (log_room kept)) }
+    ensures done { result ≡ Outcome.Done → card.new.value ≡ Some (begun_at (cut_facts board) kept) }
     ensures undone { result ≢ Outcome.Done → (result ≡ Outcome.Memory) × (card.new.value ≡ card.old.value) }
 {
     let Ok(session) = Session::new(alloc, board, kept) else {

@@ -1,5 +1,5 @@
 //! A card at its desk, and the result of each call.
-ghost use Rattle.std.specs.Prelude.{◌≡◌, ◌≢◌, ◌≤◌, ◌↔◌, ℕ, List, [], length, Bool, IsTrue, IfOk, IfErr};
+ghost use Rattle.std.specs.Prelude.{◌≡◌, ◌≢◌, ◌≤◌, ◌↔◌, ℕ, List, length, IsTrue, IfOk, IfErr};
 ghost use Rattle.bench_lines.specs.Orders.{Apdu, Block, IsOrderSized};
 ghost use Rattle.bench_lines.specs.OrderViews.{order_with};
 ghost use Rattle.card_bench.specs.Images.{IsRefusedRightly};
@@ -10,16 +10,15 @@ ghost use Rattle.command_base.specs.Finding.{Finds, HasCard};
 ghost use Rattle.simulated_boards.specs.Cut.{cut_facts};
 ghost use Rattle.simulated_boards.specs.Given.{board_with};
 ghost use Rattle.soffitfennel.specs.SessionStates.{begun_at};
-ghost use Rattle.soffitfennel.specs.Telling.{Copies, CopiesOut, FitsCall, LogsWrites, LosesWrites, RefusesWords};
+ghost use Rattle.soffitfennel.specs.Telling.{Copies, CopiesOut, FitsCall, RefusesWords};
 ghost use Rattle.soffitfennel.specs.Telling.{ReportsSpace, TakesOldest, TellsResult};
 ghost use Rattle.soffitfennel.specs.Telling.{outcome_number, print_outcome, told_print};
-ghost use Rattle.soffitfennel.specs.LoggedWrites.{log_room};
 
+use crate::collected::Collected;
 use crate::write::Write;
-use crate::write_log::{WriteLog, room_for_writes};
+use crate::write_log::{WriteLog, log_for};
 use card_bench::{COMMAND_LIMIT, Desk, LineResult, NoCard, Order, image_board};
 use card_core::FreeSpace;
-use circular_buffer::HeapCircularBuffer;
 use kept_board::KeptBoard;
 use nvm_board::has_no_fault;
 use simulated_boards::CutBoard;
@@ -55,7 +54,7 @@ pub enum Outcome {
     NoCard,
     /// The caller has not taken all writes of an earlier call. Nothing was done.
     Untaken,
-    /// The log has lost a write of this call. The caller's image can't follow any more.
+    /// A call made more writes than there is room for. The caller's image can't follow any more.
     Overrun,
     /// The handle is null.
     Absent,
@@ -154,17 +153,16 @@ pub fn copy(bytes: &[u8], out: &mut [u8]) -> usize
 #[derive(Drop)]
 pub struct Session {
     desk: Desk<KeptBoard<WriteLog>>,
-    /// The writes of the last order that the caller has not taken.
-    untaken: HeapCircularBuffer<Write>,
-    /// The log's count at the end of the last order.
-    count: u64,
+    collected: Collected,
 }
 
 impl Model for Session {
     ghost use Rattle.std.specs.Prelude.{map};
     ghost use Rattle.std.specs.Coded.{codes};
     ghost use Rattle.card_model.specs.Sessions.{session_code};
+    ghost use Rattle.bench_turns.specs.BenchStates.{bench_facts};
     ghost use Rattle.bench_turns.specs.Plays.{IsGood};
+    ghost use Rattle.soffitfennel.specs.CollectingParts.{IsInStep};
     ghost use Rattle.soffitfennel.specs.SessionStates.{SessionState};
     ghost use Rattle.soffitfennel.specs.LoggedWrites.{run_of};
 
@@ -175,12 +173,12 @@ impl Model for Session {
     ghost view = { λ s. record {
       desk = s.desk.desk;
       prints = s.desk.prints;
-      untaken = map run_of s.untaken.items;
-      room = s.untaken.capacity;
-      count = s.count;
+      untaken = map run_of s.collected.writes.items;
+      room = s.collected.writes.capacity;
+      overran = s.collected.overran;
     } };
 
-    ghost invariant = { λ s. IsGood s.desk.desk.bench };
+    ghost invariant = { λ s. IsGood s.desk.desk.bench × IsInStep (bench_facts s.desk.desk.bench).log s.collected };
 }
 
 impl Session {
@@ -190,32 +188,31 @@ impl Session {
     /// There is too little memory.
     pub fn new(alloc: Global, board: CutBoard, kept: bool) -> Result<Session, AllocError>
         requires { HasCard (cut_facts board).words }
-        ensures { IfOk result (λ session. session ≡ begun_at (cut_facts board) (log_room kept)) }
+        ensures { IfOk result (λ session. session ≡ begun_at (cut_facts board) kept) }
     {
-        let log = WriteLog::new(alloc, kept)?;
-        let untaken = room_for_writes(alloc, kept)?;
-        let board = KeptBoard::new(board, Some(log));
+        let log = log_for(alloc, kept)?;
+        let collected = Collected::new(alloc, kept)?;
+        let board = KeptBoard::new(board, log);
         has_no_fault(&board);
         Ok(Session {
             desk: Desk::new(board),
-            untaken,
-            count: 0,
+            collected,
         })
     }
 
     /// Runs an order, and returns its result.
     ///
     /// # Errors
-    /// `Untaken` if the caller has not taken all writes, and `Overrun` if the log lost one.
+    /// `Untaken` if the caller has not taken all writes, and `Overrun` if there is no room for all.
     pub fn perform(&mut self, order: Order, given: &[u8]) -> Result<Told, Outcome>
         requires { IsOrderSized (order_with order given.now) }
         ensures { TellsResult (order_with order given.now) self.old self.new result }
     {
-        if !self.untaken.is_empty() {
+        if !self.collected.writes.is_empty() {
             return Err(Outcome::Untaken);
         }
         self.desk.perform(order, given);
-        if !self.collect() {
+        if !self.collected.collect(self.desk.board()) {
             return Err(Outcome::Overrun);
         }
         let mut bytes = AnswerBytes::new();
@@ -223,34 +220,11 @@ impl Session {
         Ok(Told { came, bytes })
     }
 
-    /// Copies the writes of an order from the log. False if one is lost.
-    fn collect(&mut self) -> bool
-        requires { self.old.untaken ≡ [] }
-        ensures desk { self.new.desk ≡ self.old.desk }
-        ensures prints { self.new.prints ≡ self.old.prints }
-        ensures room { self.new.room ≡ self.old.room }
-        ensures logs { IsTrue result → LogsWrites self.old.count self.new }
-        ensures loses { result ≡ Bool.false → LosesWrites self.old.count self.old.room self.new }
-    {
-        // A card that isn't kept has no writes to take.
-        if self.untaken.capacity() == 0 {
-            return true;
-        }
-        let Some(log) = self.desk.board().follower() else {
-            return false;
-        };
-        let copied = log.copy_since(self.count, &mut self.untaken);
-        if copied {
-            self.count = log.count;
-        }
-        copied
-    }
-
     /// Takes the oldest write that the caller has not taken.
     pub fn take_write(&mut self) -> Option<Write>
         ensures { TakesOldest self.old self.new result }
     {
-        self.untaken.pop_front()
+        self.collected.writes.pop_front()
     }
 
     /// Returns a copy of the memory's words.

@@ -1,8 +1,9 @@
-//! The log of a board's device writes, from which each call's are copied.
-ghost use Rattle.std.specs.Prelude.{◌≡◌, ◌≤◌, ◌<◌, ◌+◌, ◌*◌, ◌++◌, ◌∷◌, ◌⊎◌, [], Bool, IsTrue, IfOk, length};
-ghost use Rattle.circular_buffer.specs.Buffer.{buffer, keep_last};
-ghost use Rattle.nvm_board.specs.declared.board.TheConstants.{MOST_PAGES, PAGE_WORDS};
-ghost use Rattle.soffitfennel.specs.LoggedWrites.{LogsRun, fresh_count, log_room, writes_since};
+//! The log of a kept board's device writes, from which each call's are copied.
+ghost use Rattle.std.specs.Prelude.{◌≡◌, ◌≤◌, ◌<◌, ◌⊎◌, [], Bool, IsTrue, IfOk, true, length};
+ghost use Rattle.circular_buffer.specs.Buffer.{buffer};
+ghost use Rattle.kept_board.specs.Handed.{log_of};
+ghost use Rattle.nvm_board.specs.History.{and_run};
+ghost use Rattle.soffitfennel.specs.LoggedWrites.{begun_log, fresh_count, log_room, run_of, shown_log, writes_since};
 
 use crate::write::Write;
 use circular_buffer::HeapCircularBuffer;
@@ -22,7 +23,22 @@ pub fn room_for_writes(alloc: Global, kept: bool) -> Result<HeapCircularBuffer<W
     HeapCircularBuffer::with_capacity(alloc, if kept { LOG_WRITES } else { 0 })
 }
 
-/// The last writes of a board, and the number of all, modulo 2^64. A log without room counts none.
+/// Returns an empty log for a kept card, or none.
+///
+/// # Errors
+/// There is too little memory.
+pub fn log_for(alloc: Global, kept: bool) -> Result<Option<WriteLog>, AllocError>
+    ensures { IfOk result (λ log. log_of shown_log log ≡ begun_log kept) }
+{
+    if kept {
+        let log = WriteLog::new(alloc)?;
+        Ok(Some(log))
+    } else {
+        Ok(None)
+    }
+}
+
+/// The last writes of a board, and the number of all, modulo 2^64.
 #[derive(Drop)]
 pub struct WriteLog {
     pub writes: HeapCircularBuffer<Write>,
@@ -30,29 +46,21 @@ pub struct WriteLog {
 }
 
 impl WriteLog {
-    /// Returns a log of a kept card, or one without room.
+    /// Returns an empty log.
     ///
     /// # Errors
     /// There is too little memory.
-    pub fn new(alloc: Global, kept: bool) -> Result<WriteLog, AllocError>
-        ensures writes { IfOk result (λ log. log.writes ≡ buffer [] (log_room kept)) }
-        ensures count { IfOk result (λ log. log.count ≡ 0) }
+    pub fn new(alloc: Global) -> Result<WriteLog, AllocError>
+        ensures { IfOk result (λ log. shown_log log ≡ begun_log true) }
     {
-        let writes = room_for_writes(alloc, kept)?;
+        let writes = room_for_writes(alloc, true)?;
         Ok(WriteLog { writes, count: 0 })
     }
 
     /// Logs a write, in place of the oldest one if the log is full.
     fn push(&mut self, write: Write)
-        ensures unkept { self.old.writes.capacity ≡ 0 → self.new ≡ self.old }
-        ensures items { 0 < self.old.writes.capacity → self.new.writes
-            ≡ buffer (keep_last self.old.writes.capacity (self.old.writes.items ++ write ∷ []))
-            self.old.writes.capacity }
-        ensures count { 0 < self.old.writes.capacity → fresh_count self.old.count self.new.count ≡ 1 }
+        ensures { shown_log self.new ≡ and_run (shown_log self.old) (run_of write) }
     {
-        if self.writes.capacity() == 0 {
-            return;
-        }
         self.writes.push_back(write);
         self.count = self.count.wrapping_add(1);
     }
@@ -61,6 +69,7 @@ impl WriteLog {
     pub fn copy_since(&self, count: u64, copy: &mut HeapCircularBuffer<Write>) -> bool
         requires { copy.old.items ≡ [] }
         ensures copied { IsTrue result → copy.new ≡ buffer (writes_since count self.now) copy.old.capacity }
+        ensures held { IsTrue result → fresh_count count self.now.count ≤ length self.now.writes.items }
         ensures same { result ≡ Bool.false → copy.new ≡ copy.old }
         ensures lost { result ≡ Bool.false → (length self.now.writes.items < fresh_count count self.now.count)
             ⊎ (copy.old.capacity < fresh_count count self.now.count) }
@@ -80,11 +89,9 @@ impl WriteLog {
 }
 
 impl Follower for WriteLog {
-    fn take(&mut self, at: usize, words: &[u32]) -> bool
-        requires size { length words.now ≤ PAGE_WORDS }
-        requires within { at + length words.now ≤ PAGE_WORDS * MOST_PAGES }
-        ensures logs { LogsRun (record { at = at; words = words.now }) self.old self.new }
-    {
+    ghost log = { shown_log };
+
+    fn take(&mut self, at: usize, words: &[u32]) -> bool {
         self.push(Write::new(at, words));
         true
     }

@@ -1,32 +1,75 @@
-use Rattle.std.proofs.Common.{◌≡◌, ◌∙◌, length, map, ap, arith, inr, refl, rules, subst}
+use Rattle.std.proofs.Common.{◌≡◌, Bool, Option, length, ap, arith, inr, refl, rules, subst}
 use Rattle.std.proofs.lemmas.List.{nil_from_length}
+use Rattle.nvm_board.specs.Facts.{Facts}
+use Rattle.nvm_board.specs.History.{Log}
 use Rattle.bench_lines.specs.OrderViews.{order_with}
-use Rattle.soffitfennel.specs.LoggedWrites.{run_of}
+use Rattle.soffitfennel.specs.CollectingParts.{CollectsOr, IsInStep}
 use Rattle.soffitfennel.specs.SessionStates.{SessionState}
 use Rattle.soffitfennel.specs.Telling.{IsPerformed, LogsWrites, LosesWrites}
-use Rattle.soffitfennel.proofs.WriteLaws.{performed}
+use Rattle.soffitfennel.proofs.OrderLaws.{few_runs, logs_at, loses_at, made_runs, order_logged, state_of}
 use Rattle.soffitfennel.proofs.session.Session.perform.Goals as goal
+
+pub invariant_of-self : goal.invariant_of-self
+invariant_of-self c =
+    let board = ap (λ (f : Facts). f.log) c.board.ensures in
+    let order = order_with c.args.order c.args.given.now in
+    let old = c.self.inside.desk in
+    let new = c.perform.new.self in
+    let run = c.perform.ensures.performs in
+    let runs = (made_runs order old.desk new.desk new.prints run).runs in
+    let logged = order_logged order old.desk new.desk new.prints run _ board in
+    let step = c.collect.ensures.step _ runs c.self.invariant.1 logged in
+    (c.perform.ensures.good, subst (λ (l : Option Log). IsInStep l c.collect.new.self) board step)
+
+pub invariant_of-self-2 : goal.invariant_of-self-2
+invariant_of-self-2 c =
+    let board = ap (λ (f : Facts). f.log) c.board.ensures in
+    let order = order_with c.args.order c.args.given.now in
+    let old = c.self.inside.desk in
+    let new = c.perform.new.self in
+    let run = c.perform.ensures.performs in
+    let runs = (made_runs order old.desk new.desk new.prints run).runs in
+    let logged = order_logged order old.desk new.desk new.prints run _ board in
+    let step = c.collect.ensures.step _ runs c.self.invariant.1 logged in
+    (c.perform.ensures.good, subst (λ (l : Option Log). IsInStep l c.collect.new.self) board step)
 
 pub returns-then-not-collect : goal.returns-then-not-collect
 returns-then-not-collect c =
-    let none : length c.self.inside.untaken.items ≡ 0 = search (rules, arith) in
-    let runs = subst
-    (λ (was : SessionState). IsPerformed (order_with c.args.order c.args.given.now) was c.collect.new.self)
-    c.self.view_is (performed _ _ c.collect.new.self _ _ (ap (map run_of) (nil_from_length _ none))
-    c.perform.ensures.performs c.perform.ensures.good c.collect.ensures.desk c.collect.ensures.prints
-    c.collect.ensures.room) in
-    let loses = subst (λ (was : SessionState). LosesWrites was.count was.room c.collect.new.self) c.self.view_is
-    (c.collect.ensures.loses c.if-not-collect.true) in
-    inr (refl, runs, loses)
+    let order = order_with c.args.order c.args.given.now in
+    let old = c.self.inside.desk in
+    let new = c.perform.new.self in
+    let had = c.self.inside.collected in
+    let has = c.collect.new.self in
+    let now : SessionState = state_of new.desk new.prints has in
+    let run = c.perform.ensures.performs in
+    let runs = (made_runs order old.desk new.desk new.prints run).runs in
+    let none : length had.writes.items ≡ 0 = search (rules, arith) in
+    let logged = order_logged order old.desk new.desk new.prints run _ (ap (λ (f : Facts). f.log) c.board.ensures) in
+    let collects = c.collect.ensures.collects _ runs c.self.invariant.1 logged (few_runs order _ _ _ run) in
+    let lost = loses_at order old.desk new.desk old.prints new.prints run c.perform.ensures.good had has
+    (nil_from_length _ none) (subst (λ (b : Bool). CollectsOr b runs had has) c.if-not-collect.true collects) in
+    inr (
+      refl,
+      subst (λ (was : SessionState). IsPerformed order was now) c.self.view_is lost.0,
+      subst (λ (was : SessionState). LosesWrites was now) c.self.view_is lost.1,
+    )
 
 pub returns : goal.returns
 returns c =
-    let none : length c.self.inside.untaken.items ≡ 0 = search rules in
-    let runs = subst
-    (λ (was : SessionState). IsPerformed (order_with c.args.order c.args.given.now) was c.collect.new.self)
-    c.self.view_is (performed _ _ c.collect.new.self _ _ (ap (map run_of) (nil_from_length _ none))
-    c.perform.ensures.performs c.perform.ensures.good c.collect.ensures.desk c.collect.ensures.prints
-    c.collect.ensures.room) in
-    let logs = subst (λ (was : SessionState). LogsWrites was.count c.collect.new.self) c.self.view_is
-    (c.collect.ensures.logs c.if-not-collect.false) in
-    (runs, c.tell-came.ensures ∙ ap (λ (s : SessionState). s.prints) c.self-2.view_is, logs)
+    let order = order_with c.args.order c.args.given.now in
+    let old = c.self.inside.desk in
+    let new = c.perform.new.self in
+    let had = c.self.inside.collected in
+    let has = c.collect.new.self in
+    let now : SessionState = state_of new.desk new.prints has in
+    let run = c.perform.ensures.performs in
+    let runs = (made_runs order old.desk new.desk new.prints run).runs in
+    let none : length had.writes.items ≡ 0 = search (rules, arith) in
+    let logged = order_logged order old.desk new.desk new.prints run _ (ap (λ (f : Facts). f.log) c.board.ensures) in
+    let collects = c.collect.ensures.collects _ runs c.self.invariant.1 logged (few_runs order _ _ _ run) in
+    let logs = logs_at order old.desk new.desk old.prints new.prints run c.perform.ensures.good had has
+    (nil_from_length _ none) (subst (λ (b : Bool). CollectsOr b runs had has) c.if-not-collect.false collects) in (
+      subst (λ (was : SessionState). IsPerformed order was now) c.self.view_is logs.0,
+      c.tell-came.ensures,
+      subst (λ (was : SessionState). LogsWrites was now) c.self.view_is logs.1,
+    )
