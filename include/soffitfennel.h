@@ -60,7 +60,7 @@
  * block 700. A command is sent in blocks, and runs once, so no call should make more; but no contract bounds the writes
  * of a whole command. If a call makes more, it returns OVERRUN: the card has run, and the caller lacks writes. Each
  * later call that runs the card returns it too. The caller then stores the words that soffitfennel_words copies as a
- * new image, and makes the card again of them. For no other reason a call returns OVERRUN, and a card that isn't kept
+ * new image, and makes the card again of them. A call returns OVERRUN for no other reason, and a card that isn't kept
  * never does.
  */
 #ifndef SOFFITFENNEL_H

@@ -1,6 +1,6 @@
 -- An order that the desk has run, with its writes.
-use Rattle.std.specs.Prelude.{◌≡◌, ◌≤◌, ◌<◌, ◌^◌, ℕ, [], Option, length, map}
-use Rattle.std.proofs.Common.{◌∙◌, ap, arith, lit<, subst, sym}
+use Rattle.std.specs.Prelude.{◌≡◌, ◌≤◌, ◌<◌, ◌^◌, ℕ, [], Option, None, Some, true, is_some, length, map}
+use Rattle.std.proofs.Common.{◌∙◌, ap, arith, lit<, refl, subst, sym}
 use Rattle.circular_buffer.specs.Buffer.{Buffer}
 use Rattle.nvm_board.specs.Aims.{WritesRuns}
 use Rattle.nvm_board.specs.History.{Log, and_runs, replayed}
@@ -12,7 +12,7 @@ use Rattle.card_bench.specs.Performing.{Performs}
 use Rattle.card_bench.proofs.GuessedLines.{performs_few}
 use Rattle.card_bench.proofs.WrittenLines.{line_runs, performs_wrote}
 use Rattle.script_output.specs.Printouts.{Print}
-use Rattle.soffitfennel.specs.CollectingParts.{Collects, Overruns}
+use Rattle.soffitfennel.specs.CollectingParts.{Collects, IsInStep, Overruns}
 use Rattle.soffitfennel.specs.LoggedWrites.{run_of}
 use Rattle.soffitfennel.specs.SessionStates.{SessionState}
 use Rattle.soffitfennel.specs.Telling.{IsPerformed, LogsWrites, LosesWrites}
@@ -49,8 +49,15 @@ state_of desk prints collected = record {
   overran = collected.overran;
 }
 
+-- a buffer with room is in step with a log
+has_log : (log : Option Log) (collected : Collected) → IsInStep log collected → 0 < collected.writes.capacity
+    → is_some log ≡ true
+has_log None collected step some = absurd (omega (arith, step, some))
+has_log (Some log) collected step some = refl
+
 module _ (order : Order) (old new : Desk) (before prints : Print) (run : Performs order old new prints)
-    (good : IsGood new.bench) (had has : Collected) (none : had.writes.items ≡ []) where
+    (good : IsGood new.bench) (had has : Collected) (none : had.writes.items ≡ [])
+    (step : IsInStep (bench_facts old.bench).log had) where
   abbrev was : SessionState
   was = state_of old before had
 
@@ -74,7 +81,9 @@ module _ (order : Order) (old new : Desk) (before prints : Print) (run : Perform
       unkept = λ empty. ap (map run_of) (collects.unkept (sym collects.room ∙ empty));
       kept = λ some.
           let made = made_runs order old new prints run in
-          let kept = collects.kept (subst (λ (n : ℕ). 0 < n) collects.room some) in record {
+          let room : 0 < had.writes.capacity = subst (λ (n : ℕ). 0 < n) collects.room some in
+          let kept = collects.kept room in record {
+            logs = has_log _ had step room;
             made = made;
             all = kept.1;
             image = made.words ∙ ap (replayed (bench_facts old.bench).words) (sym kept.1);
@@ -89,6 +98,7 @@ module _ (order : Order) (old new : Desk) (before prints : Print) (run : Perform
     performed (ap (λ (b : Buffer Write). b.capacity) overruns.writes),
     record {
       kept = overruns.kept;
+      logs = has_log _ had step overruns.kept;
       made = made_runs order old new prints run;
       many = overruns.many;
       none = ap (λ (b : Buffer Write). map run_of b.items) overruns.writes ∙ ap (map run_of) none;

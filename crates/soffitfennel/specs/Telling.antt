@@ -1,6 +1,6 @@
 -- The outcome of a call from C, and its bytes.
 use Rattle.std.specs.Prelude.{◌≡◌, ◌≢◌, ◌≤◌, ◌<◌, ◌*◌, ◌⊎◌, ℕ, ℤ, pos, Bool, true, false, List, [], ◌∷◌, Option, None}
-use Rattle.std.specs.Prelude.{Some, Result, Ok, Err, length, take}
+use Rattle.std.specs.Prelude.{Some, Result, Ok, Err, length, take, is_some}
 use Rattle.nvm_board.specs.Aims.{WritesRuns}
 use Rattle.nvm_board.specs.Facts.{Facts, IsMemory}
 use Rattle.nvm_board.specs.History.{Run, replayed}
@@ -61,6 +61,7 @@ session_facts s = bench_facts s.desk.bench
 -- The device writes of a kept card in an order are those that its board made and logged: each once, in order, with the
 -- words that it left. Put into the words before the order, they make the words after it.
 pub record HandsOver (was now : SessionState) : Type 0 where
+  pub logs : is_some (session_facts was).log ≡ true
   pub made : WritesRuns (session_facts was) (session_facts now)
   pub all : now.untaken ≡ made.runs
   pub image : (session_facts now).words ≡ replayed (session_facts was).words now.untaken
@@ -75,6 +76,7 @@ pub record LogsWrites (was now : SessionState) : Type 0 where
 -- one.
 pub record LosesWrites (was now : SessionState) : Type 0 where
   pub kept : 0 < was.room
+  pub logs : is_some (session_facts was).log ≡ true
   pub made : WritesRuns (session_facts was) (session_facts now)
   pub many : (was.overran ≡ true) ⊎ (was.room < length made.runs)
   pub none : now.untaken ≡ []

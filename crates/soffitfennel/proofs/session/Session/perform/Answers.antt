@@ -47,7 +47,8 @@ returns-then-not-collect c =
     let logged = order_logged order old.desk new.desk new.prints run _ (ap (λ (f : Facts). f.log) c.board.ensures) in
     let collects = c.collect.ensures.collects _ runs c.self.invariant.1 logged (few_runs order _ _ _ run) in
     let lost = loses_at order old.desk new.desk old.prints new.prints run c.perform.ensures.good had has
-    (nil_from_length _ none) (subst (λ (b : Bool). CollectsOr b runs had has) c.if-not-collect.true collects) in
+    (nil_from_length _ none) c.self.invariant.1
+    (subst (λ (b : Bool). CollectsOr b runs had has) c.if-not-collect.true collects) in
     inr (
       refl,
       subst (λ (was : SessionState). IsPerformed order was now) c.self.view_is lost.0,
@@ -68,7 +69,8 @@ returns c =
     let logged = order_logged order old.desk new.desk new.prints run _ (ap (λ (f : Facts). f.log) c.board.ensures) in
     let collects = c.collect.ensures.collects _ runs c.self.invariant.1 logged (few_runs order _ _ _ run) in
     let logs = logs_at order old.desk new.desk old.prints new.prints run c.perform.ensures.good had has
-    (nil_from_length _ none) (subst (λ (b : Bool). CollectsOr b runs had has) c.if-not-collect.false collects) in (
+    (nil_from_length _ none) c.self.invariant.1
+    (subst (λ (b : Bool). CollectsOr b runs had has) c.if-not-collect.false collects) in (
       subst (λ (was : SessionState). IsPerformed order was now) c.self.view_is logs.0,
       c.tell-came.ensures,
       subst (λ (was : SessionState). LogsWrites was now) c.self.view_is logs.1,
