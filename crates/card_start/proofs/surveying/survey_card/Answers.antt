@@ -157,20 +157,15 @@ returns-in_default-clause-idle g c = λ new. c.find_card.ensures.store.only
 pub returns-in_default-clause-store : goal.returns-in_default-clause-store
 returns-in_default-clause-store g c = reads_change _ _ _ _ c.requires.ready.idle c.in_ok-found.ensures.store
 
-pub migrate-requires-clause-ready : goal.migrate-requires-clause-ready
-migrate-requires-clause-ready g c = c.in_ok-found.ensures.store.ready
-
-pub migrate-requires-clause-tree : goal.migrate-requires-clause-tree
-migrate-requires-clause-tree g c =
+pub migrate-requires : goal.migrate-requires
+migrate-requires g c =
     let m = committed c.args.store.now in
     let old = found-one m _ c.in-Some.found c.in-Some.is c.in-One.is c.in_ok-found.ensures.told in
-    subst TreeStands (sym c.find_card.ensures.store.only.keeps.committed_words) old.tree
-
-pub migrate-requires-clause-old : goal.migrate-requires-clause-old
-migrate-requires-clause-old g c =
-    let m = committed c.args.store.now in
-    let old = found-one m _ c.in-Some.found c.in-Some.is c.in-One.is c.in_ok-found.ensures.told in
-    old_mark _ (subst IsOldCard (sym c.find_card.ensures.store.only.keeps.committed_words) old)
+    let same = sym c.find_card.ensures.store.only.keeps.committed_words in record {
+      ready = c.in_ok-found.ensures.store.ready;
+      tree = subst TreeStands same old.tree;
+      old = old_mark _ (subst IsOldCard same old);
+    }
 
 pub returns-in_err-migrate-in-One-clause-any_exit : goal.returns-in_err-migrate-in-One-clause-any_exit
 returns-in_err-migrate-in-One-clause-any_exit g c =
