@@ -188,12 +188,18 @@ kept_collects (Some log) runs follows follower now old copy step some is made fe
     let counted = step.counted whole in
     let fresh = fresh_runs log runs now old.count step.fits step.below few shown counted in
     let room : length runs ≤ length now.writes.items = omega (arith, fresh, held) in
+    let has = shown-runs log runs now step.fits step.below shown in
+    let last = length-last log.room (log.runs ++ runs) in
+    let size : length (map run_of now.writes.items) ≡ length (last_runs log.room (log.runs ++ runs)) =
+    ap (λ (l : List Run). length l) has.2 in
+    let count = length-map now.writes.items run_of in
     record {
       unkept = λ none. absurd (some none);
       kept = λ any. (
         whole,
         ap (λ (b : Buffer Write). map run_of b.items) copied
             ∙ copied_runs log runs now old.count step.fits step.below few shown counted room,
+        omega (arith, room, size, last, count, step.room),
       );
       room = ap (λ (b : Buffer Write). b.capacity) copied;
       overran = refl;

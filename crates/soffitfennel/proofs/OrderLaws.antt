@@ -1,5 +1,5 @@
 -- An order that the desk has run, with its writes.
-use Rattle.std.specs.Prelude.{◌≡◌, ◌≤◌, ◌<◌, ◌^◌, ℕ, [], Option, None, Some, true, is_some, length, map}
+use Rattle.std.specs.Prelude.{◌≡◌, ◌≤◌, ◌<◌, ◌^◌, ℕ, [], Option, None, Some, length, map}
 use Rattle.std.proofs.Common.{◌∙◌, ap, arith, lit<, refl, subst, sym}
 use Rattle.circular_buffer.specs.Buffer.{Buffer}
 use Rattle.nvm_board.specs.Aims.{WritesRuns}
@@ -49,11 +49,17 @@ state_of desk prints collected = record {
   overran = collected.overran;
 }
 
+-- the log of a board, which has the room of a buffer
+record HasLog (found : Option Log) (collected : Collected) : Type 0 where
+  log : Log
+  is : found ≡ Some log
+  room : log.room ≡ collected.writes.capacity
+
 -- a buffer with room is in step with a log
-has_log : (log : Option Log) (collected : Collected) → IsInStep log collected → 0 < collected.writes.capacity
-    → is_some log ≡ true
+has_log : (found : Option Log) (collected : Collected) → IsInStep found collected → 0 < collected.writes.capacity
+    → HasLog found collected
 has_log None collected step some = absurd (omega (arith, step, some))
-has_log (Some log) collected step some = refl
+has_log (Some log) collected step some = record { log = log; is = refl; room = step.room }
 
 module _ (order : Order) (old new : Desk) (before prints : Print) (run : Performs order old new prints)
     (good : IsGood new.bench) (had has : Collected) (none : had.writes.items ≡ [])
@@ -82,9 +88,13 @@ module _ (order : Order) (old new : Desk) (before prints : Print) (run : Perform
       kept = λ some.
           let made = made_runs order old new prints run in
           let room : 0 < had.writes.capacity = subst (λ (n : ℕ). 0 < n) collects.room some in
-          let kept = collects.kept room in record {
-            logs = has_log _ had step room;
+          let kept = collects.kept room in
+          let has = has_log _ had step room in record {
+            log = has.log;
+            logs = has.is;
+            room = has.room;
             made = made;
+            fits = kept.2;
             all = kept.1;
             image = made.words ∙ ap (replayed (bench_facts old.bench).words) (sym kept.1);
             whole = (kept.0, collects.overran ∙ kept.0);
@@ -94,11 +104,13 @@ module _ (order : Order) (old new : Desk) (before prints : Print) (run : Perform
 
   pub loses_at : Overruns (made_runs order old new prints run).runs had has
       → IsPerformed order was now × LosesWrites was now
-  loses_at overruns = (
+  loses_at overruns = let has = has_log _ had step overruns.kept in (
     performed (ap (λ (b : Buffer Write). b.capacity) overruns.writes),
     record {
       kept = overruns.kept;
-      logs = has_log _ had step overruns.kept;
+      log = has.log;
+      logs = has.is;
+      room = has.room;
       made = made_runs order old new prints run;
       many = overruns.many;
       none = ap (λ (b : Buffer Write). map run_of b.items) overruns.writes ∙ ap (map run_of) none;

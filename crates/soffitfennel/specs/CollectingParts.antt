@@ -4,7 +4,7 @@ use Rattle.nvm_board.specs.History.{Log, Run}
 use Rattle.soffitfennel.specs.LoggedWrites.{run_of}
 use Rattle.soffitfennel.specs.declared.collected.Collected.{Collected}
 
--- A log has the room that the caller's buffer has. Unless it was overrun, its count is known.
+-- A log has the room that the caller's buffer has. Until an overrun, the buffer's count is the log's.
 pub record IsFollowed (log : Log) (collected : Collected) : Type 0 where
   pub some : 0 < log.room
   pub room : log.room ≡ collected.writes.capacity
@@ -17,10 +17,11 @@ abbrev pub IsInStep : Option Log → Collected → Type 0
 IsInStep None collected = collected.writes.capacity ≡ 0
 IsInStep (Some log) collected = IsFollowed log collected
 
--- The writes of these runs are copied, or none if there is no room at all.
+-- The writes of these runs are copied, and there is room for them. Without any room none is copied.
 pub record Collects (runs : List Run) (old new : Collected) : Type 0 where
   pub unkept : old.writes.capacity ≡ 0 → new.writes.items ≡ []
   pub kept : 0 < old.writes.capacity → (old.overran ≡ false) × (map run_of new.writes.items ≡ runs)
+      × (length runs ≤ old.writes.capacity)
   pub room : new.writes.capacity ≡ old.writes.capacity
   pub overran : new.overran ≡ old.overran
 

@@ -1,9 +1,9 @@
 -- The outcome of a call from C, and its bytes.
 use Rattle.std.specs.Prelude.{◌≡◌, ◌≢◌, ◌≤◌, ◌<◌, ◌*◌, ◌⊎◌, ℕ, ℤ, pos, Bool, true, false, List, [], ◌∷◌, Option, None}
-use Rattle.std.specs.Prelude.{Some, Result, Ok, Err, length, take, is_some}
+use Rattle.std.specs.Prelude.{Some, Result, Ok, Err, length, take}
 use Rattle.nvm_board.specs.Aims.{WritesRuns}
 use Rattle.nvm_board.specs.Facts.{Facts, IsMemory}
-use Rattle.nvm_board.specs.History.{Run, replayed}
+use Rattle.nvm_board.specs.History.{Log, Run, replayed}
 use Rattle.simulated_boards.specs.Given.{board_with}
 use Rattle.card_start.specs.Factory.{factory_card}
 use Rattle.command_base.specs.Finding.{Finds, HasCard}
@@ -59,10 +59,14 @@ abbrev pub session_facts : SessionState → Facts
 session_facts s = bench_facts s.desk.bench
 
 -- The device writes of a kept card in an order are those that its board made and logged: each once, in order, with the
--- words that it left. Put into the words before the order, they make the words after it.
+-- words that it left. Put into the words before the order, they make the words after it. The log has room for as many
+-- as the caller. Neither this order nor an earlier one made more.
 pub record HandsOver (was now : SessionState) : Type 0 where
-  pub logs : is_some (session_facts was).log ≡ true
+  pub log : Log
+  pub logs : (session_facts was).log ≡ Some log
+  pub room : log.room ≡ was.room
   pub made : WritesRuns (session_facts was) (session_facts now)
+  pub fits : length made.runs ≤ was.room
   pub all : now.untaken ≡ made.runs
   pub image : (session_facts now).words ≡ replayed (session_facts was).words now.untaken
   pub whole : (was.overran ≡ false) × (now.overran ≡ false)
@@ -76,7 +80,9 @@ pub record LogsWrites (was now : SessionState) : Type 0 where
 -- one.
 pub record LosesWrites (was now : SessionState) : Type 0 where
   pub kept : 0 < was.room
-  pub logs : is_some (session_facts was).log ≡ true
+  pub log : Log
+  pub logs : (session_facts was).log ≡ Some log
+  pub room : log.room ≡ was.room
   pub made : WritesRuns (session_facts was) (session_facts now)
   pub many : (was.overran ≡ true) ⊎ (was.room < length made.runs)
   pub none : now.untaken ≡ []
@@ -95,7 +101,7 @@ pub record HasUntaken (was now : SessionState) : Type 0 where
   pub some : was.untaken ≢ []
   pub same : now ≡ was
 
--- the result of an order is the output, and its writes are logged; or writes were left; or one was lost
+-- the result of an order is the output, and its writes are logged; or writes were left; or it overran
 abbrev pub TellsResult : Order → SessionState → SessionState → Result Told Outcome → Type 0
 TellsResult order was now (Ok told) =
     IsPerformed order was now × (told_print told ≡ now.prints) × LogsWrites was now
@@ -108,8 +114,8 @@ AnswersOrder order None now result = (now ≡ None) × (result ≡ Err outcome.A
 AnswersOrder order (Some was) None result = ⊥
 AnswersOrder order (Some was) (Some now) result = TellsResult order was now result
 
--- A call that runs an order: its outcome is that of the output, for which `Holds` is true; or writes were left, one was
--- lost, or there is no card, for which `Fails` is.
+-- A call that runs an order: its outcome is that of the output, for which `Holds` is true; or writes were left, it
+-- overran, or there is no card, for which `Fails` is.
 abbrev pub CallRuns : Order → Option SessionState → Option SessionState → Outcome → (Print → Type 0) → Type 0 → Type 0
 CallRuns order None now result Holds Fails = (now ≡ None) × (result ≡ outcome.Absent) × Fails
 CallRuns order (Some was) None result Holds Fails = ⊥

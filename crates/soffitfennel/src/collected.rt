@@ -40,7 +40,7 @@ impl Collected {
         })
     }
 
-    /// Copies the writes of an order from the log of a board. False if there is no room for all.
+    /// Copies the writes of an order from the log of a board. False if there is no room for all, or was none before.
     pub fn collect(&mut self, board: &KeptBoard<WriteLog>) -> bool
         requires { self.old.writes.items ≡ [] }
         ensures collects { (was : Option Log) (runs : List Run) → IsInStep was self.old
