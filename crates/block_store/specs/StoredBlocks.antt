@@ -21,7 +21,7 @@ pub record HasLink (m : Memory) (page : ℕ) : Type 0 where
   pub block : IsBlock (committed m) page
   pub small : link (committed m) page < MOST_PAGES
 
--- The same in a transaction.
+-- A transaction is open. As it has the words, the page is a block, and its link is a page or 0.
 pub record HasOpenLink (m : Memory) (page : ℕ) : Type 0 where
   pub ready : IsOpen m
   pub block : IsBlock (current m) page
@@ -32,7 +32,7 @@ pub record HasFreeHead (m : Memory) : Type 0 where
   pub ready : IsReady m
   pub small : slice_index (committed m) FREE_HEAD < MOST_PAGES
 
--- The same in a transaction.
+-- A transaction is open. As it has the words, the header's word for the first free block is a page or 0.
 pub record HasOpenFreeHead (m : Memory) : Type 0 where
   pub ready : IsOpen m
   pub small : slice_index (current m) FREE_HEAD < MOST_PAGES
@@ -42,7 +42,7 @@ pub record HasChain (m : Memory) (first : ℕ) : Type 0 where
   pub ready : IsReady m
   pub leads : Leads (committed m) first (chain (committed m) first) 0
 
--- The same in a transaction.
+-- A transaction is open. As it has the words, their links lead from a page over the blocks of a chain.
 pub record HasOpenChain (m : Memory) (first : ℕ) : Type 0 where
   pub ready : IsOpen m
   pub leads : Leads (current m) first (chain (current m) first) 0
@@ -65,7 +65,7 @@ pub record HasPages (m : Memory) (first end : ℕ) : Type 0 where
   pub order : first ≤ end
   pub inside : end ≤ pages_of (committed m)
 
--- There are n free blocks, at least one, and the run has the first n of them.
+-- There are at least n free blocks, n is at least 1, and the run has the first n of them.
 pub record HasFreeRun (m : List ℕ) (n : ℕ) (run : FreeRun) : Type 0 where
   pub free : HasFree m
   pub some : 1 ≤ n

@@ -117,7 +117,7 @@ exchanged-written zero old way new ending run =
     none-written _ old.bench new.bench (ap (λ (e : Ends). e.bench) run.0)
 exchanged-written (suc blocks) old way new ending (inl passes) =
     more-written (COMMAND_WRITES + 1) _ old.bench new.bench (omega arith)
-        (passed-written old way new (Err ending) passes)
+    (passed-written old way new (Err ending) passes)
 exchanged-written (suc blocks) old way new ending (inr run) =
     more-written (COMMAND_WRITES + 1 + (COMMAND_WRITES + 1) * blocks) _ old.bench new.bench (omega arith)
     (written-on (COMMAND_WRITES + 1) ((COMMAND_WRITES + 1) * blocks) old.bench run.0.bench new.bench

@@ -26,7 +26,7 @@ pub record SparesCommand (number mask : ℕ) (board : Facts) (prepare : List Tur
   pub sent : GoodBlock armed command item last
   pub spared : (item ≢ Dark) ⊎ (is_some (bench_facts last).pending ≡ true)
 
--- The command doesn't make this write: no cut set for it happens, whatever its mask.
+-- The command doesn't make this write: whatever the mask of a cut at it, a run is allowed in which no cut happens.
 abbrev pub IsUnmade : ℕ → Facts → List Turn → List ℕ → Type 0
 IsUnmade number board prepare command = (mask : ℕ) → SparesCommand number mask board prepare command
 

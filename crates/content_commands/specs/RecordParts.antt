@@ -118,7 +118,7 @@ structure_replaced (At place) = Linear
 abbrev pub need_replacing : RecordChoice → Need
 need_replacing choice = record { structure = structure_replaced choice; bit = Update }
 
--- The number of an entry, and its entry, which is that of a record file.
+-- The number of an entry, and the entry of a record file.
 pub record IsRecordEntry (e : ℕ) (entry : Entry) : Type 0 where
   pub number : e ≤ 63
   pub told : IsToldEntry entry

@@ -11,7 +11,7 @@ pub record IsRecordNumber (number records : ℕ) : Type 0 where
   pub last : number ≤ records
   pub few : records ≤ 254
 
--- A slot has this number, counted from that of record 1. At most 254 slots are in the ring.
+-- A slot has this number, counted from that of record 1, which is in the ring. At most 254 slots are in it.
 pub record IsSlotNumber (ring : Cyclic) (number : ℕ) : Type 0 where
   pub start : ring.start < ring.capacity
   pub few : ring.capacity ≤ 254

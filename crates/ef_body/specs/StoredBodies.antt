@@ -43,8 +43,9 @@ pub record TakesFront (m : Memory) (ring : Cyclic) (bytes : List ℕ) (records :
   pub most : records ≤ ring.capacity
   pub more : records ≤ ring.records + 1
 
--- The store has records, none shorter than an amount of `count` bytes or longer than a buffer of `most` bytes.
-pub record TakesAmount (m : Memory) (ring : Cyclic) (count most : ℕ) : Type 0 where
+-- An amount of `count` bytes can be added to a record. None is shorter than it, or longer than a buffer of `most`
+-- bytes.
+pub record CanIncrease (m : Memory) (ring : Cyclic) (count most : ℕ) : Type 0 where
   pub body : HasRecords m ring
   pub sent : count ≤ ring.record_length
   pub room : ring.record_length ≤ most

@@ -11,7 +11,7 @@ ghost use Rattle.card_state.specs.declared.status.TheConstants.Sw.{NO_ROOM};
 ghost use Rattle.card_state.specs.RecordLists.{front};
 ghost use Rattle.ef_contents.specs.Refusals.{missing_record, unraised, why_failed};
 ghost use Rattle.ef_body.specs.Bodies.{cyclic_body_records, IsCyclic};
-ghost use Rattle.ef_body.specs.StoredBodies.{TakesRecord, TakesAmount};
+ghost use Rattle.ef_body.specs.StoredBodies.{CanIncrease, TakesRecord};
 ghost use Rattle.ef_body.specs.BodyChanges.{record_put_writes, slot_offset, CyclicBecomes, Increases};
 ghost use Rattle.ef_body.specs.BodyCalls.{Commits, CommitsUnlessRefused, ReceivesSum};
 
@@ -87,8 +87,8 @@ impl Cyclic {
             (CyclicBecomes (committed store.old) self (front (length (cyclic_body_records (committed store.old) self))
             bytes.now (cyclic_body_records (committed store.old) self))) RECORD_WRITES store.old store.new result }
     {
-        let record = self.find(1)?;
-        from_store(record.replace_oldest(store, bytes))
+        let newest_slot = self.find(1)?;
+        from_store(newest_slot.replace_oldest(store, bytes))
     }
 
     /// Adds a record in front, in one transaction. If the EF is full, it drops the oldest one (APPEND RECORD, ISO/IEC
@@ -142,7 +142,7 @@ impl Cyclic {
         sent: &[u8],
         bytes: &mut ArrayVec<u8, N>,
     ) -> Result<RecordSlot, BodyErr>
-        requires { TakesAmount store.old self (length sent.now) N }
+        requires { CanIncrease store.old self (length sent.now) N }
         ensures found { IfOk result (λ slot. (slot.ring ≡ self) × (slot.number ≡ 1)) }
         ensures sum { ReceivesSum self.record_length (cyclic_body_records (committed store.old) self) sent.now
             bytes.new.items result }
@@ -171,7 +171,7 @@ impl Cyclic {
         sent: &[u8],
         bytes: &mut ArrayVec<u8, N>,
     ) -> Result<(), BodyErr>
-        requires { TakesAmount store.old self (length sent.now) N }
+        requires { CanIncrease store.old self (length sent.now) N }
         ensures sum { ReceivesSum self.record_length (cyclic_body_records (committed store.old) self) sent.now
             bytes.new.items result }
         ensures any_exit { (committed store.new ≡ committed store.old)

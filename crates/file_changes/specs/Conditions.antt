@@ -45,8 +45,8 @@ pub record HasLowerFile (m : Memory) (e : ℕ) : Type 0 where
   pub file : HasFile m e
   pub below : 0 < e
 
--- A file in a store, the free space and the index of its tree, and the parameters of a new file.
-pub record TakesFile (m : Memory) (e : ℕ) (free : FreeSpace) (files : Index) (new : Fcp) : Type 0 where
+-- A file can be created in a DF: these are the free space and the index of its tree, and its parameters are valid.
+pub record CanCreate (m : Memory) (e : ℕ) (free : FreeSpace) (files : Index) (new : Fcp) : Type 0 where
   pub df : HasFile m e
   pub space : IsSurveyed m free files
   pub fcp : IsCreatable new

@@ -11,7 +11,7 @@ ghost use Rattle.card_state.specs.declared.fcp.ShortIdentifier.TheVariants.{Abse
 ghost use Rattle.card_state.specs.FileControl.{IsCreatable};
 ghost use Rattle.block_chain.specs.Chains.{free_chain};
 ghost use Rattle.file_changes.specs.Adding.{AddsByGate};
-ghost use Rattle.file_changes.specs.Conditions.{HasDf, HasFreeBlocks, IsNewEntry, IsSurveyed, TakesFile};
+ghost use Rattle.file_changes.specs.Conditions.{CanCreate, HasDf, HasFreeBlocks, IsNewEntry, IsSurveyed};
 ghost use Rattle.file_tree.specs.Formats.{block_count};
 ghost use Rattle.file_tree.specs.Kinds.{kind_byte};
 ghost use Rattle.file_tree.specs.declared.layout.TheConstants.{CREATE_WRITES, MOST_FILE_BLOCKS};
@@ -219,7 +219,7 @@ fn find_place<B: Board>(
     df: u8,
     fcp: &Fcp<'_>,
 ) -> Result<Place, StoreErr>
-    requires { TakesFile store.old df free index.now fcp.now }
+    requires { CanCreate store.old df free index.now fcp.now }
     ensures { Learns store.old store.new result (FindsPlace (committed store.old) df fcp.now) }
 {
     match taken(store, index, df, fcp)? {

@@ -7,8 +7,7 @@ abbrev pub log_of : {F : Type 0} → (F → Option Log) → Option F → Option 
 log_of log None = None
 log_of log (Some follower) = log follower
 
--- A device write is handed on once, behind all those before it, with the words as it left them. Nothing is handed to
--- what has fallen behind.
+-- A run is handed on once, behind all those before it. Nothing is handed to what has fallen behind.
 pub record HandsOn (follows : Bool) (run : Run) (old new : Option Log) : Type 0 where
   pub once : follows ≡ true → new ≡ and_run old run
   pub never : follows ≡ false → new ≡ old

@@ -26,8 +26,8 @@ pub record FitsPage (number first : ℕ) (words : List ℕ) (board : Facts) : Ty
   pub run : first + length words ≤ PAGE_WORDS
 
 -- A write turns each word of a run, from an address on, from old to new. After an error each of them is old or new,
--- independently of the others. A powered board logs the run as the write left it. No other call raises the count of
--- writes.
+-- independently of the others. A powered board with a log has the run in it, as the write left it. No other call raises
+-- the count of writes.
 pub record Writes {T : Type 0} (at : ℕ) (run : List ℕ) (old new : Facts) (result : Result T DeviceErr) : Type 0 where
   pub done : OnOk result (new.words ≡ written old.words at run)
   pub torn : Torn old.words at run new.words

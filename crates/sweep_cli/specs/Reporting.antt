@@ -76,7 +76,7 @@ pub record HasWords {B : Type 0} {facts : B → Facts} {torn : B → ℕ} (sweep
   pub cut : CutsCommand write 0 sweeping.board sweeping.prepare sweeping.command (facts left)
   pub told : words ≡ words_tried (torn left)
 
--- The command doesn't make this device write: no cut at it happens, whatever its mask.
+-- The command doesn't make this device write, so no cut at it happens (IsUnmade).
 abbrev pub LacksWrite : {B : Type 0} {facts : B → Facts} {torn : B → ℕ} → Sweeping facts torn → ℕ → Type 0
 LacksWrite sweeping write = IsUnmade write sweeping.board sweeping.prepare sweeping.command
 

@@ -37,7 +37,7 @@ pub record IsWholeSweep (given : GivenSweep) : Type 0 where
   pub of : given.part.of ≡ 1
   pub path_next : given.path_next ≡ false
 
--- what the options ask for behind the last word, which is no `--card`
+-- What the options ask for behind the last word. A last `--card` has no path, and is refused.
 abbrev pub EndsSweepWords : GivenSweep → Option Options → Type 0
 EndsSweepWords given None = given.path_next ≡ true
 EndsSweepWords given (Some options) = (given.path_next ≡ false)

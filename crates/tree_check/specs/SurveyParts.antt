@@ -17,24 +17,24 @@ pub record HasTable (m : Memory) (all : List Extent) (free : ℕ) : Type 0 where
   pub rules : IsTable (table (committed m))
 
 -- The store is ready, and has pages for n blocks.
-pub record HasBlocks (m : Memory) (n : ℕ) : Type 0 where
+pub record HasPagesFor (m : Memory) (n : ℕ) : Type 0 where
   pub ready : IsReady m
   pub inside : FIRST_BLOCK_PAGE + n ≤ pages_of (committed m)
 
--- The store is ready, and has the pages before `end`. The first block is one of them, or there is none.
+-- The store is ready, and has the pages before `end`, which is the page of the first block at least.
 pub record HasPagesBefore (m : Memory) (end : ℕ) : Type 0 where
   pub ready : IsReady m
   pub some : FIRST_BLOCK_PAGE ≤ end
   pub inside : end ≤ pages_of (committed m)
 
 -- One to 64 entries. Children of one DF have different identifiers.
-pub record AreIndexed (t : List Entry) : Type 0 where
+pub record CanBeIndexed (t : List Entry) : Type 0 where
   pub some : 0 < length t
   pub size : length t ≤ 64
   pub apart : HaveIdentifiers t
 
--- Marks for the blocks before a page.
-pub record CanMark (end : ℕ) (seen : List ℕ) : Type 0 where
+-- A page from that of the first block to that behind the largest memory, and marks for the blocks before it.
+pub record AreMarksBefore (end : ℕ) (seen : List ℕ) : Type 0 where
   pub some : FIRST_BLOCK_PAGE ≤ end
   pub most : end ≤ MOST_PAGES
   pub marks : AreBlockMarks end seen

@@ -5,7 +5,7 @@ ghost use Rattle.file_tree.specs.Table.{entry_in, ancestor, extents, free_entrie
 ghost use Rattle.file_tree.specs.Table.{HaveIdentifiers, IsTable};
 ghost use Rattle.file_tree.specs.TreeParts.{BearOneName, ShareShort, HasOwnShort, HasOwnName};
 ghost use Rattle.file_tree.specs.TreeParts.{AreBelow, AreUnlike, IsAlone};
-ghost use Rattle.tree_check.specs.SurveyParts.{AreIndexed};
+ghost use Rattle.tree_check.specs.SurveyParts.{CanBeIndexed};
 
 use crate::rules::are_entries;
 use card_state::identifiers::MASTER_FILE;
@@ -146,7 +146,7 @@ fn are_apart(entries: &[Entry]) -> bool
 /// Returns true if the entries satisfy the rules of a tree. The caller's index has already shown that children of one
 /// DF have different identifiers.
 pub(crate) fn is_table(entries: &[Entry]) -> bool
-    requires { AreIndexed entries.now }
+    requires { CanBeIndexed entries.now }
     ensures { IsTrue result ↔ IsTable entries.now }
 {
     is_master_file(&entries[0])

@@ -10,7 +10,7 @@ ghost use Rattle.block_chain.specs.Layout.{TellsFreeBlocks};
 ghost use Rattle.block_chain.specs.ChainParts.{times_marked, AreBlank, AreBlockMarks, IsUnmarkedChain};
 ghost use Rattle.tree_check.specs.WalkParts.{IsWalked};
 ghost use Rattle.block_chain.specs.declared.layout.TheConstants.{FIRST_BLOCK_PAGE};
-ghost use Rattle.tree_check.specs.SurveyParts.{HasBlocks, HasPagesBefore, CanMark};
+ghost use Rattle.tree_check.specs.SurveyParts.{HasPagesFor, HasPagesBefore, AreMarksBefore};
 
 use block_chain::{Extent, FIRST_BLOCK_PAGE, FREE_HEAD, MOST_BLOCKS};
 use undo_journal::{Board, PAGE_WORDS, Store, StoreErr};
@@ -27,7 +27,7 @@ pub(crate) struct Walked {
 
 /// Marks a block before the page `end`, unless it is marked already.
 fn mark(page: u32, end: u16, seen: &mut [u8]) -> bool
-    requires { CanMark end seen.old }
+    requires { AreMarksBefore end seen.old }
     ensures new { IsTrue result ↔ (((FIRST_BLOCK_PAGE ≤ page) × (page < end)) × (times_marked seen.old page ≡ 0)) }
     ensures marks { IsTrue result → seen.new ≡ slice_set seen.old (page - FIRST_BLOCK_PAGE) 1 }
     ensures kept { result ≡ false → seen.new ≡ seen.old }
@@ -90,7 +90,7 @@ pub fn lay<B: Board>(
     extents: &[Extent],
     count: u16,
 ) -> Result<Option<u16>, StoreErr>
-    requires { HasBlocks store.old count }
+    requires { HasPagesFor store.old count }
     ensures found { IfOk result (λ free. TellsFreeBlocks count (committed store.old) extents.now free) }
     ensures store { Reads store.old store.new (result_err result) }
 {
@@ -110,7 +110,7 @@ fn lay_many<B: Board>(
     extents: &[Extent],
     count: u16,
 ) -> Result<Option<u16>, StoreErr>
-    requires { HasBlocks store.old count }
+    requires { HasPagesFor store.old count }
     ensures found { IfOk result (λ free. TellsFreeBlocks count (committed store.old) extents.now free) }
     ensures store { Reads store.old store.new (result_err result) }
 {
@@ -126,7 +126,7 @@ fn lay_marked<B: Board>(
     count: u16,
     seen: &mut [u8],
 ) -> Result<Option<u16>, StoreErr>
-    requires blocks { HasBlocks store.old count }
+    requires blocks { HasPagesFor store.old count }
     requires room { count ≤ length seen.old }
     requires blank { AreBlank seen.old }
     ensures found { IfOk result (λ free. TellsFreeBlocks count (committed store.old) extents.now free) }

@@ -79,13 +79,13 @@ bytes-content m entry = by_extent (extent_of entry)
     by_extent (Some extent) = bytes-blocks m (blocks_of m extent)
 
 -- the bytes that an entry has for its rule and its name, 16 for the name, and its identifier
-record HasBytes (entry : Entry) : Type 0 where
+record EntryHasBytes (entry : Entry) : Type 0 where
   rule : AreBytes entry.rule
   name : AreBytes entry.name
   name_room : length entry.name ≡ 16
   identifier : entry.identifier < 65536
 
-bytes-told : (words : List ℕ) → HasBytes (entry_told words)
+bytes-told : (words : List ℕ) → EntryHasBytes (entry_told words)
 bytes-told words = record {
   rule = bytes-at words (range_with_len 2 2);
   name = bytes-at words (range_with_len 4 4);
@@ -93,10 +93,10 @@ bytes-told words = record {
   identifier = omega arith;
 }
 
-bytes-entry : (words : List ℕ) → (entry_of words).kind ≢ 0 → HasBytes (entry_of words)
+bytes-entry : (words : List ℕ) → (entry_of words).kind ≢ 0 → EntryHasBytes (entry_of words)
 bytes-entry words used = elim (eqb_tells (slice_index words 0) 0) [
   | inl none ↦ absurd (used (ap (λ (x : Entry). x.kind) (entry_of-free words none.1)))
-  | inr some ↦ subst HasBytes (sym (entry_of-used words some.1)) (bytes-told words)
+  | inr some ↦ subst EntryHasBytes (sym (entry_of-used words some.1)) (bytes-told words)
 ]
 
 -- Blocks have all their bytes, in a memory of any length: each of them is one of its pages.
@@ -203,7 +203,7 @@ same-of a b is = elim (eqb_tells a b) [ inl same ↦ same.1 | inr other ↦ absu
 pub other-of : (a b : ℕ) → (a == b) ≡ false → a ≢ b
 other-of a b is = elim (eqb_tells a b) [ inl same ↦ absurd (true≢false (sym same.0 ∙ is)) | inr other ↦ other.1 ]
 
-proper-kind : (entry : Entry) (bytes : List ℕ) → IsFileEntry entry → entry.kind ≢ 0 → HasBytes entry
+proper-kind : (entry : Entry) (bytes : List ℕ) → IsFileEntry entry → entry.kind ≢ 0 → EntryHasBytes entry
     → (2 ≤ entry.kind → entry.size ≤ length bytes) → AreBytes bytes → IsProperKind (kind_of entry bytes)
 proper-kind entry bytes file used has enough all = by_kind (entry.kind == 1) refl
   where
@@ -234,7 +234,7 @@ proper-kind entry bytes file used has enough all = by_kind (entry.kind == 1) ref
               let four : entry.kind ≡ 4 = omega (arith, most, used, one, two, third) in file.body.records (inr four))
         ]
 
-proper-entry : (entry : Entry) (bytes : List ℕ) → IsFileEntry entry → entry.kind ≢ 0 → HasBytes entry
+proper-entry : (entry : Entry) (bytes : List ℕ) → IsFileEntry entry → entry.kind ≢ 0 → EntryHasBytes entry
     → (2 ≤ entry.kind → entry.size ≤ length bytes) → AreBytes bytes → IsProperFile (file_of entry bytes)
 unfolding file_of
 proper-entry entry bytes file used has enough all =
@@ -246,10 +246,10 @@ proper-entry entry bytes file used has enough all =
     }
 
 -- an entry's bytes, by its page
-entry-bytes : (m : List ℕ) (e : ℕ) → IsUsed (table m) e → HasBytes (entry_in (table m) e)
+entry-bytes : (m : List ℕ) (e : ℕ) → IsUsed (table m) e → EntryHasBytes (entry_in (table m) e)
 entry-bytes m e used =
     let page = entry_in-table m e (used_small m e used) in
-    subst HasBytes (sym page) (bytes-entry (page_words m (1 + e)) (λ none. used (ap (λ (x : Entry). x.kind) page
+    subst EntryHasBytes (sym page) (bytes-entry (page_words m (1 + e)) (λ none. used (ap (λ (x : Entry). x.kind) page
     ∙ none)))
 
 -- the files of a memory that stands for a tree

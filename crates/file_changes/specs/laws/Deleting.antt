@@ -46,7 +46,7 @@ use Rattle.file_tree.specs.laws.Paths.{parent_used}
 use Rattle.file_tree.specs.laws.Nodes.{used_small, get-used, entry_found}
 use Rattle.file_tree.specs.laws.Costs.{space_counted, laid_blocks, all_extents, extent_of-some}
 use Rattle.file_tree.specs.laws.Contents.{content-none, content-some}
-use Rattle.file_tree.specs.laws.Changing.{HasEntry, same_tree}
+use Rattle.file_tree.specs.laws.Changing.{HasEntryAt, same_tree}
 use Rattle.file_tree.specs.laws.Subtrees.{and_false, within_path, parent_out, master_out}
 use Rattle.file_changes.specs.laws.Parting.{staying, GoesOrStays, parts_split, parts_all, parts_free, extents_have}
 use Rattle.file_changes.specs.laws.Parting.{shifted}
@@ -439,10 +439,10 @@ module _ (m mid : List ℕ) (top : ℕ) (sized : IsMemory m) (stands : TreeStand
         ∙ get-used m stands.entries f (was_used f v)
         ∙ ap (λ (file : File). Some file) (sym (file_stays f v))
 
-    tree_only : (p : Path) (file : File) → get (retain_keys (tree_of m) outside) p ≡ Some file → HasEntry after p
+    tree_only : (p : Path) (file : File) → get (retain_keys (tree_of m) outside) p ≡ Some file → HasEntryAt after p
     tree_only p file is = by_test (outside p) refl
       where
-        by_test : (b : Bool) → outside p ≡ b → HasEntry after p
+        by_test : (b : Bool) → outside p ≡ b → HasEntryAt after p
         by_test false gone = absurd (true≢false (ap (λ (o : Option File). is_some o)
             (sym is ∙ kept_at p ∙ ap (λ (b : Bool). cond b (get (tree_of m) p) None) gone)))
         by_test true kept =

@@ -16,13 +16,13 @@ some_none : {A : Type 0} (x : A) → Some x ≡ None → ⊥
 some_none {A} x e = true≢false (ap (λ (o : Option A). is_some o) e)
 
 -- an entry that has a path
-abbrev pub HasEntry : List ℕ → Path → Type 0
-HasEntry m p = (e : ℕ) × IsUsed (table m) e × (path_of (table m) e ≡ p)
+abbrev pub HasEntryAt : List ℕ → Path → Type 0
+HasEntryAt m p = (e : ℕ) × IsUsed (table m) e × (path_of (table m) e ≡ p)
 
 -- A tree that has each used entry's file at the entry's path, and nothing else, is the tree of the memory.
 pub same_tree : (m : List ℕ) (tree : Tree) → IsTable (table m)
     → ((e : ℕ) → IsUsed (table m) e → get tree (path_of (table m) e) ≡ Some (file_in m e))
-    → ((p : Path) (f : File) → get tree p ≡ Some f → HasEntry m p) → tree_of m ≡ tree
+    → ((p : Path) (f : File) → get tree p ≡ Some f → HasEntryAt m p) → tree_of m ≡ tree
 same_tree m tree rules has only =
     same_map nat_list_cmp_total (slice_cmp-IsAntisymmetric nat_cmp-IsAntisymmetric) (tree_of m) tree
     (λ p. at p (get (tree_of m) p) refl)
@@ -96,10 +96,10 @@ module _ (m after : List ℕ) (rules : IsTable (table m)) (rules_after : IsTable
         ∙ ap (λ (g : File). Some g) (sym before.1)
   ]
 
-  only : (p : Path) (f : File) → get (insert (tree_of m) place (file_in after e)) p ≡ Some f → HasEntry after p
+  only : (p : Path) (f : File) → get (insert (tree_of m) place (file_in after e)) p ≡ Some f → HasEntryAt after p
   only p f is = by_test (same_path p place) refl
     where
-      by_test : (b : Bool) → same_path p place ≡ b → HasEntry after p
+      by_test : (b : Bool) → same_path p place ≡ b → HasEntryAt after p
       by_test true here = (e, used, sym (one_of_same p place here))
       by_test false there =
           let was = sym (got p ∙ ap (λ (b : Bool). cond b (Some (file_in after e)) (get (tree_of m) p)) there) ∙ is in
