@@ -34,10 +34,10 @@
  *   }
  *
  * A card is one pointer. The caller keeps it, and passes its address. It is null before soffitfennel_factory or
- * soffitfennel_insert makes a card, and after soffitfennel_remove; then the other functions do nothing, and return
- * ABSENT, whatever else they are given. Otherwise a wrong SIZE comes before UNTAKEN.
+ * soffitfennel_insert makes a card, and after soffitfennel_remove. With a null pointer the other functions do nothing,
+ * and return ABSENT, whatever else they are given. Otherwise a wrong SIZE comes before UNTAKEN.
  *
- * What the caller owes; no function can test it:
+ * The caller has these duties, which no function can test:
  * - It sets the pointer to null at first, and changes it by these functions alone. It doesn't read or write what the
  *   pointer points to, and doesn't copy a card to use both copies.
  * - It makes one call at a time for each card. Another thread may make the next call. Different cards are independent.
@@ -49,19 +49,19 @@
  * All other input is tested: no length, number, command or block is wrong to pass.
  *
  * A kept card has an image outside of the library, such as a file: the memory's words in order, the most significant
- * byte of each first. soffitfennel_insert makes it of the image. After each call that runs the card, the caller takes
- * the call's device writes by soffitfennel_write until none is left, and stores each in the image, in order. Only then
- * it uses the call's result. The stored image is at all times what the memory was between two device writes, so after
- * a loss of power the caller makes the card again of the image, and power-on rolls back an unfinished command. If a
- * store fails, the caller stores no later write, and makes the card again of the image. How safe a stored write is, is
- * the caller's choice: a file's survives the end of the program after pwrite, and a loss of power after fdatasync.
+ * byte of each first. soffitfennel_insert makes the card from the image. After each call that runs the card, the caller
+ * takes the call's device writes by soffitfennel_write, until none is left. It stores each in the image, in order. Only
+ * then it uses the call's result. The stored image is thus always the memory between two device writes. After a loss of
+ * power the caller makes the card again from the image, and power-on rolls back an unfinished command. If a store
+ * fails, the caller stores no later write, and makes the card again from the image. The caller chooses how safe a
+ * stored write is. In a file it survives the end of the program after pwrite, and a loss of power after fdatasync.
  *
  * A kept card has room for SOFFITFENNEL_WRITES writes of one call. By its contracts power-on makes at most 3,520, and a
- * block 700. A command is sent in blocks, and runs once, so no call should make more; but no contract bounds the writes
- * of a whole command. If a call makes more, it returns OVERRUN: the card has run, and the caller lacks writes. Each
- * later call that runs the card returns it too. The caller then stores the words that soffitfennel_words copies as a
- * new image, and makes the card again of them. A call returns OVERRUN for no other reason, and a card that isn't kept
- * never does.
+ * block 700. A command is sent in blocks and runs once, so no call should make more. No contract bounds the writes of a
+ * whole command. If a call makes more, it returns OVERRUN: the card has run, and the caller lacks writes. Each later
+ * call that runs the card returns it too. The caller then stores the words that soffitfennel_words copies as a new
+ * image, and makes the card again from them. A call returns OVERRUN for no other reason. A card that isn't kept never
+ * does.
  */
 #ifndef SOFFITFENNEL_H
 #define SOFFITFENNEL_H
