@@ -100,7 +100,7 @@ def table(sweep: Sweep, most: int | None) -> str:
     return "\n\n".join(filter(None, [
         f"{sweep.name}, answered {sweep.answer}: {shown}\n"
         f"{count(len(sweep.writes), 'device write')}; {turns if sweep.commits else 'no write turns it'}\n"
-        f"{count(sweep.runs, 'run')}, with at most {count(sweep.depth, 'start')} cut;"
+        f"{count(sweep.runs, 'run')}, with at most {count(sweep.depth, 'power-on')} cut;"
         f" {count(len(sweep.outcomes), 'outcome')}, {most or len(sweep.stages)} allowed",
         aligned(["writes", "of", "each", "which"], *writes),
         aligned(["outcome", "runs", "first cut", "the card is found"], *cards),
