@@ -29,6 +29,8 @@ def ran(script: str, *words: str) -> list[str]:
     # a comment that was meant to begin a part of the script
     why += [f"line {number} is '{line}'" for number, line in enumerate(script.splitlines(), 1)
             if line not in (COMMAND, PROBE) and re.fullmatch(r"#\s*(command|probe)\s*", line, re.IGNORECASE)]
+    if COMMAND not in script.splitlines():
+        why.append(f"tools/sweep --all sweeps each command of a script without '{COMMAND}'")
     raise Refused(": ".join([said, *why]))
 
 
