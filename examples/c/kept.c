@@ -75,6 +75,8 @@ int main(int argc, char **argv)
     soffitfennel_card card = NULL;
     int file = argc < 2 ? -1 : open(argv[1], O_RDWR | O_CREAT, 0600);
 
+    if (argc < 2)
+        fprintf(stderr, "usage: kept FILE [WRITES]\n");
     if (file < 0 || (lseek(file, 0, SEEK_END) == 0 && !make_image(file)) || !insert(&card, file))
         return 1;
     writes_left = argc > 2 ? atol(argv[2]) : -1;
