@@ -19,7 +19,7 @@ use card_state::limits::MOST_NAME_BYTES;
 pub enum Selector<'a> {
     /// The master file.
     MasterFile,
-    /// The first file with this identifier from the current DF on.
+    /// A file with this identifier: a child of the current DF, a DF beside it, its parent, itself, or the MF.
     Identifier(u16),
     /// The parent of the current dedicated file.
     Parent,

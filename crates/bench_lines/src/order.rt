@@ -59,7 +59,7 @@ impl GivenBytes {
         &self.bytes[..self.size]
     }
 
-    /// Stores 1 to `limit` bytes that hexadecimal digits spell.
+    /// Stores the 1 to `limit` bytes that hexadecimal digits spell. Returns false if they spell none.
     fn decode(&mut self, digits: &[u8], limit: usize) -> bool
         requires { limit ≤ BLOCK_LIMIT }
         ensures { given_if result self.new ≡ bytes_in digits.now limit }

@@ -18,15 +18,15 @@ use Rattle.bench_turns.specs.BenchStates.{BenchState, off, on, bench_card, bench
 use Rattle.bench_turns.specs.CardBlocks.{Powered, Replies, IsRun, BlockStands, IsBlockStage}
 use Rattle.bench_turns.specs.Guessing.{GuessesFew}
 
--- The device writes of a start are those of the rollback, and of the way to format 2.
+-- Power-on makes exactly the device writes of the rollback and of the migration to format 2.
 abbrev pub WritesAsAsked : Facts → Facts → Type 0
 WritesAsAsked old new = new.writes ≡ old.writes + power_on_writes old
 
--- At most as many, if power was lost.
+-- It makes at most that number if power was lost.
 abbrev pub WritesNoMore : Facts → Facts → Type 0
 WritesNoMore old new = new.writes ≤ old.writes + power_on_writes old
 
--- What a start leaves, cut or not: the card that is found is what it was, and so are the words that are found, unless
+-- Power-on, cut or not, doesn't change the card state after recovery. The recovered words are unchanged too, unless
 -- they are a card of format 1. No secret was compared.
 pub record LeavesCard (old new : BenchState) : Type 0 where
   pub card : bench_card new ≡ bench_card old
@@ -34,9 +34,9 @@ pub record LeavesCard (old new : BenchState) : Type 0 where
   pub compares : (bench_facts new).compares ≡ (bench_facts old).compares
   pub matches : (bench_facts new).matches ≡ (bench_facts old).matches
 
--- Power on: the card starts, in a fresh session, with a fresh link, by as many device writes as the memory asks for; or
--- power is lost, after at most as many; or, where a count of the board stands at its end, the card stays mute, and
--- nothing is done but that power went off.
+-- Power-on. Atr: the card works, with a fresh session and a fresh link, after exactly the device writes that the memory
+-- asks for. Dark: power was lost, after at most that number. Mute: a counter of the board is at its limit, and nothing
+-- was done but power went off.
 abbrev pub TurnsOn : BenchState → Item → BenchState → Type 0
 TurnsOn old Atr new = IsFresh new × LeavesCard old new × WritesAsAsked (bench_facts old) (bench_facts new)
 TurnsOn old Quiet new = ⊥

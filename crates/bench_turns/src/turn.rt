@@ -1,4 +1,4 @@
-//! Turns at a bench, and what comes of each.
+//! Turns at a bench, and the result of each.
 ghost use Rattle.std.specs.Prelude.{◌≡◌, ◌↔◌, IsTrue};
 
 use t1_link::BlockBytes;

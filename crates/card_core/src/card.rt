@@ -88,14 +88,14 @@ impl<B: Board> Card<B> {
         ensures format { IfOk result (λ c. IsNewFound c.facts.words) }
         ensures all_pages { IfOk result (λ c. TakesAllPages (B.facts board).words c.facts.words) }
         ensures format_err { IfErr result (λ e. KeepsFormat (B.facts board).words (B.facts e.0).words) }
-        // The words that are found stay, each of them, unless they are a card of format 1.
+        // The recovered words are unchanged, unless they are a card of format 1.
         ensures kept { IfOk result (λ c. KeepsFoundUnlessOld (B.facts board).words c.facts.words) }
         ensures kept_err { IfErr result (λ e. KeepsFoundUnlessOld (B.facts board).words (B.facts e.0).words) }
         // If power-on stops on a memory without a card of format 1, it wrote no more than the rollback does.
         ensures rolls_back_err { IfErr result (λ e. RollsBackUnlessOld (B.facts board) (B.facts e.0)) }
         ensures shut { IfOk result (λ c. KeepsUnlessOld (B.facts board) c.facts) }
         ensures shut_err { IfErr result (λ e. KeepsUnlessOld (B.facts board) (B.facts e.0)) }
-        // Its last write alone makes the mark that of format 2, and where it is done it made just these writes.
+        // Only its last write sets the mark of format 2. If it succeeds, it made exactly these writes.
         ensures last { IfErr result (λ e. RenamesLast (B.facts board) (B.facts e.0)) }
         ensures counted { IfOk result (λ c. c.facts.writes ≡ (B.facts board).writes + power_on_writes (B.facts board)) }
         ensures writes { IfOk result (λ c. WritesAtMost (power_on_writes (B.facts board)) (B.facts board) c.facts) }
@@ -183,7 +183,7 @@ impl<B: Board> Card<B> {
         ensures updated { (target : Target) (offset : ℕ) (bytes : List ℕ)
             → asked command.now ≡ Ok (update_binary target offset bytes)
             → self.new.facts.writes ≤ self.old.facts.writes + update_writes (length bytes) }
-        // A comparison costs a lasting try, and no command but those on PINs that carry data makes one.
+        // A comparison permanently uses up a try. Only commands on PINs with data make one.
         ensures compares { ComparesAsked (asked command.now) (card_found self.old) (comparisons self.old.facts)
             (card_found self.new) (comparisons self.new.facts) }
     {

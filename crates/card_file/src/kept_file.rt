@@ -38,7 +38,7 @@ impl KeptFile {
 }
 
 /// The board of a card in a file, or of one in memory alone.
-// Both have one type: the compiler would make a copy of all that runs a script for each of two.
+// Both have one type, since the compiler would copy all code that runs a script for a second one.
 pub type CardBoard = KeptBoard<KeptFile>;
 
 impl Follower for KeptFile {

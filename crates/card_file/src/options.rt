@@ -15,7 +15,7 @@ pub struct CardOptions {
     pub path: String,
     /// The number of pages, if it is given. A new card has 1,024 otherwise, and any other card those of its file.
     pub pages: Option<PageCount>,
-    /// Whether each device write waits until the disk has it.
+    /// True if each device write waits until the disk has it.
     pub sync: bool,
 }
 

@@ -31,8 +31,8 @@ abbrev pub memory_failure : List ℕ
 memory_failure = answer_bytes (only_status MEMORY_FAILURE)
 
 -- The command is one step of the card model. Card state, session and answer are those of the step, and the board had no
--- power loss and no fault. If the command presented a secret and wasn't refused, it made one comparison, after a
--- charge.
+-- power loss and no fault. If the command presented a secret and wasn't refused, it made one comparison, and at
+-- least one device write.
 pub record Steps (old : Running) (command : List ℕ) (new : Running) (answer : List ℕ) : Type 0 where
   pub power : Steady old.facts new.facts
   pub state : new.state ≡ Working

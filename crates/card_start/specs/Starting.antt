@@ -1,4 +1,4 @@
--- What a start makes of the format of a memory, and how many device writes a start makes that is done.
+-- The format of a memory after power-on, and the number of device writes of power-on.
 use Rattle.std.specs.Prelude.{◌≡◌, ◌⊎◌, ◌+◌, ◌≤◌, ℕ, false, if◌then◌else◌, IsTrue, List}
 use Rattle.nvm_board.specs.Facts.{Facts, pages_of}
 use Rattle.undo_journal.specs.Spending.{start_writes, KeepsBoard}
@@ -29,7 +29,7 @@ TakesAllPages old new = is_format_2 (words_found old) ≡ false → end_page (wo
 abbrev pub KeepsUnlessOld : Facts → Facts → Type 0
 KeepsUnlessOld old new = gate old.words ≡ 0 → ¬ IsOldCard (words_found old.words) → KeepsBoard old new
 
--- The words that are found stay, each of them, unless they are a card of format 1.
+-- The recovered words are unchanged, unless they are a card of format 1.
 abbrev pub KeepsFoundUnlessOld : List ℕ → List ℕ → Type 0
 KeepsFoundUnlessOld old new = ¬ IsOldCard (words_found old) → words_found new ≡ words_found old
 
@@ -37,16 +37,16 @@ KeepsFoundUnlessOld old new = ¬ IsOldCard (words_found old) → words_found new
 abbrev pub RollsBackUnlessOld : Facts → Facts → Type 0
 RollsBackUnlessOld old new = ¬ IsOldCard (words_found old.words) → new.writes ≤ old.writes + start_writes old
 
--- device writes of the way to format 2, where the memory isn't of it
+-- the device writes of the migration, if the memory isn't of format 2
 abbrev pub renewal_writes : List ℕ → ℕ
 renewal_writes m = if is_format_2 (words_found m) then 0 else migration_writes (pages_of m)
 
--- device writes of a start that is done: those of the rollback, and of the way to format 2; one that stops makes no
+-- the device writes of a power-on that succeeds: those of the rollback and of the migration; one that stops makes no
 -- more
 abbrev pub power_on_writes : Facts → ℕ
 power_on_writes facts = start_writes facts + renewal_writes facts.words
 
--- The mark of what is found is as it was; or all device writes of a start are made, or all but the last.
+-- The mark of the recovered words is unchanged, or power-on made all its device writes, or all but the last.
 abbrev pub RenamesLast : Facts → Facts → Type 0
 RenamesLast old new =
     (word (words_found new.words) HEADER_PAGE MARK_WORD ≡ word (words_found old.words) HEADER_PAGE MARK_WORD)

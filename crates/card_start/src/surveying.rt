@@ -1,4 +1,4 @@
-//! What a start finds of a card, whose memory becomes one of format 2 if it isn't yet.
+//! Checks the card image at power-on, and migrates it to format 2 if needed.
 ghost use Rattle.std.specs.Prelude.{◌≡◌, ◌⊎◌, ◌+◌, ◌≤◌, IfOk, IsSome, if◌then◌else◌};
 ghost use Rattle.block_chain.specs.BlockWords.{word};
 ghost use Rattle.block_chain.specs.declared.layout.TheConstants.{HEADER_PAGE};

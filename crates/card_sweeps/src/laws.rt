@@ -17,10 +17,10 @@ pub fn swept_cards_are_stages()
         → IsStageOf s.cut.armed command (bench_card s.rest.end.started) }
 {}
 
-/// A start that a sweep spares at a write makes fewer writes: as many as the memory before it asks for.
+/// A sweep spares a power-on at a write only if its memory asks for fewer writes.
 ///
-/// Of a command this says less: some end that its block may have comes before that write. Tests show how many writes a
-/// command makes. The counts of the board have to be far from their end.
+/// The clause on a command is weaker: its block has some end before that write. Tests show how many writes a command
+/// makes. The counters of the board must be far from their limits.
 pub fn spared_runs_make_fewer_writes()
     ensures start { (number mask : ℕ) (board : Facts) → SparesStart number mask board → HasLeft 3787 board
         → power_on_writes board ≤ number - 1 }
@@ -29,9 +29,9 @@ pub fn spared_runs_make_fewer_writes()
         → (bench_facts s.last).writes ≤ (bench_facts s.prepared).writes + (number - 1) }
 {}
 
-/// A sweep spares a start at its first write, or a command, only if it changes no word.
-/// So a body that cuts no write of a command that changes the card is no sweep. The counts of the board have to be far
-/// from their end.
+/// A sweep spares a power-on or a command at its first write only if it changes no word.
+/// A body that cuts no write of a command that changes the card is therefore no sweep. The counters of the board must
+/// be far from their limits.
 pub fn runs_spared_at_once_change_no_word()
     ensures start { (mask : ℕ) (board : Facts) → (s : SparesStart 1 mask board) → HasLeft 3787 board
         → (bench_facts s.last).words ≡ board.words }

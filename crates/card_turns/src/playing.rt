@@ -60,19 +60,19 @@ impl<B: Socket> Bench<B> {
     /// Plays turns in order. Item i of the trace becomes the result of turn i.
     pub fn play(&mut self, turns: &[Turn<'_>], trace: &mut [Item])
         requires { length turns.now ≡ length trace.old }
-        // Whatever is cut, and whatever fails: where a card was found, one is found.
+        // Whatever is cut or fails: if the memory had a card state after recovery, it has one at the end.
         ensures has_card { BenchHasCard self.old → BenchHasCard self.new }
 
-        // The board counts as many cuts more as there are Dark in the trace, and so many of those due are gone at most.
+        // The board counts one more cut for each Dark in the trace, and at most that many due cuts are used up.
         ensures counts { CountsLosses (darks trace.new) (bench_facts self.old) (bench_facts self.new) }
 
-        // The guess law, whatever is cut and whatever fails: comparisons of a PIN are at most its tries before, minus
-        // those after, plus 3 times the matches of its value and its unblocking value; comparisons of the unblocking
-        // value are at most its tries before, minus those after, plus 10 times its own matches.
+        // The guess law, whatever is cut or fails. Comparisons of a PIN are at most its tries before, minus those
+        // after, plus 3 for each match of its value or its unblocking value. Comparisons of the unblocking value are
+        // at most its tries before, minus those after, plus 10 for each of its own matches.
         ensures guesses { GuessesFew self.old self.new }
 
-        // The headline: over a card, and with no fault of the device in the run, nor before it since power came on, the
-        // trace is the tree machine's, from the card that was found to the one that is found.
+        // The headline. The memory has a card state after recovery, and the device reports no fault in the run, nor
+        // since the power-on before it. Then the trace is the tree machine's, from that card state to the one after.
         ensures well { BringsNoFault self.old self.new → IsWell self.new }
         ensures runs { BenchHasCard self.old → BringsNoFault self.old self.new
             → Runs self.old turns.now trace.new self.new }

@@ -53,9 +53,9 @@ impl<B: Board> Powered<B> {
     ///
     /// # Errors
     ///
-    /// The board, and why no card starts: `PowerLost` where power was lost in the start, or was off; `Fault` of the
-    /// device; `BadJournal` where the journal can't be undone; `Damaged` where the memory stands for no card.
-    // (Kept out of its caller, so that the loop over lines has no room for what a power-on needs.)
+    /// The board, and why power-on fails: `PowerLost` if power was lost, or was off; `Fault` of the device;
+    /// `BadJournal` if the journal can't be undone; `Damaged` if the memory is no valid card image.
+    // It isn't inlined, so that the loop over lines keeps no stack for power-on.
     #[inline(never)]
     pub fn start(board: B) -> Result<Powered<B>, (B, StartFault)>
         ensures started { IfOk result (λ p. Starts (B.facts board) p.card × (p.link ≡ fresh)) }
@@ -66,15 +66,14 @@ impl<B: Board> Powered<B> {
         ensures format { IfOk result (λ p. IsNewFound p.card.facts.words) }
         ensures all_pages { IfOk result (λ p. TakesAllPages (B.facts board).words p.card.facts.words) }
         ensures format_err { IfErr result (λ e. KeepsFormat (B.facts board).words (B.facts e.0).words) }
-        // The words that are found stay, each of them, unless they are a card of format 1; the last write of a start
-        // alone makes the mark that of format 2.
+        // The recovered words are unchanged, unless they are a card of format 1. Only the last write of a power-on sets
+        // the mark of format 2.
         ensures kept { IfOk result (λ p. KeepsFoundUnlessOld (B.facts board).words p.card.facts.words) }
         ensures kept_err { IfErr result (λ e. KeepsFoundUnlessOld (B.facts board).words (B.facts e.0).words) }
         ensures last { IfErr result (λ e. RenamesLast (B.facts board) (B.facts e.0)) }
         // If power-on stops on a memory without a card of format 1, it wrote no more than the rollback does.
         ensures rolls_back_err { IfErr result (λ e. RollsBackUnlessOld (B.facts board) (B.facts e.0)) }
-        // Where no pair of the journal counts, and there is no card of format 1, no word changes,
-        // and nothing is written.
+        // If no pair of the journal counts, and there is no card of format 1, no word changes and nothing is written.
         ensures shut { IfOk result (λ p. KeepsUnlessOld (B.facts board) p.card.facts) }
         ensures shut_err { IfErr result (λ e. KeepsUnlessOld (B.facts board) (B.facts e.0)) }
         ensures counted { IfOk result

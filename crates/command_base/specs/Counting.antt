@@ -1,4 +1,4 @@
--- A guess that is answered was counted, behind a charge (ISO/IEC 7816-4, clause 11, basic security handling).
+-- An answered guess was counted, and wrote to the device (ISO/IEC 7816-4, clause 11, basic security handling).
 use Rattle.std.specs.Prelude.{◌≡◌, ◌<◌, Bool, true, if◌then◌else◌, Option, Some, None, Result, Ok, Err}
 use Rattle.card_state.specs.declared.status.Sw.{Sw}
 use Rattle.nvm_board.specs.Facts.{Facts, raised}
@@ -8,8 +8,8 @@ use Rattle.card_model.specs.Steps.{attempt_of, refusals_of}
 use Rattle.card_model.specs.Behaviours.{is_right, refused_by, Attempt}
 use Rattle.card_model.specs.Sessions.{Session}
 
--- An attempt that was answered was counted: its secret was compared once, and a device write was made, the charge. A
--- match was counted where what was shown is what the PIN keeps, and only there.
+-- An answered attempt made one comparison, of its secret, and at least one device write. It counted a match if and only
+-- if the value shown was right. (No clause says that the write was the charge, or came first.)
 pub record CountsAttempt (right : Bool) (a : Attempt) (old new : Facts) : Type 0 where
   pub compared : new.compares ≡ raised old.compares a.secret
   pub matched : new.matches ≡ (if right then raised old.matches a.secret else old.matches)

@@ -37,7 +37,7 @@ use undo_journal::{Board, Store, StoreErr, Txn};
 /// The chains of some EFs.
 type ChainList = ArrayVec<Chain, TABLE_ROOM>;
 
-/// Of each entry, whether it goes.
+/// For each entry, true if it is deleted.
 type Marks = [bool; TABLE_ROOM];
 
 /// The subtree of a file: which entries go, how many, and the extents of its EFs.
@@ -87,6 +87,7 @@ fn read_parents<B: Board>(store: &mut Store<B>, end: u8) -> Result<[u8; 256], St
         → slice_index parents e ≡ (entry_in (table (committed store.old)) e).parent) }
     ensures store { Reads store.old store.new (result_err result) }
 {
+    // A parent is a byte, so any entry's parent has a place here.
     let mut parents = [0; 256];
     for e in 0..end {
         let head = read_entry_head(store, e)?;

@@ -1,15 +1,15 @@
-//! Whether something outside of a board has its words.
+//! Boards whose words something outside may follow.
 ghost use Rattle.std.specs.Prelude.{◌≡◌, Bool, true};
 
 use nvm_board::Board;
 use simulated_boards::CutBoard;
 
-/// A board of which something outside, such as a file, may follow the words.
+/// A board whose words something outside, such as a file, may follow.
 pub trait Followed: Board {
-    /// Whether the follower, if there is one, has all writes up to now.
+    /// True if the follower has all writes up to now, or if there is none.
     ghost has_kept: { Self → Bool };
 
-    /// Whether the follower, if there is one, has all writes up to now.
+    /// Returns true if the follower has all writes up to now, or if there is none.
     fn follows(&self) -> bool
         ensures { result ≡ has_kept self.now };
 }

@@ -1,15 +1,15 @@
-//! What follows the words of a board.
+//! Followers of the words of a board.
 ghost use Rattle.std.specs.Prelude.{◌≡◌, ◌≤◌, ◌+◌, ◌*◌, true, Option, None, IsTrue, is_some, length};
 ghost use Rattle.nvm_board.specs.declared.board.TheConstants.{MOST_PAGES, PAGE_WORDS};
 ghost use Rattle.nvm_board.specs.History.{Log, and_run};
 
-/// Takes the words of a board as they are written, such as a file does.
+/// Takes the words of a board as they are written, as a file does.
 pub trait Follower {
-    /// The log of what it was handed, where one is known: that of a file is not.
+    /// The log of the writes that it took, if one is known: that of a file is not.
     ghost log: { Self → Option Log } = { λ _. None };
 
     /// Takes the words of one device write, at most 16, from an address on.
-    /// False if it has not got them all: then it is handed nothing more. A follower with a log gets them all.
+    /// Returns false if it didn't get them all: then it gets nothing more. A follower with a log gets them all.
     fn take(&mut self, at: usize, words: &[u32]) -> bool
         requires size { length words.now ≤ PAGE_WORDS }
         requires within { at + length words.now ≤ PAGE_WORDS * MOST_PAGES }

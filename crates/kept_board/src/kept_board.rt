@@ -1,4 +1,4 @@
-//! A board in working memory whose words a follower has too.
+//! A board in working memory, and a follower that has its words too.
 ghost use Rattle.std.specs.Prelude.{◌≡◌, ◌+◌, ◌≤◌, length};
 ghost use Rattle.simulated_boards.specs.Cut.{cut_facts};
 ghost use Rattle.nvm_board.specs.declared.board.TheConstants.{PAGE_WORDS};
@@ -8,9 +8,9 @@ use crate::follower::Follower;
 use nvm_board::{Armed, Board, DeviceErr, Faultless, PAGE_WORDS, Socket, WornOut};
 use simulated_boards::CutBoard;
 
-/// A board in working memory that can be cut, and its follower, if it has one. The follower is handed the words of each
-/// device write, once, in order, as the write left them: of a torn one too. A follower that fails changes nothing of
-/// the board, and is handed nothing more.
+/// A board in working memory that can be cut, and its follower, if it has one. The board hands the words of each device
+/// write to its follower, once, in order, as the write left them, also if it was torn. A follower that fails changes
+/// nothing of the board, and gets nothing more.
 #[derive(Drop)]
 pub struct KeptBoard<F: Follower> {
     cut: CutBoard,
@@ -51,7 +51,7 @@ impl<F: Follower> KeptBoard<F> {
         &self.follower
     }
 
-    /// Hands on the words of a write. It isn't inlined, so that a board without a follower doesn't pay for it.
+    /// Hands the words of a write to the follower. It isn't inlined, so that a board without one doesn't pay for it.
     #[inline(never)]
     fn hand_on(&mut self, at: usize, size: usize)
         requires size { size ≤ PAGE_WORDS }

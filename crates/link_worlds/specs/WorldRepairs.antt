@@ -78,7 +78,6 @@ NoneFailed (Failed failure ∷ reports) = ⊥
 
 -- If at most one block was lost or garbled, and no earlier report was Failed, the report is Done. Without any fault it
 -- takes twice the I-blocks of command and answer, less two, as each I-block but the last of either has an R-block.
--- last one of either has an R-block back.
 abbrev pub Repaired : Counts → List (List ℕ) → List Report → Type 0
 Repaired c sent [] = Unit {0}
 Repaired c sent (report ∷ earlier) = c.faults ≤ 1 → NoneFailed earlier

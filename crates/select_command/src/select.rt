@@ -122,9 +122,7 @@ fn give_data<B: Board>(
 
 /// Writes the template of a used entry's file into `answer`.
 /// An Le below its length is refused.
-///
-/// A function allocates its locals on entry.
-/// As a function of its own, a SELECT without template doesn't pay for the template's space.
+// It isn't inlined, so that a SELECT without a template doesn't pay for the template's space on the stack.
 #[inline(never)]
 fn give_template(entry: &Entry, expected: Option<u8>, answer: &mut Answer) -> Result<(), Sw>
     requires told { IsToldEntry entry.now }

@@ -316,7 +316,7 @@ impl<'a> Block<'a> {
     }
 }
 
-/// Returns true if the length byte is wrong, or a byte missing.
+/// Returns true if there are fewer than 4 bytes, or the length byte is FF or doesn't fit their number.
 fn has_wrong_length(bytes: &[u8]) -> bool
     ensures wrong { result ≡ has_wrong_length bytes.now }
     ensures right { result ≡ false → length bytes.now ≡ slice_index bytes.now 2 + 4 }
