@@ -8,10 +8,11 @@ use Rattle.card_bench.specs.Exchanges.{Desk}
 use Rattle.script_output.specs.Printouts.{Print, prints_atr, prints_bytes, prints_dark, prints_free, prints_lost}
 use Rattle.script_output.specs.Printouts.{prints_mute, prints_nothing}
 
--- the desk, and the output of its last line
+-- the desk, the answer to the last command, and the block that returned last
 pub record DeskState : Type 0 where
   pub desk : Desk
-  pub prints : Print
+  pub answer : List ℕ
+  pub block : List ℕ
 
 -- the reader's end, if a command may be sent
 abbrev pub reader_there : Bool → Reader → Option Reader
@@ -28,3 +29,7 @@ print_of Lost answer block = prints_lost
 print_of Answer answer block = prints_bytes answer
 print_of Block answer block = prints_bytes block
 print_of (Free free) answer block = prints_free free
+
+-- the output of the result of a desk's last line
+abbrev pub printed_at : LineResult → DeskState → Print
+printed_at r d = print_of r d.answer d.block

@@ -5,7 +5,7 @@ ghost use Rattle.std.specs.Io.KnownBytes.{Appends};
 ghost use Rattle.bench_lines.specs.declared.order.TheConstants.{COMMAND_LIMIT};
 ghost use Rattle.bench_turns.specs.BenchStates.{bench_facts, off};
 ghost use Rattle.card_model.specs.Requests.{HasBetween};
-ghost use Rattle.card_bench.specs.DeskStates.{print_of};
+ghost use Rattle.card_bench.specs.DeskStates.{print_of, printed_at};
 ghost use Rattle.bench_lines.specs.OrderViews.{order_with};
 ghost use Rattle.bench_lines.specs.Orders.{IsOrderSized};
 ghost use Rattle.card_bench.specs.Performing.{Performs, PerformsCommand, TakesTurn, free_shown};
@@ -31,8 +31,6 @@ pub struct Desk<B: Socket> {
     ends: Ends<B>,
     /// True while the two ends are in step, so that commands go.
     in_step: bool,
-    /// The result of the last line.
-    came: LineResult,
 }
 
 impl<B: Socket> Model for Desk<B> {
@@ -40,7 +38,7 @@ impl<B: Socket> Model for Desk<B> {
     ghost use Rattle.std.specs.Prelude.{◌≢◌, IsTrue};
     ghost use Rattle.t1_link.specs.declared.reader_end.Phase.TheVariants.{Busy};
     ghost use Rattle.card_model.specs.Sessions.{session_code};
-    ghost use Rattle.card_bench.specs.DeskStates.{DeskState, print_of, reader_there};
+    ghost use Rattle.card_bench.specs.DeskStates.{DeskState, reader_there};
 
     ghost Value = { DeskState };
 
@@ -48,7 +46,8 @@ impl<B: Socket> Model for Desk<B> {
 
     ghost view = { λ d. record {
       desk = record { bench = d.ends.bench; reader = reader_there d.in_step d.ends.reader; line = d.ends.line };
-      prints = print_of d.came d.ends.reader.answer d.ends.blocks.toward_reader;
+      answer = d.ends.reader.answer;
+      block = d.ends.blocks.toward_reader;
     } };
 
     ghost invariant = { λ d. IsTrue d.in_step → d.ends.reader.phase ≢ Busy };
@@ -60,7 +59,6 @@ impl<B: Socket> Desk<B> {
         ensures bench { result.desk.bench ≡ off (record (B.facts board) { dark = true }) }
         ensures reader { result.desk.reader ≡ None }
         ensures line { result.desk.line ≡ record { lose = None; garble = None } }
-        ensures prints { result.prints ≡ prints_nothing }
     {
         Desk {
             ends: Ends {
@@ -73,7 +71,6 @@ impl<B: Socket> Desk<B> {
                 },
             },
             in_step: false,
-            came: LineResult::Nothing,
         }
     }
 
@@ -84,12 +81,12 @@ impl<B: Socket> Desk<B> {
         self.ends.bench.board()
     }
 
-    /// Returns the result of the last line, and copies its bytes, if it has any, into the buffer.
-    pub fn tell(&self, bytes: &mut AnswerBytes) -> LineResult
-        ensures { print_of result bytes.new.items bytes.new.items ≡ self.now.prints }
+    /// Copies the bytes of the last line's result, if it has any, into the buffer.
+    pub fn copy_bytes(&self, line_result: LineResult, bytes: &mut AnswerBytes)
+        ensures { print_of line_result bytes.new.items bytes.new.items ≡ printed_at line_result self.now }
     {
         bytes.clear();
-        match self.came {
+        match line_result {
             LineResult::Answer => bytes
                 .try_extend_from_slice(self.ends.reader.answer())
                 .unwrap(),
@@ -98,7 +95,6 @@ impl<B: Socket> Desk<B> {
                 .unwrap(),
             _ => {}
         }
-        self.came
     }
 
     /// Prints the result of the last line, and flushes. Without output it doesn't use the writer.
@@ -106,15 +102,20 @@ impl<B: Socket> Desk<B> {
     /// # Errors
     ///
     /// `Write` if the writer fails, or takes nothing.
-    fn print<W: Write>(&self, writer: &mut W, text: &mut PrintedText) -> Result<(), RunFault>
+    fn print<W: Write>(
+        &self,
+        line_result: LineResult,
+        writer: &mut W,
+        text: &mut PrintedText,
+    ) -> Result<(), RunFault>
         ensures wrote { OnOk result
-            (Appends (W.contents writer.old) (W.contents writer.new) (text_of self.now.prints)) }
-        ensures began { OnErr result ((size : ℕ)
-            × Appends (W.contents writer.old) (W.contents writer.new) (take size (text_of self.now.prints))) }
+            (Appends (W.contents writer.old) (W.contents writer.new) (text_of (printed_at line_result self.now))) }
+        ensures began { OnErr result ((size : ℕ) × Appends (W.contents writer.old) (W.contents writer.new)
+            (take size (text_of (printed_at line_result self.now)))) }
         ensures fault { IfErr result (λ fault. fault ≡ RunFault.Write) }
-        ensures speaks { OnErr result (self.now.prints ≢ prints_nothing) }
+        ensures speaks { OnErr result (printed_at line_result self.now ≢ prints_nothing) }
     {
-        match self.came {
+        match line_result {
             LineResult::Nothing => Ok(()),
             LineResult::Atr => write_line(writer, ATR),
             LineResult::Mute => write_line(writer, b"mute\n"),
@@ -136,57 +137,67 @@ impl<B: Socket + Followed> Desk<B> {
     /// `Unkept` if the follower has not all writes: then nothing is written. `Write` as `print`.
     pub(crate) fn answer<W: Write>(
         &self,
+        line_result: LineResult,
         writer: &mut W,
         text: &mut PrintedText,
     ) -> Result<(), RunFault>
         ensures wrote { OnOk result
-            (Appends (W.contents writer.old) (W.contents writer.new) (text_of self.now.prints)) }
-        ensures unwritten { result ≡ Err RunFault.Write → (size : ℕ)
-            × Appends (W.contents writer.old) (W.contents writer.new) (take size (text_of self.now.prints)) }
+            (Appends (W.contents writer.old) (W.contents writer.new) (text_of (printed_at line_result self.now))) }
+        ensures unwritten { result ≡ Err RunFault.Write → (size : ℕ) × Appends (W.contents writer.old)
+            (W.contents writer.new) (take size (text_of (printed_at line_result self.now))) }
         ensures unkept { result ≡ Err RunFault.Unkept → W.contents writer.new ≡ W.contents writer.old }
-        ensures kept { OnOk result (self.now.prints ≢ prints_nothing → (board : B)
+        ensures kept { OnOk result (printed_at line_result self.now ≢ prints_nothing → (board : B)
             × (B.facts board ≡ bench_facts self.now.desk.bench) × (B.has_kept board ≡ true)) }
         ensures behind { result ≡ Err RunFault.Unkept → (board : B)
             × (B.facts board ≡ bench_facts self.now.desk.bench) × (B.has_kept board ≡ false) }
         ensures fault { IfErr result (λ fault. (fault ≡ RunFault.Write) ⊎ (fault ≡ RunFault.Unkept)) }
-        ensures speaks { OnErr result (self.now.prints ≢ prints_nothing) }
+        ensures speaks { OnErr result (printed_at line_result self.now ≢ prints_nothing) }
     {
-        if !matches!(self.came, LineResult::Nothing) && !self.ends.bench.board().follows() {
+        if !matches!(line_result, LineResult::Nothing) && !self.ends.bench.board().follows() {
             return Err(RunFault::Unkept);
         }
-        self.print(writer, text)
+        self.print(line_result, writer, text)
     }
 }
 
 impl<B: Armed + Faultless> Desk<B> {
-    /// Runs the order of a line, with its bytes. `print` prints the result.
+    /// Runs the order of a line, with its bytes, and returns the result.
     #[tactic(auto, using(crate::proofs::DeskTurns::off_taken, crate::proofs::DeskTurns::block_taken))]
-    pub fn perform(&mut self, order: Order, given: &[u8])
+    pub fn perform(&mut self, order: Order, given: &[u8]) -> LineResult
         requires sized { IsOrderSized (order_with order given.now) }
         requires good { IsGood self.old.desk.bench }
         ensures good { IsGood self.new.desk.bench }
-        ensures performs { Performs (order_with order given.now) self.old.desk self.new.desk self.new.prints }
+        ensures performs { Performs (order_with order given.now) self.old.desk self.new.desk
+            (printed_at result self.new) }
     {
-        self.came = LineResult::Nothing;
         match order {
-            Order::Nothing => {}
+            Order::Nothing => LineResult::Nothing,
             Order::On => self.turn(Turn::On),
             Order::Off => self.turn(Turn::Off),
-            Order::Free => self.tell_free(),
+            Order::Free => self.free_space(),
             Order::Apdu => self.command(given),
             Order::Block => self.turn(Turn::Block(given)),
-            Order::Cut { number, mask } => self.ends.bench.arm_well(number, mask),
-            Order::Lose(number) => self.ends.line.lose(number),
-            Order::Garble(number) => self.ends.line.garble(number),
+            Order::Cut { number, mask } => {
+                self.ends.bench.arm_well(number, mask);
+                LineResult::Nothing
+            }
+            Order::Lose(number) => {
+                self.ends.line.lose(number);
+                LineResult::Nothing
+            }
+            Order::Garble(number) => {
+                self.ends.line.garble(number);
+                LineResult::Nothing
+            }
         }
     }
 
     /// Plays a turn at the bench.
     /// A successful power-on gives a fresh reader's end. After any other turn no command can be sent.
-    fn turn(&mut self, turn: Turn<'_>)
+    fn turn(&mut self, turn: Turn<'_>) -> LineResult
         requires good { IsGood self.old.desk.bench }
         ensures good { IsGood self.new.desk.bench }
-        ensures taken { TakesTurn turn.entry self.old.desk self.new.desk self.new.prints }
+        ensures taken { TakesTurn turn.entry self.old.desk self.new.desk (printed_at result self.new) }
     {
         let turned = self
             .ends
@@ -194,42 +205,40 @@ impl<B: Armed + Faultless> Desk<B> {
             .turn_well(turn, &mut self.ends.blocks.toward_reader);
         self.in_step = turned.is_started();
         self.ends.reader.reset();
-        self.came = LineResult::of_turn(turned);
+        LineResult::of_turn(turned)
     }
 
-    /// Reports the free space, valid while the board has no fault.
-    fn tell_free(&mut self)
-        requires good { IsGood self.old.desk.bench }
-        ensures same { self.new.desk ≡ self.old.desk }
-        ensures free { self.new.prints ≡ free_shown self.old.desk.bench }
+    /// Returns the free space, valid while the board has no fault.
+    fn free_space(&self) -> LineResult
+        requires { IsGood self.now.desk.bench }
+        ensures { printed_at result self.now ≡ free_shown self.now.desk.bench }
     {
         match self.ends.bench.free() {
-            Some(free) => self.came = LineResult::Free(free),
-            None => self.came = LineResult::Mute,
+            Some(free) => LineResult::Free(free),
+            None => LineResult::Mute,
         }
     }
 
     /// Sends a command through both ends of the link.
     /// Power must be on, and the ends must be in step.
-    fn command(&mut self, command: &[u8])
+    fn command(&mut self, command: &[u8]) -> LineResult
         requires size { HasBetween 1 COMMAND_LIMIT command.now }
         requires good { IsGood self.old.desk.bench }
         ensures good { IsGood self.new.desk.bench }
-        ensures performs { PerformsCommand self.old.desk.bench self.old.desk command.now self.new.desk self.new.prints }
+        ensures performs { PerformsCommand self.old.desk.bench self.old.desk command.now self.new.desk
+            (printed_at result self.new) }
     {
         if !self.ends.bench.is_on() {
-            self.came = LineResult::Mute;
-            return;
+            return LineResult::Mute;
         }
         if !self.in_step {
-            self.came = LineResult::Lost;
-            return;
+            return LineResult::Lost;
         }
         let ending = exchange(&mut self.ends, command);
         self.in_step = match ending {
             Ending::Answered | Ending::SetBack => true,
             Ending::Lost | Ending::Dark => false,
         };
-        self.came = LineResult::of_command(ending);
+        LineResult::of_command(ending)
     }
 }

@@ -114,8 +114,8 @@ fn run_lines<B: Armed + Faultless + Followed, R: BufRead, W: Write>(
         let Some(order) = Order::parse(&line, &mut given) else {
             return Err(RunFault::BadLine(number));
         };
-        desk.perform(order, given.as_slice());
-        desk.answer(writer, &mut text)?;
+        let line_result = desk.perform(order, given.as_slice());
+        desk.answer(line_result, writer, &mut text)?;
         match end {
             LineEnd::LineFeed => {}
             LineEnd::EndOfScript => return Ok(()),

@@ -1,6 +1,6 @@
 -- What the result of an order is to a call from C.
 use Rattle.std.specs.Prelude.{◌≡◌, ℕ, ℤ, List, Option, None, Some, Result, Ok, Err}
-use Rattle.std.proofs.Common.{◌∙◌, ap, subst, inl, inr}
+use Rattle.std.proofs.Common.{ap, subst, inl, inr}
 use Rattle.bench_lines.specs.Orders.{Order, Free}
 use Rattle.script_output.specs.Printouts.{Print}
 use Rattle.soffitfennel.specs.SessionStates.{SessionState}
@@ -25,7 +25,7 @@ told-runs : (order : Order) (was now : Option SessionState) (told : Told) (resul
 told-runs order None now told result Holds Fails answers is holds = absurd (subst IsAnswer answers.1 tt)
 told-runs order (Some was) None told result Holds Fails answers is holds = absurd answers
 told-runs order (Some was) (Some now) told result Holds Fails answers is holds =
-    inl (answers.0, is ∙ ap print_outcome answers.1, subst Holds answers.1 holds, answers.2)
+    inl (told_print told, answers.0, is, holds, answers.1)
 
 -- none, as there is no card, writes are left, or one was lost
 failed-runs : (order : Order) (was now : Option SessionState) (why : Outcome) (Holds : Print → Type 0) (Fails : Type 0)

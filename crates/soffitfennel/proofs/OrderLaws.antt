@@ -40,10 +40,9 @@ pub order_logged : (order : Order) (old new : Desk) (prints : Print) (run : Perf
 order_logged order old new prints run log is = is ∙ (made_runs order old new prints run).log
 
 -- the state of a session, by its parts
-abbrev pub state_of : Desk → Print → Collected → SessionState
-state_of desk prints collected = record {
+abbrev pub state_of : Desk → Collected → SessionState
+state_of desk collected = record {
   desk = desk;
-  prints = prints;
   untaken = map run_of collected.writes.items;
   room = collected.writes.capacity;
   overran = collected.overran;
@@ -61,16 +60,16 @@ has_log : (found : Option Log) (collected : Collected) → IsInStep found collec
 has_log None collected step some = absurd (omega (arith, step, some))
 has_log (Some log) collected step some = record { log = log; is = refl; room = step.room }
 
-module _ (order : Order) (old new : Desk) (before prints : Print) (run : Performs order old new prints)
+module _ (order : Order) (old new : Desk) (prints : Print) (run : Performs order old new prints)
     (good : IsGood new.bench) (had has : Collected) (none : had.writes.items ≡ [])
     (step : IsInStep (bench_facts old.bench).log had) where
   abbrev was : SessionState
-  was = state_of old before had
+  was = state_of old had
 
   abbrev now : SessionState
-  now = state_of new prints has
+  now = state_of new has
 
-  performed : has.writes.capacity ≡ had.writes.capacity → IsPerformed order was now
+  performed : has.writes.capacity ≡ had.writes.capacity → IsPerformed order was now prints
   performed room = record {
     taken = ap (map run_of) none;
     performs = run;
@@ -80,7 +79,7 @@ module _ (order : Order) (old new : Desk) (before prints : Print) (run : Perform
   }
 
   pub logs_at : Collects (made_runs order old new prints run).runs had has
-      → IsPerformed order was now × LogsWrites was now
+      → IsPerformed order was now prints × LogsWrites was now
   logs_at collects = (
     performed collects.room,
     record {
@@ -103,7 +102,7 @@ module _ (order : Order) (old new : Desk) (before prints : Print) (run : Perform
   )
 
   pub loses_at : Overruns (made_runs order old new prints run).runs had has
-      → IsPerformed order was now × LosesWrites was now
+      → IsPerformed order was now prints × LosesWrites was now
   loses_at overruns = let has = has_log _ had step overruns.kept in (
     performed (ap (λ (b : Buffer Write). b.capacity) overruns.writes),
     record {

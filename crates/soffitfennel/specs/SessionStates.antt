@@ -3,15 +3,13 @@ use Rattle.std.specs.Prelude.{ℕ, List, [], Bool, false}
 use Rattle.nvm_board.specs.Facts.{Facts}
 use Rattle.nvm_board.specs.History.{Run}
 use Rattle.card_bench.specs.Exchanges.{Desk}
-use Rattle.script_output.specs.Printouts.{Print, prints_nothing}
 use Rattle.card_bench.specs.Prints.{desk_of}
 use Rattle.soffitfennel.specs.LoggedWrites.{begun_log, log_room}
 
--- The desk, the output of its last order, the writes of that order that the caller has not taken, and how many of them
--- there is room for. `overran` is true after an order that made more.
+-- The desk, the writes of its last order that the caller has not taken, and how many of them there is room for.
+-- `overran` is true after an order that made more.
 pub record SessionState : Type 0 where
   pub desk : Desk
-  pub prints : Print
   pub untaken : List Run
   pub room : ℕ
   pub overran : Bool
@@ -21,7 +19,6 @@ pub record SessionState : Type 0 where
 abbrev pub begun_at : Facts → Bool → SessionState
 begun_at facts kept = record {
   desk = desk_of (record facts { log = begun_log kept });
-  prints = prints_nothing;
   untaken = [];
   room = log_room kept;
   overran = false;

@@ -88,10 +88,11 @@ pub record LosesWrites (was now : SessionState) : Type 0 where
   pub none : now.untaken ≡ []
   pub overran : now.overran ≡ true
 
--- An order runs. The memory has a card state after it, the board had no fault, and the guess law holds.
-pub record IsPerformed (order : Order) (was now : SessionState) : Type 0 where
+-- An order runs, and has an output. The memory has a card state after it, the board had no fault, and the guess law
+-- holds.
+pub record IsPerformed (order : Order) (was now : SessionState) (prints : Print) : Type 0 where
   pub taken : was.untaken ≡ []
-  pub performs : Performs order was.desk now.desk now.prints
+  pub performs : Performs order was.desk now.desk prints
   pub good : IsGood now.desk.bench
   pub guesses : GuessesFew was.desk.bench now.desk.bench
   pub room : now.room ≡ was.room
@@ -104,9 +105,9 @@ pub record HasUntaken (was now : SessionState) : Type 0 where
 -- the result of an order is the output, and its writes are logged; or writes were left; or it overran
 abbrev pub TellsResult : Order → SessionState → SessionState → Result Told Outcome → Type 0
 TellsResult order was now (Ok told) =
-    IsPerformed order was now × (told_print told ≡ now.prints) × LogsWrites was now
+    IsPerformed order was now (told_print told) × LogsWrites was now
 TellsResult order was now (Err why) = ((why ≡ outcome.Untaken) × HasUntaken was now)
-    ⊎ ((why ≡ outcome.Overrun) × IsPerformed order was now × LosesWrites was now)
+    ⊎ ((why ≡ outcome.Overrun) × ((prints : Print) × IsPerformed order was now prints) × LosesWrites was now)
 
 -- An order to a card. Without a card nothing is done.
 abbrev pub AnswersOrder : Order → Option SessionState → Option SessionState → Result Told Outcome → Type 0
@@ -120,9 +121,10 @@ abbrev pub CallRuns : Order → Option SessionState → Option SessionState → 
 CallRuns order None now result Holds Fails = (now ≡ None) × (result ≡ outcome.Absent) × Fails
 CallRuns order (Some was) None result Holds Fails = ⊥
 CallRuns order (Some was) (Some now) result Holds Fails =
-    (IsPerformed order was now × (result ≡ print_outcome now.prints) × Holds now.prints × LogsWrites was now)
+    ((prints : Print) × IsPerformed order was now prints × (result ≡ print_outcome prints) × Holds prints
+    × LogsWrites was now)
     ⊎ (Fails × (((result ≡ outcome.Untaken) × HasUntaken was now)
-    ⊎ ((result ≡ outcome.Overrun) × IsPerformed order was now × LosesWrites was now)))
+    ⊎ ((result ≡ outcome.Overrun) × ((prints : Print) × IsPerformed order was now prints) × LosesWrites was now)))
 
 -- the buffer begins with these bytes, and their number is returned
 pub record CopiesOut (bytes new : List ℕ) (size : ℕ) : Type 0 where

@@ -3,10 +3,8 @@ ghost use Rattle.std.specs.Prelude.{◌≡◌, ◌≢◌, ◌≤◌, ◌↔◌, 
 ghost use Rattle.bench_lines.specs.Orders.{Apdu, Block, IsOrderSized};
 ghost use Rattle.bench_lines.specs.OrderViews.{order_with};
 ghost use Rattle.card_bench.specs.Images.{IsRefusedRightly};
-ghost use Rattle.card_bench.specs.Prints.{IsJustWritten};
-ghost use Rattle.card_start.specs.Factory.{factory_card};
 ghost use Rattle.bench_turns.specs.BenchStates.{bench_facts};
-ghost use Rattle.command_base.specs.Finding.{Finds, HasCard};
+ghost use Rattle.command_base.specs.Finding.{HasCard};
 ghost use Rattle.simulated_boards.specs.Cut.{cut_facts};
 ghost use Rattle.simulated_boards.specs.Given.{board_with};
 ghost use Rattle.soffitfennel.specs.SessionStates.{begun_at};
@@ -172,7 +170,6 @@ impl Model for Session {
 
     ghost view = { λ s. record {
       desk = s.desk.desk;
-      prints = s.desk.prints;
       untaken = map run_of s.collected.writes.items;
       room = s.collected.writes.capacity;
       overran = s.collected.overran;
@@ -211,12 +208,12 @@ impl Session {
         if !self.collected.writes.is_empty() {
             return Err(Outcome::Untaken);
         }
-        self.desk.perform(order, given);
+        let came = self.desk.perform(order, given);
         if !self.collected.collect(self.desk.board()) {
             return Err(Outcome::Overrun);
         }
         let mut bytes = AnswerBytes::new();
-        let came = self.desk.tell(&mut bytes);
+        self.desk.copy_bytes(came, &mut bytes);
         Ok(Told { came, bytes })
     }
 

@@ -11,6 +11,7 @@ use Rattle.card_bench.proofs.ScriptLines.{begins_run, goes_on, is_done, is_bad, 
 use Rattle.card_bench.proofs.ScriptLines.{is_unanswered, is_unanswered_by, is_unwritten}
 use Rattle.card_bench.proofs.ScriptLines.{speaks, HasRun}
 use Rattle.bench_lines.specs.laws.SizedOrders.{order_of-in_range}
+use Rattle.card_bench.specs.DeskStates.{printed_at}
 use Rattle.card_bench.proofs.script.run_lines.Goals as goal
 
 pub returns-in-Err-TooLong-clause-stopped : goal.returns-in-Err-TooLong-clause-stopped
@@ -77,20 +78,23 @@ returns-in_err-answer-clause-stopped g c =
     let held = g.W.Write.contents c.args.writer.now in
     let before = g.W.Write.contents c.loop-number.writer in
     let after = g.W.Write.contents c.answer.new.writer in
-    let loud = speaks c.perform.new.self.prints c.in_err-answer.ensures.speaks in
+    let loud = speaks (printed_at c.perform-line_result.result c.perform-line_result.new.self)
+    c.in_err-answer.ensures.speaks in
     let stops : RunStopsBy first c.in_err-answer.field-0.0 script left held after =
     elim c.in_err-answer.ensures.fault [
       | inl write ↦
           subst (λ (f : RunFault). RunStopsBy first f script left held after) (sym write)
           (is_unwritten _ _ _ _ _ _ _ _ c.in-Ok.end _ _ _ _ _ _ _ c.loop-number.invariant.so_far c.in-Ok.ensures.line
-          c.in-Ok.ensures.counted c.read_line.ensures.taken good c.perform.ensures.performs c.perform.ensures.good
+          c.in-Ok.ensures.counted c.read_line.ensures.taken good c.perform-line_result.ensures.performs
+          c.perform-line_result.ensures.good
           loud (c.in_err-answer.ensures.unwritten (ap Err write)))
       | inr unkept ↦
           subst (λ (f : RunFault). RunStopsBy first f script left held after) (sym unkept)
           (subst (λ (w : Option (List ℕ)). WhereKnown script left (λ bytes rest. IsRunUnkept first bytes rest held w))
           (sym (c.in_err-answer.ensures.unkept (ap Err unkept)))
           (is_unanswered _ _ _ _ _ _ _ _ c.in-Ok.end _ _ _ _ _ _ c.loop-number.invariant.so_far c.in-Ok.ensures.line
-          c.in-Ok.ensures.counted c.read_line.ensures.taken good c.perform.ensures.performs c.perform.ensures.good
+          c.in-Ok.ensures.counted c.read_line.ensures.taken good c.perform-line_result.ensures.performs
+          c.perform-line_result.ensures.good
           loud))
     ] in
     passed_on _ c.in_err-answer.field-0.0 (λ (f : RunFault). RunStopsBy first f script left held after)
@@ -112,18 +116,20 @@ returns-in_err-answer-clause-behind g c = λ returned.
     let left = g.R.Read.remaining c.read_line.new.reader in
     let held = g.W.Write.contents c.args.writer.now in
     let behind = c.in_err-answer.ensures.behind unkept in
-    let loud = speaks c.perform.new.self.prints c.in_err-answer.ensures.speaks in (
+    let loud = speaks (printed_at c.perform-line_result.result c.perform-line_result.new.self)
+    c.in_err-answer.ensures.speaks in (
       behind.0,
       behind.2,
       subst (λ (w : Option (List ℕ)). StopsUnkept c.args.desk.now.desk (g.B.Board.facts behind.0) script left held w)
           (sym (c.in_err-answer.ensures.unkept unkept))
           (is_unanswered_by _ _ _ _ _ _ _ _ _ c.in-Ok.end _ _ _ _ _ _ behind.1 c.loop-number.invariant.so_far
-          c.in-Ok.ensures.line c.in-Ok.ensures.counted c.read_line.ensures.taken good c.perform.ensures.performs
-          c.perform.ensures.good loud),
+          c.in-Ok.ensures.line c.in-Ok.ensures.counted c.read_line.ensures.taken good
+          c.perform-line_result.ensures.performs
+          c.perform-line_result.ensures.good loud),
     )
 
-pub perform-requires-clause-sized : goal.perform-requires-clause-sized
-perform-requires-clause-sized g c =
+pub perform-line_result-requires-clause-sized : goal.perform-line_result-requires-clause-sized
+perform-line_result-requires-clause-sized g c =
     let order = order_with c.in-Some.order c.as_slice.result.now in
     let good : order_of c.read_line.new.line.items ≡ Some order =
     ap order_of (sym c.deref.ensures.0) ∙ sym c.in-Some.ensures
@@ -140,7 +146,8 @@ returns-in-EndOfScript-clause-done g c =
     let new = g.R.Read.remaining c.read_line.new.reader in
     is_done _ _ old new _ _ _ _ _ _ _ _ _ _ _ c.loop-number.invariant.so_far
     (subst (TakesLine old new c.read_line.new.line.items) c.in-EndOfScript.is c.in-Ok.ensures.line)
-    c.in-Ok.ensures.counted c.read_line.ensures.taken good c.perform.ensures.performs c.perform.ensures.good
+    c.in-Ok.ensures.counted c.read_line.ensures.taken good c.perform-line_result.ensures.performs
+    c.perform-line_result.ensures.good
     c.in_ok-answer.ensures.wrote
 
 pub loop-number-init : goal.loop-number-init
@@ -159,18 +166,18 @@ loop-number-preserved g c =
     let number : (c.loop-number.number - 1) + 1 ≡ c.loop-number.number + 1 - 1 = omega arith in
     let after = g.W.Write.contents c.answer.new.writer in
     let held = g.W.Write.contents c.args.writer.now in
-    let desk = c.perform.new.self.desk in
+    let desk = c.perform-line_result.new.self.desk in
     record {
       taken = c.read_line.ensures.taken;
       turns =
           let fed = c.in-Ok.ensures.fed c.in-LineFeed.is in
           let turns = c.loop-number.invariant.turns in
           omega (arith, fed, turns);
-      good = c.perform.ensures.good;
+      good = c.perform-line_result.ensures.good;
       so_far = subst (λ (n : ℕ). HasRun c.args.desk.now.desk first new n c.read_line.new.taken
           desk held after) number
           (goes_on _ first old new _ _ _ _ _ _ _ _ _ _ _ c.loop-number.invariant.so_far
           (subst (TakesLine old new c.read_line.new.line.items) c.in-LineFeed.is c.in-Ok.ensures.line)
-          c.in-Ok.ensures.counted good c.perform.ensures.performs c.perform.ensures.good
+          c.in-Ok.ensures.counted good c.perform-line_result.ensures.performs c.perform-line_result.ensures.good
           c.in_ok-answer.ensures.wrote);
     }

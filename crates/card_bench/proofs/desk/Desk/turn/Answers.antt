@@ -14,7 +14,7 @@ returns-clause-taken g c =
       bench = turned.new.self;
       reader = reader_there c.is_started-self-inside.result reader;
       line = c.self.inside.ends.line;
-    }) (print_of c.of_turn-self-inside.result reader.answer turned.new.reply)) c.self.view_is
+    }) (print_of c.of_turn.result reader.answer turned.new.reply)) c.self.view_is
     (turn-taken turned.result reader.answer turned.new.reply c.args.turn _ _ _ _ reader
     c.is_started-self-inside.ensures c.reset.ensures (turned.ensures good).1
-    (c.of_turn-self-inside.ensures reader.answer turned.new.reply) refl refl)
+    (c.of_turn.ensures reader.answer turned.new.reply) refl refl)
