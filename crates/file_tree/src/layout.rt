@@ -1,6 +1,6 @@
 //! The place of file entries in the memory, and the depth of the tree.
 
-ghost use Rattle.std.specs.Prelude.{◌≡◌, ◌<◌, ◌+◌};
+ghost use Rattle.std.specs.Prelude.{◌≡◌, ◌+◌};
 ghost use Rattle.nvm_board.specs.Facts.{address};
 ghost use Rattle.file_tree.specs.declared.layout.TheConstants.{FIRST_ENTRY_PAGE};
 
@@ -66,7 +66,6 @@ pub const CARD_TERMINATED: u32 = 1;
 
 /// Returns the address of the first word of an entry.
 pub fn entry_address(e: u8) -> u16
-    requires { e < 64 }
     ensures { result ≡ address (FIRST_ENTRY_PAGE + e) 0 }
 {
     PAGE_WORDS * (FIRST_ENTRY_PAGE + u16::from(e))

@@ -40,9 +40,6 @@ returns-then-has_life_cycle-clause-done g c =
     (ap (λ (x : Entry). x.life) (sym c.in_ok-entry.ensures.entry)
     ∙ c.has_life_cycle.ensures.0 c.if-has_life_cycle.true))
 
-pub entry_address-requires : goal.entry_address-requires
-entry_address-requires g c = used_small (committed c.args.store.now) c.args.e c.requires.file.used
-
 pub write_word-requires-clause-place : goal.write_word-requires-clause-place
 write_word-requires-clause-place g c =
     let small = used_small (committed c.args.store.now) c.args.e c.requires.file.used in
