@@ -23,6 +23,11 @@ pub record GivenOptions : Type 0 where
 abbrev pub pages_number : Option PageCount → Option ℕ
 pages_number pages = option_map (λ count. count.number) pages
 
+-- the pages of a new card: as many as are given, or 1,024
+abbrev pub new_card_pages : Option ℕ → ℕ
+new_card_pages None = LEAST_PAGES
+new_card_pages (Some number) = number
+
 -- the options that were read so far
 abbrev pub options_read : Reading → GivenOptions
 options_read r = record {

@@ -1,6 +1,8 @@
 //! Opens the file of a card, or makes one with the factory card.
-ghost use Rattle.std.specs.Prelude.{IfOk};
-ghost use Rattle.command_base.specs.Finding.{HasCard};
+ghost use Rattle.std.specs.Prelude.{◌-◌, IfOk};
+ghost use Rattle.card_file.specs.CommandLines.{new_card_pages, pages_number};
+ghost use Rattle.card_start.specs.Factory.{factory_card};
+ghost use Rattle.command_base.specs.Finding.{Finds, HasCard};
 ghost use Rattle.kept_board.specs.Kept.{kept_words};
 
 use crate::kept_file::{CardBoard, KeptFile, PAGE_BYTES};
@@ -76,7 +78,8 @@ fn read_card(alloc: Global, mut file: File, options: &CardOptions) -> Result<Car
 /// Makes a file with the factory card, whole or not at all.
 /// It is written under another name first, and renamed once the disk has it.
 fn make_card(rt: &HostRuntime, options: &CardOptions) -> Result<CardBoard, CardFault>
-    ensures { IfOk result (λ board. HasCard (kept_words board)) }
+    ensures { IfOk result (λ board. Finds (kept_words board)
+        (factory_card (new_card_pages (pages_number options.now.pages) - 128))) }
 {
     let pages = options.new_pages();
     let Ok(board) = factory_board_of(rt.alloc(), pages) else {

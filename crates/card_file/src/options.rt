@@ -1,8 +1,8 @@
 //! The options of the command line.
-ghost use Rattle.std.specs.Prelude.{◌≤◌, map, take};
+ghost use Rattle.std.specs.Prelude.{◌≡◌, ◌≤◌, map, take};
 ghost use Rattle.std.specs.String.{string_bytes};
 ghost use Rattle.std.specs.Vec.Iter.{into_iter_items, into_iter_len};
-ghost use Rattle.card_file.specs.CommandLines.{no_options, GivenOptions, IsAskedBy, TakesWords};
+ghost use Rattle.card_file.specs.CommandLines.{new_card_pages, no_options, pages_number, GivenOptions, IsAskedBy, TakesWords};
 ghost use Rattle.nvm_board.specs.declared.board.TheConstants.{LEAST_PAGES, MOST_PAGES};
 
 use crate::page_count::PageCount;
@@ -22,6 +22,7 @@ pub struct CardOptions {
 impl CardOptions {
     /// Returns the number of pages of a new card.
     pub fn new_pages(&self) -> u16
+        ensures number { result ≡ new_card_pages (pages_number self.now.pages) }
         ensures least { LEAST_PAGES ≤ result }
         ensures most { result ≤ MOST_PAGES }
     {

@@ -1,5 +1,5 @@
 //! The number of pages of a card, as the command line gives it.
-ghost use Rattle.std.specs.Prelude.{◌≤◌};
+ghost use Rattle.std.specs.Prelude.{◌≡◌, ◌≤◌};
 ghost use Rattle.nvm_board.specs.declared.board.TheConstants.{LEAST_PAGES, MOST_PAGES};
 
 use nvm_board::{LEAST_PAGES, MOST_PAGES};
@@ -29,6 +29,7 @@ impl PageCount {
 
     /// Returns the number.
     pub fn number(&self) -> u16
+        ensures number { result ≡ self.now.number }
         ensures least { LEAST_PAGES ≤ result }
         ensures most { result ≤ MOST_PAGES }
     {
