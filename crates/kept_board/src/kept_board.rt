@@ -96,6 +96,8 @@ impl<F: Follower> Board for KeptBoard<F> {
         self.cut.read(at)
     }
 
+    // Inlined, so that a write of a known number of words needs no loop. A call takes 25 instructions, and 4 a word.
+    #[inline(always)]
     fn write(&mut self, page: u16, first: u8, words: &[u32]) -> Result<(), DeviceErr>
         requires { FitsPage page first words.now (kept_facts F.log self.old) }
         ensures writes { Writes (address page first) words.now (kept_facts F.log self.old)
