@@ -8,10 +8,10 @@ ghost use Rattle.block_chain.specs.Chains.{free_chain, HasFree, AreApart};
 ghost use Rattle.block_chain.specs.ChainChanges.{Takes, GivesBack};
 ghost use Rattle.block_chain.specs.ChainParts.{first_block, joined_chains};
 ghost use Rattle.undo_journal.specs.Rooms.{HasRoom};
-ghost use Rattle.block_store.specs.StoredBlocks.{HasFreeChain, HasFreeRun};
+ghost use Rattle.block_links.specs.StoredBlocks.{HasFreeChain, HasFreeRun};
 
-use crate::words::{head, read_head, read_link};
 use block_chain::{Chain, FREE_HEAD, FreeRun};
+use block_links::{head, read_head, read_link};
 use undo_journal::{Board, PAGE_WORDS, Store, StoreErr, Txn};
 
 /// Returns the number of free blocks. It takes one device read for the head and one per free block.

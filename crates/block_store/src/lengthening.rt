@@ -4,7 +4,7 @@ ghost use Rattle.std.specs.Result.{result_err};
 ghost use Rattle.undo_journal.specs.Memory.{committed};
 ghost use Rattle.undo_journal.specs.StoreCalls.{Changes};
 ghost use Rattle.block_chain.specs.ChainChanges.{LinksAlone, LinksFirst, AreLinked};
-ghost use Rattle.block_store.specs.StoredBlocks.{HasPages};
+ghost use Rattle.block_links.specs.StoredBlocks.{HasPages};
 
 use undo_journal::{Board, Store, StoreErr};
 

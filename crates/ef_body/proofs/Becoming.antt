@@ -25,7 +25,7 @@ use Rattle.ef_body.specs.laws.Rings.{told_number, told_start, length-linear, cyc
 use Rattle.ef_contents.specs.laws.Slots.{slot-within, slot-take, length-slot}
 use Rattle.std.proofs.Math.Nat.{mod-lt}
 use Rattle.ef_body.proofs.Putting.{chain_kept, before_kept}
-use Rattle.block_store.specs.StoredBlocks.{LieIn}
+use Rattle.block_links.specs.StoredBlocks.{LieIn}
 
 -- as many bytes as the blocks have
 pub ring_fits : (m : List ℕ) (c : Cyclic) → IsMemory m → IsCyclic m c

@@ -19,8 +19,8 @@ use Rattle.block_chain.specs.laws.Bytes.{blocks_same, leads_blocks, block_in}
 use Rattle.block_chain.specs.laws.Chains.{leads_same, pages_are}
 use Rattle.block_chain.specs.laws.Footprints.{bytes_same, not_among}
 use Rattle.block_chain.specs.laws.Laying.{leads_count, pages_most}
-use Rattle.block_store.specs.Writes.{put_writes}
-use Rattle.block_store.specs.laws.Writes.{put_writes_most}
+use Rattle.stored_bytes.specs.Writes.{put_writes}
+use Rattle.stored_bytes.specs.laws.Writes.{put_writes_most}
 use Rattle.ef_body.specs.BodyChanges.{PutsRecord}
 use Rattle.ef_contents.specs.UpdateWrites.{update_writes}
 

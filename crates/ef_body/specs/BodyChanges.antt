@@ -7,7 +7,7 @@ use Rattle.block_chain.specs.BlockWords.{word}
 use Rattle.block_chain.specs.Counts.{IsNotIn}
 use Rattle.block_chain.specs.Chains.{chain_of, chain_bytes}
 use Rattle.block_chain.specs.ChainChanges.{OnlyContent, touched_words}
-use Rattle.block_store.specs.Writes.{batch_count, run_count}
+use Rattle.stored_bytes.specs.Writes.{batch_count, run_count}
 use Rattle.block_chain.specs.declared.layout.TheConstants.{WORD_BYTES}
 use Rattle.card_state.specs.FileTrees.{overwrite}
 use Rattle.ef_body.specs.declared.transparent.Transparent.{Transparent}

@@ -5,7 +5,7 @@ use Rattle.ef_body.specs.declared.cyclic.Cyclic.{Cyclic}
 use Rattle.ef_body.specs.declared.linear.Linear.{Linear}
 use Rattle.ef_body.specs.Bodies.{IsCyclic, IsLinear, IsTransparent}
 use Rattle.block_chain.specs.declared.chain.Chain.{Chain}
-use Rattle.block_store.specs.StoredBlocks.{LieIn}
+use Rattle.block_links.specs.StoredBlocks.{LieIn}
 use Rattle.ef_body.specs.declared.transparent.Transparent.{Transparent}
 
 -- The store is ready, and its words have the bytes of a transparent EF.

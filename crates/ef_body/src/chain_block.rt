@@ -5,10 +5,10 @@ ghost use Rattle.undo_journal.specs.Memory.{committed};
 ghost use Rattle.undo_journal.specs.StoreCalls.{Reads};
 ghost use Rattle.block_chain.specs.Chains.{Leads, chain_of};
 ghost use Rattle.ef_body.specs.ReadParts.{IsBlockOf};
-ghost use Rattle.block_store.specs.StoredBlocks.{HasChain};
+ghost use Rattle.block_links.specs.StoredBlocks.{HasChain};
 
 use block_chain::Chain;
-use block_store::block_at;
+use stored_bytes::block_at;
 use undo_journal::{Board, Store, StoreErr};
 
 /// A block of a chain: its number in the chain, from 0, and its page.

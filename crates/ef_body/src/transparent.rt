@@ -4,7 +4,7 @@ ghost use Rattle.undo_journal.specs.Memory.{committed};
 ghost use Rattle.undo_journal.specs.Spending.{transaction_writes, WritesAtMost};
 ghost use Rattle.card_state.specs.FileTrees.{overwrite};
 ghost use Rattle.block_chain.specs.ChainChanges.{touched_blocks, touched_words};
-ghost use Rattle.block_store.specs.Writes.{put_writes};
+ghost use Rattle.stored_bytes.specs.Writes.{put_writes};
 ghost use Rattle.ef_contents.specs.Refusals.{past_end, overlong};
 ghost use Rattle.ef_body.specs.Bodies.{transparent_bytes};
 ghost use Rattle.ef_body.specs.BodyChanges.{TransparentBecomes};
@@ -15,9 +15,9 @@ ghost use Rattle.ef_body.specs.StoredBodies.{HasBytes};
 use crate::writing::put_bytes;
 use arrayvec::ArrayVec;
 use block_chain::Chain;
-use block_store::read_bytes;
 use card_state::Sw;
 use ef_contents::{BodyErr, from_store};
+use stored_bytes::read_bytes;
 use undo_journal::{Board, Store};
 
 /// The body of a transparent EF. It has a chain, and a size of 1 to 32,767 bytes.

@@ -7,7 +7,7 @@ ghost use Rattle.undo_journal.specs.Lent.{memory_of};
 ghost use Rattle.undo_journal.specs.declared.layout.TheConstants.{GATE};
 ghost use Rattle.block_chain.specs.Chains.{chain_of as blocks_of_chain};
 ghost use Rattle.block_chain.specs.ChainChanges.{Overwrites, touched_blocks, touched_words};
-ghost use Rattle.block_store.specs.Writes.{put_writes};
+ghost use Rattle.stored_bytes.specs.Writes.{put_writes};
 ghost use Rattle.ef_body.specs.declared.layout.TheConstants.{RECORD_WRITES, UPDATE_WRITES};
 ghost use Rattle.card_state.specs.RecordLists.{front};
 ghost use Rattle.ef_body.specs.Bodies.{counts_word, cyclic_body_records};
@@ -16,12 +16,12 @@ ghost use Rattle.undo_journal.specs.Spending.{transaction_writes};
 ghost use Rattle.ef_body.specs.BodyChanges.{record_put_writes, slot_offset, CyclicBecomes, PutsRecord, RecordsBecome};
 ghost use Rattle.ef_body.specs.BodyCalls.{Commits};
 ghost use Rattle.undo_journal.specs.Rooms.{HasRoom};
-ghost use Rattle.block_store.specs.StoredBlocks.{LieIn};
+ghost use Rattle.block_links.specs.StoredBlocks.{LieIn};
 
 use crate::cyclic::Cyclic;
 use crate::slot::{FreeSlot, RecordSlot, offset_of, slot_of};
 use block_chain::Chain;
-use block_store::set_bytes;
+use stored_bytes::set_bytes;
 use undo_journal::{Board, Store, StoreErr, Txn};
 
 /// Returns the entry's word for its records. It has their number and the slot of record 1.

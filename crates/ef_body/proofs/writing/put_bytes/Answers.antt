@@ -8,7 +8,7 @@ use Rattle.undo_journal.specs.Spending.{transaction_writes}
 use Rattle.block_chain.specs.declared.layout.TheConstants.{BLOCK_BYTES}
 use Rattle.block_chain.specs.Chains.{chain_of, IsChain}
 use Rattle.block_chain.specs.ChainChanges.{Overwrites, touched_words, touched_blocks}
-use Rattle.block_store.specs.Writes.{put_writes}
+use Rattle.stored_bytes.specs.Writes.{put_writes}
 use Rattle.ef_body.proofs.Putting.{touched_few}
 use Rattle.ef_body.proofs.writing.put_bytes.Goals as goal
 

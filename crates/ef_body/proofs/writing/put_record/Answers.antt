@@ -8,7 +8,7 @@ use Rattle.block_chain.specs.ChainChanges.{touched_words, touched_blocks}
 use Rattle.ef_body.specs.declared.layout.TheConstants.{RECORD_WRITES}
 use Rattle.ef_body.specs.BodyChanges.{record_put_writes, PutsRecord}
 use Rattle.ef_body.proofs.Putting.{touched_few, touched_few_blocks}
-use Rattle.block_store.specs.StoredBlocks.{LieIn}
+use Rattle.block_links.specs.StoredBlocks.{LieIn}
 use Rattle.ef_body.proofs.writing.put_record.Goals as goal
 
 pub set_record-work-requires-clause-lie : goal.set_record-work-requires-clause-lie

@@ -1,6 +1,6 @@
 use Rattle.std.proofs.Common.{◌≤◌, ◌*◌, ◌∙◌, ℕ, ap, arith, length}
 use Rattle.undo_journal.specs.Memory.{committed}
-use Rattle.block_store.specs.Writes.{put_writes}
+use Rattle.stored_bytes.specs.Writes.{put_writes}
 use Rattle.ef_body.specs.BodyChanges.{slot_offset}
 use Rattle.ef_body.proofs.Becoming.{ring_put, slot_lies}
 use Rattle.ef_body.proofs.Calling.{commits_weaker, commits_within, counted_at}

@@ -1,0 +1,4 @@
+-- The device writes of an update.
+pub mod Writes
+pub mod JoinParts
+pub mod laws
