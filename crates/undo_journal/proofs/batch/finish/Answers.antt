@@ -11,6 +11,8 @@ use Rattle.undo_journal.specs.laws.Memory.{writes_then}
 use Rattle.undo_journal.specs.BatchParts.{working}
 use Rattle.undo_journal.proofs.Costing.{commit-none, commit-some}
 use Rattle.nvm_board.specs.laws.Sizes.{least_words}
+use Rattle.undo_journal.specs.laws.Exits.{none_ok}
+use Rattle.undo_journal.proofs.Telling.{answered_after, answered_err, answered_ok}
 use Rattle.undo_journal.proofs.batch.finish.Goals as goal
 
 pub returns-then-batch-eq0-clause-done : goal.returns-then-batch-eq0-clause-done
@@ -96,3 +98,65 @@ returns-clause-writes g c =
     c.if-batch-eq0.false refl in
     within_more (batch_writes before.waiting + 1) _ _ _ (omega (arith, all))
     (writes_then (batch_writes before.waiting) 1 _ _ _ c.in_ok-flush.ensures.writes c.write_gate.ensures.writes)
+
+pub returns-in_err-flush-clause-any_exit : goal.returns-in_err-flush-clause-any_exit
+returns-in_err-flush-clause-any_exit g c = inl c.in_err-flush.ensures.kept
+
+pub returns-in_err-flush-clause-last : goal.returns-in_err-flush-clause-last
+returns-in_err-flush-clause-last g c = inl c.in_err-flush.ensures.kept
+
+pub returns-in_err-flush-clause-done : goal.returns-in_err-flush-clause-done
+returns-in_err-flush-clause-done g c = none_ok _ _ _ c.from_residual.ensures.1
+
+pub returns-in_err-flush-clause-shut : goal.returns-in_err-flush-clause-shut
+returns-in_err-flush-clause-shut g c = none_ok _ _ _ c.from_residual.ensures.1
+
+pub returns-in_err-flush-clause-counted : goal.returns-in_err-flush-clause-counted
+returns-in_err-flush-clause-counted g c = none_ok _ _ _ c.from_residual.ensures.1
+
+pub returns-in_err-flush-clause-sound : goal.returns-in_err-flush-clause-sound
+returns-in_err-flush-clause-sound g c = c.in_err-flush.ensures.sound
+
+pub returns-in_err-flush-clause-light : goal.returns-in_err-flush-clause-light
+returns-in_err-flush-clause-light g c = answered_err _ _ _ _ c.from_residual.ensures.1 c.in_err-flush.ensures.light
+
+pub returns-then-batch-eq0-clause-any_exit : goal.returns-then-batch-eq0-clause-any_exit
+returns-then-batch-eq0-clause-any_exit g c = inl c.in_ok-flush.ensures.kept
+
+pub returns-then-batch-eq0-clause-last : goal.returns-then-batch-eq0-clause-last
+returns-then-batch-eq0-clause-last g c = inl c.in_ok-flush.ensures.kept
+
+pub returns-then-batch-eq0-clause-sound : goal.returns-then-batch-eq0-clause-sound
+returns-then-batch-eq0-clause-sound g c = c.in_ok-flush.ensures.sound
+
+pub returns-then-batch-eq0-clause-shut : goal.returns-then-batch-eq0-clause-shut
+returns-then-batch-eq0-clause-shut g c = c.in_ok-flush.ensures.counts ∙ c.if-batch-eq0.true
+
+pub returns-then-batch-eq0-clause-light : goal.returns-then-batch-eq0-clause-light
+returns-then-batch-eq0-clause-light g c = answered_ok _ _ _ (c.in_ok-flush.ensures.light.ok refl)
+
+pub returns-clause-light : goal.returns-clause-light
+returns-clause-light g c =
+    answered_after _ _ _ _ (c.in_ok-flush.ensures.light.ok refl) c.write_gate.ensures.light
+
+pub returns-clause-shut : goal.returns-clause-shut
+returns-clause-shut g c =
+    let flushed = (g.B.Board.facts c.flush.new.board).words in
+    let memory = (g.met.B.Board.is_board c.flush.new.board).sized in
+    let within : GATE < length flushed = omega (arith, least_words _ memory) in
+    on_ok_weaker c.write_gate.result (λ new. ap gate new ∙ gate-shut flushed within) c.write_gate.ensures.done
+
+pub flush-requires-clause-sound : goal.flush-requires-clause-sound
+flush-requires-clause-sound g c = c.requires.held.sound
+
+pub flush-requires-clause-counts : goal.flush-requires-clause-counts
+flush-requires-clause-counts g c = c.requires.held.counts
+
+pub flush-requires-clause-lit : goal.flush-requires-clause-lit
+flush-requires-clause-lit g c = c.requires.held.lit
+
+pub flush-requires-clause-whole : goal.flush-requires-clause-whole
+flush-requires-clause-whole g c = c.requires.held.whole
+
+pub flush-requires-clause-sets : goal.flush-requires-clause-sets
+flush-requires-clause-sets g c = c.requires.held.sets

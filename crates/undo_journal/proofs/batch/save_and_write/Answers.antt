@@ -16,6 +16,7 @@ use Rattle.undo_journal.specs.laws.Memory.{writes_then}
 use Rattle.undo_journal.proofs.Telling.{answered_after, answered_err, steady_then}
 use Rattle.nvm_board.specs.laws.Sizes.{least_words}
 use Rattle.undo_journal.specs.declared.layout.TheConstants.{GATE, JOURNAL, JOURNAL_END}
+use Rattle.undo_journal.proofs.batch.save_and_write.Given.{Over}
 use Rattle.undo_journal.proofs.batch.save_and_write.Goals as goal
 
 -- the journal lies in the memory
@@ -234,3 +235,56 @@ returns-clause-writes g c =
     (writes_then 2 _ _ _ _
     (writes_then 1 1 _ _ _ c.in_ok-write_pairs.ensures.writes c.in_ok-write_gate.ensures.writes)
     c.write_words.ensures.writes))
+
+pub saved_pairs-requires-clause-lit : goal.saved_pairs-requires-clause-lit
+saved_pairs-requires-clause-lit g c = c.requires.lit
+
+pub saved_pairs-requires-clause-few : goal.saved_pairs-requires-clause-few
+saved_pairs-requires-clause-few g c = c.requires.few
+
+pub saved_pairs-requires-clause-sets : goal.saved_pairs-requires-clause-sets
+saved_pairs-requires-clause-sets g c = c.requires.sets
+
+pub write_pairs-requires-clause-whole : goal.write_pairs-requires-clause-whole
+write_pairs-requires-clause-whole g c = c.requires.whole
+
+pub write_pairs-requires-clause-few : goal.write_pairs-requires-clause-few
+write_pairs-requires-clause-few g c =
+    let m = (g.B.Board.facts c.args.board.now).words in
+    let run = ap (λ (l : List ℕ). length l) (c.deref.ensures.0 ∙ c.in_ok-pairs.ensures.words) in
+    omega (arith, run, length-pair_words m c.args.sets.now, c.requires.few)
+
+pub write_pairs-requires-clause-room : goal.write_pairs-requires-clause-room
+write_pairs-requires-clause-room g c =
+    let m = (g.B.Board.facts c.args.board.now).words in
+    let run = ap (λ (l : List ℕ). length l) (c.deref.ensures.0 ∙ c.in_ok-pairs.ensures.words) in
+    omega (arith, run, length-pair_words m c.args.sets.now, c.requires.room)
+
+pub write_words-requires-clause-few : goal.write_words-requires-clause-few
+write_words-requires-clause-few g c = c.requires.few
+
+pub write_words-requires-clause-lit : goal.write_words-requires-clause-lit
+write_words-requires-clause-lit g c = (c.in_ok-write_gate.ensures.light.ok refl).lit
+
+pub returns-in_err-pairs-clause-turned : goal.returns-in_err-pairs-clause-turned
+returns-in_err-pairs-clause-turned g c =
+    let kept = c.in_err-pairs.ensures.reads in
+    λ shut. (sym c.requires.counts ∙ sym (ap gate kept.words) ∙ shut, omega (arith, kept.writes))
+
+-- the gate counts the new pairs too
+gate_raised : (g : Over) (c : goal.After-write_words g)
+    → gate (g.B.Board.facts c.write_words.new.board).words ≡ c.args.used + length c.args.sets.now
+gate_raised g c =
+    let paired = (g.B.Board.facts c.write_pairs.new.board).words in
+    let board = g.met.B.Board.is_board c.write_pairs.new.board in
+    let within : GATE < length paired = omega (arith, least_words _ board.sized) in
+    c.write_words.ensures.counts ∙ ap gate c.in_ok-write_gate.ensures.done ∙ get_or-set_same paired GATE _ 0 within
+
+pub returns-clause-counts : goal.returns-clause-counts
+returns-clause-counts g c = on_ok_weaker c.write_words.result (λ done. gate_raised g c) c.write_words.ensures.done
+
+pub returns-clause-turned : goal.returns-clause-turned
+returns-clause-turned g c =
+    let some = c.requires.some in
+    let raised = gate_raised g c in
+    λ shut. absurd (omega (arith, shut, raised, some))

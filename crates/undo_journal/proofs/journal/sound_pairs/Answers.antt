@@ -2,6 +2,7 @@ use Rattle.std.proofs.Common.{◌≡◌, ◌≤◌, true, false, refl, sym, arit
 use Rattle.undo_journal.specs.declared.layout.TheConstants.{PAIRS}
 use Rattle.undo_journal.proofs.Saving.{sound-named, named-sound}
 use Rattle.undo_journal.proofs.Telling.{answered_err, answered_after, answered_ok, steady_then}
+use Rattle.undo_journal.specs.laws.Exits.{none_ok}
 use Rattle.undo_journal.proofs.journal.sound_pairs.Goals as goal
 
 pub returns-then-sound-clause-sound : goal.returns-then-sound-clause-sound
@@ -40,3 +41,9 @@ returns-then-sound-clause-light g c =
 pub returns-else-sound-clause-light : goal.returns-else-sound-clause-light
 returns-else-sound-clause-light g c =
     answered_ok _ _ _ (steady_then _ _ _ (c.in_ok-count.ensures.light.ok refl) (c.in_ok-sound.ensures.light.ok refl))
+
+pub returns-in_err-count-clause-sound : goal.returns-in_err-count-clause-sound
+returns-in_err-count-clause-sound g c = none_ok _ _ _ c.from_residual.ensures.1
+
+pub returns-in_err-sound-clause-sound : goal.returns-in_err-sound-clause-sound
+returns-in_err-sound-clause-sound g c = none_ok _ _ _ c.from_residual-in_err-sound.ensures.1
