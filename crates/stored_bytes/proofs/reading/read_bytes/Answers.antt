@@ -1,10 +1,10 @@
-use Rattle.std.proofs.Common.{◌+◌, ℕ, ◌∙◌, ap, drop, arith}
+use Rattle.std.proofs.Common.{◌+◌, ◌-◌, ℕ, List, length, length-append, length-take, take, ◌∙◌, ap, drop, arith, rules}
 use Rattle.undo_journal.specs.Memory.{committed}
 use Rattle.undo_journal.specs.laws.Calls.{reads_then}
 use Rattle.undo_journal.specs.laws.Exits.{none_ok}
 use Rattle.undo_journal.specs.laws.Told.{reads_handed, reads_none, reads_on, reads_so_far}
 use Rattle.block_chain.specs.declared.layout.TheConstants.{MOST_BLOCKS}
-use Rattle.block_chain.specs.Chains.{chain_bytes, chain_of}
+use Rattle.block_chain.specs.Chains.{bytes_of, chain_bytes, chain_of}
 use Rattle.block_chain.specs.BlockWords.{word}
 use Rattle.block_chain.specs.laws.Laying.{pages_most}
 use Rattle.stored_bytes.proofs.Runs.{block_here, none_appended, none_asked, read_all, read_more, read_none, some_bytes}
@@ -185,3 +185,22 @@ block_of_byte-requires-clause-link g c = record {
       c.requires.within
       _ _ _ same c.loop-at.invariant.bytes.block c.loop-at-test.true).small;
 }
+
+pub block_at-requires-clause-chain : goal.block_at-requires-clause-chain
+block_at-requires-clause-chain g c = c.requires.chain
+
+pub block_at-requires-clause-within : goal.block_at-requires-clause-within
+block_at-requires-clause-within g c = omega (arith, c.requires.within, c.if-count-eq0.false)
+
+pub append_bytes-requires : goal.append_bytes-requires
+append_bytes-requires g c =
+    let m = committed c.args.store.now in
+    let kept = c.loop-at.invariant.bytes in
+    let some = c.bytes_in_word-some.ensures in
+    let asked = drop c.args.offset (bytes_of m (chain_of m c.args.chain)) in
+    let so_far = take (c.loop-at.at - c.args.offset) asked in
+    let size = ap (λ (l : List ℕ). length l) kept.so_far ∙ length-append c.args.out.now.items so_far in
+    let most = length-take (c.loop-at.at - c.args.offset) asked in (
+      search rules,
+      (some.word, omega (arith, size, most, kept.from, c.requires.room, some.end)),
+    )
