@@ -170,16 +170,6 @@ for-kind TerminateEf kind name short body = by_test (kind == 1)
     by_test true = refl
     by_test false = refl
 
--- a command on a file that isn't there
-pub change-missed : (c : Card) (s : Session) (change : LifeCycleChange) (subject : Subject)
-    → changed_file c.tree s change subject ≡ None
-    → refused_by (change_refusals c s change subject) ≡ Some (no_subject subject)
-change-missed c s change subject place =
-    λ i. verdict (is_none (place i)) (no_subject subject)
-    (next_life c.tree (unwrap_or (place i) []) (command_of change))
-    (is_for change (file_at c.tree (unwrap_or (place i) [])).kind)
-    (allowed c s (unwrap_or (place i) []) (change_bit change))
-
 -- a command on the file of an entry
 module _ (m : List ℕ) (words : IsCard m) (x : Current)
     (current : IsCurrent (table m) x) (change : LifeCycleChange) (subject : Subject) (e : ℕ) (used : IsUsed (table m) e)

@@ -2,9 +2,12 @@
 use Rattle.std.proofs.Common.{◌≡◌, Bool, true, false, Option, Some, None, is_none, if◌then◌else◌, refl, sym}
 use Rattle.std.proofs.Common.{ap, true≢false}
 use Rattle.card_state.specs.declared.status.Sw.{Sw}
+use Rattle.card_state.specs.declared.status.TheConstants.Sw.{FILE_NOT_FOUND}
 use Rattle.card_model.specs.declared.requests.Subject.{Subject}
 use Rattle.card_model.specs.declared.requests.LifeCycleChange.{LifeCycleChange}
 use Rattle.card_model.specs.Cards.{Card}
+use Rattle.card_model.specs.FileCommands.{delete_refusals}
+use Rattle.card_model.specs.Reaching.{subject_of}
 use Rattle.card_model.specs.LifeCycleCommands.{change_refusals, changed_file, no_subject}
 use Rattle.card_model.specs.Behaviours.{refused_by}
 use Rattle.card_model.specs.Sessions.{Session}
@@ -20,3 +23,8 @@ pub change-missed : (c : Card) (s : Session) (change : LifeCycleChange) (subject
     → refused_by (change_refusals c s change subject) ≡ Some (no_subject subject)
 change-missed c s change subject place =
     first (is_none (changed_file c.tree s change subject)) (no_subject subject) _ (ap is_none place)
+
+-- DELETE FILE
+pub delete-missed : (c : Card) (s : Session) (subject : Subject) → subject_of c.tree s subject ≡ None
+    → refused_by (delete_refusals c s subject) ≡ Some FILE_NOT_FOUND
+delete-missed c s subject place = first (is_none (subject_of c.tree s subject)) FILE_NOT_FOUND _ (ap is_none place)

@@ -19,6 +19,7 @@ use Rattle.command_base.specs.laws.Readings.{entry_still, kept_still, used_still
 use Rattle.undo_journal.specs.laws.Told.{reads_on}
 use Rattle.command_base.specs.declared.stop.Stop.TheVariants.{Failed}
 use Rattle.command_base.specs.laws.Stopping.{finds-stopped, reads-stopped, refused-weaker}
+use Rattle.file_commands.proofs.Missing.{delete-missed}
 use Rattle.file_commands.proofs.files.find_deletable.Goals as goal
 
 pub returns-then-number-eq0 : goal.returns-then-number-eq0
@@ -117,7 +118,7 @@ check_deletion-requires-clause-above g c =
 
 pub returns-in_err-entry : goal.returns-in_err-entry
 returns-in_err-entry g c = record {
-  told = search rules;
+  told = finds-stopped _ (Failed c.in_err-entry.field-0.0) c.from_residual-in_err-entry.ensures.1 _ _ tt;
   store = reads-stopped _ (Failed c.in_err-entry.field-0.0) c.from_residual-in_err-entry.ensures.1 _ _
       (reads_on _ _ _ _ c.find_subject.ensures.found.store.only c.in_err-entry.ensures.store);
 }
@@ -147,4 +148,24 @@ read_entry-requires g c = record {
   within = let m = committed c.args.store.now in
       used_small m c.in-Some.number
       (subst (λ (o : Option ℕ). IfSome o (IsUsed (table m))) c.in-Some.is c.in_ok-number.ensures.used);
+}
+
+pub returns-in_err-number : goal.returns-in_err-number
+returns-in_err-number g c = record {
+  told = finds-stopped _ (Failed c.in_err-number.field-0.0) c.from_residual.ensures.1 _ _ tt;
+  store = reads-stopped _ (Failed c.in_err-number.field-0.0) c.from_residual.ensures.1 _ _
+      c.in_err-number.ensures.found.store;
+}
+
+pub returns-in_default : goal.returns-in_default
+returns-in_default g c = record {
+  told = let m = committed c.args.store.now in
+      let t = table m in
+      let x = c.args.current.now in
+      delete-missed (card_of m) (session_of t x) c.args.subject
+      (subject-found m c.requires.card.kept.card x c.requires.card.kept.current c.unwrap_or-own.result
+      c.unwrap_or-own.ensures
+      c.args.subject c.in_ok-number.field-0 c.in_ok-number.ensures.found.told
+      ∙ ap (λ (o : Option ℕ). option_map (path_of t) o) c.in_default.is);
+  store = c.in_ok-number.ensures.found.store;
 }

@@ -1,4 +1,4 @@
-use Rattle.std.proofs.Common.{◌≡◌, ℕ, List, Option, Some, IfSome, option_map, Result, sym, ◌∙◌, ap, subst, rules}
+use Rattle.std.proofs.Common.{◌≡◌, ℕ, List, Option, Some, IfSome, option_map, Result, sym, ◌∙◌, ap, subst}
 use Rattle.card_state.specs.declared.status.Sw.{Sw}
 use Rattle.undo_journal.specs.Memory.{committed}
 use Rattle.file_tree.specs.Table.{table, path_of, IsUsed}
@@ -10,7 +10,8 @@ use Rattle.file_commands.proofs.LifeSteps.{changed-found, current-there, found-i
 use Rattle.file_commands.proofs.Missing.{change-missed}
 use Rattle.command_base.specs.laws.Readings.{kept_still, used_still}
 use Rattle.undo_journal.specs.laws.Told.{reads_on}
-use Rattle.command_base.specs.laws.Stopping.{finds-by}
+use Rattle.command_base.specs.declared.stop.Stop.TheVariants.{Failed}
+use Rattle.command_base.specs.laws.Stopping.{finds-by, finds-stopped, reads-stopped}
 use Rattle.file_commands.proofs.life_cycles.find_change.Goals as goal
 
 pub returns : goal.returns
@@ -56,7 +57,7 @@ returns-in_default g c = record {
       c.current_changed-own.ensures c.args.subject c.in_ok-number.field-0 c.in_ok-number.ensures.found.told ∙ ap (λ
       (found : Option ℕ). option_map (path_of t) found) c.in_default.is)
       ∙ ap (λ (status : Sw). Some status) (sym c.no_subject.ensures);
-  store = search rules;
+  store = c.in_ok-number.ensures.found.store;
 }
 
 pub find_subject-requires-clause-own : goal.find_subject-requires-clause-own
@@ -64,3 +65,10 @@ find_subject-requires-clause-own g c =
     let t = table (committed c.args.store.now) in
     subst (λ (own : Option ℕ). IfSome own (IsUsed t)) (sym c.current_changed-own.ensures)
     (current-there t c.args.current.now c.requires.card.kept.current c.args.change)
+
+pub returns-in_err-number : goal.returns-in_err-number
+returns-in_err-number g c = record {
+  told = finds-stopped _ (Failed c.in_err-number.field-0.0) c.from_residual.ensures.1 _ _ tt;
+  store = reads-stopped _ (Failed c.in_err-number.field-0.0) c.from_residual.ensures.1 _ _
+      c.in_err-number.ensures.found.store;
+}
