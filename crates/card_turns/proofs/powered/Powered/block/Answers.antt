@@ -1,10 +1,13 @@
-use Rattle.undo_journal.specs.Spending.{KeepsBoard}
-use Rattle.std.specs.Prelude.{◌≡◌, ◌⊎◌, ◌≢◌, ℕ, List, [], Option, Some, unwrap_or}
-use Rattle.std.proofs.Common.{rules, ap, sym, refl, subst, ◌∙◌}
+use Rattle.undo_journal.specs.Spending.{Advances, KeepsBoard}
+use Rattle.undo_journal.specs.laws.Exits.{none_ok}
+use Rattle.std.specs.Prelude.{◌≡◌, ◌⊎◌, ◌≢◌, ◌≤◌, ◌+◌, ℕ, List, [], Option, Some, unwrap_or}
+use Rattle.std.proofs.Common.{rules, arith, inr, ap, sym, refl, subst, ◌∙◌}
 use Rattle.card_start.specs.declared.state.CardState.TheVariants.{Working, Dark}
 use Rattle.card_model.specs.CommandTable.{asked}
 use Rattle.t1_link.specs.CardTable.{answers, reply_bytes, waiting_command, link_step, CardLink, Link, Reaction}
 use Rattle.t1_link.specs.CardTable.{replies, runs}
+use Rattle.command_base.specs.Finding.{HasCard}
+use Rattle.command_base.specs.declared.spending.TheConstants.{COMMAND_WRITES}
 use Rattle.command_base.specs.Comparing.{comparisons, ComparesAsked}
 use Rattle.card_start.specs.Running.{card_found}
 use Rattle.command_base.specs.laws.CompareLaws.{asked-none}
@@ -150,3 +153,67 @@ returns-in_err-command-in-Run-clause-stands g c =
     c.self.view_is
     (λ works. of-run (λ (r : Reaction). BlockStands old r words) (link_step old.link c.args.got.now).reaction
     c.command.result.now waits (c.command-in-Run.ensures.stands works))
+
+pub returns-in-Dark-clause-has_card : goal.returns-in-Dark-clause-has_card
+returns-in-Dark-clause-has_card g c =
+    subst (λ (p : Powered). HasCard p.card.facts.words) c.self.view_is c.self.invariant.0
+
+pub returns-in-Dark-clause-replies : goal.returns-in-Dark-clause-replies
+returns-in-Dark-clause-replies g c = tt
+
+pub returns-in-Dark-clause-unrun : goal.returns-in-Dark-clause-unrun
+returns-in-Dark-clause-unrun g c = inr refl
+
+pub returns-in-Dark-clause-writes : goal.returns-in-Dark-clause-writes
+returns-in-Dark-clause-writes g c = omega arith
+
+pub returns-in-Dark-clause-dark : goal.returns-in-Dark-clause-dark
+returns-in-Dark-clause-dark g c = λ dark. (refl, refl, c.clear.ensures)
+
+pub returns-in-Reply-clause-has_card : goal.returns-in-Reply-clause-has_card
+returns-in-Reply-clause-has_card g c = c.self.invariant.0
+
+pub returns-in-Reply-clause-unrun : goal.returns-in-Reply-clause-unrun
+returns-in-Reply-clause-unrun g c = inr (ap (λ (p : Powered). p.card) c.self.view_is)
+
+pub returns-in-Reply-clause-writes : goal.returns-in-Reply-clause-writes
+returns-in-Reply-clause-writes g c =
+    let same = ap (λ (p : Powered). p.card.facts.writes) c.self.view_is in
+    omega (arith, same)
+
+pub returns-in_ok-command-in-Run-clause-has_card : goal.returns-in_ok-command-in-Run-clause-has_card
+returns-in_ok-command-in-Run-clause-has_card g c = c.command-in-Run.ensures.has_card
+
+pub returns-in_ok-command-in-Run-clause-writes : goal.returns-in_ok-command-in-Run-clause-writes
+returns-in_ok-command-in-Run-clause-writes g c =
+    let facts = c.command-in-Run.new.self.facts in
+    subst (λ (p : Powered). facts.writes ≤ p.card.facts.writes + COMMAND_WRITES) c.self.view_is
+    c.command-in-Run.ensures.writes
+
+pub returns-in_ok-command-in-Run-clause-advances : goal.returns-in_ok-command-in-Run-clause-advances
+returns-in_ok-command-in-Run-clause-advances g c =
+    let facts = c.command-in-Run.new.self.facts in
+    subst (λ (p : Powered). Advances p.card.facts facts) c.self.view_is c.command-in-Run.ensures.advances
+
+pub returns-in_err-command-in-Run-clause-has_card : goal.returns-in_err-command-in-Run-clause-has_card
+returns-in_err-command-in-Run-clause-has_card g c = c.command-in-Run.ensures.has_card
+
+pub returns-in_err-command-in-Run-clause-writes : goal.returns-in_err-command-in-Run-clause-writes
+returns-in_err-command-in-Run-clause-writes g c =
+    let facts = c.command-in-Run.new.self.facts in
+    subst (λ (p : Powered). facts.writes ≤ p.card.facts.writes + COMMAND_WRITES) c.self.view_is
+    c.command-in-Run.ensures.writes
+
+pub returns-in_err-command-in-Run-clause-advances : goal.returns-in_err-command-in-Run-clause-advances
+returns-in_err-command-in-Run-clause-advances g c =
+    let facts = c.command-in-Run.new.self.facts in
+    subst (λ (p : Powered). Advances p.card.facts facts) c.self.view_is c.command-in-Run.ensures.advances
+
+pub returns-in_ok-command-in-Run-clause-lost : goal.returns-in_ok-command-in-Run-clause-lost
+returns-in_ok-command-in-Run-clause-lost g c = tt
+
+pub returns-in_ok-command-in-Run-clause-unlit : goal.returns-in_ok-command-in-Run-clause-unlit
+returns-in_ok-command-in-Run-clause-unlit g c = tt
+
+pub returns-in_err-command-in-Run-clause-replies : goal.returns-in_err-command-in-Run-clause-replies
+returns-in_err-command-in-Run-clause-replies g c = none_ok _ _ _ c.from_residual.ensures.1
