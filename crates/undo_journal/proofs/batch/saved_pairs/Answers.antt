@@ -6,7 +6,7 @@ use Rattle.undo_journal.specs.declared.batch.Waiting.{Waiting}
 use Rattle.undo_journal.specs.Batches.{AreSets}
 use Rattle.undo_journal.specs.JournalParts.{pair_words}
 use Rattle.undo_journal.specs.laws.Exits.{none_ok}
-use Rattle.undo_journal.proofs.Telling.{answered_after, answered_err, steady_then}
+use Rattle.undo_journal.proofs.Telling.{answered_after, answered_err, answered_ok, steady_then}
 use Rattle.undo_journal.proofs.Waits.{sets-lower}
 use Rattle.undo_journal.proofs.batch.saved_pairs.Goals as goal
 
@@ -69,3 +69,9 @@ returns-in_err-earlier-clause-reads g c =
       compares = read.compares ∙ kept.compares;
       matches = read.matches ∙ kept.matches;
     }
+
+pub returns-clause-light : goal.returns-clause-light
+returns-clause-light g c = answered_ok _ _ _ c.loop-set.invariant.steady
+
+pub returns-clause-reads : goal.returns-clause-reads
+returns-clause-reads g c = c.loop-set.invariant.reads

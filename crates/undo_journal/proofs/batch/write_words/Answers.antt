@@ -1,10 +1,11 @@
 use Rattle.std.proofs.Common.{rules, ◌≡◌, ◌<◌, ℕ, List, length, drop, sym, ◌∙◌, ap, arith, refl, subst}
-use Rattle.nvm_board.specs.laws.Aims.{aims_then, aims_written}
+use Rattle.nvm_board.specs.laws.Aims.{aim_same, aims_kept, aims_then, aims_written}
 use Rattle.undo_journal.specs.declared.batch.Waiting.{Waiting}
 use Rattle.undo_journal.specs.Batches.{AreSets, runs_from}
 use Rattle.undo_journal.specs.JournalParts.{first_words}
 use Rattle.undo_journal.specs.laws.Exits.{none_ok}
-use Rattle.undo_journal.proofs.Telling.{answered_after, answered_err, steady_then}
+use Rattle.undo_journal.proofs.Saving.{same-none}
+use Rattle.undo_journal.proofs.Telling.{answered_after, answered_err, answered_ok, steady_then}
 use Rattle.undo_journal.proofs.RunLaws.{turn-few, turn-inside, turn-runs, sets-drop}
 use Rattle.undo_journal.proofs.Turning.{turn-torn, turn-same, turn-named, turn-left}
 use Rattle.undo_journal.proofs.batch.write_words.Goals as goal
@@ -115,3 +116,35 @@ pub returns-in_err-write-clause-light : goal.returns-in_err-write-clause-light
 returns-in_err-write-clause-light g c =
     answered_err _ _ _ _ c.from_residual.ensures.1
     (answered_after _ _ _ _ c.loop-rest.invariant.steady c.in_err-write.ensures.light)
+
+pub returns-clause-kept : goal.returns-clause-kept
+returns-clause-kept g c = c.loop-rest.invariant.same.committed
+
+pub returns-clause-sound : goal.returns-clause-sound
+returns-clause-sound g c = c.loop-rest.invariant.same.sound
+
+pub returns-clause-counts : goal.returns-clause-counts
+returns-clause-counts g c = c.loop-rest.invariant.same.gates
+
+pub returns-clause-light : goal.returns-clause-light
+returns-clause-light g c = answered_ok _ _ _ c.loop-rest.invariant.steady
+
+pub first_run-run-requires-clause-few : goal.first_run-run-requires-clause-few
+first_run-run-requires-clause-few g c = c.loop-rest.invariant.few
+
+pub loop-rest-init : goal.loop-rest-init
+loop-rest-init g c =
+    let lit = c.requires.lit in
+    record {
+      steady = record { was_lit = lit; lit = lit; faults = refl; cuts = refl; due = refl };
+      few = c.requires.few;
+      sets = c.requires.sets;
+      named = c.requires.named;
+      same = same-none _ c.requires.sound;
+      left = refl;
+      writes = refl;
+      more = omega arith;
+      cut = aims_kept _ _ refl (aim_same _);
+      compares = refl;
+      matches = refl;
+    }

@@ -1,5 +1,7 @@
-use Rattle.std.proofs.Common.{refl}
+use Rattle.std.proofs.Common.{refl, ◌∙◌}
 use Rattle.undo_journal.proofs.Telling.{answered_err, answered_after, answered_ok, steady_then}
+use Rattle.nvm_board.specs.laws.Aims.{aims_stay}
+use Rattle.undo_journal.specs.laws.Exits.{none_ok}
 use Rattle.undo_journal.proofs.journal.names_data_words.Goals as goal
 
 pub returns-in_err-at-clause-light : goal.returns-in_err-at-clause-light
@@ -13,3 +15,21 @@ returns-then-not-is_data_address-clause-light g c =
 
 pub returns-clause-light : goal.returns-clause-light
 returns-clause-light g c = answered_ok _ _ _ c.loop-i.invariant.steady
+
+pub returns-in_err-at-clause-named : goal.returns-in_err-at-clause-named
+returns-in_err-at-clause-named g c = none_ok _ _ _ c.from_residual.ensures.1
+
+pub returns-clause-reads : goal.returns-clause-reads
+returns-clause-reads g c = c.loop-i.invariant.reads
+
+pub returns-in_err-at-clause-reads : goal.returns-in_err-at-clause-reads
+returns-in_err-at-clause-reads g c =
+    let kept = c.loop-i.invariant.reads in
+    let read = c.in_err-at.ensures in
+    record {
+      cut = aims_stay _ _ _ kept.cut read.cut;
+      words = read.words ∙ kept.words;
+      writes = read.writes ∙ kept.writes;
+      compares = read.compares ∙ kept.compares;
+      matches = read.matches ∙ kept.matches;
+    }

@@ -1,9 +1,10 @@
-use Rattle.std.proofs.Common.{◌≡◌, ◌+◌, ◌*◌, ℕ, List, refl, inl, ◌∙◌, arith, rules, slice_index, slice_set}
+use Rattle.std.proofs.Common.{◌≡◌, ◌+◌, ◌*◌, ℕ, List, refl, inl, ◌∙◌, arith, slice_index, slice_set}
 use Rattle.std.proofs.Math.Logic.{⊎_map}
 use Rattle.std.proofs.lemmas.Result.{on_ok_weaker}
 use Rattle.undo_journal.specs.declared.layout.TheConstants.{JOURNAL}
 use Rattle.undo_journal.specs.Undo.{pair_at}
 use Rattle.nvm_board.specs.laws.Aims.{aims_kept, aims_stay, aims_then}
+use Rattle.undo_journal.specs.laws.Exits.{none_ok}
 use Rattle.undo_journal.proofs.Telling.{answered_err, answered_after, steady_then}
 use Rattle.undo_journal.proofs.journal.put_back.Goals as goal
 
@@ -17,11 +18,17 @@ pub returns-in_err-at : goal.returns-in_err-at
 returns-in_err-at g c =
     let told = c.in_err-at.ensures in
     record {
-      done = search rules;
+      done = none_ok _ _ _ c.from_residual.ensures.1;
       torn = inl told.words;
       light = answered_err _ _ _ _ c.from_residual.ensures.1 told.light;
-      counted = search rules;
-      writes = search rules;
+      counted = none_ok _ _ _ c.from_residual.ensures.1;
+      writes = record {
+        writes = omega (arith, told.writes);
+        more = omega (arith, told.writes);
+        cut = aims_kept _ _ told.words told.cut;
+        compares = told.compares;
+        matches = told.matches;
+      };
     }
 
 pub returns-in_err-earlier : goal.returns-in_err-earlier
@@ -29,11 +36,11 @@ returns-in_err-earlier g c =
     let first = c.in_ok-at.ensures in
     let second = c.in_err-earlier.ensures in
     record {
-      done = search rules;
+      done = none_ok _ _ _ c.from_residual-in_err-earlier.ensures.1;
       torn = inl (second.words ∙ first.words);
       light = answered_err _ _ _ _ c.from_residual-in_err-earlier.ensures.1
           (answered_after _ _ _ _ (first.light.ok refl) second.light);
-      counted = search rules;
+      counted = none_ok _ _ _ c.from_residual-in_err-earlier.ensures.1;
       writes = record {
         writes = omega (arith, second.writes, first.writes);
         more = omega (arith, second.writes, first.writes);

@@ -6,6 +6,7 @@ use Rattle.undo_journal.specs.laws.Undo.{gate_undone}
 use Rattle.std.proofs.lemmas.Result.{on_ok_weaker}
 use Rattle.undo_journal.proofs.Standing.{new-idle, new-fits}
 use Rattle.undo_journal.proofs.Noted.{always, on_ok, on_dark, failed_before, noted-true, noted-changes}
+use Rattle.undo_journal.specs.laws.Exits.{none_ok}
 use Rattle.undo_journal.proofs.store.Store.abandon.Goals as goal
 
 pub returns-in_err-checked-clause-store : goal.returns-in_err-checked-clause-store
@@ -46,3 +47,9 @@ returns-clause-counted g c =
     on_ok _ _ c.noted.ensures.answer _ _
     (λ counted. counted ∙ ap (λ (m : Memory). m.facts.writes + rollback_writes m.used) c.self.view_is)
     c.roll_back-answer.ensures.counted
+
+pub returns-in_err-checked-clause-counted : goal.returns-in_err-checked-clause-counted
+returns-in_err-checked-clause-counted g c = none_ok _ _ _ c.from_residual.ensures.1
+
+pub returns-in_err-checked-clause-done : goal.returns-in_err-checked-clause-done
+returns-in_err-checked-clause-done g c = none_ok _ _ _ c.from_residual.ensures.1

@@ -1,6 +1,5 @@
 use Rattle.std.proofs.Common.{◌≡◌, ◌<◌, Some, None, length, slice_index, ℕ, List, subst, refl, sym, ap, ◌∙◌, arith}
 use Rattle.undo_journal.specs.Undo.{gate, IsDataAddress, IsSound}
-use Rattle.undo_journal.specs.laws.Exits.{error_tells}
 use Rattle.undo_journal.specs.laws.Told.{none_ready}
 use Rattle.undo_journal.specs.laws.Calls.{reads_same}
 use Rattle.undo_journal.specs.laws.Undo.{data_words-outside}
@@ -12,6 +11,7 @@ use Rattle.undo_journal.specs.laws.Memory.{length-overlay}
 use Rattle.undo_journal.proofs.Waits.{look_up-found, look_up-none}
 use Rattle.undo_journal.proofs.Noted.{always, if_ok, on_dark, noted_tells, noted-true, noted-open}
 use Rattle.undo_journal.proofs.Noted.{noted-ready, noted-reads}
+use Rattle.undo_journal.specs.laws.Exits.{error_tells, none_ok}
 use Rattle.undo_journal.proofs.store.Store.read.Goals as goal
 
 pub read-answer-requires : goal.read-answer-requires
@@ -119,3 +119,12 @@ returns-in-Some-clause-word g c =
     sym (data_words-outside (overlay sets words) c.args.at within place.0
     ∙ look_up-found _ c.args.at c.in-Some.word sets words 0 held.sets place.1 found)
     ∙ ap (λ (m : Memory). slice_index (current m) c.args.at) c.self.view_is
+
+pub returns-in_err-check-clause-word : goal.returns-in_err-check-clause-word
+returns-in_err-check-clause-word g c = none_ok _ _ _ c.from_residual.ensures.1
+
+pub returns-in_err-check-clause-usable : goal.returns-in_err-check-clause-usable
+returns-in_err-check-clause-usable g c = none_ok _ _ _ c.from_residual.ensures.1
+
+pub returns-in-Some-clause-reads : goal.returns-in-Some-clause-reads
+returns-in-Some-clause-reads g c = reads_same _

@@ -130,3 +130,15 @@ returns-clause-spends g c =
     let set : Waiting = record { at = c.args.at; word = c.args.word } in
     subst (λ (m : Memory). WritesAtMost (set_writes set m) m.facts (g.B.Board.facts c.add-answer.new.board))
     c.self.view_is c.add-answer.ensures.spends
+
+pub returns-in_err-check-clause-joins : goal.returns-in_err-check-clause-joins
+returns-in_err-check-clause-joins g c = none_ok _ _ _ c.from_residual.ensures.1
+
+pub returns-in_err-check-clause-next : goal.returns-in_err-check-clause-next
+returns-in_err-check-clause-next g c = none_ok _ _ _ c.from_residual.ensures.1
+
+pub returns-in_err-check-clause-ready : goal.returns-in_err-check-clause-ready
+returns-in_err-check-clause-ready g c = none_ok _ _ _ c.from_residual.ensures.1
+
+pub returns-in_err-check-clause-kept : goal.returns-in_err-check-clause-kept
+returns-in_err-check-clause-kept g c = refl

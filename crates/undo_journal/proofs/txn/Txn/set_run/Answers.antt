@@ -10,6 +10,7 @@ use Rattle.nvm_board.specs.laws.Torn.{length-written, written-more}
 use Rattle.undo_journal.specs.laws.Calls.{reads_runs, reads_same, reads_sets, sets_then, sets_weaker}
 use Rattle.undo_journal.specs.laws.Told.{sets_in_on, sets_in_handed}
 use Rattle.undo_journal.proofs.SetRuns.{fills-none, joined_run-more, none_yet, pages_all, pages_more, pages_next}
+use Rattle.undo_journal.specs.laws.Exits.{none_ok}
 use Rattle.undo_journal.proofs.txn.Txn.set_run.Goals as goal
 
 pub set-requires-clause-place : goal.set-requires-clause-place
@@ -92,3 +93,15 @@ loop-i-preserved g c =
                 absurd (fills-none set c.args.words.now c.args.at c.loop-i.i old _ so.waiting lt fills.full few)
           ];
     }
+
+pub returns-in_err-check-clause-done : goal.returns-in_err-check-clause-done
+returns-in_err-check-clause-done g c = none_ok _ _ _ c.from_residual.ensures.1
+
+pub returns-in_err-set-clause-done : goal.returns-in_err-set-clause-done
+returns-in_err-set-clause-done g c = none_ok _ _ _ c.from_residual-in_err-set.ensures.1
+
+pub returns-in_err-check-clause-waits : goal.returns-in_err-check-clause-waits
+returns-in_err-check-clause-waits g c = none_ok _ _ _ c.from_residual.ensures.1
+
+pub returns-in_err-set-clause-waits : goal.returns-in_err-set-clause-waits
+returns-in_err-set-clause-waits g c = none_ok _ _ _ c.from_residual-in_err-set.ensures.1
