@@ -5,14 +5,14 @@ ghost use Rattle.command_base.specs.CurrentFiles.{pointing_from, tried_from, unv
 
 use apdu_core::Target;
 use card_state::{PinNumber, PinSet};
-use file_tree::{Entry, EntryHead};
+use file_tree::{Entry, EntryHead, EntryNumber};
 use pin_store::Outcome;
 
 /// The session: the current files, as entry numbers, and the verified PINs.
 #[derive(Clone, Copy)]
 pub struct Current {
-    pub df: u8,
-    pub ef: Option<u8>,
+    pub df: EntryNumber,
+    pub ef: Option<EntryNumber>,
     /// The number of the current record, if any.
     pub pointer: Option<u8>,
     /// The verified PINs.
@@ -34,7 +34,7 @@ impl Current {
         ensures { result ≡ fresh_current }
     {
         Current {
-            df: 0,
+            df: EntryNumber::master(),
             ef: None,
             pointer: None,
             verified: PinSet::new(),
@@ -43,20 +43,20 @@ impl Current {
 
     /// Returns the session after the file of entry `e` becomes current.
     /// A dedicated file has no current elementary file in it; an elementary file makes its parent current.
-    pub fn at(self, e: u8, entry: &Entry) -> Current
+    pub fn at(self, e: EntryNumber, entry: &Entry) -> Current
         ensures { result ≡ current_at self e entry.now }
     {
         self.at_head(e, entry.head())
     }
 
     /// Returns the same session, from the head of the entry.
-    pub fn at_head(self, e: u8, head: EntryHead) -> Current
+    pub fn at_head(self, e: EntryNumber, head: EntryHead) -> Current
         ensures { result ≡ current_by self e head.kind head.parent }
     {
         let (df, ef) = if head.is_dedicated() {
             (e, None)
         } else {
-            (head.parent, Some(e))
+            (EntryNumber::new(head.parent), Some(e))
         };
         Current {
             df,
@@ -81,7 +81,7 @@ impl Current {
     }
 
     /// Returns the session after a binary command: the named file is current.
-    pub fn naming(self, target: Target, e: u8) -> Current
+    pub fn naming(self, target: Target, e: EntryNumber) -> Current
         ensures { result ≡ named_from self target e }
     {
         match target {
@@ -106,7 +106,7 @@ impl Current {
     }
 
     /// Returns the session after a command on records, with this record pointer.
-    pub fn pointing(self, target: Target, e: u8, pointer: Option<u8>) -> Current
+    pub fn pointing(self, target: Target, e: EntryNumber, pointer: Option<u8>) -> Current
         ensures { result ≡ pointing_from self target e pointer }
     {
         Current {

@@ -18,7 +18,7 @@ use crate::stop::Stop;
 use apdu_core::{Sw, Target};
 use card_state::AccessBit;
 use file_lookup::{find_short, is_barred_at, read_entry};
-use file_tree::{Entry, EntryKind};
+use file_tree::{Entry, EntryKind, EntryNumber};
 use undo_journal::{Board, Store, StoreErr};
 
 /// The structures that a command accepts.
@@ -44,7 +44,7 @@ pub struct Need {
 /// An elementary file: its entry and the number of the entry.
 #[derive(Clone, Copy)]
 pub struct TargetFile {
-    pub number: u8,
+    pub number: EntryNumber,
     pub entry: Entry,
 }
 
@@ -141,7 +141,7 @@ pub(crate) fn find_target<B: Board>(
     store: &mut Store<B>,
     current: &Current,
     target: Target,
-) -> Result<Option<u8>, StoreErr>
+) -> Result<Option<EntryNumber>, StoreErr>
     requires target { HasTarget store.old current.now target }
     ensures found { Learns store.old store.new result
         (λ found. target_of (card_in store.old).tree (session_in store.old current.now) target

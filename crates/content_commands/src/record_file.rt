@@ -20,15 +20,15 @@ use apdu_core::{RecordChoice, RecordPlace};
 use block_chain::Chain;
 use card_state::Sw;
 use ef_body::{Cyclic, FreeSlot, RecordBody, RecordSlot};
-use file_tree::{Entry, EntryKind, FIRST_ENTRY_PAGE, RECORDS_WORD};
-use undo_journal::{Board, PAGE_WORDS, Store, StoreErr};
+use file_tree::{Entry, EntryKind, EntryNumber, RECORDS_WORD, entry_address};
+use undo_journal::{Board, Store, StoreErr};
 
 /// A record file: its entry number, its ring, and its kind.
 /// `wraps` is true for a cyclic file.
 /// Record 1 of a linear file is in slot 0.
 #[derive(Clone, Copy)]
 pub(crate) struct RecordFile {
-    pub number: u8,
+    pub number: EntryNumber,
     pub ring: Cyclic,
     pub wraps: bool,
 }
@@ -44,7 +44,7 @@ pub(crate) enum Room {
 
 impl RecordFile {
     /// Returns the record file of a used entry.
-    pub fn of(number: u8, entry: &Entry) -> RecordFile
+    pub fn of(number: EntryNumber, entry: &Entry) -> RecordFile
         requires { IsRecordEntry number entry.now }
         ensures { result ≡ record_file_in number entry.now }
     {
@@ -57,7 +57,7 @@ impl RecordFile {
             capacity: entry.size / entry.record_length,
             records: entry.records,
             start: entry.start,
-            told_at: PAGE_WORDS * (FIRST_ENTRY_PAGE + u16::from(number)) + RECORDS_WORD,
+            told_at: entry_address(number) + RECORDS_WORD,
         };
         RecordFile {
             number,
@@ -67,8 +67,8 @@ impl RecordFile {
     }
 
     /// Returns the number of the selected record, which may not exist.
-    fn chosen(self, pointer: Option<u8>, choice: RecordChoice) -> u16
-        ensures { result ≡ chosen_in self pointer choice }
+    fn chosen(&self, pointer: Option<u8>, choice: RecordChoice) -> u16
+        ensures { result ≡ chosen_in self.now pointer choice }
     {
         match choice {
             RecordChoice::Next => next_record(self.wraps, self.ring.records, pointer),
@@ -81,16 +81,16 @@ impl RecordFile {
     ///
     /// # Errors
     /// 6A83 if and only if the record doesn't exist.
-    pub fn find_chosen(self, pointer: Option<u8>, choice: RecordChoice) -> Result<RecordSlot, Sw>
-        ensures { FindsRecord self.ring (chosen_in self pointer choice) result }
+    pub fn find_chosen(&self, pointer: Option<u8>, choice: RecordChoice) -> Result<RecordSlot, Sw>
+        ensures { FindsRecord self.now.ring (chosen_in self.now pointer choice) result }
     {
         self.ring.find(self.chosen(pointer, choice))
     }
 
     /// Returns the number of the record to overwrite.
     /// In a cyclic file it is 1: the new record goes in front of record 1.
-    fn replaced(self, pointer: Option<u8>, choice: RecordChoice) -> u16
-        ensures { result ≡ number_replaced_in self pointer choice }
+    fn replaced(&self, pointer: Option<u8>, choice: RecordChoice) -> u16
+        ensures { result ≡ number_replaced_in self.now pointer choice }
     {
         if self.wraps {
             1
@@ -104,14 +104,15 @@ impl RecordFile {
     /// # Errors
     /// 6A83 if and only if the record doesn't exist; 6700 if it exists and has another length.
     pub fn find_replaced(
-        self,
+        &self,
         pointer: Option<u8>,
         choice: RecordChoice,
         bytes: &[u8],
     ) -> Result<RecordSlot, Sw>
-        ensures found { IfOk result (λ slot. (slot.ring ≡ self.ring)
-            × (slot.number ≡ number_replaced_in self pointer choice)) }
-        ensures refusal { result_err result ≡ unreplaced self (number_replaced_in self pointer choice) bytes.now }
+        ensures found { IfOk result (λ slot. (slot.ring ≡ self.now.ring)
+            × (slot.number ≡ number_replaced_in self.now pointer choice)) }
+        ensures refusal { result_err result
+            ≡ unreplaced self.now (number_replaced_in self.now pointer choice) bytes.now }
     {
         let slot = self.ring.find(self.replaced(pointer, choice))?;
         if !self.takes(bytes) {
@@ -121,9 +122,9 @@ impl RecordFile {
     }
 
     /// Returns the number that an added record gets.
-    pub fn added(self) -> u8
-        requires { self.ring.records ≤ 254 }
-        ensures { result ≡ number_added_in self }
+    pub fn added(&self) -> u8
+        requires { self.now.ring.records ≤ 254 }
+        ensures { result ≡ number_added_in self.now }
     {
         if self.wraps {
             1
@@ -133,21 +134,21 @@ impl RecordFile {
     }
 
     /// Returns true if the bytes have the length of a record.
-    fn takes(self, bytes: &[u8]) -> bool
-        ensures { result ≡ (length bytes.now == self.ring.record_length) }
+    fn takes(&self, bytes: &[u8]) -> bool
+        ensures { result ≡ (length bytes.now == self.now.ring.record_length) }
     {
         bytes.len() == usize::from(self.ring.record_length)
     }
 
     /// Returns the record pointer after the replacement of record `number`.
     pub fn pointer_replaced(
-        self,
+        &self,
         pointer: Option<u8>,
         choice: RecordChoice,
         number: u16,
     ) -> Option<u8>
         requires { number ≤ 255 }
-        ensures { result ≡ (if self.wraps then Some 1 else pointer_after pointer choice number) }
+        ensures { result ≡ (if self.now.wraps then Some 1 else pointer_after pointer choice number) }
     {
         if self.wraps {
             Some(1)
@@ -159,14 +160,14 @@ impl RecordFile {
     /// Replaces the record of a slot, in one transaction.
     /// In a cyclic file it overwrites the oldest record, and the new one becomes record 1.
     pub fn replace<B: Board>(
-        self,
+        &self,
         slot: RecordSlot,
         store: &mut Store<B>,
         bytes: &[u8],
     ) -> Result<(), StoreErr>
         requires body { TakesRecord store.old slot.ring bytes.now }
-        ensures { Commits (RingBecomes self.wraps (committed store.old) slot.ring (replaced_in
-            self.wraps (cyclic_body_records (committed store.old) slot.ring) slot.number bytes.now))
+        ensures { Commits (RingBecomes self.now.wraps (committed store.old) slot.ring (replaced_in
+            self.now.wraps (cyclic_body_records (committed store.old) slot.ring) slot.number bytes.now))
             RECORD_WRITES store.old store.new result }
     {
         if self.wraps {
@@ -180,10 +181,10 @@ impl RecordFile {
     ///
     /// # Errors
     /// 6A84 if and only if a linear file is full; 6700 if there is space, and the records have another length.
-    pub fn room_for(self, bytes: &[u8]) -> Result<Room, Sw>
-        ensures ring { IfOk result (λ room. ring_room room ≡ self.ring) }
-        ensures wraps { IfOk result (λ room. wraps_room room ≡ self.wraps) }
-        ensures refusal { result_err result ≡ unadded self bytes.now }
+    pub fn room_for(&self, bytes: &[u8]) -> Result<Room, Sw>
+        ensures ring { IfOk result (λ room. ring_room room ≡ self.now.ring) }
+        ensures wraps { IfOk result (λ room. wraps_room room ≡ self.now.wraps) }
+        ensures refusal { result_err result ≡ unadded self.now bytes.now }
     {
         let room = self.find_room()?;
         if !self.takes(bytes) {
@@ -196,10 +197,10 @@ impl RecordFile {
     ///
     /// # Errors
     /// 6A84 if and only if a linear file is full.
-    fn find_room(self) -> Result<Room, Sw>
-        ensures ring { IfOk result (λ room. ring_room room ≡ self.ring) }
-        ensures wraps { IfOk result (λ room. wraps_room room ≡ self.wraps) }
-        ensures refusal { result_err result ≡ (if is_full_in self then Some NO_ROOM else None) }
+    fn find_room(&self) -> Result<Room, Sw>
+        ensures ring { IfOk result (λ room. ring_room room ≡ self.now.ring) }
+        ensures wraps { IfOk result (λ room. wraps_room room ≡ self.now.wraps) }
+        ensures refusal { result_err result ≡ (if is_full_in self.now then Some NO_ROOM else None) }
     {
         if self.wraps {
             return Ok(Room::InFront(self.ring));

@@ -36,14 +36,14 @@ use block_store::{fill, take};
 use card_state::limits::MOST_SHORT;
 use card_state::{Fcp, FileKind, FreeSpace, ShortIdentifier, Sw};
 use file_lookup::find_short;
-use file_tree::{Entry, EntryKind, Index, blocks_for};
+use file_tree::{Entry, EntryKind, EntryNumber, Index, blocks_for};
 use undo_journal::{Board, Store, StoreErr, Txn};
 
 /// The result of a creation.
 #[derive(Clone, Copy)]
 pub enum Creation {
     /// The new file has this entry and this number of blocks.
-    Created { entry: u8, blocks: u16 },
+    Created { entry: EntryNumber, blocks: u16 },
     /// The first refusal, as a status word. Nothing was changed.
     Refused(Sw),
 }
@@ -66,7 +66,11 @@ fn low_short(identifier: u16) -> u8
 
 /// Returns the default short identifier, 0 for none. It is the low five bits of the identifier, if they are 1 to 30
 /// and no child has them.
-fn short_by_default<B: Board>(store: &mut Store<B>, df: u8, identifier: u16) -> Result<u8, StoreErr>
+fn short_by_default<B: Board>(
+    store: &mut Store<B>,
+    df: EntryNumber,
+    identifier: u16,
+) -> Result<u8, StoreErr>
     requires df { HasFile store.old df }
     ensures { Learns store.old store.new result (λ n. short_option n
         ≡ short_for (tree_of (committed store.old)) (path_of (table (committed store.old)) df) identifier Absent) }
@@ -82,7 +86,7 @@ fn short_by_default<B: Board>(store: &mut Store<B>, df: u8, identifier: u16) -> 
 }
 
 /// Returns the short identifier of a new file, 0 for none. A DF has none.
-fn short_of<B: Board>(store: &mut Store<B>, df: u8, fcp: &Fcp<'_>) -> Result<u8, StoreErr>
+fn short_of<B: Board>(store: &mut Store<B>, df: EntryNumber, fcp: &Fcp<'_>) -> Result<u8, StoreErr>
     requires df { HasFile store.old df }
     requires fcp { IsCreatable fcp.now }
     ensures { Learns store.old store.new result (λ n. short_option n
@@ -136,7 +140,7 @@ fn padded<const N: usize>(bytes: &[u8]) -> [u8; N]
 }
 
 /// Returns the entry of a new file, without its blocks.
-fn entry_for(fcp: &Fcp<'_>, parent: u8, short: u8) -> Entry
+fn entry_for(fcp: &Fcp<'_>, parent: EntryNumber, short: u8) -> Entry
     requires { IsCreatable fcp.now }
     ensures { result ≡ entry_for fcp.now parent short no_chain }
 {
@@ -147,7 +151,7 @@ fn entry_for(fcp: &Fcp<'_>, parent: u8, short: u8) -> Entry
         kind: entry_kind(&fcp.kind).to_byte(),
         life: fcp.life_cycle.to_byte(),
         identifier: fcp.identifier,
-        parent,
+        parent: parent.get(),
         short,
         name_length: name.len() as u8,
         rule_length: rule.len() as u8,
@@ -165,7 +169,7 @@ fn entry_for(fcp: &Fcp<'_>, parent: u8, short: u8) -> Entry
 /// Writes the entry of a new file, and takes its blocks, which are the first free ones.
 fn add_file<B: Board>(
     txn: &mut Txn<'_, B>,
-    e: u8,
+    e: EntryNumber,
     entry: Entry,
     blocks: u16,
     run: FreeRun,
@@ -192,7 +196,7 @@ fn add_file<B: Board>(
 /// Fills a new file's blocks, then adds it in a transaction.
 fn write_file<B: Board>(
     store: &mut Store<B>,
-    e: u8,
+    e: EntryNumber,
     entry: Entry,
     blocks: u16,
 ) -> Result<(), StoreErr>
@@ -216,7 +220,7 @@ fn find_place<B: Board>(
     store: &mut Store<B>,
     index: &Index,
     free: FreeSpace,
-    df: u8,
+    df: EntryNumber,
     fcp: &Fcp<'_>,
 ) -> Result<Place, StoreErr>
     requires { CanCreate store.old df free index.now fcp.now }
@@ -239,7 +243,7 @@ pub fn create<B: Board>(
     store: &mut Store<B>,
     index: &mut Index,
     free: FreeSpace,
-    df: u8,
+    df: EntryNumber,
     fcp: &Fcp<'_>,
 ) -> Result<Creation, StoreErr>
     requires df { HasDf store.old df }

@@ -30,7 +30,8 @@ use block_chain::{Chain, Extent};
 use block_store::give_back;
 use file_lookup::{find_end, read_entry, read_entry_head};
 use file_tree::{
-    ENTRIES_END, Entry, ExtentList, FreeSpace, Index, TABLE_ROOM, entry_address, is_within,
+    ENTRIES_END, Entry, EntryNumber, ExtentList, FreeSpace, Index, TABLE_ROOM, entry_address,
+    is_within,
 };
 use undo_journal::{Board, Store, StoreErr, Txn};
 
@@ -63,7 +64,7 @@ impl Part {
     }
 
     /// Adds an entry that goes, if one is given.
-    fn add(&mut self, e: u8, entry: Option<Entry>)
+    fn add(&mut self, e: EntryNumber, entry: Option<Entry>)
         requires { HasPlaceFor self.old e }
         ensures goes { self.new.goes ≡ (if is_some entry then slice_set self.old.goes e true else self.old.goes) }
         ensures count { self.new.count ≡ self.old.count + (if is_some entry then 1 else 0) }
@@ -72,7 +73,7 @@ impl Part {
         let Some(entry) = entry else {
             return;
         };
-        self.goes[usize::from(e)] = true;
+        self.goes[usize::from(e.get())] = true;
         self.count += 1;
         if let Some(extent) = entry.extent() {
             self.extents.push(extent);
@@ -89,9 +90,10 @@ fn read_parents<B: Board>(store: &mut Store<B>, end: u8) -> Result<[u8; 256], St
 {
     // A parent is a byte, so any entry's parent has a place here.
     let mut parents = [0; 256];
-    for e in 0..end {
+    for number in 0..end {
+        let e = EntryNumber::new(number);
         let head = read_entry_head(store, e)?;
-        parents[usize::from(e)] = head.parent;
+        parents[usize::from(number)] = head.parent;
     }
     Ok(parents)
 }
@@ -100,15 +102,16 @@ fn read_parents<B: Board>(store: &mut Store<B>, end: u8) -> Result<[u8; 256], St
 fn deleted_entry<B: Board>(
     store: &mut Store<B>,
     parents: &[u8; 256],
-    top: u8,
-    e: u8,
+    top: EntryNumber,
+    e: EntryNumber,
 ) -> Result<Option<Entry>, StoreErr>
     requires entry { HasEntry store.old e }
     requires parents { (f : ℕ) → f < 256
         → slice_index parents.now f ≡ (entry_in (table (committed store.old)) f).parent }
     ensures { Learns store.old store.new result (λ found. found ≡ entry_if_gone (table (committed store.old)) top e) }
 {
-    if !is_within(|at| parents[usize::from(at)], top, e) {
+    let parent_of = |at: EntryNumber| EntryNumber::new(parents[usize::from(at.get())]);
+    if !is_within(parent_of, top, e) {
         return Ok(None);
     }
     let entry = read_entry(store, e)?;
@@ -119,14 +122,15 @@ fn deleted_entry<B: Board>(
 }
 
 /// Returns the subtree of a file. Reads only the entries in it whole.
-fn part_of<B: Board>(store: &mut Store<B>, top: u8) -> Result<Part, StoreErr>
+fn part_of<B: Board>(store: &mut Store<B>, top: EntryNumber) -> Result<Part, StoreErr>
     requires ready { IsReady store.old }
     ensures { Learns store.old store.new result (IsPart (table (committed store.old)) top) }
 {
     let end = find_end(store)?;
     let parents = read_parents(store, end)?;
     let mut part = Part::new();
-    for e in 0..end {
+    for number in 0..end {
+        let e = EntryNumber::new(number);
         let entry = deleted_entry(store, &parents, top, e)?;
         part.add(e, entry);
     }
@@ -164,10 +168,10 @@ fn free_part<B: Board>(txn: &mut Txn<'_, B>, marks: &Marks) -> Result<(), StoreE
         → FreesEntries (current (memory_of txn.old)) part (current (memory_of txn.new))) }
     ensures store { SetsIn 64 txn.old txn.new (result_err result) }
 {
-    for e in 0..ENTRIES_END {
-        let goes = marks[usize::from(e)];
+    for number in 0..ENTRIES_END {
+        let goes = marks[usize::from(number)];
         if goes {
-            txn.set(entry_address(e), 0)?;
+            txn.set(entry_address(EntryNumber::new(number)), 0)?;
         }
     }
     Ok(())
@@ -214,7 +218,7 @@ struct Removal {
 }
 
 /// Returns all that is deleted with the file of an entry.
-fn removal_of<B: Board>(store: &mut Store<B>, e: u8) -> Result<Removal, StoreErr>
+fn removal_of<B: Board>(store: &mut Store<B>, e: EntryNumber) -> Result<Removal, StoreErr>
     requires file { HasLowerFile store.old e }
     ensures { Learns store.old store.new result (IsRemoval (committed store.old) e) }
 {
@@ -240,7 +244,7 @@ fn removal_of<B: Board>(store: &mut Store<B>, e: u8) -> Result<Removal, StoreErr
 pub fn delete<B: Board>(
     store: &mut Store<B>,
     index: &mut Index,
-    e: u8,
+    e: EntryNumber,
 ) -> Result<FreeSpace, StoreErr>
     requires file { HasLowerFile store.old e }
     requires index { IsIndex (table (committed store.old)) index.old }

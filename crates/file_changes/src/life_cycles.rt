@@ -18,7 +18,7 @@ use crate::writing::two_bytes;
 use block_chain::HEADER_PAGE;
 use card_state::{LifeCycle, LifeCycleCommand};
 use file_lookup::{is_below_barred, read_entry};
-use file_tree::{CARD_TERMINATED, Entry, STATE_WORD, entry_address};
+use file_tree::{CARD_TERMINATED, Entry, EntryNumber, STATE_WORD, entry_address};
 use undo_journal::{Board, PAGE_WORDS, Store, StoreErr};
 
 /// Returns the state after a life cycle command, `None` for a refusal. It is refused if an ancestor is deactivated or
@@ -28,7 +28,7 @@ use undo_journal::{Board, PAGE_WORDS, Store, StoreErr};
 /// The store's failure: power was lost, or the device failed.
 pub fn next_life_cycle<B: Board>(
     store: &mut Store<B>,
-    e: u8,
+    e: EntryNumber,
     entry: &Entry,
     command: LifeCycleCommand,
 ) -> Result<Option<LifeCycle>, StoreErr>
@@ -36,7 +36,7 @@ pub fn next_life_cycle<B: Board>(
     ensures { Learns store.old store.new result (λ next. next
         ≡ next_life (tree_of (committed store.old)) (path_of (table (committed store.old)) e) command) }
 {
-    let barred = is_below_barred(store, e, entry.parent)?;
+    let barred = is_below_barred(store, e, EntryNumber::new(entry.parent))?;
     if barred {
         return Ok(None);
     }
@@ -72,7 +72,7 @@ fn write_word<B: Board>(store: &mut Store<B>, at: u16, word: u32) -> Result<(), 
 /// The store's failure: power was lost, or the device failed. The file is then in its old state or in the new one.
 pub fn set_life_cycle<B: Board>(
     store: &mut Store<B>,
-    e: u8,
+    e: EntryNumber,
     state: LifeCycle,
 ) -> Result<(), StoreErr>
     requires file { HasFile store.old e }

@@ -11,13 +11,13 @@ ghost use Rattle.file_changes.specs.CreationParts.{TellsPlace};
 
 use crate::refusing::{first_free, is_deepest};
 use card_state::{Fcp, FreeSpace, Sw};
-use file_tree::blocks_for;
+use file_tree::{EntryNumber, blocks_for};
 use undo_journal::{Board, Store, StoreErr};
 
 /// The place of a new file, a free entry, or the refusal.
 #[derive(Clone, Copy)]
 pub(crate) enum Place {
-    At(u8),
+    At(EntryNumber),
     Refused(Sw),
 }
 
@@ -25,7 +25,7 @@ pub(crate) enum Place {
 pub(crate) fn place_for<B: Board>(
     store: &mut Store<B>,
     free: FreeSpace,
-    df: u8,
+    df: EntryNumber,
     fcp: &Fcp<'_>,
 ) -> Result<Place, StoreErr>
     requires df { HasFile store.old df }

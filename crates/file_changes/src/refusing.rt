@@ -14,32 +14,33 @@ ghost use Rattle.file_changes.specs.CreationParts.{TellsFreeEntry};
 
 use card_state::{Fcp, ShortIdentifier, Sw};
 use file_lookup::{find_name, find_short, read_entry_head};
-use file_tree::{DEEPEST, ENTRIES_END, Index};
+use file_tree::{DEEPEST, ENTRIES_END, EntryNumber, Index};
 use undo_journal::{Board, Store, StoreErr};
 
 /// A dedicated file is on the last level: six steps to parents do not lead to the master file.
-pub(crate) fn is_deepest<B: Board>(store: &mut Store<B>, df: u8) -> Result<bool, StoreErr>
+pub(crate) fn is_deepest<B: Board>(store: &mut Store<B>, df: EntryNumber) -> Result<bool, StoreErr>
     requires df { HasFile store.old df }
     ensures { Learns store.old store.new result (λ deepest. IsTrue deepest
         ↔ (ancestor (table (committed store.old)) 6 df ≢ 0)) }
 {
     let mut at = df;
     for _step in 1..DEEPEST {
-        if at == 0 {
+        if at.is_master() {
             return Ok(false);
         }
         let head = read_entry_head(store, at)?;
-        at = head.parent;
+        at = EntryNumber::new(head.parent);
     }
-    Ok(at != 0)
+    Ok(!at.is_master())
 }
 
 /// The first entry that no file has.
-pub(crate) fn first_free<B: Board>(store: &mut Store<B>) -> Result<Option<u8>, StoreErr>
+pub(crate) fn first_free<B: Board>(store: &mut Store<B>) -> Result<Option<EntryNumber>, StoreErr>
     requires ready { IsReady store.old }
     ensures { Learns store.old store.new result (TellsFreeEntry (table (committed store.old))) }
 {
-    for e in 0..ENTRIES_END {
+    for number in 0..ENTRIES_END {
+        let e = EntryNumber::new(number);
         let head = read_entry_head(store, e)?;
         if !head.is_used() {
             return Ok(Some(e));
@@ -51,7 +52,7 @@ pub(crate) fn first_free<B: Board>(store: &mut Store<B>) -> Result<Option<u8>, S
 /// Returns true if a child has the given short identifier.
 fn is_short_taken<B: Board>(
     store: &mut Store<B>,
-    df: u8,
+    df: EntryNumber,
     short: ShortIdentifier,
 ) -> Result<bool, StoreErr>
     requires df { HasFile store.old df }
@@ -96,7 +97,7 @@ fn first_taken(taken: TakenNames) -> Option<Sw>
 pub(crate) fn taken<B: Board>(
     store: &mut Store<B>,
     index: &Index,
-    df: u8,
+    df: EntryNumber,
     fcp: &Fcp<'_>,
 ) -> Result<Option<Sw>, StoreErr>
     requires df { HasIndexed store.old index.now df }

@@ -11,7 +11,7 @@ ghost use Rattle.file_changes.specs.Conditions.{IsNewEntry};
 ghost use Rattle.file_changes.specs.CreationParts.{WritesEntry};
 ghost use Rattle.undo_journal.specs.Rooms.{HasRoom};
 
-use file_tree::{ENTRY_WORDS, Entry, entry_address};
+use file_tree::{ENTRY_WORDS, Entry, EntryNumber, entry_address};
 use undo_journal::{Board, StoreErr, Txn};
 
 /// Returns the words that encode an entry.
@@ -72,7 +72,7 @@ fn halves(high: u16, low: u16) -> u32
 /// Writes an entry on its page, one set per word.
 pub(crate) fn write_entry<B: Board>(
     txn: &mut Txn<'_, B>,
-    e: u8,
+    e: EntryNumber,
     entry: Entry,
 ) -> Result<(), StoreErr>
     requires room { HasRoom (memory_of txn.old) 11 }

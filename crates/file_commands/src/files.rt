@@ -26,7 +26,7 @@ use command_base::{Current, Findings, Stop, TargetFile, allows};
 use fcp_template::parse;
 use file_changes::{Creation, create, delete};
 use file_lookup::{is_barred_at, read_entry, select};
-use file_tree::{FreeSpace, Index};
+use file_tree::{EntryNumber, FreeSpace, Index};
 use undo_journal::{Board, Store, StoreErr};
 
 /// CREATE FILE: adds a file to the current dedicated file.
@@ -58,7 +58,7 @@ pub fn create_file<B: Board>(
 }
 
 /// Returns the session after the new file of entry `number` became current. Its parent is the current dedicated file.
-fn current_at(current: Current, number: u8, kind: &FileKind<'_>) -> Current
+fn current_at(current: Current, number: EntryNumber, kind: &FileKind<'_>) -> Current
     ensures { result ≡ current_by current number (kind_number kind.now) current.df }
 {
     let (df, ef) = match kind {
@@ -140,7 +140,7 @@ pub fn delete_file<B: Board>(
         entries: free.entries + freed.entries,
     };
     *current = Current {
-        df: file.entry.parent,
+        df: EntryNumber::new(file.entry.parent),
         ef: None,
         pointer: None,
         ..*current
@@ -168,7 +168,7 @@ fn find_deletable<B: Board>(
     let Some(number) = find_subject(store, index, current, Some(own), subject)? else {
         return Err(Stop::Refused(Sw::FILE_NOT_FOUND));
     };
-    if number == 0 {
+    if number.is_master() {
         return Err(Stop::Refused(Sw::CONDITIONS_NOT_SATISFIED));
     }
     let entry = read_entry(store, number)?;
@@ -193,11 +193,9 @@ fn check_deletion<B: Board>(
         DeleteSelf || allowed (card_in store.old) (session_in store.old current.now)
         (path_of (table_in store.old) file.now.entry.parent) DeleteChild)) result }
 {
-    let entry = read_entry(store, file.entry.parent)?;
-    let parent = TargetFile {
-        number: file.entry.parent,
-        entry,
-    };
+    let number = EntryNumber::new(file.entry.parent);
+    let entry = read_entry(store, number)?;
+    let parent = TargetFile { number, entry };
     let barred = is_barred_at(store, parent.number, &parent.entry)?;
     let own = allows(store, current, file, AccessBit::DeleteSelf)?;
     let by_parent = allows(store, current, &parent, AccessBit::DeleteChild)?;
@@ -217,9 +215,9 @@ pub(crate) fn find_subject<B: Board>(
     store: &mut Store<B>,
     index: &Index,
     current: &Current,
-    own: Option<u8>,
+    own: Option<EntryNumber>,
     subject: Subject,
-) -> Result<Option<u8>, StoreErr>
+) -> Result<Option<EntryNumber>, StoreErr>
     requires card { IsIndexed store.old current.now index.now }
     requires own { IfSome own (IsUsed (table_in store.old)) }
     ensures found { Learns store.old store.new result (λ found. subject_or

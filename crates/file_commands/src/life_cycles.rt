@@ -18,13 +18,13 @@ use card_state::{AccessBit, LifeCycle, LifeCycleCommand};
 use command_base::{Current, Stop, TargetFile, allows};
 use file_changes::{next_life_cycle, set_life_cycle, terminate_card};
 use file_lookup::read_entry;
-use file_tree::{Entry, EntryKind, Index};
+use file_tree::{Entry, EntryKind, EntryNumber, Index};
 use undo_journal::{Board, Store};
 
 /// A change of a file's life cycle: entry, and new state.
 #[derive(Clone, Copy)]
 pub(crate) struct Changed {
-    pub number: u8,
+    pub number: EntryNumber,
     pub entry: Entry,
     pub life: LifeCycle,
 }
@@ -55,8 +55,9 @@ pub fn terminate_card_usage<B: Board>(store: &mut Store<B>, current: &Current) -
     requires kept { IsKept store.old current.now }
     ensures { Executes (terminating) store.old current.now store.new current.now [] (reply result) }
 {
-    let entry = read_entry(store, 0)?;
-    let master = TargetFile { number: 0, entry };
+    let number = EntryNumber::master();
+    let entry = read_entry(store, number)?;
+    let master = TargetFile { number, entry };
     if !allows(store, current, &master, AccessBit::Terminate)? {
         return Err(Stop::Refused(Sw::ACCESS_DENIED));
     }
@@ -95,7 +96,7 @@ fn read_change<B: Board>(
     store: &mut Store<B>,
     current: &Current,
     change: LifeCycleChange,
-    number: u8,
+    number: EntryNumber,
 ) -> Result<Changed, Stop>
     requires kept { IsKept store.old current.now }
     requires used { IsUsed (table_in store.old) number }
@@ -114,7 +115,7 @@ fn read_change<B: Board>(
 /// The refusals in order: no state transition, the wrong kind of file, a rule that forbids it.
 fn changed_by(
     change: LifeCycleChange,
-    number: u8,
+    number: EntryNumber,
     entry: Entry,
     next: Option<LifeCycle>,
     allowed: bool,
@@ -138,7 +139,7 @@ fn changed_by(
 }
 
 /// Returns the entry of the file that a command without data changes.
-fn current_changed(current: &Current, change: LifeCycleChange) -> Option<u8>
+fn current_changed(current: &Current, change: LifeCycleChange) -> Option<EntryNumber>
     ensures { result ≡ current_changed current.now change }
 {
     match change {

@@ -12,7 +12,7 @@ ghost use Rattle.file_lookup.specs.StoredFiles.{HasFile, HasStoredEntry};
 
 use crate::reading::read_entry_head;
 use card_state::{AccessBit, LifeCycle, PinSet, allows};
-use file_tree::{DEEPEST, Entry};
+use file_tree::{DEEPEST, Entry, EntryNumber};
 use undo_journal::{Board, Store, StoreErr};
 
 /// Returns true if this state bars a file and its descendants.
@@ -24,7 +24,11 @@ fn bars(life: LifeCycle) -> bool
 
 /// Returns true if an ancestor is deactivated or terminated. At most seven steps to parents meet all ancestors. Each
 /// step reads the head of one entry, and the first file that bars ends the walk. `parent` is the parent in entry `e`.
-pub fn is_below_barred<B: Board>(store: &mut Store<B>, e: u8, parent: u8) -> Result<bool, StoreErr>
+pub fn is_below_barred<B: Board>(
+    store: &mut Store<B>,
+    e: EntryNumber,
+    parent: EntryNumber,
+) -> Result<bool, StoreErr>
     requires file { HasFile store.old e }
     requires parent { parent ≡ (entry_in (table (committed store.old)) e).parent }
     ensures { Learns store.old store.new result (λ barred. barred ≡ barred_up (table (committed store.old)) 7 e) }
@@ -32,7 +36,7 @@ pub fn is_below_barred<B: Board>(store: &mut Store<B>, e: u8, parent: u8) -> Res
     let mut at = e;
     let mut above = parent;
     for _step in 0..DEEPEST {
-        if at == 0 {
+        if at.is_master() {
             return Ok(false);
         }
         let head = read_entry_head(store, above)?;
@@ -40,7 +44,7 @@ pub fn is_below_barred<B: Board>(store: &mut Store<B>, e: u8, parent: u8) -> Res
             return Ok(true);
         }
         at = above;
-        above = head.parent;
+        above = EntryNumber::new(head.parent);
     }
     Ok(false)
 }
@@ -50,7 +54,11 @@ pub fn is_below_barred<B: Board>(store: &mut Store<B>, e: u8, parent: u8) -> Res
 ///
 /// # Errors
 /// The store's failure: power was lost, or the device failed.
-pub fn is_barred_at<B: Board>(store: &mut Store<B>, e: u8, entry: &Entry) -> Result<bool, StoreErr>
+pub fn is_barred_at<B: Board>(
+    store: &mut Store<B>,
+    e: EntryNumber,
+    entry: &Entry,
+) -> Result<bool, StoreErr>
     requires entry { HasStoredEntry store.old e entry.now }
     ensures { Learns store.old store.new result (λ barred. barred
         ≡ is_barred (tree_of (committed store.old)) (path_of (table (committed store.old)) e)) }
@@ -58,7 +66,7 @@ pub fn is_barred_at<B: Board>(store: &mut Store<B>, e: u8, entry: &Entry) -> Res
     if bars(entry.life_cycle()) {
         return Ok(true);
     }
-    is_below_barred(store, e, entry.parent)
+    is_below_barred(store, e, EntryNumber::new(entry.parent))
 }
 
 /// Returns true if the entry's access rule allows the operation. `verified` and `disabled` are the PINs in these

@@ -15,22 +15,27 @@ ghost use Rattle.file_lookup.specs.StoredFiles.{HasFile, HasIndexed};
 
 use crate::reading::{read_entry, read_entry_head};
 use card_state::identifiers::MASTER_FILE;
-use file_tree::{ENTRIES_END, EntryHead, EntryKind, Index, Reached};
+use file_tree::{ENTRIES_END, EntryHead, EntryKind, EntryNumber, Index, Reached};
 use undo_journal::{Board, Store, StoreErr};
 
 /// An entry is that of the child of a dedicated file with this short identifier. Its head tells.
-fn is_child(head: EntryHead, df: u8, short: u8) -> bool
+fn is_child(head: EntryHead, df: EntryNumber, short: u8) -> bool
     ensures { IsTrue result ↔ ((head.kind ≢ kind_byte Free) × (head.parent ≡ df) × (head.short ≡ short)) }
 {
-    head.is_used() && head.parent == df && head.short == short
+    head.is_used() && head.parent == df.get() && head.short == short
 }
 
 /// Returns the entry of a DF's child by short identifier, if any.
-fn first_child<B: Board>(store: &mut Store<B>, df: u8, short: u8) -> Result<Reached, StoreErr>
+fn first_child<B: Board>(
+    store: &mut Store<B>,
+    df: EntryNumber,
+    short: u8,
+) -> Result<Reached, StoreErr>
     requires ready { IsReady store.old }
     ensures { Learns store.old store.new result (TellsShort (table (committed store.old)) df short) }
 {
-    for e in 1..ENTRIES_END {
+    for number in 1..ENTRIES_END {
+        let e = EntryNumber::new(number);
         let head = read_entry_head(store, e)?;
         if is_child(head, df, short) {
             return Ok(Some(e));
@@ -43,7 +48,11 @@ fn first_child<B: Board>(store: &mut Store<B>, df: u8, short: u8) -> Result<Reac
 ///
 /// # Errors
 /// The store's failure: power was lost, or the device failed.
-pub fn find_short<B: Board>(store: &mut Store<B>, df: u8, short: u8) -> Result<Reached, StoreErr>
+pub fn find_short<B: Board>(
+    store: &mut Store<B>,
+    df: EntryNumber,
+    short: u8,
+) -> Result<Reached, StoreErr>
     requires df { HasFile store.old df }
     requires some { 1 ≤ short }
     ensures found { IfOk result (λ found. option_map (path_of (table (committed store.old))) found
@@ -60,13 +69,13 @@ pub fn find_short<B: Board>(store: &mut Store<B>, df: u8, short: u8) -> Result<R
 fn find_beside<B: Board>(
     store: &mut Store<B>,
     index: &Index,
-    df: u8,
+    df: EntryNumber,
     identifier: u16,
 ) -> Result<Reached, StoreErr>
     requires df { HasIndexed store.old index.now df }
     ensures { Learns store.old store.new result (TellsBeside (table (committed store.old)) df identifier) }
 {
-    if df == 0 {
+    if df.is_master() {
         return Ok(None);
     }
     let Some(beside) = index.child(index.parent(df), identifier) else {
@@ -77,11 +86,11 @@ fn find_beside<B: Board>(
 }
 
 /// Returns true if a used entry's file has this identifier. It is looked up among the children of its parent.
-fn has_identifier(index: &Index, e: u8, identifier: u16) -> bool
+fn has_identifier(index: &Index, e: EntryNumber, identifier: u16) -> bool
     ensures { (m : List ℕ) → IsTable (table m) → IsUsed (table m) e → IsIndex (table m) index.now
         → result ≡ ((entry_in (table m) e).identifier == identifier) }
 {
-    if e == 0 {
+    if e.is_master() {
         return identifier == MASTER_FILE;
     }
     match index.child(index.parent(e), identifier) {
@@ -91,17 +100,18 @@ fn has_identifier(index: &Index, e: u8, identifier: u16) -> bool
 }
 
 /// Returns the first of parent, DF and MF with this identifier.
-fn find_above(index: &Index, df: u8, identifier: u16) -> Reached
+fn find_above(index: &Index, df: EntryNumber, identifier: u16) -> Reached
     ensures { (m : List ℕ) → IsTable (table m) → IsUsed (table m) df → IsIndex (table m) index.now
         → TellsAbove (table m) df identifier result }
 {
     let parent = index.parent(df);
+    let master = EntryNumber::master();
     if has_identifier(index, parent, identifier) {
         Some(parent)
     } else if has_identifier(index, df, identifier) {
         Some(df)
-    } else if has_identifier(index, 0, identifier) {
-        Some(0)
+    } else if has_identifier(index, master, identifier) {
+        Some(master)
     } else {
         None
     }
@@ -115,7 +125,7 @@ fn find_above(index: &Index, df: u8, identifier: u16) -> Reached
 pub fn select<B: Board>(
     store: &mut Store<B>,
     index: &Index,
-    df: u8,
+    df: EntryNumber,
     identifier: u16,
 ) -> Result<Reached, StoreErr>
     requires df { HasIndexed store.old index.now df }

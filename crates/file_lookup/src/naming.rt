@@ -14,7 +14,7 @@ ghost use Rattle.file_lookup.specs.StoredFiles.{HasFile, HasTree, HasEntry};
 
 use crate::reading::{read_entry, read_entry_head};
 use card_state::limits::MOST_NAME_BYTES;
-use file_tree::{ENTRIES_END, Entry, EntryHead, EntryKind, Index, Reached};
+use file_tree::{ENTRIES_END, Entry, EntryHead, EntryKind, EntryNumber, Index, Reached};
 use undo_journal::{Board, Store, StoreErr};
 
 /// Returns true for the entry of a DF with this name.
@@ -32,7 +32,11 @@ fn is_as_long(head: EntryHead, name: &[u8]) -> bool
 }
 
 /// An entry is a dedicated file's with this name. The whole entry is read only where its head tells as long a name.
-fn bears_name_at<B: Board>(store: &mut Store<B>, e: u8, name: &[u8]) -> Result<bool, StoreErr>
+fn bears_name_at<B: Board>(
+    store: &mut Store<B>,
+    e: EntryNumber,
+    name: &[u8],
+) -> Result<bool, StoreErr>
     requires { HasEntry store.old e }
     ensures { Learns store.old store.new result (λ bears. IsTrue bears
         ↔ BearsNameAt (table (committed store.old)) name.now e) }
@@ -53,7 +57,8 @@ fn first_named<B: Board>(store: &mut Store<B>, name: &[u8]) -> Result<Reached, S
     if name.is_empty() {
         return Ok(None);
     }
-    for e in 0..ENTRIES_END {
+    for number in 0..ENTRIES_END {
+        let e = EntryNumber::new(number);
         let bears = bears_name_at(store, e, name)?;
         if bears {
             return Ok(Some(e));
@@ -77,27 +82,27 @@ pub fn find_name<B: Board>(store: &mut Store<B>, name: &[u8]) -> Result<Reached,
     first_named(store, name)
 }
 
-/// Returns the parent of a DF. The MF (entry 0) has none.
+/// Returns the parent of a DF. The MF has none.
 ///
 /// # Errors
 /// The store's failure: power was lost, or the device failed.
-pub fn find_parent<B: Board>(store: &mut Store<B>, df: u8) -> Result<Reached, StoreErr>
+pub fn find_parent<B: Board>(store: &mut Store<B>, df: EntryNumber) -> Result<Reached, StoreErr>
     requires df { HasFile store.old df }
     ensures found { IfOk result (λ found. option_map (path_of (table (committed store.old))) found
         ≡ selected (tree_of (committed store.old)) (path_of (table (committed store.old)) df) the_parent) }
     ensures used { IfOk result (λ found. IfSome found (IsUsed (table (committed store.old)))) }
     ensures store { Reads store.old store.new (result_err result) }
 {
-    if df == 0 {
+    if df.is_master() {
         return Ok(None);
     }
     let entry = read_entry(store, df)?;
-    Ok(Some(entry.parent))
+    Ok(Some(EntryNumber::new(entry.parent)))
 }
 
 /// Returns the entry at the end of a path from a file. Each identifier is that of a child of the file before. The
 /// empty path leads to the file itself. No path leads through an EF.
-pub fn find_path(index: &Index, df: u8, path: &[u16]) -> Reached
+pub fn find_path(index: &Index, df: EntryNumber, path: &[u16]) -> Reached
     ensures found { (m : List ℕ) → TreeStands m → IsUsed (table m) df → IsIndex (table m) index.now
         → option_map (path_of (table m)) result
         ≡ selected (tree_of m) (path_of (table m) df) (path_from_current path.now) }
@@ -120,5 +125,5 @@ pub fn find_path_from_master(index: &Index, path: &[u16]) -> Reached
         → option_map (path_of (table m)) result ≡ selected (tree_of m) df (path_from_master path.now) }
     ensures used { (m : List ℕ) → TreeStands m → IsIndex (table m) index.now → IfSome result (IsUsed (table m)) }
 {
-    find_path(index, 0, path)
+    find_path(index, EntryNumber::master(), path)
 }

@@ -12,11 +12,14 @@ ghost use Rattle.file_tree.specs.declared.layout.TheConstants.{FIRST_ENTRY_PAGE}
 ghost use Rattle.file_lookup.specs.StoredFiles.{HasEntry};
 
 use arrayvec::ArrayVec;
-use file_tree::{ENTRIES_END, ENTRY_WORDS, Entry, EntryHead, entry_address};
+use file_tree::{ENTRIES_END, ENTRY_WORDS, Entry, EntryHead, EntryNumber, entry_address};
 use undo_journal::{Board, Store, StoreErr};
 
 /// Returns the words of an entry, each read once.
-fn read_words<B: Board>(store: &mut Store<B>, e: u8) -> Result<[u32; ENTRY_WORDS], StoreErr>
+fn read_words<B: Board>(
+    store: &mut Store<B>,
+    e: EntryNumber,
+) -> Result<[u32; ENTRY_WORDS], StoreErr>
     requires { HasEntry store.old e }
     ensures words { IfOk result (λ words. (k : ℕ) → k < 11
         → slice_index words k ≡ word (committed store.old) (1 + e) k) }
@@ -35,7 +38,7 @@ fn read_words<B: Board>(store: &mut Store<B>, e: u8) -> Result<[u32; ENTRY_WORDS
 /// # Errors
 /// The store's failure: power was lost, or the device failed.
 #[inline(never)]
-pub fn read_entry<B: Board>(store: &mut Store<B>, e: u8) -> Result<Entry, StoreErr>
+pub fn read_entry<B: Board>(store: &mut Store<B>, e: EntryNumber) -> Result<Entry, StoreErr>
     requires { HasEntry store.old e }
     ensures entry { IfOk result (λ entry. entry ≡ entry_in (table (committed store.old)) e) }
     ensures store { Reads store.old store.new (result_err result) }
@@ -45,7 +48,7 @@ pub fn read_entry<B: Board>(store: &mut Store<B>, e: u8) -> Result<Entry, StoreE
 }
 
 /// Returns an entry by its number. Of a free entry it reads only the first word.
-fn read_used<B: Board>(store: &mut Store<B>, e: u8) -> Result<Entry, StoreErr>
+fn read_used<B: Board>(store: &mut Store<B>, e: EntryNumber) -> Result<Entry, StoreErr>
     requires { HasEntry store.old e }
     ensures entry { IfOk result (λ entry. entry ≡ entry_in (table (committed store.old)) e) }
     ensures store { Reads store.old store.new (result_err result) }
@@ -70,7 +73,7 @@ pub fn find_end<B: Board>(store: &mut Store<B>) -> Result<u8, StoreErr>
 {
     let mut end = ENTRIES_END;
     while end > 1 {
-        let first = store.read_committed(entry_address(end - 1))?;
+        let first = store.read_committed(entry_address(EntryNumber::new(end - 1)))?;
         if first != 0 {
             return Ok(end);
         }
@@ -93,8 +96,8 @@ pub fn fill_table<B: Board, const N: usize>(
     ensures table { OnOk result (entries.new.items ≡ take end (table (committed store.old))) }
     ensures store { Reads store.old store.new (result_err result) }
 {
-    for e in 0..end {
-        entries.push(read_used(store, e)?);
+    for number in 0..end {
+        entries.push(read_used(store, EntryNumber::new(number))?);
     }
     Ok(())
 }
@@ -103,7 +106,10 @@ pub fn fill_table<B: Board, const N: usize>(
 ///
 /// # Errors
 /// The store's failure: power was lost, or the device failed.
-pub fn read_entry_head<B: Board>(store: &mut Store<B>, e: u8) -> Result<EntryHead, StoreErr>
+pub fn read_entry_head<B: Board>(
+    store: &mut Store<B>,
+    e: EntryNumber,
+) -> Result<EntryHead, StoreErr>
     requires { HasEntry store.old e }
     ensures head { IfOk result (λ head. head ≡ head_of (entry_in (table (committed store.old)) e)) }
     ensures store { Reads store.old store.new (result_err result) }

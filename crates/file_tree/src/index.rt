@@ -12,12 +12,13 @@ ghost use Rattle.file_tree.specs.Indexes.{child_by_identifier};
 ghost use Rattle.file_tree.specs.IndexParts.{TellsPut, parent_by, is_outside};
 
 use crate::entry::Entry;
+use crate::entry_number::EntryNumber;
 use crate::parents::is_within;
 use crate::steps::{Key, Place, Steps, is_behind, search};
 use arrayvec::ArrayVec;
 
 /// The result of a lookup: the entry's number, or `None`.
-pub type Reached = Option<u8>;
+pub type Reached = Option<EntryNumber>;
 
 /// The greatest number of places: one per entry but the MF's.
 const MOST_PLACES: usize = 63;
@@ -32,7 +33,7 @@ pub struct Index {
 }
 
 /// Returns the parent of an entry's file, for the MF its own.
-fn parent_of(places: &[Place], entry: u8) -> u8
+fn parent_of(places: &[Place], entry: EntryNumber) -> EntryNumber
     ensures { result ≡ parent_by places.now entry }
 {
     for place in places {
@@ -40,7 +41,7 @@ fn parent_of(places: &[Place], entry: u8) -> u8
             return place.key.parent();
         }
     }
-    0
+    EntryNumber::master()
 }
 
 /// The parent of each entry by its place, so that a step to a parent is no search among the places.
@@ -53,20 +54,21 @@ fn parents_of(places: &[Place]) -> [u8; 256]
     while left > 0 {
         left -= 1;
         let place = &places[left];
-        parents[usize::from(place.entry)] = place.key.parent();
+        parents[usize::from(place.entry.get())] = place.key.parent().get();
     }
     parents
 }
 
 /// The places of all files but that of an entry and those below it.
-fn places_outside(places: &[Place], top: u8) -> PlaceList
+fn places_outside(places: &[Place], top: EntryNumber) -> PlaceList
     requires { length places.now ≤ 63 }
     ensures { result.items ≡ filter (is_outside places.now top) places.now }
 {
     let parents = parents_of(places);
     let mut outside = PlaceList::new();
     for place in places {
-        if !is_within(|e| parents[usize::from(e)], top, place.entry) {
+        let parent_of = |e: EntryNumber| EntryNumber::new(parents[usize::from(e.get())]);
+        if !is_within(parent_of, top, place.entry) {
             outside.push(*place);
         }
     }
@@ -94,8 +96,8 @@ impl Index {
             let entry = &entries[e];
             if entry.is_used() {
                 let place = Place {
-                    key: Key::new(entry.parent, entry.identifier),
-                    entry: e as u8,
+                    key: Key::new(EntryNumber::new(entry.parent), entry.identifier),
+                    entry: EntryNumber::new(e as u8),
                 };
                 if !self.put(place) {
                     return false;
@@ -106,7 +108,7 @@ impl Index {
     }
 
     /// Returns the child of a DF by identifier, with the comparisons made. The child is an entry number, or `None`.
-    pub fn find(&self, parent: u8, identifier: u16) -> (Reached, Steps)
+    pub fn find(&self, parent: EntryNumber, identifier: u16) -> (Reached, Steps)
         ensures found { (m : List ℕ) → IsIndex (table m) self.now → TellsChild (table m) parent identifier result.0 }
         ensures path { (m : List ℕ) → TreeStands m → IsUsed (table m) parent → IsIndex (table m) self.now
             → option_map (path_of (table m)) result.0
@@ -114,7 +116,7 @@ impl Index {
         ensures steps { result.1 ≤ 6 }
     {
         let places = self.places.as_slice();
-        let (found, steps) = search(places, Key::new(parent, identifier));
+        let (found, steps) = search(places, &Key::new(parent, identifier));
         match found {
             Ok(at) => (Some(places[at].entry), steps),
             Err(_) => (None, steps),
@@ -122,7 +124,7 @@ impl Index {
     }
 
     /// Returns the entry of a DF's child by identifier, if any.
-    pub fn child(&self, parent: u8, identifier: u16) -> Reached
+    pub fn child(&self, parent: EntryNumber, identifier: u16) -> Reached
         ensures { (m : List ℕ) → IsIndex (table m) self.now → TellsChild (table m) parent identifier result }
     {
         let (child, _) = self.find(parent, identifier);
@@ -130,7 +132,7 @@ impl Index {
     }
 
     /// Returns the parent of a used entry, for the MF its own.
-    pub fn parent(&self, entry: u8) -> u8
+    pub fn parent(&self, entry: EntryNumber) -> EntryNumber
         ensures { (m : List ℕ) → IsTable (table m) → IsUsed (table m) entry → IsIndex (table m) self.now
             → result ≡ (entry_in (table m) entry).parent }
     {
@@ -143,11 +145,11 @@ impl Index {
         requires { length self.old.places.items < 63 }
         ensures { AreSorted self.old.places.items → TellsPut self.old.places.items place self.new.places.items result }
     {
-        if is_behind(self.places.as_slice(), place.key) {
+        if is_behind(self.places.as_slice(), &place.key) {
             self.places.push(place);
             return true;
         }
-        let (found, _) = search(self.places.as_slice(), place.key);
+        let (found, _) = search(self.places.as_slice(), &place.key);
         match found {
             Ok(_) => false,
             Err(at) => {
@@ -158,7 +160,7 @@ impl Index {
     }
 
     /// Adds a created file. It has this entry, and this identifier below its parent.
-    pub fn with(&mut self, parent: u8, identifier: u16, entry: u8)
+    pub fn with(&mut self, parent: EntryNumber, identifier: u16, entry: EntryNumber)
         requires free { IsFreeIn self.old entry }
         ensures added { (t after : List Entry) → IsTable after
             → AddsEntry t parent identifier entry after → IsIndex t self.old
@@ -172,7 +174,7 @@ impl Index {
     }
 
     /// Removes a deleted file and all files below it.
-    pub fn without(&mut self, entry: u8)
+    pub fn without(&mut self, entry: EntryNumber)
         ensures deleted { (m after : List ℕ) → TreeStands m → 0 < entry → IsUsed (table m) entry → Deletes m entry after
             → IsIndex (table m) self.old → IsIndex (table after) self.new }
     {

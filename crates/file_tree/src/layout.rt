@@ -4,6 +4,7 @@ ghost use Rattle.std.specs.Prelude.{◌≡◌, ◌+◌};
 ghost use Rattle.nvm_board.specs.Facts.{address};
 ghost use Rattle.file_tree.specs.declared.layout.TheConstants.{FIRST_ENTRY_PAGE};
 
+use crate::entry_number::EntryNumber;
 use block_chain::BLOCK_BYTES;
 pub use card_state::limits::ENTRIES;
 use card_state::limits::MOST_BYTES;
@@ -65,8 +66,8 @@ pub const STATE_WORD: u16 = 2;
 pub const CARD_TERMINATED: u32 = 1;
 
 /// Returns the address of the first word of an entry.
-pub fn entry_address(e: u8) -> u16
+pub fn entry_address(e: EntryNumber) -> u16
     ensures { result ≡ address (FIRST_ENTRY_PAGE + e) 0 }
 {
-    PAGE_WORDS * (FIRST_ENTRY_PAGE + u16::from(e))
+    PAGE_WORDS * (FIRST_ENTRY_PAGE + u16::from(e.get()))
 }

@@ -3,6 +3,7 @@
 #![tactic(auto)]
 
 mod entry;
+mod entry_number;
 mod index;
 pub mod index_laws;
 mod kinds;
@@ -14,6 +15,7 @@ mod steps;
 
 pub use card_state::FreeSpace;
 pub use entry::{Entry, EntryHead, ExtentList, TABLE_ROOM, Table};
+pub use entry_number::EntryNumber;
 pub use index::{Index, Reached};
 pub use kinds::EntryKind;
 pub use layout::{

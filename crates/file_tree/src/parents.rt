@@ -3,10 +3,15 @@
 ghost use Rattle.std.specs.Prelude.{◌≡◌, ℕ};
 ghost use Rattle.file_tree.specs.Subtrees.{leads, TellsParents};
 
+use crate::entry_number::EntryNumber;
 use crate::layout::DEEPEST;
 
 /// Returns true if entry `e` is `top` or below it. At most seven steps to parents lead there.
-pub fn is_within<F: Fn(u8) -> u8>(parent_of: F, top: u8, e: u8) -> bool
+pub fn is_within<F: Fn(EntryNumber) -> EntryNumber>(
+    parent_of: F,
+    top: EntryNumber,
+    e: EntryNumber,
+) -> bool
     requires { F.IsAlwaysCallable parent_of }
     ensures { (parent : ℕ → ℕ) → TellsParents (F.post parent_of) parent → result ≡ leads parent 7 top e }
 {

@@ -8,6 +8,7 @@ ghost use Rattle.file_tree.specs.Keys.{key_for, IsBefore};
 ghost use Rattle.file_tree.specs.Indexes.{AreSorted};
 ghost use Rattle.file_tree.specs.IndexParts.{TellsSearch};
 
+use crate::entry_number::EntryNumber;
 use std::cmp::Ordering;
 use std::marker::Model;
 
@@ -15,21 +16,21 @@ use std::marker::Model;
 /// compares keys.
 #[derive(Clone, Copy, Default)]
 pub(crate) struct Key {
-    parent: u8,
+    parent: EntryNumber,
     identifier: u16,
 }
 
 impl Key {
     /// Returns the key of a file by its parent and its identifier.
-    pub(crate) fn new(parent: u8, identifier: u16) -> Key
+    pub(crate) fn new(parent: EntryNumber, identifier: u16) -> Key
         ensures { result ≡ key_for parent identifier }
     {
         Key { parent, identifier }
     }
 
     /// Returns the entry of the parent.
-    pub(crate) fn parent(self) -> u8
-        ensures { result ≡ self.parent }
+    pub(crate) fn parent(&self) -> EntryNumber
+        ensures { result ≡ self.now.parent }
     {
         self.parent
     }
@@ -39,7 +40,7 @@ impl Key {
 #[derive(Clone, Copy, Default)]
 pub(crate) struct Place {
     pub(crate) key: Key,
-    pub(crate) entry: u8,
+    pub(crate) entry: EntryNumber,
 }
 
 /// The number of key comparisons of a search.
@@ -75,13 +76,14 @@ impl Steps {
     }
 
     /// Compares and counts two keys. The parents come first, then the identifiers.
-    fn compare(&mut self, one: Key, other: Key) -> Ordering
+    fn compare(&mut self, one: &Key, other: &Key) -> Ordering
         requires { self.old < 255 }
-        ensures order { MatchOrdering result (IsBefore one other) (one ≡ other) (IsBefore other one) }
+        ensures order { MatchOrdering result (IsBefore one.now other.now) (one.now ≡ other.now)
+            (IsBefore other.now one.now) }
         ensures counted { self.new ≡ self.old + 1 }
     {
         self.count += 1;
-        match one.parent.cmp(&other.parent) {
+        match one.parent.get().cmp(&other.parent.get()) {
             Ordering::Less => Ordering::Less,
             Ordering::Equal => one.identifier.cmp(&other.identifier),
             Ordering::Greater => Ordering::Greater,
@@ -91,10 +93,10 @@ impl Steps {
 
 /// Searches a key among places in ascending order, by bisection. It returns the index of the key, or else the one
 /// where it belongs, and the comparisons made.
-pub(crate) fn search(places: &[Place], key: Key) -> (Result<usize, usize>, Steps)
+pub(crate) fn search(places: &[Place], key: &Key) -> (Result<usize, usize>, Steps)
     requires few { length places.now ≤ 63 }
     ensures within { IsSearchInRange result.0 (length places.now) }
-    ensures found { AreSorted places.now → TellsSearch places.now key result.0 }
+    ensures found { AreSorted places.now → TellsSearch places.now key.now result.0 }
     ensures steps { result.1 ≤ 6 }
 {
     let mut steps = Steps::new();
@@ -102,7 +104,7 @@ pub(crate) fn search(places: &[Place], key: Key) -> (Result<usize, usize>, Steps
     let mut high = places.len();
     while low < high {
         let middle = low + (high - low) / 2;
-        match steps.compare(places[middle].key, key) {
+        match steps.compare(&places[middle].key, key) {
             Ordering::Less => low = middle + 1,
             Ordering::Equal => return (Ok(middle), steps),
             Ordering::Greater => high = middle,
@@ -112,15 +114,15 @@ pub(crate) fn search(places: &[Place], key: Key) -> (Result<usize, usize>, Steps
 }
 
 /// Returns true if a key is greater than those of all places.
-pub(crate) fn is_behind(places: &[Place], key: Key) -> bool
-    ensures { AreSorted places.now → (IsTrue result ↔ All (λ place. IsBefore place.key key) places.now) }
+pub(crate) fn is_behind(places: &[Place], key: &Key) -> bool
+    ensures { AreSorted places.now → (IsTrue result ↔ All (λ place. IsBefore place.key key.now) places.now) }
 {
     let end = places.len();
     if end == 0 {
         return true;
     }
     let mut steps = Steps::new();
-    match steps.compare(places[end - 1].key, key) {
+    match steps.compare(&places[end - 1].key, key) {
         Ordering::Less => true,
         Ordering::Equal | Ordering::Greater => false,
     }

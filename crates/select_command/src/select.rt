@@ -21,7 +21,7 @@ use command_base::{Current, Stop, asks_less, give, right_length};
 use file_lookup::{
     find_name, find_parent, find_path, find_path_from_master, read_entry, read_entry_head, select,
 };
-use file_tree::{Entry, Index};
+use file_tree::{Entry, EntryNumber, Index, Reached};
 use undo_journal::{Board, Store, StoreErr};
 
 /// The most identifiers of a path.
@@ -44,7 +44,7 @@ pub fn select_file<B: Board>(
         current.new answer.new.items (reply result) }
 {
     answer.clear();
-    let Some(e) = find_selected(store, index, *current, selector)? else {
+    let Some(e) = find_selected(store, index, current, selector)? else {
         return Err(Stop::Refused(Sw::FILE_NOT_FOUND));
     };
     let head = read_entry_head(store, e)?;
@@ -57,18 +57,18 @@ pub fn select_file<B: Board>(
 fn find_selected<B: Board>(
     store: &mut Store<B>,
     index: &Index,
-    current: Current,
+    current: &Current,
     selector: Selector<'_>,
-) -> Result<Option<u8>, StoreErr>
-    requires card { IsIndexed store.old current index.now }
+) -> Result<Reached, StoreErr>
+    requires card { IsIndexed store.old current.now index.now }
     requires selector { IsSelector selector }
     ensures found { Learns store.old store.new result (λ found. selected_from (card_in store.old).tree
-        (session_in store.old current).current_df (selection_of selector.entry)
+        (session_in store.old current.now).current_df (selection_of selector.entry)
         ≡ option_map (path_of (table_in store.old)) found) }
     ensures used { IfOk result (λ found. IfSome found (IsUsed (table_in store.old))) }
 {
     match selector {
-        Selector::MasterFile => Ok(Some(0)),
+        Selector::MasterFile => Ok(Some(EntryNumber::master())),
         Selector::Identifier(identifier) => select(store, index, current.df, identifier),
         Selector::Parent => find_parent(store, current.df),
         Selector::Name(name) => find_name(store, name),
@@ -97,7 +97,7 @@ fn identifiers_of(path: FilePath<'_>) -> ArrayVec<u16, PATH_ROOM>
 /// It reads the rest of the entry only for a template. An Le below the data's length is refused.
 fn give_data<B: Board>(
     store: &mut Store<B>,
-    e: u8,
+    e: EntryNumber,
     returned: Returned,
     expected: Option<u8>,
     answer: &mut Answer,

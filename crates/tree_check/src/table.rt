@@ -9,21 +9,21 @@ ghost use Rattle.tree_check.specs.SurveyParts.{CanBeIndexed};
 
 use crate::rules::are_entries;
 use card_state::identifiers::MASTER_FILE;
-use file_tree::{DEEPEST, Entry, EntryKind, ExtentList};
+use file_tree::{DEEPEST, Entry, EntryKind, EntryNumber, ExtentList};
 
-/// Returns the parent of an entry's file. Past the table it is 0.
-fn parent_of(entries: &[Entry], e: u8) -> u8
+/// Returns the parent of an entry's file. Past the table it is the MF.
+fn parent_of(entries: &[Entry], e: EntryNumber) -> EntryNumber
     ensures { result ≡ (entry_in entries.now e).parent }
 {
-    match entries.get(usize::from(e)) {
-        Some(entry) => entry.parent,
-        None => 0,
+    match entries.get(usize::from(e.get())) {
+        Some(entry) => EntryNumber::new(entry.parent),
+        None => EntryNumber::master(),
     }
 }
 
 /// Returns the entry after `steps` steps to parents. The MF is its own parent, so the walk stays there.
 #[tactic(auto, using(file_tree::specs::laws::Levels::levels))]
-fn ancestor(entries: &[Entry], steps: u8, e: u8) -> u8
+fn ancestor(entries: &[Entry], steps: u8, e: EntryNumber) -> EntryNumber
     ensures { result ≡ ancestor entries.now steps e }
 {
     let mut at = e;
@@ -45,15 +45,15 @@ fn is_master_file(entry: &Entry) -> bool
 }
 
 /// Returns true if a file is below the MF. Its parent is a DF, and the MF at most seven steps away.
-fn is_below_master(entries: &[Entry], e: u8) -> bool
+fn is_below_master(entries: &[Entry], e: EntryNumber) -> bool
     requires { e < length entries.now }
     ensures { IsTrue result ↔ IsBelowMaster entries.now e }
 {
-    let entry = &entries[usize::from(e)];
+    let entry = &entries[usize::from(e.get())];
     match entries.get(usize::from(entry.parent)) {
         Some(parent) => parent.has_kind(EntryKind::Dedicated)
             && entry.identifier != MASTER_FILE
-            && ancestor(entries, DEEPEST, e) == 0,
+            && ancestor(entries, DEEPEST, e).is_master(),
         None => false,
     }
 }
@@ -64,7 +64,7 @@ fn are_below_master(entries: &[Entry]) -> bool
     ensures { IsTrue result ↔ AreBelow entries.now }
 {
     for e in 1..entries.len() {
-        if entries[e].is_used() && !is_below_master(entries, e as u8) {
+        if entries[e].is_used() && !is_below_master(entries, EntryNumber::new(e as u8)) {
             return false;
         }
     }

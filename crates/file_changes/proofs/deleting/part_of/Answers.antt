@@ -1,4 +1,5 @@
-use Rattle.std.proofs.Common.{rules, ◌≡◌, ◌<◌, ◌+◌, ◌-◌, ℕ, List, length, sym, ◌∙◌, ap, subst, arith}
+use Rattle.std.proofs.Common.{rules, ◌≡◌, ◌<◌, ◌+◌, ◌-◌, ℕ, true, if◌then◌else◌, is_some, List, length, slice_set}
+use Rattle.std.proofs.Common.{sym, ◌∙◌, ap, subst, arith}
 use Rattle.undo_journal.specs.Memory.{committed}
 use Rattle.undo_journal.specs.laws.Calls.{reads_then}
 use Rattle.undo_journal.specs.laws.Exits.{none_ok}
@@ -25,8 +26,8 @@ returns-in_err-parents g c = record {
       (reads_on _ _ _ _ c.find_end.ensures.end.store.only c.in_err-parents.ensures.store);
 }
 
-pub loop-e-init : goal.loop-e-init
-loop-e-init g c = record {
+pub loop-number-init : goal.loop-number-init
+loop-number-init g c = record {
   ready = c.in_ok-parents.ensures.store.ready;
   reads = reads_then _ _ _ c.find_end.ensures.end.store.only c.read_parents.ensures.store.only;
   few = (let none = ap (λ l. length l) c.new-part.ensures.extents in omega (arith, none));
@@ -37,42 +38,48 @@ pub deleted_entry-requires-clause-parents : goal.deleted_entry-requires-clause-p
 deleted_entry-requires-clause-parents g c = λ f small.
     c.in_ok-parents.ensures.parents f small
     ∙ ap (λ (l : List ℕ). (entry_in (table l) f).parent)
-    (c.find_end.ensures.end.store.only.keeps.committed_words ∙ sym c.loop-e.invariant.reads.keeps.committed_words)
+    (c.find_end.ensures.end.store.only.keeps.committed_words ∙ sym c.loop-number.invariant.reads.keeps.committed_words)
 
 pub returns-in_err-entry : goal.returns-in_err-entry
 returns-in_err-entry g c = record {
   told = none_ok _ _ _ c.from_residual-in_err-entry.ensures.1;
   store = reads_handed _ _ _ _ c.from_residual-in_err-entry.ensures.1
-      (reads_on _ _ _ _ c.loop-e.invariant.reads c.in_err-entry.ensures.store);
+      (reads_on _ _ _ _ c.loop-number.invariant.reads c.in_err-entry.ensures.store);
 }
 
-pub loop-e-preserved : goal.loop-e-preserved
-loop-e-preserved g c =
+pub loop-number-preserved : goal.loop-number-preserved
+loop-number-preserved g c =
     let t = table (committed c.args.store.now) in
-    let e = c.loop-e.e in
+    let e = c.loop-number.number in
     let lt : e < c.in_ok-end.end = search rules in
     let most = c.in_ok-end.ensures.end.told.most in
     let small : e < 64 = omega (arith, lt, most) in
     let is : c.in_ok-entry.entry ≡ entry_if_gone t c.args.top e = c.in_ok-entry.ensures.told
-    ∙ ap (λ (l : List ℕ). entry_if_gone (table l) c.args.top e) c.loop-e.invariant.reads.keeps.committed_words in
+    ∙ ap (λ (l : List ℕ). entry_if_gone (table l) c.args.top c.new-e.result)
+    c.loop-number.invariant.reads.keeps.committed_words
+    ∙ ap (entry_if_gone t c.args.top) c.new-e.ensures in
+    let old = c.loop-number.part.goes in
+    let goes = c.add.ensures.goes
+    ∙ ap (λ (k : ℕ). if is_some c.in_ok-entry.entry then slice_set old k true else old) c.new-e.ensures in
     record {
       ready = c.in_ok-entry.ensures.store.ready;
-      reads = reads_then _ _ _ c.loop-e.invariant.reads c.deleted_entry.ensures.store.only;
-      few = few_more _ _ _ e c.loop-e.invariant.few c.add.ensures.extents;
-      so_far = part_more t c.args.top e c.loop-e.part c.add.new.self c.in_ok-entry.entry small is
-          c.add.ensures.goes c.add.ensures.count c.add.ensures.extents c.loop-e.invariant.so_far;
+      reads = reads_then _ _ _ c.loop-number.invariant.reads c.deleted_entry.ensures.store.only;
+      few = few_more _ _ _ e c.loop-number.invariant.few c.add.ensures.extents;
+      so_far = part_more t c.args.top e c.loop-number.part c.add.new.self c.in_ok-entry.entry small is
+          goes c.add.ensures.count c.add.ensures.extents c.loop-number.invariant.so_far;
     }
 
 pub returns : goal.returns
 returns g c = record {
   told = let t = table (committed c.args.store.now) in
-      let end : c.loop-e.e ≡ c.in_ok-end.end = search rules in
+      let end : c.loop-number.number ≡ c.in_ok-end.end = search rules in
       let table_end = c.in_ok-end.ensures.end.told in
       let most = table_end.most in
-      let left : c.loop-e.e + (64 - c.loop-e.e) ≡ 64 = omega (arith, end, most) in
-      part_whole t c.args.top c.loop-e.part (parts_rest t c.args.top c.loop-e.part c.loop-e.e (64 - c.loop-e.e) left
-      (λ e from. table_end.free e (omega (arith, from, end))) c.loop-e.invariant.so_far);
-  store = reads_so_far _ _ c.loop-e.invariant.reads c.loop-e.invariant.ready;
+      let left : c.loop-number.number + (64 - c.loop-number.number) ≡ 64 = omega (arith, end, most) in
+      part_whole t c.args.top c.loop-number.part
+      (parts_rest t c.args.top c.loop-number.part c.loop-number.number (64 - c.loop-number.number) left
+      (λ e from. table_end.free e (omega (arith, from, end))) c.loop-number.invariant.so_far);
+  store = reads_so_far _ _ c.loop-number.invariant.reads c.loop-number.invariant.ready;
 }
 
 pub read_parents-requires : goal.read_parents-requires
@@ -84,23 +91,25 @@ read_parents-requires g c = record {
 
 pub deleted_entry-requires-clause-entry : goal.deleted_entry-requires-clause-entry
 deleted_entry-requires-clause-entry g c = record {
-  ready = c.loop-e.invariant.ready;
-  within = let lt : c.loop-e.e < c.in_ok-end.end = search rules in let most = c.in_ok-end.ensures.end.told.most in
+  ready = c.loop-number.invariant.ready;
+  within = let lt : c.loop-number.number < c.in_ok-end.end = search rules in
+      let most = c.in_ok-end.ensures.end.told.most in
       omega (arith, lt, most);
 }
 
 pub add-requires : goal.add-requires
 add-requires g c = record {
-  within = let lt : c.loop-e.e < c.in_ok-end.end = search rules in let most = c.in_ok-end.ensures.end.told.most in
+  within = let lt : c.loop-number.number < c.in_ok-end.end = search rules in
+      let most = c.in_ok-end.ensures.end.told.most in
       omega (arith, lt, most);
-  count = let lt : c.loop-e.e < c.in_ok-end.end = search rules in
+  count = let lt : c.loop-number.number < c.in_ok-end.end = search rules in
       let most = c.in_ok-end.ensures.end.told.most in
-      let small : c.loop-e.e < 64 = omega (arith, lt, most) in
-      let count = c.loop-e.invariant.so_far.count in
+      let small : c.loop-number.number < 64 = omega (arith, lt, most) in
+      let count = c.loop-number.invariant.so_far.count in
       omega (arith, small, count);
-  room = let lt : c.loop-e.e < c.in_ok-end.end = search rules in
+  room = let lt : c.loop-number.number < c.in_ok-end.end = search rules in
       let most = c.in_ok-end.ensures.end.told.most in
-      let small : c.loop-e.e < 64 = omega (arith, lt, most) in
-      let few = c.loop-e.invariant.few in
+      let small : c.loop-number.number < 64 = omega (arith, lt, most) in
+      let few = c.loop-number.invariant.few in
       omega (arith, small, few);
 }

@@ -5,10 +5,10 @@ use Rattle.file_tree.specs.Table.{table}
 use Rattle.file_changes.specs.laws.Parts.{IsPartTo}
 use Rattle.file_changes.proofs.deleting.part_of.Given as goal
 
-abbrev pub invariant-loop-e : goal.invariant-loop-e
-invariant-loop-e g l = record {
+abbrev pub invariant-loop-number : goal.invariant-loop-number
+invariant-loop-number g l = record {
   ready : IsReady l.store;
   reads : OnlyReads l.fn.store l.store;
-  few : length l.part.extents.items ≤ l.e;
-  so_far : IsPartTo (table (committed l.fn.store)) l.top l.e l.part;
+  few : length l.part.extents.items ≤ l.number;
+  so_far : IsPartTo (table (committed l.fn.store)) l.top l.number l.part;
 }

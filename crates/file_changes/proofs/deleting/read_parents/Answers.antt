@@ -15,8 +15,8 @@ use Rattle.file_tree.specs.Entries.{head_of}
 use Rattle.file_tree.specs.Table.{table, entry_in}
 use Rattle.file_changes.proofs.deleting.read_parents.Goals as goal
 
-pub loop-e-init : goal.loop-e-init
-loop-e-init g c = record {
+pub loop-number-init : goal.loop-number-init
+loop-number-init g c = record {
   ready = c.requires.ready;
   reads = reads_same _;
   long = refl;
@@ -24,15 +24,16 @@ loop-e-init g c = record {
   rest = λ f from small. get_or-replicate 256 f 0 0 small;
 }
 
-pub loop-e-preserved : goal.loop-e-preserved
-loop-e-preserved g c =
+pub loop-number-preserved : goal.loop-number-preserved
+loop-number-preserved g c =
     let t = table (committed c.args.store.now) in
-    let e = c.loop-e.e in
-    let old = c.loop-e.parents in
-    let invariant = c.loop-e.invariant in
+    let e = c.loop-number.number in
+    let old = c.loop-number.parents in
+    let invariant = c.loop-number.invariant in
     let at : c.from.result ≡ e = c.from.ensures in
     let parent = ap (λ (x : EntryHead). x.parent) (c.in_ok-head.ensures.head
-    ∙ ap (λ (l : List ℕ). head_of (entry_in (table l) e)) invariant.reads.keeps.committed_words) in
+    ∙ ap (λ (l : List ℕ). head_of (entry_in (table l) c.new-e.result)) invariant.reads.keeps.committed_words
+    ∙ ap (λ (k : ℕ). head_of (entry_in t k)) c.new-e.ensures) in
     let lt : e < c.args.end = search rules in
     let most = c.requires.end.most in
     let small : e < 64 = omega (arith, lt, most) in
@@ -52,15 +53,15 @@ loop-e-preserved g c =
 
 pub returns-clause-parents : goal.returns-clause-parents
 returns-clause-parents g c = λ f small.
-    let end : c.loop-e.e ≡ c.args.end = search rules in
+    let end : c.loop-number.number ≡ c.args.end = search rules in
     ⊎_elim
-    (λ (below : f < c.args.end). c.loop-e.invariant.told f (omega (arith, below, end)))
-    (λ (from : c.args.end ≤ f). c.loop-e.invariant.rest f (omega (arith, from, end)) small
+    (λ (below : f < c.args.end). c.loop-number.invariant.told f (omega (arith, below, end)))
+    (λ (from : c.args.end ≤ f). c.loop-number.invariant.rest f (omega (arith, from, end)) small
     ∙ sym (ap (λ (x : Entry). x.parent) (c.requires.end.free f from)))
     (cases_lt f c.args.end)
 
 pub returns-clause-store : goal.returns-clause-store
-returns-clause-store g c = reads_so_far _ _ c.loop-e.invariant.reads c.loop-e.invariant.ready
+returns-clause-store g c = reads_so_far _ _ c.loop-number.invariant.reads c.loop-number.invariant.ready
 
 pub returns-in_err-head-clause-parents : goal.returns-in_err-head-clause-parents
 returns-in_err-head-clause-parents g c = none_ok _ _ _ c.from_residual.ensures.1
@@ -68,4 +69,4 @@ returns-in_err-head-clause-parents g c = none_ok _ _ _ c.from_residual.ensures.1
 pub returns-in_err-head-clause-store : goal.returns-in_err-head-clause-store
 returns-in_err-head-clause-store g c =
     reads_handed _ _ _ _ c.from_residual.ensures.1
-    (reads_on _ _ _ _ c.loop-e.invariant.reads c.in_err-head.ensures.store)
+    (reads_on _ _ _ _ c.loop-number.invariant.reads c.in_err-head.ensures.store)

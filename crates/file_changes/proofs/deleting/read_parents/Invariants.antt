@@ -4,11 +4,11 @@ use Rattle.undo_journal.specs.StoreCalls.{OnlyReads}
 use Rattle.file_tree.specs.Table.{table, entry_in}
 use Rattle.file_changes.proofs.deleting.read_parents.Given as goal
 
-abbrev pub invariant-loop-e : goal.invariant-loop-e
-invariant-loop-e g l = let t = table (committed l.initial.store) in record {
+abbrev pub invariant-loop-number : goal.invariant-loop-number
+invariant-loop-number g l = let t = table (committed l.initial.store) in record {
   ready : IsReady l.store;
   reads : OnlyReads l.initial.store l.store;
   long : length l.parents ≡ 256;
-  told : (f : ℕ) → f < l.e → slice_index l.parents f ≡ (entry_in t f).parent;
-  rest : (f : ℕ) → l.e ≤ f → f < 256 → slice_index l.parents f ≡ 0;
+  told : (f : ℕ) → f < l.number → slice_index l.parents f ≡ (entry_in t f).parent;
+  rest : (f : ℕ) → l.number ≤ f → f < 256 → slice_index l.parents f ≡ 0;
 }

@@ -48,4 +48,4 @@ pub is_below_barred-requires-clause-file : goal.is_below_barred-requires-clause-
 is_below_barred-requires-clause-file g c = c.requires.entry.file
 
 pub is_below_barred-requires-clause-parent : goal.is_below_barred-requires-clause-parent
-is_below_barred-requires-clause-parent g c = ap (λ (x : Entry). x.parent) c.requires.entry.entry
+is_below_barred-requires-clause-parent g c = c.new.ensures ∙ ap (λ (x : Entry). x.parent) c.requires.entry.entry

@@ -1,4 +1,4 @@
-use Rattle.std.proofs.Common.{rules, ◌≡◌, ◌<◌, ◌+◌, ◌-◌, ℕ, List, refl, sym, ◌∙◌, ap, subst, arith, true≢false}
+use Rattle.std.proofs.Common.{rules, ◌≡◌, ◌≢◌, ◌<◌, ◌+◌, ◌-◌, ℕ, List, refl, sym, ◌∙◌, ap, subst, arith, true≢false}
 use Rattle.undo_journal.specs.Memory.{committed}
 use Rattle.undo_journal.specs.laws.Calls.{reads_same, reads_then}
 use Rattle.undo_journal.specs.laws.Exits.{none_ok}
@@ -19,11 +19,12 @@ loop-step-init g c = record {
   left = refl;
 }
 
-pub returns-then-at-eq0 : goal.returns-then-at-eq0
-returns-then-at-eq0 g c = record {
+pub returns-then-is_master : goal.returns-then-is_master
+returns-then-is_master g c = record {
   told = let t = table (committed c.args.store.now) in
       let n = 7 - c.loop-step._step in
-      let zero : ancestor t 6 c.args.df ≡ 0 = c.loop-step.invariant.left ∙ ap (ancestor t n) c.if-at-eq0.true
+      let here = c.is_master.ensures.0 c.if-is_master.true in
+      let zero : ancestor t 6 c.args.df ≡ 0 = c.loop-step.invariant.left ∙ ap (ancestor t n) here
       ∙ ancestor-fixed t n 0 c.requires.df.tree.entries.master.parent in (
         λ is. absurd (true≢false (sym is)),
         λ up. absurd (up zero),
@@ -48,13 +49,15 @@ loop-step-preserved g c =
     let there : c.in_ok-head.head ≡ head_of (entry_in t at) = c.in_ok-head.ensures.head
     ∙ ap (λ (l : List ℕ). head_of (entry_in (table l) at)) c.loop-step.invariant.reads.keeps.committed_words in
     let parent : c.in_ok-head.head.parent ≡ (entry_in t at).parent = ap (λ (x : EntryHead). x.parent) there in
-    let below : 0 < at = (let some = c.if-at-eq0.false in omega (arith, some)) in
+    let parent_at : c.new-at.result ≡ (entry_in t at).parent = c.new-at.ensures ∙ parent in
+    let some : at ≢ 0 = λ is. true≢false (sym (c.is_master.ensures.1 is) ∙ c.if-is_master.false) in
+    let below : 0 < at = omega (arith, some) in
     record {
       ready = c.in_ok-head.ensures.store.ready;
       reads = reads_then _ _ _ c.loop-step.invariant.reads c.read_entry_head.ensures.store.only;
-      used = subst (λ (e : ℕ). IsUsed t e) (sym parent)
+      used = subst (λ (e : ℕ). IsUsed t e) (sym parent_at)
           (parent_used t c.requires.df.tree.entries at below c.loop-step.invariant.used);
-      left = c.loop-step.invariant.left ∙ ancestor-step t n k at one ∙ ap (ancestor t k) (sym parent);
+      left = c.loop-step.invariant.left ∙ ancestor-step t n k at one ∙ ap (ancestor t k) (sym parent_at);
     }
 
 pub returns : goal.returns

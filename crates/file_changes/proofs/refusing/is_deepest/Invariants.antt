@@ -9,5 +9,5 @@ invariant-loop-step g l = let t = table (committed l.initial.store) in record {
   ready : IsReady l.store;
   reads : OnlyReads l.initial.store l.store;
   used : IsUsed t l.at;
-  left : ancestor t 6 l.df ≡ ancestor t (7 - l._step) l.at;
+  left : ancestor t 6 l.fn.df ≡ ancestor t (7 - l._step) l.at;
 }

@@ -1,10 +1,10 @@
-use Rattle.std.proofs.Common.{◌≡◌, ◌||◌, ℕ, Bool, List, true, sym, ◌∙◌, ap}
+use Rattle.std.proofs.Common.{◌≡◌, ◌||◌, ℕ, Bool, List, true, sym, ◌∙◌, ap, subst}
 use Rattle.undo_journal.specs.Memory.{committed}
 use Rattle.undo_journal.specs.laws.Calls.{reads_then}
 use Rattle.card_state.specs.declared.access_mode.AccessBit.TheVariants.{DeleteChild, DeleteSelf}
 use Rattle.card_state.specs.FileTrees.{Tree}
 use Rattle.card_state.specs.FileLives.{is_barred}
-use Rattle.file_tree.specs.Table.{table, path_of}
+use Rattle.file_tree.specs.Table.{table, path_of, IsUsed}
 use Rattle.file_tree.specs.Trees.{tree_of}
 use Rattle.file_tree.specs.laws.Nodes.{used_small}
 use Rattle.card_model.specs.Guards.{allowed}
@@ -36,27 +36,30 @@ returns g c = record {
       let read = c.read_entry.ensures.store.only.keeps.committed_words in
       let same = c.is_barred_at.ensures.store.only.keeps.committed_words ∙ read in
       let still = c.allows.ensures.store.only.keeps.committed_words ∙ same in
-      let barred : c.in_ok-barred.barred ≡ is_barred (card_of m).tree (path_of t c.args.file.now.entry.parent) =
+      let barred : c.in_ok-barred.barred ≡ is_barred (card_of m).tree (path_of t c.new-number.result) =
       c.in_ok-barred.ensures.told
-      ∙ ap (λ (l : List ℕ). is_barred (tree_of l) (path_of (table l) c.args.file.now.entry.parent)) read
-      ∙ sym (ap (λ (tree : Tree). is_barred tree (path_of t c.args.file.now.entry.parent)) (card-tree m)) in
+      ∙ ap (λ (l : List ℕ). is_barred (tree_of l) (path_of (table l) c.new-number.result)) read
+      ∙ sym (ap (λ (tree : Tree). is_barred tree (path_of t c.new-number.result)) (card-tree m)) in
       let own : c.in_ok-own.own ≡ allowed (card_of m) (session_of t x) (path_of t c.args.file.now.number) DeleteSelf =
       c.in_ok-own.ensures.told
       ∙ ap (λ (l : List ℕ). allowed (card_of l) (session_of (table l) x)
       (path_of (table l) c.args.file.now.number) DeleteSelf) same in
       let by_parent : c.in_ok-by_parent.by_parent
-      ≡ allowed (card_of m) (session_of t x) (path_of t c.args.file.now.entry.parent) DeleteChild =
+      ≡ allowed (card_of m) (session_of t x) (path_of t c.new-number.result) DeleteChild =
       c.in_ok-by_parent.ensures.told
       ∙ ap (λ (l : List ℕ). allowed (card_of l) (session_of (table l) x)
-      (path_of (table l) c.args.file.now.entry.parent) DeleteChild) still in
+      (path_of (table l) c.new-number.result) DeleteChild) still in
       let both : c.if-own.findings ≡ (c.in_ok-own.own || c.in_ok-by_parent.by_parent) = elim c.if-own.branch [
         | then-own w ↦ w.findings-is ∙ w.if-own.true
             ∙ sym (ap (λ (b : Bool). b || c.in_ok-by_parent.by_parent) w.if-own.true)
         | else-own w ↦ w.findings-is ∙ sym (ap (λ (b : Bool). b || c.in_ok-by_parent.by_parent) w.if-own.false)
       ] in
       sym (c.in_ok-check.ensures ∙ (λ i. file_refusal (barred i) true (both i))
-      ∙ (λ i. file_refusal (is_barred (card_of m).tree (path_of t c.args.file.now.entry.parent)) true
-      (own i || by_parent i)));
+      ∙ (λ i. file_refusal (is_barred (card_of m).tree (path_of t c.new-number.result)) true
+      (own i || by_parent i))
+      ∙ ap (λ (e : ℕ). file_refusal (is_barred (card_of m).tree (path_of t e)) true
+      (allowed (card_of m) (session_of t x) (path_of t c.args.file.now.number) DeleteSelf
+      || allowed (card_of m) (session_of t x) (path_of t e) DeleteChild)) c.new-number.ensures);
   store = reads_on _ _ _ _ (reads_then _ _ _
       (reads_then _ _ _ c.read_entry.ensures.store.only c.is_barred_at.ensures.store.only) c.allows.ensures.store.only)
       c.in_ok-by_parent.ensures.store;
@@ -70,19 +73,19 @@ returns-in_err-check g c = record {
       let read = c.read_entry.ensures.store.only.keeps.committed_words in
       let same = c.is_barred_at.ensures.store.only.keeps.committed_words ∙ read in
       let still = c.allows.ensures.store.only.keeps.committed_words ∙ same in
-      let barred : c.in_ok-barred.barred ≡ is_barred (card_of m).tree (path_of t c.args.file.now.entry.parent) =
+      let barred : c.in_ok-barred.barred ≡ is_barred (card_of m).tree (path_of t c.new-number.result) =
       c.in_ok-barred.ensures.told
-      ∙ ap (λ (l : List ℕ). is_barred (tree_of l) (path_of (table l) c.args.file.now.entry.parent)) read
-      ∙ sym (ap (λ (tree : Tree). is_barred tree (path_of t c.args.file.now.entry.parent)) (card-tree m)) in
+      ∙ ap (λ (l : List ℕ). is_barred (tree_of l) (path_of (table l) c.new-number.result)) read
+      ∙ sym (ap (λ (tree : Tree). is_barred tree (path_of t c.new-number.result)) (card-tree m)) in
       let own : c.in_ok-own.own ≡ allowed (card_of m) (session_of t x) (path_of t c.args.file.now.number) DeleteSelf =
       c.in_ok-own.ensures.told
       ∙ ap (λ (l : List ℕ). allowed (card_of l) (session_of (table l) x)
       (path_of (table l) c.args.file.now.number) DeleteSelf) same in
       let by_parent : c.in_ok-by_parent.by_parent
-      ≡ allowed (card_of m) (session_of t x) (path_of t c.args.file.now.entry.parent) DeleteChild =
+      ≡ allowed (card_of m) (session_of t x) (path_of t c.new-number.result) DeleteChild =
       c.in_ok-by_parent.ensures.told
       ∙ ap (λ (l : List ℕ). allowed (card_of l) (session_of (table l) x)
-      (path_of (table l) c.args.file.now.entry.parent) DeleteChild) still in
+      (path_of (table l) c.new-number.result) DeleteChild) still in
       let both : c.if-own.findings ≡ (c.in_ok-own.own || c.in_ok-by_parent.by_parent) = elim c.if-own.branch [
         | then-own w ↦ w.findings-is ∙ w.if-own.true
             ∙ sym (ap (λ (b : Bool). b || c.in_ok-by_parent.by_parent) w.if-own.true)
@@ -90,8 +93,11 @@ returns-in_err-check g c = record {
       ] in
       finds-stopped _ (Refused c.in_err-check.field-0.0) c.from_residual-in_err-check.ensures.1 _ _
       (sym (c.in_err-check.ensures ∙ (λ i. file_refusal (barred i) true (both i))
-      ∙ (λ i. file_refusal (is_barred (card_of m).tree (path_of t c.args.file.now.entry.parent)) true
-      (own i || by_parent i))));
+      ∙ (λ i. file_refusal (is_barred (card_of m).tree (path_of t c.new-number.result)) true
+      (own i || by_parent i))
+      ∙ ap (λ (e : ℕ). file_refusal (is_barred (card_of m).tree (path_of t e)) true
+      (allowed (card_of m) (session_of t x) (path_of t c.args.file.now.number) DeleteSelf
+      || allowed (card_of m) (session_of t x) (path_of t e) DeleteChild)) c.new-number.ensures));
   store = reads-stopped _ (Refused c.in_err-check.field-0.0) c.from_residual-in_err-check.ensures.1 _ _
       (reads_on _ _ _ _ (reads_then _ _ _
       (reads_then _ _ _ c.read_entry.ensures.store.only c.is_barred_at.ensures.store.only) c.allows.ensures.store.only)
@@ -137,10 +143,11 @@ allows-requires-2 g c = record {
     kept = kept_still _ _ _
         (reads_then _ _ _ (reads_then _ _ _ c.read_entry.ensures.store.only c.is_barred_at.ensures.store.only)
         c.allows.ensures.store.only) c.in_ok-own.ensures.store.ready c.requires.file.kept;
-    used = used_still c.args.store.now c.allows.new.store c.args.file.now.entry.parent
+    used = used_still c.args.store.now c.allows.new.store c.new-number.result
         (reads_then _ _ _ (reads_then _ _ _ c.read_entry.ensures.store.only c.is_barred_at.ensures.store.only)
-        c.allows.ensures.store.only) c.requires.above;
-    entry = entry_still c.args.store.now c.allows.new.store c.args.file.now.entry.parent c.in_ok-entry.entry
+        c.allows.ensures.store.only)
+        (subst (λ (e : ℕ). IsUsed (table (committed c.args.store.now)) e) (sym c.new-number.ensures) c.requires.above);
+    entry = entry_still c.args.store.now c.allows.new.store c.new-number.result c.in_ok-entry.entry
         (reads_then _ _ _ (reads_then _ _ _ c.read_entry.ensures.store.only c.is_barred_at.ensures.store.only)
         c.allows.ensures.store.only) c.in_ok-entry.ensures.entry;
   };
@@ -151,9 +158,9 @@ is_barred_at-requires g c = record {
   entry = record {
     file = file_kept _ _ _ (kept_still _ _ _ c.read_entry.ensures.store.only c.in_ok-entry.ensures.store.ready
         c.requires.file.kept)
-        (used_still c.args.store.now c.read_entry.new.store c.args.file.now.entry.parent c.read_entry.ensures.store.only
-        c.requires.above);
-    entry = entry_still c.args.store.now c.read_entry.new.store c.args.file.now.entry.parent c.in_ok-entry.entry
+        (used_still c.args.store.now c.read_entry.new.store c.new-number.result c.read_entry.ensures.store.only
+        (subst (λ (e : ℕ). IsUsed (table (committed c.args.store.now)) e) (sym c.new-number.ensures) c.requires.above));
+    entry = entry_still c.args.store.now c.read_entry.new.store c.new-number.result c.in_ok-entry.entry
         c.read_entry.ensures.store.only c.in_ok-entry.ensures.entry;
   };
 }
@@ -161,5 +168,6 @@ is_barred_at-requires g c = record {
 pub read_entry-requires : goal.read_entry-requires
 read_entry-requires g c = record {
   ready = c.requires.file.kept.ready;
-  within = used_small (committed c.args.store.now) c.args.file.now.entry.parent c.requires.above;
+  within = used_small (committed c.args.store.now) c.new-number.result
+      (subst (λ (e : ℕ). IsUsed (table (committed c.args.store.now)) e) (sym c.new-number.ensures) c.requires.above);
 }

@@ -1,4 +1,4 @@
-use Rattle.std.proofs.Common.{[], Result, Ok, None, refl, sym, ◌∙◌, ap, subst, arith, inr, true≢false}
+use Rattle.std.proofs.Common.{ℕ, [], Result, Ok, None, refl, sym, ◌∙◌, ap, subst, arith, inr, true≢false}
 use Rattle.undo_journal.specs.declared.error.StoreErr.{StoreErr}
 use Rattle.undo_journal.specs.Memory.{committed}
 use Rattle.undo_journal.specs.laws.Memory.{reports_then}
@@ -78,9 +78,8 @@ returns-clause-serves g c =
     let current = done-current m sized c.requires.card.kept.card x c.args.subject c.in_ok-file.file.number
     found.below found.used found.place (committed mid) (committed new) same c.requires.card.kept.current.marks
     c.in_ok-freed.ensures.done in
-    subst (λ (y : Entry). Executes request old x new (record x { df = y.parent; ef = None; pointer = None }) [] (Ok
-    DONE))
-    (sym found.entry_is)
+    subst (λ (e : ℕ). Executes request old x new (record x { df = e; ef = None; pointer = None }) [] (Ok DONE))
+    (sym (c.new.ensures ∙ ap (λ (y : Entry). y.parent) found.entry_is))
     (written request old x new (λ _. tt) _ [] DONE (inr stage) card reports c.in_ok-freed.ensures.store.ready current
     (λ never. absurd (true≢false never)) (omega arith) (omega (arith, spends, spent)) went compares done)
 

@@ -1,4 +1,5 @@
-use Rattle.std.proofs.Common.{◌≡◌, ◌<◌, ℕ, List, Option, Some, IfSome, option_map, sym, ◌∙◌, ap, subst, arith, rules}
+use Rattle.std.proofs.Common.{◌≡◌, ◌≢◌, ◌<◌, ℕ, Bool, false, List, Option, Some, IfSome, IsTrue, option_map}
+use Rattle.std.proofs.Common.{sym, ◌∙◌, ap, subst, arith, rules, true≢false}
 use Rattle.undo_journal.specs.Memory.{committed}
 use Rattle.undo_journal.specs.laws.Calls.{reads_then}
 use Rattle.card_state.specs.FileTrees.{Path}
@@ -22,12 +23,18 @@ use Rattle.command_base.specs.laws.Stopping.{finds-stopped, reads-stopped, refus
 use Rattle.file_commands.proofs.Missing.{delete-missed}
 use Rattle.file_commands.proofs.files.find_deletable.Goals as goal
 
-pub returns-then-number-eq0 : goal.returns-then-number-eq0
-returns-then-number-eq0 g c = record {
+-- an entry that isn't the master file's is above 0
+above-master : (e : ℕ) (master : Bool) → (e ≡ 0 → IsTrue master) → master ≡ false → 0 < e
+above-master e master is fails =
+    let some : e ≢ 0 = λ zero. true≢false (sym (is zero) ∙ fails) in
+    omega (arith, some)
+
+pub returns-then-is_master : goal.returns-then-is_master
+returns-then-is_master g c = record {
   told = let m = committed c.args.store.now in
       let t = table m in
       let x = c.args.current.now in
-      let master : c.in-Some.number ≡ 0 = omega arith in
+      let master = c.is_master.ensures.0 c.if-is_master.true in
       delete-master (card_of m) (session_of t x) c.args.subject
       (subject-found m c.requires.card.kept.card x c.requires.card.kept.current c.unwrap_or-own.result
       c.unwrap_or-own.ensures
@@ -53,7 +60,7 @@ returns-in_err-check_deletion g c = record {
       let entry : c.in_ok-entry.entry ≡ entry_in t e =
       c.in_ok-entry.ensures.entry ∙ ap (λ (l : List ℕ). entry_in (table l) e)
       c.find_subject.ensures.found.store.only.keeps.committed_words in
-      let below : 0 < e = omega arith in
+      let below = above-master e c.is_master.result c.is_master.ensures.1 c.if-is_master.false in
       let verdict : Option Sw = deletion_verdict (committed c.read_entry.new.store) x e c.in_ok-entry.entry.parent in
       let refused : Option Sw = refused_by (delete_refusals (card_of m) (session_of t x) c.args.subject) in
       finds-stopped _ c.in_err-check_deletion.field-0.0 c.from_residual-in_err-check_deletion.ensures.1 _
@@ -87,7 +94,7 @@ returns g c = record {
       let entry : c.in_ok-entry.entry ≡ entry_in t e =
       c.in_ok-entry.ensures.entry ∙ ap (λ (l : List ℕ). entry_in (table l) e)
       c.find_subject.ensures.found.store.only.keeps.committed_words in
-      let below : 0 < e = omega arith in
+      let below = above-master e c.is_master.result c.is_master.ensures.1 c.if-is_master.false in
       deletable m c.requires.card.kept.ready.usable.committed_size c.requires.card.kept.card x c.args.subject e below
       used place
       (file-verdict m c.requires.card.kept.ready.usable.committed_size c.requires.card.kept.card x c.args.subject e
@@ -111,7 +118,7 @@ check_deletion-requires-clause-above g c =
     let entry : c.in_ok-entry.entry ≡ entry_in (table m) e =
     c.in_ok-entry.ensures.entry ∙ ap (λ (l : List ℕ). entry_in (table l) e)
     c.find_subject.ensures.found.store.only.keeps.committed_words in
-    let below : 0 < e = omega arith in
+    let below = above-master e c.is_master.result c.is_master.ensures.1 c.if-is_master.false in
     subst (λ (l : List ℕ). IsUsed (table l) c.in_ok-entry.entry.parent) (sym same)
     (subst (λ (y : Entry). IsUsed (table m) y.parent) (sym entry)
     (parent_used (table m) c.requires.card.kept.card.tree.entries e below used))

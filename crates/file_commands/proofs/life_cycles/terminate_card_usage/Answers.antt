@@ -24,12 +24,15 @@ returns-in_err-allows g c =
 pub returns-then-not-branch : goal.returns-then-not-branch
 returns-then-not-branch g c =
     let old = c.args.store.now in
+    let m = committed old in
     let x = c.args.current.now in
     let both = reads_then _ _ _ c.read_entry.ensures.store.only c.allows.ensures.store.only in
     let denied : c.in_ok-allows.field-0 ≡ false = c.if-not-branch.true in
     let told = c.in_ok-allows.ensures.told
-    ∙ ap (λ (l : List ℕ). allowed (card_of l) (session_of (table l) x) (path_of (table l) 0) Terminate)
-    c.read_entry.ensures.store.only.keeps.committed_words in
+    ∙ ap (λ (l : List ℕ). allowed (card_of l) (session_of (table l) x) (path_of (table l) c.master-number.result)
+    Terminate) c.read_entry.ensures.store.only.keeps.committed_words
+    ∙ ap (λ (e : ℕ). allowed (card_of m) (session_of (table m) x) (path_of (table m) e) Terminate)
+    c.master-number.ensures in
     declined terminate_card_usage old x c.allows.new.store (λ _. tt) c.requires.kept.card ACCESS_DENIED both
     c.in_ok-allows.ensures.store.ready c.requires.kept.current
     (end-refused (committed old) x c.in_ok-allows.field-0 told denied)
@@ -37,14 +40,18 @@ returns-then-not-branch g c =
 pub returns-in_err-terminate_card : goal.returns-in_err-terminate_card
 returns-in_err-terminate_card g c =
     let old = c.args.store.now in
+    let m = committed old in
+    let x = c.args.current.now in
     let mid = c.allows.new.store in
     let new = c.terminate_card.new.store in
     let both = reads_then _ _ _ c.read_entry.ensures.store.only c.allows.ensures.store.only in
     let granted : c.in_ok-allows.field-0 ≡ true = c.if-not-branch.false in
     end-torn old mid new c.requires.kept.ready c.requires.kept.card c.args.current.now c.requires.kept.current
     (sym granted ∙ c.in_ok-allows.ensures.told
-    ∙ ap (λ (l : List ℕ). allowed (card_of l) (session_of (table l) c.args.current.now) (path_of (table l) 0) Terminate)
-    c.read_entry.ensures.store.only.keeps.committed_words) both
+    ∙ ap (λ (l : List ℕ). allowed (card_of l) (session_of (table l) x) (path_of (table l) c.master-number.result)
+    Terminate) c.read_entry.ensures.store.only.keeps.committed_words
+    ∙ ap (λ (e : ℕ). allowed (card_of m) (session_of (table m) x) (path_of (table m) e) Terminate)
+    c.master-number.ensures) both
     c.terminate_card.ensures.any_exit c.terminate_card.ensures.by_gate c.terminate_card.ensures.store.reports
     c.terminate_card.ensures.store.writes _ _ (reply-failed _ _ c.from_residual-in_err-terminate_card.ensures.1)
     c.in_err-terminate_card.ensures.store.tells
@@ -52,14 +59,18 @@ returns-in_err-terminate_card g c =
 pub returns : goal.returns
 returns g c =
     let old = c.args.store.now in
+    let m = committed old in
+    let x = c.args.current.now in
     let mid = c.allows.new.store in
     let new = c.terminate_card.new.store in
     let both = reads_then _ _ _ c.read_entry.ensures.store.only c.allows.ensures.store.only in
     let granted : c.in_ok-allows.field-0 ≡ true = c.if-not-branch.false in
     end-made old mid new c.requires.kept.ready c.requires.kept.card c.args.current.now c.requires.kept.current
     (sym granted ∙ c.in_ok-allows.ensures.told
-    ∙ ap (λ (l : List ℕ). allowed (card_of l) (session_of (table l) c.args.current.now) (path_of (table l) 0) Terminate)
-    c.read_entry.ensures.store.only.keeps.committed_words) both
+    ∙ ap (λ (l : List ℕ). allowed (card_of l) (session_of (table l) x) (path_of (table l) c.master-number.result)
+    Terminate) c.read_entry.ensures.store.only.keeps.committed_words
+    ∙ ap (λ (e : ℕ). allowed (card_of m) (session_of (table m) x) (path_of (table m) e) Terminate)
+    c.master-number.ensures) both
     c.terminate_card.ensures.any_exit c.terminate_card.ensures.by_gate c.terminate_card.ensures.store.reports
     c.terminate_card.ensures.store.writes c.in_ok-terminate_card.ensures.done c.in_ok-terminate_card.ensures.store.ready
 
@@ -73,10 +84,12 @@ allows-requires g c = record {
   file = record {
     kept = kept_still _ _ _ c.read_entry.ensures.store.only c.in_ok-entry.ensures.store.ready c.requires.kept;
     used = let master = c.requires.kept.card.tree.entries.master in
-        used_still c.args.store.now c.read_entry.new.store 0 c.read_entry.ensures.store.only
-        (λ (unused : (entry_in (table (committed c.args.store.now)) 0).kind ≡ 0).
-        let z : ⊥ = omega (arith, unused, master.kind) in z);
-    entry = entry_still c.args.store.now c.read_entry.new.store 0 c.in_ok-entry.entry c.read_entry.ensures.store.only
-        c.in_ok-entry.ensures.entry;
+        used_still c.args.store.now c.read_entry.new.store c.master-number.result c.read_entry.ensures.store.only
+        (λ (unused : (entry_in (table (committed c.args.store.now)) c.master-number.result).kind ≡ 0).
+        let none = sym (ap (λ (e : ℕ). (entry_in (table (committed c.args.store.now)) e).kind) c.master-number.ensures)
+        ∙ unused in
+        let z : ⊥ = omega (arith, none, master.kind) in z);
+    entry = entry_still c.args.store.now c.read_entry.new.store c.master-number.result c.in_ok-entry.entry
+        c.read_entry.ensures.store.only c.in_ok-entry.ensures.entry;
   };
 }

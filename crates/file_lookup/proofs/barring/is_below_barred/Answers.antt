@@ -1,6 +1,6 @@
 use Rattle.undo_journal.specs.laws.Exits.{none_ok}
-use Rattle.std.proofs.Common.{◌≡◌, ◌≢◌, ◌<◌, ◌+◌, ◌-◌, ◌||◌, ℕ, suc, true, false, Bool, List, sym, ◌∙◌, ap}
-use Rattle.std.proofs.Common.{subst, arith}
+use Rattle.std.proofs.Common.{◌≡◌, ◌≢◌, ◌<◌, ◌+◌, ◌-◌, ◌||◌, ◌↔◌, ℕ, suc, IsTrue, true, false, Bool, List, sym, ◌∙◌, ap}
+use Rattle.std.proofs.Common.{subst, true≢false, arith}
 use Rattle.undo_journal.specs.Memory.{committed}
 use Rattle.undo_journal.specs.laws.Calls.{reads_then}
 use Rattle.file_tree.specs.declared.entry.Entry.{Entry}
@@ -28,6 +28,10 @@ read_there : (m now : List ℕ) (above : ℕ) (x : EntryHead) → now ≡ m → 
     → x ≡ head_of (entry_in (table m) above)
 read_there m now above x kept is = is ∙ ap (λ (l : List ℕ). head_of (entry_in (table l) above)) kept
 
+-- a file that is not told to be the master file's is another
+is_other : (e : ℕ) (told : Bool) → IsTrue told ↔ (e ≡ 0) → told ≡ false → e ≢ 0
+is_other e told is other = λ none. true≢false (sym (is.1 none) ∙ other)
+
 -- what one step to a parent tells
 step_up : (t : List Entry) (n k at above : ℕ) (x : EntryHead) (b tells : Bool) → n ≡ suc k → at ≢ 0
     → above ≡ (entry_in t at).parent → x ≡ head_of (entry_in t above) → b ≡ bars (state_told x.life) → b ≡ tells
@@ -38,10 +42,10 @@ step_up t n k at above x b tells one some is there told known =
     ∙ ap (λ (a : Bool). a || barred_up t k above)
     (ap (λ (y : EntryHead). bars (state_told y.life)) (sym there) ∙ sym told ∙ known)
 
-pub returns-then-at-eq0 : goal.returns-then-at-eq0
-returns-then-at-eq0 g c = record {
+pub returns-then-is_master : goal.returns-then-is_master
+returns-then-is_master g c = record {
   told = let t = table (committed c.args.store.now) in
-      sym (c.loop-step.invariant.left ∙ barred_up-master t (7 - c.loop-step._step) c.loop-step.at c.if-at-eq0.true);
+      sym (c.loop-step.invariant.left ∙ barred_up-master t (7 - c.loop-step._step) c.loop-step.at (c.is_master.ensures.0 c.if-is_master.true));
   store = reads_so_far _ _ c.loop-step.invariant.reads c.loop-step.invariant.ready;
 }
 
@@ -53,7 +57,7 @@ returns-then-bars g c = record {
       c.loop-step.invariant.reads.keeps.committed_words c.in_ok-head.ensures.head in
       sym (c.loop-step.invariant.left
       ∙ step_up (table m) _ (7 - (c.loop-step._step + 1)) c.loop-step.at
-      c.loop-step.above c.in_ok-head.head c.bars.result true one c.if-at-eq0.false c.loop-step.invariant.parent there
+      c.loop-step.above c.in_ok-head.head c.bars.result true one (is_other _ _ c.is_master.ensures c.if-is_master.false) c.loop-step.invariant.parent there
       (c.bars.ensures ∙ ap bars c.life_cycle.ensures) c.if-bars.true);
   store = reads_on _ _ _ _ c.loop-step.invariant.reads c.in_ok-head.ensures.store;
 }
@@ -67,13 +71,13 @@ loop-step-preserved g c =
     record {
       ready = c.in_ok-head.ensures.store.ready;
       reads = reads_then _ _ _ c.loop-step.invariant.reads c.read_entry_head.ensures.store.only;
-      used = used_above (table m) c.loop-step.at c.loop-step.above c.requires.file.tree.entries c.if-at-eq0.false
+      used = used_above (table m) c.loop-step.at c.loop-step.above c.requires.file.tree.entries (is_other _ _ c.is_master.ensures c.if-is_master.false)
           c.loop-step.invariant.used c.loop-step.invariant.parent;
-      parent = ap (λ (x : EntryHead). x.parent) there;
+      parent = c.new-above.ensures ∙ ap (λ (x : EntryHead). x.parent) there;
       left = c.loop-step.invariant.left
           ∙ step_up (table m) _ (7 - (c.loop-step._step + 1)) c.loop-step.at c.loop-step.above c.in_ok-head.head
           c.bars.result false
-          one c.if-at-eq0.false c.loop-step.invariant.parent there
+          one (is_other _ _ c.is_master.ensures c.if-is_master.false) c.loop-step.invariant.parent there
           (c.bars.ensures ∙ ap bars c.life_cycle.ensures) c.if-bars.false;
     }
 
@@ -97,6 +101,6 @@ read_entry_head-requires g c = record {
   ready = c.loop-step.invariant.ready;
   within = let m = committed c.args.store.now in
       used_small m c.loop-step.above (used_above
-      (table m) c.loop-step.at c.loop-step.above c.requires.file.tree.entries c.if-at-eq0.false
+      (table m) c.loop-step.at c.loop-step.above c.requires.file.tree.entries (is_other _ _ c.is_master.ensures c.if-is_master.false)
       c.loop-step.invariant.used c.loop-step.invariant.parent);
 }

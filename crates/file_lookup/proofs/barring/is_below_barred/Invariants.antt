@@ -12,5 +12,5 @@ invariant-loop-step g l = let t = table (committed l.initial.store) in record {
   reads : OnlyReads l.initial.store l.store;
   used : IsUsed t l.at;
   parent : l.above ≡ (entry_in t l.at).parent;
-  left : barred_up t 7 l.e ≡ barred_up t (7 - l._step) l.at;
+  left : barred_up t 7 l.fn.e ≡ barred_up t (7 - l._step) l.at;
 }

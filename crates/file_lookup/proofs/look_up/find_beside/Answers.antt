@@ -1,6 +1,7 @@
 use Rattle.undo_journal.specs.laws.Exits.{none_ok}
 use Rattle.std.specs.Bool.{then_some}
-use Rattle.std.proofs.Common.{rules, ◌≡◌, ◌==◌, ◌∙◌, ℕ, Bool, true, false, if◌then◌else◌, None, Some, ap, refl, subst}
+use Rattle.std.proofs.Common.{rules, ◌≡◌, ◌==◌, ◌∙◌, ℕ, Bool, true, false, if◌then◌else◌, None, Some, ap, refl, sym, subst}
+use Rattle.std.proofs.Common.{true≢false}
 use Rattle.undo_journal.specs.Memory.{committed}
 use Rattle.file_tree.specs.Table.{table}
 use Rattle.file_tree.specs.Indexes.{TellsChild}
@@ -14,9 +15,9 @@ some_if : (b : Bool) (e : ℕ) → then_some b e ≡ (if b then Some e else None
 some_if true e = refl
 some_if false e = refl
 
-pub returns-then-df-eq0 : goal.returns-then-df-eq0
-returns-then-df-eq0 g c = record {
-  told = λ some. absurd (some c.if-df-eq0.true);
+pub returns-then-is_master : goal.returns-then-is_master
+returns-then-is_master g c = record {
+  told = λ some. absurd (some (c.is_master.ensures.0 c.if-is_master.true));
   store = reads_none _ c.requires.df.file.ready;
 }
 
@@ -40,7 +41,7 @@ returns g c = record {
       c.requires.df.index)
       (c.in-Some.ensures m c.requires.df.index) in
       beside_there (table m) c.args.df c.args.identifier c.in-Some.beside c.in_ok-other.other c.then_some.result
-      c.requires.df.file.tree.entries.identifiers c.if-df-eq0.false told c.in_ok-other.ensures.entry
+      c.requires.df.file.tree.entries.identifiers (λ is. true≢false (sym (c.is_master.ensures.1 is) ∙ c.if-is_master.false)) told c.in_ok-other.ensures.entry
       (c.then_some.ensures ∙ ap (λ (found : Bool). then_some found c.in-Some.beside)
       (kind_test _ _ _ c.has_kind.ensures)
       ∙ some_if (c.in_ok-other.other.kind == 1) c.in-Some.beside);

@@ -7,6 +7,6 @@ use Rattle.file_lookup.proofs.naming.find_path.Given as goal
 
 abbrev pub invariant-loop-k : goal.invariant-loop-k
 invariant-loop-k l = record {
-  way : (m : List ℕ) → TreeStands m → IsUsed (table m) l.df → IsIndex (table m) l.index
-      → IsOnWay m l.df l.at l.path (drop l.k l.path);
+  way : (m : List ℕ) → TreeStands m → IsUsed (table m) l.fn.df → IsIndex (table m) l.index
+      → IsOnWay m l.fn.df l.at l.path (drop l.k l.path);
 }

@@ -26,16 +26,17 @@ returns-then-is_empty g c = record {
   store = reads_none _ c.requires.ready;
 }
 
-pub loop-e-preserved : goal.loop-e-preserved
-loop-e-preserved g c =
+pub loop-number-preserved : goal.loop-number-preserved
+loop-number-preserved g c =
     let m = committed c.args.store.now in
-    let e = c.loop-e.e in
-    let family : List ℕ → Type 0 = λ l. IsTrue c.in_ok-bears.bears ↔ BearsNameAt (table l) c.args.name.now e in
-    let told = subst family c.loop-e.invariant.reads.keeps.committed_words c.in_ok-bears.ensures.told in
+    let bears : List ℕ → ℕ → Type 0 = λ l e. IsTrue c.in_ok-bears.bears ↔ BearsNameAt (table l) c.args.name.now e in
+    let told = subst (bears m) c.new-e.ensures
+    (subst (λ (l : List ℕ). bears l c.new-e.result) c.loop-number.invariant.reads.keeps.committed_words
+    c.in_ok-bears.ensures.told) in
     record {
       ready = c.in_ok-bears.ensures.store.ready;
-      reads = reads_then _ _ _ c.loop-e.invariant.reads c.bears_name_at.ensures.store.only;
-      none = below_more _ _ c.loop-e.invariant.none
+      reads = reads_then _ _ _ c.loop-number.invariant.reads c.bears_name_at.ensures.store.only;
+      none = below_more _ _ c.loop-number.invariant.none
           (λ is. true≢false (sym (told.1 is) ∙ c.if-bears.false));
     }
 
@@ -43,22 +44,22 @@ pub returns-in_err-bears : goal.returns-in_err-bears
 returns-in_err-bears g c = record {
   told = none_ok _ _ _ c.from_residual.ensures.1;
   store = reads_handed _ _ _ _ c.from_residual.ensures.1
-      (reads_on _ _ _ _ c.loop-e.invariant.reads c.in_err-bears.ensures.store);
+      (reads_on _ _ _ _ c.loop-number.invariant.reads c.in_err-bears.ensures.store);
 }
 
 pub returns-then-bears : goal.returns-then-bears
 returns-then-bears g c = record {
-  told = let e = c.loop-e.e in
+  told = let e = c.new-e.result in
       let family : List ℕ → Type 0 = λ l. IsTrue c.in_ok-bears.bears ↔ BearsNameAt (table l) c.args.name.now e in
-      (subst family c.loop-e.invariant.reads.keeps.committed_words c.in_ok-bears.ensures.told).0 c.if-bears.true;
-  store = reads_on _ _ _ _ c.loop-e.invariant.reads c.in_ok-bears.ensures.store;
+      (subst family c.loop-number.invariant.reads.keeps.committed_words c.in_ok-bears.ensures.told).0 c.if-bears.true;
+  store = reads_on _ _ _ _ c.loop-number.invariant.reads c.in_ok-bears.ensures.store;
 }
 
 pub returns : goal.returns
 returns g c = record {
   told = λ f bears.
-      let end : 64 ≤ c.loop-e.e = search rules in
+      let end : 64 ≤ c.loop-number.number = search rules in
       let below = named_small (committed c.args.store.now) _ f bears in
-      c.loop-e.invariant.none f (omega (arith, end, below)) bears;
-  store = reads_so_far _ _ c.loop-e.invariant.reads c.loop-e.invariant.ready;
+      c.loop-number.invariant.none f (omega (arith, end, below)) bears;
+  store = reads_so_far _ _ c.loop-number.invariant.reads c.loop-number.invariant.ready;
 }

@@ -5,9 +5,9 @@ use Rattle.file_tree.specs.Naming.{BearsNameAt}
 use Rattle.file_tree.specs.Table.{table}
 use Rattle.file_lookup.proofs.naming.first_named.Given as goal
 
-abbrev pub invariant-loop-e : goal.invariant-loop-e
-invariant-loop-e g l = let t = table (committed l.initial.store) in record {
+abbrev pub invariant-loop-number : goal.invariant-loop-number
+invariant-loop-number g l = let t = table (committed l.initial.store) in record {
   ready : IsReady l.store;
   reads : OnlyReads l.initial.store l.store;
-  none : (f : ℕ) → f < l.e → BearsNameAt t l.name f → ⊥;
+  none : (f : ℕ) → f < l.number → BearsNameAt t l.name f → ⊥;
 }

@@ -1,5 +1,6 @@
 use Rattle.std.proofs.Common.{◌≡◌, ◌≤◌, ◌<◌, ◌+◌, ◌-◌, ℕ, List, slice_index, ⊎_elim, inl, inr, sym, ◌∙◌, ap, arith}
 use Rattle.std.proofs.lemmas.Bool.{cases_lt}
+use Rattle.nvm_board.specs.Facts.{address}
 use Rattle.undo_journal.specs.Memory.{committed}
 use Rattle.undo_journal.specs.laws.Calls.{reads_same, reads_then}
 use Rattle.undo_journal.specs.laws.Exits.{none_ok}
@@ -31,8 +32,10 @@ loop-end-preserved g c =
     let before = c.loop-end.invariant.at_end in
     let most = before.most in
     let more : 1 < c.loop-end.end = omega (arith, c.loop-end-test.true) in
+    let place : c.entry_address.result ≡ address (1 + last) 0 = c.entry_address.ensures
+    ∙ ap (λ (e : ℕ). address (1 + e) 0) c.new.ensures in
     let none : slice_index (page_words m (1 + last)) 0 ≡ 0 =
-    index-page_words m (1 + last) 0 (omega arith) ∙ ap (slice_index m) (sym c.entry_address.ensures)
+    index-page_words m (1 + last) 0 (omega arith) ∙ ap (slice_index m) (sym place)
     ∙ ap (λ (l : List ℕ). slice_index l c.entry_address.result) (sym c.loop-end.invariant.reads.keeps.committed_words)
     ∙ sym c.in_ok-first.ensures.word ∙ c.if-first-ne0.false in
     let here : entry_in t last ≡ free_entry = entry_in-table m last (omega (arith, most, more))
@@ -79,7 +82,8 @@ returns-then-first-ne0-clause-last g c =
     inr (λ none. c.if-first-ne0.true
     (c.in_ok-first.ensures.word
     ∙ ap (λ (l : List ℕ). slice_index l c.entry_address.result) c.loop-end.invariant.reads.keeps.committed_words
-    ∙ ap (slice_index (committed c.args.store.now)) c.entry_address.ensures ∙ none))
+    ∙ ap (slice_index (committed c.args.store.now))
+    (c.entry_address.ensures ∙ ap (λ (e : ℕ). address (1 + e) 0) c.new.ensures) ∙ none))
 
 pub returns-clause-last : goal.returns-clause-last
 returns-clause-last g c =

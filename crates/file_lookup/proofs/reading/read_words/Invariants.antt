@@ -9,5 +9,5 @@ invariant-loop-k g l = record {
   ready : IsReady l.store;
   reads : OnlyReads l.initial.store l.store;
   size : length l.words ≡ 11;
-  so_far : (k : ℕ) → k < l.k → slice_index l.words k ≡ word (committed l.initial.store) (1 + l.e) k;
+  so_far : (k : ℕ) → k < l.k → slice_index l.words k ≡ word (committed l.initial.store) (1 + l.fn.e) k;
 }

@@ -5,14 +5,9 @@ use Rattle.std.proofs.lemmas.Bool.Decides.{eqb_tells}
 use Rattle.std.proofs.lemmas.Grind.{get_or-set_at}
 use Rattle.std.proofs.lemmas.List.{get_or-replicate}
 use Rattle.file_tree.specs.declared.steps.Place.{Place}
-use Rattle.file_tree.specs.Keys.{key_for}
 use Rattle.file_tree.specs.IndexParts.{parent_by}
 use Rattle.file_tree.specs.laws.Indexes.{parent_here, parent_skip, parent_none}
 use Rattle.file_tree.proofs.index.parents_of.Goals as goal
-
--- what stands past the end
-abbrev no_place : Place
-no_place = record { key = key_for 0 0; entry = 0 }
 
 pub loop-left-init : goal.loop-left-init
 loop-left-init c =
@@ -33,7 +28,8 @@ loop-left-preserved c =
     let lt : left - 1 < length places = omega (arith, invariant.within, some) in
     let one : left - 1 + 1 ≡ left = omega (arith, some) in
     let entry = c.from.result in
-    let is : entry ≡ (slice_index_or places (left - 1) no_place).entry = c.from.ensures in
+    let is : entry ≡ (slice_index_or places (left - 1) c.index-places-left.result).entry =
+    c.from.ensures ∙ c.get-in-loop-left.ensures ∙ ap (λ (p : Place). p.entry) c.index-places-left.is in
     record {
       within = omega (arith, invariant.within);
       long = length-set _ _ _ ∙ invariant.long;
@@ -41,13 +37,15 @@ loop-left-preserved c =
         | inl same ↦
             let fits : entry < length old = omega (arith, same.1, small, invariant.long) in
             get_or-set_at old entry e _ 0 (sym same.1) fits
+            ∙ c.get.ensures
             ∙ c.parent.ensures
-            ∙ sym (parent_here places (left - 1) e no_place lt (sym is ∙ same.1))
+            ∙ ap (λ (p : Place). p.key.parent) c.index-places-left.is
+            ∙ sym (parent_here places (left - 1) e c.index-places-left.result lt (sym is ∙ same.1))
         | inr other ↦
             get_or-set_other old entry e _ 0 (λ at. other.1 (sym at))
             ∙ invariant.so_far e small
             ∙ ap (λ (n : ℕ). parent_by (drop n places) e) (sym one)
-            ∙ sym (parent_skip places (left - 1) e no_place lt (λ at. other.1 (is ∙ at)))
+            ∙ sym (parent_skip places (left - 1) e c.index-places-left.result lt (λ at. other.1 (is ∙ at)))
       ];
     }
 

@@ -3,15 +3,10 @@ use Rattle.std.proofs.Common.{slice_index, slice_index_or, sym, ◌∙◌, ap, a
 use Rattle.std.proofs.Math.Seq.{take-length}
 use Rattle.std.proofs.lemmas.List.Elements.{filter_more}
 use Rattle.file_tree.specs.declared.steps.Place.{Place}
-use Rattle.file_tree.specs.Keys.{key_for}
 use Rattle.file_tree.specs.IndexParts.{is_outside, parent_by}
 use Rattle.file_tree.specs.Subtrees.{leads}
 use Rattle.file_tree.proofs.index.places_outside.Goals as goal
 use Rattle.file_tree.proofs.index.places_outside.Goals.{then-not-is_within, else-not-is_within}
-
--- what stands past the end
-abbrev no_place : Place
-no_place = record { key = key_for 0 0; entry = 0 }
 
 pub loop-place-init : goal.loop-place-init
 loop-place-init c =
@@ -30,21 +25,23 @@ loop-place-preserved c =
     let places = c.args.places.now in
     let k = c.loop-place.place-index in
     let keep = is_outside places c.args.top in
-    let place = slice_index_or places k no_place in
+    let place = slice_index_or places k c.place-item.result in
     let before = c.loop-place.outside.items in
     let size = c.loop-place.invariant.size in
     let so_far = c.loop-place.invariant.so_far in
-    let more = filter_more keep places k no_place c.loop-place-test.true in
+    let more = filter_more keep places k c.place-item.result c.loop-place-test.true in
     let told : List Place → Type 0 = λ ps. (length ps ≤ k + 1) × (ps ≡ filter keep (take (k + 1) places)) in
     let within : c.is_within.result ≡ leads (parent_by places) 7 c.args.top place.entry =
     c.is_within.ensures (parent_by places) (λ e told small answers.
     let read : told ≡ slice_index c.parents_of-parents.result e = search rules in
-    read ∙ c.parents_of-parents.ensures e small) in
+    read ∙ c.parents_of-parents.ensures e small)
+    ∙ ap (λ (p : Place). leads (parent_by places) 7 c.args.top p.entry) c.place-item.is in
     let next : told c.if-not-is_within.outside.items = elim c.if-not-is_within.branch [
       | then-not-is_within w ↦
           let passes : keep place ≡ true = ap not (sym within ∙ w.if-not-is_within.true) in
           let items : c.if-not-is_within.outside.items ≡ before ++ place ∷ [] = (λ j. (w.outside-is j).items)
-          ∙ w.push.ensures.items in
+          ∙ w.push.ensures.items
+          ∙ ap (λ (p : Place). before ++ p ∷ []) c.place-item.is in
           let long : length c.if-not-is_within.outside.items ≡ length before + 1 = (λ j. length (w.outside-is j).items)
           ∙ w.push.ensures.len in (
             omega (arith, long, size),

@@ -1,13 +1,7 @@
 use Rattle.std.proofs.Common.{◌≡◌, ◌<◌, ◌≤◌, ◌+◌, ◌-◌, ◌/◌, ℕ, length, sym, subst, arith, ◌∙◌}
-use Rattle.file_tree.specs.declared.steps.Place.{Place}
-use Rattle.file_tree.specs.Keys.{key_for}
 use Rattle.file_tree.specs.IndexParts.{AreBehind, halved}
 use Rattle.file_tree.specs.laws.Indexes.{same_key, search_up, search_down, halved-few, halved-half}
 use Rattle.file_tree.proofs.steps.search.Goals as goal
-
--- what stands past the end
-abbrev no_place : Place
-no_place = record { key = key_for 0 0; entry = 0 }
 
 pub loop-low-init : goal.loop-low-init
 unfolding halved
@@ -59,7 +53,7 @@ loop-low-preserved-in-Less c =
       few = omega (arith, few, more);
       left = subst (λ (n : ℕ). high - (middle + 1) ≤ halved n) (sym more)
           (halved-half c.loop-low.steps (high - (middle + 1)) half);
-      before = λ up. search_up c.args.places.now c.args.key middle inside up no_place (c.in-Less.ensures.order);
+      before = λ up. search_up c.args.places.now c.args.key.now middle inside up c.index-places-middle.result (c.in-Less.ensures.order);
       behind = c.loop-low.invariant.behind;
     }
 
@@ -74,7 +68,7 @@ returns-in-Equal-clause-found c = λ up d.
     let within = c.loop-low.invariant.within in
     let lt = c.loop-low-test.true in
     let middle = c.loop-low.low + (c.loop-low.high - c.loop-low.low) / 2 in
-    same_key c.args.places.now middle d no_place (omega (arith, within, lt)) ∙ c.in-Equal.ensures.order
+    same_key c.args.places.now middle d c.index-places-middle.result (omega (arith, within, lt)) ∙ c.in-Equal.ensures.order
 
 pub returns-in-Equal-clause-steps : goal.returns-in-Equal-clause-steps
 returns-in-Equal-clause-steps c =
@@ -102,7 +96,7 @@ loop-low-preserved c =
       few = omega (arith, few, more);
       left = subst (λ (n : ℕ). middle - low ≤ halved n) (sym more) (halved-half c.loop-low.steps (middle - low) half);
       before = c.loop-low.invariant.before;
-      behind = λ up. search_down c.args.places.now c.args.key middle inside up no_place (c.in-Greater.ensures.order);
+      behind = λ up. search_down c.args.places.now c.args.key.now middle inside up c.index-places-middle.result (c.in-Greater.ensures.order);
     }
 
 pub returns-clause-within : goal.returns-clause-within
@@ -117,7 +111,7 @@ returns-clause-found c = λ up.
     let end = c.loop-low-test.false in
     let same : c.loop-low.high ≡ c.loop-low.low = omega (arith, ordered, end) in (
       c.loop-low.invariant.before up,
-      subst (AreBehind c.args.places.now c.args.key) same
+      subst (AreBehind c.args.places.now c.args.key.now) same
           (c.loop-low.invariant.behind up),
     )
 

@@ -19,8 +19,9 @@ pub returns-in-MasterFile-clause-found : goal.returns-in-MasterFile-clause-found
 returns-in-MasterFile-clause-found g c = record {
   told = let m = committed c.args.store.now in
       ap (λ (selector : Selector). selected_from (card_of m).tree (path_of (table_in c.args.store.now)
-      c.args.current.df) (selection_of selector)) c.in-MasterFile.is
-      ∙ sym (ap (λ (path : Path). Some path) (master-path m));
+      c.args.current.now.df) (selection_of selector)) c.in-MasterFile.is
+      ∙ sym (ap (λ (e : ℕ). Some (path_of (table_in c.args.store.now) e)) c.master.ensures
+      ∙ ap (λ (path : Path). Some path) (master-path m));
   store = search rules;
 }
 
@@ -28,7 +29,7 @@ pub returns-in-Identifier-clause-found : goal.returns-in-Identifier-clause-found
 returns-in-Identifier-clause-found g c = record {
   told = let m = committed c.args.store.now in
       let t = table_in c.args.store.now in
-      let df = path_of t c.args.current.df in
+      let df = path_of t c.args.current.now.df in
       let id = c.in-Identifier.identifier in
       IfOk-weaker c.select.result (λ (found : Option ℕ). option_map (path_of t) found ≡ reached (tree_of m) df id) _
       (λ found is. ap (λ (selector : Selector). selected_from (card_of m).tree df (selection_of selector))
@@ -42,7 +43,7 @@ pub returns-in-Parent-clause-found : goal.returns-in-Parent-clause-found
 returns-in-Parent-clause-found g c = record {
   told = let m = committed c.args.store.now in
       let t = table_in c.args.store.now in
-      let df = path_of t c.args.current.df in
+      let df = path_of t c.args.current.now.df in
       IfOk-weaker c.find_parent.result
       (λ (found : Option ℕ). option_map (path_of t) found ≡ selected (tree_of m) df the_parent) _
       (λ found is. ap (λ (selector : Selector). selected_from (card_of m).tree df
@@ -56,7 +57,7 @@ pub returns-in-Name-clause-found : goal.returns-in-Name-clause-found
 returns-in-Name-clause-found g c = record {
   told = let m = committed c.args.store.now in
       let t = table_in c.args.store.now in
-      let df = path_of t c.args.current.df in
+      let df = path_of t c.args.current.now.df in
       let name = c.in-Name.name.now in
       IfOk-weaker c.find_name.result
       (λ (found : Option ℕ). (above : Path) → option_map (path_of t) found ≡ selected (tree_of m) above
@@ -70,7 +71,7 @@ returns-in-Name-clause-found g c = record {
 pub returns-in-PathFromMaster-clause-found : goal.returns-in-PathFromMaster-clause-found
 returns-in-PathFromMaster-clause-found g c = record {
   told = let m = committed c.args.store.now in
-      let df = path_of (table_in c.args.store.now) c.args.current.df in
+      let df = path_of (table_in c.args.store.now) c.args.current.now.df in
       let path = c.deref.result.now in
       let is = c.deref.ensures.0 ∙ c.identifiers_of.ensures in
       let reaches = c.find_path_from_master.ensures.found m c.requires.card.kept.card.tree c.requires.card.index df in
@@ -89,10 +90,10 @@ pub returns-in-PathFromCurrent-clause-found : goal.returns-in-PathFromCurrent-cl
 returns-in-PathFromCurrent-clause-found g c = record {
   told = let m = committed c.args.store.now in
       let t = table_in c.args.store.now in
-      let df = path_of t c.args.current.df in
+      let df = path_of t c.args.current.now.df in
       let path = c.deref-in-PathFromCurrent.result.now in
       let is = c.deref-in-PathFromCurrent.ensures.0 ∙ c.identifiers_of-in-PathFromCurrent.ensures in
-      let reaches = c.find_path.ensures.found m c.requires.card.kept.card.tree (df_used t c.args.current
+      let reaches = c.find_path.ensures.found m c.requires.card.kept.card.tree (df_used t c.args.current.now
       c.requires.card.kept.current)
       c.requires.card.index in
       ap (λ (selector : Selector). selected_from (card_of m).tree df (selection_of selector)) c.in-PathFromCurrent.is
@@ -104,7 +105,7 @@ returns-in-PathFromCurrent-clause-found g c = record {
 pub returns-in-PathFromCurrent-clause-used : goal.returns-in-PathFromCurrent-clause-used
 returns-in-PathFromCurrent-clause-used g c =
     c.find_path.ensures.used (committed c.args.store.now) c.requires.card.kept.card.tree
-    (df_used (table_in c.args.store.now) c.args.current c.requires.card.kept.current) c.requires.card.index
+    (df_used (table_in c.args.store.now) c.args.current.now c.requires.card.kept.current) c.requires.card.index
 
 pub find_parent-requires : goal.find_parent-requires
 find_parent-requires g c = record { df = df_kept _ _ c.requires.card.kept }

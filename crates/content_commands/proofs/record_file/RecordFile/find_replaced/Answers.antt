@@ -11,7 +11,7 @@ use Rattle.content_commands.proofs.record_file.RecordFile.find_replaced.Goals as
 
 pub returns-in_err-slot-clause-refusal : goal.returns-in_err-slot-clause-refusal
 returns-in_err-slot-clause-refusal c =
-    let ring = c.args.self.ring in
+    let ring = c.args.self.now.ring in
     let count = length-replicate ring.records [] in
     let number = c.replaced.ensures in
     let status = c.in_err-slot.field-0.0 in

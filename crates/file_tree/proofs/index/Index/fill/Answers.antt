@@ -1,4 +1,4 @@
-use Rattle.std.proofs.Common.{rules, ◌≡◌, ◌<◌, ◌≤◌, ◌+◌, List, [], length, sym, ◌∙◌, ap, subst, arith, Bool}
+use Rattle.std.proofs.Common.{rules, ◌≡◌, ◌<◌, ◌≤◌, ◌+◌, List, [], length, sym, ◌∙◌, ap, subst, arith, slice_index_or, ℕ, Bool}
 use Rattle.file_tree.specs.declared.entry.Entry.{Entry}
 use Rattle.file_tree.specs.declared.steps.Key.{Key}
 use Rattle.file_tree.specs.declared.steps.Place.{Place}
@@ -42,15 +42,18 @@ loop-e-preserved c =
     let size = c.loop-e.invariant.size in
     let below : 0 < e = search rules in
     let small : e < length t = search rules in
+    let stored = slice_index_or t e unread in
     let read = entry_within t e unread small in
     let told : Index → Type 0 = λ i. (length i.places.items < e + 1) × ArePlacesTo t (e + 1) i.places.items in
     let next : told c.if-is_used.self = elim c.if-is_used.branch [
       | then-is_used+else-not-put w ↦
           let used : IsUsed t e =
           λ none. c.is_used.ensures.0 w.if-is_used.true (ap (λ (y : Entry). y.kind) read ∙ none) in
-          let place : Place = record { key = w.new.result; entry = e } in
+          let place : Place = record { key = w.new-then-is_used.result; entry = w.new-then-is_used-2.result } in
           let own : place ≡ place_of t e =
-          ap (λ (k : Key). record { key = k; entry = e }) w.new.ensures
+          ap (λ (k : Key). record { key = k; entry = place.entry }) w.new-then-is_used.ensures
+          ∙ ap (λ (n : ℕ). record { key = key_for n stored.identifier; entry = place.entry }) w.new.ensures
+          ∙ ap (λ (n : ℕ). record { key = key_for stored.parent stored.identifier; entry = n }) w.new-then-is_used-2.ensures
           ∙ ap (λ (y : Entry). record { key = key_for y.parent y.identifier; entry = e }) read in
           let family : Bool → Type 0 = λ b. TellsPut places place w.put.new.self.places.items b in
           subst told (sym w.self-is) (places_stored t e places w.put.new.self.places.items place so_far
@@ -72,11 +75,14 @@ returns-then-not-put c =
     let so_far = c.loop-e.invariant.so_far in
     let below : 0 < e = search rules in
     let small : e < length t = search rules in
+    let stored = slice_index_or t e unread in
     let read = entry_within t e unread small in
     let used : IsUsed t e = λ none. c.is_used.ensures.0 c.if-is_used.true (ap (λ (y : Entry). y.kind) read ∙ none) in
-    let place : Place = record { key = c.new.result; entry = e } in
+    let place : Place = record { key = c.new-then-is_used.result; entry = c.new-then-is_used-2.result } in
     let own : place ≡ place_of t e =
-    ap (λ (k : Key). record { key = k; entry = e }) c.new.ensures
+    ap (λ (k : Key). record { key = k; entry = place.entry }) c.new-then-is_used.ensures
+    ∙ ap (λ (n : ℕ). record { key = key_for n stored.identifier; entry = place.entry }) c.new.ensures
+    ∙ ap (λ (n : ℕ). record { key = key_for stored.parent stored.identifier; entry = n }) c.new-then-is_used-2.ensures
     ∙ ap (λ (y : Entry). record { key = key_for y.parent y.identifier; entry = e }) read in
     let family : Bool → Type 0 = λ b. TellsPut places place c.put.new.self.places.items b in
     places_taken t e places place so_far below used own (subst family c.if-not-put.true (c.put.ensures so_far.sorted))

@@ -1,16 +1,10 @@
 use Rattle.std.proofs.Common.{ℕ, None, Some, Result, length, slice_index_or, subst, ◌∙◌}
 use Rattle.std.specs.List.Sorted.{IsSearchInRange}
 use Rattle.file_tree.specs.declared.steps.Key.{Key}
-use Rattle.file_tree.specs.declared.steps.Place.{Place}
-use Rattle.file_tree.specs.Keys.{key_for}
 use Rattle.file_tree.specs.IndexParts.{AreBefore, AreBehind, TellsSearch}
 use Rattle.file_tree.specs.laws.Indexes.{are_sorted, found_child, no_child}
 use Rattle.file_tree.specs.laws.Indexed.{told_path}
 use Rattle.file_tree.proofs.index.Index.find.Goals as goal
-
--- what stands past the end
-abbrev no_place : Place
-no_place = record { key = key_for 0 0; entry = 0 }
 
 pub returns-in-Ok-clause-found : goal.returns-in-Ok-clause-found
 returns-in-Ok-clause-found c = λ m is.
@@ -21,8 +15,8 @@ returns-in-Ok-clause-found c = λ m is.
     c.in-Ok.is c.search-found.ensures.within in
     let there = subst (λ (r : Result ℕ ℕ). TellsSearch places c.new.result r)
     c.in-Ok.is (c.search-found.ensures.found up) in
-    found_child m c.args.self.now places same c.args.parent c.args.identifier c.in-Ok.at is no_place
-    within (there no_place ∙ c.new.ensures)
+    found_child m c.args.self.now places same c.args.parent c.args.identifier c.in-Ok.at is c.index-places-at.result
+    within (there c.index-places-at.result ∙ c.new.ensures)
 
 pub returns-in-Err-clause-found : goal.returns-in-Err-clause-found
 returns-in-Err-clause-found c = λ m is.
@@ -41,7 +35,7 @@ returns-in-Err-clause-found c = λ m is.
 pub returns-in-Ok-clause-path : goal.returns-in-Ok-clause-path
 returns-in-Ok-clause-path c = λ m stands used is.
     told_path m stands.entries c.args.parent c.args.identifier used
-    (Some (slice_index_or c.as_slice-places.result.now c.in-Ok.at no_place).entry) (returns-in-Ok-clause-found c m is)
+    (Some (slice_index_or c.as_slice-places.result.now c.in-Ok.at c.index-places-at.result).entry) (returns-in-Ok-clause-found c m is)
 
 pub returns-in-Err-clause-path : goal.returns-in-Err-clause-path
 returns-in-Err-clause-path c = λ m stands used is.
