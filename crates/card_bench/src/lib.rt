@@ -7,7 +7,6 @@ pub mod laws;
 mod line;
 mod line_result;
 mod script;
-mod sweepable;
 
 pub use bench_lines::{COMMAND_LIMIT, Order};
 pub use bench_turns::{Item, Turn};
@@ -16,4 +15,3 @@ pub use card_turns::Bench;
 pub use desk::Desk;
 pub use line_result::LineResult;
 pub use script::{run, run_on};
-pub use sweepable::Sweepable;

@@ -14,9 +14,9 @@ ghost use Rattle.card_sweeps.specs.Sweeps.{CutsCommand, CutsStart, SparesStart, 
 ghost use Rattle.card_sweeps.specs.Sweeps.{GivenByRun, PlaysOn, free_of};
 
 use crate::cut_masks::{mask_at, mask_count, words_to_try};
+use crate::sweepable::Sweepable;
 use crate::tally::{Sweep, Trace, blank_trace};
 use bench_turns::{Turn, TurnResult};
-use card_bench::Sweepable;
 use card_state::FreeSpace;
 use card_turns::Bench;
 use std::alloc::{AllocError, Global};

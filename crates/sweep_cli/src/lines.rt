@@ -4,7 +4,7 @@ ghost use Rattle.sweep_cli.specs.Printing.{answer_text, cut_head, sent_field, fi
 ghost use Rattle.sweep_cli.specs.Printing.{looks_text};
 ghost use Rattle.sweep_cli.specs.Printing.{reply_text, result_text, results_text, stage_head, total_text, word_text};
 
-use card_bench::Item;
+use bench_turns::Item;
 use card_sweeps::Seen;
 use std::alloc::{AllocError, Global};
 

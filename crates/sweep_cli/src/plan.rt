@@ -12,7 +12,7 @@ use crate::device_writes::{DeviceWrite, WriteKind, push_kinds};
 use crate::lines::{cut_head, push_results, push_total, stage_head};
 use crate::parts::SweepPart;
 use crate::swept_board::ReadableBoard;
-use card_bench::Turn;
+use bench_turns::Turn;
 use card_sweeps::{cut_at, mask_at, mask_count, play_copy, sweep_behind, words_to_try};
 use std::alloc::{AllocError, Global};
 

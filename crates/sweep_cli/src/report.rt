@@ -12,7 +12,7 @@ use crate::plan::{Plan, push_first_part, push_stage, push_writes};
 use crate::script::{SweepScript, read_script};
 use crate::steps::{Step, turns_of};
 use crate::swept_board::ReadableBoard;
-use card_bench::Turn;
+use bench_turns::Turn;
 use script_output::write_line;
 use std::alloc::{AllocError, Global};
 use std::io::{BufRead, Write};

@@ -2,7 +2,7 @@
 ghost use Rattle.std.specs.Prelude.{◌≡◌, ◌++◌, ◌∷◌, [], IfOk, OnOk};
 ghost use Rattle.sweep_cli.specs.Turning.{AreTurns, IsTurn};
 
-use card_bench::Turn;
+use bench_turns::Turn;
 use std::alloc::{AllocError, Global};
 use std::marker::Model;
 

@@ -3,9 +3,10 @@ ghost use Rattle.std.specs.Prelude.{◌≡◌, None, IfOk};
 ghost use Rattle.simulated_boards.specs.Cut.{cut_facts};
 ghost use Rattle.card_start.specs.Factory.{factory_card};
 ghost use Rattle.command_base.specs.Finding.{Finds, HasCard};
-ghost use Rattle.card_bench.specs.Prints.{IsJustWritten};
+ghost use Rattle.card_boards.specs.NewlyWritten.{IsJustWritten};
 
-use card_bench::{NoCard, Sweepable, factory_board, image_board};
+use card_boards::{NoCard, factory_board, image_board};
+use card_sweeps::Sweepable;
 use nvm_board::{MOST_PAGES, PAGE_WORDS};
 use simulated_boards::CutBoard;
 use std::alloc::{AllocError, Global};
