@@ -6,3 +6,4 @@ pub mod Lasting
 pub mod Plays
 pub mod TurnResults
 pub mod Turns
+pub mod NewlyWritten

@@ -1,10 +1,2 @@
-pub mod Prints
-pub mod DeskStates
-pub mod Exchanges
-pub mod ExchangeWorlds
-pub mod Lines
-pub mod ExchangeParts
-pub mod Performing
-pub mod ScriptWorlds
-pub mod ScriptEndings
 pub use Rattle.card_boards.specs.Images
+pub mod EndsParts

@@ -5,22 +5,22 @@ ghost use Rattle.std.specs.Io.KnownBytes.{Appends};
 ghost use Rattle.bench_lines.specs.declared.order.TheConstants.{COMMAND_LIMIT};
 ghost use Rattle.bench_turns.specs.BenchStates.{bench_facts, off};
 ghost use Rattle.card_model.specs.Requests.{HasBetween};
-ghost use Rattle.card_bench.specs.DeskStates.{print_of, printed_at};
+ghost use Rattle.script_effects.specs.DeskStates.{print_of, printed_at};
 ghost use Rattle.bench_lines.specs.OrderViews.{order_with};
 ghost use Rattle.bench_lines.specs.Orders.{IsOrderSized};
-ghost use Rattle.card_bench.specs.Performing.{Performs, PerformsCommand, TakesTurn, free_shown};
+ghost use Rattle.script_effects.specs.Lines.{perfect_line};
+ghost use Rattle.script_effects.specs.Performing.{Performs, PerformsCommand, TakesTurn, free_shown};
 ghost use Rattle.bench_turns.specs.Plays.{IsGood};
 ghost use Rattle.script_output.specs.Printouts.{prints_nothing, text_of};
 
-use crate::exchange::{Blocks, Ending, Ends, exchange};
-use crate::line::Line;
-use crate::line_result::LineResult;
+use crate::exchange::{Ends, exchange};
 use bench_lines::Order;
 use bench_turns::Turn;
 use card_turns::Bench;
 use kept_board::Followed;
 use nvm_board::{Armed, Faultless, Socket};
-use script_output::{ATR, PrintedText, RunFault, print_bytes, print_free, write_line};
+use script_effects::{Blocks, Ending, Line, LineResult};
+use script_output::{PrintedText, RunFault};
 use std::io::Write;
 use std::marker::Model;
 use t1_link::{AnswerBytes, BlockBytes, ReaderEnd};
@@ -38,7 +38,7 @@ impl<B: Socket> Model for Desk<B> {
     ghost use Rattle.std.specs.Prelude.{◌≢◌, IsTrue};
     ghost use Rattle.t1_link.specs.declared.reader_end.Phase.TheVariants.{Busy};
     ghost use Rattle.card_model.specs.Sessions.{session_code};
-    ghost use Rattle.card_bench.specs.DeskStates.{DeskState, reader_there};
+    ghost use Rattle.script_effects.specs.DeskStates.{DeskState, reader_there};
 
     ghost Value = { DeskState };
 
@@ -58,7 +58,7 @@ impl<B: Socket> Desk<B> {
     pub fn new(board: B) -> Desk<B>
         ensures bench { result.desk.bench ≡ off (record (B.facts board) { dark = true }) }
         ensures reader { result.desk.reader ≡ None }
-        ensures line { result.desk.line ≡ record { lose = None; garble = None } }
+        ensures line { result.desk.line ≡ perfect_line }
     {
         Desk {
             ends: Ends {
@@ -96,36 +96,6 @@ impl<B: Socket> Desk<B> {
             _ => {}
         }
     }
-
-    /// Prints the result of the last line, and flushes. Without output it doesn't use the writer.
-    ///
-    /// # Errors
-    ///
-    /// `Write` if the writer fails, or takes nothing.
-    fn print<W: Write>(
-        &self,
-        line_result: LineResult,
-        writer: &mut W,
-        text: &mut PrintedText,
-    ) -> Result<(), RunFault>
-        ensures wrote { OnOk result
-            (Appends (W.contents writer.old) (W.contents writer.new) (text_of (printed_at line_result self.now))) }
-        ensures began { OnErr result ((size : ℕ) × Appends (W.contents writer.old) (W.contents writer.new)
-            (take size (text_of (printed_at line_result self.now)))) }
-        ensures fault { IfErr result (λ fault. fault ≡ RunFault.Write) }
-        ensures speaks { OnErr result (printed_at line_result self.now ≢ prints_nothing) }
-    {
-        match line_result {
-            LineResult::Nothing => Ok(()),
-            LineResult::Atr => write_line(writer, ATR),
-            LineResult::Mute => write_line(writer, b"mute\n"),
-            LineResult::Dark => write_line(writer, b"dark\n"),
-            LineResult::Lost => write_line(writer, b"lost\n"),
-            LineResult::Answer => print_bytes(writer, self.ends.reader.answer(), text),
-            LineResult::Block => print_bytes(writer, &self.ends.blocks.toward_reader, text),
-            LineResult::Free(free) => print_free(writer, free),
-        }
-    }
 }
 
 impl<B: Socket + Followed> Desk<B> {
@@ -134,7 +104,7 @@ impl<B: Socket + Followed> Desk<B> {
     ///
     /// # Errors
     ///
-    /// `Unkept` if the follower has not all writes: then nothing is written. `Write` as `print`.
+    /// `Unkept` if the follower has not all writes: then nothing is written. `Write` as `LineResult::print`.
     pub(crate) fn answer<W: Write>(
         &self,
         line_result: LineResult,
@@ -156,13 +126,14 @@ impl<B: Socket + Followed> Desk<B> {
         if !matches!(line_result, LineResult::Nothing) && !self.ends.bench.board().follows() {
             return Err(RunFault::Unkept);
         }
-        self.print(line_result, writer, text)
+        let ends = &self.ends;
+        line_result.print(&ends.reader, &ends.blocks.toward_reader, writer, text)
     }
 }
 
 impl<B: Armed + Faultless> Desk<B> {
     /// Runs the order of a line, with its bytes, and returns the result.
-    #[tactic(auto, using(crate::proofs::DeskTurns::off_taken, crate::proofs::DeskTurns::block_taken))]
+    #[tactic(auto, using(script_effects::proofs::DeskTurns::off_taken, script_effects::proofs::DeskTurns::block_taken))]
     pub fn perform(&mut self, order: Order, given: &[u8]) -> LineResult
         requires sized { IsOrderSized (order_with order given.now) }
         requires good { IsGood self.old.desk.bench }

@@ -2,36 +2,19 @@
 ghost use Rattle.std.specs.Prelude.{◌≡◌, ◌≢◌, IfErr, OnOk};
 ghost use Rattle.card_model.specs.Requests.{HasBetween};
 ghost use Rattle.t1_link.specs.declared.reader_end.Phase.TheVariants.{Busy};
-ghost use Rattle.t1_link.specs.ReaderTable.{reader_sends, reader_step, reader_times_out};
 ghost use Rattle.bench_lines.specs.declared.order.TheConstants.{COMMAND_LIMIT};
 ghost use Rattle.bench_turns.specs.BenchStates.{IsOn};
-ghost use Rattle.card_bench.specs.Exchanges.{Exchanged, Exchanges, GoesOn, Passes, ReaderTurns};
-ghost use Rattle.card_bench.specs.ExchangeParts.{ended_of, ends_of, flow_of, follows_of, next_block, HasPower};
+ghost use Rattle.script_effects.specs.Exchanges.{Exchanged, Exchanges, GoesOn, Passes};
+ghost use Rattle.card_bench.specs.EndsParts.{ends_of};
+ghost use Rattle.script_effects.specs.ExchangeValues.{ended_of, follows_of, next_block, HasPower};
 ghost use Rattle.bench_turns.specs.Plays.{IsGood};
 
-use crate::line::Line;
 use bench_turns::{Turn, TurnResult};
 use card_turns::Bench;
 use nvm_board::{Faultless, Socket};
+use script_effects::{Blocks, Ending, LINE_BLOCKS, Line, Toward, begin, hear, wait};
 use std::ops::ControlFlow;
-use t1_link::{BlockBytes, Next, ReaderEnd};
-
-/// The most blocks of a command, in both directions together.
-pub(crate) const LINE_BLOCKS: u16 = 1000;
-
-/// The destination of the block under way.
-#[derive(Clone, Copy)]
-pub(crate) enum Toward {
-    Card,
-    Reader,
-}
-
-/// The buffers of the blocks under way, one toward each end.
-#[derive(Drop)]
-pub(crate) struct Blocks {
-    pub toward_card: BlockBytes,
-    pub toward_reader: BlockBytes,
-}
+use t1_link::ReaderEnd;
 
 /// Both ends of the link, the line, and the blocks under way.
 #[derive(Drop)]
@@ -41,19 +24,6 @@ pub(crate) struct Ends<B: Socket> {
     pub reader: ReaderEnd,
     pub line: Line,
     pub blocks: Blocks,
-}
-
-/// How an exchange ended.
-#[derive(Clone, Copy)]
-pub(crate) enum Ending {
-    /// With the answer that the reader's end stores.
-    Answered,
-    /// By a RESYNCH: it is unknown whether the command ran.
-    SetBack,
-    /// The reader's end gave up, or the limit of blocks was reached.
-    Lost,
-    /// Power was lost.
-    Dark,
 }
 
 /// Sends a command, and passes blocks until the exchange ends.
@@ -125,51 +95,5 @@ fn pass<B: Socket + Faultless>(ends: &mut Ends<B>, toward: Toward) -> ControlFlo
             }
             hear(&mut ends.reader, &mut ends.blocks)
         }
-    }
-}
-
-/// Gives a command to the reader's end.
-fn begin(reader: &mut ReaderEnd, blocks: &mut Blocks, command: &[u8]) -> ControlFlow<Ending, Toward>
-    requires idle { reader.old.phase ≢ Busy }
-    requires size { HasBetween 1 COMMAND_LIMIT command.now }
-    ensures turns { ReaderTurns (reader_sends reader.old command.now) reader.new
-        (follows_of result blocks.new reader.new.answer) }
-    ensures busy { OnOk (follows_of result blocks.new reader.new.answer) (reader.new.phase ≡ Busy) }
-    ensures idle { IfErr (follows_of result blocks.new reader.new.answer) (λ ended. reader.new.phase ≢ Busy) }
-{
-    saying(reader.send(command, &mut blocks.toward_card))
-}
-
-/// Lets the reader's end time out.
-fn wait(reader: &mut ReaderEnd, blocks: &mut Blocks) -> ControlFlow<Ending, Toward>
-    requires { reader.old.phase ≡ Busy }
-    ensures turns { ReaderTurns (reader_times_out reader.old) reader.new
-        (follows_of result blocks.new reader.new.answer) }
-    ensures busy { OnOk (follows_of result blocks.new reader.new.answer) (reader.new.phase ≡ Busy) }
-    ensures idle { IfErr (follows_of result blocks.new reader.new.answer) (λ ended. reader.new.phase ≢ Busy) }
-{
-    saying(reader.timed_out(&mut blocks.toward_card))
-}
-
-/// Gives the received block to the reader's end.
-fn hear(reader: &mut ReaderEnd, blocks: &mut Blocks) -> ControlFlow<Ending, Toward>
-    requires { reader.old.phase ≡ Busy }
-    ensures turns { ReaderTurns (reader_step reader.old blocks.old.toward_reader) reader.new
-        (follows_of result blocks.new reader.new.answer) }
-    ensures busy { OnOk (follows_of result blocks.new reader.new.answer) (reader.new.phase ≡ Busy) }
-    ensures idle { IfErr (follows_of result blocks.new reader.new.answer) (λ ended. reader.new.phase ≢ Busy) }
-{
-    saying(reader.got(&blocks.toward_reader, &mut blocks.toward_card))
-}
-
-/// Returns the step after the reader's end returned `next`.
-fn saying(next: Next) -> ControlFlow<Ending, Toward>
-    ensures { result ≡ flow_of next }
-{
-    match next {
-        Next::Send => ControlFlow::Continue(Toward::Card),
-        Next::Done => ControlFlow::Break(Ending::Answered),
-        Next::Unknown => ControlFlow::Break(Ending::SetBack),
-        Next::Failed(_) => ControlFlow::Break(Ending::Lost),
     }
 }

@@ -3,9 +3,6 @@
 
 mod desk;
 mod exchange;
-pub mod laws;
-mod line;
-mod line_result;
 mod script;
 
 pub use bench_lines::{COMMAND_LIMIT, Order};
@@ -13,5 +10,4 @@ pub use bench_turns::{Item, Turn};
 pub use card_boards::{NoCard, factory_board, factory_board_of, image_board};
 pub use card_turns::Bench;
 pub use desk::Desk;
-pub use line_result::LineResult;
 pub use script::{run, run_on};

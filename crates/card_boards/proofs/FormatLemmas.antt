@@ -13,7 +13,7 @@ use Rattle.std.proofs.lemmas.List.{length-replicate}
 use Rattle.nvm_board.specs.laws.Sizes.{pages_same}
 use Rattle.command_base.specs.Standing.{board_blocks}
 use Rattle.undo_journal.specs.Spending.{WritesAtMost}
-use Rattle.card_boards.specs.NewlyWritten.{IsNewlyWritten}
+use Rattle.bench_turns.specs.NewlyWritten.{IsNewlyWritten}
 
 -- a new board has room for as many blocks as it has pages from page 128 on
 pub new_pages : (n : ℕ) (old : Facts) → old ≡ new_board n → pages_of old.words ≡ n

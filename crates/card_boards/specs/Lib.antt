@@ -1,3 +1,2 @@
--- New boards with a card.
-pub mod NewlyWritten
+-- Boards with the card of an image.
 pub mod Images

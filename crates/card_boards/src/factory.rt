@@ -4,7 +4,7 @@ ghost use Rattle.nvm_board.specs.declared.board.TheConstants.{LEAST_PAGES, MOST_
 ghost use Rattle.simulated_boards.specs.Cut.{cut_facts};
 ghost use Rattle.card_start.specs.Factory.{factory_card};
 ghost use Rattle.command_base.specs.Finding.{Finds};
-ghost use Rattle.card_boards.specs.NewlyWritten.{IsJustWritten, IsNewlyWritten};
+ghost use Rattle.bench_turns.specs.NewlyWritten.{IsJustWritten, IsNewlyWritten};
 
 use card_start::format;
 use nvm_board::LEAST_PAGES;

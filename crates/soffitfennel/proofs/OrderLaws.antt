@@ -7,10 +7,10 @@ use Rattle.nvm_board.specs.History.{Log, and_runs, replayed}
 use Rattle.bench_lines.specs.Orders.{Order}
 use Rattle.bench_turns.specs.BenchStates.{bench_facts}
 use Rattle.bench_turns.specs.Plays.{IsGood}
-use Rattle.card_bench.specs.Exchanges.{Desk}
-use Rattle.card_bench.specs.Performing.{Performs}
-use Rattle.card_bench.proofs.GuessedLines.{performs_few}
-use Rattle.card_bench.proofs.WrittenLines.{line_runs, performs_wrote}
+use Rattle.script_effects.specs.Exchanges.{Desk}
+use Rattle.script_effects.specs.Performing.{Performs}
+use Rattle.script_effects.proofs.GuessedLines.{performs_few}
+use Rattle.script_effects.proofs.WrittenLines.{line_runs, performs_wrote}
 use Rattle.script_output.specs.Printouts.{Print}
 use Rattle.soffitfennel.specs.CollectingParts.{Collects, IsInStep, Overruns}
 use Rattle.soffitfennel.specs.LoggedWrites.{run_of}

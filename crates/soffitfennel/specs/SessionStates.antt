@@ -2,8 +2,8 @@
 use Rattle.std.specs.Prelude.{ℕ, List, [], Bool, false}
 use Rattle.nvm_board.specs.Facts.{Facts}
 use Rattle.nvm_board.specs.History.{Run}
-use Rattle.card_bench.specs.Exchanges.{Desk}
-use Rattle.card_bench.specs.Prints.{desk_of}
+use Rattle.script_effects.specs.Exchanges.{Desk}
+use Rattle.script_effects.specs.Prints.{desk_of}
 use Rattle.soffitfennel.specs.LoggedWrites.{begun_log, log_room}
 
 -- The desk, the writes of its last order that the caller has not taken, and how many of them there is room for.

@@ -11,9 +11,9 @@ use Rattle.bench_lines.specs.Orders.{Order, IsOrderSized, Free}
 use Rattle.bench_turns.specs.BenchStates.{bench_facts}
 use Rattle.bench_turns.specs.Guessing.{GuessesFew}
 use Rattle.bench_turns.specs.Plays.{IsGood}
-use Rattle.card_bench.specs.DeskStates.{print_of}
-use Rattle.card_bench.specs.Performing.{Performs}
-use Rattle.card_bench.specs.Prints.{IsJustWritten}
+use Rattle.script_effects.specs.DeskStates.{print_of}
+use Rattle.script_effects.specs.Performing.{Performs}
+use Rattle.script_effects.specs.Prints.{IsJustWritten}
 use Rattle.script_output.specs.Printouts.{Print}
 use Rattle.script_output.specs.Printouts.{prints_nothing, prints_atr, prints_mute, prints_dark, prints_lost}
 use Rattle.script_output.specs.Printouts.{prints_bytes}

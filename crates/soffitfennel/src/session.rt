@@ -15,10 +15,11 @@ ghost use Rattle.soffitfennel.specs.Telling.{outcome_number, print_outcome, told
 use crate::collected::Collected;
 use crate::write::Write;
 use crate::write_log::{WriteLog, log_for};
-use card_bench::{COMMAND_LIMIT, Desk, LineResult, NoCard, Order, image_board};
+use card_bench::{COMMAND_LIMIT, Desk, NoCard, Order, image_board};
 use card_core::FreeSpace;
 use kept_board::KeptBoard;
 use nvm_board::has_no_fault;
+use script_effects::LineResult;
 use simulated_boards::CutBoard;
 use std::alloc::{AllocError, Global};
 use std::marker::Model;

@@ -3,7 +3,7 @@ ghost use Rattle.std.specs.Prelude.{◌≡◌, None, IfOk};
 ghost use Rattle.simulated_boards.specs.Cut.{cut_facts};
 ghost use Rattle.card_start.specs.Factory.{factory_card};
 ghost use Rattle.command_base.specs.Finding.{Finds, HasCard};
-ghost use Rattle.card_boards.specs.NewlyWritten.{IsJustWritten};
+ghost use Rattle.bench_turns.specs.NewlyWritten.{IsJustWritten};
 
 use card_boards::{NoCard, factory_board, image_board};
 use card_sweeps::Sweepable;

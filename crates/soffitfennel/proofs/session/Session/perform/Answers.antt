@@ -3,7 +3,7 @@ use Rattle.std.proofs.lemmas.List.{nil_from_length}
 use Rattle.nvm_board.specs.Facts.{Facts}
 use Rattle.nvm_board.specs.History.{Log}
 use Rattle.bench_lines.specs.OrderViews.{order_with}
-use Rattle.card_bench.specs.DeskStates.{print_of, printed_at}
+use Rattle.script_effects.specs.DeskStates.{print_of, printed_at}
 use Rattle.script_output.specs.Printouts.{Print}
 use Rattle.soffitfennel.specs.CollectingParts.{CollectsOr, IsInStep}
 use Rattle.soffitfennel.specs.SessionStates.{SessionState}
