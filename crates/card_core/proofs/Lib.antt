@@ -1,6 +1,4 @@
 pub mod Looking
 pub mod Carrying
 pub mod Commanding
-pub mod Refusing
 pub mod FoundFiles
-pub mod Failing

@@ -2,4 +2,3 @@
 -- commands in card_model and command_base.
 pub mod ShownSessions
 pub mod WholeCards
-pub mod Refused

@@ -4,7 +4,6 @@
 mod card;
 mod card_parts;
 mod commands;
-pub mod laws;
 
 pub use apdu_core::Answer;
 pub use card::Card;

@@ -1,0 +1,2 @@
+-- What a refused command leaves.
+pub mod Refused
