@@ -2,14 +2,11 @@
 //! With `--card FILE` it runs the script on the card in FILE.
 #![tactic(auto)]
 
-ghost use Rattle.std.specs.Prelude.{◌≡◌, MatchResult, IfOk};
-ghost use Rattle.command_base.specs.Finding.{HasCard};
-ghost use Rattle.kept_board.specs.Kept.{kept_words};
+ghost use Rattle.std.specs.Prelude.{◌≡◌, MatchResult};
 ghost use Rattle.script_output.specs.Faults.{status_of};
 
-use card_bench::{factory_board, run_on};
-use card_file::{Asked, CardBoard, CardFault, open_card, read_words};
-use kept_board::KeptBoard;
+use card_bench::run_on;
+use card_file::{Asked, CardFault, NoBoard, board_of, read_words};
 use script_output::RunFault;
 use std::env;
 use std::io::{self, BufReader, ErrorKind};
@@ -58,43 +55,29 @@ fn asked(rt: &HostRuntime) -> Result<Asked, RunFault> {
     }
 }
 
-/// Why there is no card to run a script on.
-enum NoBoard {
-    /// The run fails before it reads a line.
-    Run(RunFault),
-    /// The file is not taken as a card's.
-    Card(CardFault),
-}
-
-/// Returns the board with the card that the command line asks for.
-fn board_of(rt: &HostRuntime, asked: Asked) -> Result<CardBoard, NoBoard>
-    ensures { IfOk result (λ board. HasCard (kept_words board)) }
-{
-    match asked {
-        Asked::Factory => match factory_board(rt.alloc()) {
-            Ok(board) => Ok(KeptBoard::new(board, None)),
-            Err(_) => Err(NoBoard::Run(RunFault::Memory)),
-        },
-        Asked::Unknown => Err(NoBoard::Card(CardFault::Usage)),
-        Asked::Card(options) => match open_card(rt, &options) {
-            Ok(board) => Ok(board),
-            Err(fault) => Err(NoBoard::Card(fault)),
-        },
+/// Runs the script from standard input on the card that the command line asks for.
+///
+/// # Errors
+/// The file is not taken as a card's.
+fn run_asked(rt: &HostRuntime) -> Result<Result<(), RunFault>, CardFault> {
+    let Ok(mut reader) = BufReader::new(rt.alloc(), rt.reader()) else {
+        return Ok(Err(RunFault::Memory));
+    };
+    let asked = match asked(rt) {
+        Ok(asked) => asked,
+        Err(fault) => return Ok(Err(fault)),
+    };
+    match board_of(rt, asked) {
+        Ok(board) => Ok(run_on(board, &mut reader, &mut io::writer(rt))),
+        Err(NoBoard::Memory) => Ok(Err(RunFault::Memory)),
+        Err(NoBoard::Card(fault)) => Err(fault),
     }
 }
 
-/// Runs the script from standard input. The exit status is 0, or that of the fault.
+/// The exit status is 0, or that of the fault of the run.
 fn main(rt: HostRuntime) -> ExitCode {
-    let Ok(mut reader) = BufReader::new(rt.alloc(), rt.reader()) else {
-        return ExitCode::from(status_at_end(&rt, &Err(RunFault::Memory)));
-    };
-    let ran = match asked(&rt) {
-        Err(fault) => Err(fault),
-        Ok(asked) => match board_of(&rt, asked) {
-            Ok(board) => run_on(board, &mut reader, &mut io::writer(&rt)),
-            Err(NoBoard::Run(fault)) => Err(fault),
-            Err(NoBoard::Card(fault)) => return refuse(&rt, &fault),
-        },
-    };
-    ExitCode::from(status_at_end(&rt, &ran))
+    match run_asked(&rt) {
+        Ok(ran) => ExitCode::from(status_at_end(&rt, &ran)),
+        Err(fault) => refuse(&rt, &fault),
+    }
 }

@@ -7,5 +7,5 @@ mod options;
 mod page_count;
 
 pub use kept_file::CardBoard;
-pub use opening::{CardFault, open_card};
+pub use opening::{CardFault, NoBoard, board_of};
 pub use options::{Asked, CardOptions, read_words};

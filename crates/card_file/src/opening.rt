@@ -1,4 +1,4 @@
-//! Opens the file of a card, or makes one with the factory card.
+//! Returns the board that the command line asks for: opens the file of a card, or makes one with the factory card.
 ghost use Rattle.std.specs.Prelude.{◌-◌, IfOk};
 ghost use Rattle.card_file.specs.CommandLines.{new_card_pages, pages_number};
 ghost use Rattle.card_start.specs.Factory.{factory_card};
@@ -6,8 +6,8 @@ ghost use Rattle.command_base.specs.Finding.{Finds, HasCard};
 ghost use Rattle.kept_board.specs.Kept.{kept_words};
 
 use crate::kept_file::{CardBoard, KeptFile, PAGE_BYTES};
-use crate::options::CardOptions;
-use card_boards::{NoCard, factory_board_of, image_board};
+use crate::options::{Asked, CardOptions};
+use card_boards::{NoCard, factory_board, factory_board_of, image_board};
 use kept_board::KeptBoard;
 use nvm_board::{LEAST_PAGES, MOST_PAGES};
 use simulated_boards::CutBoard;
@@ -41,8 +41,33 @@ pub enum CardFault {
     Memory,
 }
 
+/// Why there is no board with what the command line asks for.
+pub enum NoBoard {
+    /// There is too little memory for a board that no file keeps.
+    Memory,
+    /// The file is not taken as a card's.
+    Card(CardFault),
+}
+
+/// Returns the board with the card that the command line asks for.
+pub fn board_of(rt: &HostRuntime, asked: Asked) -> Result<CardBoard, NoBoard>
+    ensures { IfOk result (λ board. HasCard (kept_words board)) }
+{
+    match asked {
+        Asked::Factory => match factory_board(rt.alloc()) {
+            Ok(board) => Ok(KeptBoard::new(board, None)),
+            Err(_) => Err(NoBoard::Memory),
+        },
+        Asked::Unknown => Err(NoBoard::Card(CardFault::Usage)),
+        Asked::Card(options) => match open_card(rt, &options) {
+            Ok(board) => Ok(board),
+            Err(fault) => Err(NoBoard::Card(fault)),
+        },
+    }
+}
+
 /// Returns the card in the file, or the factory card in a new file.
-pub fn open_card(rt: &HostRuntime, options: &CardOptions) -> Result<CardBoard, CardFault>
+fn open_card(rt: &HostRuntime, options: &CardOptions) -> Result<CardBoard, CardFault>
     ensures { IfOk result (λ board. HasCard (kept_words board)) }
 {
     let path = options.path.as_str();
