@@ -28,7 +28,7 @@ const BATCH_SETS: usize = BATCH as usize;
 const BATCH_PAIR_WORDS: usize = 2 * BATCH_SETS;
 
 /// A waiting set: a data word's address and the new word.
-#[derive(Clone, Copy, Debug, Default)]
+#[derive(Clone, Copy, Default)]
 pub struct Waiting {
     pub at: u16,
     pub word: u32,

@@ -14,7 +14,7 @@ pub enum StoreErr {
 }
 
 /// The reason why a store couldn't be opened.
-#[derive(Clone, Copy, Debug, PartialEq, Eq)]
+#[derive(Clone, Copy)]
 pub enum OpenFault {
     /// Power failed, or was off. The board is without power.
     PowerLost,
