@@ -19,8 +19,11 @@ pub struct KeptBoard<F: Follower> {
 }
 
 impl<F: Follower> KeptBoard<F> {
-    ghost use Rattle.std.specs.Prelude.{true};
+    ghost use Rattle.std.specs.Prelude.{true, false};
+    ghost use Rattle.nvm_board.specs.BoardCalls.{FitsPage, Writes};
+    ghost use Rattle.nvm_board.specs.Facts.{address};
     ghost use Rattle.nvm_board.specs.History.{and_run, run_in};
+    ghost use Rattle.simulated_boards.specs.Cut.{WritesOrTears};
     ghost use Rattle.kept_board.specs.Handed.{HandsOn, log_of};
     ghost use Rattle.kept_board.specs.Kept.{kept_facts, kept_log, kept_words};
 
@@ -51,8 +54,29 @@ impl<F: Follower> KeptBoard<F> {
         &self.follower
     }
 
-    /// Hands the words of a write to the follower. It isn't inlined, so that a board without one doesn't pay for it.
+    /// Writes, and hands the words to the follower. This is a function of its own, so that a write without a follower,
+    /// the usual case, doesn't pay for it.
     #[inline(never)]
+    fn write_followed(&mut self, page: u16, first: u8, words: &[u32]) -> Result<(), DeviceErr>
+        requires { FitsPage page first words.now (kept_facts F.log self.old) }
+        ensures writes { Writes (address page first) words.now (kept_facts F.log self.old)
+            (kept_facts F.log self.new) result }
+        ensures cut { WritesOrTears (address page first) words.now self.old.cut self.new.cut result }
+        ensures handed { (cut_facts self.old.cut).dark ≡ false → HandsOn self.old.follows
+            (run_in (kept_words self.new) (address page first) (length words.now))
+            (log_of F.log self.old.follower) (log_of F.log self.new.follower) }
+        ensures off { (cut_facts self.old.cut).dark ≡ true → self.new.follower ≡ self.old.follower }
+    {
+        if self.cut.is_dark() {
+            return self.cut.write(page, first, words);
+        }
+        let result = self.cut.write(page, first, words);
+        let at = usize::from(PAGE_WORDS) * usize::from(page) + usize::from(first);
+        self.hand_on(at, words.len());
+        result
+    }
+
+    /// Hands the words of a write to the follower.
     fn hand_on(&mut self, at: usize, size: usize)
         requires size { size ≤ PAGE_WORDS }
         requires within { at + size ≤ length (cut_facts self.old.cut).words }
@@ -110,13 +134,10 @@ impl<F: Follower> Board for KeptBoard<F> {
         // Nothing is written without power.
         ensures off { (cut_facts self.old.cut).dark ≡ true → self.new.follower ≡ self.old.follower }
     {
-        if self.follower.is_none() || self.cut.is_dark() {
-            return self.cut.write(page, first, words);
+        match self.follower {
+            None => self.cut.write(page, first, words),
+            Some(_) => self.write_followed(page, first, words),
         }
-        let result = self.cut.write(page, first, words);
-        let at = usize::from(PAGE_WORDS) * usize::from(page) + usize::from(first);
-        self.hand_on(at, words.len());
-        result
     }
 
     fn compare(&mut self, secret: u8, kept: &[u8; 8], shown: &[u8; 8]) -> Result<bool, DeviceErr>

@@ -1,72 +1,25 @@
 use Rattle.std.specs.Prelude.{if◌then◌else◌}
-use Rattle.std.proofs.Common.{◌≡◌, ◌+◌, ◌*◌, ℕ, Bool, true, false, length, Option, Some, None, is_some, refl, sym}
-use Rattle.std.proofs.Common.{ap, subst, arith, true≢false, not, ◌∙◌}
-use Rattle.nvm_board.specs.BoardCalls.{Writes}
+use Rattle.std.proofs.Common.{◌≡◌, Bool, true, false, Option, Some, None, is_some, refl, ap, true≢false}
 use Rattle.nvm_board.specs.Facts.{address}
-use Rattle.nvm_board.specs.History.{Log, Run, and_run, run_in}
-use Rattle.nvm_board.specs.laws.Sizes.{page_within}
-use Rattle.nvm_board.specs.laws.Torn.{length-Torn}
+use Rattle.nvm_board.specs.History.{Log, Run, and_run}
 use Rattle.simulated_boards.specs.Cut.{cut_facts}
-use Rattle.simulated_boards.specs.declared.cut_board.CutBoard.{CutBoard}
-use Rattle.simulated_boards.specs.laws.Counts.{cut_is_board}
 use Rattle.kept_board.specs.Handed.{log_of}
 use Rattle.kept_board.specs.Kept.{kept_log}
-use Rattle.kept_board.specs.laws.Logging.{with_log, writes_logged}
+use Rattle.kept_board.specs.laws.Logging.{writes_logged}
 use Rattle.kept_board.proofs.kept_board.KeptBoardBoard.write.Goals as goal
-use Rattle.kept_board.proofs.kept_board.KeptBoardBoard.write.Goals.{then-is_none-via-then-is_none}
-use Rattle.kept_board.proofs.kept_board.KeptBoardBoard.write.Goals.{then-is_none-via-else-is_none+then-is_dark}
-
--- a write changes no number of words, so its run lies in the memory after it too
-pub hand_on-requires-clause-within : goal.hand_on-requires-clause-within
-hand_on-requires-clause-within g c =
-    let old = c.args.self.now.cut in
-    let page = page_within (cut_facts old).words c.args.page (cut_is_board old).sized c.requires.page in
-    let run = c.requires.run in
-    let size = length-Torn _ _ _ _ c.write-result.ensures.writes.torn in
-    let pages = c.from-2.ensures in
-    let first = c.from-3.ensures in
-    let before = ap (λ (n : ℕ). n * c.from-2.result) c.from.ensures in
-    omega (arith, page, run, size, before, pages, first)
 
 -- nothing is logged where nothing follows
 logs_none : {F : Type 0} (log : F → Option Log) (follower : Option F) (follows : Bool) (run : Run)
-    → is_some follower ≡ false → (if follows then log_of log follower else None)
+    → follower ≡ None → (if follows then log_of log follower else None)
     ≡ and_run (if follows then log_of log follower else None) run
 logs_none log None true run none = refl
 logs_none log None false run none = refl
-logs_none log (Some f) follows run none = absurd (true≢false none)
+logs_none log (Some f) follows run none = absurd (true≢false (ap is_some none))
 
-pub returns-then-is_none-clause-writes : goal.returns-then-is_none-clause-writes
-returns-then-is_none-clause-writes g c =
+pub returns-in-None-clause-writes : goal.returns-in-None-clause-writes
+returns-in-None-clause-writes g c =
     let b = c.args.self.now in
     let kept = kept_log g.F.Follower.log b in
-    let at = address c.args.page c.args.first in
-    writes_logged kept kept (cut_facts b.cut) (cut_facts c.write.new.self) (λ off. refl) at c.args.words.now
-    c.write.result c.write.ensures.writes (elim c.then-is_none.branch [
-      | then-is_none-via-then-is_none w ↦
-          λ lit. logs_none g.F.Follower.log b.follower b.follows _ (c.is_none.ensures ∙ ap not w.if-is_none.true)
-      | then-is_none-via-else-is_none+then-is_dark w ↦
-          λ lit. absurd (true≢false (sym w.if-is_dark.true ∙ w.is_dark.ensures ∙ lit))
-    ])
-
-pub returns-clause-writes : goal.returns-clause-writes
-returns-clause-writes g c =
-    let b = c.args.self.now in
-    let before = kept_log g.F.Follower.log b in
-    let after = kept_log g.F.Follower.log c.hand_on.new.self in
-    let old = cut_facts b.cut in
-    let new = cut_facts c.write-result.new.self in
-    let at = address c.args.page c.args.first in
-    let run = c.args.words.now in
-    let lit : old.dark ≡ false = sym c.is_dark.ensures ∙ c.if-is_dark.false in
-    let place : c.from.result * c.from-2.result + c.from-3.result ≡ at =
-    let pages = c.from-2.ensures in
-    let first = c.from-3.ensures in
-    let words = ap (λ (n : ℕ). n * c.from-2.result) c.from.ensures in
-    omega (arith, words, pages, first) in
-    subst
-    (λ (cut : CutBoard). Writes at run (with_log before old) (with_log after (cut_facts cut)) c.write-result.result)
-    (sym c.hand_on.ensures.cut)
-    (writes_logged before after old new (λ off. absurd (true≢false (sym off ∙ lit))) at run c.write-result.result
-    c.write-result.ensures.writes (λ on. c.hand_on.ensures.logged
-    ∙ ap (λ (k : ℕ). and_run before (run_in new.words k (length run))) place))
+    writes_logged kept kept (cut_facts b.cut) (cut_facts c.write.new.self) (λ off. refl)
+    (address c.args.page c.args.first) c.args.words.now c.write.result c.write.ensures.writes
+    (λ lit. logs_none g.F.Follower.log b.follower b.follows _ c.in-None.is)
