@@ -1,3 +1,4 @@
+mod FirstPlace
 mod HexLimits
 mod PartsTaken
 mod Spelled

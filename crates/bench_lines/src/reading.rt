@@ -100,7 +100,7 @@ fn size_in_line(bytes: &[u8]) -> usize
     ensures before { IsInLine (take result bytes.now) }
     ensures at { result < length bytes.now → slice_index bytes.now result ≡ 10 }
 {
-    match memchr::memchr(b'\n', bytes) {
+    match memchr::memchr_iter(b'\n', bytes).next() {
         Some(size) => size,
         None => bytes.len(),
     }

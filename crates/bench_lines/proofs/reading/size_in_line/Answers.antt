@@ -1,8 +1,10 @@
 use Rattle.std.proofs.Common.{◌≡◌, ◌<◌, ◌≤◌, ◌+◌, ◌==◌, ℕ, zero, suc, Bool, true, false, List, length, slice_index}
-use Rattle.std.proofs.Common.{take, arith, refl, subst}
+use Rattle.std.proofs.Common.{take, arith, refl, subst, sym, ◌∙◌}
 use Rattle.std.proofs.lemmas.Bool.{eqb-true}
 use Rattle.std.proofs.lemmas.List.Elements.{All-more, All-nil}
 use Rattle.bench_lines.specs.Scripts.{IsInLine}
+use Rattle.memchr.specs.Find.{is_byte}
+use Rattle.bench_lines.proofs.FirstPlace.{first-given, none-given}
 use Rattle.bench_lines.proofs.reading.size_in_line.Goals as goal
 
 is-false : (test : Bool) → (test ≡ true → ⊥) → test ≡ false
@@ -21,16 +23,31 @@ in-line bytes (suc n) most none =
     (All-more (λ (b : ℕ). (b == 10) ≡ false) bytes n 0 lt
     (in-line bytes n (omega (arith, most)) (λ k low. none k (omega (arith, low)))) other)
 
+pub returns-in-Some-clause-within : goal.returns-in-Some-clause-within
+returns-in-Some-clause-within c =
+    let bytes = c.args.bytes.now in
+    let found = first-given (is_byte 10) bytes c.in-Some.size _
+    (sym c.memchr_iter.ensures.value ∙ c.in-Some.ensures.steps) in
+    let high = found.0.high in
+    omega (arith, high)
+
 pub returns-in-Some-clause-before : goal.returns-in-Some-clause-before
 returns-in-Some-clause-before c =
-    let found = c.in-Some.ensures in
+    let bytes = c.args.bytes.now in
+    let found = first-given (is_byte 10) bytes c.in-Some.size _
+    (sym c.memchr_iter.ensures.value ∙ c.in-Some.ensures.steps) in
     let high = found.0.high in
-    in-line c.args.bytes.now c.in-Some.size (omega (arith, high)) (λ k low. found.0.before k (omega arith) low)
+    in-line bytes c.in-Some.size (omega (arith, high)) (λ k low. found.0.before k (omega arith) low)
 
 pub returns-in-Some-clause-at : goal.returns-in-Some-clause-at
-returns-in-Some-clause-at c = λ lt. eqb-true (slice_index c.args.bytes.now c.in-Some.size) 10 c.in-Some.ensures.1
+returns-in-Some-clause-at c = λ lt.
+    let bytes = c.args.bytes.now in
+    let found = first-given (is_byte 10) bytes c.in-Some.size _
+    (sym c.memchr_iter.ensures.value ∙ c.in-Some.ensures.steps) in
+    eqb-true (slice_index bytes c.in-Some.size) 10 found.1
 
 pub returns-in-None-clause-before : goal.returns-in-None-clause-before
 returns-in-None-clause-before c =
-    let none = c.in-None.ensures in
-    in-line c.args.bytes.now (length c.args.bytes.now) (omega arith) (λ k low. none k (omega arith) low)
+    let bytes = c.args.bytes.now in
+    let none = none-given (is_byte 10) bytes (sym c.memchr_iter.ensures.value ∙ c.in-None.ensures.steps.0) in
+    in-line bytes (length bytes) (omega arith) (λ k low. none k (omega arith) low)
