@@ -1,6 +1,6 @@
 //! Reads the lines of a script from the reader's own buffer.
 ghost use Rattle.std.specs.Prelude.{◌≡◌, ◌≢◌, ◌⊎◌, ◌↔◌, ◌+◌, ◌<◌, ◌≤◌};
-ghost use Rattle.std.specs.Prelude.{length, slice_index, take, [], IsTrue, IfOk, IfErr, OnErr, OnOk, Err};
+ghost use Rattle.std.specs.Prelude.{length, slice_index, take, [], ◌++◌, IsTrue, IfOk, IfErr, OnErr, OnOk, Err};
 ghost use Rattle.std.specs.Io.KnownBytes.{Keeps};
 ghost use Rattle.std.specs.Str.Lines.{strip_carriage_return};
 ghost use Rattle.bench_lines.specs.Scripts.{CountsTaken, IsInLine, IsTooLong, TakesInto, TakesLine, TakesPart};
@@ -9,8 +9,8 @@ ghost use Rattle.bench_lines.specs.declared.order.TheConstants.{LINE_LIMIT};
 ghost use Rattle.bench_lines.specs.declared.reading.TheConstants.{SCRIPT_LIMIT};
 
 use crate::order::LINE_LIMIT;
-use arrayvec::ArrayVec;
 use std::io::BufRead;
+use std::marker::Model;
 
 /// The most bytes of a script.
 pub const SCRIPT_LIMIT: u32 = 16_777_216;
@@ -19,8 +19,76 @@ pub const SCRIPT_LIMIT: u32 = 16_777_216;
 /// The last byte makes the line too long.
 const LINE_ROOM: usize = LINE_LIMIT + 2;
 
-/// A line, without its line feed and carriage return.
-pub type LineBytes = ArrayVec<u8, LINE_ROOM>;
+/// The bytes of a line, without its line feed and carriage return, written by `read_line`.
+// The array's bytes after `size` have no meaning. An `ArrayVec` would clear them, in 30 instructions a line.
+#[derive(Drop)]
+pub struct LineBytes {
+    bytes: [u8; LINE_ROOM],
+    size: usize,
+}
+
+impl Model for LineBytes {
+    ghost use Rattle.std.specs.Prelude.{◌≤◌, ℕ, List, take};
+    ghost use Rattle.bench_lines.specs.declared.reading.TheConstants.{LINE_ROOM};
+
+    ghost Value = { List ℕ };
+
+    ghost view = { λ line. take line.size line.bytes };
+
+    ghost invariant = { λ line. line.size ≤ LINE_ROOM };
+}
+
+impl LineBytes {
+    /// Returns an empty line.
+    pub fn new() -> LineBytes
+        ensures { result ≡ [] }
+    {
+        LineBytes {
+            bytes: [0; LINE_ROOM],
+            size: 0,
+        }
+    }
+
+    /// Returns the bytes.
+    pub fn as_slice(&self) -> &[u8]
+        ensures { result.now ≡ self.now }
+    {
+        &self.bytes[..self.size]
+    }
+
+    /// Returns the number of bytes.
+    fn len(&self) -> usize
+        ensures { result ≡ length self.now }
+    {
+        self.size
+    }
+
+    /// Drops all bytes.
+    fn clear(&mut self)
+        ensures { self.new ≡ [] }
+    {
+        self.size = 0;
+    }
+
+    /// Appends bytes.
+    fn append(&mut self, more: &[u8])
+        requires { length self.old + length more.now ≤ LINE_ROOM }
+        ensures { self.new ≡ self.old ++ more.now }
+    {
+        let size = self.size + more.len();
+        self.bytes[self.size..size].copy_from_slice(more);
+        self.size = size;
+    }
+
+    /// Drops a carriage return at the end.
+    fn drop_carriage_return(&mut self)
+        ensures { self.new ≡ strip_carriage_return self.old }
+    {
+        if self.as_slice().last() == Some(&b'\r') {
+            self.size -= 1;
+        }
+    }
+}
 
 /// How a line ended.
 #[derive(Clone, Copy)]
@@ -61,9 +129,9 @@ fn read_part<R: BufRead>(
     most: usize,
     line: &mut LineBytes,
 ) -> Result<Part, LineFault>
-    requires { length line.old.items + most ≤ LINE_ROOM }
+    requires { length line.old + most ≤ LINE_ROOM }
     ensures part { IfOk result
-        (TakesPart (R.remaining reader.old) (R.remaining reader.new) line.old.items line.new.items) }
+        (TakesPart (R.remaining reader.old) (R.remaining reader.new) line.old line.new) }
     ensures size { IfOk result (λ part. part_size part ≤ most) }
     // It fails with the reader, or if it may read no more bytes and some remain; then it has read nothing.
     ensures failed { IfErr result (λ e. e ≢ LineFault.TooLong) }
@@ -84,7 +152,7 @@ fn read_part<R: BufRead>(
     let seen = &available[..available.len().min(most)];
     let size = size_in_line(seen);
     let is_fed = size < seen.len();
-    line.try_extend_from_slice(&seen[..size]).unwrap();
+    line.append(&seen[..size]);
     if is_fed {
         reader.consume(size + 1);
         return Ok(Part::LineFeed(size + 1));
@@ -120,7 +188,7 @@ pub fn read_line<R: BufRead>(
     line: &mut LineBytes,
 ) -> Result<LineEnd, LineFault>
     requires { taken.old ≤ SCRIPT_LIMIT }
-    ensures line { IfOk result (TakesLine (R.remaining reader.old) (R.remaining reader.new) line.new.items) }
+    ensures line { IfOk result (TakesLine (R.remaining reader.old) (R.remaining reader.new) line.new) }
     ensures too_long { result ≡ Err LineFault.TooLong
         → TakesTooMuch (R.remaining reader.old) (R.remaining reader.new) taken.old taken.new }
     ensures stopped { IfErr result (λ e. e ≢ LineFault.TooLong
@@ -140,12 +208,12 @@ pub fn read_line<R: BufRead>(
             Ok(Part::Begun(size)) => *taken += size as u32,
             Ok(Part::LineFeed(size)) => {
                 *taken += size as u32;
-                drop_carriage_return(line);
+                line.drop_carriage_return();
                 return Ok(LineEnd::LineFeed);
             }
             Err(fault) => return Err(fault),
         }
-        if is_too_long(line) {
+        if is_too_long(line.as_slice()) {
             return Err(LineFault::TooLong);
         }
     }
@@ -163,14 +231,5 @@ fn is_too_long(line: &[u8]) -> bool
         line[LINE_LIMIT] != b'\r'
     } else {
         size > LINE_LIMIT
-    }
-}
-
-/// Drops a carriage return at the end of a line.
-fn drop_carriage_return(line: &mut LineBytes)
-    ensures { line.new.items ≡ strip_carriage_return line.old.items }
-{
-    if line.last() == Some(&b'\r') {
-        line.pop();
     }
 }

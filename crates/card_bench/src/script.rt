@@ -111,7 +111,7 @@ fn run_lines<B: Armed + Faultless + Followed, R: BufRead, W: Write>(
             Err(LineFault::TooMuch) => return Err(RunFault::Read),
             Err(LineFault::TooLong) => return Err(RunFault::BadLine(number)),
         };
-        let Some(order) = Order::parse(&line, &mut given) else {
+        let Some(order) = Order::parse(line.as_slice(), &mut given) else {
             return Err(RunFault::BadLine(number));
         };
         let line_result = desk.perform(order, given.as_slice());

@@ -242,7 +242,7 @@ pub fn read_script<R: BufRead>(alloc: Global, reader: &mut R) -> Result<SweepScr
             Err(LineFault::TooMuch) => return Err(SweepFault::Read),
             Err(LineFault::TooLong) => return Err(SweepFault::BadLine(number, LineError::NoLine)),
         };
-        match script.take_line(alloc, &line, &mut given) {
+        match script.take_line(alloc, line.as_slice(), &mut given) {
             Ok(()) => {}
             Err(LineStop::Bad(error)) => return Err(SweepFault::BadLine(number, error)),
             Err(LineStop::Memory) => return Err(SweepFault::Memory),

@@ -1,4 +1,4 @@
-use Rattle.std.proofs.Common.{◌≡◌, ◌≤◌, ◌++◌, List, ℕ, Option, Some, None, [], IfSome, OnOk, length, take}
+use Rattle.std.proofs.Common.{◌≡◌, ◌≤◌, List, ℕ, Option, Some, None, [], IfSome, length, take}
 use Rattle.std.proofs.Common.{length-take, length-take-le, arith, ap, refl, subst, sym, ◌∙◌, rules}
 use Rattle.std.specs.Io.{StartsWith}
 use Rattle.std.specs.Io.BufRead.{FillKeeps}
@@ -44,8 +44,7 @@ returns-then-is_fed-clause-part g c =
     let rested = c.fill_buf.follows.lender-at-none in
     let filled = subst (FillKeeps _ (g.R.Read.remaining rested) (g.R.BufRead.consumable_len rested)) c.in-Ok.is
     c.fill_buf.follows.holds-at-none in
-    let whole = subst (λ r. OnOk r (c.try_extend_from_slice.new.self.items ≡ c.args.line.now.items ++ take size seen))
-    c.unwrap.ensures c.try_extend_from_slice.ensures.ok in
+    let whole = c.append.ensures in
     let long : length (take size seen) ≡ size = length-take-le size seen (omega (arith, c.if-is_fed.true)) in (
       take size seen,
       taken-fed _
@@ -64,8 +63,7 @@ returns-clause-part g c =
     let rested = c.fill_buf.follows.lender-at-none in
     let filled = subst (FillKeeps _ (g.R.Read.remaining rested) (g.R.BufRead.consumable_len rested)) c.in-Ok.is
     c.fill_buf.follows.holds-at-none in
-    let whole = subst (λ r. OnOk r (c.try_extend_from_slice.new.self.items ≡ c.args.line.now.items ++ take size seen))
-    c.unwrap.ensures c.try_extend_from_slice.ensures.ok in
+    let whole = c.append.ensures in
     let within = c.size_in_line-size.ensures.within in
     let some : 1 ≤ size = search (rules, arith) in (
       take size seen,

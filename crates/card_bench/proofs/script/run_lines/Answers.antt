@@ -53,12 +53,12 @@ pub returns-in_default-clause-stopped : goal.returns-in_default-clause-stopped
 returns-in_default-clause-stopped g c =
     let script = g.R.Read.remaining c.args.reader.now in
     let number : (c.loop-number.number - 1) + 1 ≡ c.loop-number.number = omega arith in
-    let bad : order_of c.read_line.new.line.items ≡ None = ap order_of (sym c.deref.ensures.0)
+    let bad : order_of c.read_line.new.line ≡ None = ap order_of (sym c.as_slice.ensures)
     ∙ sym c.in_default.ensures in
     let held = g.W.Write.contents c.args.writer.now in
     let holds = g.W.Write.contents c.loop-number.writer in
     subst (λ (n : ℕ). IfSome script (λ bytes. IsRunToLine c.args.desk.now.desk n bytes held holds)) number
-    (is_bad _ script _ _ (c.loop-number.number - 1) _ _ c.read_line.new.line.items c.in-Ok.end _ held holds
+    (is_bad _ script _ _ (c.loop-number.number - 1) _ _ c.read_line.new.line c.in-Ok.end _ held holds
     c.loop-number.invariant.so_far c.in-Ok.ensures.line c.in-Ok.ensures.counted c.read_line.ensures.taken bad)
 
 -- what holds of a fault holds of the result that it became
@@ -68,10 +68,10 @@ passed_on (Err f) e P is holds = subst P (sym is) holds
 
 pub returns-in_err-answer-clause-stopped : goal.returns-in_err-answer-clause-stopped
 returns-in_err-answer-clause-stopped g c =
-    let order = order_with c.in-Some.order c.as_slice.result.now in
-    let good : order_of c.read_line.new.line.items ≡ Some order =
-    ap order_of (sym c.deref.ensures.0) ∙ sym c.in-Some.ensures
-    ∙ ap (λ (l : List ℕ). Some (order_with c.in-Some.order l)) (sym c.as_slice.ensures) in
+    let order = order_with c.in-Some.order c.as_slice-in-loop-number.result.now in
+    let good : order_of c.read_line.new.line ≡ Some order =
+    ap order_of (sym c.as_slice.ensures) ∙ sym c.in-Some.ensures
+    ∙ ap (λ (l : List ℕ). Some (order_with c.in-Some.order l)) (sym c.as_slice-in-loop-number.ensures) in
     let first = c.args.desk.now.desk in
     let script = g.R.Read.remaining c.args.reader.now in
     let left = g.R.Read.remaining c.read_line.new.reader in
@@ -108,10 +108,10 @@ told_on (Err f) e why is told = cc
 pub returns-in_err-answer-clause-behind : goal.returns-in_err-answer-clause-behind
 returns-in_err-answer-clause-behind g c = λ returned.
     let unkept = ap Err (told_on _ _ _ c.from_residual.ensures.1 returned) in
-    let order = order_with c.in-Some.order c.as_slice.result.now in
-    let good : order_of c.read_line.new.line.items ≡ Some order =
-    ap order_of (sym c.deref.ensures.0) ∙ sym c.in-Some.ensures
-    ∙ ap (λ (l : List ℕ). Some (order_with c.in-Some.order l)) (sym c.as_slice.ensures) in
+    let order = order_with c.in-Some.order c.as_slice-in-loop-number.result.now in
+    let good : order_of c.read_line.new.line ≡ Some order =
+    ap order_of (sym c.as_slice.ensures) ∙ sym c.in-Some.ensures
+    ∙ ap (λ (l : List ℕ). Some (order_with c.in-Some.order l)) (sym c.as_slice-in-loop-number.ensures) in
     let script = g.R.Read.remaining c.args.reader.now in
     let left = g.R.Read.remaining c.read_line.new.reader in
     let held = g.W.Write.contents c.args.writer.now in
@@ -130,22 +130,22 @@ returns-in_err-answer-clause-behind g c = λ returned.
 
 pub perform-line_result-requires-clause-sized : goal.perform-line_result-requires-clause-sized
 perform-line_result-requires-clause-sized g c =
-    let order = order_with c.in-Some.order c.as_slice.result.now in
-    let good : order_of c.read_line.new.line.items ≡ Some order =
-    ap order_of (sym c.deref.ensures.0) ∙ sym c.in-Some.ensures
-    ∙ ap (λ (l : List ℕ). Some (order_with c.in-Some.order l)) (sym c.as_slice.ensures) in
+    let order = order_with c.in-Some.order c.as_slice-in-loop-number.result.now in
+    let good : order_of c.read_line.new.line ≡ Some order =
+    ap order_of (sym c.as_slice.ensures) ∙ sym c.in-Some.ensures
+    ∙ ap (λ (l : List ℕ). Some (order_with c.in-Some.order l)) (sym c.as_slice-in-loop-number.ensures) in
     (order_of-in_range _ _ good).0
 
 pub returns-in-EndOfScript-clause-done : goal.returns-in-EndOfScript-clause-done
 returns-in-EndOfScript-clause-done g c =
-    let order = order_with c.in-Some.order c.as_slice.result.now in
-    let good : order_of c.read_line.new.line.items ≡ Some order =
-    ap order_of (sym c.deref.ensures.0) ∙ sym c.in-Some.ensures
-    ∙ ap (λ (l : List ℕ). Some (order_with c.in-Some.order l)) (sym c.as_slice.ensures) in
+    let order = order_with c.in-Some.order c.as_slice-in-loop-number.result.now in
+    let good : order_of c.read_line.new.line ≡ Some order =
+    ap order_of (sym c.as_slice.ensures) ∙ sym c.in-Some.ensures
+    ∙ ap (λ (l : List ℕ). Some (order_with c.in-Some.order l)) (sym c.as_slice-in-loop-number.ensures) in
     let old = g.R.Read.remaining c.loop-number.reader in
     let new = g.R.Read.remaining c.read_line.new.reader in
     is_done _ _ old new _ _ _ _ _ _ _ _ _ _ _ c.loop-number.invariant.so_far
-    (subst (TakesLine old new c.read_line.new.line.items) c.in-EndOfScript.is c.in-Ok.ensures.line)
+    (subst (TakesLine old new c.read_line.new.line) c.in-EndOfScript.is c.in-Ok.ensures.line)
     c.in-Ok.ensures.counted c.read_line.ensures.taken good c.perform-line_result.ensures.performs
     c.perform-line_result.ensures.good
     c.in_ok-answer.ensures.wrote
@@ -156,10 +156,10 @@ loop-number-init g c =
 
 pub loop-number-preserved : goal.loop-number-preserved
 loop-number-preserved g c =
-    let order = order_with c.in-Some.order c.as_slice.result.now in
-    let good : order_of c.read_line.new.line.items ≡ Some order =
-    ap order_of (sym c.deref.ensures.0) ∙ sym c.in-Some.ensures
-    ∙ ap (λ (l : List ℕ). Some (order_with c.in-Some.order l)) (sym c.as_slice.ensures) in
+    let order = order_with c.in-Some.order c.as_slice-in-loop-number.result.now in
+    let good : order_of c.read_line.new.line ≡ Some order =
+    ap order_of (sym c.as_slice.ensures) ∙ sym c.in-Some.ensures
+    ∙ ap (λ (l : List ℕ). Some (order_with c.in-Some.order l)) (sym c.as_slice-in-loop-number.ensures) in
     let first = g.R.Read.remaining c.args.reader.now in
     let old = g.R.Read.remaining c.loop-number.reader in
     let new = g.R.Read.remaining c.read_line.new.reader in
@@ -177,7 +177,7 @@ loop-number-preserved g c =
       so_far = subst (λ (n : ℕ). HasRun c.args.desk.now.desk first new n c.read_line.new.taken
           desk held after) number
           (goes_on _ first old new _ _ _ _ _ _ _ _ _ _ _ c.loop-number.invariant.so_far
-          (subst (TakesLine old new c.read_line.new.line.items) c.in-LineFeed.is c.in-Ok.ensures.line)
+          (subst (TakesLine old new c.read_line.new.line) c.in-LineFeed.is c.in-Ok.ensures.line)
           c.in-Ok.ensures.counted good c.perform-line_result.ensures.performs c.perform-line_result.ensures.good
           c.in_ok-answer.ensures.wrote);
     }

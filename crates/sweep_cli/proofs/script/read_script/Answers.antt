@@ -23,9 +23,9 @@ loop-end-preserved g c =
     let first = g.R.Read.remaining c.args.reader.now in
     let old = g.R.Read.remaining c.loop-end.reader in
     let new = g.R.Read.remaining c.read_line.new.reader in
-    let line = c.read_line.new.line.items in
+    let line = c.read_line.new.line in
     let takes : take_line (asked_of c.loop-end.script) line ≡ Some (asked_of c.take_line.new.self) =
-    ap (take_line (asked_of c.loop-end.script)) (sym c.deref.ensures.0)
+    ap (take_line (asked_of c.loop-end.script)) (sym c.as_slice.ensures)
     ∙ rw c.in-Ok-take_line.is at c.take_line.ensures in
     record {
       taken = c.read_line.ensures.taken;
@@ -43,9 +43,9 @@ pub returns-in-EndOfScript-clause-read : goal.returns-in-EndOfScript-clause-read
 returns-in-EndOfScript-clause-read g c =
     let old = g.R.Read.remaining c.loop-end.reader in
     let new = g.R.Read.remaining c.read_line.new.reader in
-    let line = c.read_line.new.line.items in
+    let line = c.read_line.new.line in
     let takes : take_line (asked_of c.loop-end.script) line ≡ Some (asked_of c.take_line.new.self) =
-    ap (take_line (asked_of c.loop-end.script)) (sym c.deref.ensures.0)
+    ap (take_line (asked_of c.loop-end.script)) (sym c.as_slice.ensures)
     ∙ rw c.in-Ok-take_line.is at c.take_line.ensures in
     IfOk-weaker c.finished.result _ _
     (λ whole ends. record {
@@ -64,9 +64,9 @@ returns-in-EndOfScript-clause-stopped g c =
     let first = g.R.Read.remaining c.args.reader.now in
     let old = g.R.Read.remaining c.loop-end.reader in
     let new = g.R.Read.remaining c.read_line.new.reader in
-    let line = c.read_line.new.line.items in
+    let line = c.read_line.new.line in
     let takes : take_line (asked_of c.loop-end.script) line ≡ Some (asked_of c.take_line.new.self) =
-    ap (take_line (asked_of c.loop-end.script)) (sym c.deref.ensures.0)
+    ap (take_line (asked_of c.loop-end.script)) (sym c.as_slice.ensures)
     ∙ rw c.in-Ok-take_line.is at c.take_line.ensures in
     IfErr-weaker c.finished.result _ _
     (λ fault ends.
@@ -115,9 +115,9 @@ returns-in-Err-TooMuch-clause-stopped g c =
 
 pub returns-in-Err-Bad-clause-stopped : goal.returns-in-Err-Bad-clause-stopped
 returns-in-Err-Bad-clause-stopped g c =
-    let line = c.read_line.new.line.items in
-    let none : take_line (asked_of c.loop-end.script) c.deref.result.now ≡ None =
-    subst (λ (s : LineStop). Refuses s (take_line (asked_of c.loop-end.script) c.deref.result.now))
+    let line = c.read_line.new.line in
+    let none : take_line (asked_of c.loop-end.script) c.as_slice.result.now ≡ None =
+    subst (λ (s : LineStop). Refuses s (take_line (asked_of c.loop-end.script) c.as_slice.result.now))
     c.in-Err-Bad.field-0-is (rw c.in-Err-Bad.is at c.take_line.ensures) in
     record {
       counted = c.loop-end.invariant.counted;
@@ -128,7 +128,7 @@ returns-in-Err-Bad-clause-stopped g c =
         line = line;
         end = c.in-Ok.end;
         read = c.in-Ok.ensures.line;
-        refused = ap (take_line (asked_of c.loop-end.script)) (sym c.deref.ensures.0) ∙ none;
+        refused = ap (take_line (asked_of c.loop-end.script)) (sym c.as_slice.ensures) ∙ none;
       });
     }
 
