@@ -21,7 +21,7 @@ ghost use Rattle.soffitfennel.specs.declared.write.TheConstants.{WRITE_BYTES};
 
 use crate::handle::Handle;
 use crate::session::{
-    Outcome, Session, Told, block_fits, board_of, command_fits, copy, number_fits,
+    Outcome, Session, Told, block_fits, board_of, command_fits, copy, order_fits,
 };
 use crate::write::{WRITE_BYTES, Write};
 use card_bench::{Order, factory_board};
@@ -65,12 +65,16 @@ fn perform(alloc: Global, card: &mut Handle, order: Order, given: &[u8]) -> Resu
     replace_with(card, asked, run)
 }
 
-/// Runs an order without bytes, and returns the number of its outcome.
+/// Runs an order without bytes, and returns the number of its outcome. It refuses a number that is out of its range.
 #[tactic(auto, using(crate::proofs::CallLaws::told_tells, crate::proofs::CallLaws::failed_tells))]
 fn run_order(alloc: Global, card: &mut Handle, order: Order) -> i32
-    requires { IsOrderSized (order_with order []) }
-    ensures { Tells (order_with order []) card.old.value card.new.value result }
+    ensures fits { IsOrderSized (order_with order [])
+        → Tells (order_with order []) card.old.value card.new.value result }
+    ensures unfit { ¬ IsOrderSized (order_with order []) → RefusesCall card.old.value card.new.value result }
 {
+    if !order_fits(order) {
+        return refuse(alloc, card);
+    }
     match perform(alloc, card, order, &[]) {
         Ok(told) => told.outcome().number(),
         Err(outcome) => outcome.number(),
@@ -280,9 +284,6 @@ pub extern "C" fn soffitfennel_cut(alloc: Global, card: &mut Handle, number: u32
         → Tells (Cut number mask) card.old.value card.new.value result }
     ensures unfit { ¬ IsOrderSized (Cut number mask) → RefusesCall card.old.value card.new.value result }
 {
-    if !number_fits(number) {
-        return refuse(alloc, card);
-    }
     run_order(alloc, card, Order::Cut { number, mask })
 }
 
@@ -292,9 +293,6 @@ pub extern "C" fn soffitfennel_lose(alloc: Global, card: &mut Handle, number: u3
     ensures fits { IsOrderSized (Lose number) → Tells (Lose number) card.old.value card.new.value result }
     ensures unfit { ¬ IsOrderSized (Lose number) → RefusesCall card.old.value card.new.value result }
 {
-    if !number_fits(number) {
-        return refuse(alloc, card);
-    }
     run_order(alloc, card, Order::Lose(number))
 }
 
@@ -304,9 +302,6 @@ pub extern "C" fn soffitfennel_garble(alloc: Global, card: &mut Handle, number: 
     ensures fits { IsOrderSized (Garble number) → Tells (Garble number) card.old.value card.new.value result }
     ensures unfit { ¬ IsOrderSized (Garble number) → RefusesCall card.old.value card.new.value result }
 {
-    if !number_fits(number) {
-        return refuse(alloc, card);
-    }
     run_order(alloc, card, Order::Garble(number))
 }
 

@@ -1,5 +1,5 @@
 //! A card at its desk, and the result of each call.
-ghost use Rattle.std.specs.Prelude.{◌≡◌, ◌≢◌, ◌≤◌, ◌↔◌, ℕ, List, length, IsTrue, IfOk, IfErr};
+ghost use Rattle.std.specs.Prelude.{◌≡◌, ◌≢◌, ◌≤◌, ◌↔◌, ℕ, List, [], length, IsTrue, IfOk, IfErr};
 ghost use Rattle.bench_lines.specs.Orders.{Apdu, Block, IsOrderSized};
 ghost use Rattle.bench_lines.specs.OrderViews.{order_with};
 ghost use Rattle.card_bench.specs.Images.{IsRefusedRightly};
@@ -252,11 +252,17 @@ pub fn block_fits(block: &[u8], out: &[u8]) -> bool
     !block.is_empty() && block.len() <= BLOCK_LIMIT && out.len() >= ROOM
 }
 
-/// Returns true if a number is 1 to 999,999.
-pub fn number_fits(number: u32) -> bool
-    ensures { IsTrue result ↔ (1 ≤ number) × (number ≤ 999999) }
+/// Returns true if an order without bytes has no number, or one of 1 to 999,999. A command or a block needs bytes.
+pub fn order_fits(order: Order) -> bool
+    ensures { IsTrue result ↔ IsOrderSized (order_with order []) }
 {
-    number >= 1 && number <= NUMBER_LIMIT
+    match order {
+        Order::Cut { number, mask: _ } | Order::Lose(number) | Order::Garble(number) => {
+            number >= 1 && number <= NUMBER_LIMIT
+        }
+        Order::Nothing | Order::On | Order::Off | Order::Free => true,
+        Order::Apdu | Order::Block => false,
+    }
 }
 
 /// Returns a new board with these words, if they are a valid card image.
