@@ -13,8 +13,11 @@ from .batches import batches_of
 from .edits import Edit, merged
 
 PARTS = ("src", "specs", "proofs")
-# an error, with the goal that it is about, or a note that a goal is not proved
-ERROR = re.compile(r"(?:note: )?(?:\./)?((?:src|proofs)/\S+):(\d+):\d+: (?:error: |it is not proved that )(.*)")
+# an error, with the goal that it is about, or a note that a goal is not proved, or that the search for it gave up
+SEARCHED = "what antt said of a `search` in the proof that rattle made: "
+ERROR = re.compile(
+    rf"(?:note: (?:{SEARCHED})?)?(?:\./)?((?:src|proofs)/\S+):(\d+):\d+: (?:error: |it is not proved that )(.*)"
+)
 GOAL = re.compile(r"^(?:.*\()?`([\w.-]+)`[:)]")
 # an error in a source that the prover doesn't get to read
 UNREAD = re.compile(r"(?:\./)?(src/\S+):(\d+):\d+: error\[")
