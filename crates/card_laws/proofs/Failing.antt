@@ -1,5 +1,5 @@
 -- No step answers 6581.
-use Rattle.std.specs.Prelude.{◌≡◌, ◌≢◌, ◌==◌, ◌⊎◌, ◌≤◌, ◌-◌, ℕ, Bool, true, false, List, [], ◌∷◌, Option, Some, None}
+use Rattle.std.specs.Prelude.{◌≡◌, ◌≢◌, ◌==◌, ◌≤◌, ◌-◌, ℕ, Bool, true, false, List, [], ◌∷◌, Option, Some, None}
 use Rattle.std.specs.Prelude.{Result, Ok, Err, All, IfSome, IfErr, if◌then◌else◌, length, is_some}
 use Rattle.std.proofs.Common.{◌∙◌, arith, inl, inr, refl, sym, ap, true≢false}
 use Rattle.std.proofs.lemmas.Bool.{eq-eqb}

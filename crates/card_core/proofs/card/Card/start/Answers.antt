@@ -1,4 +1,4 @@
-use Rattle.std.proofs.Common.{◌≡◌, ℕ, List, Option, None, Result, IfOk, inl, refl, sym, subst, ◌∙◌, ap, arith}
+use Rattle.std.proofs.Common.{◌≡◌, ℕ, List, Option, Result, IfOk, inl, refl, sym, subst, ◌∙◌, ap, arith}
 use Rattle.std.specs.Result.{result_err}
 use Rattle.command_base.specs.laws.Verified.{marked-none}
 use Rattle.card_model.specs.Sessions.{fresh_session}
