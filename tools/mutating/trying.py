@@ -23,6 +23,8 @@ GOAL = re.compile(r"^(?:.*\()?`([\w.-]+)`[:)]")
 UNREAD = re.compile(r"(?:\./)?(src/\S+):(\d+):\d+: error\[")
 # The prover refuses a text because it names something that the mutant took away. This shows nothing of the contract.
 NAMES = re.compile(r"has no field|is not in scope|has no `|was not admitted")
+# nor does what `rt must-fail` says where all errors are of such names, or of what depends on a text with one
+ALONE_NAMES = re.compile(r"only because a proof file names|which was rejected, was not checked")
 
 
 @dataclass(frozen=True)
@@ -171,7 +173,6 @@ def alone_verdict(edit: Edit, said: str) -> Verdict:
     label = re.compile(rf"must-fail \w+/{re.escape(edit.path.name)}: (.*)")
     found = (match[1] for line in said.split("\n") if (match := label.search(line)))
     told = next(found, "rt must-fail says nothing of it")
-    only_by_name = "only because a proof file names" in told
     refused, _, reason = told.partition("refused, as it must be")
-    is_refused = not refused and bool(reason) and not only_by_name
+    is_refused = not refused and bool(reason) and not ALONE_NAMES.search(told)
     return Verdict(edit.name, is_refused, reason.removeprefix(": ") if is_refused else told)
