@@ -8,7 +8,7 @@ ghost use Rattle.bench_turns.specs.Plays.{Plays, PlaysBlock, BringsNoFault, IsGo
 ghost use Rattle.bench_turns.specs.Turns.{CountsLosses, GoodTurn, Runs, darks};
 
 use crate::powered::Powered;
-use bench_turns::{Item, Turn, TurnResult};
+use bench_turns::{Item, Turn, TurnPlayer, TurnResult};
 use card_core::FreeSpace;
 use card_start::StartFault;
 use core::mem::replace_with;
@@ -235,6 +235,45 @@ impl<B: Socket + Faultless> Bench<B> {
             Power::Off(board) => has_no_fault(board),
             Power::On(powered) => powered.has_no_fault(),
         }
+    }
+}
+
+impl<B: Armed + Faultless> TurnPlayer for Bench<B> {
+    type Board = B;
+
+    ghost state = { λ bench. bench };
+
+    fn new(board: B) -> Bench<B> {
+        Bench::new(board)
+    }
+
+    fn play_well(&mut self, turns: &[Turn<'_>], trace: &mut [Item]) {
+        Bench::play_well(self, turns, trace);
+    }
+
+    #[inline(always)]
+    fn turn_well(&mut self, turn: Turn<'_>, reply: &mut BlockBytes) -> TurnResult {
+        Bench::turn_well(self, turn, reply)
+    }
+
+    fn arm_well(&mut self, k: u32, mask: u16) {
+        Bench::arm_well(self, k, mask);
+    }
+
+    fn free(&self) -> Option<FreeSpace> {
+        Bench::free(self)
+    }
+
+    fn is_on(&self) -> bool {
+        Bench::is_on(self)
+    }
+
+    fn board(&self) -> &B {
+        Bench::board(self)
+    }
+
+    fn into_board(self) -> B {
+        Bench::into_board(self)
     }
 }
 
