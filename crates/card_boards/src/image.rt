@@ -1,14 +1,17 @@
 //! A board of a memory image.
-ghost use Rattle.std.specs.Prelude.{◌≡◌, IfOk, IfErr};
+ghost use Rattle.std.specs.Prelude.{◌≡◌, IfOk, IfErr, OnOk};
+ghost use Rattle.undo_journal.specs.Spending.{WritesAtMost};
 ghost use Rattle.simulated_boards.specs.Cut.{cut_facts};
 ghost use Rattle.simulated_boards.specs.Given.{board_with};
 ghost use Rattle.command_base.specs.Finding.{HasCard};
+ghost use Rattle.card_start.specs.Running.{StartStopsBy};
+ghost use Rattle.card_start.specs.Starting.{power_on_writes};
 ghost use Rattle.card_boards.specs.Images.{IsRefusedRightly};
 
-use card_core::Card;
-use card_start::StartFault;
+use card_start::{StartFault, survey_card};
 use simulated_boards::CutBoard;
 use std::alloc::Global;
+use undo_journal::{Store, StoreErr};
 
 /// Why an image is no card's.
 #[derive(Debug, Drop)]
@@ -22,7 +25,7 @@ pub enum NoCard {
 }
 
 /// Returns a new board with these words, if they are a valid card image.
-/// A copy is powered on to see that, so the words stay.
+/// A copy is recovered and checked for that, so the words stay.
 ///
 /// # Errors
 /// `Size` and `Memory`; `Start` with `BadJournal` or `Damaged` if the words are no valid card image.
@@ -37,8 +40,30 @@ pub fn image_board(alloc: Global, words: Vec<u32>) -> Result<CutBoard, NoCard>
     let Ok(copy) = board.copy(alloc) else {
         return Err(NoCard::Memory);
     };
-    match Card::start(copy) {
-        Ok(_) => Ok(board),
+    match power_on(copy) {
+        Ok(()) => Ok(board),
         Err((_, fault)) => Err(NoCard::Start(fault)),
+    }
+}
+
+/// Recovers the memory of a board, and checks its card image, as power-on does.
+///
+/// # Errors
+/// Why power-on fails, with the board.
+fn power_on(board: CutBoard) -> Result<(), (CutBoard, StartFault)>
+    ensures has_card { OnOk result (HasCard (cut_facts board).words) }
+    ensures stopped { IfErr result (λ e. StartStopsBy e.1 (cut_facts board) (cut_facts e.0)) }
+    ensures writes_err { IfErr result
+        (λ e. WritesAtMost (power_on_writes (cut_facts board)) (cut_facts board) (cut_facts e.0)) }
+{
+    let mut store = match Store::open(board) {
+        Ok(store) => store,
+        Err((board, fault)) => return Err((board, StartFault::from(fault))),
+    };
+    match survey_card(&mut store) {
+        Ok(Some(_)) => Ok(()),
+        Ok(None) => Err((store.into_board(), StartFault::Damaged)),
+        Err(StoreErr::PowerLost) => Err((store.into_board(), StartFault::PowerLost)),
+        Err(StoreErr::Fault) => Err((store.into_board(), StartFault::Fault)),
     }
 }
