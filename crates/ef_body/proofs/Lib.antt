@@ -1,11 +1,2 @@
-pub mod Putting
-pub mod Becoming
-pub mod Refusing
-pub mod Adding
-pub mod Increasing
-pub mod Bytes
-pub mod Finding
-pub mod Calling
-pub mod Resting
-pub mod Passing
-pub mod RecordWrites
+pub mod Taken
+pub mod Updating

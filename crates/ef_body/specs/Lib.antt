@@ -1,8 +1,3 @@
--- Bodies of EFs: records and their slots, refusals, bodies in a memory, their changes, and the postconditions of
--- calls; and the steps inside them. The laws are in a module of their own.
-pub mod Bodies
-pub mod StoredBodies
-pub mod BodyCalls
-pub mod BodyChanges
-pub mod ReadParts
+-- Linear EFs, and their laws.
+pub mod LinearBodies
 pub mod laws

@@ -1,3 +1,2 @@
--- Consequences of the definitions, for the proofs of this crate and of the crates above it.
-pub mod Lists
-pub mod Rings
+-- Laws of the definitions, with their proofs.
+pub mod Linears

@@ -1,9 +1,9 @@
 //! Laws of the constants, as contracts of functions that do nothing.
 ghost use Rattle.std.specs.Prelude.{◌≡◌, ◌≤◌, ℕ};
-ghost use Rattle.stored_bytes.specs.Writes.{put_writes};
+ghost use Rattle.byte_updates.specs.Writes.{put_writes};
 ghost use Rattle.ef_contents.specs.UpdateWrites.{update_writes};
-ghost use Rattle.ef_body.specs.declared.layout.TheConstants.{MOST_RECORD_BYTES, RECORD_WRITES, UPDATE_WRITES};
-ghost use Rattle.ef_body.specs.BodyChanges.{record_put_writes};
+ghost use Rattle.record_slots.specs.declared.layout.TheConstants.{MOST_RECORD_BYTES, RECORD_WRITES, UPDATE_WRITES};
+ghost use Rattle.record_slots.specs.BodyChanges.{record_put_writes};
 
 /// Proves the greatest record length and numbers of device writes. A record has at most 255 bytes. An update of one
 /// takes at most 33 device writes, and a new record at most 34.
@@ -25,7 +25,7 @@ pub fn record_costs()
 
 /// Proves bounds for the device writes of UPDATE BINARY. The exact number depends on the offset and on the number of
 /// bytes. One bound depends only on the number of bytes; the other is 33 for up to 255 bytes.
-#[tactic(auto, using(crate::proofs::Putting::updates_most, crate::proofs::Putting::updates_few))]
+#[tactic(auto, using(crate::proofs::Updating::updates_most, crate::proofs::Updating::updates_few))]
 pub fn updates_write_little()
     ensures most { (offset count : ℕ) → put_writes offset count ≤ update_writes count }
     ensures few { (offset count : ℕ) → count ≤ 255 → put_writes offset count ≤ UPDATE_WRITES }

@@ -1,17 +1,17 @@
 //! Lookup, reading and search of records by number, the same for linear and cyclic EFs.
-ghost use Rattle.std.specs.Prelude.{◌≡◌, ◌≤◌, ℕ, List};
+ghost use Rattle.std.specs.Prelude.{◌≡◌, ◌≤◌, ℕ, List, refl};
 ghost use Rattle.undo_journal.specs.Memory.{committed, IsReady};
-ghost use Rattle.ef_body.specs.declared.cyclic.Cyclic.{Cyclic};
+ghost use Rattle.record_slots.specs.declared.cyclic.Cyclic.{Cyclic};
 ghost use Rattle.card_state.specs.RecordLists.{record_of, records_found};
 ghost use Rattle.ef_contents.specs.Refusals.{missing_record};
-ghost use Rattle.ef_body.specs.Bodies.{cyclic_body_records, IsCyclic};
-ghost use Rattle.ef_body.specs.BodyCalls.{FindsRecord, ReadsUnlessRefused};
+ghost use Rattle.record_slots.specs.Bodies.{cyclic_body_records, IsCyclic};
+ghost use Rattle.ef_contents.specs.BodyCalls.{ReadsUnlessRefused};
+ghost use Rattle.record_slots.specs.RingCalls.{FindsRecord};
 
-use crate::cyclic::Cyclic;
-use crate::slot::RecordSlot;
 use arrayvec::ArrayVec;
 use card_state::{Direction, Sw};
 use ef_contents::{BodyErr, from_store};
+use record_slots::{Cyclic, RecordSlot};
 use undo_journal::{Board, Store};
 
 /// A body of records, in the slots of a ring. Record 1 is the first of a linear EF, the newest of a cyclic one.
@@ -36,11 +36,7 @@ pub trait RecordBody: Copy {
     final fn find(self, number: u16) -> Result<RecordSlot, Sw>
         ensures { FindsRecord (ring_of self) number result }
     {
-        let ring = self.ring();
-        if !ring.has_record(number) {
-            return Err(Sw::RECORD_NOT_FOUND);
-        }
-        Ok(RecordSlot { ring, number })
+        self.ring().find(number)
     }
 
     /// Reads the record of a number. It replaces the content of the buffer (READ RECORD, ISO/IEC 7816-4, 11.4.3).
@@ -98,4 +94,20 @@ pub trait RecordBody: Copy {
     /// The ring has the same records.
     ghost ring_records: { (m : List ℕ) (body : Self) → is_body m body
         → cyclic_body_records m (ring_of body) ≡ records_in m body };
+}
+
+impl RecordBody for Cyclic {
+    ghost is_body = { IsCyclic };
+
+    ghost records_in = { cyclic_body_records };
+
+    ghost ring_of = { λ body. body };
+
+    fn ring(self) -> Cyclic {
+        self
+    }
+
+    ghost ring_is = { λ m body is. is };
+
+    ghost ring_records = { λ m body is. refl };
 }

@@ -1,9 +1,6 @@
-//! Bytes of the chains of a store: calls read them, and write them in a transaction.
+//! Bytes of the chains of a store, as calls read them.
 #![tactic(auto)]
 
-mod bytes;
-pub mod laws;
 mod reading;
 
-pub use bytes::set_bytes;
 pub use reading::{block_at, byte_at, read_bytes};

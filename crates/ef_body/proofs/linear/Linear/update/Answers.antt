@@ -1,9 +1,9 @@
 use Rattle.std.proofs.Common.{rules}
 use Rattle.undo_journal.specs.Memory.{committed}
-use Rattle.ef_body.specs.Bodies.{linear_body_records}
-use Rattle.ef_body.specs.laws.Rings.{length-linear}
-use Rattle.ef_body.proofs.Becoming.{taken_put}
-use Rattle.ef_body.proofs.Calling.{commits_weaker, refused_commits, store_commits}
+use Rattle.ef_body.specs.LinearBodies.{linear_body_records}
+use Rattle.ef_body.specs.laws.Linears.{length-linear}
+use Rattle.ef_body.proofs.Taken.{taken_put}
+use Rattle.ef_contents.specs.laws.Calling.{commits_weaker, refused_commits, store_commits}
 use Rattle.ef_body.proofs.linear.Linear.update.Goals as goal
 
 pub returns-in_err-slot : goal.returns-in_err-slot

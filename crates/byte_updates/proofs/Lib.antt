@@ -1,0 +1,4 @@
+pub mod Puts
+pub mod RunCosts
+pub mod Places
+pub mod Counting

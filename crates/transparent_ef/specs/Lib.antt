@@ -1,0 +1,2 @@
+-- Transparent EFs in a memory.
+pub mod TransparentBodies
