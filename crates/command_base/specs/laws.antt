@@ -16,3 +16,5 @@ pub mod Words
 pub mod Executes
 pub mod SpaceKept
 pub mod Readings
+pub mod Naming
+pub mod Halting

@@ -1,0 +1,2 @@
+pub mod BinarySteps
+pub mod BinaryServes

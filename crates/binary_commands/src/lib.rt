@@ -1,0 +1,6 @@
+//! The commands on the data units of transparent EFs: READ BINARY and UPDATE BINARY.
+#![tactic(auto)]
+
+mod binary;
+
+pub use binary::{read_file, update_file};
