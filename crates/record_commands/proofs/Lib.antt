@@ -8,3 +8,4 @@ pub mod UpdateServes
 pub mod AppendServes
 pub mod IncreaseServes
 pub mod RecordKinds
+pub mod RecordPuts
