@@ -16,9 +16,8 @@ ghost use Rattle.card_sweeps.specs.Sweeps.{GivenByRun, PlaysOn, free_of};
 use crate::cut_masks::{mask_at, mask_count, words_to_try};
 use crate::sweepable::Sweepable;
 use crate::tally::{Sweep, Trace, blank_trace};
-use bench_turns::{Turn, TurnResult};
+use bench_turns::{Turn, TurnPlayer, TurnResult};
 use card_state::FreeSpace;
-use card_turns::Bench;
 use std::alloc::{AllocError, Global};
 use t1_link::BlockBytes;
 
@@ -59,23 +58,25 @@ impl From<AllocError> for Stop {
 ///
 /// # Errors
 /// There is too little memory.
-pub fn sweep<B: Sweepable + Drop>(
+pub fn sweep<P: TurnPlayer + Drop>(
     alloc: Global,
-    board: &B,
+    board: &P::Board,
     prepare: &[Turn<'_>],
     command: &[u8],
     probe: &[Turn<'_>],
     depth: u8,
 ) -> Result<Sweep, AllocError>
-    requires { (B.facts board.now).pending ≡ None }
+where
+    P::Board: Sweepable + Drop,
+    requires { (P.Board.facts board.now).pending ≡ None }
     ensures sum { IfOk result (λ s. sum_by times_seen s.seen.items ≡ s.runs) }
     ensures different { IfOk result (λ s. AllPairs (λ a b. a ≢ b) (findings s.seen.items)) }
-    ensures runs { IfOk result (λ s. HasCard (B.facts board.now).words
-        → All (GivenByRun (B.facts board.now) prepare.now command.now probe.now depth) (findings s.seen.items)) }
+    ensures runs { IfOk result (λ s. HasCard (P.Board.facts board.now).words
+        → All (GivenByRun (P.Board.facts board.now) prepare.now command.now probe.now depth) (findings s.seen.items)) }
     // The tally is that of the possible runs, in order. docs/SWEEP.md says what is open.
-    ensures complete { IfOk result (λ s. HasCard (B.facts board.now).words → s.runs < 2 ^ 32 - 1
-        → CountsRuns (AreAllRuns B.facts B.torn (B.facts board.now) prepare.now command.now probe.now depth) []
-        s.seen.items) }
+    ensures complete { IfOk result (λ s. HasCard (P.Board.facts board.now).words → s.runs < 2 ^ 32 - 1
+        → CountsRuns (AreAllRuns P.Board.facts P.Board.torn (P.Board.facts board.now) prepare.now command.now probe.now
+        depth) [] s.seen.items) }
 {
     let mut sweep = Sweep::new(alloc);
     let plan = Plan {
@@ -86,7 +87,7 @@ pub fn sweep<B: Sweepable + Drop>(
         probe,
         depth,
     };
-    match cut_command(&plan, &mut sweep) {
+    match cut_command::<P>(&plan, &mut sweep) {
         Ok(()) | Err(Stop::Full) => Ok(sweep),
         Err(Stop::Memory) => Err(AllocError),
     }
@@ -97,19 +98,21 @@ pub fn sweep<B: Sweepable + Drop>(
 ///
 /// # Errors
 /// There is too little memory.
-pub fn cut_at<B: Sweepable + Drop>(
+pub fn cut_at<P: TurnPlayer + Drop>(
     alloc: Global,
-    board: &B,
+    board: &P::Board,
     prepare: &[Turn<'_>],
     command: &[u8],
     number: u32,
     mask: u16,
-) -> Result<Option<B>, AllocError>
+) -> Result<Option<P::Board>, AllocError>
+where
+    P::Board: Sweepable + Drop,
     requires { 1 ≤ number }
-    ensures cut { IfOk result (λ cut. IfSome cut (λ left. HasCard (B.facts board.now).words
-        → CutsCommand number mask (B.facts board.now) prepare.now command.now (B.facts left))) }
-    ensures unmade { IfOk result (λ cut. IfNone cut (HasCard (B.facts board.now).words
-        → IsUnmade number (B.facts board.now) prepare.now command.now)) }
+    ensures cut { IfOk result (λ cut. IfSome cut (λ left. HasCard (P.Board.facts board.now).words
+        → CutsCommand number mask (P.Board.facts board.now) prepare.now command.now (P.Board.facts left))) }
+    ensures unmade { IfOk result (λ cut. IfNone cut (HasCard (P.Board.facts board.now).words
+        → IsUnmade number (P.Board.facts board.now) prepare.now command.now)) }
 {
     let plan = Plan {
         alloc,
@@ -119,7 +122,7 @@ pub fn cut_at<B: Sweepable + Drop>(
         probe: &[],
         depth: 0,
     };
-    command_cut(&plan, number, mask)
+    command_cut::<P>(&plan, number, mask)
 }
 
 /// Tries every run that may follow on a board.
@@ -127,18 +130,20 @@ pub fn cut_at<B: Sweepable + Drop>(
 ///
 /// # Errors
 /// There is too little memory.
-pub fn sweep_behind<B: Sweepable + Drop>(
+pub fn sweep_behind<P: TurnPlayer + Drop>(
     alloc: Global,
-    board: &B,
+    board: &P::Board,
     probe: &[Turn<'_>],
     depth: u8,
 ) -> Result<Sweep, AllocError>
+where
+    P::Board: Sweepable + Drop,
     ensures sum { IfOk result (λ s. sum_by times_seen s.seen.items ≡ s.runs) }
-    ensures complete { IfOk result (λ s. HasCard (B.facts board.now).words → s.runs < 2 ^ 32 - 1
-        → CountsRuns (AreAllBehind depth probe.now (B.facts board.now)) [] s.seen.items) }
+    ensures complete { IfOk result (λ s. HasCard (P.Board.facts board.now).words → s.runs < 2 ^ 32 - 1
+        → CountsRuns (AreAllBehind depth probe.now (P.Board.facts board.now)) [] s.seen.items) }
 {
     let mut sweep = Sweep::new(alloc);
-    match cut_starts(alloc, board, probe, depth, &mut sweep) {
+    match cut_starts::<P>(alloc, board, probe, depth, &mut sweep) {
         Ok(()) | Err(Stop::Full) => Ok(sweep),
         Err(Stop::Memory) => Err(AllocError),
     }
@@ -149,27 +154,34 @@ pub fn sweep_behind<B: Sweepable + Drop>(
 ///
 /// # Errors
 /// There is too little memory.
-pub fn play_copy<B: Sweepable + Drop>(
+pub fn play_copy<P: TurnPlayer + Drop>(
     alloc: Global,
-    board: &B,
+    board: &P::Board,
     turns: &[Turn<'_>],
-) -> Result<(Trace, B), AllocError>
-    ensures { IfOk result (λ played. HasCard (B.facts board.now).words
-        → PlaysOn (B.facts board.now) turns.now played.0.items (B.facts played.1)) }
+) -> Result<(Trace, P::Board), AllocError>
+where
+    P::Board: Sweepable + Drop,
+    ensures { IfOk result (λ played. HasCard (P.Board.facts board.now).words
+        → PlaysOn (P.Board.facts board.now) turns.now played.0.items (P.Board.facts played.1)) }
 {
-    let mut bench = Bench::new(board.copy(alloc)?);
+    let mut bench = P::new(board.copy(alloc)?);
     let trace = played(alloc, &mut bench, turns)?;
     Ok((trace, bench.into_board()))
 }
 
 /// Cuts the command at each of its writes, and continues from there.
-fn cut_command<B: Sweepable + Drop>(plan: &Plan<'_, B>, sweep: &mut Sweep) -> Result<(), Stop>
-    ensures { Sweeps (board_of B.facts plan.now).words (IsGivenBy B.facts plan.now)
-        (λ _. AreAll B.facts B.torn plan.now)
+fn cut_command<P: TurnPlayer + Drop>(
+    plan: &Plan<'_, P::Board>,
+    sweep: &mut Sweep,
+) -> Result<(), Stop>
+where
+    P::Board: Sweepable + Drop,
+    ensures { Sweeps (board_of P.Board.facts plan.now).words (IsGivenBy P.Board.facts plan.now)
+        (λ _. AreAll P.Board.facts P.Board.torn plan.now)
         sweep.old sweep.new result }
 {
     for whole in 0..u32::MAX {
-        if !cut_write(plan, whole + 1, sweep)? {
+        if !cut_write::<P>(plan, whole + 1, sweep)? {
             return Ok(());
         }
     }
@@ -178,44 +190,49 @@ fn cut_command<B: Sweepable + Drop>(plan: &Plan<'_, B>, sweep: &mut Sweep) -> Re
 
 /// Cuts the command at write `k` with each mask, and continues.
 /// Returns true if the command makes that write.
-fn cut_write<B: Sweepable + Drop>(
-    plan: &Plan<'_, B>,
+fn cut_write<P: TurnPlayer + Drop>(
+    plan: &Plan<'_, P::Board>,
     k: u32,
     sweep: &mut Sweep,
 ) -> Result<bool, Stop>
+where
+    P::Board: Sweepable + Drop,
     requires { 1 ≤ k }
-    ensures { Sweeps (board_of B.facts plan.now).words (IsGivenBy B.facts plan.now)
-        (AreAtWrite B.facts B.torn plan.now k)
+    ensures { Sweeps (board_of P.Board.facts plan.now).words (IsGivenBy P.Board.facts plan.now)
+        (AreAtWrite P.Board.facts P.Board.torn plan.now k)
         sweep.old sweep.new result }
 {
-    let Some(torn) = command_cut(plan, k, 0)? else {
+    let Some(torn) = command_cut::<P>(plan, k, 0)? else {
         return Ok(false);
     };
     let words = words_to_try(torn.torn_words());
-    cut_starts(plan.alloc, &torn, plan.probe, plan.depth, sweep)?;
+    cut_starts::<P>(plan.alloc, &torn, plan.probe, plan.depth, sweep)?;
     for i in 1..mask_count(words) {
-        let Some(torn) = command_cut(plan, k, mask_at(words, i))? else {
+        let Some(torn) = command_cut::<P>(plan, k, mask_at(words, i))? else {
             return Ok(false);
         };
-        cut_starts(plan.alloc, &torn, plan.probe, plan.depth, sweep)?;
+        cut_starts::<P>(plan.alloc, &torn, plan.probe, plan.depth, sweep)?;
     }
     Ok(true)
 }
 
 /// Returns the board after the command was cut at write `k`.
 /// Returns `None` if the command makes fewer writes.
-fn command_cut<B: Sweepable + Drop>(
-    plan: &Plan<'_, B>,
+fn command_cut<P: TurnPlayer + Drop>(
+    plan: &Plan<'_, P::Board>,
     k: u32,
     mask: u16,
-) -> Result<Option<B>, AllocError>
+) -> Result<Option<P::Board>, AllocError>
+where
+    P::Board: Sweepable + Drop,
     requires { 1 ≤ k }
-    ensures cut { IfOk result (λ cut. IfSome cut (λ left. HasCard (board_of B.facts plan.now).words
-        → CutsCommand k mask (board_of B.facts plan.now) plan.now.prepare.now plan.now.command.now (B.facts left))) }
-    ensures unmade { IfOk result (λ cut. IfNone cut (HasCard (board_of B.facts plan.now).words
-        → IsUnmade k (board_of B.facts plan.now) plan.now.prepare.now plan.now.command.now)) }
+    ensures cut { IfOk result (λ cut. IfSome cut (λ left. HasCard (board_of P.Board.facts plan.now).words
+        → CutsCommand k mask (board_of P.Board.facts plan.now) plan.now.prepare.now plan.now.command.now
+        (P.Board.facts left))) }
+    ensures unmade { IfOk result (λ cut. IfNone cut (HasCard (board_of P.Board.facts plan.now).words
+        → IsUnmade k (board_of P.Board.facts plan.now) plan.now.prepare.now plan.now.command.now)) }
 {
-    let mut bench = Bench::new(plan.board.copy(plan.alloc)?);
+    let mut bench = P::new(plan.board.copy(plan.alloc)?);
     let _ = played(plan.alloc, &mut bench, plan.prepare)?;
     bench.arm_well(k, mask);
     let mut reply = BlockBytes::new();
@@ -237,48 +254,52 @@ fn cut_board<B: Sweepable + Drop>(is_dark: bool, board: B) -> Option<B>
 
 /// Cuts up to `depth` power-ons, then runs the probe.
 /// It cuts no more after a power-on without writes.
-fn cut_starts<B: Sweepable + Drop>(
+fn cut_starts<P: TurnPlayer + Drop>(
     alloc: Global,
-    board: &B,
+    board: &P::Board,
     probe: &[Turn<'_>],
     depth: u8,
     sweep: &mut Sweep,
 ) -> Result<(), Stop>
-    ensures { Sweeps (B.facts board.now).words (EndsBehindStarts depth (B.facts board.now) probe.now)
-        (λ _. AreAllBehind depth probe.now (B.facts board.now)) sweep.old sweep.new result }
+where
+    P::Board: Sweepable + Drop,
+    ensures { Sweeps (P.Board.facts board.now).words (EndsBehindStarts depth (P.Board.facts board.now) probe.now)
+        (λ _. AreAllBehind depth probe.now (P.Board.facts board.now)) sweep.old sweep.new result }
 {
     if depth == 0 {
-        return look(alloc, board, probe, sweep);
+        return look::<P>(alloc, board, probe, sweep);
     }
     for i in 0..u32::MAX {
         // Each write is tried with masks 0 and 1.
-        let Some(cut) = start_cut(alloc, board, i / 2 + 1, (i % 2) as u16)? else {
+        let Some(cut) = start_cut::<P>(alloc, board, i / 2 + 1, (i % 2) as u16)? else {
             return if i == 0 {
-                look(alloc, board, probe, sweep)
+                look::<P>(alloc, board, probe, sweep)
             } else {
                 Ok(())
             };
         };
-        cut_starts(alloc, &cut, probe, depth - 1, sweep)?;
+        cut_starts::<P>(alloc, &cut, probe, depth - 1, sweep)?;
     }
     Ok(())
 }
 
 /// Returns the board after a power-on that was cut at write `k`.
 /// Returns `None` if power-on makes fewer writes.
-fn start_cut<B: Sweepable + Drop>(
+fn start_cut<P: TurnPlayer + Drop>(
     alloc: Global,
-    board: &B,
+    board: &P::Board,
     k: u32,
     mask: u16,
-) -> Result<Option<B>, AllocError>
+) -> Result<Option<P::Board>, AllocError>
+where
+    P::Board: Sweepable + Drop,
     requires { 1 ≤ k }
-    ensures cut { IfOk result (λ cut. IfSome cut (λ left. HasCard (B.facts board.now).words
-        → CutsStart k mask (B.facts board.now) (B.facts left))) }
-    ensures spared { IfOk result (λ cut. IfNone cut (HasCard (B.facts board.now).words
-        → SparesStart k mask (B.facts board.now))) }
+    ensures cut { IfOk result (λ cut. IfSome cut (λ left. HasCard (P.Board.facts board.now).words
+        → CutsStart k mask (P.Board.facts board.now) (P.Board.facts left))) }
+    ensures spared { IfOk result (λ cut. IfNone cut (HasCard (P.Board.facts board.now).words
+        → SparesStart k mask (P.Board.facts board.now))) }
 {
-    let mut bench = Bench::new(board.copy(alloc)?);
+    let mut bench = P::new(board.copy(alloc)?);
     bench.arm_well(k, mask);
     let mut reply = BlockBytes::new();
     let turned = bench.turn_well(Turn::On, &mut reply);
@@ -286,19 +307,21 @@ fn start_cut<B: Sweepable + Drop>(
 }
 
 /// Counts one run: an uncut power-on, and the probe.
-fn look<B: Sweepable + Drop>(
+fn look<P: TurnPlayer + Drop>(
     alloc: Global,
-    board: &B,
+    board: &P::Board,
     probe: &[Turn<'_>],
     sweep: &mut Sweep,
 ) -> Result<(), Stop>
-    ensures { Sweeps (B.facts board.now).words (EndsIn (B.facts board.now) probe.now)
-        (λ _. IsOneLook probe.now (B.facts board.now)) sweep.old sweep.new result }
+where
+    P::Board: Sweepable + Drop,
+    ensures { Sweeps (P.Board.facts board.now).words (EndsIn (P.Board.facts board.now) probe.now)
+        (λ _. IsOneLook probe.now (P.Board.facts board.now)) sweep.old sweep.new result }
 {
     if sweep.is_full() {
         return Err(Stop::Full);
     }
-    let mut bench = Bench::new(board.copy(alloc)?);
+    let mut bench = P::new(board.copy(alloc)?);
     let mut reply = BlockBytes::new();
     let _ = bench.turn_well(Turn::On, &mut reply);
     let free = free_space_of(&bench);
@@ -308,13 +331,13 @@ fn look<B: Sweepable + Drop>(
 }
 
 /// Plays turns, and returns the result of each.
-fn played<B: Sweepable>(
+fn played<P: TurnPlayer>(
     alloc: Global,
-    bench: &mut Bench<B>,
+    bench: &mut P,
     turns: &[Turn<'_>],
 ) -> Result<Trace, AllocError>
-    ensures { IfOk result (λ trace. IsGood bench.old
-        → IsGood bench.new × Runs bench.old turns.now trace.items bench.new) }
+    ensures { IfOk result (λ trace. IsGood (P.state bench.old)
+        → IsGood (P.state bench.new) × Runs (P.state bench.old) turns.now trace.items (P.state bench.new)) }
 {
     let mut trace = blank_trace(alloc, turns.len())?;
     bench.play_well(turns, &mut trace);
@@ -322,8 +345,8 @@ fn played<B: Sweepable>(
 }
 
 /// Returns the free space; zero with power off.
-fn free_space_of<B: Sweepable>(bench: &Bench<B>) -> FreeSpace
-    ensures { IsWell bench.now → result ≡ free_of bench.now }
+fn free_space_of<P: TurnPlayer>(bench: &P) -> FreeSpace
+    ensures { IsWell (P.state bench.now) → result ≡ free_of (P.state bench.now) }
 {
     match bench.free() {
         Some(free) => free,

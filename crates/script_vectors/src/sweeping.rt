@@ -6,6 +6,7 @@ ghost use Rattle.simulated_boards.specs.Cut.{cut_facts};
 
 use card_bench::{Item, Turn};
 use card_sweeps::{Seen, Sweep, sweep};
+use card_turns::Bench;
 use card_vectors::fixtures::formatted;
 use link_vectors::fixtures::framed;
 use simulated_boards::CutBoard;
@@ -146,7 +147,7 @@ fn swept(alloc: Global, case: &Case, depth: u8) -> Result<Result<Sweep, AllocErr
     let command = framed(alloc, control, case.command)?;
     let prepare = turns_of(alloc, true, &before)?;
     let probe = turns_of(alloc, false, &after)?;
-    Ok(sweep(alloc, &board, &prepare, &command, &probe, depth))
+    Ok(sweep::<Bench<CutBoard>>(alloc, &board, &prepare, &command, &probe, depth))
 }
 
 /// Returns true if the replies to a probe contain these answers.

@@ -1,11 +1,1 @@
-pub mod Turning
-pub mod Framing
-pub mod Asking
-pub mod Printing
-pub mod DeviceWrites
-pub mod CommandLineParts
-pub mod SweepOptionParts
-pub mod ExitStatuses
-pub mod Reporting
-pub mod SweepEndings
-pub mod ReportParts
+pub mod ProgramStatuses

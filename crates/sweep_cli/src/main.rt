@@ -3,27 +3,19 @@
 #![tactic(auto)]
 
 ghost use Rattle.std.specs.Prelude.{◌≡◌, MatchResult};
-ghost use Rattle.sweep_cli.specs.ExitStatuses.{program_status_of};
+ghost use Rattle.sweep_cli.specs.ProgramStatuses.{program_status_of};
 
-mod device_writes;
 mod fault;
-mod frames;
-mod lines;
-mod options;
-mod parts;
-mod plan;
-pub mod report;
-mod script;
-mod steps;
-mod swept_board;
 
-use fault::{ProgramFault, SweepFault};
-use options::{Options, read_words};
-use report::report;
+use card_turns::Bench;
+use fault::ProgramFault;
+use simulated_boards::CutBoard;
 use std::env;
 use std::io::{self, BufReader, ErrorKind};
 use std::process::ExitCode;
-use swept_board::swept_board;
+use sweep_reports::report::report;
+use sweep_scripts::{Options, SweepFault, read_words};
+use swept_cards::swept_board;
 
 /// Returns what the command line asks for.
 fn asked(rt: &HostRuntime) -> Result<Options, ProgramFault> {
@@ -46,7 +38,7 @@ fn sweep_card(rt: &HostRuntime) -> Result<(), ProgramFault> {
     let Ok(mut reader) = BufReader::new(rt.alloc(), rt.reader()) else {
         return Err(ProgramFault::NoReport(SweepFault::Memory));
     };
-    report(
+    report::<Bench<CutBoard>, _, _>(
         rt.alloc(),
         &board,
         options.part,

@@ -10,9 +10,10 @@ decreases-cut_starts g l = l.depth
 
 abbrev pub invariant-loop-i : goal.invariant-loop-i
 invariant-loop-i g l = record {
-  so_far : HasCard (g.B.Board.facts l.board).words → Adds (EndsBehindStarts l.depth (g.B.Board.facts l.board) l.probe)
+  so_far : HasCard (g.P.Board.Board.facts l.board).words
+      → Adds (EndsBehindStarts l.depth (g.P.Board.Board.facts l.board) l.probe)
       (findings l.fn.sweep.seen.items) (findings l.sweep.seen.items);
-  counted : HasCard (g.B.Board.facts l.board).words
-      → CountsRuns (InTurn (AreBehindCut (AreAllBehind (l.depth - 1) l.probe) (g.B.Board.facts l.board)) l.i)
+  counted : HasCard (g.P.Board.Board.facts l.board).words
+      → CountsRuns (InTurn (AreBehindCut (AreAllBehind (l.depth - 1) l.probe) (g.P.Board.Board.facts l.board)) l.i)
       l.fn.sweep.seen.items l.sweep.seen.items;
 }

@@ -16,8 +16,8 @@ returns-clause-unmade g c =
     ] in
     if-none c.cut_board.result _ _
     (λ spared card. unmade-by _ _ _ _ _ (spares-command _ _ _ _ _ _ _ _ _ _
-    (g.met.B.Faultless.faultless c.args.plan.now.board.now).faults
-    (g.met.B.Faultless.faultless c.args.plan.now.board.now).due
+    (g.met.P.Board.Faultless.faultless c.args.plan.now.board.now).faults
+    (g.met.P.Board.Faultless.faultless c.args.plan.now.board.now).due
     (c.new-bench.ensures ∙ ap off_with c.in_ok-copy.ensures) c.into_board.ensures lit spared card _ _ _
     c.args.plan.now.command c.in_ok-played.ensures c.arm_well.ensures.good c.arm_well.ensures.armed
     c.turn_well-turned.ensures))
@@ -30,9 +30,10 @@ returns-clause-cut g c =
       | in_default w ↦ λ is. absurd (true≢false (sym is ∙ w.matches-is))
     ] in
     IfSome_then c.cut_board.result c.cut_board.ensures.cut
-    (λ left fell card. cuts-command _ _ _ _ _ _ _ _ _ (g.met.B.Faultless.faultless c.args.plan.now.board.now).faults
-    (g.met.B.Faultless.faultless c.args.plan.now.board.now).due
-    (c.new-bench.ensures ∙ ap off_with c.in_ok-copy.ensures) (ap g.B.Board.facts fell.0 ∙ c.into_board.ensures)
+    (λ left fell card. cuts-command _ _ _ _ _ _ _ _ _
+    (g.met.P.Board.Faultless.faultless c.args.plan.now.board.now).faults
+    (g.met.P.Board.Faultless.faultless c.args.plan.now.board.now).due
+    (c.new-bench.ensures ∙ ap off_with c.in_ok-copy.ensures) (ap g.P.Board.Board.facts fell.0 ∙ c.into_board.ensures)
     (lost fell.1) fell.2 card _ _ _
     c.args.plan.now.command c.in_ok-played.ensures c.arm_well.ensures.good
     c.arm_well.ensures.armed c.turn_well-turned.ensures)

@@ -26,7 +26,8 @@ returns-then-not-branch g c = record {
   given = λ card.
       adds-on _ _ _ _ (c.loop-whole.invariant.so_far card) (c.cut_write.ensures.given card);
   complete = λ card.
-      counts-command g.B.Board.facts g.B.Sweepable.torn _ _ _ _ _ _ _ _ _ (c.loop-whole.invariant.counted card)
+      counts-command g.P.Board.Board.facts g.P.Board.Sweepable.torn _ _ _ _ _ _ _ _ _
+      (c.loop-whole.invariant.counted card)
       (rw c.if-not-branch.true at (c.in_ok-cut_write.ensures.complete card));
   full = search rules;
 }
@@ -37,6 +38,7 @@ returns g c = record {
   complete = λ card.
       let full : c.loop-whole.whole ≡ 2 ^ 32 - 1 =
       omega (arith, c.loop-whole-test.false, c.loop-whole.auto.whole-end) in
-      counts-command-full g.B.Board.facts g.B.Sweepable.torn _ _ _ _ _ _ _ _ full (c.loop-whole.invariant.counted card);
+      counts-command-full g.P.Board.Board.facts g.P.Board.Sweepable.torn _ _ _ _ _ _ _ _ full
+      (c.loop-whole.invariant.counted card);
   full = search rules;
 }

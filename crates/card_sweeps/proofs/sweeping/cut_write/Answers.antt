@@ -13,7 +13,7 @@ loop-i-init g c =
     record {
       so_far = λ card. adds-weaker _ _ _ _ (λ given rest. given-by-run _ _ _ _ _ _ _ _ _ (cut card) rest)
           (c.cut_starts.ensures.given (cut card).has_card);
-      counted = λ card. counts-mask g.B.Board.facts g.B.Sweepable.torn _ _ c.words_to_try-words.result 0 _
+      counted = λ card. counts-mask g.P.Board.Board.facts g.P.Board.Sweepable.torn _ _ c.words_to_try-words.result 0 _
           c.in-Some.torn _ _ _ _ _ _
           (λ _. c.words_to_try-words.ensures.tried ∙ ap words_tried c.torn_words.ensures.last) (counts-none _ _)
           (cut card) (c.in_ok-cut_starts.ensures.complete (cut card).has_card);
@@ -26,16 +26,17 @@ loop-i-preserved g c =
     let mask : c.mask_at.result ≡ mask_of words c.loop-i.i =
     mask-is words c.loop-i.i c.mask_at.result c.mask_at.ensures.none c.mask_at.ensures.all c.mask_at.ensures.single in
     let Cuts : ℕ → Type 0 = λ m. CutsCommand c.args.k m
-    (board_of g.B.Board.facts c.args.plan.now) c.args.plan.now.prepare.now
-    c.args.plan.now.command.now (g.B.Board.facts c.in-Some-2.torn) in
-    let later : c.loop-i.i ≡ 0 → words ≡ words_tried (g.B.Sweepable.torn c.in-Some-2.torn) = λ first.
+    (board_of g.P.Board.Board.facts c.args.plan.now) c.args.plan.now.prepare.now
+    c.args.plan.now.command.now (g.P.Board.Board.facts c.in-Some-2.torn) in
+    let later : c.loop-i.i ≡ 0 → words ≡ words_tried (g.P.Board.Sweepable.torn c.in-Some-2.torn) = λ first.
     absurd (omega (arith, first)) in
     record {
       so_far = λ card. adds-on _ _ _ _ (c.loop-i.invariant.so_far card)
           (adds-weaker _ _ _ _ (λ given rest. given-by-run _ _ _ _ _ _ _ _ _ (cut card) rest)
           (c.cut_starts-in-loop-i.ensures.given (cut card).has_card));
       counted = λ card.
-          counts-mask g.B.Board.facts g.B.Sweepable.torn _ _ words c.loop-i.i _ c.in-Some-2.torn _ _ _ _ _ _ later
+          counts-mask g.P.Board.Board.facts g.P.Board.Sweepable.torn _ _ words c.loop-i.i _ c.in-Some-2.torn
+          _ _ _ _ _ _ later
           (c.loop-i.invariant.counted card)
           (subst Cuts mask (cut card)) (c.in_ok-cut_starts-2.ensures.complete (cut card).has_card);
     }
@@ -46,7 +47,8 @@ returns-in_default g c = record {
   complete = λ card.
       let unmade = rw c.in_default.is at c.in_ok-torn.ensures.unmade in
       let few : 0 < mask_count_of 1 = omega arith in
-      counts-last g.B.Board.facts g.B.Sweepable.torn _ _ 1 0 _ _ _ _ _ _ few (counts-none _ _) (unmade card);
+      counts-last g.P.Board.Board.facts g.P.Board.Sweepable.torn _ _ 1 0 _ _ _ _ _ _ few (counts-none _ _)
+      (unmade card);
   full = search rules;
 }
 
@@ -74,7 +76,7 @@ returns-in_default-2 g c = record {
       let words = c.words_to_try-words.result in
       let unmade = rw c.in_default-2.is at c.in_ok-torn-2.ensures.unmade in
       let few : c.loop-i.i < mask_count_of words = omega (arith, c.loop-i-test.true, c.mask_count-i-end.ensures) in
-      counts-last g.B.Board.facts g.B.Sweepable.torn _ _ words c.loop-i.i _ _ _ _ _ _ few
+      counts-last g.P.Board.Board.facts g.P.Board.Sweepable.torn _ _ words c.loop-i.i _ _ _ _ _ _ few
       (c.loop-i.invariant.counted card) (unmade card);
   full = search rules;
 }
@@ -98,7 +100,7 @@ returns g c = record {
       let tried : 1 ≤ mask_count_of words = masks-some words in
       let end : c.loop-i.i ≡ mask_count_of words =
       omega (arith, tried, c.loop-i-test.false, c.loop-i.auto.i-end, c.mask_count-i-end.ensures) in
-      counts-write g.B.Board.facts g.B.Sweepable.torn _ _ words c.loop-i.i _ _ _ _ _ _
+      counts-write g.P.Board.Board.facts g.P.Board.Sweepable.torn _ _ words c.loop-i.i _ _ _ _ _ _
       c.words_to_try-words.ensures.some c.words_to_try-words.ensures.fits
       end (c.loop-i.invariant.counted card);
   full = search rules;

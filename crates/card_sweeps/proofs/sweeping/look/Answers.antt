@@ -8,14 +8,15 @@ use Rattle.card_sweeps.proofs.sweeping.look.Goals as goal
 pub returns : goal.returns
 returns g c = record {
   given = λ card. adds-weaker _ _ _ _
-      (λ f same. subst (EndsIn (g.B.Board.facts c.args.board.now) c.args.probe.now) (sym same)
-      (ends-in (g.B.Board.facts c.args.board.now) c.args.probe.now _ _
-      _ _ _ _ _ (g.met.B.Faultless.faultless c.args.board.now).faults
-      (g.met.B.Faultless.faultless c.args.board.now).due (c.new-bench.ensures ∙ ap off_with c.in_ok-copy.ensures)
+      (λ f same. subst (EndsIn (g.P.Board.Board.facts c.args.board.now) c.args.probe.now) (sym same)
+      (ends-in (g.P.Board.Board.facts c.args.board.now) c.args.probe.now _ _
+      _ _ _ _ _ (g.met.P.Board.Faultless.faultless c.args.board.now).faults
+      (g.met.P.Board.Faultless.faultless c.args.board.now).due (c.new-bench.ensures ∙ ap off_with c.in_ok-copy.ensures)
       c.turn_well.ensures c.free_space_of-free.ensures c.in_ok-trace.ensures card)) c.count.ensures.adds;
   complete = λ card.
-      let end = ends-in (g.B.Board.facts c.args.board.now) c.args.probe.now _ _ _ _ _ _ _
-      (g.met.B.Faultless.faultless c.args.board.now).faults (g.met.B.Faultless.faultless c.args.board.now).due
+      let end = ends-in (g.P.Board.Board.facts c.args.board.now) c.args.probe.now _ _ _ _ _ _ _
+      (g.met.P.Board.Faultless.faultless c.args.board.now).faults
+      (g.met.P.Board.Faultless.faultless c.args.board.now).due
       (c.new-bench.ensures ∙ ap off_with c.in_ok-copy.ensures) c.turn_well.ensures c.free_space_of-free.ensures
       c.in_ok-trace.ensures card in
       counts-one _ _ _ _ _ end c.in_ok-count.ensures.counts;
@@ -25,10 +26,10 @@ returns g c = record {
 pub returns-in_err-count : goal.returns-in_err-count
 returns-in_err-count g c = record {
   given = λ card. adds-weaker _ _ _ _
-      (λ f same. subst (EndsIn (g.B.Board.facts c.args.board.now) c.args.probe.now) (sym same)
-      (ends-in (g.B.Board.facts c.args.board.now) c.args.probe.now _ _
-      _ _ _ _ _ (g.met.B.Faultless.faultless c.args.board.now).faults
-      (g.met.B.Faultless.faultless c.args.board.now).due (c.new-bench.ensures ∙ ap off_with c.in_ok-copy.ensures)
+      (λ f same. subst (EndsIn (g.P.Board.Board.facts c.args.board.now) c.args.probe.now) (sym same)
+      (ends-in (g.P.Board.Board.facts c.args.board.now) c.args.probe.now _ _
+      _ _ _ _ _ (g.met.P.Board.Faultless.faultless c.args.board.now).faults
+      (g.met.P.Board.Faultless.faultless c.args.board.now).due (c.new-bench.ensures ∙ ap off_with c.in_ok-copy.ensures)
       c.turn_well.ensures c.free_space_of-free.ensures c.in_ok-trace.ensures card)) c.count.ensures.adds;
   complete = search rules;
   full = search rules;

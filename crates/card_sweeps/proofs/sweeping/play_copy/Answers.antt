@@ -4,6 +4,6 @@ use Rattle.card_sweeps.proofs.SweepLemmas.{plays-on}
 use Rattle.card_sweeps.proofs.sweeping.play_copy.Goals as goal
 
 pub returns : goal.returns
-returns g c = λ card. plays-on _ _ _ _ _ _ (g.met.B.Faultless.faultless c.args.board.now).faults
-    (g.met.B.Faultless.faultless c.args.board.now).due (c.new-bench.ensures ∙ ap off_with c.in_ok-copy.ensures)
+returns g c = λ card. plays-on _ _ _ _ _ _ (g.met.P.Board.Faultless.faultless c.args.board.now).faults
+    (g.met.P.Board.Faultless.faultless c.args.board.now).due (c.new-bench.ensures ∙ ap off_with c.in_ok-copy.ensures)
     c.into_board.ensures c.in_ok-trace.ensures card

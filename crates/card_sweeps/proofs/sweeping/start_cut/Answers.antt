@@ -14,8 +14,8 @@ returns-clause-spared g c =
       | in_default w ↦ λ is e. w.in_default.not-Dark e
     ] in
     if-none c.cut_board.result _ _
-    (λ spared card. spares-start _ _ _ _ _ _ _ _ _ _ (g.met.B.Faultless.faultless c.args.board.now).faults
-    (g.met.B.Faultless.faultless c.args.board.now).due
+    (λ spared card. spares-start _ _ _ _ _ _ _ _ _ _ (g.met.P.Board.Faultless.faultless c.args.board.now).faults
+    (g.met.P.Board.Faultless.faultless c.args.board.now).due
     (c.new-bench.ensures ∙ ap off_with c.in_ok-copy.ensures) c.into_board.ensures lit spared card
     c.arm_well.ensures.good c.arm_well.ensures.armed c.turn_well-turned.ensures)
     c.cut_board.ensures.spared
@@ -27,8 +27,8 @@ returns-clause-cut g c =
       | in_default w ↦ λ is. absurd (true≢false (sym is ∙ w.matches-is))
     ] in
     IfSome_then c.cut_board.result c.cut_board.ensures.cut
-    (λ left fell card. cuts-start _ _ _ _ _ _ _ _ _ (g.met.B.Faultless.faultless c.args.board.now).faults
-    (g.met.B.Faultless.faultless c.args.board.now).due
-    (c.new-bench.ensures ∙ ap off_with c.in_ok-copy.ensures) (ap g.B.Board.facts fell.0 ∙ c.into_board.ensures)
+    (λ left fell card. cuts-start _ _ _ _ _ _ _ _ _ (g.met.P.Board.Faultless.faultless c.args.board.now).faults
+    (g.met.P.Board.Faultless.faultless c.args.board.now).due
+    (c.new-bench.ensures ∙ ap off_with c.in_ok-copy.ensures) (ap g.P.Board.Board.facts fell.0 ∙ c.into_board.ensures)
     (lost fell.1) fell.2 card c.arm_well.ensures.good
     c.arm_well.ensures.armed c.turn_well-turned.ensures)

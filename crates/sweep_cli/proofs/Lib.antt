@@ -1,6 +1,0 @@
-pub mod Turned
-pub mod Put
-pub mod Reported
-pub mod ReadSo
-pub mod Stopped
-mod SweepWords

@@ -1,0 +1,39 @@
+-- Faults of a report that a function passes on by `?`.
+use Rattle.std.specs.Prelude.{◌≡◌, ℕ, List, Option, Result, Ok, Err, IfErr, IsErrAnd}
+use Rattle.std.proofs.Common.{sym, subst}
+use Rattle.nvm_board.specs.Facts.{Facts}
+use Rattle.sweep_scripts.specs.declared.fault.SweepFault.{SweepFault}
+use Rattle.sweep_scripts.specs.declared.fault.SweepFault.TheVariants.{BadLine, Read, Write, Memory}
+use Rattle.sweep_scripts.specs.declared.parts.SweepPart.{SweepPart}
+use Rattle.sweep_scripts.specs.SweepEndings.{ReadingStopsBy}
+use Rattle.sweep_reports.specs.ReportEndings.{SweepStopsBy}
+
+-- too little memory, while the report is made
+pub memory-ends : {T B : Type 0} (facts : B → Facts) (torn : B → ℕ) (r : Result T SweepFault) (board : Facts)
+    (part : SweepPart)
+    (script left old new : Option (List ℕ))
+    → IsErrAnd r (λ fault. fault ≡ Memory) → IfErr r (λ fault. SweepStopsBy facts torn board part fault script left
+    old new)
+memory-ends facts torn (Ok t) board part script left old new is = tt
+memory-ends facts torn (Err e) board part script left old new is =
+    subst (λ (f : SweepFault). SweepStopsBy facts torn board part f script left old new) (sym is) tt
+
+-- a fault of the reading ends the program's work
+reading-ends : {B : Type 0} (facts : B → Facts) (torn : B → ℕ) (board : Facts) (part : SweepPart)
+    (fault : SweepFault) (script left old new : Option (List ℕ))
+    → ReadingStopsBy fault script left → SweepStopsBy facts torn board part fault script left old new
+reading-ends facts torn board part (BadLine number error) script left old new stops = stops
+reading-ends facts torn board part Read script left old new stops = stops
+reading-ends facts torn board part Write script left old new stops = absurd stops
+reading-ends facts torn board part Memory script left old new stops = tt
+
+-- the same, passed on
+pub reading-passed : {T B : Type 0} (facts : B → Facts) (torn : B → ℕ) (r : Result T SweepFault) (fault : SweepFault)
+    (board : Facts) (part : SweepPart)
+    (script left old new : Option (List ℕ)) → IsErrAnd r (λ passed. passed ≡ fault)
+    → ReadingStopsBy fault script left → IfErr r (λ passed. SweepStopsBy facts torn board part passed script left old
+    new)
+reading-passed facts torn (Ok t) fault board part script left old new is stops = tt
+reading-passed facts torn (Err e) fault board part script left old new is stops =
+    subst (λ (f : SweepFault). SweepStopsBy facts torn board part f script left old new) (sym is)
+    (reading-ends facts torn board part fault script left old new stops)

@@ -1,0 +1,5 @@
+pub mod Printing
+pub mod DeviceWrites
+pub mod Reporting
+pub mod ReportEndings
+pub mod ReportParts

@@ -1,0 +1,10 @@
+//! The report of a sweep: what a script's command does to the card at each cut.
+#![tactic(auto)]
+
+mod device_writes;
+mod lines;
+mod plan;
+mod readable_board;
+pub mod report;
+
+pub use readable_board::ReadableBoard;

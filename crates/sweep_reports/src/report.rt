@@ -1,0 +1,137 @@
+//! The report of a sweep.
+ghost use Rattle.std.specs.Prelude.{◌≡◌, ◌≢◌, ◌++◌, ◌∷◌, [], None, OnOk, IfOk, IfErr, string_bytes};
+ghost use Rattle.command_base.specs.Finding.{HasCard};
+ghost use Rattle.sweep_reports.specs.ReportParts.{AddsText, sweeping_of};
+ghost use Rattle.sweep_reports.specs.Reporting.{HasSections, IsReport, WritesReport};
+ghost use Rattle.sweep_reports.specs.ReportEndings.{SweepStopsBy};
+ghost use Rattle.sweep_scripts.specs.Turning.{AreTurns};
+
+use crate::plan::{Plan, push_first_part, push_stage, push_writes};
+use crate::readable_board::ReadableBoard;
+use bench_turns::{Turn, TurnPlayer};
+use script_output::write_line;
+use std::alloc::{AllocError, Global};
+use std::io::{BufRead, Write};
+use sweep_scripts::{Step, SweepFault, SweepPart, SweepScript, read_script, turns_of};
+
+/// The turns of a script.
+#[derive(Drop)]
+struct ScriptTurns<'a> {
+    /// The turns before the last block of the command.
+    prepare: Vec<Turn<'a>>,
+    /// The same, and that block.
+    whole: Vec<Turn<'a>>,
+    /// The turns of the probe.
+    probe: Vec<Turn<'a>>,
+}
+
+/// Returns the turns up to the end of the command.
+fn whole_turns(alloc: Global, script: &SweepScript) -> Result<Vec<Turn<'_>>, AllocError>
+    ensures { IfOk result (λ whole.
+        AreTurns (script.now.prepare.items ++ Step.Block script.now.command ∷ []) whole.items) }
+{
+    let mut whole = turns_of(alloc, &script.prepare)?;
+    whole.push(Turn::Block(script.command.as_slice()))?;
+    Ok(whole)
+}
+
+/// Returns the turns of a script.
+fn script_turns(alloc: Global, script: &SweepScript) -> Result<ScriptTurns<'_>, AllocError>
+    ensures prepare { IfOk result (λ turns. AreTurns script.now.prepare.items turns.prepare.items) }
+    ensures whole { IfOk result (λ turns.
+        AreTurns (script.now.prepare.items ++ Step.Block script.now.command ∷ []) turns.whole.items) }
+    ensures probe { IfOk result (λ turns. AreTurns script.now.probe.items turns.probe.items) }
+{
+    let prepare = turns_of(alloc, &script.prepare)?;
+    let whole = whole_turns(alloc, script)?;
+    let probe = turns_of(alloc, &script.probe)?;
+    Ok(ScriptTurns {
+        prepare,
+        whole,
+        probe,
+    })
+}
+
+/// Appends what is found without the command and after it, and the cuts of the part.
+fn push_sections<P: TurnPlayer + Drop>(
+    plan: &Plan<'_, P::Board>,
+    whole: &[Turn<'_>],
+    progress: &impl Eprint,
+    text: &mut String,
+) -> Result<(), AllocError>
+where
+    P::Board: ReadableBoard + Drop,
+    ensures { OnOk result (HasCard (P.Board.facts plan.now.board.now).words
+        → AddsText (HasSections (sweeping_of P.Board.facts P.Board.torn plan.now) whole.now)
+        (string_bytes text.old) (string_bytes text.new)) }
+{
+    push_stage::<P>(plan, "before", plan.prepare, text)?;
+    push_stage::<P>(plan, "after", whole, text)?;
+    push_first_part::<P>(plan, text)?;
+    push_writes::<P>(plan, progress, text)
+}
+
+/// Returns the report of a sweep.
+fn swept<P: TurnPlayer + Drop>(
+    alloc: Global,
+    board: &P::Board,
+    script: &SweepScript,
+    part: SweepPart,
+    progress: &impl Eprint,
+) -> Result<String, AllocError>
+where
+    P::Board: ReadableBoard + Drop,
+    requires card { HasCard (P.Board.facts board.now).words }
+    requires uncut { (P.Board.facts board.now).pending ≡ None }
+    ensures { IfOk result (λ text. IsReport P.Board.facts P.Board.torn (P.Board.facts board.now) script.now part
+        (string_bytes text)) }
+{
+    let turns = script_turns(alloc, script)?;
+    let plan = Plan {
+        alloc,
+        board,
+        prepare: &turns.prepare,
+        command: script.command.as_slice(),
+        probe: &turns.probe,
+        looks: &script.looks,
+        depth: script.depth,
+        part,
+    };
+    let mut text = String::new(alloc);
+    push_sections::<P>(&plan, &turns.whole, progress, &mut text)?;
+    Ok(text)
+}
+
+/// Reads a sweep script, sweeps on copies of the board, and then writes the report.
+///
+/// # Errors
+/// `BadLine`, `Read` and `Memory` before anything is written, `Write` if the writer fails, or takes nothing.
+pub fn report<P: TurnPlayer + Drop, R: BufRead, W: Write>(
+    alloc: Global,
+    board: &P::Board,
+    part: SweepPart,
+    reader: &mut R,
+    writer: &mut W,
+    progress: &impl Eprint,
+) -> Result<(), SweepFault>
+where
+    P::Board: ReadableBoard + Drop,
+    requires card { HasCard (P.Board.facts board.now).words }
+    requires uncut { (P.Board.facts board.now).pending ≡ None }
+    // The text is the report of a sweep of the script that was read.
+    ensures told { OnOk result (WritesReport P.Board.facts P.Board.torn (P.Board.facts board.now)
+        (R.remaining reader.old) (R.remaining reader.new)
+        part (W.contents writer.old) (W.contents writer.new)) }
+    // A bad line is the first one. `Read` occurs within a line. At `Write` the first bytes of the report are written.
+    ensures stopped { IfErr result (λ fault. SweepStopsBy P.Board.facts P.Board.torn (P.Board.facts board.now) part
+        fault (R.remaining reader.old) (R.remaining reader.new) (W.contents writer.old) (W.contents writer.new)) }
+    ensures unwritten { IfErr result (λ fault. fault ≢ SweepFault.Write
+        → W.contents writer.new ≡ W.contents writer.old) }
+{
+    let script = read_script(alloc, reader)?;
+    let text = swept::<P>(alloc, board, &script, part, progress)?;
+    match write_line(writer, text.as_bytes()) {
+        Ok(()) => Ok(()),
+        Err(_) => Err(SweepFault::Write),
+    }
+}

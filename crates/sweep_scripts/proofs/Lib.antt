@@ -1,0 +1,4 @@
+pub mod Turned
+mod ReadSo
+pub mod Stopped
+mod SweepWords

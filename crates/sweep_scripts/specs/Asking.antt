@@ -1,0 +1,131 @@
+-- What the lines of a sweep script ask for.
+use Rattle.std.specs.Prelude.{◌≡◌, ◌-◌, ◌&&◌, nat_eq, nat_le, ℕ, zero, suc, Bool, true, false, List, []}
+use Rattle.std.specs.Prelude.{◌∷◌, ◌++◌, drop, length, codes, Option, Some, None, if◌then◌else◌}
+use Rattle.std.specs.Cmp.Lexicographic.{pointwise}
+use Rattle.bench_lines.specs.Orders.{Order, begins_with, order_of}
+use Rattle.bench_lines.specs.Orders as order
+use Rattle.bench_lines.specs.Scripts.{TakesLine}
+use Rattle.bench_lines.specs.declared.reading.LineEnd.TheVariants.{LineFeed, EndOfScript}
+use Rattle.sweep_scripts.specs.declared.fault.LineStop.{LineStop}
+use Rattle.sweep_scripts.specs.declared.fault.LineStop.TheVariants.{Bad, Memory}
+use Rattle.sweep_scripts.specs.declared.script.Section.{Section}
+use Rattle.sweep_scripts.specs.declared.script.Section.TheVariants.{Prepare, Command, AfterCommand, Probe}
+use Rattle.sweep_scripts.specs.declared.script.SweepScript.{SweepScript}
+use Rattle.sweep_scripts.specs.declared.steps.Step.{Step}
+use Rattle.sweep_scripts.specs.declared.steps.Step.TheVariants.{On, Off, Block}
+use Rattle.sweep_scripts.specs.Framing.{exchange, last_command_block, steps_before}
+
+-- What the lines so far ask for: the section of the next line, the steps before the last block of the command, that
+-- block, the steps of the probe, the number of steps of each of its lines, and the number of power-ons to cut.
+pub record Asked : Type 0 where
+  pub section : Section
+  pub prepare : List Step
+  pub command : List ℕ
+  pub probe : List Step
+  pub looks : List ℕ
+  pub depth : ℕ
+
+-- before the first line
+abbrev pub unasked : Asked
+unasked = record { section = Prepare; prepare = []; command = []; probe = []; looks = []; depth = 1 }
+
+-- what a script asks for
+abbrev pub asked_of : SweepScript → Asked
+asked_of s = record {
+  section = s.section;
+  prepare = s.prepare.items;
+  command = s.command;
+  probe = s.probe.items;
+  looks = s.looks.items;
+  depth = s.depth;
+}
+
+-- A line is refused only if a script can't have it there. (With too little memory nothing is said.)
+abbrev pub Refuses : LineStop → Option Asked → Type 0
+Refuses (Bad error) taken = taken ≡ None
+Refuses Memory taken = Unit {0}
+
+-- the mark of the command
+abbrev pub begins_command : Asked → Section → Option Asked
+begins_command asked Prepare = Some (record asked { section = Command })
+begins_command asked Command = None
+begins_command asked AfterCommand = None
+begins_command asked Probe = None
+
+-- the mark of the probe, after the command
+abbrev pub begins_probe : Asked → Section → Option Asked
+begins_probe asked Prepare = None
+begins_probe asked Command = None
+begins_probe asked AfterCommand = Some (record asked { section = Probe })
+begins_probe asked Probe = None
+
+-- a digit 0 (48) to 3: the number of power-ons to cut
+abbrev pub sets_depth : Asked → List ℕ → Option Asked
+sets_depth asked (digit ∷ []) =
+    if nat_le 48 digit && nat_le digit 51 then Some (record asked { depth = digit - 48 }) else None
+sets_depth asked digits = None
+
+-- steps of the preparation or the probe
+abbrev pub adds : Asked → Section → List Step → Option Asked
+adds asked Prepare steps = Some (record asked { prepare = asked.prepare ++ steps })
+adds asked Command steps = None
+adds asked AfterCommand steps = None
+adds asked Probe steps = Some (record asked { probe = asked.probe ++ steps; looks = asked.looks ++ length steps ∷ [] })
+
+-- A command. Between the marks it is the one that is cut; all its blocks but the last are sent before.
+abbrev pub sends : Asked → Section → List ℕ → Option Asked
+sends asked Prepare bytes = adds asked Prepare (exchange bytes)
+sends asked Command bytes = Some (record asked {
+  section = AfterCommand;
+  prepare = asked.prepare ++ steps_before bytes;
+  command = last_command_block bytes;
+})
+sends asked AfterCommand bytes = None
+sends asked Probe bytes = adds asked Probe (exchange bytes)
+
+-- An order. Each result has the free space anyway, and only the sweep sets faults.
+abbrev pub takes : Asked → Option Order → Option Asked
+takes asked None = None
+takes asked (Some order.Nothing) = Some asked
+takes asked (Some order.Free) = Some asked
+takes asked (Some order.On) = adds asked asked.section (On ∷ [])
+takes asked (Some order.Off) = adds asked asked.section (Off ∷ [])
+takes asked (Some (order.Block bytes)) = adds asked asked.section (Block bytes ∷ [])
+takes asked (Some (order.Apdu bytes)) = sends asked asked.section bytes
+takes asked (Some (order.Cut number mask)) = None
+takes asked (Some (order.Lose number)) = None
+takes asked (Some (order.Garble number)) = None
+
+-- A line: a mark, a depth, or an order. None: a bad line.
+unfoldable pub take_line : Asked → List ℕ → Option Asked
+take_line asked line =
+    if pointwise nat_eq line (codes "# command") then begins_command asked asked.section else
+    if pointwise nat_eq line (codes "# probe") then begins_probe asked asked.section else
+    if begins_with line (codes "# depth ") then sets_depth asked (drop 8 line) else
+    takes asked (order_of line)
+
+-- `n` lines were read, each with its line feed, and each was taken
+unfoldable pub ReadsLines : ℕ → Option (List ℕ) → Option (List ℕ) → Asked → Type 0
+ReadsLines zero old new asked = (new ≡ old) × (asked ≡ unasked)
+ReadsLines (suc n) old new asked =
+    (between : Option (List ℕ)) × (before : Asked) × (line : List ℕ) × ReadsLines n old between before
+    × TakesLine between new line LineFeed × (take_line before line ≡ Some asked)
+
+-- true if nothing is missing at the end: there is a probe, and so a command
+abbrev pub is_whole : Section → List Step → Bool
+is_whole Probe (step ∷ steps) = true
+is_whole Probe [] = false
+is_whole AfterCommand steps = false
+is_whole Command steps = false
+is_whole Prepare steps = false
+
+-- a script was read to its end, and asks for this
+pub record IsRead (old new : Option (List ℕ)) (asked : Asked) : Type 0 where
+  pub number : ℕ
+  pub between : Option (List ℕ)
+  pub before : Asked
+  pub line : List ℕ
+  pub others : ReadsLines number old between before
+  pub last : TakesLine between new line EndOfScript
+  pub takes : take_line before line ≡ Some asked
+  pub whole : is_whole asked.section asked.probe ≡ true

@@ -1,0 +1,14 @@
+-- The exit status that reports that there is no board to sweep.
+use Rattle.std.specs.Prelude.{ℕ}
+use Rattle.swept_cards.specs.declared.opening.BoardFault.{BoardFault}
+use Rattle.swept_cards.specs.declared.opening.BoardFault.TheVariants as board
+
+-- the exit status if there is no board
+abbrev pub board_status_of : BoardFault → ℕ
+board_status_of (board.Open error) = 6
+board_status_of (board.Read error) = 6
+board_status_of board.InUse = 6
+board_status_of (board.Lock error) = 6
+board_status_of board.Size = 6
+board_status_of board.NoCard = 6
+board_status_of board.Memory = 5

@@ -1,0 +1,127 @@
+//! The board that is swept: with the factory card, or with the card in a file.
+ghost use Rattle.std.specs.Prelude.{◌≡◌, None, IfOk};
+ghost use Rattle.simulated_boards.specs.Cut.{cut_facts};
+ghost use Rattle.card_start.specs.Factory.{factory_card};
+ghost use Rattle.command_base.specs.Finding.{Finds, HasCard};
+ghost use Rattle.bench_turns.specs.NewlyWritten.{IsJustWritten};
+
+use card_boards::{NoCard, factory_board, image_board};
+use nvm_board::{MOST_PAGES, PAGE_WORDS};
+use simulated_boards::CutBoard;
+use std::alloc::{AllocError, Global};
+use std::fs::{self, File, TryLockError};
+use std::io::{self, ErrorKind, Read};
+use thiserror::Error;
+
+/// The bytes of a page.
+const PAGE_BYTES: usize = 4 * PAGE_WORDS as usize;
+
+/// The most bytes of a memory.
+const MOST_BYTES: usize = PAGE_BYTES * MOST_PAGES as usize;
+
+/// Why there is no board to sweep.
+#[derive(Debug, Drop, Error)]
+pub enum BoardFault {
+    #[error("the file can't be opened: {0}")]
+    Open(io::Error),
+    #[error("the file can't be read: {0}")]
+    Read(io::Error),
+    #[error("the file is in use by another program")]
+    InUse,
+    #[error("the file can't be locked: {0}")]
+    Lock(io::Error),
+    #[error("the file has no card's memory: that is 64 bytes a page, and 1024 to 4096 pages")]
+    Size,
+    #[error("no card is found in the file: the words of its memory break a rule")]
+    NoCard,
+    #[error("there is too little memory")]
+    Memory,
+}
+
+impl From<AllocError> for BoardFault {
+    fn from(_: AllocError) -> BoardFault {
+        BoardFault::Memory
+    }
+}
+
+impl BoardFault {
+    ghost use Rattle.swept_cards.specs.BoardStatuses.{board_status_of};
+
+    /// Returns the exit status that reports it: 5 or 6.
+    pub fn status(&self) -> u8
+        ensures { result ≡ board_status_of self.now }
+    {
+        match self {
+            BoardFault::Memory => 5,
+            BoardFault::Open(_)
+            | BoardFault::Read(_)
+            | BoardFault::InUse
+            | BoardFault::Lock(_)
+            | BoardFault::Size
+            | BoardFault::NoCard => 6,
+        }
+    }
+}
+
+/// Returns a board with the card in the file of this path, or with the factory card.
+/// The file is only read.
+///
+/// # Errors
+/// The file is not taken as a card's, or there is too little memory.
+pub fn swept_board(rt: &HostRuntime, path: Option<&str>) -> Result<CutBoard, BoardFault>
+    ensures card { IfOk result (λ board. HasCard (cut_facts board).words) }
+    ensures uncut { IfOk result (λ board. (cut_facts board).pending ≡ None) }
+    ensures factory { IfOk result (λ board. path.entry ≡ None
+        → Finds (cut_facts board).words (factory_card 896) × IsJustWritten (cut_facts board)) }
+{
+    match path {
+        None => Ok(factory_board(rt.alloc())?),
+        Some(path) => read_board(rt, path),
+    }
+}
+
+/// Returns a board with the card in the file of this path.
+fn read_board(rt: &HostRuntime, path: &str) -> Result<CutBoard, BoardFault>
+    ensures card { IfOk result (λ board. HasCard (cut_facts board).words) }
+    ensures uncut { IfOk result (λ board. (cut_facts board).pending ≡ None) }
+{
+    let mut file = match fs::open(rt, path) {
+        Ok(file) => file,
+        Err(error) => return Err(BoardFault::Open(error)),
+    };
+    // A bench locks the file of its card. A copy of a card that changes would be of two moments.
+    match file.try_lock_shared() {
+        Ok(()) => {}
+        Err(TryLockError::WouldBlock) => return Err(BoardFault::InUse),
+        Err(TryLockError::Error(error)) => return Err(BoardFault::Lock(error)),
+    }
+    let words = words_in(rt.alloc(), &mut file)?;
+    match image_board(rt.alloc(), words) {
+        Ok(board) => Ok(board),
+        Err(NoCard::Memory) => Err(BoardFault::Memory),
+        Err(NoCard::Size) => Err(BoardFault::Size),
+        Err(NoCard::Start(_)) => Err(BoardFault::NoCard),
+    }
+}
+
+/// Returns the words in a file, the most significant byte of each first.
+fn words_in(alloc: Global, file: &mut File) -> Result<Vec<u32>, BoardFault> {
+    let mut bytes = Vec::new(alloc);
+    // One byte more shows that the file is too long.
+    match file.take(MOST_BYTES as u64 + 1).read_to_end(&mut bytes) {
+        Ok(_) => {}
+        Err(error) if error.kind() == ErrorKind::OutOfMemory => return Err(BoardFault::Memory),
+        Err(error) => return Err(BoardFault::Read(error)),
+    }
+    if bytes.len() % PAGE_BYTES != 0 {
+        return Err(BoardFault::Size);
+    }
+    let mut words = Vec::new(alloc);
+    for word in bytes.chunks_exact(4) {
+        let [a, b, c, d] = *word else { continue };
+        if words.push(u32::from_be_bytes([a, b, c, d])).is_err() {
+            return Err(BoardFault::Memory);
+        }
+    }
+    Ok(words)
+}
