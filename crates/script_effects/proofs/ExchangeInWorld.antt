@@ -10,7 +10,8 @@ use Rattle.script_effects.specs.declared.reader_turns.TheConstants.{LINE_BLOCKS}
 use Rattle.script_effects.specs.declared.line.Line.{Line}
 use Rattle.bench_turns.specs.BenchStates.{BenchState, off, on}
 use Rattle.script_effects.specs.Exchanges.{Ends, Exchanges, GoesThrough, NextBlock, following}
-use Rattle.script_effects.specs.ExchangeWorlds.{Course, EndsSo, ExchangeLaw, GoesAs, ExchangeIsCut, StandIn, bytes_of_line}
+use Rattle.script_effects.specs.ExchangeWorlds.{Course, EndsSo, ExchangeLaw, GoesAs}
+use Rattle.script_effects.specs.ExchangeWorlds.{ExchangeIsCut, StandIn, bytes_of_line}
 use Rattle.script_effects.specs.ExchangeWorlds.{exchange_events, fate, fates}
 use Rattle.script_effects.specs.Lines.{line_after}
 use Rattle.link_worlds.specs.TreeMachine.{IsProperState, Served, tree_machine}
@@ -19,7 +20,8 @@ use Rattle.link_worlds.specs.Worlds.{turning}
 use Rattle.link_worlds.specs.Worlds.{world, world_step}
 use Rattle.link_worlds.specs.WorldLaw.{comes_of, is_under_way}
 use Rattle.link_worlds.specs.WorldRepairs.{counts_after, newest, watched}
-use Rattle.script_effects.proofs.ExchangeSteps.{IsReached, IsWay, LeadsTo, ShowsIn, is-way-under_way, passed, same-reader}
+use Rattle.script_effects.proofs.ExchangeSteps.{IsReached, IsWay, LeadsTo, ShowsIn}
+use Rattle.script_effects.proofs.ExchangeSteps.{is-way-under_way, passed, same-reader}
 use Rattle.script_effects.proofs.ExchangeSteps.{shows-noted, stands-turned, stepped, stepped-is}
 use Rattle.script_effects.proofs.BlocksOnLine.{line_after-later, line_after-none}
 use Rattle.link_worlds.proofs.SoundWorlds.{AnswersByBytes, sound-powered, sound-step, sound-world}

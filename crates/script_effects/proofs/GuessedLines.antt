@@ -13,7 +13,8 @@ use Rattle.script_effects.specs.Exchanges.{NextBlock}
 use Rattle.script_effects.specs.declared.reader_turns.TheConstants.{LINE_BLOCKS}
 use Rattle.script_effects.specs.Exchanges.{bytes_under_way, following}
 use Rattle.script_effects.specs.Lines.{arriving}
-use Rattle.script_effects.specs.Exchanges.{Passes, answered, link_lost, power_lost, set_back, toward_card, toward_reader}
+use Rattle.script_effects.specs.Exchanges.{Passes, answered, link_lost, power_lost}
+use Rattle.script_effects.specs.Exchanges.{set_back, toward_card, toward_reader}
 use Rattle.script_effects.specs.Performing.{Performs, PerformsCommand}
 use Rattle.script_output.specs.Printouts.{Print}
 

@@ -13,7 +13,8 @@ use Rattle.bench_turns.specs.declared.turn.Turn.{Turn}
 use Rattle.bench_turns.specs.Turns.{GoodBlock, GoodTurn, Spends, Wears, dark_of, turn_writes}
 use Rattle.bench_turns.proofs.Wearing.{few-steps, few-writes, one-dark}
 use Rattle.script_effects.specs.Exchanges.{Arrives, CardTakes, Commands, Desk, Ended, Ends, Exchanges, GoesThrough}
-use Rattle.script_effects.specs.Exchanges.{NextBlock, Passes, answered, bytes_under_way, following, link_lost, power_lost}
+use Rattle.script_effects.specs.Exchanges.{NextBlock, Passes, answered, bytes_under_way}
+use Rattle.script_effects.specs.Exchanges.{following, link_lost, power_lost}
 use Rattle.script_effects.specs.Exchanges.{set_back, toward_card, toward_reader}
 use Rattle.script_effects.specs.declared.reader_turns.TheConstants.{LINE_BLOCKS}
 use Rattle.script_effects.specs.Lines.{arriving}

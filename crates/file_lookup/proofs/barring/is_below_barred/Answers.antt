@@ -45,7 +45,8 @@ step_up t n k at above x b tells one some is there told known =
 pub returns-then-is_master : goal.returns-then-is_master
 returns-then-is_master g c = record {
   told = let t = table (committed c.args.store.now) in
-      sym (c.loop-step.invariant.left ∙ barred_up-master t (7 - c.loop-step._step) c.loop-step.at (c.is_master.ensures.0 c.if-is_master.true));
+      sym (c.loop-step.invariant.left ∙ barred_up-master t (7 - c.loop-step._step) c.loop-step.at
+      (c.is_master.ensures.0 c.if-is_master.true));
   store = reads_so_far _ _ c.loop-step.invariant.reads c.loop-step.invariant.ready;
 }
 
@@ -57,7 +58,8 @@ returns-then-bars g c = record {
       c.loop-step.invariant.reads.keeps.committed_words c.in_ok-head.ensures.head in
       sym (c.loop-step.invariant.left
       ∙ step_up (table m) _ (7 - (c.loop-step._step + 1)) c.loop-step.at
-      c.loop-step.above c.in_ok-head.head c.bars.result true one (is_other _ _ c.is_master.ensures c.if-is_master.false) c.loop-step.invariant.parent there
+      c.loop-step.above c.in_ok-head.head c.bars.result true one
+      (is_other _ _ c.is_master.ensures c.if-is_master.false) c.loop-step.invariant.parent there
       (c.bars.ensures ∙ ap bars c.life_cycle.ensures) c.if-bars.true);
   store = reads_on _ _ _ _ c.loop-step.invariant.reads c.in_ok-head.ensures.store;
 }
@@ -71,7 +73,8 @@ loop-step-preserved g c =
     record {
       ready = c.in_ok-head.ensures.store.ready;
       reads = reads_then _ _ _ c.loop-step.invariant.reads c.read_entry_head.ensures.store.only;
-      used = used_above (table m) c.loop-step.at c.loop-step.above c.requires.file.tree.entries (is_other _ _ c.is_master.ensures c.if-is_master.false)
+      used = used_above (table m) c.loop-step.at c.loop-step.above c.requires.file.tree.entries
+          (is_other _ _ c.is_master.ensures c.if-is_master.false)
           c.loop-step.invariant.used c.loop-step.invariant.parent;
       parent = c.new-above.ensures ∙ ap (λ (x : EntryHead). x.parent) there;
       left = c.loop-step.invariant.left
@@ -101,6 +104,7 @@ read_entry_head-requires g c = record {
   ready = c.loop-step.invariant.ready;
   within = let m = committed c.args.store.now in
       used_small m c.loop-step.above (used_above
-      (table m) c.loop-step.at c.loop-step.above c.requires.file.tree.entries (is_other _ _ c.is_master.ensures c.if-is_master.false)
+      (table m) c.loop-step.at c.loop-step.above c.requires.file.tree.entries
+      (is_other _ _ c.is_master.ensures c.if-is_master.false)
       c.loop-step.invariant.used c.loop-step.invariant.parent);
 }

@@ -1,6 +1,7 @@
 use Rattle.undo_journal.specs.laws.Exits.{none_ok}
 use Rattle.std.specs.Bool.{then_some}
-use Rattle.std.proofs.Common.{rules, ◌≡◌, ◌==◌, ◌∙◌, ℕ, Bool, true, false, if◌then◌else◌, None, Some, ap, refl, sym, subst}
+use Rattle.std.proofs.Common.{rules, ◌≡◌, ◌==◌, ◌∙◌, ℕ, Bool, true, false, if◌then◌else◌, None, Some}
+use Rattle.std.proofs.Common.{ap, refl, sym, subst}
 use Rattle.std.proofs.Common.{true≢false}
 use Rattle.undo_journal.specs.Memory.{committed}
 use Rattle.file_tree.specs.Table.{table}
@@ -41,7 +42,8 @@ returns g c = record {
       c.requires.df.index)
       (c.in-Some.ensures m c.requires.df.index) in
       beside_there (table m) c.args.df c.args.identifier c.in-Some.beside c.in_ok-other.other c.then_some.result
-      c.requires.df.file.tree.entries.identifiers (λ is. true≢false (sym (c.is_master.ensures.1 is) ∙ c.if-is_master.false)) told c.in_ok-other.ensures.entry
+      c.requires.df.file.tree.entries.identifiers
+      (λ is. true≢false (sym (c.is_master.ensures.1 is) ∙ c.if-is_master.false)) told c.in_ok-other.ensures.entry
       (c.then_some.ensures ∙ ap (λ (found : Bool). then_some found c.in-Some.beside)
       (kind_test _ _ _ c.has_kind.ensures)
       ∙ some_if (c.in_ok-other.other.kind == 1) c.in-Some.beside);

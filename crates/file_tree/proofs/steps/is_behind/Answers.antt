@@ -10,5 +10,8 @@ returns-in-Less c = λ up.
     let places = c.args.places.now in
     let some = c.if-end-eq0.false in
     let last : length places - 1 < length places = omega (arith, some) in
-    let most : length places ≤ length places - 1 + 1 = omega (arith, some) in
-    (λ _. all_before places c.args.key.now (length places - 1) c.index-places-end.result last most up c.in-Less.ensures.order, λ _. refl)
+    let most : length places ≤ length places - 1 + 1 = omega (arith, some) in (
+      λ _. all_before places c.args.key.now (length places - 1) c.index-places-end.result last most up
+          c.in-Less.ensures.order,
+      λ _. refl,
+    )

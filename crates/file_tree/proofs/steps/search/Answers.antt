@@ -53,7 +53,8 @@ loop-low-preserved-in-Less c =
       few = omega (arith, few, more);
       left = subst (λ (n : ℕ). high - (middle + 1) ≤ halved n) (sym more)
           (halved-half c.loop-low.steps (high - (middle + 1)) half);
-      before = λ up. search_up c.args.places.now c.args.key.now middle inside up c.index-places-middle.result (c.in-Less.ensures.order);
+      before = λ up. search_up c.args.places.now c.args.key.now middle inside up c.index-places-middle.result
+          (c.in-Less.ensures.order);
       behind = c.loop-low.invariant.behind;
     }
 
@@ -68,7 +69,8 @@ returns-in-Equal-clause-found c = λ up d.
     let within = c.loop-low.invariant.within in
     let lt = c.loop-low-test.true in
     let middle = c.loop-low.low + (c.loop-low.high - c.loop-low.low) / 2 in
-    same_key c.args.places.now middle d c.index-places-middle.result (omega (arith, within, lt)) ∙ c.in-Equal.ensures.order
+    same_key c.args.places.now middle d c.index-places-middle.result (omega (arith, within, lt))
+    ∙ c.in-Equal.ensures.order
 
 pub returns-in-Equal-clause-steps : goal.returns-in-Equal-clause-steps
 returns-in-Equal-clause-steps c =
@@ -96,7 +98,8 @@ loop-low-preserved c =
       few = omega (arith, few, more);
       left = subst (λ (n : ℕ). middle - low ≤ halved n) (sym more) (halved-half c.loop-low.steps (middle - low) half);
       before = c.loop-low.invariant.before;
-      behind = λ up. search_down c.args.places.now c.args.key.now middle inside up c.index-places-middle.result (c.in-Greater.ensures.order);
+      behind = λ up. search_down c.args.places.now c.args.key.now middle inside up c.index-places-middle.result
+          (c.in-Greater.ensures.order);
     }
 
 pub returns-clause-within : goal.returns-clause-within

@@ -1,4 +1,5 @@
-use Rattle.std.proofs.Common.{rules, ◌≡◌, ◌<◌, ◌≤◌, ◌+◌, List, [], length, sym, ◌∙◌, ap, subst, arith, slice_index_or, ℕ, Bool}
+use Rattle.std.proofs.Common.{rules, ◌≡◌, ◌<◌, ◌≤◌, ◌+◌, List, [], length, sym, ◌∙◌, ap, subst, arith}
+use Rattle.std.proofs.Common.{slice_index_or, ℕ, Bool}
 use Rattle.file_tree.specs.declared.entry.Entry.{Entry}
 use Rattle.file_tree.specs.declared.steps.Key.{Key}
 use Rattle.file_tree.specs.declared.steps.Place.{Place}
@@ -53,7 +54,8 @@ loop-e-preserved c =
           let own : place ≡ place_of t e =
           ap (λ (k : Key). record { key = k; entry = place.entry }) w.new-then-is_used.ensures
           ∙ ap (λ (n : ℕ). record { key = key_for n stored.identifier; entry = place.entry }) w.new.ensures
-          ∙ ap (λ (n : ℕ). record { key = key_for stored.parent stored.identifier; entry = n }) w.new-then-is_used-2.ensures
+          ∙ ap (λ (n : ℕ). record { key = key_for stored.parent stored.identifier; entry = n })
+          w.new-then-is_used-2.ensures
           ∙ ap (λ (y : Entry). record { key = key_for y.parent y.identifier; entry = e }) read in
           let family : Bool → Type 0 = λ b. TellsPut places place w.put.new.self.places.items b in
           subst told (sym w.self-is) (places_stored t e places w.put.new.self.places.items place so_far

@@ -35,7 +35,8 @@ returns-in-Err-clause-found c = λ m is.
 pub returns-in-Ok-clause-path : goal.returns-in-Ok-clause-path
 returns-in-Ok-clause-path c = λ m stands used is.
     told_path m stands.entries c.args.parent c.args.identifier used
-    (Some (slice_index_or c.as_slice-places.result.now c.in-Ok.at c.index-places-at.result).entry) (returns-in-Ok-clause-found c m is)
+    (Some (slice_index_or c.as_slice-places.result.now c.in-Ok.at c.index-places-at.result).entry)
+    (returns-in-Ok-clause-found c m is)
 
 pub returns-in-Err-clause-path : goal.returns-in-Err-clause-path
 returns-in-Err-clause-path c = λ m stands used is.
