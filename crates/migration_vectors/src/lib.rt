@@ -1,22 +1,6 @@
-//! Tests of the migration from format 1 to format 2, and of cards of more than 1,024 pages. Power-ons are cut at each
-//! of their writes and at random. Expected words and answers were worked out by hand or by plain code.
+//! Tests of memories of both formats that don't boot, on boards of 1,024 to 4,096 pages.
+//! `tools/test-card` migrates cards of format 1, and loses power at each write.
 #![tactic(auto)]
 
 #[cfg(test)]
-mod busy;
-#[cfg(test)]
-mod cuts;
-#[cfg(test)]
-mod ends;
-#[cfg(test)]
-mod files;
-#[cfg(test)]
-mod full;
-#[cfg(test)]
-mod generator;
-#[cfg(test)]
-mod random_cuts;
-#[cfg(test)]
 mod refused;
-#[cfg(test)]
-mod starts;
