@@ -4,6 +4,7 @@ use Rattle.std.proofs.Common.{inl, inr, arith, IsSome, is_some, slice_set, suc, 
 use Rattle.std.specs.Prelude.{if◌then◌else◌}
 use Rattle.std.proofs.lemmas.Bool.Decides.{nat_tests}
 use Rattle.std.proofs.lemmas.List.{nil_from_length}
+use Rattle.std.proofs.lemmas.Bool.Decides.{eqb_tells}
 use Rattle.nvm_board.specs.declared.board.TheConstants.{PAGE_WORDS}
 use Rattle.undo_journal.specs.declared.batch.TheConstants.{BATCH}
 use Rattle.undo_journal.specs.declared.batch.Waiting.{Waiting}
@@ -59,6 +60,13 @@ module _ (size : ℕ) (new : Waiting) (used : ℕ) (whole : used % BATCH ≡ 0) 
 pub join-waits : (new : Waiting) (ps : List Waiting) → IsSome (look_up new.at (with_set new ps))
 join-waits new ps = ap (λ o. is_some o) (look_up-joined new ps)
 
+-- a list without elements, and one with some
+pub is-none : (n : ℕ) → (n == 0) ≡ true → n ≡ 0
+is-none n is = grind (arith, nat_tests)
+
+pub is-some : (n : ℕ) → (n == 0) ≡ false → 0 < n
+is-some n is = grind (arith, nat_tests)
+
 -- a batch that is not full
 pub below-full : (n : ℕ) → (n == 8) ≡ false → n ≤ 8 → n < 8
 below-full n other le = grind (arith, nat_tests)
@@ -66,6 +74,17 @@ below-full n other le = grind (arith, nat_tests)
 -- and one that is
 pub full-length : (n : ℕ) → (n == 8) ≡ true → n ≡ 8
 full-length n is = grind (arith, nat_tests)
+
+-- a commit writes the batch at least
+pub batch-within : (m : Memory) → batch_writes m.waiting ≤ commit_writes m
+batch-within m = elim (eqb_tells (taken m) 0) [
+  | inl none ↦
+      let nothing : taken m ≡ 0 = none.1 in
+      let waiting : m.waiting ≡ [] =
+      nil_from_length m.waiting (let z : length m.waiting ≡ 0 = omega (arith, nothing) in z) in
+      omega (arith, ap batch_writes waiting)
+  | inr other ↦ omega (arith, ap (λ (b : Bool). if b then 0 else batch_writes m.waiting + 1) other.0)
+]
 
 -- A commit: of no set, and of some.
 pub commit-none : (m : Memory) (used after : ℕ) → used ≡ taken m → used ≡ 0

@@ -1,15 +1,16 @@
 -- What a store is that has not failed.
-use Rattle.std.specs.Prelude.{Some, None}
-use Rattle.std.proofs.Common.{◌≡◌, ◌+◌, ◌%◌, ◌<◌, ◌≤◌, ℕ, false, List, [], length, sym, ◌∙◌, ap, subst, arith}
+use Rattle.std.specs.Prelude.{Some, None, Result, Ok, Err, OnOk}
+use Rattle.std.proofs.Common.{◌≡◌, ◌+◌, ◌%◌, ◌<◌, ◌≤◌, ℕ, false, List, [], length, refl, sym, ◌∙◌, ap, subst, arith}
 use Rattle.nvm_board.specs.laws.Sizes.{memory_same}
-use Rattle.nvm_board.specs.Facts.{Facts, AreWords, IsMemory}
+use Rattle.nvm_board.specs.declared.board.DeviceErr.{DeviceErr}
+use Rattle.nvm_board.specs.Facts.{Facts, Answered, AreWords, IsMemory}
 use Rattle.undo_journal.specs.declared.batch.TheConstants.{BATCH}
 use Rattle.undo_journal.specs.declared.batch.Waiting.{Waiting}
 use Rattle.undo_journal.specs.declared.layout.TheConstants.{PAIRS}
 use Rattle.undo_journal.specs.Batches.{overlay, AreSets}
 use Rattle.undo_journal.specs.laws.Told.{idle_waits}
 use Rattle.undo_journal.proofs.Waits.{overlay-fits}
-use Rattle.undo_journal.specs.Undo.{gate, undo, data_words, IsDataAddress, IsDataRun}
+use Rattle.undo_journal.specs.Undo.{gate, undo, data_words, IsDataAddress, IsDataRun, IsSound}
 use Rattle.undo_journal.specs.laws.Undo.{sound_shut}
 use Rattle.undo_journal.specs.declared.error.StoreErr.TheVariants.{PowerLost}
 use Rattle.undo_journal.specs.laws.Words.{undo-fits, data_words-fits}
@@ -33,6 +34,21 @@ pub held-kept : (facts : Facts) (words : List ℕ) (used : ℕ) (waiting : List 
     → IsHeld facts used waiting → Fits (length words) used waiting
 held-kept facts words used waiting kept held =
     subst (λ (l : List ℕ). Fits (length l) used waiting) (sym kept) (held-fits facts used waiting held)
+
+-- the invariant after a batch was written, with no set that waits
+pub held-emptied : {T : Type 0} (result : Result T DeviceErr) (old new : Facts) (used : ℕ) (waiting : List Waiting)
+    → Answered old new result → IsSound new.words → OnOk result (gate new.words ≡ used) → used % BATCH ≡ 0
+    → used ≤ PAIRS → waiting ≡ [] → OnOk result (IsHeld new used waiting)
+held-emptied (Ok x) old new used waiting light sound counts whole fits empty = record {
+  sound = sound;
+  counts = counts;
+  lit = (light.ok refl).lit;
+  whole = whole;
+  few = omega (arith, ap (λ (l : List Waiting). length l) empty);
+  fits = omega (arith, fits, ap (λ (l : List Waiting). length l) empty);
+  sets = subst (λ (l : List Waiting). AreSets (length new.words) 0 l) (sym empty) tt;
+}
+held-emptied (Err e) old new used waiting light sound counts whole fits empty = tt
 
 pub idle-fits : (size : ℕ) (m : Memory) → IsIdle m → Fits size m.used m.waiting
 idle-fits size m idle = record {

@@ -1,19 +1,19 @@
 -- What an answer tells of a board and of a store, at the exits of their calls.
 use Rattle.std.specs.Prelude.{Result, Ok, Err, IsErrAnd}
-use Rattle.std.proofs.Common.{◌≡◌, ◌⊎◌, ◌+◌, ℕ, List, true, false, refl, sym, ◌∙◌, ap, subst, inl, inr, arith}
+use Rattle.std.proofs.Common.{◌≡◌, ◌+◌, ℕ, List, true, false, refl, sym, ◌∙◌, ap, subst, inl, arith}
 use Rattle.undo_journal.specs.declared.batch.Waiting.{Waiting}
 use Rattle.std.proofs.Math.Logic.{⊎_elim, ⊎_map}
 use Rattle.nvm_board.specs.declared.board.DeviceErr.{DeviceErr}
 use Rattle.nvm_board.specs.declared.board.DeviceErr.TheVariants as device
-use Rattle.nvm_board.specs.BoardCalls.{Writes}
+use Rattle.nvm_board.specs.BoardCalls.{TellsWord, Writes}
 use Rattle.nvm_board.specs.Facts.{Facts, Answered, Steady, GoesDark}
-use Rattle.nvm_board.specs.laws.Aims.{aims_written}
+use Rattle.nvm_board.specs.laws.Aims.{aim_same, aims_written}
 use Rattle.undo_journal.specs.declared.error.StoreErr.TheVariants.{PowerLost}
 use Rattle.undo_journal.specs.declared.error.OpenFault.{OpenFault}
 use Rattle.undo_journal.specs.Memory.{Memory, Reports, FailsBy, OpensNot}
 use Rattle.undo_journal.specs.Memory.{store_err_of, open_fault_of}
 use Rattle.undo_journal.specs.laws.Memory.{reports_same}
-use Rattle.undo_journal.specs.Spending.{WritesAtMost}
+use Rattle.undo_journal.specs.Spending.{KeepsBoard, WritesAtMost}
 
 -- an error tells the same of the board, whatever the answer would have been without it
 pub answered_err : {S T : Type 0} (old new : Facts) (e : DeviceErr) (result : Result T DeviceErr)
@@ -61,6 +61,25 @@ answered_after a b c result first told = record {
     cuts = fault.cuts ∙ first.cuts;
     due = fault.due ∙ first.due;
   };
+}
+
+-- a powered board without any call
+pub steady_same : (f : Facts) → f.dark ≡ false → Steady f f
+steady_same f lit = record { was_lit = lit; lit = lit; faults = refl; cuts = refl; due = refl }
+
+-- the same of its words and counts
+pub boards_same : (f : Facts) → KeepsBoard f f
+boards_same f = record { cut = aim_same f; words = refl; writes = refl; compares = refl; matches = refl }
+
+-- a read keeps the board
+pub read_keeps : (at : ℕ) (old new : Facts) (result : Result ℕ DeviceErr) → TellsWord at old new result
+    → KeepsBoard old new
+read_keeps at old new result read = record {
+  cut = read.cut;
+  words = read.words;
+  writes = read.writes;
+  compares = read.compares;
+  matches = read.matches;
 }
 
 -- what a write costs

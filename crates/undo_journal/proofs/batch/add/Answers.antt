@@ -7,6 +7,7 @@ use Rattle.undo_journal.specs.Undo.{data_words}
 use Rattle.undo_journal.specs.Batches.{overlay, look_up, batch_writes, AreSets, with_set}
 use Rattle.undo_journal.proofs.Waits.{sets-joined, joined-length, sets-ascend}
 use Rattle.undo_journal.proofs.Costing.{join-costs, join-goes_on, join-current, join-waits, below-full, full-length}
+use Rattle.undo_journal.proofs.Standing.{held-emptied}
 use Rattle.std.specs.Prelude.{if◌then◌else◌}
 use Rattle.undo_journal.specs.declared.batch.TheConstants.{BATCH}
 use Rattle.undo_journal.specs.Memory.{set_writes}
@@ -14,6 +15,7 @@ use Rattle.undo_journal.specs.Spending.{WritesAtMost}
 use Rattle.undo_journal.specs.BatchParts.{working}
 use Rattle.undo_journal.specs.laws.Calls.{within_more}
 use Rattle.undo_journal.specs.laws.Transactions.{stays_spends}
+use Rattle.undo_journal.proofs.Telling.{answered_ok, steady_same}
 use Rattle.undo_journal.proofs.batch.add.Goals as goal
 
 pub join-requires-clause-sorted : goal.join-requires-clause-sorted
@@ -191,3 +193,61 @@ pub returns-clause-spends : goal.returns-clause-spends
 returns-clause-spends g c =
     let facts = g.B.Board.facts c.args.board.now in
     within_more 0 _ facts facts (omega arith) (stays_spends facts facts refl)
+
+pub join-requires-clause-room : goal.join-requires-clause-room
+join-requires-clause-room g c = c.requires.held.few
+
+pub flush-requires-clause-lit : goal.flush-requires-clause-lit
+flush-requires-clause-lit g c = c.requires.held.lit
+
+pub flush-requires-clause-sound : goal.flush-requires-clause-sound
+flush-requires-clause-sound g c = c.requires.held.sound
+
+pub flush-requires-clause-counts : goal.flush-requires-clause-counts
+flush-requires-clause-counts g c = c.requires.held.counts
+
+pub flush-requires-clause-whole : goal.flush-requires-clause-whole
+flush-requires-clause-whole g c = c.requires.held.whole
+
+pub flush-requires-clause-few : goal.flush-requires-clause-few
+flush-requires-clause-few g c = c.is_full.ensures.fits
+
+pub flush-requires-clause-room : goal.flush-requires-clause-room
+flush-requires-clause-room g c =
+    let size = ap (λ (l : List Waiting). length l) c.join.ensures in
+    let more = joined-length c.args.new c.args.batch.now.waiting.items in
+    omega (arith, size, more, c.requires.room)
+
+pub returns-then-is_full-clause-kept : goal.returns-then-is_full-clause-kept
+returns-then-is_full-clause-kept g c = c.flush.ensures.kept
+
+pub returns-then-is_full-clause-sound : goal.returns-then-is_full-clause-sound
+returns-then-is_full-clause-sound g c = c.flush.ensures.sound
+
+pub returns-then-is_full-clause-light : goal.returns-then-is_full-clause-light
+returns-then-is_full-clause-light g c = c.flush.ensures.light
+
+pub returns-then-is_full-clause-held : goal.returns-then-is_full-clause-held
+returns-then-is_full-clause-held g c =
+    let full = full-length _ (sym c.is_full.ensures.value ∙ c.if-is_full.true) in
+    let size = ap (λ (l : List Waiting). length l) c.join.ensures in
+    let more = joined-length c.args.new c.args.batch.now.waiting.items in
+    let used = c.flush.ensures.used in
+    held-emptied _ _ _ _ _ c.flush.ensures.light c.flush.ensures.sound c.flush.ensures.counts
+    (omega (arith, c.requires.held.whole, used, full)) (omega (arith, used, size, more, c.requires.room))
+    c.flush.ensures.empty
+
+pub returns-then-is_full-clause-next : goal.returns-then-is_full-clause-next
+returns-then-is_full-clause-next g c =
+    let full = full-length _ (sym c.is_full.ensures.value ∙ c.if-is_full.true) in
+    on_ok_weaker c.flush.result (λ counts. inl (c.flush.ensures.empty, omega (arith, c.flush.ensures.used, full)))
+    c.flush.ensures.counts
+
+pub returns-clause-kept : goal.returns-clause-kept
+returns-clause-kept g c = refl
+
+pub returns-clause-sound : goal.returns-clause-sound
+returns-clause-sound g c = c.requires.held.sound
+
+pub returns-clause-light : goal.returns-clause-light
+returns-clause-light g c = answered_ok _ _ _ (steady_same _ c.requires.held.lit)

@@ -9,7 +9,7 @@ use Rattle.undo_journal.specs.Batches.{batch_writes}
 use Rattle.undo_journal.specs.laws.Calls.{within_more}
 use Rattle.undo_journal.specs.laws.Memory.{writes_then}
 use Rattle.undo_journal.specs.BatchParts.{working}
-use Rattle.undo_journal.proofs.Costing.{commit-none, commit-some}
+use Rattle.undo_journal.proofs.Costing.{commit-none, commit-some, batch-within}
 use Rattle.nvm_board.specs.laws.Sizes.{least_words}
 use Rattle.undo_journal.specs.laws.Exits.{none_ok}
 use Rattle.undo_journal.proofs.Telling.{answered_after, answered_err, answered_ok}
@@ -160,3 +160,19 @@ flush-requires-clause-whole g c = c.requires.held.whole
 
 pub flush-requires-clause-sets : goal.flush-requires-clause-sets
 flush-requires-clause-sets g c = c.requires.held.sets
+
+pub flush-requires-clause-few : goal.flush-requires-clause-few
+flush-requires-clause-few g c = omega (arith, c.requires.held.few)
+
+pub flush-requires-clause-room : goal.flush-requires-clause-room
+flush-requires-clause-room g c = c.requires.held.fits
+
+pub returns-in_err-flush-clause-writes : goal.returns-in_err-flush-clause-writes
+returns-in_err-flush-clause-writes g c =
+    within_more _ _ _ _ (batch-within (working (g.B.Board.facts c.args.board.now) c.args.batch.now))
+    c.in_err-flush.ensures.writes
+
+pub returns-then-batch-eq0-clause-writes : goal.returns-then-batch-eq0-clause-writes
+returns-then-batch-eq0-clause-writes g c =
+    within_more _ _ _ _ (batch-within (working (g.B.Board.facts c.args.board.now) c.args.batch.now))
+    c.in_ok-flush.ensures.writes

@@ -1,9 +1,15 @@
-use Rattle.std.proofs.Common.{◌≡◌, ◌+◌, List, length, refl, sym, ◌∙◌, subst, arith}
+use Rattle.std.proofs.Common.{Bool, true, false, ◌==◌, ◌≡◌, ◌<◌, ◌+◌, List, [], length, refl, sym, ◌∙◌, ap, subst}
+use Rattle.std.proofs.Common.{arith}
 use Rattle.std.specs.Prelude.{OnOk}
 use Rattle.undo_journal.specs.declared.batch.Waiting.{Waiting}
 use Rattle.undo_journal.specs.Batches.{batch_writes, overlay, AreSets}
 use Rattle.undo_journal.specs.Spending.{WritesAtMost}
 use Rattle.undo_journal.specs.Undo.{data_words}
+use Rattle.std.proofs.lemmas.List.{nil_from_length}
+use Rattle.std.proofs.lemmas.Result.{on_ok_weaker}
+use Rattle.undo_journal.proofs.Costing.{is-none, is-some}
+use Rattle.undo_journal.specs.laws.Transactions.{stays_spends}
+use Rattle.undo_journal.proofs.Telling.{answered_ok, steady_same}
 use Rattle.undo_journal.proofs.batch.flush.Goals as goal
 
 pub returns-then-is_empty-clause-kept : goal.returns-then-is_empty-clause-kept
@@ -66,3 +72,65 @@ returns-clause-writes g c =
     let new = g.B.Board.facts c.save_and_write-answer.new.board in
     subst (λ (l : List Waiting). WritesAtMost (batch_writes l) old new) c.deref.ensures.0
     c.save_and_write-answer.ensures.writes
+
+-- what the test of the waiting sets says
+none-waits : (sets : List Waiting) (b : Bool) → b ≡ (length sets == 0) → b ≡ true → sets ≡ []
+none-waits sets b is test = nil_from_length sets (is-none (length sets) (sym is ∙ test))
+
+some-wait : (sets : List Waiting) (b : Bool) → b ≡ (length sets == 0) → b ≡ false → 0 < length sets
+some-wait sets b is test = is-some (length sets) (sym is ∙ test)
+
+pub returns-then-is_empty-clause-done : goal.returns-then-is_empty-clause-done
+returns-then-is_empty-clause-done g c =
+    let words = (g.B.Board.facts c.args.board.now).words in
+    let none = none-waits _ _ c.is_empty.ensures c.if-is_empty.true in
+    ap (λ (l : List Waiting). data_words (overlay l words)) (sym none)
+
+pub returns-then-is_empty-clause-light : goal.returns-then-is_empty-clause-light
+returns-then-is_empty-clause-light g c = answered_ok _ _ _ (steady_same _ c.requires.lit)
+
+pub returns-then-is_empty-clause-counted : goal.returns-then-is_empty-clause-counted
+returns-then-is_empty-clause-counted g c =
+    let none = none-waits _ _ c.is_empty.ensures c.if-is_empty.true in
+    omega (arith, ap batch_writes none)
+
+pub returns-then-is_empty-clause-writes : goal.returns-then-is_empty-clause-writes
+returns-then-is_empty-clause-writes g c =
+    let facts = g.B.Board.facts c.args.board.now in
+    let none = none-waits _ _ c.is_empty.ensures c.if-is_empty.true in
+    subst (λ (l : List Waiting). WritesAtMost (batch_writes l) facts facts) (sym none) (stays_spends facts facts refl)
+
+pub returns-then-is_empty-clause-used : goal.returns-then-is_empty-clause-used
+returns-then-is_empty-clause-used g c =
+    let none = none-waits _ _ c.is_empty.ensures c.if-is_empty.true in
+    omega (arith, ap (λ (l : List Waiting). length l) none)
+
+pub returns-then-is_empty-clause-empty : goal.returns-then-is_empty-clause-empty
+returns-then-is_empty-clause-empty g c = none-waits _ _ c.is_empty.ensures c.if-is_empty.true
+
+pub save_and_write-answer-requires-clause-counts : goal.save_and_write-answer-requires-clause-counts
+save_and_write-answer-requires-clause-counts g c = c.requires.counts
+
+pub save_and_write-answer-requires-clause-some : goal.save_and_write-answer-requires-clause-some
+save_and_write-answer-requires-clause-some g c =
+    subst (λ (l : List Waiting). 0 < length l) (sym c.deref.ensures.0)
+    (some-wait _ _ c.is_empty.ensures c.if-is_empty.false)
+
+pub save_and_write-answer-requires-clause-few : goal.save_and_write-answer-requires-clause-few
+save_and_write-answer-requires-clause-few g c = c.deref.ensures.1
+
+pub save_and_write-answer-requires-clause-room : goal.save_and_write-answer-requires-clause-room
+save_and_write-answer-requires-clause-room g c =
+    omega (arith, ap (λ (l : List Waiting). length l) c.deref.ensures.0, c.requires.room)
+
+pub returns-clause-counts : goal.returns-clause-counts
+returns-clause-counts g c =
+    let size = ap (λ (l : List Waiting). length l) c.deref.ensures.0 in
+    on_ok_weaker c.save_and_write-answer.result (λ counts. omega (arith, counts, size))
+    c.save_and_write-answer.ensures.counts
+
+pub returns-clause-used : goal.returns-clause-used
+returns-clause-used g c = omega arith
+
+pub returns-clause-empty : goal.returns-clause-empty
+returns-clause-empty g c = c.clear.ensures

@@ -1,12 +1,13 @@
 use Rattle.std.proofs.Common.{◌≡◌, ◌<◌, ◌+◌, ◌++◌, ◌∷◌, [], ℕ, List, length, drop, get_or, slice_index, sym, ◌∙◌, ap}
-use Rattle.std.proofs.Common.{ap₂, arith, refl, append_assoc, subst}
-use Rattle.std.proofs.lemmas.List.{drop_more}
+use Rattle.std.proofs.Common.{ap₂, arith, refl, append_assoc, append-nil, subst}
+use Rattle.std.proofs.lemmas.List.{drop_all, drop_more}
 use Rattle.nvm_board.specs.laws.Aims.{aims_stay}
 use Rattle.undo_journal.specs.declared.batch.Waiting.{Waiting}
 use Rattle.undo_journal.specs.Batches.{AreSets}
 use Rattle.undo_journal.specs.JournalParts.{pair_words}
 use Rattle.undo_journal.specs.laws.Exits.{none_ok}
-use Rattle.undo_journal.proofs.Telling.{answered_after, answered_err, answered_ok, steady_then}
+use Rattle.undo_journal.proofs.Telling.{answered_after, answered_err, answered_ok, boards_same, steady_same}
+use Rattle.undo_journal.proofs.Telling.{steady_then}
 use Rattle.undo_journal.proofs.Waits.{sets-lower}
 use Rattle.undo_journal.proofs.batch.saved_pairs.Goals as goal
 
@@ -75,3 +76,42 @@ returns-clause-light g c = answered_ok _ _ _ c.loop-set.invariant.steady
 
 pub returns-clause-reads : goal.returns-clause-reads
 returns-clause-reads g c = c.loop-set.invariant.reads
+
+pub loop-set-init : goal.loop-set-init
+loop-set-init g c =
+    let m = (g.B.Board.facts c.args.board.now).words in
+    let empty = c.new-words.ensures in
+    record {
+      steady = steady_same _ c.requires.lit;
+      reads = boards_same _;
+      sets = c.requires.sets;
+      count = ap (λ (l : List ℕ). length l) empty;
+      so_far = ap (λ (l : List ℕ). l ++ pair_words m c.args.sets.now) empty;
+    }
+
+pub read-requires : goal.read-requires
+read-requires g c =
+    let ps = c.args.sets.now in
+    let i = c.loop-set.set-index in
+    let d : Waiting = record { at = 0; word = 0 } in
+    let size = length (g.B.Board.facts c.args.board.now).words in
+    let kept = c.loop-set.invariant in
+    let next : drop i ps ≡ get_or ps i d ∷ drop (i + 1) ps = drop_more ps i d c.loop-set-test.true in
+    let there : AreSets size 0 (get_or ps i d ∷ drop (i + 1) ps) =
+    subst (λ (l : List Waiting). AreSets size 0 l) next kept.sets in
+    omega (arith, there.0.within, ap (λ (l : List ℕ). length l) kept.reads.words)
+
+pub push-requires : goal.push-requires
+push-requires g c = omega (arith, c.loop-set.invariant.count, c.loop-set-test.true, c.requires.few)
+
+pub push-requires-in-loop-set : goal.push-requires-in-loop-set
+push-requires-in-loop-set g c =
+    omega (arith, c.push.ensures.len, c.loop-set.invariant.count, c.loop-set-test.true, c.requires.few)
+
+pub returns-clause-words : goal.returns-clause-words
+returns-clause-words g c =
+    let m = (g.B.Board.facts c.args.board.now).words in
+    let words = c.loop-set.words.items in
+    let rest = drop_all c.loop-set.set-index c.args.sets.now c.loop-set-test.false in
+    sym (append-nil words) ∙ ap (λ (l : List Waiting). words ++ pair_words m l) (sym rest)
+    ∙ c.loop-set.invariant.so_far

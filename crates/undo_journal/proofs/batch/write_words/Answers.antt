@@ -1,29 +1,56 @@
-use Rattle.std.proofs.Common.{rules, ◌≡◌, ◌<◌, ℕ, List, length, drop, sym, ◌∙◌, ap, arith, refl, subst}
+use Rattle.std.proofs.Common.{true, false, ◌==◌, ◌≡◌, ◌<◌, ℕ, List, [], ◌∷◌, length, get_or, drop, sym, ◌∙◌}
+use Rattle.std.proofs.Common.{ap, arith, refl, subst}
 use Rattle.nvm_board.specs.laws.Aims.{aim_same, aims_kept, aims_then, aims_written}
 use Rattle.undo_journal.specs.declared.batch.Waiting.{Waiting}
-use Rattle.undo_journal.specs.Batches.{AreSets, runs_from}
+use Rattle.nvm_board.specs.laws.Sizes.{page_of_run}
+use Rattle.undo_journal.specs.Batches.{overlay, AreSets, runs_from}
 use Rattle.undo_journal.specs.JournalParts.{first_words}
 use Rattle.undo_journal.specs.laws.Exits.{none_ok}
+use Rattle.std.proofs.lemmas.List.{nil_from_length}
+use Rattle.undo_journal.proofs.Costing.{is-none, is-some}
 use Rattle.undo_journal.proofs.Saving.{same-none}
 use Rattle.undo_journal.proofs.Telling.{answered_after, answered_err, answered_ok, steady_then}
 use Rattle.undo_journal.proofs.RunLaws.{turn-few, turn-inside, turn-runs, sets-drop}
 use Rattle.undo_journal.proofs.Turning.{turn-torn, turn-same, turn-named, turn-left}
 use Rattle.undo_journal.proofs.batch.write_words.Goals as goal
 
+-- what the test of the sets that are left says
+some-left : (sets : List Waiting) → false ≡ (length sets == 0) → 0 < length sets
+some-left sets is = is-some (length sets) (sym is)
+
+none-left : (sets : List Waiting) → true ≡ (length sets == 0) → sets ≡ []
+none-left sets is = nil_from_length sets (is-none (length sets) (sym is))
+
+-- the first set lies in the memory
+first-within : (size : ℕ) (sets : List Waiting) (d : Waiting) → 0 < length sets → AreSets size 0 sets
+    → (get_or sets 0 d).at < size
+first-within size [] d some all = absurd (omega (arith, some))
+first-within size (s ∷ rest) d some all = all.0.within
+
+-- the first run has a word
+some-words : (sets : List Waiting) → 0 < length sets → 0 < length (first_words sets)
+some-words [] some = absurd (omega (arith, some))
+some-words (s ∷ rest) some = omega arith
+
 pub write-requires : goal.write-requires
 write-requires g c =
-    let some : 0 < length c.loop-rest.rest.now = search rules in
+    let some = some-left _ c.loop-rest-test.ensures in
     let run = ap (λ (l : List ℕ). length l) (c.deref.ensures.0 ∙ c.first_run-run.ensures) in
+    let words : 0 < length c.deref.result.now = omega (arith, run, some-words _ some) in
     let inside = turn-inside c.loop-rest.rest.now (record { at = 0; word = 0 }) some in
+    let kept = c.loop-rest.invariant in
+    let within = first-within _ c.loop-rest.rest.now (record { at = 0; word = 0 }) some kept.sets in
     record {
-      page = search rules;
-      some = search rules;
+      page = page_of_run _ c.page_and_place-page.result.0 c.page_and_place-page.result.1 1
+          (g.met.B.Board.is_board c.loop-rest.board).sized (omega arith)
+          (omega (arith, within, kept.same.size, c.page_and_place-page.ensures.same));
+      some = words;
       run = omega (arith, run, inside, c.page_and_place-page.ensures.same, c.page_and_place-page.ensures.inside);
     }
 
 pub returns-in_err-write-clause-kept : goal.returns-in_err-write-clause-kept
 returns-in_err-write-clause-kept g c =
-    let some : 0 < length c.loop-rest.rest.now = search rules in
+    let some = some-left _ c.loop-rest-test.ensures in
     let kept = c.loop-rest.invariant in
     (turn-torn (g.B.Board.facts c.args.board.now).words (g.B.Board.facts c.loop-rest.board).words c.loop-rest.rest.now
     (record { at = 0; word = 0 }) c.deref.result.now _ some kept.sets kept.named kept.same
@@ -32,7 +59,7 @@ returns-in_err-write-clause-kept g c =
 
 pub returns-in_err-write-clause-sound : goal.returns-in_err-write-clause-sound
 returns-in_err-write-clause-sound g c =
-    let some : 0 < length c.loop-rest.rest.now = search rules in
+    let some = some-left _ c.loop-rest-test.ensures in
     let kept = c.loop-rest.invariant in
     (turn-torn (g.B.Board.facts c.args.board.now).words (g.B.Board.facts c.loop-rest.board).words c.loop-rest.rest.now
     (record { at = 0; word = 0 }) c.deref.result.now _ some kept.sets kept.named kept.same
@@ -41,7 +68,7 @@ returns-in_err-write-clause-sound g c =
 
 pub returns-in_err-write-clause-counts : goal.returns-in_err-write-clause-counts
 returns-in_err-write-clause-counts g c =
-    let some : 0 < length c.loop-rest.rest.now = search rules in
+    let some = some-left _ c.loop-rest-test.ensures in
     let kept = c.loop-rest.invariant in
     (turn-torn (g.B.Board.facts c.args.board.now).words (g.B.Board.facts c.loop-rest.board).words c.loop-rest.rest.now
     (record { at = 0; word = 0 }) c.deref.result.now _ some kept.sets kept.named kept.same
@@ -53,7 +80,7 @@ returns-in_err-write-clause-writes g c =
     let kept = c.loop-rest.invariant in
     let wrote = c.in_err-write.ensures in
     let ps = c.loop-rest.rest.now in
-    let some : 0 < length ps = search rules in
+    let some = some-left _ c.loop-rest-test.ensures in
     record {
       writes = omega (arith, wrote.counted_err, turn-runs ps some, kept.writes);
       more = omega (arith, wrote.counted_err, kept.more);
@@ -69,7 +96,7 @@ split_at-requires g c =
 
 pub loop-rest-preserved : goal.loop-rest-preserved
 loop-rest-preserved g c =
-    let some : 0 < length c.loop-rest.rest.now = search rules in
+    let some = some-left _ c.loop-rest-test.ensures in
     let kept = c.loop-rest.invariant in
     let ps = c.loop-rest.rest.now in
     let first = (g.B.Board.facts c.args.board.now).words in
@@ -147,4 +174,30 @@ loop-rest-init g c =
       cut = aims_kept _ _ refl (aim_same _);
       compares = refl;
       matches = refl;
+    }
+
+pub first_run-run-requires-clause-some : goal.first_run-run-requires-clause-some
+first_run-run-requires-clause-some g c = some-left _ c.loop-rest-test.ensures
+
+pub returns-clause-done : goal.returns-clause-done
+returns-clause-done g c =
+    let now = (g.B.Board.facts c.loop-rest.board).words in
+    let none = none-left _ c.loop-rest-test.ensures in
+    ap (λ (l : List Waiting). overlay l now) (sym none) ∙ c.loop-rest.invariant.left
+
+pub returns-clause-counted : goal.returns-clause-counted
+returns-clause-counted g c =
+    let none = none-left _ c.loop-rest-test.ensures in
+    omega (arith, ap (λ (l : List Waiting). runs_from 0 l) none, c.loop-rest.invariant.writes)
+
+pub returns-clause-writes : goal.returns-clause-writes
+returns-clause-writes g c =
+    let kept = c.loop-rest.invariant in
+    let none = none-left _ c.loop-rest-test.ensures in
+    record {
+      writes = omega (arith, ap (λ (l : List Waiting). runs_from 0 l) none, kept.writes);
+      more = kept.more;
+      cut = kept.cut;
+      compares = kept.compares;
+      matches = kept.matches;
     }

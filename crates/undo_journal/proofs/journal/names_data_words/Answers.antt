@@ -1,5 +1,8 @@
-use Rattle.std.proofs.Common.{refl, ◌∙◌}
-use Rattle.undo_journal.proofs.Telling.{answered_err, answered_after, answered_ok, steady_then}
+use Rattle.std.proofs.Common.{refl, ◌∙◌, arith}
+use Rattle.nvm_board.specs.laws.Sizes.{least_words}
+use Rattle.undo_journal.specs.laws.Calls.{boards_then}
+use Rattle.undo_journal.proofs.Telling.{answered_err, answered_after, answered_ok, boards_same, read_keeps, steady_same}
+use Rattle.undo_journal.proofs.Telling.{steady_then}
 use Rattle.nvm_board.specs.laws.Aims.{aims_stay}
 use Rattle.undo_journal.specs.laws.Exits.{none_ok}
 use Rattle.undo_journal.proofs.journal.names_data_words.Goals as goal
@@ -33,3 +36,27 @@ returns-in_err-at-clause-reads g c =
       compares = read.compares ∙ kept.compares;
       matches = read.matches ∙ kept.matches;
     }
+
+pub loop-i-init : goal.loop-i-init
+loop-i-init g c = record {
+  steady = steady_same _ c.requires.lit;
+  reads = boards_same _;
+  named = λ k lt. absurd (omega (arith, lt));
+}
+
+pub pair_address-requires : goal.pair_address-requires
+pair_address-requires g c = omega arith
+
+pub read-requires : goal.read-requires
+read-requires g c =
+    let memory = (g.met.B.Board.is_board c.loop-i.board).sized in
+    omega (arith, c.pair_address.ensures, c.loop-i-test.true, c.requires.room, least_words _ memory)
+
+pub is_data_address-requires : goal.is_data_address-requires
+is_data_address-requires g c =
+    let memory = (g.met.B.Board.is_board c.args.board.now).sized in
+    omega (arith, c.word_count-words.ensures, least_words _ memory)
+
+pub returns-then-not-is_data_address-clause-reads : goal.returns-then-not-is_data_address-clause-reads
+returns-then-not-is_data_address-clause-reads g c =
+    boards_then _ _ _ c.loop-i.invariant.reads (read_keeps _ _ _ _ c.read.ensures)

@@ -1,4 +1,4 @@
-use Rattle.std.proofs.Common.{◌≡◌, ◌+◌, ◌*◌, ℕ, List, refl, inl, ◌∙◌, arith, slice_index, slice_set}
+use Rattle.std.proofs.Common.{◌≡◌, ◌+◌, ◌*◌, ℕ, List, length, refl, inl, ap, ◌∙◌, arith, slice_index, slice_set}
 use Rattle.std.proofs.Math.Logic.{⊎_map}
 use Rattle.std.proofs.lemmas.Result.{on_ok_weaker}
 use Rattle.undo_journal.specs.declared.layout.TheConstants.{JOURNAL}
@@ -6,6 +6,7 @@ use Rattle.undo_journal.specs.Undo.{pair_at}
 use Rattle.nvm_board.specs.laws.Aims.{aims_kept, aims_stay, aims_then}
 use Rattle.undo_journal.specs.laws.Exits.{none_ok}
 use Rattle.undo_journal.proofs.Telling.{answered_err, answered_after, steady_then}
+use Rattle.nvm_board.specs.laws.Sizes.{least_words}
 use Rattle.undo_journal.proofs.journal.put_back.Goals as goal
 
 -- what is written is the pair's earlier word, at its address
@@ -71,3 +72,35 @@ returns g c =
         matches = told.writes.matches ∙ second.matches ∙ first.matches;
       };
     }
+
+pub pair_address-pair-requires : goal.pair_address-pair-requires
+pair_address-pair-requires g c = c.requires.inside
+
+pub read-requires : goal.read-requires
+read-requires g c =
+    let memory = (g.met.B.Board.is_board c.args.board.now).sized in
+    omega (arith, c.pair_address-pair.ensures, c.requires.inside, least_words _ memory)
+
+pub overflow_add-pair : goal.overflow_add-pair
+overflow_add-pair g c = omega (arith, c.pair_address-pair.ensures, c.requires.inside)
+
+pub read-requires-2 : goal.read-requires-2
+read-requires-2 g c =
+    let memory = (g.met.B.Board.is_board c.read.new.self).sized in
+    omega (arith, c.pair_address-pair.ensures, c.requires.inside, least_words _ memory)
+
+pub overflow_cast-at : goal.overflow_cast-at
+overflow_cast-at g c =
+    let place : c.in_ok-at.at ≡ (pair_at (g.B.Board.facts c.args.board.now).words c.args.i).address =
+    c.in_ok-at.ensures.word
+    ∙ ap (λ (n : ℕ). slice_index (g.B.Board.facts c.args.board.now).words n) c.pair_address-pair.ensures in
+    let memory = (g.met.B.Board.is_board c.args.board.now).sized in
+    omega (arith, place, c.requires.place.1, memory.whole, memory.most)
+
+pub write_word-requires : goal.write_word-requires
+write_word-requires g c =
+    let place : c.in_ok-at.at ≡ (pair_at (g.B.Board.facts c.args.board.now).words c.args.i).address =
+    c.in_ok-at.ensures.word
+    ∙ ap (λ (n : ℕ). slice_index (g.B.Board.facts c.args.board.now).words n) c.pair_address-pair.ensures in
+    let same = c.in_ok-earlier.ensures.words ∙ c.in_ok-at.ensures.words in
+    omega (arith, place, c.requires.place.1, ap (λ (l : List ℕ). length l) same)

@@ -1,12 +1,15 @@
 use Rattle.nvm_board.specs.laws.Sizes.{least_words}
-use Rattle.std.proofs.Common.{◌≡◌, ◌-◌, ◌<◌, suc, true, arith, sym, ap, ◌∙◌, refl, length, ℕ}
+use Rattle.std.proofs.Common.{◌≡◌, ◌-◌, ◌<◌, suc, true, arith, sym, ap, ◌∙◌, refl, length, subst, ℕ}
 use Rattle.nvm_board.specs.laws.Aims.{aims_same, aims_then}
 use Rattle.undo_journal.specs.declared.layout.TheConstants.{GATE}
 use Rattle.undo_journal.specs.Undo.{gate}
 use Rattle.undo_journal.specs.laws.Undo.{undo_shut}
 use Rattle.undo_journal.proofs.Restore.{put_back_from, put_back-none, turn-place, turn-done, turn-kept, turn-sound}
 use Rattle.undo_journal.proofs.Restore.{end-done, end-kept, end-sound, rollback_some}
-use Rattle.undo_journal.proofs.Telling.{answered_err, answered_after}
+use Rattle.undo_journal.specs.Spending.{rollback_writes, WritesAtMost}
+use Rattle.undo_journal.specs.laws.Exits.{none_ok}
+use Rattle.undo_journal.specs.laws.Transactions.{stays_spends}
+use Rattle.undo_journal.proofs.Telling.{answered_err, answered_after, answered_ok, steady_same}
 use Rattle.std.proofs.lemmas.Result.{on_ok_weaker}
 use Rattle.undo_journal.proofs.journal.roll_back.Goals as goal
 
@@ -143,3 +146,40 @@ returns-clause-writes g c =
       compares = cost.compares ∙ kept.compares;
       matches = cost.matches ∙ kept.matches;
     }
+
+pub returns-then-count-eq0-clause-kept : goal.returns-then-count-eq0-clause-kept
+returns-then-count-eq0-clause-kept g c = refl
+
+pub returns-then-count-eq0-clause-sound : goal.returns-then-count-eq0-clause-sound
+returns-then-count-eq0-clause-sound g c = c.requires.sound
+
+pub returns-then-count-eq0-clause-light : goal.returns-then-count-eq0-clause-light
+returns-then-count-eq0-clause-light g c = answered_ok _ _ _ (steady_same _ c.requires.lit)
+
+pub returns-then-count-eq0-clause-none : goal.returns-then-count-eq0-clause-none
+returns-then-count-eq0-clause-none g c = λ _. refl
+
+pub returns-then-count-eq0-clause-counted : goal.returns-then-count-eq0-clause-counted
+returns-then-count-eq0-clause-counted g c = omega (arith, ap rollback_writes c.if-count-eq0.true)
+
+pub returns-then-count-eq0-clause-writes : goal.returns-then-count-eq0-clause-writes
+returns-then-count-eq0-clause-writes g c =
+    let facts = g.B.Board.facts c.args.board.now in
+    subst (λ (n : ℕ). WritesAtMost (rollback_writes n) facts facts) (sym c.if-count-eq0.true)
+    (stays_spends facts facts refl)
+
+pub put_back-requires-clause-inside : goal.put_back-requires-clause-inside
+put_back-requires-clause-inside g c =
+    omega (arith, c.requires.counts, c.requires.sound.room, c.loop-left.invariant.within)
+
+pub returns-in_err-put_back-clause-done : goal.returns-in_err-put_back-clause-done
+returns-in_err-put_back-clause-done g c = none_ok _ _ _ c.from_residual.ensures.1
+
+pub returns-in_err-put_back-clause-counted : goal.returns-in_err-put_back-clause-counted
+returns-in_err-put_back-clause-counted g c = none_ok _ _ _ c.from_residual.ensures.1
+
+pub returns-in_err-put_back-clause-none : goal.returns-in_err-put_back-clause-none
+returns-in_err-put_back-clause-none g c = λ zero. absurd (omega (arith, c.if-count-eq0.false, zero))
+
+pub returns-clause-none : goal.returns-clause-none
+returns-clause-none g c = λ zero. absurd (omega (arith, c.if-count-eq0.false, zero))

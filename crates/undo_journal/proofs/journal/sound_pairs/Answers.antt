@@ -1,7 +1,9 @@
 use Rattle.std.proofs.Common.{◌≡◌, ◌≤◌, true, false, refl, sym, arith}
 use Rattle.undo_journal.specs.declared.layout.TheConstants.{PAIRS}
 use Rattle.undo_journal.proofs.Saving.{sound-named, named-sound}
-use Rattle.undo_journal.proofs.Telling.{answered_err, answered_after, answered_ok, steady_then}
+use Rattle.undo_journal.proofs.Telling.{answered_err, answered_after, answered_ok, read_keeps, steady_then}
+use Rattle.nvm_board.specs.laws.Sizes.{least_words}
+use Rattle.undo_journal.specs.laws.Calls.{boards_then}
 use Rattle.undo_journal.specs.laws.Exits.{none_ok}
 use Rattle.undo_journal.proofs.journal.sound_pairs.Goals as goal
 
@@ -47,3 +49,38 @@ returns-in_err-count-clause-sound g c = none_ok _ _ _ c.from_residual.ensures.1
 
 pub returns-in_err-sound-clause-sound : goal.returns-in_err-sound-clause-sound
 returns-in_err-sound-clause-sound g c = none_ok _ _ _ c.from_residual-in_err-sound.ensures.1
+
+pub read-requires : goal.read-requires
+read-requires g c =
+    omega (arith, least_words _ (g.met.B.Board.is_board c.args.board.now).sized)
+
+pub returns-in_err-count-clause-reads : goal.returns-in_err-count-clause-reads
+returns-in_err-count-clause-reads g c = read_keeps _ _ _ _ c.read.ensures
+
+pub returns-then-count-from-clause-reads : goal.returns-then-count-from-clause-reads
+returns-then-count-from-clause-reads g c = read_keeps _ _ _ _ c.read.ensures
+
+pub returns-in_err-sound-clause-reads : goal.returns-in_err-sound-clause-reads
+returns-in_err-sound-clause-reads g c =
+    boards_then _ _ _ (read_keeps _ _ _ _ c.read.ensures) c.names_data_words.ensures.reads
+
+pub returns-then-sound-clause-reads : goal.returns-then-sound-clause-reads
+returns-then-sound-clause-reads g c =
+    boards_then _ _ _ (read_keeps _ _ _ _ c.read.ensures) c.names_data_words.ensures.reads
+
+pub returns-else-sound-clause-reads : goal.returns-else-sound-clause-reads
+returns-else-sound-clause-reads g c =
+    boards_then _ _ _ (read_keeps _ _ _ _ c.read.ensures) c.names_data_words.ensures.reads
+
+pub returns-then-count-from-clause-sound : goal.returns-then-count-from-clause-sound
+returns-then-count-from-clause-sound g c = λ sound.
+    let more = sound.room in let word = c.in_ok-count.ensures.word in omega (arith, more, word)
+
+pub overflow_cast-count : goal.overflow_cast-count
+overflow_cast-count g c = omega arith
+
+pub names_data_words-requires-clause-lit : goal.names_data_words-requires-clause-lit
+names_data_words-requires-clause-lit g c = (c.in_ok-count.ensures.light.ok refl).lit
+
+pub names_data_words-requires-clause-room : goal.names_data_words-requires-clause-room
+names_data_words-requires-clause-room g c = omega arith

@@ -1,6 +1,6 @@
 use Rattle.std.proofs.Common.{◌+◌, sym, ap, ◌∙◌, subst}
-use Rattle.undo_journal.specs.Undo.{gate}
-use Rattle.undo_journal.specs.Memory.{Memory}
+use Rattle.undo_journal.specs.Undo.{gate, data_words}
+use Rattle.undo_journal.specs.Memory.{Memory, committed}
 use Rattle.undo_journal.specs.Spending.{WritesAtMost, rollback_writes}
 use Rattle.undo_journal.specs.laws.Undo.{gate_undone}
 use Rattle.std.proofs.lemmas.Result.{on_ok_weaker}
@@ -53,3 +53,27 @@ returns-in_err-checked-clause-counted g c = none_ok _ _ _ c.from_residual.ensure
 
 pub returns-in_err-checked-clause-done : goal.returns-in_err-checked-clause-done
 returns-in_err-checked-clause-done g c = none_ok _ _ _ c.from_residual.ensures.1
+
+pub returns-in_err-checked-clause-kept : goal.returns-in_err-checked-clause-kept
+returns-in_err-checked-clause-kept g c = ap committed c.self.view_is
+
+pub roll_back-answer-requires-clause-sound : goal.roll_back-answer-requires-clause-sound
+roll_back-answer-requires-clause-sound g c =
+    let works = c.in_ok-checked.ensures.ready.works in
+    let held = c.self.invariant.works (ap (λ (m : Memory). m.failed) c.self.view_is ∙ works) in
+    held.sound
+
+pub roll_back-answer-requires-clause-counts : goal.roll_back-answer-requires-clause-counts
+roll_back-answer-requires-clause-counts g c =
+    let works = c.in_ok-checked.ensures.ready.works in
+    let held = c.self.invariant.works (ap (λ (m : Memory). m.failed) c.self.view_is ∙ works) in
+    held.counts
+
+pub roll_back-answer-requires-clause-lit : goal.roll_back-answer-requires-clause-lit
+roll_back-answer-requires-clause-lit g c =
+    let works = c.in_ok-checked.ensures.ready.works in
+    let held = c.self.invariant.works (ap (λ (m : Memory). m.failed) c.self.view_is ∙ works) in
+    held.lit
+
+pub returns-clause-kept : goal.returns-clause-kept
+returns-clause-kept g c = ap data_words c.roll_back-answer.ensures.kept ∙ ap committed c.self.view_is

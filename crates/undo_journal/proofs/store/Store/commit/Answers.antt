@@ -1,4 +1,4 @@
-use Rattle.std.proofs.Common.{◌≡◌, ◌+◌, ◌≤◌, ap, refl, sym, ◌∙◌, subst, Err}
+use Rattle.std.proofs.Common.{◌≡◌, ◌+◌, ◌≤◌, ap, inl, refl, sym, ◌∙◌, subst, Err}
 use Rattle.std.proofs.Math.Logic.{⊎_map}
 use Rattle.undo_journal.specs.Memory.{Memory, committed, current, commit_writes}
 use Rattle.undo_journal.specs.Spending.{WritesAtMost}
@@ -78,3 +78,15 @@ returns-in-Ok-clause-last g c =
     (λ old. old ∙ ap committed c.self.view_is)
     (λ most. subst (λ (m : Memory). m.facts.writes + commit_writes m ≤ after.writes + 1) c.self.view_is most)
     c.finish-answer.ensures.last
+
+pub returns-in-Err-clause-any_exit : goal.returns-in-Err-clause-any_exit
+returns-in-Err-clause-any_exit g c = inl (ap committed c.self.view_is)
+
+pub returns-in-Err-clause-last : goal.returns-in-Err-clause-last
+returns-in-Err-clause-last g c = inl (ap committed c.self.view_is)
+
+pub returns-in-Err-clause-done : goal.returns-in-Err-clause-done
+returns-in-Err-clause-done g c = tt
+
+pub returns-in-Err-clause-counted : goal.returns-in-Err-clause-counted
+returns-in-Err-clause-counted g c = tt

@@ -1,14 +1,18 @@
-use Rattle.std.proofs.Common.{◌≡◌, ℕ, List, arith, sym, ap, ◌∙◌, subst}
+use Rattle.std.proofs.Common.{◌≡◌, ℕ, List, arith, inl, refl, sym, ap, ◌∙◌, subst}
 use Rattle.std.specs.Prelude.{if◌then◌else◌, OnErr}
 use Rattle.nvm_board.specs.Facts.{RisesAt, raised}
-use Rattle.undo_journal.specs.Undo.{gate, IsSound}
-use Rattle.undo_journal.specs.Memory.{Memory, taken}
-use Rattle.undo_journal.specs.laws.Exits.{error_tells}
+use Rattle.undo_journal.specs.Batches.{overlay}
+use Rattle.undo_journal.specs.Undo.{gate, undo, data_words, IsSound}
+use Rattle.undo_journal.specs.Memory.{Memory, committed, current, taken}
+use Rattle.nvm_board.specs.Aims.{AimStays}
+use Rattle.nvm_board.specs.laws.Aims.{aim_same}
+use Rattle.undo_journal.specs.laws.Calls.{reads_same}
+use Rattle.undo_journal.specs.laws.Exits.{error_tells, none_ok}
 use Rattle.undo_journal.specs.laws.Memory.{reports_same}
 use Rattle.undo_journal.proofs.Standing.{held-kept, ready-from}
 use Rattle.std.proofs.lemmas.Result.{on_ok_weaker}
 use Rattle.undo_journal.proofs.Noted.{always, if_ok, on_ok, on_err, on_dark, noted_tells, noted-true, noted-open}
-use Rattle.undo_journal.proofs.Noted.{noted-reports}
+use Rattle.undo_journal.proofs.Noted.{always_err, noted-reports}
 use Rattle.undo_journal.proofs.store.Store.compare.Goals as goal
 
 pub returns-in_err-check-clause-tells : goal.returns-in_err-check-clause-tells
@@ -93,3 +97,59 @@ returns-clause-matched_err g c =
     let after = (g.B.Board.facts c.compare-answer.new.self).matches in
     subst (λ (m : Memory). OnErr c.noted.result (RisesAt m.facts.matches c.args.secret after)) c.self.view_is
     (on_err _ _ c.noted.ensures.answer _ c.compare-answer.ensures.matched_err)
+
+pub returns-in_err-check-clause-equal : goal.returns-in_err-check-clause-equal
+returns-in_err-check-clause-equal g c = none_ok _ _ _ c.from_residual.ensures.1
+
+pub returns-in_err-check-clause-usable : goal.returns-in_err-check-clause-usable
+returns-in_err-check-clause-usable g c = none_ok _ _ _ c.from_residual.ensures.1
+
+pub returns-in_err-check-clause-ready : goal.returns-in_err-check-clause-ready
+returns-in_err-check-clause-ready g c = none_ok _ _ _ c.from_residual.ensures.1
+
+pub returns-in_err-check-clause-compared : goal.returns-in_err-check-clause-compared
+returns-in_err-check-clause-compared g c = none_ok _ _ _ c.from_residual.ensures.1
+
+pub returns-in_err-check-clause-matched : goal.returns-in_err-check-clause-matched
+returns-in_err-check-clause-matched g c = none_ok _ _ _ c.from_residual.ensures.1
+
+pub returns-in_err-check-clause-keeps : goal.returns-in_err-check-clause-keeps
+returns-in_err-check-clause-keeps g c = (reads_same _).keeps
+
+pub returns-in_err-check-clause-words : goal.returns-in_err-check-clause-words
+returns-in_err-check-clause-words g c = refl
+
+pub returns-in_err-check-clause-writes : goal.returns-in_err-check-clause-writes
+returns-in_err-check-clause-writes g c = refl
+
+pub returns-in_err-check-clause-cut : goal.returns-in_err-check-clause-cut
+returns-in_err-check-clause-cut g c = aim_same _
+
+pub returns-in_err-check-clause-compared_err : goal.returns-in_err-check-clause-compared_err
+returns-in_err-check-clause-compared_err g c = always_err _ _ (inl refl)
+
+pub returns-in_err-check-clause-matched_err : goal.returns-in_err-check-clause-matched_err
+returns-in_err-check-clause-matched_err g c = always_err _ _ (inl refl)
+
+pub compare-answer-requires : goal.compare-answer-requires
+compare-answer-requires g c = c.requires
+
+pub returns-clause-keeps : goal.returns-clause-keeps
+returns-clause-keeps g c =
+    let words = c.compare-answer.ensures.words in
+    let sets = c.self.inside.batch.waiting.items in
+    record {
+      committed_words = ap (λ (l : List ℕ). data_words (undo l)) words ∙ ap committed c.self.view_is;
+      current_words = ap (λ (l : List ℕ). data_words (overlay sets l)) words ∙ ap current c.self.view_is;
+      taken = ap taken c.self.view_is;
+      waiting = ap (λ (m : Memory). m.waiting) c.self.view_is;
+    }
+
+pub returns-clause-words : goal.returns-clause-words
+returns-clause-words g c =
+    c.compare-answer.ensures.words ∙ ap (λ (m : Memory). m.facts.words) c.self.view_is
+
+pub returns-clause-cut : goal.returns-clause-cut
+returns-clause-cut g c =
+    let after = g.B.Board.facts c.compare-answer.new.self in
+    subst (λ (m : Memory). AimStays m.facts after) c.self.view_is c.compare-answer.ensures.cut

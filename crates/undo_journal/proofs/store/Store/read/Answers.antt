@@ -128,3 +128,6 @@ returns-in_err-check-clause-usable g c = none_ok _ _ _ c.from_residual.ensures.1
 
 pub returns-in-Some-clause-reads : goal.returns-in-Some-clause-reads
 returns-in-Some-clause-reads g c = reads_same _
+
+pub returns-in-Some-clause-usable : goal.returns-in-Some-clause-usable
+returns-in-Some-clause-usable g c = c.in_ok-check.ensures.ready

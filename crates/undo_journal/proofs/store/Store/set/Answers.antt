@@ -3,7 +3,7 @@ use Rattle.std.proofs.Math.Logic.{⊎_map}
 use Rattle.undo_journal.specs.declared.batch.TheConstants.{BATCH}
 use Rattle.undo_journal.specs.declared.batch.Waiting.{Waiting}
 use Rattle.undo_journal.specs.Batches.{with_set, batch_writes}
-use Rattle.undo_journal.specs.Memory.{Memory, committed, current, InRuns, ContinuesRun}
+use Rattle.undo_journal.specs.Memory.{Memory, committed, current, taken, InRuns, ContinuesRun}
 use Rattle.undo_journal.specs.laws.Exits.{none_ok, error_tells}
 use Rattle.undo_journal.specs.laws.Memory.{reports_same}
 use Rattle.std.proofs.lemmas.Result.{on_ok_weaker}
@@ -11,7 +11,7 @@ use Rattle.undo_journal.proofs.Standing.{board-place, held-fits}
 use Rattle.undo_journal.proofs.Noted.{on_ok, on_dark, noted_tells, noted-true, noted-open, noted-reports}
 use Rattle.undo_journal.specs.Memory.{set_writes}
 use Rattle.undo_journal.specs.Spending.{WritesAtMost}
-use Rattle.undo_journal.specs.laws.Calls.{within_more}
+use Rattle.undo_journal.specs.laws.Calls.{reads_runs, reads_same, within_more}
 use Rattle.undo_journal.specs.laws.Transactions.{stays_spends}
 use Rattle.undo_journal.proofs.store.Store.set.Goals as goal
 
@@ -142,3 +142,31 @@ returns-in_err-check-clause-ready g c = none_ok _ _ _ c.from_residual.ensures.1
 
 pub returns-in_err-check-clause-kept : goal.returns-in_err-check-clause-kept
 returns-in_err-check-clause-kept g c = refl
+
+pub returns-in_err-check-clause-room : goal.returns-in_err-check-clause-room
+returns-in_err-check-clause-room g c = omega arith
+
+pub returns-in_err-check-clause-taken : goal.returns-in_err-check-clause-taken
+returns-in_err-check-clause-taken g c = omega arith
+
+pub returns-in_err-check-clause-runs : goal.returns-in_err-check-clause-runs
+returns-in_err-check-clause-runs g c = reads_runs 1 _ _ (reads_same _)
+
+pub returns-in_err-check-clause-goes_on : goal.returns-in_err-check-clause-goes_on
+returns-in_err-check-clause-goes_on g c = λ goes. reads_runs 0 _ _ (reads_same _)
+
+pub add-answer-requires-clause-held : goal.add-answer-requires-clause-held
+add-answer-requires-clause-held g c =
+    c.self.invariant.works (ap (λ (m : Memory). m.failed) c.self.view_is ∙ c.in_ok-check.ensures.ready.works)
+
+pub add-answer-requires-clause-room : goal.add-answer-requires-clause-room
+add-answer-requires-clause-room g c = omega (arith, ap taken c.self.view_is, c.requires.room)
+
+pub returns-clause-room : goal.returns-clause-room
+returns-clause-room g c = omega (arith, ap taken c.self.view_is, c.add-answer.ensures.taken)
+
+pub returns-clause-taken : goal.returns-clause-taken
+returns-clause-taken g c = omega (arith, ap taken c.self.view_is, c.add-answer.ensures.taken)
+
+pub returns-clause-next : goal.returns-clause-next
+returns-clause-next g c = on_ok _ _ c.noted.ensures.answer _ _ (λ next. next) c.add-answer.ensures.next

@@ -1,3 +1,6 @@
+use Rattle.std.proofs.Common.{refl}
+use Rattle.undo_journal.specs.Memory.{IsOpen}
+use Rattle.undo_journal.proofs.Noted.{unless_failed}
 use Rattle.undo_journal.proofs.txn.Txn.set.Goals as goal
 
 pub returns-clause-done : goal.returns-clause-done
@@ -23,3 +26,19 @@ set-requires-clause-room g c = c.requires.room
 
 pub set-requires-clause-place : goal.set-requires-clause-place
 set-requires-clause-place g c = c.requires.place
+
+pub returns-clause-store : goal.returns-clause-store
+returns-clause-store g c =
+    let set = c.set.ensures in
+    record {
+      sets = record {
+        same_store = refl;
+        kept = set.kept;
+        room = set.room;
+        taken = set.taken;
+        reports = set.reports;
+        writes = set.runs;
+      };
+      ready = unless_failed (IsOpen c.set.new.self) c.set.result set.ready;
+      tells = set.tells;
+    }

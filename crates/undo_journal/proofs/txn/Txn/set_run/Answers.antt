@@ -4,6 +4,8 @@ use Rattle.undo_journal.specs.declared.batch.Waiting.{Waiting}
 use Rattle.undo_journal.specs.Batches.{with_set}
 use Rattle.undo_journal.specs.Lent.{memory_of}
 use Rattle.std.specs.Prelude.{◌≡◌, take}
+use Rattle.std.proofs.lemmas.List.{take_all}
+use Rattle.nvm_board.specs.Torn.{written}
 use Rattle.std.proofs.Math.Logic.{⊎_map}
 use Rattle.undo_journal.specs.Memory.{current}
 use Rattle.nvm_board.specs.laws.Torn.{length-written, written-more}
@@ -105,3 +107,12 @@ returns-in_err-check-clause-waits g c = none_ok _ _ _ c.from_residual.ensures.1
 
 pub returns-in_err-set-clause-waits : goal.returns-in_err-set-clause-waits
 returns-in_err-set-clause-waits g c = none_ok _ _ _ c.from_residual-in_err-set.ensures.1
+
+pub set-requires-clause-room : goal.set-requires-clause-room
+set-requires-clause-room g c = omega (arith, c.loop-i.invariant.sets.room, c.requires.room)
+
+pub returns-clause-done : goal.returns-clause-done
+returns-clause-done g c =
+    let words = c.args.words.now in
+    let first = current (memory_of c.args.self.now) in
+    c.loop-i.invariant.done ∙ ap (λ (l : List ℕ). written first c.args.at l) (take_all c.loop-i.i words (omega arith))
