@@ -19,6 +19,10 @@ use Rattle.record_commands.proofs.RecordSums.{increase-barred, increase-long, in
 use Rattle.record_commands.proofs.RecordSteps.{agree}
 use Rattle.record_commands.proofs.increasing.increase.Goals as goal
 
+-- a record fits into the data of an answer
+fits_answer : (long : ℕ) → long ≤ 255 → long ≤ 256
+fits_answer long short = omega (arith, short)
+
 pub returns-in_err-file : goal.returns-in_err-file
 returns-in_err-file g c =
     increase-halted c.requires.kept c.args.amount.now c.args.expected _ c.clear.ensures _ _ c.from_residual.ensures.1
@@ -43,8 +47,7 @@ raise-requires g c =
     subst (λ (l : List ℕ). IsCyclic l ring) (sym c.find_records.ensures.store.only.keeps.committed_words)
     (agree (committed c.args.store.now) c.requires.kept.ready.usable.committed_size c.requires.kept.card
     c.args.current.now target.Current _ c.in_ok-file.file c.in_ok-file.ensures.told).stands in
-    let short = stands.slots.short in
-    let room : ring.record_length ≤ 256 = omega (arith, short) in (
+    let room = fits_answer ring.record_length stands.slots.short in (
       lit< tt,
       record {
         body = record { ready = c.in_ok-file.ensures.store.ready; body = stands };

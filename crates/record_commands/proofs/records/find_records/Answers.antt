@@ -1,4 +1,4 @@
-use Rattle.std.proofs.Common.{◌≡◌, ◌⊎◌, arith, refl, sym, subst, rules}
+use Rattle.std.proofs.Common.{◌≡◌, ◌<◌, ◌≤◌, ◌⊎◌, ℕ, arith, refl, sym, subst}
 use Rattle.undo_journal.specs.Memory.{committed}
 use Rattle.file_tree.specs.declared.entry.Entry.{Entry}
 use Rattle.file_tree.specs.laws.Nodes.{used_small}
@@ -10,6 +10,10 @@ use Rattle.record_commands.proofs.RecordKinds.{record_kind}
 use Rattle.command_base.specs.laws.Told.{told-entry}
 use Rattle.command_base.specs.laws.Stopping.{finds-stopped, reads-stopped}
 use Rattle.record_commands.proofs.records.find_records.Goals as goal
+
+-- the number of a file is at most that of the last entry
+last_entry : (e : ℕ) → e < 64 → e ≤ 63
+last_entry e small = omega (arith, small)
 
 pub returns : goal.returns
 returns g c = record {
@@ -26,7 +30,7 @@ returns g c = record {
         kind = subst (λ (told : Entry). (told.kind ≡ 3) ⊎ (told.kind ≡ 4)) named.entry_is kind;
         file_is = refl;
       }));
-  store = search rules;
+  store = c.in_ok-file.ensures.store;
 }
 
 pub returns-in_err-file : goal.returns-in_err-file
@@ -38,8 +42,8 @@ returns-in_err-file g c = record {
 pub of-requires : goal.of-requires
 of-requires g c = record {
   number = let named = c.in_ok-file.ensures.told in
-      let small = used_small (committed c.args.store.now) c.in_ok-file.file.number named.file.child.used in
-      omega (arith, small);
+      last_entry c.in_ok-file.file.number
+      (used_small (committed c.args.store.now) c.in_ok-file.file.number named.file.child.used);
   told = let named = c.in_ok-file.ensures.told in
       subst IsToldEntry (sym named.entry_is)
       (told-entry (committed c.args.store.now) c.requires.target.kept.ready.usable.committed_size

@@ -48,6 +48,20 @@ other_status : (long n : ℕ) (text : List ℕ) (status : Sw) → length text �
     → right_length text ≡ status
 other_status long n text status is same told = ap length_status (is ∙ sym same) ∙ sym told
 
+-- a record fits into the buffer of the answer, and its number in a byte
+fits_answer : (long : ℕ) → long ≤ 255 → long ≤ 258
+fits_answer long short = omega (arith, short)
+
+fits_byte : (number : ℕ) → number ≤ 254 → number ≤ 255
+fits_byte number few = omega (arith, few)
+
+-- what was read is as long as the records of the ring
+as_long : (read ring : ℕ) → read ≡ ring → ring ≤ 255 → read ≤ 255
+as_long read ring same short = omega (arith, same, short)
+
+short_answer : (read ring file : ℕ) → read ≡ file → ring ≤ 255 → ring ≡ file → read ≤ 256
+short_answer read ring file size short same = omega (arith, size, short, same)
+
 pub read-requires : goal.read-requires
 read-requires g c =
     let found = is-chosen c.args.choice c.in_ok-slot.slot c.in_ok-file.ensures.told
@@ -55,8 +69,7 @@ read-requires g c =
     let stands = chosen-body (committed c.args.store.now) c.requires.target.kept.ready.usable.committed_size
     c.requires.target.kept.card
     c.args.current.now c.args.target _ _ _ found _ c.find_records.ensures.store.only.keeps.committed_words in
-    let short = stands.slots.short in
-    let room : c.in_ok-slot.slot.ring.record_length ≤ 258 = omega (arith, short) in
+    let room = fits_answer c.in_ok-slot.slot.ring.record_length stands.slots.short in
     (lit< tt, (record { ready = c.in_ok-file.ensures.store.ready; body = stands }, room))
 
 pub returns-then-is_other_length : goal.returns-then-is_other_length
@@ -88,8 +101,7 @@ pointer_after-after-requires g c =
     let stands = chosen-body (committed c.args.store.now) c.requires.target.kept.ready.usable.committed_size
     c.requires.target.kept.card
     c.args.current.now c.args.target _ _ _ found _ refl in
-    let few = slot-few (committed c.args.store.now) c.in_ok-slot.slot stands in
-    omega (arith, few)
+    fits_byte c.in_ok-slot.slot.number (slot-few (committed c.args.store.now) c.in_ok-slot.slot stands)
 
 pub returns : goal.returns
 returns g c =
@@ -124,7 +136,8 @@ returns g c =
     refl).slots.short
     in
     let same_ring = ap (λ (r : Ring). r.record_length) found.ring_is in
-    let room : length c.read.new.bytes.items ≤ 256 = omega (arith, size, short, same_ring) in
+    let room = short_answer (length c.read.new.bytes.items) c.in_ok-slot.slot.ring.record_length
+    file.ring.record_length size short same_ring in
     let current = current-is (committed old) sized c.requires.target.kept.card x c.args.target _ file found.named
     c.requires.target.kept.current
     (pointer_after (pointer_from x c.args.target) c.args.choice (chosen_in file (pointer_from x c.args.target)
@@ -190,4 +203,4 @@ returns-in_err-read g c =
     c.read.new.store c.requires.target.kept.card c.args.current.now c.read.new.bytes.items _ c.in_err-read.field-0.0
     (reply-failed _ _ c.from_residual-in_err-read.ensures.1)
     (reads_on c.args.store.now c.find_records.new.store c.read.new.store _ c.find_records.ensures.store.only
-    c.in_err-read.ensures.store) (part_short _ _ (omega (arith, long, short)) c.in_err-read.ensures.any_exit)
+    c.in_err-read.ensures.store) (part_short _ _ (as_long _ _ long short) c.in_err-read.ensures.any_exit)

@@ -19,6 +19,13 @@ use Rattle.command_base.specs.laws.Executes.{answered, halted, handed}
 use Rattle.command_base.specs.laws.Stopping.{reply-failed}
 use Rattle.record_commands.proofs.records.search_record.Goals as goal
 
+-- the numbers of all records fit into an answer, and so does an empty one
+all_fit : (records capacity : ℕ) → capacity ≤ 254 → records ≤ capacity → records ≤ 256
+all_fit records capacity few number = omega (arith, few, number)
+
+none_fit : (count : ℕ) → count ≡ 0 → count ≤ 256
+none_fit count none = omega (arith, none)
+
 pub search-requires : goal.search-requires
 search-requires g c =
     let found = is-chosen (At c.args.first) c.in_ok-slot.slot c.in_ok-file.ensures.told
@@ -26,9 +33,8 @@ search-requires g c =
     let stands = chosen-body (committed c.args.store.now) c.requires.target.kept.ready.usable.committed_size
     c.requires.target.kept.card
     c.args.current.now c.args.target _ _ _ found _ c.find_records.ensures.store.only.keeps.committed_words in
-    let few = stands.slots.few in
-    let number = stands.number in
-    let room : c.in_ok-slot.slot.ring.records ≤ 256 = omega (arith, few, number) in
+    let ring = c.in_ok-slot.slot.ring in
+    let room = all_fit ring.records ring.capacity stands.slots.few stands.number in
     (lit< tt, (record { ready = c.in_ok-file.ensures.store.ready; body = stands }, room))
 
 pub returns-then-asks_less : goal.returns-then-asks_less
@@ -142,4 +148,4 @@ returns-in_err-search g c =
     c.args.current.now c.search.new.store c.requires.target.kept.card c.args.current.now c.clear.new.self.items _
     c.in_err-search.field-0.0 (reply-failed _ _ c.from_residual-in_err-search.ensures.1)
     (reads_on c.args.store.now c.find_records.new.store c.search.new.store _ c.find_records.ensures.store.only
-    c.in_err-search.ensures.store) (omega (arith, none))
+    c.in_err-search.ensures.store) (none_fit _ none)

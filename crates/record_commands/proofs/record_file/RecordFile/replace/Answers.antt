@@ -1,4 +1,4 @@
-use Rattle.std.proofs.Common.{ℕ, Bool, false, List, arith, sym, subst}
+use Rattle.std.proofs.Common.{◌≤◌, ℕ, Bool, false, List, arith, sym, subst}
 use Rattle.undo_journal.specs.Memory.{committed}
 use Rattle.record_slots.specs.declared.layout.TheConstants.{RECORD_WRITES, UPDATE_WRITES}
 use Rattle.record_slots.specs.Bodies.{cyclic_body_records}
@@ -6,6 +6,10 @@ use Rattle.ef_contents.specs.BodyCalls.{Commits}
 use Rattle.record_commands.specs.RecordParts.{replaced_in, RingBecomes}
 use Rattle.record_commands.proofs.RecordPuts.{commits-within}
 use Rattle.record_commands.proofs.record_file.RecordFile.replace.Goals as goal
+
+-- an update of a record takes fewer device writes than a new record
+few_writes : UPDATE_WRITES ≤ RECORD_WRITES
+few_writes = omega arith
 
 pub returns-then-self : goal.returns-then-self
 returns-then-self g c =
@@ -24,4 +28,4 @@ returns-else-self g c =
     (cyclic_body_records (committed old) ring) c.args.slot.number c.args.bytes.now) in
     subst (λ (wraps : Bool). Commits (becomes wraps) RECORD_WRITES old c.replace.new.store c.replace.result)
     (sym c.if-self.false) (commits-within (becomes false) UPDATE_WRITES RECORD_WRITES old c.replace.new.store
-    c.replace.result (omega arith) c.replace.ensures.commits)
+    c.replace.result few_writes c.replace.ensures.commits)
