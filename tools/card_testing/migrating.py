@@ -88,8 +88,17 @@ def of_writes(checks: Checks, bench: Bench) -> None:
         checks.compare(f"{writes} writes migrate {pages} pages", True, makes(bench, data, writes))
         bench.image.write_bytes(data)
         checks.compare(f"the card on {pages} pages", True, is_factory_card(bench, blocks))
+        checks.compare(f"its words on {pages} pages", 2, Ends.of(old_factory(pages)).found(bench))
         checks.compare(f"no write on {pages} pages then", True, makes(bench, bench.image.read_bytes(), 0))
         checks.compare(f"the card on {pages} pages again", True, is_factory_card(bench, blocks))
+
+
+def of_new_cards(checks: Checks, bench: Bench) -> None:
+    """The words of the factory's card."""
+    for pages in (1024, 1030, 4096):
+        bench.image.unlink(missing_ok=True)
+        bench.run("\n", "--pages", str(pages))
+        checks.compare(f"a new card of {pages} pages", True, bench.image.read_bytes() == data_of(new_factory(pages)))
 
 
 def of_more_pages(checks: Checks, bench: Bench) -> None:
@@ -195,6 +204,7 @@ def of_many_files(checks: Checks, bench: Bench, chance: random.Random) -> None:
 
 def check(checks: Checks, bench: Bench) -> None:
     """The same migrations in each run."""
+    of_new_cards(checks, bench)
     of_writes(checks, bench)
     of_more_pages(checks, bench)
     of_each_write(checks, bench)

@@ -29,7 +29,7 @@ def old_factory(pages: int) -> list[int]:
 
 def new_factory(pages: int) -> list[int]:
     """The factory's memory in format 2, with this many pages."""
-    words = on_pages(factory(), pages)
+    words = factory() + [0] * 16 * (pages - OLD_PAGES)
     words[3] = pages
     link(words, list(range(BLOCKS + 1, pages)))
     return words

@@ -1,7 +1,7 @@
-//! The factory image, memories that boot and others that don't, and boards without power.
+//! The factory image of format 1, memories that boot and others that don't, and boards without power.
 
 use crate::fixtures::{formatted, formatted_old};
-use card_core::{Card, FreeSpace};
+use card_core::Card;
 use card_start::{StartFault, format};
 use nvm_board::{Armed, Board, DeviceErr, Socket};
 use simulated_boards::{CutBoard, RamBoard};
@@ -9,30 +9,8 @@ use std::alloc::Global;
 use std::test::Fail;
 use store_vectors::fixtures::with_words;
 
-// The words that `format` writes: the mark, the first free block, the card state and the page where the blocks end; the
-// first words of both files; the tries and the mark of PIN 1; the end of the file's chain and its first bytes;
-// the free chain and its end.
-const FACTORY: &[(u16, u32)] = &[
-    (0, 0x5453_4332),
-    (1, 129),
-    (2, 0),
-    (3, 1024),
-    (16, 0x0105_3F00),
-    (32, 0x0205_2FE2),
-    (1040, 3),
-    (1041, 10),
-    (1046, 1),
-    (1168, 0),
-    (2048, 0),
-    (2049, 0x9810_3254),
-    (2064, 130),
-    (16_352, 1023),
-    (16_368, 0),
-];
-
-// The different words on a board of 1,030 pages, and in format 1.
-const LARGER: &[(u16, u32)] = &[(3, 1030), (16_368, 1024), (16_464, 0)];
-
+// Words that `format_old` writes on a board of 1,030 pages: the mark, the ignored words of the header and of PIN 1, the
+// end of the free chain, and the first word past the blocks.
 const OLD: &[(u16, u32)] = &[
     (0, 0x5453_4331),
     (3, 0),
@@ -52,11 +30,7 @@ fn other_word(mut board: RamBoard, words: &[(u16, u32)]) -> Option<u16> {
 }
 
 #[test]
-fn formats_the_factory_memory(rt: HostRuntime) -> Result<(), Fail> {
-    let board = formatted(RamBoard::new(rt.alloc())?)?;
-    assert!(rt; other_word(board, FACTORY).is_none());
-    let board = formatted(RamBoard::with_pages(rt.alloc(), 1030)?)?;
-    assert!(rt; other_word(board, LARGER).is_none());
+fn formats_the_memory_of_format_1(rt: HostRuntime) -> Result<(), Fail> {
     let board = formatted_old(RamBoard::with_pages(rt.alloc(), 1030)?)?;
     assert!(rt; other_word(board, OLD).is_none());
     Ok(())
@@ -162,43 +136,6 @@ fn starts_what_stands_for_a_card(rt: HostRuntime) -> Result<(), Fail> {
     for &(words, want) in MEMORIES {
         let fault = start_with(rt.alloc(), words)?;
         assert!(rt; fault == want, "with {words:?}");
-    }
-    Ok(())
-}
-
-/// Returns words and the free space after a migration.
-/// The words are those of the header, and the mark of PIN 8.
-/// The memory is a factory image of format 1.
-fn after_start(alloc: Global, pages: u16) -> Result<Option<([u32; 4], FreeSpace)>, Fail> {
-    let board = formatted_old(RamBoard::with_pages(alloc, pages.clamp(1024, 4096))?)?;
-    let Ok(card) = Card::start(board) else {
-        return Ok(None);
-    };
-    let free = card.free();
-    let mut board = card.into_board();
-    let words = [
-        board.read(0)?,
-        board.read(1)?,
-        board.read(3)?,
-        board.read(1158)?,
-    ];
-    Ok(Some((words, free)))
-}
-
-#[test]
-fn a_start_makes_format_2(rt: HostRuntime) -> Result<(), Fail> {
-    for (pages, first) in [(1024u16, 129u32), (1030, 1024), (4096, 1024)] {
-        let want = (
-            [0x5453_4332, first, u32::from(pages), 1],
-            FreeSpace {
-                blocks: pages - 129,
-                entries: 62,
-            },
-        );
-        assert!(rt;
-            after_start(rt.alloc(), pages)? == Some(want),
-            "on {pages} pages"
-        );
     }
     Ok(())
 }

@@ -1,6 +1,5 @@
 //! Tests of the card on boards without a link: the factory image, memories with changed words, and failing power-ons.
-//! The fixtures are public, for the tests of the bench, and so is the plain check of a memory, for those of the
-//! migration.
+//! The fixtures are public, for the tests of the migration and of the bench.
 #![tactic(auto)]
 
 #[cfg(test)]
@@ -8,7 +7,8 @@ mod cards;
 pub mod fixtures;
 #[cfg(test)]
 mod pins;
-pub mod standing;
+#[cfg(test)]
+mod standing;
 #[cfg(test)]
 mod starts;
 #[cfg(test)]

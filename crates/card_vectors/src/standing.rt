@@ -5,20 +5,20 @@ use std::alloc::{AllocError, Global};
 
 /// The expected result of power-on.
 #[derive(Clone, Copy, Debug, PartialEq, Eq)]
-pub enum Start {
+pub(crate) enum Start {
     Starts,
     Damaged,
     BadJournal,
 }
 
 /// The address of the gate.
-pub const GATE: usize = 1168;
+pub(crate) const GATE: usize = 1168;
 
 /// The address of the first pair.
 const JOURNAL: usize = 1184;
 
 /// Returns the expected result of power-on for these words.
-pub fn start_of(alloc: Global, words: &[u32]) -> Result<Start, AllocError> {
+pub(crate) fn start_of(alloc: Global, words: &[u32]) -> Result<Start, AllocError> {
     let gate = word(words, GATE);
     if gate > 432 || !are_pairs(words, gate) {
         return Ok(Start::BadJournal);
@@ -42,12 +42,12 @@ fn standing(words: &[u32]) -> Start {
 }
 
 /// Returns the word at an address, or 0 past the end.
-pub fn word(words: &[u32], at: usize) -> u32 {
+fn word(words: &[u32], at: usize) -> u32 {
     words.get(at).copied().unwrap_or(0)
 }
 
 /// Changes the word at an address, if it exists.
-pub fn put(words: &mut [u32], at: usize, word: u32) {
+fn put(words: &mut [u32], at: usize, word: u32) {
     if let Some(place) = words.get_mut(at) {
         *place = word;
     }
@@ -78,7 +78,7 @@ fn are_pairs(words: &[u32], gate: u32) -> bool {
 
 /// Restores the former words, and empties the journal.
 /// The first of the pairs for one word counts, so it comes last.
-pub fn undo(words: &mut [u32]) {
+fn undo(words: &mut [u32]) {
     let gate = word(words, GATE).min(432);
     for number in (0..gate).rev() {
         let (address, earlier) = pair(words, number);

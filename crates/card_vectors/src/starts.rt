@@ -1,42 +1,12 @@
-//! Failing power-ons: with a journal that can't be undone, whose memory stays unchanged, and with a failure of each
-//! device call in turn.
+//! Power-ons in which each device call fails in turn.
 
 use crate::fixtures::{formatted, formatted_old};
 use card_core::Card;
 use card_start::StartFault;
 use nvm_board::{Armed, Board};
-use simulated_boards::{CutBoard, FaultBoard};
+use simulated_boards::FaultBoard;
 use std::alloc::Global;
 use std::test::Fail;
-use store_vectors::fixtures::with_words;
-
-// Changes of the factory image: a pair too many; a counting pair that names the gate; one that names no word.
-const BAD_JOURNALS: &[&[(u16, u32)]] = &[
-    &[(1168, 433)],
-    &[(1168, 1), (1184, 1168)],
-    &[(1168, 1), (1184, 16_384)],
-];
-
-/// Returns true if power-on fails by its journal without a write.
-/// A write would meet the armed cut.
-fn is_left(board: CutBoard) -> bool {
-    let mut board = board;
-    board.arm(1, 0x0000);
-    match Card::start(board) {
-        Err((board, StartFault::BadJournal)) => board.pending(),
-        _ => false,
-    }
-}
-
-#[test]
-fn bad_journal_is_left(rt: HostRuntime) -> Result<(), Fail> {
-    let board = formatted(CutBoard::new(rt.alloc())?)?;
-    for words in BAD_JOURNALS {
-        let changed = with_words(board.copy(rt.alloc())?, words)?;
-        assert!(rt; is_left(changed), "with {words:?}");
-    }
-    Ok(())
-}
 
 /// Returns the number of device calls in a power-on.
 /// Each of them fails in turn.
@@ -64,38 +34,70 @@ fn a_failed_call_stops_a_start(rt: HostRuntime) -> Result<(), Fail> {
     Ok(())
 }
 
-/// How many calls, or writes, of the start that makes format 2 fail in turn, where each gives a fault, and the next
-/// start is done and finds the card.
+/// The result of a power-on in which a call fails, if it makes so many.
+#[derive(Drop)]
+enum Outcome {
+    /// It makes fewer calls, and migrates the card.
+    Whole,
+    /// It stops by a fault. The next power-on migrates the card.
+    Again,
+    Other,
+}
+
+/// Returns true for the free space of the factory card.
+fn has_space(card: &Card<FaultBoard>) -> bool {
+    let free = card.free();
+    free.blocks == 895 && free.entries == 62
+}
+
+/// Returns the result of a power-on after a fault. The factory card is then in format 2.
+fn outcome_again(card: Card<FaultBoard>) -> Outcome {
+    let has_space = has_space(&card);
+    let mut board = card.into_board();
+    if has_space && board.read(0) == Ok(0x5453_4332) && board.read(1158) == Ok(1) {
+        Outcome::Again
+    } else {
+        Outcome::Other
+    }
+}
+
+/// Powers a card on, and after a fault once more.
+fn started(board: FaultBoard) -> Outcome {
+    match Card::start(board) {
+        Ok(card) if has_space(&card) => Outcome::Whole,
+        Err((board, StartFault::Fault)) => match Card::start(board) {
+            Ok(card) => outcome_again(card),
+            Err(_) => Outcome::Other,
+        },
+        _ => Outcome::Other,
+    }
+}
+
+/// Returns the number of calls, or writes, of the migration.
+/// Each of them fails in turn.
 fn failed_migrations(alloc: Global, board: &FaultBoard, mask: u16) -> Result<Option<u32>, Fail> {
     for call in 1..=6_000 {
         let mut copy = board.copy(alloc)?;
         copy.arm(call, mask);
-        match Card::start(copy) {
-            Ok(card) => return Ok((card.free().blocks == 895).then_some(call - 1)),
-            Err((again, StartFault::Fault)) => match Card::start(again) {
-                Ok(card) => {
-                    let free = card.free();
-                    if free.blocks != 895 || free.entries != 62 {
-                        return Ok(None);
-                    }
-                    let mut board = card.into_board();
-                    if board.read(0)? != 0x5453_4332 || board.read(1158)? != 1 {
-                        return Ok(None);
-                    }
-                }
-                Err(_) => return Ok(None),
-            },
-            Err(_) => return Ok(None),
+        match started(copy) {
+            Outcome::Again => {}
+            Outcome::Whole => return Ok(Some(call - 1)),
+            Outcome::Other => return Ok(None),
         }
     }
     Ok(None)
 }
 
 #[test]
-fn a_failed_call_of_a_migration(rt: HostRuntime) -> Result<(), Fail> {
+fn a_failed_call_stops_a_migration(rt: HostRuntime) -> Result<(), Fail> {
     let board = formatted_old(FaultBoard::on_calls(rt.alloc())?)?;
     let calls = failed_migrations(rt.alloc(), &board, 0)?;
     assert!(rt; calls == Some(1_031), "calls {calls:?}");
+    Ok(())
+}
+
+#[test]
+fn a_failed_write_stops_a_migration(rt: HostRuntime) -> Result<(), Fail> {
     let board = formatted_old(FaultBoard::on_writes(rt.alloc())?)?;
     for mask in [0x0000, 0x0001, 0xFFFF, 0x0002, 0x8000, 0x5555] {
         let writes = failed_migrations(rt.alloc(), &board, mask)?;

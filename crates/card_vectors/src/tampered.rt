@@ -1,7 +1,7 @@
 //! Memories with one changed word: power-on fails or succeeds as the rules say (`standing`).
 
 use crate::fixtures::formatted;
-use crate::standing::{GATE as GATE_ADDRESS, Start, start_of};
+use crate::standing::{Start, start_of};
 use card_core::Card;
 use card_start::StartFault;
 use nvm_board::Board;
@@ -108,14 +108,10 @@ const CHANGED: &[(Part, [u32; 3], [u32; 3])] = &[
     (LINKS, [2, 30_462, 0], [5, 30_459, 0]),
 ];
 
-/// Addresses, and their new words.
-type Changes = Vec<(u16, u32)>;
-
 /// A memory: a board, and its words.
 #[derive(Drop)]
 struct Memory {
-    /// The board, except while a card boots on it.
-    board: Option<CutBoard>,
+    board: CutBoard,
     words: Vec<u32>,
 }
 
@@ -143,13 +139,13 @@ fn count(counts: &mut [u32; 3], start: Start) {
     }
 }
 
-/// Returns a board after power-on, and the result.
-fn started(board: CutBoard) -> Result<(CutBoard, Start), Fail> {
+/// Returns the result of power-on. It is `None` without power, or at a fault.
+fn outcome_of(board: CutBoard) -> Option<Start> {
     match Card::start(board) {
-        Ok(card) => Ok((card.into_board(), Start::Starts)),
-        Err((board, StartFault::Damaged)) => Ok((board, Start::Damaged)),
-        Err((board, StartFault::BadJournal)) => Ok((board, Start::BadJournal)),
-        Err(_) => Err(Fail::from("no power, or a fault")),
+        Ok(_) => Some(Start::Starts),
+        Err((_, StartFault::Damaged)) => Some(Start::Damaged),
+        Err((_, StartFault::BadJournal)) => Some(Start::BadJournal),
+        Err(_) => None,
     }
 }
 
@@ -161,10 +157,7 @@ impl Memory {
         for at in 0..16_384 {
             words.push(board.read(at)?)?;
         }
-        Ok(Memory {
-            board: Some(board),
-            words,
-        })
+        Ok(Memory { board, words })
     }
 
     /// Returns the word at an address.
@@ -172,46 +165,23 @@ impl Memory {
         self.words.get(usize::from(at)).copied().unwrap_or(0)
     }
 
-    /// Changes some words.
-    fn put(&mut self, changes: &[(u16, u32)]) -> Result<(), Fail> {
-        if let Some(board) = self.board.take() {
-            self.board = Some(with_words(board, changes)?);
+    /// Changes the word at an address. If the board doesn't take it, the results of power-on differ.
+    fn put(&mut self, at: u16, word: u32) {
+        if at / 16 < self.board.pages() {
+            let _ = self.board.write(at / 16, (at % 16) as u8, &[word]);
         }
-        for &(at, word) in changes {
-            if let Some(changed) = self.words.get_mut(usize::from(at)) {
-                *changed = word;
-            }
+        if let Some(changed) = self.words.get_mut(usize::from(at)) {
+            *changed = word;
         }
-        Ok(())
-    }
-
-    /// Returns the result of power-on. Recovery writes, so that a journal needs a copy.
-    fn card_start(&mut self, alloc: Global) -> Result<Start, Fail> {
-        let Some(board) = self.board.take() else {
-            return Err(Fail::from("no board"));
-        };
-        if self.words.get(GATE_ADDRESS) != Some(&0) {
-            let (_, start) = started(board.copy(alloc)?)?;
-            self.board = Some(board);
-            return Ok(start);
-        }
-        let (board, start) = started(board)?;
-        self.board = Some(board);
-        Ok(start)
     }
 
     /// Returns the result of power-on, after a check by the rules.
-    /// Some words are changed before it.
-    fn start_with<R: Abort + AllocGlobal>(
-        &mut self,
-        rt: &R,
-        changes: &[(u16, u32)],
-    ) -> Result<Start, Fail> {
-        self.put(changes)?;
-        let start = self.card_start(rt.alloc())?;
+    /// The word at this address was changed last. Recovery writes, so the card boots on a copy.
+    fn start<R: Abort + AllocGlobal>(&self, rt: &R, at: u16) -> Result<Start, Fail> {
         let wanted = start_of(rt.alloc(), &self.words)?;
-        assert!(rt; start == wanted, "with {changes:?}: {start:?}");
-        Ok(start)
+        let start = outcome_of(self.board.copy(rt.alloc())?);
+        assert!(rt; start == Some(wanted), "after a change at {at}: {start:?}");
+        Ok(wanted)
     }
 
     /// Counts the results of power-on for changes of a word.
@@ -224,9 +194,11 @@ impl Memory {
     ) -> Result<(), Fail> {
         let word = self.word(at);
         for change in 0..34 {
-            count(counts, self.start_with(rt, &[(at, changed(word, change))])?);
+            self.put(at, changed(word, change));
+            count(counts, self.start(rt, at)?);
         }
-        self.put(&[(at, word)])
+        self.put(at, word);
+        Ok(())
     }
 
     /// Counts the results for all words of a part that power-on reads.
@@ -244,35 +216,35 @@ impl Memory {
         Ok(counts)
     }
 
-    /// Returns the words of a page from this place on.
-    /// They are unchanged or replaced by `word`.
-    fn others(&self, alloc: Global, at: (u16, u16), word: Option<u32>) -> Result<Changes, Fail> {
-        let (page, first) = at;
-        let mut changes = Vec::new(alloc);
-        for place in first..16 {
-            let at = address(page, place);
-            changes.push((at, word.unwrap_or(self.word(at))))?;
+    /// Returns the words of a page.
+    fn page(&self, page: u16) -> [u32; 16] {
+        let mut words = [0; 16];
+        for place in 0..16u8 {
+            words[usize::from(place % 16)] = self.word(address(page, u16::from(place)));
         }
-        Ok(changes)
+        words
+    }
+
+    /// Changes the words of a page from this place on.
+    fn fill(&mut self, page: u16, first: u16, words: &[u32; 16]) {
+        for place in 0..16u16 {
+            if first <= place {
+                self.put(address(page, place), words[usize::from(place % 16)]);
+            }
+        }
     }
 
     /// Checks that power-on ignores the other words of a part's pages.
     /// They are all 0, or have all bits set.
     fn change_others<R: Abort + AllocGlobal>(&mut self, rt: &R, part: &Part) -> Result<(), Fail> {
         for page in part.first..=part.last {
-            let at = (page, part.words);
-            let kept = self.others(rt.alloc(), at, None)?;
-            let zeros = self.others(rt.alloc(), at, Some(0x0000_0000))?;
-            let ones = self.others(rt.alloc(), at, Some(0xFFFF_FFFF))?;
-            assert!(rt;
-                self.start_with(rt, &zeros)? == Start::Starts,
-                "in page {page}"
-            );
-            assert!(rt;
-                self.start_with(rt, &ones)? == Start::Starts,
-                "in page {page}"
-            );
-            self.put(&kept)?;
+            let kept = self.page(page);
+            for others in [[0x0000_0000; 16], [0xFFFF_FFFF; 16]] {
+                self.fill(page, part.words, &others);
+                let start = self.start(rt, address(page, part.words))?;
+                assert!(rt; start == Start::Starts, "in page {page}");
+            }
+            self.fill(page, part.words, &kept);
         }
         Ok(())
     }

@@ -29,59 +29,78 @@ fn refusal(board: CutBoard) -> Option<StartFault> {
     if board.pending() { Some(fault) } else { None }
 }
 
-const DAMAGED: Option<StartFault> = Some(StartFault::Damaged);
+/// A factory image: its format, and the pages of its board.
+#[derive(Clone, Copy, Debug)]
+enum Image {
+    Old(u16),
+    New(u16),
+}
 
-const BAD_JOURNAL: Option<StartFault> = Some(StartFault::BadJournal);
-
-#[test]
-fn another_mark_is_damaged(rt: HostRuntime) -> Result<(), Fail> {
-    for pages in [1024u16, 1030] {
-        let board = with_words(old_board(rt.alloc(), pages)?, &[(0, 0x5453_4330)])?;
-        assert!(rt; refusal(board) == DAMAGED, "format 1 on {pages} pages");
-        let board = with_words(new_board(rt.alloc(), pages)?, &[(0, 0x5453_4330)])?;
-        assert!(rt; refusal(board) == DAMAGED, "format 2 on {pages} pages");
+impl Image {
+    /// Returns a board with this image, except for these words.
+    fn with(self, alloc: Global, words: &[(u16, u32)]) -> Result<CutBoard, Fail> {
+        let board = match self {
+            Image::Old(pages) => old_board(alloc, pages)?,
+            Image::New(pages) => new_board(alloc, pages)?,
+        };
+        with_words(board, words)
     }
-    Ok(())
 }
 
-/// Returns a memory with one counting pair, for this address.
-fn with_pair(board: CutBoard, address: u16) -> Result<CutBoard, Fail> {
-    with_words(
-        board,
-        &[(1168, 1), (1184, u32::from(address)), (1185, 1025)],
-    )
-}
+/// Words of a memory that are changed.
+type Changes = &'static [(u16, u32)];
 
-// Pages of a board, and the first address past its last word.
-const BEHIND: &[(u16, u16)] = &[(1024, 16_384), (1030, 16_480), (4095, 65_520)];
+// Another mark, in both formats.
+const OTHER_MARK: Changes = &[(0, 0x5453_4330)];
 
-#[test]
-fn pair_behind_the_last_word_is_a_bad_journal(rt: HostRuntime) -> Result<(), Fail> {
-    for &(pages, address) in BEHIND {
-        let board = with_pair(old_board(rt.alloc(), pages)?, address)?;
-        assert!(rt; refusal(board) == BAD_JOURNAL, "format 1 on {pages} pages");
-        let board = with_pair(new_board(rt.alloc(), pages)?, address)?;
-        assert!(rt; refusal(board) == BAD_JOURNAL, "format 2 on {pages} pages");
-    }
-    Ok(())
-}
+// A pair too many; counting pairs that name the gate, and the first address past the last word.
+const TOO_MANY: Changes = &[(1168, 433)];
 
-// The end of the blocks of a memory of format 2 on 1,030 pages: past the board, also with a free chain that goes on;
-// before page 1,024, with a chain that ends there too; nowhere.
-const OTHER_ENDS: &[&[(u16, u32)]] = &[
-    &[(3, 1031)],
-    &[(3, 1031), (16_464, 1030)],
-    &[(3, 0xFFFF_FFFF)],
-    &[(3, 1023), (16_352, 0)],
-    &[(3, 1025)],
-    &[(3, 0)],
+const NAMES_THE_GATE: Changes = &[(1168, 1), (1184, 1168)];
+
+const BEHIND_1024: Changes = &[(1168, 1), (1184, 16_384), (1185, 1025)];
+
+const BEHIND_1030: Changes = &[(1168, 1), (1184, 16_480), (1185, 1025)];
+
+const BEHIND_4095: Changes = &[(1168, 1), (1184, 65_520), (1185, 1025)];
+
+// Factory images, their changes, and why power-on fails.
+const REFUSED: &[(Image, Changes, StartFault)] = &[
+    (Image::Old(1024), OTHER_MARK, StartFault::Damaged),
+    (Image::New(1024), OTHER_MARK, StartFault::Damaged),
+    (Image::Old(1030), OTHER_MARK, StartFault::Damaged),
+    (Image::New(1030), OTHER_MARK, StartFault::Damaged),
+    (Image::New(1024), TOO_MANY, StartFault::BadJournal),
+    (Image::New(1024), NAMES_THE_GATE, StartFault::BadJournal),
+    (Image::Old(1024), BEHIND_1024, StartFault::BadJournal),
+    (Image::New(1024), BEHIND_1024, StartFault::BadJournal),
+    (Image::Old(1030), BEHIND_1030, StartFault::BadJournal),
+    (Image::New(1030), BEHIND_1030, StartFault::BadJournal),
+    (Image::Old(4095), BEHIND_4095, StartFault::BadJournal),
+    (Image::New(4095), BEHIND_4095, StartFault::BadJournal),
+    // The end of the blocks of a memory of format 2 on 1,030 pages: past the board, also with a free chain that goes
+    // on; before page 1,024, with a chain that ends there too; nowhere.
+    (Image::New(1030), &[(3, 1031)], StartFault::Damaged),
+    (
+        Image::New(1030),
+        &[(3, 1031), (16_464, 1030)],
+        StartFault::Damaged,
+    ),
+    (Image::New(1030), &[(3, 0xFFFF_FFFF)], StartFault::Damaged),
+    (
+        Image::New(1030),
+        &[(3, 1023), (16_352, 0)],
+        StartFault::Damaged,
+    ),
+    (Image::New(1030), &[(3, 1025)], StartFault::Damaged),
+    (Image::New(1030), &[(3, 0)], StartFault::Damaged),
 ];
 
 #[test]
-fn other_ends_of_the_blocks_are_damaged(rt: HostRuntime) -> Result<(), Fail> {
-    for words in OTHER_ENDS {
-        let board = with_words(new_board(rt.alloc(), 1030)?, words)?;
-        assert!(rt; refusal(board) == DAMAGED, "with {words:?}");
+fn power_on_says_why_it_fails(rt: HostRuntime) -> Result<(), Fail> {
+    for &(image, words, want) in REFUSED {
+        let board = image.with(rt.alloc(), words)?;
+        assert!(rt; refusal(board) == Some(want), "{image:?} with {words:?}");
     }
     Ok(())
 }
@@ -91,8 +110,11 @@ fn other_mark_of_a_pin_is_damaged(rt: HostRuntime) -> Result<(), Fail> {
     for pin in 0..8u16 {
         for mark in [2u32, 3, 0xFFFF_FFFF] {
             let words = [(16 * (65 + pin) + 6, mark)];
-            let board = with_words(new_board(rt.alloc(), 1030)?, &words)?;
-            assert!(rt; refusal(board) == DAMAGED, "with {words:?}");
+            let board = Image::New(1030).with(rt.alloc(), &words)?;
+            assert!(rt;
+                refusal(board) == Some(StartFault::Damaged),
+                "with {words:?}"
+            );
         }
     }
     Ok(())
