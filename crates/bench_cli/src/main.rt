@@ -7,6 +7,7 @@ ghost use Rattle.script_output.specs.Faults.{status_of};
 
 use card_bench::run_on;
 use card_file::{Asked, CardFault, NoBoard, board_of, read_words};
+use card_turns::Bench;
 use script_output::RunFault;
 use std::env;
 use std::io::{self, BufReader, ErrorKind};
@@ -68,7 +69,7 @@ fn run_asked(rt: &HostRuntime) -> Result<Result<(), RunFault>, CardFault> {
         Err(fault) => return Ok(Err(fault)),
     };
     match board_of(rt, asked) {
-        Ok(board) => Ok(run_on(board, &mut reader, &mut io::writer(rt))),
+        Ok(board) => Ok(run_on::<Bench<_>, _, _>(board, &mut reader, &mut io::writer(rt))),
         Err(NoBoard::Memory) => Ok(Err(RunFault::Memory)),
         Err(NoBoard::Card(fault)) => Err(fault),
     }

@@ -2,7 +2,8 @@
 //! before the command or after it.
 
 use crate::replies::is_reply;
-use card_bench::{Bench, Item, Turn};
+use bench_turns::{Item, Turn};
+use card_turns::Bench;
 use card_vectors::fixtures::formatted;
 use link_vectors::fixtures::framed;
 use simulated_boards::FaultBoard;

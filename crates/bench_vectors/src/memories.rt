@@ -1,6 +1,7 @@
 //! Power-on undoes a journal.
 
-use card_bench::{Bench, Item, Turn};
+use bench_turns::{Item, Turn};
+use card_turns::Bench;
 use card_vectors::fixtures::formatted;
 use simulated_boards::CutBoard;
 use std::test::Fail;

@@ -1,6 +1,6 @@
 //! Checks the result of a turn.
 
-use card_bench::Item;
+use bench_turns::Item;
 
 /// Returns true if the card's end sent this block.
 pub fn is_reply(trace: &[Item; 1], wanted: &[u8]) -> bool {

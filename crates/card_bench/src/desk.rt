@@ -15,10 +15,8 @@ ghost use Rattle.script_output.specs.Printouts.{prints_nothing, text_of};
 
 use crate::exchange::{Ends, exchange};
 use bench_lines::Order;
-use bench_turns::Turn;
-use card_turns::Bench;
+use bench_turns::{Turn, TurnPlayer};
 use kept_board::Followed;
-use nvm_board::{Armed, Faultless, Socket};
 use script_effects::{Blocks, Ending, Line, LineResult};
 use script_output::{PrintedText, RunFault};
 use std::io::Write;
@@ -27,13 +25,13 @@ use t1_link::{AnswerBytes, BlockBytes, ReaderEnd};
 
 /// A bench, the reader's end, and the line. Pending faults of the line survive a power-off.
 #[derive(Drop)]
-pub struct Desk<B: Socket> {
-    ends: Ends<B>,
+pub struct Desk<P: TurnPlayer> {
+    ends: Ends<P>,
     /// True while the two ends are in step, so that commands go.
     in_step: bool,
 }
 
-impl<B: Socket> Model for Desk<B> {
+impl<P: TurnPlayer> Model for Desk<P> {
     ghost use Rattle.std.specs.Coded.{codes};
     ghost use Rattle.std.specs.Prelude.{◌≢◌, IsTrue};
     ghost use Rattle.t1_link.specs.declared.reader_end.Phase.TheVariants.{Busy};
@@ -45,7 +43,11 @@ impl<B: Socket> Model for Desk<B> {
     ghost coded = { Prim.hlevel (codes, session_code) };
 
     ghost view = { λ d. record {
-      desk = record { bench = d.ends.bench; reader = reader_there d.in_step d.ends.reader; line = d.ends.line };
+      desk = record {
+        bench = P.state d.ends.bench;
+        reader = reader_there d.in_step d.ends.reader;
+        line = d.ends.line;
+      };
       answer = d.ends.reader.answer;
       block = d.ends.blocks.toward_reader;
     } };
@@ -53,16 +55,16 @@ impl<B: Socket> Model for Desk<B> {
     ghost invariant = { λ d. IsTrue d.in_step → d.ends.reader.phase ≢ Busy };
 }
 
-impl<B: Socket> Desk<B> {
+impl<P: TurnPlayer> Desk<P> {
     /// Returns a desk with this board, power off, and a perfect line.
-    pub fn new(board: B) -> Desk<B>
-        ensures bench { result.desk.bench ≡ off (record (B.facts board) { dark = true }) }
+    pub fn new(board: P::Board) -> Desk<P>
+        ensures bench { result.desk.bench ≡ off (record (P.Board.facts board) { dark = true }) }
         ensures reader { result.desk.reader ≡ None }
         ensures line { result.desk.line ≡ perfect_line }
     {
         Desk {
             ends: Ends {
-                bench: Bench::new(board),
+                bench: P::new(board),
                 reader: ReaderEnd::new(),
                 line: Line::new(),
                 blocks: Blocks {
@@ -75,8 +77,8 @@ impl<B: Socket> Desk<B> {
     }
 
     /// The board, as it is.
-    pub fn board(&self) -> &B
-        ensures { B.facts result.now ≡ bench_facts self.now.desk.bench }
+    pub fn board(&self) -> &P::Board
+        ensures { P.Board.facts result.now ≡ bench_facts self.now.desk.bench }
     {
         self.ends.bench.board()
     }
@@ -98,7 +100,10 @@ impl<B: Socket> Desk<B> {
     }
 }
 
-impl<B: Socket + Followed> Desk<B> {
+impl<P: TurnPlayer> Desk<P>
+where
+    P::Board: Followed,
+{
     /// Prints the result of the last line, if the board's follower has all writes.
     /// Without output it asks neither the follower nor the writer.
     ///
@@ -116,10 +121,10 @@ impl<B: Socket + Followed> Desk<B> {
         ensures unwritten { result ≡ Err RunFault.Write → (size : ℕ) × Appends (W.contents writer.old)
             (W.contents writer.new) (take size (text_of (printed_at line_result self.now))) }
         ensures unkept { result ≡ Err RunFault.Unkept → W.contents writer.new ≡ W.contents writer.old }
-        ensures kept { OnOk result (printed_at line_result self.now ≢ prints_nothing → (board : B)
-            × (B.facts board ≡ bench_facts self.now.desk.bench) × (B.has_kept board ≡ true)) }
-        ensures behind { result ≡ Err RunFault.Unkept → (board : B)
-            × (B.facts board ≡ bench_facts self.now.desk.bench) × (B.has_kept board ≡ false) }
+        ensures kept { OnOk result (printed_at line_result self.now ≢ prints_nothing → (board : P.Board)
+            × (P.Board.facts board ≡ bench_facts self.now.desk.bench) × (P.Board.has_kept board ≡ true)) }
+        ensures behind { result ≡ Err RunFault.Unkept → (board : P.Board)
+            × (P.Board.facts board ≡ bench_facts self.now.desk.bench) × (P.Board.has_kept board ≡ false) }
         ensures fault { IfErr result (λ fault. (fault ≡ RunFault.Write) ⊎ (fault ≡ RunFault.Unkept)) }
         ensures speaks { OnErr result (printed_at line_result self.now ≢ prints_nothing) }
     {
@@ -131,7 +136,7 @@ impl<B: Socket + Followed> Desk<B> {
     }
 }
 
-impl<B: Armed + Faultless> Desk<B> {
+impl<P: TurnPlayer> Desk<P> {
     /// Runs the order of a line, with its bytes, and returns the result.
     #[tactic(auto, using(script_effects::proofs::DeskTurns::off_taken, script_effects::proofs::DeskTurns::block_taken))]
     pub fn perform(&mut self, order: Order, given: &[u8]) -> LineResult

@@ -9,17 +9,15 @@ ghost use Rattle.card_bench.specs.EndsParts.{ends_of};
 ghost use Rattle.script_effects.specs.ExchangeValues.{ended_of, follows_of, next_block, HasPower};
 ghost use Rattle.bench_turns.specs.Plays.{IsGood};
 
-use bench_turns::{Turn, TurnResult};
-use card_turns::Bench;
-use nvm_board::{Faultless, Socket};
+use bench_turns::{Turn, TurnPlayer, TurnResult};
 use script_effects::{Blocks, Ending, LINE_BLOCKS, Line, Toward, begin, hear, wait};
 use std::ops::ControlFlow;
 use t1_link::ReaderEnd;
 
 /// Both ends of the link, the line, and the blocks under way.
 #[derive(Drop)]
-pub(crate) struct Ends<B: Socket> {
-    pub bench: Bench<B>,
+pub(crate) struct Ends<P: TurnPlayer> {
+    pub bench: P,
     /// Stores the answer to the last command that has one.
     pub reader: ReaderEnd,
     pub line: Line,
@@ -28,13 +26,13 @@ pub(crate) struct Ends<B: Socket> {
 
 /// Sends a command, and passes blocks until the exchange ends.
 /// At most 1,000 blocks pass.
-pub(crate) fn exchange<B: Socket + Faultless>(ends: &mut Ends<B>, command: &[u8]) -> Ending
+pub(crate) fn exchange<P: TurnPlayer>(ends: &mut Ends<P>, command: &[u8]) -> Ending
     requires idle { ends.old.reader.phase ≢ Busy }
     requires size { HasBetween 1 COMMAND_LIMIT command.now }
-    requires bench { HasPower ends.old.bench }
-    ensures exchanged { Exchanged (ends_of ends.old) command.now (ends_of ends.new)
+    requires bench { HasPower (P.state ends.old.bench) }
+    ensures exchanged { Exchanged (ends_of P.state ends.old) command.now (ends_of P.state ends.new)
         (ended_of result ends.new.reader.answer) }
-    ensures good { IsGood ends.new.bench }
+    ensures good { IsGood (P.state ends.new.bench) }
     ensures idle { GoesOn (ended_of result ends.new.reader.answer) → ends.new.reader.phase ≢ Busy }
 {
     match begin(&mut ends.reader, &mut ends.blocks, command) {
@@ -44,12 +42,12 @@ pub(crate) fn exchange<B: Socket + Faultless>(ends: &mut Ends<B>, command: &[u8]
 }
 
 /// Passes at most `limit` blocks, until the exchange ends.
-fn pass_blocks<B: Socket + Faultless>(ends: &mut Ends<B>, first: Toward, limit: u16) -> Ending
+fn pass_blocks<P: TurnPlayer>(ends: &mut Ends<P>, first: Toward, limit: u16) -> Ending
     requires busy { ends.old.reader.phase ≡ Busy }
-    requires bench { HasPower ends.old.bench }
-    ensures run { Exchanges limit (ends_of ends.old) (next_block first ends.old.blocks)
-        (ends_of ends.new) (ended_of result ends.new.reader.answer) }
-    ensures good { IsGood ends.new.bench }
+    requires bench { HasPower (P.state ends.old.bench) }
+    ensures run { Exchanges limit (ends_of P.state ends.old) (next_block first ends.old.blocks)
+        (ends_of P.state ends.new) (ended_of result ends.new.reader.answer) }
+    ensures good { IsGood (P.state ends.new.bench) }
     ensures idle { GoesOn (ended_of result ends.new.reader.answer) → ends.new.reader.phase ≢ Busy }
 {
     let mut toward = first;
@@ -64,16 +62,16 @@ fn pass_blocks<B: Socket + Faultless>(ends: &mut Ends<B>, first: Toward, limit: 
 
 /// Passes a block, and returns the next destination or the end.
 /// If the block doesn't arrive, the reader's end times out.
-fn pass<B: Socket + Faultless>(ends: &mut Ends<B>, toward: Toward) -> ControlFlow<Ending, Toward>
+fn pass<P: TurnPlayer>(ends: &mut Ends<P>, toward: Toward) -> ControlFlow<Ending, Toward>
     requires busy { ends.old.reader.phase ≡ Busy }
-    requires bench { HasPower ends.old.bench }
-    ensures good { IsGood ends.new.bench }
-    ensures power { OnOk (follows_of result ends.new.blocks ends.new.reader.answer) (IsOn ends.new.bench) }
+    requires bench { HasPower (P.state ends.old.bench) }
+    ensures good { IsGood (P.state ends.new.bench) }
+    ensures power { OnOk (follows_of result ends.new.blocks ends.new.reader.answer) (IsOn (P.state ends.new.bench)) }
     ensures busy { OnOk (follows_of result ends.new.blocks ends.new.reader.answer) (ends.new.reader.phase ≡ Busy) }
     ensures idle { IfErr (follows_of result ends.new.blocks ends.new.reader.answer)
         (λ ended. GoesOn ended → ends.new.reader.phase ≢ Busy) }
-    ensures passes { Passes (ends_of ends.old) (next_block toward ends.old.blocks)
-        (ends_of ends.new) (follows_of result ends.new.blocks ends.new.reader.answer) }
+    ensures passes { Passes (ends_of P.state ends.old) (next_block toward ends.old.blocks)
+        (ends_of P.state ends.new) (follows_of result ends.new.blocks ends.new.reader.answer) }
 {
     match toward {
         Toward::Card => {

@@ -8,6 +8,5 @@ mod script;
 pub use bench_lines::{COMMAND_LIMIT, Order};
 pub use bench_turns::{Item, Turn};
 pub use card_boards::{NoCard, factory_board, factory_board_of, image_board};
-pub use card_turns::Bench;
 pub use desk::Desk;
 pub use script::{run, run_on};

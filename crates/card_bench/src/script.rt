@@ -8,10 +8,12 @@ ghost use Rattle.command_base.specs.Finding.{HasCard};
 
 use crate::desk::Desk;
 use bench_lines::{GivenBytes, LineBytes, LineEnd, LineFault, Order, SCRIPT_LIMIT, read_line};
+use bench_turns::TurnPlayer;
 use card_boards::factory_board;
 use kept_board::Followed;
-use nvm_board::{Armed, Faultless, has_no_fault};
+use nvm_board::has_no_fault;
 use script_output::{NO_TEXT, RunFault};
+use simulated_boards::CutBoard;
 use std::alloc::Global;
 use std::io::{BufRead, Write};
 
@@ -24,7 +26,7 @@ use std::io::{BufRead, Write};
 /// `Memory` before anything is read; `BadLine` at the first line that is invalid or too long, after the output of the
 /// lines before it; `Read` if the reader fails, or the script has more than 16,777,216 bytes; `Write` if the writer
 /// fails, or takes nothing.
-pub fn run<R: BufRead, W: Write>(
+pub fn run<P: TurnPlayer<Board = CutBoard> + Drop, R: BufRead, W: Write>(
     alloc: Global,
     reader: &mut R,
     writer: &mut W,
@@ -50,7 +52,7 @@ pub fn run<R: BufRead, W: Write>(
     let Ok(board) = factory_board(alloc) else {
         return Err(RunFault::Memory);
     };
-    run_on(board, reader, writer)
+    run_on::<P, _, _>(board, reader, writer)
 }
 
 /// Runs a script on the card in a board's memory.
@@ -60,34 +62,39 @@ pub fn run<R: BufRead, W: Write>(
 ///
 /// Those of `run` but `Memory`, and `Unkept` if the follower did not take a write: then the line has no answer, and no
 /// line after it runs.
-pub fn run_on<B: Armed + Faultless + Followed + Drop, R: BufRead, W: Write>(
-    board: B,
+pub fn run_on<P: TurnPlayer + Drop, R: BufRead, W: Write>(
+    board: P::Board,
     reader: &mut R,
     writer: &mut W,
 ) -> Result<(), RunFault>
-    requires { HasCard (B.facts board).words }
+where
+    P::Board: Followed,
+    requires { HasCard (P.Board.facts board).words }
     ensures done { OnOk result (IfSome (R.remaining reader.old)
-        (λ script. IsRunToEnd (desk_of (B.facts board)) script (W.contents writer.old) (W.contents writer.new))) }
+        (λ script. IsRunToEnd (desk_of (P.Board.facts board)) script (W.contents writer.old)
+        (W.contents writer.new))) }
     ensures stopped { IfErr result (λ fault.
-        RunStopsBy (desk_of (B.facts board)) fault (R.remaining reader.old) (R.remaining reader.new)
+        RunStopsBy (desk_of (P.Board.facts board)) fault (R.remaining reader.old) (R.remaining reader.new)
         (W.contents writer.old) (W.contents writer.new)) }
     ensures memory { result ≢ Err RunFault.Memory }
     // The board that lacks a write is that of the line without an answer.
-    ensures behind { result ≡ Err RunFault.Unkept → (left : B) × (B.has_kept left ≡ false)
-        × StopsUnkept (desk_of (B.facts board)) (B.facts left) (R.remaining reader.old) (R.remaining reader.new)
-        (W.contents writer.old) (W.contents writer.new) }
+    ensures behind { result ≡ Err RunFault.Unkept → (left : P.Board) × (P.Board.has_kept left ≡ false)
+        × StopsUnkept (desk_of (P.Board.facts board)) (P.Board.facts left) (R.remaining reader.old)
+        (R.remaining reader.new) (W.contents writer.old) (W.contents writer.new) }
 {
     has_no_fault(&board);
-    let mut desk = Desk::new(board);
+    let mut desk: Desk<P> = Desk::new(board);
     run_lines(&mut desk, reader, writer)
 }
 
 /// Runs the lines of a script on a desk.
-fn run_lines<B: Armed + Faultless + Followed, R: BufRead, W: Write>(
-    desk: &mut Desk<B>,
+fn run_lines<P: TurnPlayer, R: BufRead, W: Write>(
+    desk: &mut Desk<P>,
     reader: &mut R,
     writer: &mut W,
 ) -> Result<(), RunFault>
+where
+    P::Board: Followed,
     requires { IsGood desk.old.desk.bench }
     ensures done { OnOk result (IfSome (R.remaining reader.old)
         (λ script. IsRunToEnd desk.old.desk script (W.contents writer.old) (W.contents writer.new))) }
@@ -95,8 +102,8 @@ fn run_lines<B: Armed + Faultless + Followed, R: BufRead, W: Write>(
         RunStopsBy desk.old.desk fault (R.remaining reader.old) (R.remaining reader.new)
         (W.contents writer.old) (W.contents writer.new)) }
     ensures memory { result ≢ Err RunFault.Memory }
-    ensures behind { result ≡ Err RunFault.Unkept → (left : B) × (B.has_kept left ≡ false)
-        × StopsUnkept desk.old.desk (B.facts left) (R.remaining reader.old) (R.remaining reader.new)
+    ensures behind { result ≡ Err RunFault.Unkept → (left : P.Board) × (P.Board.has_kept left ≡ false)
+        × StopsUnkept desk.old.desk (P.Board.facts left) (R.remaining reader.old) (R.remaining reader.new)
         (W.contents writer.old) (W.contents writer.new) }
 {
     let mut line = LineBytes::new();

@@ -2,6 +2,8 @@
 
 use crate::scripts::{ends_so, outcome_of, status_of};
 use card_bench::run;
+use card_turns::Bench;
+use simulated_boards::CutBoard;
 use std::alloc::Global;
 use std::io::{self, BufRead, Error, ErrorKind, Read, Write};
 use std::process::Abort;
@@ -308,7 +310,11 @@ fn written_to(
         failing,
         fails_at,
     };
-    let status = status_of(run(alloc, &mut script.as_bytes(), &mut writer));
+    let status = status_of(run::<Bench<CutBoard>, _, _>(
+        alloc,
+        &mut script.as_bytes(),
+        &mut writer,
+    ));
     Ok((writer, status))
 }
 

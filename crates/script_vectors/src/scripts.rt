@@ -1,7 +1,9 @@
 //! Scripts that end without a line feed or at a bad line. The rows test the output of valid lines.
 
 use card_bench::run;
+use card_turns::Bench;
 use script_output::RunFault;
+use simulated_boards::CutBoard;
 use std::alloc::Global;
 use std::io::BufRead;
 
@@ -16,7 +18,7 @@ pub fn status_of(ended: Result<(), RunFault>) -> u8 {
 /// Returns the output and the status of a script's run.
 pub fn outcome_of(alloc: Global, reader: &mut impl BufRead) -> (Vec<u8>, u8) {
     let mut printed = Vec::new(alloc);
-    let status = status_of(run(alloc, reader, &mut printed));
+    let status = status_of(run::<Bench<CutBoard>, _, _>(alloc, reader, &mut printed));
     (printed, status)
 }
 

@@ -3,12 +3,12 @@ use Rattle.std.specs.Prelude.{◌≡◌, ℕ, ℤ, List, Option, None, Some, Res
 use Rattle.std.proofs.Common.{ap, subst, inl, inr}
 use Rattle.bench_lines.specs.Orders.{Order, Free}
 use Rattle.script_output.specs.Printouts.{Print}
-use Rattle.soffitfennel.specs.SessionStates.{SessionState}
-use Rattle.soffitfennel.specs.declared.session.Outcome.{Outcome}
-use Rattle.soffitfennel.specs.declared.session.Outcome.TheVariants as outcome
-use Rattle.soffitfennel.specs.declared.session.Told.{Told}
-use Rattle.soffitfennel.specs.Telling.{AnswersOrder, CallRuns, Copies, ReportsSpace, ReturnsSpace, Tells, TellsBytes}
-use Rattle.soffitfennel.specs.Telling.{outcome_number, print_outcome, told_print}
+use Rattle.card_calls.specs.SessionStates.{SessionState}
+use Rattle.card_calls.specs.declared.outcome.Outcome.{Outcome}
+use Rattle.card_calls.specs.declared.outcome.Outcome.TheVariants as outcome
+use Rattle.card_calls.specs.declared.outcome.Told.{Told}
+use Rattle.card_calls.specs.Telling.{AnswersOrder, CallRuns, Copies, ReportsSpace, ReturnsSpace, Tells, TellsBytes}
+use Rattle.card_calls.specs.Telling.{outcome_number, print_outcome, told_print}
 
 abbrev why-of : Result Told Outcome → Outcome
 why-of (Ok told) = outcome.Done

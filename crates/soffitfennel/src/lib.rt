@@ -1,30 +1,27 @@
 //! The card as a library for C: a card is a pointer that the caller keeps, and doesn't look behind.
 #![tactic(auto)]
 
-mod collected;
 mod handle;
 mod held;
 mod session;
-mod write;
-mod write_log;
 
 ghost use Rattle.std.specs.Prelude.{◌≡◌, ◌≢◌, ◌≤◌, ◌<◌, None, Some, pos, [], length};
 ghost use Rattle.bench_lines.specs.Orders.{IsOrderSized, On, Off, Apdu, Block, Cut, Lose, Garble};
 ghost use Rattle.bench_lines.specs.OrderViews.{order_with};
 ghost use Rattle.command_base.specs.Finding.{HasCard};
 ghost use Rattle.simulated_boards.specs.Cut.{cut_facts};
-ghost use Rattle.soffitfennel.specs.SessionStates.{begun_at};
-ghost use Rattle.soffitfennel.specs.Telling.{AnswersOrder, FitsCall, IsFactoryFresh, ReadsWords, RefusesCall};
-ghost use Rattle.soffitfennel.specs.Telling.{RefusesWords, ReturnsSpace, TakesFrom, TakesWrite, Tells};
-ghost use Rattle.soffitfennel.specs.Telling.{TellsBytes, TellsWords, inserted, outcome_number, refusal_of};
-ghost use Rattle.soffitfennel.specs.declared.write.TheConstants.{WRITE_BYTES};
+ghost use Rattle.card_calls.specs.SessionStates.{begun_at};
+ghost use Rattle.card_calls.specs.Telling.{AnswersOrder, FitsCall, IsFactoryFresh, ReadsWords, RefusesCall};
+ghost use Rattle.card_calls.specs.Telling.{RefusesWords, ReturnsSpace, TakesFrom, TakesWrite, Tells};
+ghost use Rattle.card_calls.specs.Telling.{TellsBytes, TellsWords, inserted, outcome_number, refusal_of};
+ghost use Rattle.card_calls.specs.declared.write.TheConstants.{WRITE_BYTES};
 
 use crate::handle::Handle;
-use crate::session::{
-    Outcome, Session, Told, block_fits, board_of, command_fits, copy, order_fits,
-};
-use crate::write::{WRITE_BYTES, Write};
+use crate::session::Session;
 use card_bench::{Order, factory_board};
+use card_calls::{
+    Outcome, Told, WRITE_BYTES, Write, block_fits, board_of, command_fits, copy, order_fits,
+};
 use core::mem::replace_with;
 use simulated_boards::CutBoard;
 use std::alloc::Global;

@@ -13,12 +13,13 @@ use Rattle.card_bench.proofs.exchange.pass.Goals as goal
 
 pub returns-in-Reply-clause-passes : goal.returns-in-Reply-clause-passes
 returns-in-Reply-clause-passes g c =
+    let state = g.P.TurnPlayer.state in
     let put = c.put.new.block in
     let came = sym c.put.ensures.arrives ∙ ap (λ (b : Bool). if b then Some put else None) c.if-not-put.false
     ∙ ap (λ (got : List ℕ). Some got) (sym c.deref.ensures.0) in
     subst (λ (t : Toward). Passes
-    (ends_of c.args.ends.now) (next_block t c.args.ends.now.blocks)
-    (record { bench = c.turn_well.new.self; reader = c.args.ends.now.reader; line = c.put.new.self })
+    (ends_of state c.args.ends.now) (next_block t c.args.ends.now.blocks)
+    (record { bench = state c.turn_well.new.self; reader = c.args.ends.now.reader; line = c.put.new.self })
     (Ok (toward_reader c.turn_well.new.reply)))
     (sym c.in-Card.is)
     (takes_there _ _ _ _ _ _ c.deref.result.now (Ok (toward_reader c.turn_well.new.reply)) c.put.ensures.after came
@@ -31,12 +32,14 @@ returns-in-Reply-clause-power g c =
 
 pub returns-in_default-clause-passes : goal.returns-in_default-clause-passes
 returns-in_default-clause-passes g c =
+    let state = g.P.TurnPlayer.state in
     let put = c.put.new.block in
     let came = sym c.put.ensures.arrives ∙ ap (λ (b : Bool). if b then Some put else None) c.if-not-put.false
     ∙ ap (λ (got : List ℕ). Some got) (sym c.deref.ensures.0) in
     subst (λ (t : Toward). Passes
-    (ends_of c.args.ends.now) (next_block t c.args.ends.now.blocks)
-    (record { bench = c.turn_well.new.self; reader = c.args.ends.now.reader; line = c.put.new.self }) (Err power_lost))
+    (ends_of state c.args.ends.now) (next_block t c.args.ends.now.blocks)
+    (record { bench = state c.turn_well.new.self; reader = c.args.ends.now.reader; line = c.put.new.self })
+    (Err power_lost))
     (sym c.in-Card.is)
     (takes_there _ _ _ _ _ _ c.deref.result.now (Err power_lost) c.put.ensures.after came
     (lost-so c.turn_well.result c.turn_well.new.reply c.deref.result.now _ _ c.requires.bench.power

@@ -25,7 +25,7 @@ loop-preserved g c =
       power = c.in-Continue.ensures.power;
       within = omega arith;
       run = goes_on _ _ _ _ _ _ c.loop.invariant.run
-          (ends_of c.pass.new.ends) (next_block c.in-Continue.next c.pass.new.ends.blocks)
+          (ends_of g.P.TurnPlayer.state c.pass.new.ends) (next_block c.in-Continue.next c.pass.new.ends.blocks)
           (c.args.limit - (c.loop.counter + 1)) one c.in-Continue.ensures.passes;
     }
 

@@ -10,9 +10,10 @@ use Rattle.card_bench.proofs.exchange.pass_blocks.Given as goal
 abbrev pub invariant-loop : goal.invariant-loop
 invariant-loop g l = record {
   busy : l.ends.reader.phase ≡ Busy;
-  good : IsGood l.ends.bench;
-  power : IsOn l.ends.bench;
+  good : IsGood (g.P.TurnPlayer.state l.ends.bench);
+  power : IsOn (g.P.TurnPlayer.state l.ends.bench);
   within : l.counter ≤ l.limit;
-  run : HasPassed l.limit (ends_of l.initial.ends) (next_block l.initial.toward l.initial.ends.blocks)
-      (l.limit - l.counter) (ends_of l.ends) (next_block l.toward l.ends.blocks);
+  run : HasPassed l.limit (ends_of g.P.TurnPlayer.state l.initial.ends)
+      (next_block l.initial.toward l.initial.ends.blocks) (l.limit - l.counter)
+      (ends_of g.P.TurnPlayer.state l.ends) (next_block l.toward l.ends.blocks);
 }

@@ -120,8 +120,8 @@ returns-in_err-answer-clause-behind g c = λ returned.
     c.in_err-answer.ensures.speaks in (
       behind.0,
       behind.2,
-      subst (λ (w : Option (List ℕ)). StopsUnkept c.args.desk.now.desk (g.B.Board.facts behind.0) script left held w)
-          (sym (c.in_err-answer.ensures.unkept unkept))
+      subst (λ (w : Option (List ℕ)). StopsUnkept c.args.desk.now.desk (g.P.Board.Board.facts behind.0) script left
+          held w) (sym (c.in_err-answer.ensures.unkept unkept))
           (is_unanswered_by _ _ _ _ _ _ _ _ _ c.in-Ok.end _ _ _ _ _ _ behind.1 c.loop-number.invariant.so_far
           c.in-Ok.ensures.line c.in-Ok.ensures.counted c.read_line.ensures.taken good
           c.perform-line_result.ensures.performs

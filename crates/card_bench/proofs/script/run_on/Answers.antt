@@ -6,7 +6,7 @@ use Rattle.card_bench.proofs.script.run_on.Goals as goal
 
 pub returns-clause-done : goal.returns-clause-done
 returns-clause-done g c =
-    let first = desk_is c.new-desk.result.desk (g.B.Board.facts c.args.board) c.new-desk.ensures.bench
+    let first = desk_is c.new-desk.result.desk (g.P.Board.Board.facts c.args.board) c.new-desk.ensures.bench
     c.new-desk.ensures.reader c.new-desk.ensures.line in
     subst (λ (d : Desk). OnOk c.run_lines.result (IfSome (g.R.Read.remaining c.args.reader.now)
     (λ script. IsRunToEnd d script (g.W.Write.contents c.args.writer.now)
@@ -14,7 +14,7 @@ returns-clause-done g c =
 
 pub returns-clause-stopped : goal.returns-clause-stopped
 returns-clause-stopped g c =
-    let first = desk_is c.new-desk.result.desk (g.B.Board.facts c.args.board) c.new-desk.ensures.bench
+    let first = desk_is c.new-desk.result.desk (g.P.Board.Board.facts c.args.board) c.new-desk.ensures.bench
     c.new-desk.ensures.reader c.new-desk.ensures.line in
     subst (λ (d : Desk). IfErr c.run_lines.result (λ fault. RunStopsBy d fault (g.R.Read.remaining c.args.reader.now)
     (g.R.Read.remaining c.run_lines.new.reader) (g.W.Write.contents c.args.writer.now)
@@ -22,12 +22,12 @@ returns-clause-stopped g c =
 
 pub returns-clause-behind : goal.returns-clause-behind
 returns-clause-behind g c = λ unkept.
-    let first = desk_is c.new-desk.result.desk (g.B.Board.facts c.args.board) c.new-desk.ensures.bench
+    let first = desk_is c.new-desk.result.desk (g.P.Board.Board.facts c.args.board) c.new-desk.ensures.bench
     c.new-desk.ensures.reader c.new-desk.ensures.line in
     let behind = c.run_lines.ensures.behind unkept in (
       behind.0,
       behind.1,
-      subst (λ (d : Desk). StopsUnkept d (g.B.Board.facts behind.0) (g.R.Read.remaining c.args.reader.now)
+      subst (λ (d : Desk). StopsUnkept d (g.P.Board.Board.facts behind.0) (g.R.Read.remaining c.args.reader.now)
           (g.R.Read.remaining c.run_lines.new.reader) (g.W.Write.contents c.args.writer.now)
           (g.W.Write.contents c.run_lines.new.writer)) first behind.2,
     )

@@ -11,9 +11,9 @@ pub returns-in-Some : goal.returns-in-Some
 returns-in-Some g c =
     let good = subst (λ (d : DeskState). IsGood d.desk.bench) (sym c.self.view_is) c.requires in
     subst (λ (d : DeskState). prints_free c.in-Some.free ≡ free_shown d.desk.bench) c.self.view_is
-    (free-told c.self.inside.ends.bench c.in-Some.free good c.in-Some.ensures)
+    (free-told (g.P.TurnPlayer.state c.self.inside.ends.bench) c.in-Some.free good c.in-Some.ensures)
 
 pub returns-in-None : goal.returns-in-None
 returns-in-None g c =
     subst (λ (d : DeskState). prints_mute ≡ free_shown d.desk.bench) c.self.view_is
-    (none-told c.self.inside.ends.bench c.in-None.ensures)
+    (none-told (g.P.TurnPlayer.state c.self.inside.ends.bench) c.in-None.ensures)

@@ -11,7 +11,7 @@ returns-clause-taken g c =
     let turned = c.turn_well-turned in
     let reader = c.reset.new.self in
     subst (λ (d : DeskState). TakesTurn c.args.turn d.desk (record {
-      bench = turned.new.self;
+      bench = g.P.TurnPlayer.state turned.new.self;
       reader = reader_there c.is_started-self-inside.result reader;
       line = c.self.inside.ends.line;
     }) (print_of c.of_turn.result reader.answer turned.new.reply)) c.self.view_is

@@ -5,10 +5,10 @@ use Rattle.nvm_board.specs.History.{Log}
 use Rattle.bench_lines.specs.OrderViews.{order_with}
 use Rattle.script_effects.specs.DeskStates.{print_of, printed_at}
 use Rattle.script_output.specs.Printouts.{Print}
-use Rattle.soffitfennel.specs.CollectingParts.{CollectsOr, IsInStep}
-use Rattle.soffitfennel.specs.SessionStates.{SessionState}
-use Rattle.soffitfennel.specs.Telling.{IsPerformed, LogsWrites, LosesWrites}
-use Rattle.soffitfennel.proofs.OrderLaws.{few_runs, logs_at, loses_at, made_runs, order_logged, state_of}
+use Rattle.card_calls.specs.Collecting.{CollectsOr, IsInStep}
+use Rattle.card_calls.specs.SessionStates.{SessionState}
+use Rattle.card_calls.specs.Telling.{IsPerformed, LogsWrites, LosesWrites}
+use Rattle.card_calls.proofs.OrderLaws.{few_runs, logs_at, loses_at, made_runs, order_logged, state_of}
 use Rattle.soffitfennel.proofs.session.Session.perform.Goals as goal
 
 pub invariant_of-self : goal.invariant_of-self

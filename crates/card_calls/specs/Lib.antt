@@ -1,0 +1,4 @@
+pub mod Collecting
+pub mod LoggedWrites
+pub mod SessionStates
+pub mod Telling

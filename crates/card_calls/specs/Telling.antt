@@ -1,0 +1,244 @@
+-- The outcome of a call from C, and its bytes.
+use Rattle.std.specs.Prelude.{◌≡◌, ◌≢◌, ◌≤◌, ◌<◌, ◌*◌, ◌⊎◌, ℕ, ℤ, pos, Bool, true, false, List, [], ◌∷◌, Option, None}
+use Rattle.std.specs.Prelude.{Some, Result, Ok, Err, length, take}
+use Rattle.nvm_board.specs.Aims.{WritesRuns}
+use Rattle.nvm_board.specs.Facts.{Facts, IsMemory}
+use Rattle.nvm_board.specs.History.{Log, Run, replayed}
+use Rattle.simulated_boards.specs.Given.{board_with}
+use Rattle.card_start.specs.Factory.{factory_card}
+use Rattle.command_base.specs.Finding.{Finds, HasCard}
+use Rattle.bench_lines.specs.Orders.{Order, IsOrderSized, Free}
+use Rattle.bench_turns.specs.BenchStates.{bench_facts}
+use Rattle.bench_turns.specs.Guessing.{GuessesFew}
+use Rattle.bench_turns.specs.Plays.{IsGood}
+use Rattle.script_effects.specs.DeskStates.{print_of}
+use Rattle.script_effects.specs.Performing.{Performs}
+use Rattle.script_effects.specs.Prints.{IsJustWritten}
+use Rattle.script_output.specs.Printouts.{Print}
+use Rattle.script_output.specs.Printouts.{prints_nothing, prints_atr, prints_mute, prints_dark, prints_lost}
+use Rattle.script_output.specs.Printouts.{prints_bytes}
+use Rattle.script_output.specs.Printouts.{prints_free}
+use Rattle.card_calls.specs.SessionStates.{SessionState, begun_at}
+use Rattle.card_calls.specs.LoggedWrites.{image_bytes, run_of}
+use Rattle.card_calls.specs.declared.outcome.Outcome.{Outcome}
+use Rattle.card_calls.specs.declared.outcome.Outcome.TheVariants as outcome
+use Rattle.card_calls.specs.declared.outcome.Told.{Told}
+use Rattle.card_calls.specs.declared.sizes.TheConstants.{ROOM}
+use Rattle.card_calls.specs.declared.write.Write.{Write}
+use Rattle.card_calls.specs.declared.write.TheConstants.{WORD_BYTES}
+
+-- the number that C sees
+abbrev pub outcome_number : Outcome → ℤ
+outcome_number outcome.Done = pos 0
+outcome_number outcome.Mute = pos 1
+outcome_number outcome.Dark = pos 2
+outcome_number outcome.Lost = pos 3
+outcome_number outcome.Size = pos 4
+outcome_number outcome.Memory = pos 5
+outcome_number outcome.NoCard = pos 6
+outcome_number outcome.Untaken = pos 7
+outcome_number outcome.Overrun = pos 8
+outcome_number outcome.Absent = pos 9
+
+-- the outcome of an output
+abbrev pub print_outcome : Print → Outcome
+print_outcome prints_nothing = outcome.Done
+print_outcome prints_atr = outcome.Done
+print_outcome prints_mute = outcome.Mute
+print_outcome prints_dark = outcome.Dark
+print_outcome prints_lost = outcome.Lost
+print_outcome (prints_bytes bytes) = outcome.Done
+print_outcome (prints_free free) = outcome.Done
+
+-- the output that a result and its bytes are
+abbrev pub told_print : Told → Print
+told_print told = print_of told.came told.bytes.items told.bytes.items
+
+-- the facts of a session's board
+abbrev pub session_facts : SessionState → Facts
+session_facts s = bench_facts s.desk.bench
+
+-- The device writes of a kept card in an order are those that its board made and logged: each once, in order, with the
+-- words that it left. Put into the words before the order, they make the words after it. The log has room for as many
+-- as the caller. Neither this order nor an earlier one made more.
+pub record HandsOver (was now : SessionState) : Type 0 where
+  pub log : Log
+  pub logs : (session_facts was).log ≡ Some log
+  pub room : log.room ≡ was.room
+  pub made : WritesRuns (session_facts was) (session_facts now)
+  pub fits : length made.runs ≤ was.room
+  pub all : now.untaken ≡ made.runs
+  pub image : (session_facts now).words ≡ replayed (session_facts was).words now.untaken
+  pub whole : (was.overran ≡ false) × (now.overran ≡ false)
+
+-- The writes of an order. A card that isn't kept has none to take.
+pub record LogsWrites (was now : SessionState) : Type 0 where
+  pub unkept : now.room ≡ 0 → now.untaken ≡ []
+  pub kept : 0 < now.room → HandsOver was now
+
+-- The card is kept, and its board made more device writes in the order than there is room for, or did so in an earlier
+-- one.
+pub record LosesWrites (was now : SessionState) : Type 0 where
+  pub kept : 0 < was.room
+  pub log : Log
+  pub logs : (session_facts was).log ≡ Some log
+  pub room : log.room ≡ was.room
+  pub made : WritesRuns (session_facts was) (session_facts now)
+  pub many : (was.overran ≡ true) ⊎ (was.room < length made.runs)
+  pub none : now.untaken ≡ []
+  pub overran : now.overran ≡ true
+
+-- An order runs, and has an output. The memory has a card state after it, the board had no fault, and the guess law
+-- holds.
+pub record IsPerformed (order : Order) (was now : SessionState) (prints : Print) : Type 0 where
+  pub taken : was.untaken ≡ []
+  pub performs : Performs order was.desk now.desk prints
+  pub good : IsGood now.desk.bench
+  pub guesses : GuessesFew was.desk.bench now.desk.bench
+  pub room : now.room ≡ was.room
+
+-- writes of an earlier order are left, so nothing is done
+pub record HasUntaken (was now : SessionState) : Type 0 where
+  pub some : was.untaken ≢ []
+  pub same : now ≡ was
+
+-- the result of an order is the output, and its writes are logged; or writes were left; or it overran
+abbrev pub TellsResult : Order → SessionState → SessionState → Result Told Outcome → Type 0
+TellsResult order was now (Ok told) =
+    IsPerformed order was now (told_print told) × LogsWrites was now
+TellsResult order was now (Err why) = ((why ≡ outcome.Untaken) × HasUntaken was now)
+    ⊎ ((why ≡ outcome.Overrun) × ((prints : Print) × IsPerformed order was now prints) × LosesWrites was now)
+
+-- An order to a card. Without a card nothing is done.
+abbrev pub AnswersOrder : Order → Option SessionState → Option SessionState → Result Told Outcome → Type 0
+AnswersOrder order None now result = (now ≡ None) × (result ≡ Err outcome.Absent)
+AnswersOrder order (Some was) None result = ⊥
+AnswersOrder order (Some was) (Some now) result = TellsResult order was now result
+
+-- A call that runs an order: its outcome is that of the output, for which `Holds` is true; or writes were left, it
+-- overran, or there is no card, for which `Fails` is.
+abbrev pub CallRuns : Order → Option SessionState → Option SessionState → Outcome → (Print → Type 0) → Type 0 → Type 0
+CallRuns order None now result Holds Fails = (now ≡ None) × (result ≡ outcome.Absent) × Fails
+CallRuns order (Some was) None result Holds Fails = ⊥
+CallRuns order (Some was) (Some now) result Holds Fails =
+    ((prints : Print) × IsPerformed order was now prints × (result ≡ print_outcome prints) × Holds prints
+    × LogsWrites was now)
+    ⊎ (Fails × (((result ≡ outcome.Untaken) × HasUntaken was now)
+    ⊎ ((result ≡ outcome.Overrun) × ((prints : Print) × IsPerformed order was now prints) × LosesWrites was now)))
+
+-- the buffer begins with these bytes, and their number is returned
+pub record CopiesOut (bytes new : List ℕ) (size : ℕ) : Type 0 where
+  pub size_is : size ≡ length bytes
+  pub copied : take (length bytes) new ≡ bytes
+
+-- the bytes of an output are in the buffer
+abbrev pub Copies : List ℕ → ℕ → Print → Type 0
+Copies new size prints_nothing = size ≡ 0
+Copies new size prints_atr = size ≡ 0
+Copies new size prints_mute = size ≡ 0
+Copies new size prints_dark = size ≡ 0
+Copies new size prints_lost = size ≡ 0
+Copies new size (prints_bytes bytes) = CopiesOut bytes new size
+Copies new size (prints_free free) = size ≡ 0
+
+-- the free space is returned, or zeros
+abbrev pub ReportsSpace : ℕ → ℕ → Print → Type 0
+ReportsSpace blocks entries prints_nothing = (blocks ≡ 0) × (entries ≡ 0)
+ReportsSpace blocks entries prints_atr = (blocks ≡ 0) × (entries ≡ 0)
+ReportsSpace blocks entries prints_mute = (blocks ≡ 0) × (entries ≡ 0)
+ReportsSpace blocks entries prints_dark = (blocks ≡ 0) × (entries ≡ 0)
+ReportsSpace blocks entries prints_lost = (blocks ≡ 0) × (entries ≡ 0)
+ReportsSpace blocks entries (prints_bytes bytes) = (blocks ≡ 0) × (entries ≡ 0)
+ReportsSpace blocks entries (prints_free free) = (blocks ≡ free.blocks) × (entries ≡ free.entries)
+
+-- a call that runs an order without bytes
+pub record Tells (order : Order) (was now : Option SessionState) (number : ℤ) : Type 0 where
+  pub result : Outcome
+  pub number_is : number ≡ outcome_number result
+  pub runs : CallRuns order was now result (λ prints. Unit {0}) (Unit {0})
+
+-- a call that runs an order, and copies its bytes out
+pub record TellsBytes (order : Order) (was now : Option SessionState) (new : List ℕ) (size : ℕ) (number : ℤ)
+    : Type 0 where
+  pub result : Outcome
+  pub number_is : number ≡ outcome_number result
+  pub runs : CallRuns order was now result (Copies new size) (size ≡ 0)
+
+-- a call that returns the free space
+pub record ReturnsSpace (was now : Option SessionState) (blocks entries : ℕ) (number : ℤ) : Type 0 where
+  pub result : Outcome
+  pub number_is : number ≡ outcome_number result
+  pub runs : CallRuns Free was now result (ReportsSpace blocks entries) ((blocks ≡ 0) × (entries ≡ 0))
+
+-- why a size or a number is refused: there is no card, or else it is out of its range
+abbrev pub refusal_of : Option SessionState → Outcome
+refusal_of None = outcome.Absent
+refusal_of (Some was) = outcome.Size
+
+-- a size or a number is out of its range, and nothing was done
+pub record RefusesCall (was now : Option SessionState) (number : ℤ) : Type 0 where
+  pub number_is : number ≡ outcome_number (refusal_of was)
+  pub same : now ≡ was
+
+-- the bytes and the buffer have their sizes
+abbrev pub FitsCall : Order → List ℕ → Type 0
+FitsCall order out = IsOrderSized order × (ROOM ≤ length out)
+
+-- the first state of a card of these words
+abbrev pub inserted : List ℕ → Bool → SessionState
+inserted words kept = begun_at (board_with words) kept
+
+-- a handle has the factory card, in the first state on a new board of 896 blocks, and it isn't kept
+pub record IsFactoryFresh (now : Option SessionState) : Type 0 where
+  pub board : Facts
+  pub begun : now ≡ Some (begun_at board false)
+  pub card : Finds board.words (factory_card 896)
+  pub counts : IsJustWritten board
+  pub uncut : board.pending ≡ None
+
+-- why words are refused: there is too little memory, no board has this number of words, or they have no card
+abbrev pub RefusesWords : List ℕ → ℤ → Type 0
+RefusesWords words number = (number ≡ outcome_number outcome.Memory)
+    ⊎ ((number ≡ outcome_number outcome.Size) × ¬ IsMemory words)
+    ⊎ ((number ≡ outcome_number outcome.NoCard) × IsMemory words × ¬ HasCard words)
+
+-- the words of a card are read, if there is a card and enough memory
+abbrev pub ReadsWords : {V : Type 0} → (V → List ℕ) → Option SessionState → Result V Outcome → Type 0
+ReadsWords items None result = result ≡ Err outcome.Absent
+ReadsWords items (Some now) (Ok read) = items read ≡ (bench_facts now.desk.bench).words
+ReadsWords items (Some now) (Err why) = why ≡ outcome.Memory
+
+-- A call that copies a card's words out: all of them, or none for one of three reasons.
+abbrev pub TellsWords : Option SessionState → List ℕ → List ℕ → ℕ → ℤ → Type 0
+TellsWords None old new size number = (size ≡ 0) × (number ≡ outcome_number outcome.Absent)
+TellsWords (Some now) old new size number = let words = (bench_facts now.desk.bench).words in
+    ((number ≡ outcome_number outcome.Done) × CopiesOut words new size)
+    ⊎ ((number ≡ outcome_number outcome.Size) × (size ≡ length words) × (length old < length words))
+    ⊎ ((number ≡ outcome_number outcome.Memory) × (size ≡ 0))
+
+-- a write is the oldest one that the caller has not taken, or there is none
+abbrev pub TakesOldest : SessionState → SessionState → Option Write → Type 0
+TakesOldest was now None = (was.untaken ≡ []) × (now ≡ was)
+TakesOldest was now (Some write) =
+    (was.untaken ≡ run_of write ∷ now.untaken) × (now ≡ record was { untaken = now.untaken })
+
+-- the oldest write of a handle's card, if there is a card
+abbrev pub TakesFrom : Option SessionState → Option SessionState → Result (Option Write) Outcome → Type 0
+TakesFrom None now result = (now ≡ None) × (result ≡ Err outcome.Absent)
+TakesFrom (Some was) None result = ⊥
+TakesFrom (Some was) (Some now) (Ok write) = TakesOldest was now write
+TakesFrom (Some was) (Some now) (Err why) = ⊥
+
+-- the offset and the bytes in the image of the oldest of these writes, which are the others with it; or no bytes
+abbrev pub CopiesOldest : List Run → List Run → List ℕ → ℕ → ℕ → Type 0
+CopiesOldest [] rest new offset size = (rest ≡ []) × (offset ≡ 0) × (size ≡ 0)
+CopiesOldest (run ∷ others) rest new offset size =
+    (rest ≡ others) × (offset ≡ WORD_BYTES * run.at) × CopiesOut (image_bytes run.words) new size
+
+-- A call that takes a write, with enough room for its bytes: the oldest one, and all else stays.
+abbrev pub TakesWrite : Option SessionState → Option SessionState → List ℕ → ℕ → ℕ → ℤ → Type 0
+TakesWrite None now new offset size number =
+    (now ≡ None) × (number ≡ outcome_number outcome.Absent) × (offset ≡ 0) × (size ≡ 0)
+TakesWrite (Some was) None new offset size number = ⊥
+TakesWrite (Some was) (Some now) new offset size number = (number ≡ outcome_number outcome.Done)
+    × CopiesOldest was.untaken now.untaken new offset size × (now ≡ record was { untaken = now.untaken })

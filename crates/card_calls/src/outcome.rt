@@ -1,0 +1,122 @@
+//! The outcome of a call, and the result of an order with its bytes.
+ghost use Rattle.std.specs.Prelude.{◌≡◌, ◌≤◌, length};
+ghost use Rattle.card_calls.specs.Telling.{Copies, CopiesOut, ReportsSpace, outcome_number, print_outcome, told_print};
+ghost use Rattle.card_calls.specs.declared.sizes.TheConstants.{ROOM};
+
+use card_state::FreeSpace;
+use script_effects::LineResult;
+use t1_link::AnswerBytes;
+
+/// The outcome of a call. C sees its number.
+#[derive(Clone, Copy)]
+pub enum Outcome {
+    /// It was done.
+    Done,
+    /// No answer: power is off, or power-on fails.
+    Mute,
+    /// Power was lost, and is off.
+    Dark,
+    /// The link was lost.
+    Lost,
+    /// A size or a number is out of its range, or a buffer has too little room. Nothing was done.
+    Size,
+    /// There is too little memory.
+    Memory,
+    /// The words are no valid card image.
+    NoCard,
+    /// The caller has not taken all writes of an earlier call. Nothing was done.
+    Untaken,
+    /// A call made more writes than there is room for. The caller's image can't follow any more.
+    Overrun,
+    /// The handle is null.
+    Absent,
+}
+
+impl Outcome {
+    /// Returns the number that C sees.
+    pub fn number(self) -> i32
+        ensures { result ≡ outcome_number self }
+    {
+        match self {
+            Outcome::Done => 0,
+            Outcome::Mute => 1,
+            Outcome::Dark => 2,
+            Outcome::Lost => 3,
+            Outcome::Size => 4,
+            Outcome::Memory => 5,
+            Outcome::NoCard => 6,
+            Outcome::Untaken => 7,
+            Outcome::Overrun => 8,
+            Outcome::Absent => 9,
+        }
+    }
+}
+
+/// The result of an order, and its bytes.
+#[derive(Drop)]
+pub struct Told {
+    pub came: LineResult,
+    pub bytes: AnswerBytes,
+}
+
+impl Told {
+    /// Returns the outcome.
+    pub fn outcome(&self) -> Outcome
+        ensures { result ≡ print_outcome (told_print self.now) }
+    {
+        match self.came {
+            LineResult::Mute => Outcome::Mute,
+            LineResult::Dark => Outcome::Dark,
+            LineResult::Lost => Outcome::Lost,
+            LineResult::Nothing
+            | LineResult::Atr
+            | LineResult::Answer
+            | LineResult::Block
+            | LineResult::Free(_) => Outcome::Done,
+        }
+    }
+
+    /// Copies the bytes into the caller's buffer, and returns their number.
+    pub fn copy_out(&self, out: &mut [u8]) -> usize
+        requires { ROOM ≤ length out.old }
+        ensures { Copies out.new result (told_print self.now) }
+    {
+        match self.came {
+            LineResult::Answer | LineResult::Block => copy(&self.bytes, out),
+            LineResult::Nothing
+            | LineResult::Atr
+            | LineResult::Mute
+            | LineResult::Dark
+            | LineResult::Lost
+            | LineResult::Free(_) => 0,
+        }
+    }
+
+    /// Returns the free space, or none at all if the result is another one.
+    pub fn space(&self) -> FreeSpace
+        ensures { ReportsSpace result.blocks result.entries (told_print self.now) }
+    {
+        match self.came {
+            LineResult::Free(free) => free,
+            LineResult::Nothing
+            | LineResult::Atr
+            | LineResult::Mute
+            | LineResult::Dark
+            | LineResult::Lost
+            | LineResult::Answer
+            | LineResult::Block => FreeSpace {
+                blocks: 0,
+                entries: 0,
+            },
+        }
+    }
+}
+
+/// Copies bytes to the begin of a buffer, and returns their number.
+pub fn copy(bytes: &[u8], out: &mut [u8]) -> usize
+    requires { length bytes.now ≤ length out.old }
+    ensures { CopiesOut bytes.now out.new result }
+{
+    out[..bytes.len()].copy_from_slice(bytes);
+    bytes.len()
+}
