@@ -1,4 +1,4 @@
-use Rattle.std.proofs.Common.{◌≡◌, ◌+◌, ◌-◌, ◌<◌, ℕ, List, slice_index, take, sym, ap, ◌∙◌, subst, arith}
+use Rattle.std.proofs.Common.{◌≡◌, ◌+◌, ◌-◌, ◌<◌, ◌≤◌, ℕ, List, None, slice_index, take, sym, ap, ◌∙◌, subst, arith}
 use Rattle.undo_journal.specs.Memory.{committed}
 use Rattle.block_chain.specs.Chains.{free_chain}
 use Rattle.block_chain.specs.ChainChanges.{OnlyContent}
@@ -11,24 +11,59 @@ use Rattle.undo_journal.specs.laws.Exits.{none_ok}
 use Rattle.undo_journal.specs.laws.Told.{changes_handed, changes_on, changes_within, reads_after, reads_change}
 use Rattle.block_store.proofs.filling.fill.Goals as goal
 
+-- numbers of blocks, in lemmas that read no other fact
+none_less : (n : ℕ) → 0 ≤ n
+none_less n = omega arith
+
+none_below : (k : ℕ) → k < 0 → ⊥
+none_below k below = omega (arith, below)
+
+none_filled_yet : 1 ≤ 0 → ⊥
+none_filled_yet some = omega (arith, some)
+
+none_more : (new old : ℕ) → new ≡ old → new ≡ old + 0
+none_more new old same = omega (arith, same)
+
+one_more : (old i before mid new : ℕ) → new ≡ mid → mid ≡ before + 1 → before ≡ old + i → new ≡ old + (i + 1)
+one_more old i before mid new none one filled = omega (arith, none, one, filled)
+
+all_counted : (old i n new : ℕ) → new ≡ old + i → i ≡ n → new ≡ old + n
+all_counted old i n new counted all = omega (arith, counted, all)
+
+next_within : (i n : ℕ) → i < n → i + 1 ≤ n
+next_within i n lt = omega (arith, lt)
+
+itself : (n : ℕ) → n ≤ n
+itself n = omega arith
+
+at_end : (i n : ℕ) → n ≤ i → i ≤ n → i ≡ n
+at_end i n past within = omega (arith, past, within)
+
+some_filled : (i n : ℕ) → i ≡ n → 1 ≤ n → 1 ≤ i
+some_filled i n all some = omega (arith, all, some)
+
+one_back : (i : ℕ) → i ≡ i + 1 - 1
+one_back i = omega arith
+
 pub loop-i-init : goal.loop-i-init
 loop-i-init g c =
     let m = committed c.args.store.now in
     let read = c.read_head.ensures.store.only.keeps.committed_words in
     record {
-      in_range = omega arith;
+      in_range = none_less c.args.n;
       only = none_filled m _ (take c.args.n (free_chain m)) read;
-      filled = λ k place below low high. absurd (omega (arith, below));
-      last = λ some. absurd (omega (arith, some));
+      filled = λ k place below low high. absurd (none_below k below);
+      last = λ some. absurd (none_filled_yet some);
       page = c.in_ok-first.ensures.page ∙ leads_first m _ (free_chain m) c.requires.free.leads;
-      changes = reads_change 0 _ _ _ c.requires.ready.idle c.in_ok-first.ensures.store;
-      counted = (let none = c.read_head.ensures.store.only.board.writes in omega (arith, none));
+      changes = reads_change 0 c.args.store.now c.read_head.new.store None c.requires.ready.idle
+          c.in_ok-first.ensures.store;
+      counted = none_more _ _ c.read_head.ensures.store.only.board.writes;
     }
 
 pub returns-in_err-fill_block-clause-any_exit : goal.returns-in_err-fill_block-clause-any_exit
 returns-in_err-fill_block-clause-any_exit g c =
     let m = committed c.args.store.now in
-    let lt : c.loop-i._i < c.args.n = omega (arith, c.loop-i-test.true) in
+    let lt : c.loop-i._i < c.args.n = c.loop-i-test.true in
     let only = only_filled m c.args.n c.requires.free
     c.requires.ready.usable.committed_size c.requires.enough c.loop-i._i c.loop-i.page lt c.loop-i.invariant.page
     (committed c.loop-i.store) (committed c.fill_block.new.store) c.from_be_bytes-word.result
@@ -38,7 +73,7 @@ returns-in_err-fill_block-clause-any_exit g c =
 pub returns-in_err-page-clause-any_exit : goal.returns-in_err-page-clause-any_exit
 returns-in_err-page-clause-any_exit g c =
     let m = committed c.args.store.now in
-    let lt : c.loop-i._i < c.args.n = omega (arith, c.loop-i-test.true) in
+    let lt : c.loop-i._i < c.args.n = c.loop-i-test.true in
     let only = only_filled m c.args.n c.requires.free
     c.requires.ready.usable.committed_size c.requires.enough c.loop-i._i c.loop-i.page lt c.loop-i.invariant.page
     (committed c.loop-i.store) (committed c.fill_block.new.store) c.from_be_bytes-word.result
@@ -49,7 +84,7 @@ returns-in_err-page-clause-any_exit g c =
 pub loop-i-preserved : goal.loop-i-preserved
 loop-i-preserved g c =
     let m = committed c.args.store.now in
-    let lt : c.loop-i._i < c.args.n = omega (arith, c.loop-i-test.true) in
+    let lt : c.loop-i._i < c.args.n = c.loop-i-test.true in
     let only = only_filled m c.args.n c.requires.free
     c.requires.ready.usable.committed_size c.requires.enough c.loop-i._i c.loop-i.page lt c.loop-i.invariant.page
     (committed c.loop-i.store) (committed c.fill_block.new.store) c.from_be_bytes-word.result
@@ -69,30 +104,29 @@ loop-i-preserved g c =
     c.loop-i.invariant.changes.ready.usable.committed_size c.in_ok-fill_block.ensures.done
     (subst by_word (sym word) c.loop-i.invariant.filled) in
     record {
-      in_range = omega (arith, lt);
+      in_range = next_within c.loop-i._i c.args.n lt;
       last = λ _. c.loop-i.invariant.page
-          ∙ ap (λ (k : ℕ). slice_index ps k) (let here : c.loop-i._i ≡ c.loop-i._i + 1 - 1 = omega arith in here);
+          ∙ ap (λ (k : ℕ). slice_index ps k) (one_back c.loop-i._i);
       only = subst family (sym read) only;
       filled = subst by_byte word (subst by_words (sym read) filled);
       page = c.in_ok-page.ensures.page
           ∙ next_to_fill m c.args.n c.requires.free c.requires.ready.usable.committed_size c.requires.enough c.loop-i._i
           c.loop-i.page lt c.loop-i.invariant.page _ only;
-      changes = reads_after _ _ _ _ _
-          (changes_on c.loop-i._i 1 _ _ _ _ _ (omega arith) c.loop-i.invariant.changes c.in_ok-fill_block.ensures.store)
+      changes = reads_after (c.loop-i._i + 1) c.args.store.now c.fill_block.new.store c.read_link.new.store None
+          (changes_on c.loop-i._i 1 (c.loop-i._i + 1) c.args.store.now c.loop-i.store c.fill_block.new.store None
+          (itself (c.loop-i._i + 1)) c.loop-i.invariant.changes c.in_ok-fill_block.ensures.store)
           c.in_ok-page.ensures.store;
-      counted = (let none = c.read_link.ensures.store.only.board.writes in
-          let one = c.in_ok-fill_block.ensures.counted in
-          let before = c.loop-i.invariant.counted in
-          omega (arith, none, one, before));
+      counted = one_more _ c.loop-i._i _ _ _ c.read_link.ensures.store.only.board.writes
+          c.in_ok-fill_block.ensures.counted c.loop-i.invariant.counted;
     }
 
 pub returns-clause-found : goal.returns-clause-found
 returns-clause-found g c = λ some.
     let m = committed c.args.store.now in
     let ps = free_chain m in
-    let all : c.loop-i._i ≡ c.args.n = omega (arith, c.loop-i-test.false, c.loop-i.invariant.in_range) in
+    let all = at_end c.loop-i._i c.args.n c.loop-i-test.false c.loop-i.invariant.in_range in
     let last : c.loop-i.last ≡ slice_index ps (c.args.n - 1) =
-    c.loop-i.invariant.last (omega (arith, all, some)) ∙ ap (λ (k : ℕ). slice_index ps (k - 1)) all in
+    c.loop-i.invariant.last (some_filled c.loop-i._i c.args.n all some) ∙ ap (λ (k : ℕ). slice_index ps (k - 1)) all in
     first_run m c.args.n _ c.requires.free c.requires.ready.usable.committed_size c.requires.enough some
     c.in_ok-first.ensures.page last (c.loop-i.invariant.page ∙ ap (λ (k : ℕ). slice_index ps k) all)
 
@@ -109,7 +143,7 @@ pub returns-clause-done : goal.returns-clause-done
 returns-clause-done g c =
     let m = committed c.args.store.now in
     let ps = free_chain m in
-    let all : c.loop-i._i ≡ c.args.n = omega (arith, c.loop-i-test.false, c.loop-i.invariant.in_range) in
+    let all = at_end c.loop-i._i c.args.n c.loop-i-test.false c.loop-i.invariant.in_range in
     let family : ℕ → Type 0 = λ k. AreFilled (committed c.loop-i.store) (take k ps) (filled_word c.args.byte) in
     first_filled (committed c.loop-i.store) ps c.args.n
     c.args.byte c.loop-i.invariant.changes.ready.usable.committed_size (blocks_same m (committed c.loop-i.store)
@@ -121,28 +155,29 @@ returns-in_err-first-clause-done g c = none_ok _ _ _ c.from_residual.ensures.1
 
 pub returns-in_err-first-clause-store : goal.returns-in_err-first-clause-store
 returns-in_err-first-clause-store g c =
-    changes_handed _ _ _ _ _ c.from_residual.ensures.1
-    (reads_change _ _ _ _ c.requires.ready.idle c.in_err-first.ensures.store)
+    changes_handed c.args.n c.args.store.now c.read_head.new.store _ _ c.from_residual.ensures.1
+    (reads_change c.args.n c.args.store.now c.read_head.new.store _ c.requires.ready.idle c.in_err-first.ensures.store)
 
 pub returns-in_err-fill_block-clause-done : goal.returns-in_err-fill_block-clause-done
 returns-in_err-fill_block-clause-done g c = none_ok _ _ _ c.from_residual-in_err-fill_block.ensures.1
 
 pub returns-in_err-fill_block-clause-store : goal.returns-in_err-fill_block-clause-store
 returns-in_err-fill_block-clause-store g c =
-    let lt : c.loop-i._i < c.args.n = omega (arith, c.loop-i-test.true) in
-    changes_handed _ _ _ _ _ c.from_residual-in_err-fill_block.ensures.1
-    (changes_on c.loop-i._i 1 _ _ _ _ _ (omega (arith, lt)) c.loop-i.invariant.changes
-    c.in_err-fill_block.ensures.store)
+    let lt : c.loop-i._i < c.args.n = c.loop-i-test.true in
+    changes_handed c.args.n c.args.store.now c.fill_block.new.store _ _ c.from_residual-in_err-fill_block.ensures.1
+    (changes_on c.loop-i._i 1 c.args.n c.args.store.now c.loop-i.store c.fill_block.new.store _
+    (next_within c.loop-i._i c.args.n lt) c.loop-i.invariant.changes c.in_err-fill_block.ensures.store)
 
 pub returns-in_err-page-clause-done : goal.returns-in_err-page-clause-done
 returns-in_err-page-clause-done g c = none_ok _ _ _ c.from_residual-in_err-page.ensures.1
 
 pub returns-in_err-page-clause-store : goal.returns-in_err-page-clause-store
 returns-in_err-page-clause-store g c =
-    let lt : c.loop-i._i < c.args.n = omega (arith, c.loop-i-test.true) in
-    changes_handed _ _ _ _ _ c.from_residual-in_err-page.ensures.1
-    (reads_after _ _ _ _ _
-    (changes_on c.loop-i._i 1 _ _ _ _ _ (omega (arith, lt)) c.loop-i.invariant.changes c.in_ok-fill_block.ensures.store)
+    let lt : c.loop-i._i < c.args.n = c.loop-i-test.true in
+    changes_handed c.args.n c.args.store.now c.read_link.new.store _ _ c.from_residual-in_err-page.ensures.1
+    (reads_after c.args.n c.args.store.now c.fill_block.new.store c.read_link.new.store _
+    (changes_on c.loop-i._i 1 c.args.n c.args.store.now c.loop-i.store c.fill_block.new.store None
+    (next_within c.loop-i._i c.args.n lt) c.loop-i.invariant.changes c.in_ok-fill_block.ensures.store)
     c.in_err-page.ensures.store)
 
 pub returns-in_err-first-clause-any_exit : goal.returns-in_err-first-clause-any_exit
@@ -162,11 +197,13 @@ returns-in_err-page-clause-counted g c = none_ok _ _ _ c.from_residual-in_err-pa
 
 pub returns-clause-counted : goal.returns-clause-counted
 returns-clause-counted g c =
-    let invariant = c.loop-i.invariant in
-    omega (arith, invariant.counted, invariant.in_range, c.loop-i-test.false)
+    all_counted _ c.loop-i._i c.args.n _ c.loop-i.invariant.counted
+    (at_end c.loop-i._i c.args.n c.loop-i-test.false c.loop-i.invariant.in_range)
 
 pub returns-clause-store : goal.returns-clause-store
-returns-clause-store g c = changes_within c.loop-i._i _ _ _ _ c.loop-i.invariant.in_range c.loop-i.invariant.changes
+returns-clause-store g c =
+    changes_within c.loop-i._i c.args.n c.args.store.now c.loop-i.store None c.loop-i.invariant.in_range
+    c.loop-i.invariant.changes
 
 pub read_head-requires : goal.read_head-requires
 read_head-requires g c = record {
@@ -178,7 +215,7 @@ pub fill_block-requires : goal.fill_block-requires
 fill_block-requires g c = record {
   ready = c.loop-i.invariant.changes.ready;
   block = let m = committed c.args.store.now in
-      let lt : c.loop-i._i < c.args.n = omega (arith, c.loop-i-test.true) in
+      let lt : c.loop-i._i < c.args.n = c.loop-i-test.true in
       block_to_fill m c.args.n c.requires.free c.requires.ready.usable.committed_size c.requires.enough c.loop-i._i
       c.loop-i.page lt c.loop-i.invariant.page (committed c.loop-i.store) c.loop-i.invariant.only.size;
 }
@@ -187,7 +224,7 @@ pub read_link-requires : goal.read_link-requires
 read_link-requires g c = record {
   ready = c.in_ok-fill_block.ensures.store.ready;
   block = let m = committed c.args.store.now in
-      let lt : c.loop-i._i < c.args.n = omega (arith, c.loop-i-test.true) in
+      let lt : c.loop-i._i < c.args.n = c.loop-i-test.true in
       let only = only_filled m c.args.n c.requires.free
       c.requires.ready.usable.committed_size c.requires.enough c.loop-i._i c.loop-i.page lt c.loop-i.invariant.page
       (committed c.loop-i.store) (committed c.fill_block.new.store) c.from_be_bytes-word.result
@@ -195,7 +232,7 @@ read_link-requires g c = record {
       block_to_fill m c.args.n c.requires.free c.requires.ready.usable.committed_size c.requires.enough c.loop-i._i
       c.loop-i.page lt c.loop-i.invariant.page (committed c.fill_block.new.store) only.size;
   small = let m = committed c.args.store.now in
-      let lt : c.loop-i._i < c.args.n = omega (arith, c.loop-i-test.true) in
+      let lt : c.loop-i._i < c.args.n = c.loop-i-test.true in
       let only = only_filled m c.args.n c.requires.free
       c.requires.ready.usable.committed_size c.requires.enough c.loop-i._i c.loop-i.page lt c.loop-i.invariant.page
       (committed c.loop-i.store) (committed c.fill_block.new.store) c.from_be_bytes-word.result
