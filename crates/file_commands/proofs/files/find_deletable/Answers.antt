@@ -1,5 +1,5 @@
 use Rattle.std.proofs.Common.{◌≡◌, ◌≢◌, ◌<◌, ℕ, Bool, false, List, Option, Some, IfSome, IsTrue, option_map}
-use Rattle.std.proofs.Common.{sym, ◌∙◌, ap, subst, arith, rules, true≢false}
+use Rattle.std.proofs.Common.{sym, ◌∙◌, ap, subst, arith, true≢false}
 use Rattle.undo_journal.specs.Memory.{committed}
 use Rattle.undo_journal.specs.laws.Calls.{reads_then}
 use Rattle.card_state.specs.FileTrees.{Path}
@@ -41,7 +41,7 @@ returns-then-is_master g c = record {
       c.args.subject c.in_ok-number.field-0 c.in_ok-number.ensures.found.told
       ∙ ap (λ (o : Option ℕ). option_map (path_of t) o) c.in-Some.is
       ∙ ap (λ (p : Path). Some p) (path-zero t 7 c.in-Some.number master));
-  store = search rules;
+  store = c.in_ok-number.ensures.found.store;
 }
 
 pub returns-in_err-check_deletion : goal.returns-in_err-check_deletion
@@ -151,7 +151,7 @@ check_deletion-requires-clause-file g c = record {
 
 pub read_entry-requires : goal.read_entry-requires
 read_entry-requires g c = record {
-  ready = search rules;
+  ready = c.in_ok-number.ensures.found.store.ready;
   within = let m = committed c.args.store.now in
       used_small m c.in-Some.number
       (subst (λ (o : Option ℕ). IfSome o (IsUsed (table m))) c.in-Some.is c.in_ok-number.ensures.used);

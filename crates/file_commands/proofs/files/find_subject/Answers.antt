@@ -1,5 +1,6 @@
-use Rattle.std.proofs.Common.{◌≡◌, ℕ, Option, option_map, sym, ◌∙◌, ap, rules}
+use Rattle.std.proofs.Common.{◌≡◌, ℕ, Option, option_map, sym, ◌∙◌, ap}
 use Rattle.undo_journal.specs.Memory.{committed}
+use Rattle.undo_journal.specs.laws.Told.{reads_none}
 use Rattle.card_model.specs.declared.requests.Subject.{Subject}
 use Rattle.card_state.specs.FileTrees.{Tree}
 use Rattle.card_state.specs.Selectors.{reached}
@@ -21,7 +22,7 @@ returns-in-Current-clause-found g c =
       told = ap (λ (subject : Subject). subject_or own (card_of m).tree (session_of
           (table m) c.args.current.now) subject)
           c.in-Current.is;
-      store = search rules;
+      store = reads_none _ c.requires.card.kept.ready;
     }
 
 pub returns-in-Identifier-clause-found : goal.returns-in-Identifier-clause-found
@@ -38,7 +39,7 @@ returns-in-Identifier-clause-found g c =
           (session_of t c.args.current.now) subject)
           c.in-Identifier.is ∙ ap (λ (tree : Tree). reached tree df id) (card-tree m) ∙ sym is)
           c.select.ensures.found;
-      store = search rules;
+      store = c.select.ensures.store;
     }
 
 pub select-requires : goal.select-requires

@@ -1,4 +1,4 @@
-use Rattle.std.proofs.Common.{◌≡◌, ℕ, true, false, List, [], sym, ◌∙◌, ap, arith}
+use Rattle.std.proofs.Common.{◌≡◌, ◌≤◌, ℕ, true, false, List, [], sym, ◌∙◌, ap, arith}
 use Rattle.card_state.specs.declared.status.TheConstants.Sw.{ACCESS_DENIED}
 use Rattle.card_state.specs.declared.access_mode.AccessBit.TheVariants.{Terminate}
 use Rattle.undo_journal.specs.Memory.{committed}
@@ -15,11 +15,18 @@ use Rattle.command_base.specs.laws.Executes.{declined, handed}
 use Rattle.command_base.specs.laws.Stopping.{reply-failed}
 use Rattle.file_commands.proofs.life_cycles.terminate_card_usage.Goals as goal
 
+-- an answer without data fits, and an entry of a dedicated file is not free
+none_fit : 0 ≤ 256
+none_fit = omega arith
+
+no_dedicated : (kind : ℕ) → kind ≡ 0 → kind ≡ 1 → ⊥
+no_dedicated kind none is = omega (arith, none, is)
+
 pub returns-in_err-allows : goal.returns-in_err-allows
 returns-in_err-allows g c =
     handed terminate_card_usage c.args.store.now c.args.current.now c.allows.new.store c.requires.kept.card
     c.args.current.now [] _ _ (reply-failed _ _ c.from_residual-in_err-allows.ensures.1)
-    (reads_on _ _ _ _ c.read_entry.ensures.store.only c.in_err-allows.ensures.store) (omega arith)
+    (reads_on _ _ _ _ c.read_entry.ensures.store.only c.in_err-allows.ensures.store) none_fit
 
 pub returns-then-not-branch : goal.returns-then-not-branch
 returns-then-not-branch g c =
@@ -77,7 +84,7 @@ returns g c =
 pub returns-in_err-entry : goal.returns-in_err-entry
 returns-in_err-entry g c =
     handed terminate_card_usage c.args.store.now c.args.current.now c.read_entry.new.store c.requires.kept.card
-    c.args.current.now [] _ _ (reply-failed _ _ c.from_residual.ensures.1) c.in_err-entry.ensures.store (omega arith)
+    c.args.current.now [] _ _ (reply-failed _ _ c.from_residual.ensures.1) c.in_err-entry.ensures.store none_fit
 
 pub allows-requires : goal.allows-requires
 allows-requires g c = record {
@@ -88,7 +95,7 @@ allows-requires g c = record {
         (λ (unused : (entry_in (table (committed c.args.store.now)) c.master-number.result).kind ≡ 0).
         let none = sym (ap (λ (e : ℕ). (entry_in (table (committed c.args.store.now)) e).kind) c.master-number.ensures)
         ∙ unused in
-        let z : ⊥ = omega (arith, none, master.kind) in z);
+        no_dedicated _ none master.kind);
     entry = entry_still c.args.store.now c.read_entry.new.store c.master-number.result c.in_ok-entry.entry
         c.read_entry.ensures.store.only c.in_ok-entry.ensures.entry;
   };
