@@ -5,7 +5,7 @@ ghost use Rattle.undo_journal.specs.Memory.{IsReady};
 ghost use Rattle.undo_journal.specs.Lent.{memory_of};
 ghost use Rattle.undo_journal.specs.Rooms.{HasRoom};
 
-use crate::endings::{End, MASKS};
+use crate::endings::{End, MASKS, reopened};
 use crate::fixtures::opened;
 use nvm_board::{Armed, Board, Socket};
 use simulated_boards::CutBoard;
@@ -57,6 +57,13 @@ fn found<B: Board>(store: &mut Store<B>) -> Result<[u32; 5], StoreErr>
     ])
 }
 
+/// Returns the five words of a board after recovery.
+fn found_again(mut board: CutBoard) -> Result<[u32; 5], Fail> {
+    board.light()?;
+    let mut store = opened(board)?;
+    Ok(found(&mut store)?)
+}
+
 // A cut at a device write of the change, counted from 1, with those words new whose bit of the mask is set; and one at
 // a write of the opening after it, by the mask's first bit.
 #[derive(Clone, Copy)]
@@ -75,16 +82,8 @@ fn cut_at(alloc: Global, end: End, cuts: Cuts) -> Result<(bool, [u32; 5]), Fail>
     let mut store = opened(CutBoard::new(alloc)?)?;
     store.arm(cuts.write, cuts.mask);
     let is_cut = change(&mut store, end).is_err();
-    let mut board = store.into_board();
-    board.light()?;
-    board.arm(cuts.next, cuts.mask & 1);
-    let mut board = match Store::open(board) {
-        Ok(store) => store.into_board(),
-        Err((board, _)) => board,
-    };
-    board.light()?;
-    let mut store = opened(board)?;
-    Ok((is_cut, found(&mut store)?))
+    let board = reopened(store.into_board(), cuts.next, cuts.mask)?;
+    Ok((is_cut, found_again(board)?))
 }
 
 /// Returns the expected words after a cut.

@@ -36,11 +36,12 @@ fn torn_by(alloc: Global, mask: u16) -> Result<CutBoard, Fail> {
     // The second arm replaces the first.
     board.arm(1, 0x0000);
     board.arm(3, mask);
-    board.write(3, 2, &[1, 2, 3])?;
-    board.write(3, 2, &[4, 5, 6])?;
-    match board.write(3, 2, &[7, 8, 9]) {
-        Err(DeviceErr::PowerLost) => Ok(board),
-        _ => Err(Fail::from("no cut")),
+    let are_written = board.write(3, 2, &[1, 2, 3]).is_ok()
+        && board.write(3, 2, &[4, 5, 6]).is_ok();
+    if are_written && board.write(3, 2, &[7, 8, 9]) == Err(DeviceErr::PowerLost) {
+        Ok(board)
+    } else {
+        Err(Fail::from("no cut"))
     }
 }
 
@@ -112,17 +113,27 @@ fn compares_secrets(rt: HostRuntime) -> Result<(), Fail> {
     Ok(())
 }
 
+/// Returns true if this is the last word of a board, and is written.
+fn ends_at(mut board: CutBoard, last: u16) -> bool {
+    let page = last / 16;
+    board.pages() == page + 1 && board.write(page, 15, &[7]) == Ok(()) && board.read(last) == Ok(7)
+}
+
+// The pages of a board, and its last word.
+const ENDS: &[(u16, u16)] = &[(1024, 16_383), (1030, 16_479), (4096, 65_535)];
+
 #[test]
 fn has_as_many_pages_as_it_is_made_with(rt: HostRuntime) -> Result<(), Fail> {
-    assert!(rt; CutBoard::new(rt.alloc())?.pages() == 1024);
-    assert!(rt; FaultBoard::on_calls(rt.alloc())?.pages() == 1024);
-    for pages in [1024u16, 1030, 4096] {
-        let mut board = CutBoard::with_pages(rt.alloc(), pages)?;
-        board.write(pages - 1, 15, &[7])?;
-        assert!(rt;
-            board.pages() == pages && board.read(16 * (pages - 1) + 15) == Ok(7),
-            "{pages}"
-        );
+    for &(pages, last) in ENDS {
+        let board = CutBoard::with_pages(rt.alloc(), pages.clamp(1024, 4096))?;
+        assert!(rt; ends_at(board, last), "{pages}");
     }
+    Ok(())
+}
+
+#[test]
+fn has_1024_pages_unless_said(rt: HostRuntime) -> Result<(), Fail> {
+    assert!(rt; ends_at(CutBoard::new(rt.alloc())?, 16_383));
+    assert!(rt; FaultBoard::on_calls(rt.alloc())?.pages() == 1024);
     Ok(())
 }

@@ -5,7 +5,7 @@ ghost use Rattle.undo_journal.specs.Memory.{IsReady};
 ghost use Rattle.undo_journal.specs.Lent.{memory_of};
 ghost use Rattle.undo_journal.specs.Rooms.{HasRoom};
 
-use crate::endings::{End, MASKS};
+use crate::endings::{End, MASKS, reopened};
 use crate::fixtures::{opened, with_words};
 use nvm_board::{Armed, Board, DeviceErr, Socket};
 use simulated_boards::CutBoard;
@@ -89,13 +89,8 @@ fn words_after(alloc: Global, end: End, cut: Cut, next: u32) -> Result<[u32; 3],
     requires change { 1 ≤ cut.write }
     requires opening { 1 ≤ next }
 {
-    let mut board = changed(alloc, end, cut)?;
-    board.light()?;
-    board.arm(next, cut.mask & 1);
-    match Store::open(board) {
-        Ok(store) => found_again(store.into_board()),
-        Err((board, _)) => found_again(board),
-    }
+    let board = changed(alloc, end, cut)?;
+    found_again(reopened(board, next, cut.mask)?)
 }
 
 /// Returns true if a cut leaves the words after the change.
@@ -228,45 +223,36 @@ const ROLLED_BACK: &[[u32; 3]] = &[[3, 2, 4], [3, 2, 61], [3, 60, 61], [50, 60, 
 #[test]
 fn pairs_come_back_from_the_last(rt: HostRuntime) -> Result<(), Fail> {
     for (i, want) in ROLLED_BACK.iter().enumerate() {
-        let mut board = changed(rt.alloc(), End::Commits, Cut { write: 5, mask: 0 })?;
-        board.light()?;
-        board.arm(i as u32 + 1, 0);
-        let mut board = match Store::open(board) {
-            Ok(store) => store.into_board(),
-            Err((board, _)) => board,
-        };
+        let board = changed(rt.alloc(), End::Commits, Cut { write: 5, mask: 0 })?;
+        let mut board = reopened(board, i as u32 + 1, 0)?;
         assert!(rt; standing(&mut board)? == *want, "at {}", i + 1);
     }
     Ok(())
 }
 
-/// Returns the pages of a store, if it opens.
-/// Its journal names a word of page 1,024.
-fn opens_with_a_pair_past_1024_pages(alloc: Global, pages: u16) -> Result<Option<u16>, Fail> {
-    if !(1024..=4096).contains(&pages) {
-        return Err(Fail::from("no board"));
+// A counting pair that names a word of page 1,024.
+const BEHIND: &[(u16, u32)] = &[(1168, 1), (1184, 16_384), (1185, 9)];
+
+/// Returns true if a store of this number of pages opens, and its pair is put back.
+fn puts_back(board: CutBoard, pages: u16) -> bool {
+    let Ok(mut store) = Store::open(board) else {
+        return false;
+    };
+    pages > 1024 && store.pages() == pages && store.read(16_384) == Ok(9)
+}
+
+#[test]
+fn a_pair_past_page_1023_is_good_on_more_pages(rt: HostRuntime) -> Result<(), Fail> {
+    for pages in [1030u16, 4096] {
+        let board = with_words(CutBoard::with_pages(rt.alloc(), pages)?, BEHIND)?;
+        assert!(rt; puts_back(board, pages), "{pages}");
     }
-    let board = with_words(
-        CutBoard::with_pages(alloc, pages)?,
-        &[(1168, 1), (1184, 16_384), (1185, 9)],
-    )?;
-    match Store::open(board) {
-        Ok(mut store) => {
-            let pages = store.pages();
-            if pages > 1024 && store.read(16_384) != Ok(9) {
-                return Err(Fail::from("not put back"));
-            }
-            Ok(Some(pages))
-        }
-        Err((_, OpenFault::BadJournal)) => Ok(None),
-        Err(_) => Err(Fail::from("not opened")),
-    }
+    Ok(())
 }
 
 #[test]
 fn a_pair_past_the_pages_is_bad(rt: HostRuntime) -> Result<(), Fail> {
-    assert!(rt; opens_with_a_pair_past_1024_pages(rt.alloc(), 1024)? == None);
-    assert!(rt; opens_with_a_pair_past_1024_pages(rt.alloc(), 1030)? == Some(1030));
-    assert!(rt; opens_with_a_pair_past_1024_pages(rt.alloc(), 4096)? == Some(4096));
+    let board = with_words(CutBoard::new(rt.alloc())?, BEHIND)?;
+    assert!(rt; matches!(Store::open(board), Err((_, OpenFault::BadJournal))));
     Ok(())
 }
