@@ -70,3 +70,16 @@ found_some direction first last step text records numbers many so_far =
           ∙ ap (λ (n : ℕ). take (length (filter test (take step (numbers_on direction first last))))
           (filter test (numbers_on direction first n))) (sym many);
     }
+
+-- there is room for one number more, among the first of those that are looked at
+pub room_more : (found passed step all records n : ℕ) (numbers : List ℕ) → found ≡ passed → passed ≤ length numbers
+    → length numbers ≡ step → step < all → all ≤ records → records ≤ n → found < n
+room_more found passed step all records n numbers is few taken lt most room =
+    omega (arith, is, few, taken, lt, most, room)
+
+pub step_within : (step all : ℕ) → step < all → step ≤ all
+step_within step all lt = omega (arith, lt)
+
+-- a record's number fits a byte
+pub byte_number : (n records capacity : ℕ) → n ≤ records → records ≤ capacity → capacity ≤ 254 → n < 256
+byte_number n records capacity top number few = omega (arith, top, number, few)

@@ -1,21 +1,25 @@
 -- The record that INCREASE stores, and what it makes of a body.
-use Rattle.std.proofs.Common.{refl, sym, ◌∙◌, ap, ap₂, arith, inl, subst, ⊎_elim}
+use Rattle.std.proofs.Common.{refl, sym, ◌∙◌, ap, ap₂, arith, inl, inr, subst, ⊎_elim}
 use Rattle.std.proofs.lemmas.Bool.{cases_lt, le-leb, lt-leb}
 use Rattle.std.proofs.lemmas.List.{take_all}
 use Rattle.std.specs.Prelude.{◌≡◌, ◌<◌, ◌≤◌, ◌+◌, ◌^◌, ℕ, Bool, true, false, List, ◌∷◌}
 use Rattle.std.specs.Prelude.{[], length, All, Option, Some, None, option_map, if◌then◌else◌, nat_le, min}
 use Rattle.std.specs.Prelude.{Result, Ok, Err, IsErrAnd}
+use Rattle.std.specs.Result.{result_err}
 use Rattle.card_state.specs.declared.status.Sw.{Sw}
 use Rattle.card_state.specs.declared.status.TheConstants.Sw.{RECORD_NOT_FOUND, MAXIMUM_REACHED}
 use Rattle.undo_journal.specs.declared.error.StoreErr.{StoreErr}
 use Rattle.block_chain.specs.ChainChanges.{AppendsSome}
 use Rattle.ef_contents.specs.declared.error.BodyErr.{BodyErr}
 use Rattle.ef_contents.specs.declared.error.BodyErr.TheVariants.{Store}
+use Rattle.record_slots.specs.declared.cyclic.Cyclic.{Cyclic}
+use Rattle.record_slots.specs.Bodies.{cyclic_body_records}
 use Rattle.record_slots.specs.RingCalls.{ReceivesSum}
+use Rattle.record_slots.specs.BodyChanges.{CyclicBecomes, Increases}
 use Rattle.card_state.specs.RecordLists.{has_record, record_of, front, number_of, spelled, raised_number}
-use Rattle.ef_contents.specs.Refusals.{missing_record, unraised}
+use Rattle.ef_contents.specs.Refusals.{missing_record, unraised, DecidesUnlessFailed}
 use Rattle.card_state.specs.laws.Numbers.{number-small, spelled-number}
-use Rattle.ef_contents.specs.laws.Refusing.{there}
+use Rattle.ef_contents.specs.laws.Refusing.{ok_anyway, store_refuses, there}
 
 -- at most as many records as there is room for
 pub front-most : (k capacity : ℕ) (new : List ℕ) (records : List (List ℕ)) → k ≡ min (length records + 1) capacity
@@ -102,3 +106,43 @@ failed_sum {T} (Err b) e is (Some f) from size records sent buffer some =
     let same : b ≡ Store f = cc in
     subst (λ (b : BodyErr). let r : Result T BodyErr = Err b in ReceivesSum size records sent buffer r) (sym same)
     (record { bytes = tt; emptied = tt; buffer = inl some; refusal = tt })
+
+-- what a failed sum tells, of the result that hands its failure on
+pub handed_sum : {T U : Type 0} (r : Result U BodyErr) (e : BodyErr) → IsErrAnd r (λ b. b ≡ e) → (size : ℕ)
+    (records : List (List ℕ)) (sent buffer : List ℕ)
+    → (let failed : Result T BodyErr = Err e in ReceivesSum size records sent buffer failed)
+    → ReceivesSum size records sent buffer r
+handed_sum (Ok v) e is size records sent buffer sum = absurd is
+handed_sum {T} {U} (Err b) e is size records sent buffer sum =
+    subst (λ (b : BodyErr). let r : Result U BodyErr = Err b in ReceivesSum size records sent buffer r) (sym is)
+    (record { bytes = tt; emptied = sum.emptied; buffer = sum.buffer; refusal = sum.refusal })
+
+-- the sum is made, and the store answers
+pub stored_sum : {T U : Type 0} (r : Result T StoreErr) (s : Result U BodyErr)
+    → result_err s ≡ option_map Store (result_err r) → (size : ℕ) (records : List (List ℕ)) (sent buffer : List ℕ)
+    → buffer ≡ spelled size (raised_number records sent) → unraised size records sent ≡ None
+    → ReceivesSum size records sent buffer s
+stored_sum r s is size records sent buffer sum none = record {
+  bytes = ok_anyway s _ sum;
+  emptied = store_refuses r s is _;
+  buffer = inr sum;
+  refusal = subst (λ (answer : Option BodyErr). DecidesUnlessFailed (unraised size records sent) answer) (sym is)
+      (decides (result_err r));
+}
+  where
+    decides : (told : Option StoreErr) → DecidesUnlessFailed (unraised size records sent) (option_map Store told)
+    decides None = none
+    decides (Some e) = tt
+
+-- the sum in front, where the words and the ring are those before
+pub increases : (m now after : List ℕ) (body ring : Cyclic) (sent sum : List ℕ) → now ≡ m → ring ≡ body
+    → sum ≡ spelled body.record_length (raised_number (cyclic_body_records m body) sent)
+    → CyclicBecomes now ring (front (length (cyclic_body_records now ring)) sum (cyclic_body_records now ring)) after
+    → Increases m body sent after
+increases m now after body ring sent sum same is made becomes =
+    let here = subst (λ (k : List ℕ). CyclicBecomes k ring (front (length (cyclic_body_records k ring)) sum
+    (cyclic_body_records k ring)) after) same becomes in
+    let own = subst (λ (r : Cyclic). CyclicBecomes m r (front (length (cyclic_body_records m r)) sum
+    (cyclic_body_records m r)) after) is here in
+    subst (λ (l : List ℕ). CyclicBecomes m body (front (length (cyclic_body_records m body)) l
+    (cyclic_body_records m body)) after) made own

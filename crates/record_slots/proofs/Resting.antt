@@ -9,7 +9,7 @@ use Rattle.nvm_board.specs.Facts.{address, IsMemory}
 use Rattle.nvm_board.specs.declared.board.TheConstants.{PAGE_WORDS}
 use Rattle.nvm_board.specs.laws.Sizes.{page_within}
 use Rattle.block_chain.specs.declared.chain.Chain.{Chain}
-use Rattle.block_chain.specs.declared.layout.TheConstants.{BLOCK_BYTES, MOST_BLOCKS}
+use Rattle.block_chain.specs.declared.layout.TheConstants.{BLOCK_BYTES, FILE_BYTES, MOST_BLOCKS}
 use Rattle.block_chain.specs.BlockWords.{link, block_bytes}
 use Rattle.block_chain.specs.Chains.{Leads, chain, chain_of, chain_bytes, bytes_of}
 use Rattle.block_chain.specs.laws.Bytes.{AreBlocks, leads_blocks}
@@ -131,3 +131,18 @@ has_blocks m ring is =
     let fits = is.slots.fits in
     let some = is.slots.some in
     omega (arith, first, fits, some)
+
+-- a record lies in the rest of the chain, from the block in which it begins
+pub rest_holds : (offset slot size capacity blocks rest number : ℕ) → offset ≡ slot * size
+    → slot * size + size ≤ capacity * size → capacity * size ≤ BLOCK_BYTES * blocks → number ≡ offset / BLOCK_BYTES
+    → rest + number ≡ blocks → offset % BLOCK_BYTES + size ≤ BLOCK_BYTES * rest
+rest_holds offset slot size capacity blocks rest number at inside fits is all =
+    omega (arith, at, inside, fits, is, all)
+
+-- and ends within the bytes of a file
+pub rest_small : (offset size : ℕ) → size ≤ 255 → offset % BLOCK_BYTES + size ≤ FILE_BYTES
+rest_small offset size short = omega (arith, short)
+
+-- and an empty buffer has room for it
+pub buffer_holds : (before size n : ℕ) → before ≡ 0 → size ≤ n → before + size ≤ n
+buffer_holds before size n empty room = omega (arith, empty, room)

@@ -1,14 +1,14 @@
-use Rattle.std.proofs.Common.{rules, ◌≡◌, ◌∙◌, ℕ, List, length, take, drop, arith, ap, sym, subst, ◌%◌}
+use Rattle.std.proofs.Common.{rules, ◌≤◌, ◌∙◌, ◌+◌, ◌*◌, ℕ, List, length, take, drop, ap, sym, subst, ◌%◌}
 use Rattle.std.proofs.lemmas.Result.{on_ok_weaker}
 use Rattle.undo_journal.specs.Memory.{committed}
 use Rattle.undo_journal.specs.laws.Told.{reads_handed, reads_on}
-use Rattle.block_chain.specs.Chains.{Leads, chain, bytes_of}
+use Rattle.block_chain.specs.Chains.{Leads, chain, chain_of, bytes_of}
 use Rattle.block_chain.specs.declared.layout.TheConstants.{BLOCK_BYTES}
 use Rattle.ef_contents.specs.BodyCalls.{ReadsInto}
 use Rattle.ef_contents.specs.laws.Slots.{slot-within}
 use Rattle.record_slots.proofs.Becoming.{record_at}
 use Rattle.ef_contents.specs.laws.Buffers.{all_appended, length-emptied, some_appended}
-use Rattle.record_slots.proofs.Resting.{rest_of, bytes_on}
+use Rattle.record_slots.proofs.Resting.{buffer_holds, bytes_on, rest_holds, rest_of, rest_small}
 use Rattle.record_slots.proofs.slot.RecordSlot.read_from.Goals as goal
 
 pub read_bytes-requires : goal.read_bytes-requires
@@ -18,14 +18,11 @@ read_bytes-requires g c =
     let block = c.in_ok-block.field-0 in
     let same = c.go_to.ensures.store.only.keeps.committed_words in
     let rest = rest_of m ring.chain c.requires.body.body.slots.chain.leads block c.in_ok-block.ensures.block in
-    let at = c.offset_of-offset.ensures in
+    let offset = c.offset_of-offset.result in
     let inside = slot-within ring.record_length c.slot_of.result ring.capacity c.slot_of.ensures.within in
-    let fits = c.requires.body.body.slots.fits in
-    let short = c.requires.body.body.slots.short in
-    let many : length (chain (committed c.go_to.new.store) block.page) ≡ length (chain m block.page) =
-    ap (λ (l : List ℕ). length (chain l block.page)) same in
-    let number = c.in_ok-block.ensures.number in
-    let size = rest.size in (
+    let holds = rest_holds offset c.slot_of.result ring.record_length ring.capacity (length (chain_of m ring.chain))
+    (length (chain m block.page)) block.number c.offset_of-offset.ensures inside c.requires.body.body.slots.fits
+    c.in_ok-block.ensures.number rest.size in (
       search rules,
       (
         record {
@@ -33,10 +30,11 @@ read_bytes-requires g c =
           leads = subst (λ (l : List ℕ). Leads l block.page (chain l block.page) 0) (sym same) rest.leads;
         },
         (
-          omega (arith, at, inside, fits, many, number, size),
+          subst (λ (l : List ℕ). offset % BLOCK_BYTES + ring.record_length ≤ BLOCK_BYTES * length (chain l block.page))
+              (sym same) holds,
           (
-            omega (arith, short),
-            omega (arith, length-emptied _ c.clear.ensures, c.requires.room),
+            rest_small offset ring.record_length c.requires.body.body.slots.short,
+            buffer_holds _ ring.record_length _ (length-emptied _ c.clear.ensures) c.requires.room,
           ),
         ),
       ),

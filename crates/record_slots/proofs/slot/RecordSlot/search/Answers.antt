@@ -1,4 +1,4 @@
-use Rattle.std.proofs.Common.{rules, ◌≡◌, ◌≤◌, ◌<◌, ◌++◌, ◌∷◌, [], cond, Bool, List, ℕ, arith, ap, ap₂, ◌∙◌, sym, subst}
+use Rattle.std.proofs.Common.{rules, ◌≡◌, ◌≤◌, ◌<◌, ◌++◌, ◌∷◌, [], cond, Bool, List, ℕ, ap, ap₂, ◌∙◌, sym, subst}
 use Rattle.std.proofs.Common.{length, take, slice_index}
 use Rattle.std.proofs.lemmas.List.{length-take-le, take_all}
 use Rattle.std.specs.List.{filter}
@@ -10,7 +10,7 @@ use Rattle.record_slots.specs.Bodies.{cyclic_body_records, IsCyclic}
 use Rattle.record_slots.specs.ReadParts.{IsBlockOf}
 use Rattle.record_slots.specs.laws.Rings.{length-cyclic}
 use Rattle.record_slots.proofs.Resting.{first_is, has_blocks}
-use Rattle.record_slots.proofs.Finding.{found_some, filter-next}
+use Rattle.record_slots.proofs.Finding.{byte_number, found_some, filter-next, room_more, step_within}
 use Rattle.card_state.specs.laws.Finding.{steps_few, filter-few}
 use Rattle.record_slots.proofs.slot.RecordSlot.search.Goals as goal
 
@@ -35,18 +35,18 @@ note-requires g c =
     let body = c.args.self.ring in
     let numbers = numbers_on c.args.direction c.args.self.number body.records in
     let test : ℕ → Bool = λ n. stands_in c.args.text.now (record_of (cyclic_body_records m body) n) in
-    let steps = c.steps_of-steps.ensures in
-    let lt : c.loop-step.step < length numbers = omega (arith, steps, c.loop-step-test.true) in
+    let lt = subst (λ (n : ℕ). c.loop-step.step < n) c.steps_of-steps.ensures c.loop-step-test.true in
     let most = steps_few c.args.direction c.args.self.number body.records c.args.self.from_first c.args.self.to_last in
-    let few = filter-few test (take c.loop-step.step numbers) in
-    let taken = length-take-le c.loop-step.step numbers (omega (arith, lt)) in
     let so_far : length c.loop-step.numbers.items ≡ length (filter test (take c.loop-step.step numbers)) =
-    ap (λ (l : List ℕ). length l) c.loop-step.invariant.so_far in
-    let top = c.number_at-number.ensures.most in
-    let number = c.requires.body.body.number in
-    let capacity = c.requires.body.body.slots.few in (
+    ap (λ (l : List ℕ). length l) c.loop-step.invariant.so_far in (
       search rules,
-      (omega (arith, so_far, few, taken, lt, most, c.requires.room), omega (arith, top, number, capacity)),
+      (
+        room_more _ _ c.loop-step.step (length numbers) body.records _ (take c.loop-step.step numbers) so_far
+            (filter-few test (take c.loop-step.step numbers))
+            (length-take-le c.loop-step.step numbers (step_within _ _ lt)) lt most c.requires.room,
+        byte_number _ body.records body.capacity c.number_at-number.ensures.most c.requires.body.body.number
+            c.requires.body.body.slots.few,
+      ),
     )
 
 pub loop-step-preserved : goal.loop-step-preserved
@@ -55,8 +55,7 @@ loop-step-preserved g c =
     let body = c.args.self.ring in
     let numbers = numbers_on c.args.direction c.args.self.number body.records in
     let test : ℕ → Bool = λ n. stands_in c.args.text.now (record_of (cyclic_body_records m body) n) in
-    let steps = c.steps_of-steps.ensures in
-    let lt : c.loop-step.step < length numbers = omega (arith, steps, c.loop-step-test.true) in
+    let lt = subst (λ (n : ℕ). c.loop-step.step < n) c.steps_of-steps.ensures c.loop-step-test.true in
     let number = c.number_at-number.ensures.number in
     let holds : c.in_ok-holds.holds ≡ test (slice_index numbers c.loop-step.step) =
     c.in_ok-holds.ensures.holds.told
@@ -90,8 +89,7 @@ returns g c =
     let body = c.args.self.ring in
     let numbers = numbers_on c.args.direction c.args.self.number body.records in
     let test : ℕ → Bool = λ n. stands_in c.args.text.now (record_of (cyclic_body_records m body) n) in
-    let steps = c.steps_of-steps.ensures in
-    let all : length numbers ≤ c.loop-step.step = omega (arith, steps, c.loop-step-test.false) in
+    let all = subst (λ (n : ℕ). n ≤ c.loop-step.step) c.steps_of-steps.ensures c.loop-step-test.false in
     let many = length-cyclic m body c.requires.body.body in
     record {
       bytes = c.loop-step.invariant.so_far ∙ ap (filter test) (take_all c.loop-step.step numbers all)
