@@ -1,7 +1,11 @@
-use Rattle.std.specs.Prelude.{◌<◌, length}
-use Rattle.std.proofs.Common.{arith}
-use Rattle.std.proofs.lemmas.List.{take_more, take_more_set}
+use Rattle.std.specs.Prelude.{◌<◌, List, length, take}
+use Rattle.std.proofs.Common.{arith, subst}
+use Rattle.std.proofs.lemmas.List.{take_all, take_more, take_more_set}
+use Rattle.bench_turns.specs.declared.turn.Turn.{Turn}
 use Rattle.bench_turns.specs.declared.turn.Turn.TheVariants.{On}
+use Rattle.bench_turns.specs.declared.turn.Item.{Item}
+use Rattle.bench_turns.specs.BenchStates.{bench_facts}
+use Rattle.bench_turns.specs.Turns.{CountsLosses, Runs, darks}
 use Rattle.bench_turns.proofs.PlayedTurns.{plays_none, plays_more}
 use Rattle.card_turns.proofs.playing.Bench.play.Goals as goal
 
@@ -18,3 +22,29 @@ loop-i-preserved g c =
             c.item.result lt,
       ) (plays_more _ _ _ _ _ _ _ c.loop-i.invariant.so_far c.item.ensures);
     }
+
+pub returns-clause-has_card : goal.returns-clause-has_card
+returns-clause-has_card g c = c.loop-i.invariant.so_far.has_card
+
+pub returns-clause-guesses : goal.returns-clause-guesses
+returns-clause-guesses g c = c.loop-i.invariant.so_far.guesses
+
+pub returns-clause-well : goal.returns-clause-well
+returns-clause-well g c = c.loop-i.invariant.so_far.well
+
+pub returns-clause-counts : goal.returns-clause-counts
+returns-clause-counts g c =
+    let all = take_all c.loop-i.i c.loop-i.trace
+    (omega (arith, c.requires, c.loop-i.auto.trace, c.loop-i-test.false)) in
+    subst (λ (t : List Item). CountsLosses (darks t) (bench_facts c.args.self.now) (bench_facts c.loop-i.self)) all
+    c.loop-i.invariant.so_far.counts
+
+pub returns-clause-runs : goal.returns-clause-runs
+returns-clause-runs g c =
+    let all = take_all c.loop-i.i c.loop-i.trace
+    (omega (arith, c.requires, c.loop-i.auto.trace, c.loop-i-test.false)) in
+    let turns = take_all c.loop-i.i c.args.turns.now c.loop-i-test.false in
+    let so_far = take c.loop-i.i c.loop-i.trace in
+    λ has good. subst (λ (t : List Item). Runs c.args.self.now c.args.turns.now t c.loop-i.self) all
+    (subst (λ (u : List Turn). Runs c.args.self.now u so_far c.loop-i.self) turns
+    (c.loop-i.invariant.so_far.runs has good))

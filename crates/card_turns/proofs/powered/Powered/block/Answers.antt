@@ -1,9 +1,14 @@
 use Rattle.undo_journal.specs.Spending.{Advances, KeepsBoard}
+use Rattle.nvm_board.specs.Facts.{Facts}
+use Rattle.nvm_board.specs.laws.Aims.{aim_same}
+use Rattle.undo_journal.specs.laws.Calls.{advances_kept}
 use Rattle.undo_journal.specs.laws.Exits.{none_ok}
-use Rattle.std.specs.Prelude.{◌≡◌, ◌⊎◌, ◌≢◌, ◌≤◌, ◌+◌, ℕ, List, [], Option, Some, unwrap_or}
-use Rattle.std.proofs.Common.{rules, arith, inr, ap, sym, refl, subst, ◌∙◌}
-use Rattle.card_start.specs.declared.state.CardState.TheVariants.{Working, Dark}
+use Rattle.std.specs.Prelude.{◌≡◌, ◌⊎◌, ◌≢◌, ◌≤◌, ◌+◌, ℕ, List, [], Option, Some, None, unwrap_or}
+use Rattle.std.proofs.Common.{rules, arith, true, inl, inr, ap, sym, refl, subst, ◌∙◌}
+use Rattle.card_start.specs.declared.state.CardState.TheVariants.{Working, Failed, Dark}
 use Rattle.card_model.specs.CommandTable.{asked}
+use Rattle.card_model.specs.laws.StageLaws.{stage_first}
+use Rattle.t1_link.specs.Blocks.{Block}
 use Rattle.t1_link.specs.CardTable.{answers, reply_bytes, waiting_command, link_step, CardLink, Link, Reaction}
 use Rattle.t1_link.specs.CardTable.{replies, runs}
 use Rattle.command_base.specs.Finding.{HasCard}
@@ -12,7 +17,7 @@ use Rattle.command_base.specs.Comparing.{comparisons, ComparesAsked}
 use Rattle.card_start.specs.Running.{card_found}
 use Rattle.command_base.specs.laws.CompareLaws.{asked-none}
 use Rattle.bench_turns.specs.CardBlocks.{BlockChangesNothing, BlockCompares, BlockStands, BlockFails, IsBlockStage}
-use Rattle.bench_turns.specs.CardBlocks.{BlockIsCut}
+use Rattle.bench_turns.specs.CardBlocks.{BlockIsCut, IsRun}
 use Rattle.bench_turns.specs.CardBlocks.{Powered, Replies}
 use Rattle.bench_turns.proofs.BlockRuns.{cut-at, of-run, run-replies}
 use Rattle.bench_turns.proofs.CardStates.{on_err, works_if_cut}
@@ -217,3 +222,101 @@ returns-in_ok-command-in-Run-clause-unlit g c = tt
 
 pub returns-in_err-command-in-Run-clause-replies : goal.returns-in_err-command-in-Run-clause-replies
 returns-in_err-command-in-Run-clause-replies g c = none_ok _ _ _ c.from_residual.ensures.1
+
+-- and is a stage of the command, on the same board
+kept-stage : (p : Powered) (reaction : Reaction) → IsBlockStage p reaction (card_found p.card)
+kept-stage p (replies block) = refl
+kept-stage p (runs command) = stage_first (card_found p.card) p.card.session command (card_found p.card) refl
+
+kept-board : (f : Facts) → KeepsBoard f f
+kept-board f = record { cut = aim_same f; words = refl; writes = refl; compares = refl; matches = refl }
+
+pub returns-in-Dark-clause-stage : goal.returns-in-Dark-clause-stage
+returns-in-Dark-clause-stage g c =
+    kept-stage c.args.self.now (link_step c.args.self.now.link c.args.got.now).reaction
+
+pub returns-in-Dark-clause-stands : goal.returns-in-Dark-clause-stands
+returns-in-Dark-clause-stands g c =
+    let dark : c.args.self.now.card.state ≡ Dark =
+    ap (λ (p : Powered). p.card.state) (sym c.self.view_is) ∙ sym c.state.ensures.state ∙ c.in-Dark.is in
+    λ works. let working : c.args.self.now.card.state ≡ Working = works in absurd cc
+
+pub returns-in-Dark-clause-lost : goal.returns-in-Dark-clause-lost
+returns-in-Dark-clause-lost g c =
+    let dark : c.args.self.now.card.state ≡ Dark =
+    ap (λ (p : Powered). p.card.state) (sym c.self.view_is) ∙ sym c.state.ensures.state ∙ c.in-Dark.is in
+    λ lit. absurd (lit dark)
+
+pub returns-in-Dark-clause-failed : goal.returns-in-Dark-clause-failed
+returns-in-Dark-clause-failed g c =
+    let dark : c.args.self.now.card.state ≡ Dark =
+    ap (λ (p : Powered). p.card.state) (sym c.self.view_is) ∙ sym c.state.ensures.state ∙ c.in-Dark.is in
+    λ fails. let failed : c.args.self.now.card.state ≡ Failed = fails in absurd cc
+
+pub returns-in-Dark-clause-unlit : goal.returns-in-Dark-clause-unlit
+returns-in-Dark-clause-unlit g c =
+    subst (λ (p : Powered). p.card.facts.dark ≡ true) c.self.view_is
+    (c.state.ensures.unlit (sym c.state.ensures.state ∙ c.in-Dark.is))
+
+pub returns-in-Dark-clause-idle : goal.returns-in-Dark-clause-idle
+returns-in-Dark-clause-idle g c = λ nothing. kept-board _
+
+pub returns-in-Dark-clause-advances : goal.returns-in-Dark-clause-advances
+returns-in-Dark-clause-advances g c = advances_kept _ _ (kept-board _)
+
+-- a fact of the reaction that replies, where no command waits
+of-reply : (P : Reaction → Type 0) (reaction : Reaction) → waiting_command reaction ≡ None
+    → ((block : Block) → P (replies block)) → P reaction
+of-reply P (replies block) none holds = holds block
+of-reply P (runs command) none holds = absurd cc
+
+pub returns-in-Reply-clause-stage : goal.returns-in-Reply-clause-stage
+returns-in-Reply-clause-stage g c =
+    let old : Powered = record { card = c.self.inside.card; link = c.self.inside.link.link } in
+    let card = card_found c.self.inside.card in
+    subst (λ (p : Powered). IsBlockStage p (link_step p.link c.args.got.now).reaction card) c.self.view_is
+    (kept-stage old (link_step old.link c.args.got.now).reaction)
+
+pub returns-in-Reply-clause-stands : goal.returns-in-Reply-clause-stands
+returns-in-Reply-clause-stands g c =
+    let old : Powered = record { card = c.self.inside.card; link = c.self.inside.link.link } in
+    let silent = ap (λ (e : CardLink). e.waiting) (sym c.take.ensures.state) ∙ c.take.ensures.replied c.in-Reply.is in
+    let words = c.self.inside.card.facts.words in
+    subst (λ (p : Powered). p.card.state ≡ Working → BlockStands p (link_step p.link c.args.got.now).reaction words)
+    c.self.view_is (λ works. of-reply (λ (r : Reaction). BlockStands old r words)
+    (link_step old.link c.args.got.now).reaction silent (λ block. tt))
+
+pub returns-in-Reply-clause-idle : goal.returns-in-Reply-clause-idle
+returns-in-Reply-clause-idle g c =
+    let facts = c.self.inside.card.facts in
+    subst (λ (p : Powered). BlockChangesNothing p (link_step p.link c.args.got.now).reaction
+    → KeepsBoard p.card.facts facts) c.self.view_is (λ nothing. kept-board facts)
+
+pub returns-in-Reply-clause-advances : goal.returns-in-Reply-clause-advances
+returns-in-Reply-clause-advances g c =
+    let facts = c.self.inside.card.facts in
+    subst (λ (p : Powered). Advances p.card.facts facts) c.self.view_is (advances_kept _ _ (kept-board facts))
+
+pub returns-in-Reply-clause-compares : goal.returns-in-Reply-clause-compares
+returns-in-Reply-clause-compares g c =
+    let old : Powered = record { card = c.self.inside.card; link = c.self.inside.link.link } in
+    let silent = ap (λ (e : CardLink). e.waiting) (sym c.take.ensures.state) ∙ c.take.ensures.replied c.in-Reply.is in
+    let new : Powered = record { card = c.self.inside.card; link = c.take.new.self.link } in
+    subst (λ (p : Powered). BlockCompares p (link_step p.link c.args.got.now).reaction new) c.self.view_is
+    (of-reply (λ (r : Reaction). BlockCompares old r new) (link_step old.link c.args.got.now).reaction silent
+    (λ block. refl))
+
+pub returns-in_ok-command-in-Run-clause-unrun : goal.returns-in_ok-command-in-Run-clause-unrun
+returns-in_ok-command-in-Run-clause-unrun g c =
+    let waits = ap (λ (e : CardLink). e.waiting) (sym c.take.ensures.state) ∙ c.command.ensures in
+    inl (subst (λ (p : Powered). IsRun (link_step p.link c.args.got.now).reaction) c.self.view_is
+    (of-run IsRun (link_step c.self.inside.link.link c.args.got.now).reaction c.command.result.now waits tt))
+
+pub returns-in_err-command-in-Run-clause-unrun : goal.returns-in_err-command-in-Run-clause-unrun
+returns-in_err-command-in-Run-clause-unrun g c =
+    let waits = ap (λ (e : CardLink). e.waiting) (sym c.take.ensures.state) ∙ c.command.ensures in
+    inl (subst (λ (p : Powered). IsRun (link_step p.link c.args.got.now).reaction) c.self.view_is
+    (of-run IsRun (link_step c.self.inside.link.link c.args.got.now).reaction c.command.result.now waits tt))
+
+pub returns-in_err-command-in-Run-clause-unlit : goal.returns-in_err-command-in-Run-clause-unlit
+returns-in_err-command-in-Run-clause-unlit g c = on_err _ _ c.in_err-command-in-Run.ensures.unlit
