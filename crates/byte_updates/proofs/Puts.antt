@@ -1,8 +1,7 @@
 -- The words of a chain, as bytes are put into them one by one.
 use Rattle.std.proofs.Common.{◌≡◌, ◌+◌, ◌-◌, ◌*◌, ◌/◌, ◌%◌, ◌<◌, ◌≤◌, ℕ, List, length, slice_index, refl, sym, ◌∙◌, ap}
-use Rattle.std.specs.Prelude.{◌==◌, if◌then◌else◌, Bool}
-use Rattle.std.proofs.lemmas.Bool.Decides.{eqb_tells}
-use Rattle.std.proofs.Common.{subst, inl, inr, arith}
+use Rattle.std.specs.Prelude.{◌==◌, if◌then◌else◌}
+use Rattle.std.proofs.Common.{subst, inl, arith}
 use Rattle.nvm_board.specs.declared.board.TheConstants.{MOST_PAGES}
 use Rattle.std.proofs.Math.ListN.{length-set}
 use Rattle.nvm_board.specs.Facts.{address, IsMemory}
@@ -12,19 +11,8 @@ use Rattle.block_chain.specs.Chains.{IsChain}
 use Rattle.block_chain.specs.ChainChanges.{touched_words, Overwrites}
 use Rattle.block_chain.specs.ChainParts.{PutsWord}
 use Rattle.block_chain.specs.laws.Bytes.{leads_blocks}
-use Rattle.block_chain.specs.laws.Chains.{block_same, leads_block, leads_next, leads_small}
+use Rattle.block_chain.specs.laws.Chains.{block_same, leads_block, leads_next, leads_small, next_block}
 use Rattle.block_chain.specs.laws.Overwriting.{IsPut, put_all, put_none, put_step, touched}
-
--- the block at the next place of a chain, where it is looked up only when a block ends there
-next_block : (ps : List ℕ) (i j left page after next : ℕ) → (left ≡ 0 → j ≡ i + 1) → ((left ≡ 0 → ⊥) → j ≡ i)
-    → page ≡ slice_index ps i → after ≡ slice_index ps (i + 1) → next ≡ (if left == 0 then after else page)
-    → next ≡ slice_index ps j
-next_block ps i j left page after next ends goes is is_after told = elim (eqb_tells left 0) [
-  | inl none ↦ told ∙ ap (λ (b : Bool). if b then after else page) none.0 ∙ is_after
-      ∙ ap (slice_index ps) (sym (ends none.1))
-  | inr some ↦ told ∙ ap (λ (b : Bool). if b then after else page) some.0 ∙ is
-      ∙ ap (slice_index ps) (sym (goes some.1))
-]
 
 -- The words of a chain before word k are put, and this is the block of word k.
 pub record IsPutSoFar (m ps : List ℕ) (offset : ℕ) (bytes : List ℕ) (k page : ℕ) (now : List ℕ) : Type 0 where

@@ -1,8 +1,7 @@
 -- The bytes of a chain in a row, as they are read word by word.
 use Rattle.std.proofs.Common.{◌≡◌, ◌<◌, ◌≤◌, ◌+◌, ◌-◌, ◌*◌, ◌/◌, ◌%◌, ◌++◌, ℕ, List, length, take, drop, slice_index}
-use Rattle.std.specs.Prelude.{◌==◌, if◌then◌else◌, Bool}
-use Rattle.std.proofs.lemmas.Bool.Decides.{eqb_tells}
-use Rattle.std.proofs.Common.{sym, ◌∙◌, ap, arith, inl, inr, append_assoc, get_or-take}
+use Rattle.std.specs.Prelude.{◌==◌, if◌then◌else◌}
+use Rattle.std.proofs.Common.{sym, ◌∙◌, ap, arith, append_assoc, get_or-take}
 use Rattle.std.proofs.lemmas.List.{append-nil, length-take-le, length-drop}
 use Rattle.std.proofs.lemmas.Grind.{same_number_lists}
 use Rattle.nvm_board.specs.Facts.{IsMemory}
@@ -11,7 +10,7 @@ use Rattle.block_chain.specs.BlockWords.{link, word, word_bytes}
 use Rattle.block_chain.specs.Chains.{Leads, bytes_of}
 use Rattle.block_chain.specs.ChainChanges.{AppendsSome}
 use Rattle.block_chain.specs.laws.Bytes.{content_word, leads_blocks, length-bytes_of, bytes_run, more_bytes}
-use Rattle.block_chain.specs.laws.Chains.{IsAt, at_block}
+use Rattle.block_chain.specs.laws.Chains.{IsAt, at_block, next_block}
 
 -- the first bytes of some that are the first
 take_twice : (n k : ℕ) (xs : List ℕ) → n ≤ k → k ≤ length xs → take n (take k xs) ≡ take n xs
@@ -57,17 +56,6 @@ none_asked bytes init count none = sym (append-nil init) ∙ ap (λ (k : ℕ). i
 -- and none were appended
 pub none_appended : (init bytes : List ℕ) → AppendsSome init bytes init
 none_appended init bytes = record { some = 0; is = sym (append-nil init) }
-
--- the block at the next place of a chain, where it is looked up only when a block ends there
-pub next_block : (ps : List ℕ) (i j left page after next : ℕ) → (left ≡ 0 → j ≡ i + 1) → ((left ≡ 0 → ⊥) → j ≡ i)
-    → page ≡ slice_index ps i → after ≡ slice_index ps (i + 1) → next ≡ (if left == 0 then after else page)
-    → next ≡ slice_index ps j
-next_block ps i j left page after next ends goes is is_after told = elim (eqb_tells left 0) [
-  | inl none ↦ told ∙ ap (λ (b : Bool). if b then after else page) none.0 ∙ is_after
-      ∙ ap (slice_index ps) (sym (ends none.1))
-  | inr some ↦ told ∙ ap (λ (b : Bool). if b then after else page) some.0 ∙ is
-      ∙ ap (slice_index ps) (sym (goes some.1))
-]
 
 module _ (m ps : List ℕ) (from offset count : ℕ) (sized : IsMemory m) (leads : Leads m from ps 0)
     (within : offset + count ≤ BLOCK_BYTES * length ps) where

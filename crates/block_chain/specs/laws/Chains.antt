@@ -3,7 +3,7 @@ use Rattle.std.proofs.Common.{refl, sym, ◌∙◌, ap, ap₂, arith, subst, inl
 use Rattle.std.proofs.lemmas.Bool.{cases_lt}
 use Rattle.std.proofs.lemmas.Bool.Decides.{eqb_tells}
 use Rattle.std.proofs.lemmas.List.{get_or_past}
-use Rattle.std.specs.Prelude.{◌≡◌, ◌≢◌, ◌<◌, ◌≤◌, ◌+◌, ℕ, zero, suc, Bool, if◌then◌else◌, List, [], ◌∷◌, ◌++◌}
+use Rattle.std.specs.Prelude.{◌≡◌, ◌≢◌, ◌<◌, ◌≤◌, ◌+◌, ◌==◌, ℕ, zero, suc, Bool, if◌then◌else◌, List, [], ◌∷◌, ◌++◌}
 use Rattle.std.specs.Prelude.{length, slice_index}
 use Rattle.nvm_board.specs.declared.board.TheConstants.{MOST_PAGES}
 use Rattle.nvm_board.specs.Facts.{IsMemory}
@@ -69,6 +69,17 @@ leads_next m from (p ∷ ps) (suc k) leads lt =
     let below : k < length ps = omega arith in
     let place : suc k + 1 ≡ suc (k + 1) = omega arith in
     leads_next m (link m p) ps k leads.2 below ∙ ap (λ (i : ℕ). slice_index (p ∷ ps) i) (sym place)
+
+-- the block at the next place of a chain, where it is looked up only when a block ends there
+pub next_block : (ps : List ℕ) (i j left page after next : ℕ) → (left ≡ 0 → j ≡ i + 1) → ((left ≡ 0 → ⊥) → j ≡ i)
+    → page ≡ slice_index ps i → after ≡ slice_index ps (i + 1) → next ≡ (if left == 0 then after else page)
+    → next ≡ slice_index ps j
+next_block ps i j left page after next ends goes is is_after told = elim (eqb_tells left 0) [
+  | inl none ↦ told ∙ ap (λ (b : Bool). if b then after else page) none.0 ∙ is_after
+      ∙ ap (slice_index ps) (sym (ends none.1))
+  | inr some ↦ told ∙ ap (λ (b : Bool). if b then after else page) some.0 ∙ is
+      ∙ ap (slice_index ps) (sym (goes some.1))
+]
 
 pub leads_block : (m : List ℕ) (from to : ℕ) (ps : List ℕ) (k : ℕ) → Leads m from ps to → k < length ps
     → IsBlock m (slice_index ps k)
