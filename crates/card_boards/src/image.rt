@@ -8,10 +8,10 @@ ghost use Rattle.card_start.specs.Running.{StartStopsBy};
 ghost use Rattle.card_start.specs.Starting.{power_on_writes};
 ghost use Rattle.card_boards.specs.Images.{IsRefusedRightly};
 
-use card_start::{StartFault, survey_card};
+use card_start::{StartFault, survey_card, survey_of};
 use simulated_boards::CutBoard;
 use std::alloc::Global;
-use undo_journal::{Store, StoreErr};
+use undo_journal::Store;
 
 /// Why an image is no card's.
 #[derive(Debug, Drop)]
@@ -60,10 +60,8 @@ fn power_on(board: CutBoard) -> Result<(), (CutBoard, StartFault)>
         Ok(store) => store,
         Err((board, fault)) => return Err((board, StartFault::from(fault))),
     };
-    match survey_card(&mut store) {
-        Ok(Some(_)) => Ok(()),
-        Ok(None) => Err((store.into_board(), StartFault::Damaged)),
-        Err(StoreErr::PowerLost) => Err((store.into_board(), StartFault::PowerLost)),
-        Err(StoreErr::Fault) => Err((store.into_board(), StartFault::Fault)),
+    match survey_of(survey_card(&mut store)) {
+        Ok(_) => Ok(()),
+        Err(fault) => Err((store.into_board(), fault)),
     }
 }

@@ -1,11 +1,9 @@
 //! A powered card and its commands.
 ghost use Rattle.std.specs.Prelude.{◌≡◌, ◌⊎◌, ◌≤◌, ◌+◌, true, false, [], length, IsOk, IsErr, OnOk};
-ghost use Rattle.std.specs.Prelude.{OnErr, IfOk, IfErr, IsErrOf, Ok, Err, MatchOption, MatchResult, ℕ, List};
+ghost use Rattle.std.specs.Prelude.{OnErr, IfOk, IfErr, IsErrOf, Ok, Err, ℕ, List};
 ghost use Rattle.nvm_board.specs.Aims.{due_of};
 ghost use Rattle.nvm_board.specs.BoardCalls.{Arms};
 ghost use Rattle.undo_journal.specs.declared.error.StoreErr.TheVariants as StoreErr;
-ghost use Rattle.card_start.specs.declared.faults.StartFault.TheVariants as StartFault;
-ghost use Rattle.card_start.specs.FaultParts.{fault_of_store};
 ghost use Rattle.undo_journal.specs.Spending.{Advances, WritesAtMost, KeepsBoard};
 ghost use Rattle.ef_contents.specs.UpdateWrites.{update_writes};
 ghost use Rattle.card_model.specs.CommandTable.{asked};
@@ -28,7 +26,7 @@ ghost use Rattle.command_base.specs.declared.spending.TheConstants.{COMMAND_WRIT
 use crate::card_parts::CardParts;
 use crate::commands::run_command;
 use apdu_core::{Answer, Sw};
-use card_start::{CardState, PowerLost, StartFault, survey_card};
+use card_start::{CardState, PowerLost, StartFault, survey_card, survey_of};
 use command_base::Current;
 use file_tree::FreeSpace;
 use std::marker::Model;
@@ -240,20 +238,6 @@ impl<B: Armed> Card<B> {
         ensures same { self.new ≡ record self.old { facts = self.new.facts } }
     {
         self.parts.store.arm(k, mask);
-    }
-}
-
-/// Returns what power-on found of the card, or why power-on fails.
-fn survey_of(found: Result<Option<Survey>, StoreErr>) -> Result<Survey, StartFault>
-    ensures { MatchResult found
-        (λ card. MatchOption card (result ≡ Err StartFault.Damaged) (λ survey. result ≡ Ok survey))
-        (λ e. result ≡ Err (fault_of_store e)) }
-{
-    match found {
-        Ok(Some(survey)) => Ok(survey),
-        Ok(None) => Err(StartFault::Damaged),
-        Err(StoreErr::PowerLost) => Err(StartFault::PowerLost),
-        Err(StoreErr::Fault) => Err(StartFault::Fault),
     }
 }
 

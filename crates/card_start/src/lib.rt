@@ -16,4 +16,4 @@ pub use faults::{PowerLost, StartFault};
 pub use layout::CARD_IN_USE;
 pub use memory_format::MemoryFormat;
 pub use state::CardState;
-pub use surveying::survey_card;
+pub use surveying::{survey_card, survey_of};

@@ -1,5 +1,5 @@
 //! Checks the card image at power-on, and migrates it to format 2 if needed.
-ghost use Rattle.std.specs.Prelude.{◌≡◌, ◌⊎◌, ◌+◌, ◌≤◌, IfOk, IsSome, if◌then◌else◌};
+ghost use Rattle.std.specs.Prelude.{◌≡◌, ◌⊎◌, ◌+◌, ◌≤◌, Ok, Err, IfOk, IsSome, MatchOption, MatchResult, if◌then◌else◌};
 ghost use Rattle.block_chain.specs.BlockWords.{word};
 ghost use Rattle.block_chain.specs.declared.layout.TheConstants.{HEADER_PAGE};
 ghost use Rattle.file_tree.specs.declared.layout.TheConstants.{MARK_WORD};
@@ -11,8 +11,11 @@ ghost use Rattle.file_tree.specs.Formats.{is_format_2};
 ghost use Rattle.migration.specs.Migrating.{Migrates, migration_writes};
 ghost use Rattle.command_base.specs.Standing.{IsOldCard};
 ghost use Rattle.card_start.specs.CardSurveys.{TellsSurvey};
+ghost use Rattle.card_start.specs.FaultParts.{fault_of_store};
+ghost use Rattle.card_start.specs.declared.faults.StartFault.TheVariants as StartFault;
 
 use crate::check::find_card;
+use crate::faults::StartFault;
 use crate::memory_format::MemoryFormat;
 use file_tree::{FreeSpace, OLD_END_PAGE};
 use migration::migrate;
@@ -52,5 +55,22 @@ pub fn survey_card<B: Board>(store: &mut Store<B>) -> Result<Option<Survey>, Sto
                 index: found.tree.index,
             }))
         }
+    }
+}
+
+/// Returns what a survey found of the card, or why power-on fails.
+///
+/// # Errors
+/// `Damaged` if it found no valid card image; `PowerLost` and `Fault` as the store failed.
+pub fn survey_of(found: Result<Option<Survey>, StoreErr>) -> Result<Survey, StartFault>
+    ensures { MatchResult found
+        (λ card. MatchOption card (result ≡ Err StartFault.Damaged) (λ survey. result ≡ Ok survey))
+        (λ e. result ≡ Err (fault_of_store e)) }
+{
+    match found {
+        Ok(Some(survey)) => Ok(survey),
+        Ok(None) => Err(StartFault::Damaged),
+        Err(StoreErr::PowerLost) => Err(StartFault::PowerLost),
+        Err(StoreErr::Fault) => Err(StartFault::Fault),
     }
 }
