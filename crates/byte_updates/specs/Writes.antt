@@ -10,7 +10,7 @@ use Rattle.undo_journal.specs.laws.Waits.{AreAscending}
 use Rattle.block_chain.specs.declared.layout.TheConstants.{BLOCK_WORDS, FIRST_BLOCK_PAGE, WORD_BYTES}
 use Rattle.block_chain.specs.ChainChanges.{touched_words}
 
--- 1 if word k of a chain begins a run, else 0. It does so at the begin of a block, and at the begin of a batch of the
+-- 1 if word k of a chain begins a run, else 0. It does so at the start of a block, and at the start of a batch of the
 -- words from `first` on.
 abbrev pub begins_run : ℕ → ℕ → ℕ
 begins_run first k = if (k % BLOCK_WORDS == 0) || ((k - first) % BATCH == 0) then 1 else 0

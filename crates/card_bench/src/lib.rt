@@ -1,4 +1,4 @@
-//! The bench: a card behind its end of the link, and the scripts that drive it.
+//! Runs scripts at a bench, line by line.
 #![tactic(auto)]
 
 mod desk;

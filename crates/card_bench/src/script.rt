@@ -56,7 +56,7 @@ pub fn run<P: TurnPlayer<Board = CutBoard> + Drop, R: BufRead, W: Write>(
 }
 
 /// Runs a script on the card in a board's memory.
-/// Power is off at the begin. A line has an answer only if the board's follower has all writes.
+/// Power is off at the start. A line has an answer only if the board's follower has all writes.
 ///
 /// # Errors
 ///

@@ -5,7 +5,7 @@ use file_tree::{FreeSpace, Index};
 use undo_journal::{Board, Store};
 
 /// The parts of a card that its commands borrow.
-/// `IsWhole` is their common invariant while the card works.
+/// `IsWholeCard` is their common invariant while the card works.
 #[derive(Drop)]
 pub(crate) struct CardParts<B: Board> {
     pub store: Store<B>,

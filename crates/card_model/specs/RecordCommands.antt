@@ -55,7 +55,7 @@ with_records (elementary short (linear long capacity records)) new = elementary 
 with_records (elementary short (cyclic long capacity records)) new = elementary short (cyclic long capacity new)
 with_records kind new = kind
 
--- The record pointer at the begin of a command. An EF named by its short identifier becomes current anew, so that its
+-- The record pointer at the start of a command. An EF named by its short identifier becomes current anew, so that its
 -- pointer is unset.
 abbrev pub pointer_at : Session → Target → Option ℕ
 pointer_at s Current = s.pointer

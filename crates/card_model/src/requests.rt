@@ -1,6 +1,6 @@
 //! The parts of a request.
 
-/// The EF that a binary command works on.
+/// The EF that a command on contents works on.
 #[derive(Clone, Copy)]
 pub enum Target {
     /// The current EF.
@@ -12,7 +12,7 @@ pub enum Target {
 /// The file that a command on files works on.
 #[derive(Clone, Copy)]
 pub enum Subject {
-    /// The current EF, or else the current DF.
+    /// The current file: the current EF, or the current DF, as the command says.
     Current,
     /// The file that SELECT by this identifier selects from the current DF.
     Identifier(u16),

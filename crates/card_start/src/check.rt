@@ -22,6 +22,9 @@ pub(crate) struct Checked {
 }
 
 /// Returns a word of the header.
+///
+/// # Errors
+/// The store fails.
 pub fn header_word<B: Board>(store: &mut Store<B>, place: u16) -> Result<u32, StoreErr>
     requires ready { IsReady store.old }
     requires place { place < PAGE_WORDS }

@@ -24,6 +24,9 @@ use undo_journal::{Board, Store, StoreErr};
 
 /// Checks the card image, and migrates it to format 2 if needed.
 /// Returns `None` if it is no valid card image. At every exit the card state is the same, in the format of its header.
+///
+/// # Errors
+/// The store fails.
 pub fn survey_card<B: Board>(store: &mut Store<B>) -> Result<Option<Survey>, StoreErr>
     requires ready { IsReady store.old }
     ensures any_exit { (committed store.new ≡ committed store.old)

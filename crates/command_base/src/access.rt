@@ -32,6 +32,9 @@ fn disabled_pins<B: Board>(store: &mut Store<B>) -> Result<PinSet, StoreErr>
 /// Returns true if the file's rule allows `bit` in this session.
 /// It reads no word of the entry. It reads the marks of the PINs only if the verified PINs don't meet the rule,
 /// as a disabled PIN refuses nothing.
+///
+/// # Errors
+/// The store fails.
 pub fn allows<B: Board>(
     store: &mut Store<B>,
     current: &Current,

@@ -56,6 +56,9 @@ impl From<PinErr> for Stop {
 }
 
 /// Returns the answer: a refusal gives its status word.
+///
+/// # Errors
+/// The store failed.
 pub fn reply(ended: Result<Sw, Stop>) -> Result<Sw, StoreErr>
     ensures { result ≡ reply ended }
 {

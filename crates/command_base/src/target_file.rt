@@ -48,8 +48,11 @@ pub struct TargetFile {
     pub entry: Entry,
 }
 
-/// Returns the file that a command on contents names, or the refusal.
-/// The refusals in order: there is no such file; it is barred; its structure doesn't fit; its rule forbids the command.
+/// Returns the file that a command on contents names.
+///
+/// # Errors
+/// In this order: 6986 without a current EF, or 6A82 without the named file; 6985 if it is barred; 6981 if its
+/// structure doesn't fit; 6982 if its rule forbids the command. Or the store fails.
 #[tactic(auto, using(undo_journal::specs::laws::Calls::reads_then))]
 pub fn find_file<B: Board>(
     store: &mut Store<B>,
@@ -104,7 +107,10 @@ pub struct Findings {
 }
 
 impl Findings {
-    /// Returns the refusal of a command, if one is due.
+    /// Lets a command go on, or refuses it.
+    ///
+    /// # Errors
+    /// The status word of the first refusal that is due.
     pub fn check(self) -> Result<(), Sw>
         ensures { result_err result ≡ file_refusal self.barred self.fits self.allowed }
     {

@@ -24,6 +24,9 @@ impl From<Sw> for BodyErr {
 }
 
 /// Returns the store's result with the error type of a body.
+///
+/// # Errors
+/// The store's.
 pub fn from_store(answered: Result<(), StoreErr>) -> Result<(), BodyErr>
     ensures { result_err result ≡ option_map Store (result_err answered) }
 {

@@ -32,6 +32,11 @@ use undo_journal::{Board, Store, StoreErr};
 /// CREATE FILE: adds a file to the current dedicated file.
 /// It first fills the file's blocks, outside any file. Then one transaction adds the file, which becomes current.
 /// The free space decreases by the file's size. Returns the status word.
+///
+/// # Errors
+/// 6985 if the current dedicated file is barred; 6A80 by the template; 6982 by its rule; 6A89 if the identifier is
+/// taken; 6A8A if the name is; 6A80 if the short identifier is; 6985 at level 8; 6A84 without room. Or the store
+/// fails.
 pub fn create_file<B: Board>(
     store: &mut Store<B>,
     current: &mut Current,
@@ -121,6 +126,10 @@ fn creation_bit(kind: &FileKind<'_>) -> AccessBit
 
 /// DELETE FILE: deletes a file and all below it, in one transaction.
 /// Its parent becomes the current dedicated file, and the free space grows by the files' size. Returns the status word.
+///
+/// # Errors
+/// 6A82 without the file; 6985 for the master file, or if the parent is barred; 6982 by both rules. Or the store
+/// fails.
 pub fn delete_file<B: Board>(
     store: &mut Store<B>,
     current: &mut Current,

@@ -33,6 +33,10 @@ pub(crate) struct Changed {
 /// It needs one transaction.
 /// The commands are ACTIVATE FILE, DEACTIVATE FILE, TERMINATE DF and TERMINATE EF. A file that is in the state already
 /// needs no write. Returns the status word.
+///
+/// # Errors
+/// 6A82 or 6986 without the file; 6985 if an ancestor is barred, or by the file's life cycle; 6981 by its kind; 6982
+/// by its rule. Or the store fails.
 pub fn change_life_cycle<B: Board>(
     store: &mut Store<B>,
     index: &Index,
@@ -51,6 +55,9 @@ pub fn change_life_cycle<B: Board>(
 
 /// TERMINATE CARD USAGE: permanently terminates the card, in one transaction.
 /// The rule of the master file must allow it. Returns the status word.
+///
+/// # Errors
+/// 6982 by the rule of the master file. Or the store fails.
 pub fn terminate_card_usage<B: Board>(store: &mut Store<B>, current: &Current) -> Result<Sw, Stop>
     requires kept { IsKept store.old current.now }
     ensures { Executes (terminating) store.old current.now store.new current.now [] (reply result) }

@@ -24,6 +24,9 @@ fn bars(life: LifeCycle) -> bool
 
 /// Returns true if an ancestor is deactivated or terminated. At most seven steps to parents meet all ancestors. Each
 /// step reads the head of one entry, and the first file that bars ends the walk. `parent` is the parent in entry `e`.
+///
+/// # Errors
+/// The store fails.
 pub fn is_below_barred<B: Board>(
     store: &mut Store<B>,
     e: EntryNumber,

@@ -84,6 +84,9 @@ pub fn find_end<B: Board>(store: &mut Store<B>) -> Result<u8, StoreErr>
 
 /// Fills an empty table with the entries before `end`. It reads the first word of each, and eleven more of each used
 /// one. The table is filled in place, since it is long.
+///
+/// # Errors
+/// The store fails.
 pub fn fill_table<B: Board, const N: usize>(
     store: &mut Store<B>,
     end: u8,

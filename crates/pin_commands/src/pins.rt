@@ -47,6 +47,9 @@ impl Usable {
 
 /// VERIFY: verifies the PIN if its value is presented.
 /// Without data it returns the remaining tries. Returns the status word.
+///
+/// # Errors
+/// 6983 without tries; 6984 if the PIN is disabled. Or the store fails.
 pub fn verify<B: Board>(
     store: &mut Store<B>,
     current: &mut Current,
@@ -68,6 +71,9 @@ pub fn verify<B: Board>(
 
 /// CHANGE REFERENCE DATA: replaces the presented value, and verifies the PIN.
 /// Returns the status word.
+///
+/// # Errors
+/// 6983 without tries; 6984 if the PIN is disabled. Or the store fails.
 pub fn change_reference_data<B: Board>(
     store: &mut Store<B>,
     current: &mut Current,
@@ -87,6 +93,9 @@ pub fn change_reference_data<B: Board>(
 /// RESET RETRY COUNTER: sets a new value and resets the tries.
 /// The unblocking value is presented.
 /// It also verifies the PIN. Without data it returns the remaining unblocking tries. Returns the status word.
+///
+/// # Errors
+/// 6983 without tries of the unblocking value. Or the store fails.
 pub fn reset_retry_counter<B: Board>(
     store: &mut Store<B>,
     current: &mut Current,
@@ -109,6 +118,9 @@ pub fn reset_retry_counter<B: Board>(
 
 /// DISABLE or ENABLE VERIFICATION REQUIREMENT: changes the requirement, with the PIN's value.
 /// It also verifies the PIN. Returns the status word.
+///
+/// # Errors
+/// 6983 without tries; 6984 if DISABLE finds the PIN disabled; 6985 if ENABLE finds it enabled. Or the store fails.
 pub fn change_requirement<B: Board>(
     store: &mut Store<B>,
     current: &mut Current,

@@ -22,8 +22,10 @@ const INCREASING: Need = Need {
 /// INCREASE: adds a number to the newest record.
 /// The file is the current cyclic one, and the new record becomes the current record. The sum and then the sent number
 /// go into `answer`. Returns the status word.
-/// The refusals in order: by the file; the number is too long; there is no record; the sum overflows the record;
-/// Le requests less than the answer.
+///
+/// # Errors
+/// Those of `find_file`; then 6700 if the number or the answer is too long, 6A83 without a record, 9850 if the sum
+/// overflows the record, and 6CXX if Le requests less than the answer.
 pub fn increase<B: Board>(
     store: &mut Store<B>,
     current: &mut Current,

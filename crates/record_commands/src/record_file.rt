@@ -160,6 +160,9 @@ impl RecordFile {
 
     /// Replaces the record of a slot, in one transaction.
     /// In a cyclic file it overwrites the oldest record, and the new one becomes record 1.
+    ///
+    /// # Errors
+    /// The store fails: power was lost, or the device failed.
     pub fn replace<B: Board>(
         &self,
         slot: RecordSlot,
@@ -213,6 +216,9 @@ impl RecordFile {
 
 impl Room {
     /// Adds a record, in one transaction.
+    ///
+    /// # Errors
+    /// The store fails: power was lost, or the device failed.
     pub fn fill<B: Board>(self, store: &mut Store<B>, bytes: &[u8]) -> Result<(), StoreErr>
         requires body { TakesRecord store.old (ring_room self) bytes.now }
         ensures { Commits (RingBecomes (wraps_room self) (committed store.old) (ring_room self) (appended_in

@@ -70,6 +70,9 @@ pub(crate) fn find_records<B: Board>(
 
 /// READ RECORD: writes the record into `answer`.
 /// Le is 00 or the length of a record. Returns the status word.
+///
+/// # Errors
+/// Those of `find_file`; then 6A83 without the record, and 6CXX unless Le is 00 or the length of the record.
 pub fn read_record<B: Board>(
     store: &mut Store<B>,
     current: &mut Current,
@@ -98,6 +101,10 @@ pub fn read_record<B: Board>(
 
 /// UPDATE RECORD: replaces a record, in one transaction.
 /// In a cyclic file only the oldest record can be replaced (mode previous). The new one becomes record 1 and current.
+///
+/// # Errors
+/// Those of `find_file`; in a cyclic file each mode but previous is 6981. Then 6A83 without the record, and 6700 for
+/// another length.
 pub fn update_record<B: Board>(
     store: &mut Store<B>,
     current: &mut Current,
@@ -121,6 +128,9 @@ pub fn update_record<B: Board>(
 
 /// APPEND RECORD: adds a record, in one transaction.
 /// It becomes the last record of a linear file or the first of a cyclic one, and the current record.
+///
+/// # Errors
+/// Those of `find_file`; then 6A84 if a linear file is full, and 6700 for another length.
 pub fn append_record<B: Board>(
     store: &mut Store<B>,
     current: &mut Current,
@@ -141,6 +151,9 @@ pub fn append_record<B: Board>(
 
 /// SEARCH RECORD: writes the numbers of matching records into `answer`.
 /// The first of them becomes the current record. Returns the status word.
+///
+/// # Errors
+/// Those of `find_file`; then 6A83 without the first record, and 6CXX if Le is below the length of the answer.
 pub fn search_record<B: Board>(
     store: &mut Store<B>,
     current: &mut Current,

@@ -60,6 +60,7 @@ impl LineResult {
             Ending::Dark => LineResult::Dark,
         }
     }
+
     /// Prints the result, and flushes. Without output it doesn't use the writer.
     /// The reader's end stores the answer to the last command, and the buffer the block that returned last.
     ///

@@ -32,6 +32,9 @@ pub const NO_TEXT: PrintedText = [0; PRINTED_ROOM];
 const FREE_ROOM: usize = 96;
 
 /// Writes bytes of the card as a line of hexadecimal digits.
+///
+/// # Errors
+/// `Write` if the writer fails, or takes nothing.
 pub fn print_bytes<W: Write>(
     writer: &mut W,
     bytes: &[u8],
@@ -49,6 +52,9 @@ pub fn print_bytes<W: Write>(
 }
 
 /// Writes the free space as a line.
+///
+/// # Errors
+/// `Write` if the writer fails, or takes nothing.
 // Not inlined, so that other lines don't pay for its buffers.
 #[inline(never)]
 pub fn print_free<W: Write>(writer: &mut W, free: FreeSpace) -> Result<(), RunFault>
@@ -111,6 +117,9 @@ fn tell(free: FreeSpace, line: &mut ArrayVec<u8, FREE_ROOM>)
 }
 
 /// Writes a whole line, and flushes.
+///
+/// # Errors
+/// `Write` if the writer fails, or takes nothing.
 pub fn write_line<W: Write>(writer: &mut W, line: &[u8]) -> Result<(), RunFault>
     ensures wrote { OnOk result (Appends (W.contents writer.old) (W.contents writer.new) line.now) }
     ensures began { OnErr result

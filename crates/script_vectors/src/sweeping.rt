@@ -197,8 +197,7 @@ fn check<R: Abort + AllocGlobal>(
 }
 
 /// What a command's sweep gives where no start is cut: of so many runs all but the last find the card before it, and
-/// the
-/// last one the card after it.
+/// the last one the card after it.
 fn check_once<R: Abort + AllocGlobal>(
     rt: &R,
     case: &Case,

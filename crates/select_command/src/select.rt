@@ -29,6 +29,9 @@ const PATH_ROOM: usize = 7;
 
 /// SELECT: makes a file current, and returns its template on request.
 /// An Le below the length of the template is refused. Returns the status word.
+///
+/// # Errors
+/// 6A82 without the file; 6CXX if Le is below the length of the template. Or the store fails.
 pub fn select_file<B: Board>(
     store: &mut Store<B>,
     index: &Index,

@@ -66,9 +66,8 @@ impl CutBoard {
         })
     }
 
-    /// A lit board with these words, whose counts are 0 and on which no cut is to come. None if no board has that
-    /// number
-    /// of words: 16 a page, 1,024 to 4,096 pages.
+    /// A lit board with these words, whose counts are 0 and on which no cut is to come.
+    /// None if no board has that number of words: 16 a page, 1,024 to 4,096 pages.
     pub fn of_words(words: Vec<u32>) -> Option<CutBoard>
         ensures board { IfSome result (λ b. cut_facts b ≡ board_with words.items) }
         ensures torn { IfSome result (λ b. last_torn b ≡ 0) }

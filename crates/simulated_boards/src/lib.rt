@@ -1,5 +1,5 @@
 //! Boards that are simulated in working memory: a plain one, one that loses power at a set write, and one whose
-//! device fails at a set write.
+//! device fails at a set call or write.
 #![tactic(auto)]
 
 mod arming;

@@ -135,6 +135,9 @@ fn push_kind(
 }
 
 /// Appends a line for each device write.
+///
+/// # Errors
+/// There is too little memory.
 pub fn push_kinds(
     alloc: Global,
     text: &mut String,

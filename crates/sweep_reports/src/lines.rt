@@ -67,6 +67,9 @@ fn push_last(alloc: Global, text: &mut String, items: &[Item]) -> Result<(), All
 }
 
 /// Returns how the lines of a stage begin: its name, and the answer of the last turn up to it.
+///
+/// # Errors
+/// There is too little memory.
 pub fn stage_head(alloc: Global, stage: &str, trace: &[Item]) -> Result<String, AllocError>
     ensures { IfOk result (λ head. string_bytes head ≡ stage_head stage.now trace.now) }
 {
@@ -77,6 +80,9 @@ pub fn stage_head(alloc: Global, stage: &str, trace: &[Item]) -> Result<String, 
 }
 
 /// Returns how the lines of a cut begin. `i` is the number of the mask from 0.
+///
+/// # Errors
+/// There is too little memory.
 pub fn cut_head(alloc: Global, write: u32, i: u8, mask: u16) -> Result<String, AllocError>
     ensures { IfOk result (λ head. string_bytes head ≡ cut_head write i mask) }
 {
@@ -161,6 +167,9 @@ fn push_result(
 }
 
 /// Appends the lines of results. `looks` has the number of turns of each line of the probe.
+///
+/// # Errors
+/// There is too little memory.
 pub fn push_results(
     alloc: Global,
     text: &mut String,
@@ -178,6 +187,9 @@ pub fn push_results(
 }
 
 /// Appends the last line of a report: the number of device writes, and the depth.
+///
+/// # Errors
+/// There is too little memory.
 pub fn push_total(
     alloc: Global,
     text: &mut String,

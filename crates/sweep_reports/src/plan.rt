@@ -48,6 +48,9 @@ where
 }
 
 /// Appends the result of the probe after turns on a copy of the board.
+///
+/// # Errors
+/// There is too little memory.
 pub fn push_stage<P: TurnPlayer + Drop>(
     plan: &Plan<'_, P::Board>,
     stage: &str,
@@ -173,6 +176,9 @@ where
 }
 
 /// Appends the cuts of the part, and the number of device writes.
+///
+/// # Errors
+/// There is too little memory.
 pub fn push_writes<P: TurnPlayer + Drop>(
     plan: &Plan<'_, P::Board>,
     progress: &impl Eprint,
@@ -247,6 +253,9 @@ where
 }
 
 /// Appends the kinds of the device writes, if this is the first part.
+///
+/// # Errors
+/// There is too little memory.
 pub fn push_first_part<P: TurnPlayer + Drop>(
     plan: &Plan<'_, P::Board>,
     text: &mut String,
