@@ -33,6 +33,7 @@ struct slot {
     time_t gone_until;
     DWORD lun;
     int file;
+    off_t size; /* of the file, in bytes */
     soffitfennel_card card;
 };
 
@@ -122,6 +123,7 @@ static bool insert_card(struct slot *slot, const char *path, uint32_t *words)
         words[i] = be32toh(words[i]);
     if (soffitfennel_insert(&slot->card, words, count, true) != SOFFITFENNEL_DONE)
         return complain(path, "its words are no card's, or there is too little memory");
+    slot->size = size;
     return true;
 }
 
@@ -206,7 +208,15 @@ RESPONSECODE IFDHSetProtocolParameters(DWORD Lun, DWORD Protocol, UCHAR Flags, U
     return Protocol == SCARD_PROTOCOL_T1 ? IFD_SUCCESS : IFD_PROTOCOL_NOT_SUPPORTED;
 }
 
-/* Stores the writes of a call in the file, in order. False: the file doesn't take one. */
+/* Whether the file still has a name, and its size. */
+static bool is_there(const struct slot *slot)
+{
+    struct stat told;
+
+    return fstat(slot->file, &told) == 0 && told.st_nlink > 0 && told.st_size == slot->size;
+}
+
+/* Stores the writes of a call in the file, in order. False: the file doesn't take one, or is gone or cut short. */
 static bool store_writes(struct slot *slot)
 {
     UCHAR bytes[SOFFITFENNEL_WRITE];
@@ -214,7 +224,7 @@ static bool store_writes(struct slot *slot)
 
     while (soffitfennel_write(&slot->card, &offset, bytes, sizeof bytes, &size) == SOFFITFENNEL_DONE && size > 0)
         if (pwrite(slot->file, bytes, size, (off_t)offset) != (ssize_t)size
-            || (slot->has_sync && fdatasync(slot->file) != 0))
+            || (slot->has_sync && fdatasync(slot->file) != 0) || !is_there(slot))
             return false;
     return true;
 }

@@ -187,6 +187,23 @@ static void full_file(DWORD lun)
     same(presence(lun), IFD_ICC_NOT_PRESENT, "a card whose file failed stays out");
 }
 
+/* Files that are gone, or cut short, while readers use them: the clients get no answer, and the cards stay out. */
+static void lost_files(const char *folder)
+{
+    char path[4096];
+
+    snprintf(path, sizeof path, "%s/card1", folder);
+    if (unlink(path) != 0)
+        exit(1);
+    snprintf(path, sizeof path, "%s/card2", folder);
+    if (truncate(path, 0) != 0)
+        exit(1);
+    for (DWORD lun = 1; lun < 3; lun++) {
+        ask(lun, "002000010831323334FFFFFFFF", IFD_COMMUNICATION_ERROR, "");
+        same(presence(lun), IFD_ICC_NOT_PRESENT, "a card whose file is gone is out");
+    }
+}
+
 static void readers(const char *folder, char *path)
 {
     char name[16], *last = path;
@@ -202,6 +219,7 @@ static void readers(const char *folder, char *path)
     same(create(4, file_of(folder, "card4", 0)), IFD_COMMUNICATION_ERROR, "a fifth reader");
     ask(2, "00A4000C022FE2", IFD_SUCCESS, "9000");
     ask(2, "00B0000004", IFD_SUCCESS, "981032549000");
+    lost_files(folder);
     full_file(3);
     for (DWORD lun = 0; lun < 4; lun++)
         same(end(lun), IFD_SUCCESS, "the reader ends");
