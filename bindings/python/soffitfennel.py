@@ -98,6 +98,10 @@ class Card:
 
     def __init__(self, words: Sequence[int] | None = None, kept: bool = False):
         """The factory card, or the card whose memory has these words, which may be a kept one; with power off."""
+        if words is None and kept:
+            raise ValueError("a kept card is one with words")
+        if any(not 0 <= word < 1 << 32 for word in words or ()):
+            raise ValueError("a word has 32 bits")
         self._at = ctypes.c_void_p()
         if words is None:
             _check(_library.soffitfennel_factory(self._at))

@@ -65,6 +65,14 @@ class Cards(unittest.TestCase):
         self.assertEqual(image, b"".join(word.to_bytes(4, "big") for word in card.words()))
         self.assertEqual(card.transmit(READ_ICCID), UPDATE[5:] + ICCID[4:])
 
+    def test_words(self) -> None:
+        words = Card().words()
+        for given in ([1 << 32, *words[1:]], [-1, *words[1:]]):
+            with self.assertRaises(ValueError):
+                Card(given)
+        with self.assertRaises(ValueError):
+            Card(kept=True)
+
     def test_line(self) -> None:
         card = powered()
         card.lose(2)
