@@ -41,6 +41,8 @@ def of_the_file(checks: Checks, bench: Bench) -> None:
     refused(checks, bench, "another number of pages", "1024 pages", "--pages", "2048")
     for words in (["--pages", "1023"], ["--pages", "4097"], ["--pages", "many"], ["--pages"], ["--else"]):
         refused(checks, bench, f"the words {' '.join(words)}", "usage", *words)
+    foreign = Bench(bench.path, bench.image.parent / os.fsdecode(b"caf\xe9.card"))
+    refused(checks, foreign, "a name that is not UTF-8", "usage")
     folder = Bench(bench.path, bench.image.parent)
     refused(checks, folder, "a folder", "Is a directory")
     refused(checks, Bench(bench.path, Path("/no/such/folder/card")), "a folder that isn't there", "can't be made")

@@ -43,8 +43,7 @@ fn refuse(rt: &impl Eprint, fault: &CardFault) -> ExitCode {
     ExitCode::from(NO_CARD)
 }
 
-/// Returns what the command line asks for.
-/// A word that is not UTF-8 is no option, so then it asks for the factory card.
+/// Returns what the command line asks for. A word that is not UTF-8 is no option.
 fn asked(rt: &HostRuntime) -> Result<Asked, RunFault> {
     match env::args(rt) {
         Ok(mut words) => {
@@ -52,7 +51,7 @@ fn asked(rt: &HostRuntime) -> Result<Asked, RunFault> {
             Ok(read_words(words))
         }
         Err(error) if error.kind() == ErrorKind::OutOfMemory => Err(RunFault::Memory),
-        Err(_) => Ok(Asked::Factory),
+        Err(_) => Ok(Asked::Unknown),
     }
 }
 
