@@ -139,6 +139,8 @@ pub fn sweep_behind<P: TurnPlayer + Drop>(
 where
     P::Board: Sweepable + Drop,
     ensures sum { IfOk result (λ s. sum_by times_seen s.seen.items ≡ s.runs) }
+    ensures runs { IfOk result (λ s. HasCard (P.Board.facts board.now).words
+        → All (EndsBehindStarts depth (P.Board.facts board.now) probe.now) (findings s.seen.items)) }
     ensures complete { IfOk result (λ s. HasCard (P.Board.facts board.now).words → s.runs < 2 ^ 32 - 1
         → CountsRuns (AreAllBehind depth probe.now (P.Board.facts board.now)) [] s.seen.items) }
 {

@@ -1,15 +1,15 @@
 -- The report of a sweep, and its parts.
 use Rattle.std.specs.Prelude.{◌≡◌, ◌⊎◌, ◌≤◌, ◌<◌, ◌+◌, ◌-◌, ◌^◌, ℕ, zero, suc, Bool, true, false, List, [], ◌∷◌}
-use Rattle.std.specs.Prelude.{◌++◌, codes, Option}
+use Rattle.std.specs.Prelude.{◌++◌, All, codes, Option}
 use Rattle.std.specs.Io.KnownBytes.{Appends}
 use Rattle.nvm_board.specs.Facts.{Facts}
 use Rattle.bench_turns.specs.declared.turn.Turn.{Turn}
 use Rattle.bench_turns.specs.declared.turn.Item.{Item}
 use Rattle.card_sweeps.specs.declared.tally.Seen.{Seen}
 use Rattle.card_sweeps.specs.Masks.{mask_of, mask_count_of, words_tried}
-use Rattle.card_sweeps.specs.Sweeps.{CutsCommand, PlaysOn}
+use Rattle.card_sweeps.specs.Sweeps.{CutsCommand, EndsBehindStarts, PlaysOn}
 use Rattle.card_sweeps.specs.SweptRuns.{AreAllBehind, IsUnmade}
-use Rattle.card_sweeps.specs.Tallies.{CountsRuns, IsTally}
+use Rattle.card_sweeps.specs.Tallies.{CountsRuns, IsTally, findings}
 use Rattle.sweep_reports.specs.declared.device_writes.DeviceWrite.{DeviceWrite}
 use Rattle.sweep_scripts.specs.declared.parts.SweepPart.{SweepPart}
 use Rattle.sweep_scripts.specs.declared.script.SweepScript.{SweepScript}
@@ -33,13 +33,14 @@ pub record Sweeping {B : Type 0} (facts : B → Facts) (torn : B → ℕ) : Type
   pub part : SweepPart
 
 -- The results of all runs after a cut that left this board, each with the number of its runs. At the end of that count
--- the sweep stops. Each line begins with the head, and has the answer of each line of the probe, by its number of
--- turns.
+-- the sweep stops. Each result is that of a run. A line begins with the head, and has the answer of each line of the
+-- probe, by its number of turns.
 pub record AreResults (looks head : List ℕ) (depth : ℕ) (probe : List Turn) (board : Facts) (text : List ℕ) : Type 0
   where
     pub runs : ℕ
     pub seen : List Seen
     pub tally : IsTally runs seen
+    pub given : All (EndsBehindStarts depth board probe) (findings seen)
     pub all : runs < 2 ^ 32 - 1 → CountsRuns (AreAllBehind depth probe board) [] seen
     pub text_is : text ≡ results_text looks head seen
 

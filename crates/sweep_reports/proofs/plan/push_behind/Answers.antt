@@ -14,6 +14,7 @@ returns g c =
         runs = found.runs;
         seen = found.seen.items;
         tally = record { sum = found.sum; given = found.given; different = found.different };
+        given = c.in_ok-found.ensures.runs card;
         all = c.in_ok-found.ensures.complete card;
         text_is = refl;
       };
