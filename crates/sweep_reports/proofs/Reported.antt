@@ -1,5 +1,5 @@
 -- What is printed of a sweep, put together from its parts.
-use Rattle.std.specs.Prelude.{◌≡◌, ◌⊎◌, ◌+◌, ◌-◌, ◌^◌, ℕ, zero, suc, List, [], ◌∷◌, ◌++◌, codes, take, drop}
+use Rattle.std.specs.Prelude.{◌≡◌, ◌⊎◌, ◌+◌, ◌-◌, ◌^◌, ℕ, suc, List, [], ◌∷◌, ◌++◌, codes, take, drop}
 use Rattle.std.proofs.Common.{refl, sym, ◌∙◌, ap, subst, arith, append-nil}
 use Rattle.nvm_board.specs.Facts.{Facts}
 use Rattle.bench_turns.specs.declared.turn.Item.{Item}
@@ -15,13 +15,6 @@ use Rattle.sweep_reports.specs.Reporting.{AreKindsOrNone, AreResults, AreWrites,
 use Rattle.sweep_reports.specs.Reporting.{IsDeviceWrite, IsFound, IsUnmadeWrite, IsWrite, LacksWrite, Sweeping}
 use Rattle.sweep_reports.specs.Reporting.{TextsInTurn, WritesInTurn}
 use Rattle.sweep_reports.proofs.Put.{four-parts, three-parts}
-
--- a mask by what is told of it
-pub mask-is : (words i mask : ℕ) → (i ≡ 0 → mask ≡ 0) → (i ≡ 1 → mask + 1 ≡ 2 ^ words)
-    → ((bit : ℕ) → i ≡ bit + 2 → mask ≡ 2 ^ bit) → mask ≡ mask_of words i
-mask-is words zero mask none all single = none refl
-mask-is words (suc zero) mask none all single = omega (arith, all refl)
-mask-is words (suc (suc bit)) mask none all single = single bit (omega arith)
 
 -- the same results, whose lines begin with a head that is said otherwise
 pub results-under : (looks head other : List ℕ) (depth : ℕ) (probe : List Turn) (board : Facts) (text : List ℕ)

@@ -1,8 +1,8 @@
 use Rattle.std.proofs.Common.{◌∙◌, ap, subst, List, ℕ}
 use Rattle.card_sweeps.specs.Masks.{words_tried}
 use Rattle.card_sweeps.specs.Sweeps.{CutsCommand}
+use Rattle.card_sweeps.proofs.CompleteSweeps.{mask-is}
 use Rattle.sweep_reports.specs.DeviceWrites.{IsWriteKind}
-use Rattle.sweep_reports.proofs.Reported.{mask-is}
 use Rattle.sweep_reports.proofs.plan.device_write.Goals as goal
 
 pub returns-clause-made : goal.returns-clause-made

@@ -1,6 +1,7 @@
 use Rattle.std.proofs.Common.{◌∙◌, sym, true≢false}
+use Rattle.card_sweeps.proofs.CompleteSweeps.{mask-is}
 use Rattle.sweep_reports.specs.ReportParts.{sweeping_of}
-use Rattle.sweep_reports.proofs.Reported.{cut-put, mask-is, none-put}
+use Rattle.sweep_reports.proofs.Reported.{cut-put, none-put}
 use Rattle.sweep_reports.proofs.plan.push_mask.Goals as goal
 
 pub returns : goal.returns
