@@ -13,7 +13,7 @@ use simulated_boards::CutBoard;
 use std::env;
 use std::io::{self, BufReader, ErrorKind};
 use std::process::ExitCode;
-use sweep_reports::report::report;
+use sweep_reports::report;
 use sweep_scripts::{Options, SweepFault, read_words};
 use swept_cards::swept_board;
 

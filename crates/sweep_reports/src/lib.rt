@@ -5,6 +5,7 @@ mod device_writes;
 mod lines;
 mod plan;
 mod readable_board;
-pub mod report;
+mod reporting;
 
 pub use readable_board::ReadableBoard;
+pub use reporting::report;

@@ -2,7 +2,7 @@ use Rattle.std.proofs.Common.{◌++◌, ◌∷◌, [], List, ap, refl}
 use Rattle.sweep_scripts.specs.declared.steps.Step.{Step}
 use Rattle.sweep_scripts.specs.declared.steps.Step.TheVariants.{Block}
 use Rattle.sweep_scripts.proofs.Turned.{are-turns-push, are-turns-same}
-use Rattle.sweep_reports.proofs.report.whole_turns.Goals as goal
+use Rattle.sweep_reports.proofs.reporting.whole_turns.Goals as goal
 
 pub returns : goal.returns
 returns c = are-turns-same _ _ _ _

@@ -1,6 +1,6 @@
 use Rattle.std.proofs.Common.{refl}
 use Rattle.sweep_scripts.proofs.Turned.{are-turns-same}
-use Rattle.sweep_reports.proofs.report.script_turns.Goals as goal
+use Rattle.sweep_reports.proofs.reporting.script_turns.Goals as goal
 
 pub returns-clause-prepare : goal.returns-clause-prepare
 returns-clause-prepare c = are-turns-same _ _ _ _ c.deref.ensures.value refl c.in_ok-prepare.ensures

@@ -1,7 +1,7 @@
 use Rattle.std.proofs.Common.{refl}
 use Rattle.sweep_reports.proofs.Reported.{sections-first}
 use Rattle.sweep_scripts.proofs.Turned.{are-turns-same}
-use Rattle.sweep_reports.proofs.report.swept.Goals as goal
+use Rattle.sweep_reports.proofs.reporting.swept.Goals as goal
 
 pub returns : goal.returns
 returns g c =

@@ -1,6 +1,6 @@
 use Rattle.sweep_reports.proofs.Put.{on-ok}
 use Rattle.sweep_reports.proofs.Reported.{sections-put}
-use Rattle.sweep_reports.proofs.report.push_sections.Goals as goal
+use Rattle.sweep_reports.proofs.reporting.push_sections.Goals as goal
 
 pub returns : goal.returns
 returns g c = on-ok c.push_writes.result _ _

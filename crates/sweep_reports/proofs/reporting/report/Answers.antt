@@ -1,7 +1,7 @@
 use Rattle.std.proofs.Common.{List, rules, string_bytes, subst, take, ℕ}
 use Rattle.std.specs.Io.KnownBytes.{Appends}
 use Rattle.sweep_reports.proofs.ReportStopped.{memory-ends, reading-passed}
-use Rattle.sweep_reports.proofs.report.report.Goals as goal
+use Rattle.sweep_reports.proofs.reporting.report.Goals as goal
 
 pub returns-in-Ok-clause-told : goal.returns-in-Ok-clause-told
 returns-in-Ok-clause-told g c = record {
