@@ -68,7 +68,6 @@ pub fn sweep<P: TurnPlayer + Drop>(
 ) -> Result<Sweep, AllocError>
 where
     P::Board: Sweepable + Drop,
-    requires { (P.Board.facts board.now).pending ≡ None }
     ensures sum { IfOk result (λ s. sum_by times_seen s.seen.items ≡ s.runs) }
     ensures different { IfOk result (λ s. AllPairs (λ a b. a ≢ b) (findings s.seen.items)) }
     ensures runs { IfOk result (λ s. HasCard (P.Board.facts board.now).words

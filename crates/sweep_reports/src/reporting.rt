@@ -1,5 +1,5 @@
 //! The report of a sweep.
-ghost use Rattle.std.specs.Prelude.{◌≡◌, ◌≢◌, ◌++◌, ◌∷◌, [], None, OnOk, IfOk, IfErr, string_bytes};
+ghost use Rattle.std.specs.Prelude.{◌≡◌, ◌≢◌, ◌++◌, ◌∷◌, [], OnOk, IfOk, IfErr, string_bytes};
 ghost use Rattle.command_base.specs.Finding.{HasCard};
 ghost use Rattle.sweep_reports.specs.ReportParts.{AddsText, sweeping_of};
 ghost use Rattle.sweep_reports.specs.Reporting.{HasSections, IsReport, WritesReport};
@@ -81,8 +81,7 @@ fn swept<P: TurnPlayer + Drop>(
 ) -> Result<String, AllocError>
 where
     P::Board: ReadableBoard + Drop,
-    requires card { HasCard (P.Board.facts board.now).words }
-    requires uncut { (P.Board.facts board.now).pending ≡ None }
+    requires { HasCard (P.Board.facts board.now).words }
     ensures { IfOk result (λ text. IsReport P.Board.facts P.Board.torn (P.Board.facts board.now) script.now part
         (string_bytes text)) }
 {
@@ -116,8 +115,7 @@ pub fn report<P: TurnPlayer + Drop, R: BufRead, W: Write>(
 ) -> Result<(), SweepFault>
 where
     P::Board: ReadableBoard + Drop,
-    requires card { HasCard (P.Board.facts board.now).words }
-    requires uncut { (P.Board.facts board.now).pending ≡ None }
+    requires { HasCard (P.Board.facts board.now).words }
     // The text is the report of a sweep of the script that was read.
     ensures told { OnOk result (WritesReport P.Board.facts P.Board.torn (P.Board.facts board.now)
         (R.remaining reader.old) (R.remaining reader.new)

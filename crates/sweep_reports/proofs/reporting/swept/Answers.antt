@@ -6,7 +6,7 @@ use Rattle.sweep_reports.proofs.reporting.swept.Goals as goal
 pub returns : goal.returns
 returns g c =
     let turns = c.in_ok-turns.ensures in
-    let sections = c.in_ok-push_sections.ensures c.requires.card in
+    let sections = c.in_ok-push_sections.ensures c.requires in
     record {
       sweeping = _;
       board_is = refl;
