@@ -131,15 +131,19 @@ pub record CopiesOut (bytes new : List ℕ) (size : ℕ) : Type 0 where
   pub size_is : size ≡ length bytes
   pub copied : take (length bytes) new ≡ bytes
 
--- the bytes of an output are in the buffer
-abbrev pub Copies : List ℕ → ℕ → Print → Type 0
-Copies new size prints_nothing = size ≡ 0
-Copies new size prints_atr = size ≡ 0
-Copies new size prints_mute = size ≡ 0
-Copies new size prints_dark = size ≡ 0
-Copies new size prints_lost = size ≡ 0
-Copies new size (prints_bytes bytes) = CopiesOut bytes new size
-Copies new size (prints_free free) = size ≡ 0
+-- no bytes are returned, and the buffer is unchanged
+abbrev pub CopiesNothing : List ℕ → List ℕ → ℕ → Type 0
+CopiesNothing old new size = (size ≡ 0) × (new ≡ old)
+
+-- the bytes of an output are in the buffer, if it has any
+abbrev pub Copies : List ℕ → List ℕ → ℕ → Print → Type 0
+Copies old new size prints_nothing = CopiesNothing old new size
+Copies old new size prints_atr = CopiesNothing old new size
+Copies old new size prints_mute = CopiesNothing old new size
+Copies old new size prints_dark = CopiesNothing old new size
+Copies old new size prints_lost = CopiesNothing old new size
+Copies old new size (prints_bytes bytes) = CopiesOut bytes new size
+Copies old new size (prints_free free) = CopiesNothing old new size
 
 -- the free space is returned, or zeros
 abbrev pub ReportsSpace : ℕ → ℕ → Print → Type 0
@@ -158,11 +162,11 @@ pub record Tells (order : Order) (was now : Option SessionState) (number : ℤ) 
   pub runs : CallRuns order was now result (λ prints. Unit {0}) (Unit {0})
 
 -- a call that runs an order, and copies its bytes out
-pub record TellsBytes (order : Order) (was now : Option SessionState) (new : List ℕ) (size : ℕ) (number : ℤ)
+pub record TellsBytes (order : Order) (was now : Option SessionState) (old new : List ℕ) (size : ℕ) (number : ℤ)
     : Type 0 where
   pub result : Outcome
   pub number_is : number ≡ outcome_number result
-  pub runs : CallRuns order was now result (Copies new size) (size ≡ 0)
+  pub runs : CallRuns order was now result (Copies old new size) (CopiesNothing old new size)
 
 -- a call that returns the free space
 pub record ReturnsSpace (was now : Option SessionState) (blocks entries : ℕ) (number : ℤ) : Type 0 where
@@ -208,13 +212,14 @@ ReadsWords items None result = result ≡ Err outcome.Absent
 ReadsWords items (Some now) (Ok read) = items read ≡ (bench_facts now.desk.bench).words
 ReadsWords items (Some now) (Err why) = why ≡ outcome.Memory
 
--- A call that copies a card's words out: all of them, or none for one of three reasons.
+-- A call that copies a card's words out: all of them, or none for one of three reasons. Then the buffer is unchanged.
 abbrev pub TellsWords : Option SessionState → List ℕ → List ℕ → ℕ → ℤ → Type 0
-TellsWords None old new size number = (size ≡ 0) × (number ≡ outcome_number outcome.Absent)
+TellsWords None old new size number = (number ≡ outcome_number outcome.Absent) × CopiesNothing old new size
 TellsWords (Some now) old new size number = let words = (bench_facts now.desk.bench).words in
     ((number ≡ outcome_number outcome.Done) × CopiesOut words new size)
-    ⊎ ((number ≡ outcome_number outcome.Size) × (size ≡ length words) × (length old < length words))
-    ⊎ ((number ≡ outcome_number outcome.Memory) × (size ≡ 0))
+    ⊎ ((number ≡ outcome_number outcome.Size) × (size ≡ length words) × (length old < length words)
+    × (new ≡ old))
+    ⊎ ((number ≡ outcome_number outcome.Memory) × CopiesNothing old new size)
 
 -- a write is the oldest one that the caller has not taken, or there is none
 abbrev pub TakesOldest : SessionState → SessionState → Option Write → Type 0
@@ -230,15 +235,15 @@ TakesFrom (Some was) (Some now) (Ok write) = TakesOldest was now write
 TakesFrom (Some was) (Some now) (Err why) = ⊥
 
 -- the offset and the bytes in the image of the oldest of these writes, which are the others with it; or no bytes
-abbrev pub CopiesOldest : List Run → List Run → List ℕ → ℕ → ℕ → Type 0
-CopiesOldest [] rest new offset size = (rest ≡ []) × (offset ≡ 0) × (size ≡ 0)
-CopiesOldest (run ∷ others) rest new offset size =
+abbrev pub CopiesOldest : List Run → List Run → List ℕ → List ℕ → ℕ → ℕ → Type 0
+CopiesOldest [] rest old new offset size = (rest ≡ []) × (offset ≡ 0) × CopiesNothing old new size
+CopiesOldest (run ∷ others) rest old new offset size =
     (rest ≡ others) × (offset ≡ WORD_BYTES * run.at) × CopiesOut (image_bytes run.words) new size
 
 -- A call that takes a write, with enough room for its bytes: the oldest one, and all else stays.
-abbrev pub TakesWrite : Option SessionState → Option SessionState → List ℕ → ℕ → ℕ → ℤ → Type 0
-TakesWrite None now new offset size number =
-    (now ≡ None) × (number ≡ outcome_number outcome.Absent) × (offset ≡ 0) × (size ≡ 0)
-TakesWrite (Some was) None new offset size number = ⊥
-TakesWrite (Some was) (Some now) new offset size number = (number ≡ outcome_number outcome.Done)
-    × CopiesOldest was.untaken now.untaken new offset size × (now ≡ record was { untaken = now.untaken })
+abbrev pub TakesWrite : Option SessionState → Option SessionState → List ℕ → List ℕ → ℕ → ℕ → ℤ → Type 0
+TakesWrite None now old new offset size number =
+    (now ≡ None) × (number ≡ outcome_number outcome.Absent) × (offset ≡ 0) × CopiesNothing old new size
+TakesWrite (Some was) None old new offset size number = ⊥
+TakesWrite (Some was) (Some now) old new offset size number = (number ≡ outcome_number outcome.Done)
+    × CopiesOldest was.untaken now.untaken old new offset size × (now ≡ record was { untaken = now.untaken })

@@ -79,7 +79,7 @@ impl Told {
     /// Copies the bytes into the caller's buffer, and returns their number.
     pub fn copy_out(&self, out: &mut [u8]) -> usize
         requires { ROOM ≤ length out.old }
-        ensures { Copies out.new result (told_print self.now) }
+        ensures { Copies out.old out.new result (told_print self.now) }
     {
         match self.came {
             LineResult::Answer | LineResult::Block => copy(&self.bytes, out),

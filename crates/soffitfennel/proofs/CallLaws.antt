@@ -7,8 +7,8 @@ use Rattle.card_calls.specs.SessionStates.{SessionState}
 use Rattle.card_calls.specs.declared.outcome.Outcome.{Outcome}
 use Rattle.card_calls.specs.declared.outcome.Outcome.TheVariants as outcome
 use Rattle.card_calls.specs.declared.outcome.Told.{Told}
-use Rattle.card_calls.specs.Telling.{AnswersOrder, CallRuns, Copies, ReportsSpace, ReturnsSpace, Tells, TellsBytes}
-use Rattle.card_calls.specs.Telling.{outcome_number, print_outcome, told_print}
+use Rattle.card_calls.specs.Telling.{AnswersOrder, CallRuns, Copies, CopiesNothing, ReportsSpace, ReturnsSpace, Tells}
+use Rattle.card_calls.specs.Telling.{TellsBytes, outcome_number, print_outcome, told_print}
 
 abbrev why-of : Result Told Outcome → Outcome
 why-of (Ok told) = outcome.Done
@@ -54,23 +54,23 @@ failed_tells order was now why number answers numbered = record {
 }
 
 -- bytes are copied out
-pub told_copies : (order : Order) (was now : Option SessionState) (told : Told) (result : Outcome) (new : List ℕ)
-    (size : ℕ) (number : ℤ) → AnswersOrder order was now (Ok told) → Copies new size (told_print told)
+pub told_copies : (order : Order) (was now : Option SessionState) (told : Told) (result : Outcome) (old new : List ℕ)
+    (size : ℕ) (number : ℤ) → AnswersOrder order was now (Ok told) → Copies old new size (told_print told)
     → result ≡ print_outcome (told_print told) → number ≡ outcome_number result
-    → TellsBytes order was now new size number
-told_copies order was now told result new size number answers copies is numbered = record {
+    → TellsBytes order was now old new size number
+told_copies order was now told result old new size number answers copies is numbered = record {
   result = result;
   number_is = numbered;
-  runs = told-runs order was now told result (Copies new size) (size ≡ 0) answers is copies;
+  runs = told-runs order was now told result (Copies old new size) (CopiesNothing old new size) answers is copies;
 }
 
-pub failed_copies : (order : Order) (was now : Option SessionState) (why : Outcome) (new : List ℕ) (size : ℕ)
-    (number : ℤ) → AnswersOrder order was now (Err why) → size ≡ 0 → number ≡ outcome_number why
-    → TellsBytes order was now new size number
-failed_copies order was now why new size number answers none numbered = record {
+pub failed_copies : (order : Order) (was now : Option SessionState) (why : Outcome) (old new : List ℕ) (size : ℕ)
+    (number : ℤ) → AnswersOrder order was now (Err why) → size ≡ 0 → new ≡ old → number ≡ outcome_number why
+    → TellsBytes order was now old new size number
+failed_copies order was now why old new size number answers none same numbered = record {
   result = why;
   number_is = numbered;
-  runs = failed-runs order was now why (Copies new size) (size ≡ 0) answers none;
+  runs = failed-runs order was now why (Copies old new size) (CopiesNothing old new size) answers (none, same);
 }
 
 -- the free space is returned

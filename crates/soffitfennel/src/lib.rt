@@ -11,8 +11,8 @@ ghost use Rattle.bench_lines.specs.OrderViews.{order_with};
 ghost use Rattle.command_base.specs.Finding.{HasCard};
 ghost use Rattle.simulated_boards.specs.Cut.{cut_facts};
 ghost use Rattle.card_calls.specs.SessionStates.{begun_at};
-ghost use Rattle.card_calls.specs.Telling.{AnswersOrder, FitsCall, IsFactoryFresh, ReadsWords, RefusesCall};
-ghost use Rattle.card_calls.specs.Telling.{RefusesWords, ReturnsSpace, TakesFrom, TakesWrite, Tells};
+ghost use Rattle.card_calls.specs.Telling.{AnswersOrder, CopiesNothing, FitsCall, IsFactoryFresh, ReadsWords};
+ghost use Rattle.card_calls.specs.Telling.{RefusesCall, RefusesWords, ReturnsSpace, TakesFrom, TakesWrite, Tells};
 ghost use Rattle.card_calls.specs.Telling.{TellsBytes, TellsWords, inserted, outcome_number, refusal_of};
 ghost use Rattle.card_calls.specs.declared.write.TheConstants.{WRITE_BYTES};
 
@@ -89,7 +89,8 @@ fn exchange(
     size: &mut usize,
 ) -> i32
     requires { FitsCall (order_with order given.now) out.old }
-    ensures { TellsBytes (order_with order given.now) card.old.value card.new.value out.new size.new result }
+    ensures { TellsBytes (order_with order given.now) card.old.value card.new.value out.old out.new size.new
+        result }
 {
     match perform(alloc, card, order, given) {
         Ok(told) => {
@@ -242,9 +243,9 @@ pub extern "C" fn soffitfennel_command(
     size: &mut usize,
 ) -> i32
     ensures fits { FitsCall (Apdu command.now) answer.old
-        → TellsBytes (Apdu command.now) card.old.value card.new.value answer.new size.new result }
-    ensures unfit { ¬ FitsCall (Apdu command.now) answer.old
-        → RefusesCall card.old.value card.new.value result × (size.new ≡ 0) }
+        → TellsBytes (Apdu command.now) card.old.value card.new.value answer.old answer.new size.new result }
+    ensures unfit { ¬ FitsCall (Apdu command.now) answer.old → RefusesCall card.old.value card.new.value result
+        × CopiesNothing answer.old answer.new size.new }
 {
     if !command_fits(command, answer) {
         *size = 0;
@@ -263,9 +264,9 @@ pub extern "C" fn soffitfennel_block(
     size: &mut usize,
 ) -> i32
     ensures fits { FitsCall (Block block.now) reply.old
-        → TellsBytes (Block block.now) card.old.value card.new.value reply.new size.new result }
-    ensures unfit { ¬ FitsCall (Block block.now) reply.old
-        → RefusesCall card.old.value card.new.value result × (size.new ≡ 0) }
+        → TellsBytes (Block block.now) card.old.value card.new.value reply.old reply.new size.new result }
+    ensures unfit { ¬ FitsCall (Block block.now) reply.old → RefusesCall card.old.value card.new.value result
+        × CopiesNothing reply.old reply.new size.new }
 {
     if !block_fits(block, reply) {
         *size = 0;
@@ -366,9 +367,9 @@ pub extern "C" fn soffitfennel_write(
     size: &mut usize,
 ) -> i32
     ensures takes { WRITE_BYTES ≤ length bytes.old
-        → TakesWrite card.old.value card.new.value bytes.new offset.new size.new result }
+        → TakesWrite card.old.value card.new.value bytes.old bytes.new offset.new size.new result }
     ensures unfit { length bytes.old < WRITE_BYTES → RefusesCall card.old.value card.new.value result
-        × (offset.new ≡ 0) × (size.new ≡ 0) }
+        × (offset.new ≡ 0) × CopiesNothing bytes.old bytes.new size.new }
 {
     *offset = 0;
     *size = 0;
