@@ -1,11 +1,12 @@
 -- What the lines of a sweep script ask for.
-use Rattle.std.specs.Prelude.{◌≡◌, ◌-◌, ◌&&◌, nat_eq, nat_le, ℕ, zero, suc, Bool, true, false, List, []}
-use Rattle.std.specs.Prelude.{◌∷◌, ◌++◌, drop, length, codes, Option, Some, None, if◌then◌else◌}
+use Rattle.std.specs.Prelude.{◌≡◌, ◌≤◌, ◌+◌, ◌-◌, ◌&&◌, nat_eq, nat_le, ℕ, zero, suc, Bool, true, false, List, []}
+use Rattle.std.specs.Prelude.{◌∷◌, ◌++◌, drop, length, codes, Option, Some, None, IfSome, if◌then◌else◌}
 use Rattle.std.specs.Cmp.Lexicographic.{pointwise}
 use Rattle.bench_lines.specs.Orders.{Order, begins_with, order_of}
 use Rattle.bench_lines.specs.Orders as order
-use Rattle.bench_lines.specs.Scripts.{TakesLine}
+use Rattle.bench_lines.specs.Scripts.{TakesLine, WhereKnown}
 use Rattle.bench_lines.specs.declared.reading.LineEnd.TheVariants.{LineFeed, EndOfScript}
+use Rattle.bench_lines.specs.declared.reading.TheConstants.{SCRIPT_LIMIT}
 use Rattle.sweep_scripts.specs.declared.fault.LineStop.{LineStop}
 use Rattle.sweep_scripts.specs.declared.fault.LineStop.TheVariants.{Bad, Memory}
 use Rattle.sweep_scripts.specs.declared.script.Section.{Section}
@@ -119,7 +120,11 @@ is_whole AfterCommand steps = false
 is_whole Command steps = false
 is_whole Prepare steps = false
 
--- a script was read to its end, and asks for this
+-- at most 16,777,216 bytes were read, if the script's bytes are known
+abbrev pub ReadsWithin : Option (List ℕ) → Option (List ℕ) → Type 0
+ReadsWithin old new = WhereKnown old new (λ script left. length script ≤ length left + SCRIPT_LIMIT)
+
+-- a script of at most 16,777,216 bytes was read to its end, and asks for this
 pub record IsRead (old new : Option (List ℕ)) (asked : Asked) : Type 0 where
   pub number : ℕ
   pub between : Option (List ℕ)
@@ -129,3 +134,4 @@ pub record IsRead (old new : Option (List ℕ)) (asked : Asked) : Type 0 where
   pub last : TakesLine between new line EndOfScript
   pub takes : take_line before line ≡ Some asked
   pub whole : is_whole asked.section asked.probe ≡ true
+  pub size : IfSome old (λ script. length script ≤ SCRIPT_LIMIT)

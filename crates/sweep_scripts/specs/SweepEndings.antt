@@ -6,7 +6,7 @@ use Rattle.bench_lines.specs.declared.reading.LineEnd.{LineEnd}
 use Rattle.bench_lines.specs.declared.reading.LineEnd.TheVariants.{EndOfScript}
 use Rattle.sweep_scripts.specs.declared.fault.SweepFault.{SweepFault}
 use Rattle.sweep_scripts.specs.declared.fault.SweepFault.TheVariants.{BadLine, Read, Write, Memory}
-use Rattle.sweep_scripts.specs.Asking.{Asked, ReadsLines, is_whole, take_line}
+use Rattle.sweep_scripts.specs.Asking.{Asked, ReadsLines, ReadsWithin, is_whole, take_line}
 
 -- The next line was read. No script has it there.
 pub record IsRefused (before : Asked) (old new : Option (List ℕ)) : Type 0 where
@@ -41,6 +41,7 @@ pub record StopsAtLine (number : ℕ) (old new : Option (List ℕ)) : Type 0 whe
   pub before : Asked
   pub others : ReadsLines (number - 1) old between before
   pub bad : IsBadLine before between new
+  pub within : ReadsWithin old new
 
 -- The reading stopped within a line, before its end and before it was too long. Each line before it was taken.
 pub record StopsInLine (old new : Option (List ℕ)) : Type 0 where
@@ -52,6 +53,7 @@ pub record StopsInLine (old new : Option (List ℕ)) : Type 0 where
   pub read : Consumes between new begun
   pub inside : IsInLine begun
   pub short : IsTooLong begun → ⊥
+  pub within : ReadsWithin old new
 
 -- The end of the reading by its fault. A bad line is the first one, and a failing reader stops within a line.
 abbrev pub ReadingStopsBy : SweepFault → Option (List ℕ) → Option (List ℕ) → Type 0

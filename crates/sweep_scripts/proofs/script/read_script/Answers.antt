@@ -6,7 +6,8 @@ use Rattle.sweep_scripts.specs.Asking.{Refuses, asked_of, take_line}
 use Rattle.sweep_scripts.specs.declared.fault.LineStop.{LineStop}
 use Rattle.sweep_scripts.specs.declared.fault.SweepFault.{SweepFault}
 use Rattle.sweep_scripts.specs.SweepEndings.{ReadingStopsBy, StopsAtLine}
-use Rattle.sweep_scripts.proofs.ReadSo.{reads-next, reads-none, stops-inside}
+use Rattle.sweep_scripts.proofs.ReadSo.{counts-more, counts-none, reads-next, reads-none, reads-within, stops-inside}
+use Rattle.sweep_scripts.proofs.ReadSo.{whole-within}
 use Rattle.sweep_scripts.proofs.Stopped.{memory-passed}
 use Rattle.sweep_scripts.proofs.script.read_script.Goals as goal
 
@@ -16,6 +17,7 @@ loop-end-init g c = record {
   counted = omega arith;
   turns = omega arith;
   so_far = reads-none _ _ c.in_ok-script.ensures;
+  bytes = counts-none _;
 }
 
 pub loop-end-preserved : goal.loop-end-preserved
@@ -37,16 +39,19 @@ loop-end-preserved g c =
       so_far = reads-next c.loop-end.number first old new _ _ line c.loop-end.invariant.counted
           c.loop-end.invariant.so_far
           (subst (TakesLine old new line) c.in-LineFeed.is c.in-Ok.ensures.line) takes;
+      bytes = counts-more first old new 0 _ _ c.loop-end.invariant.bytes c.in-Ok.ensures.counted;
     }
 
 pub returns-in-EndOfScript-clause-read : goal.returns-in-EndOfScript-clause-read
 returns-in-EndOfScript-clause-read g c =
+    let first = g.R.Read.remaining c.args.reader.now in
     let old = g.R.Read.remaining c.loop-end.reader in
     let new = g.R.Read.remaining c.read_line.new.reader in
     let line = c.read_line.new.line in
     let takes : take_line (asked_of c.loop-end.script) line ≡ Some (asked_of c.take_line.new.self) =
     ap (take_line (asked_of c.loop-end.script)) (sym c.as_slice.ensures)
     ∙ rw c.in-Ok-take_line.is at c.take_line.ensures in
+    let last = subst (TakesLine old new line) c.in-EndOfScript.is c.in-Ok.ensures.line in
     IfOk-weaker c.finished.result _ _
     (λ whole ends. record {
       number = c.loop-end.number - 1;
@@ -54,9 +59,11 @@ returns-in-EndOfScript-clause-read g c =
       before = asked_of c.loop-end.script;
       line = line;
       others = c.loop-end.invariant.so_far;
-      last = subst (TakesLine old new line) c.in-EndOfScript.is c.in-Ok.ensures.line;
+      last = last;
       takes = takes ∙ ap Some (sym ends.0);
       whole = ends.1;
+      size = whole-within first old new line _ _ c.loop-end.invariant.bytes c.in-Ok.ensures.counted last
+          c.read_line.ensures.taken;
     }) c.finished.ensures.whole
 
 pub returns-in-EndOfScript-clause-stopped : goal.returns-in-EndOfScript-clause-stopped
@@ -82,6 +89,8 @@ returns-in-EndOfScript-clause-stopped g c =
         takes = takes;
         missing = ends.2;
       }));
+      within = reads-within first old new _ _ c.loop-end.invariant.bytes c.in-Ok.ensures.counted
+          c.read_line.ensures.taken;
     } in
     subst (λ (f : SweepFault). ReadingStopsBy f first new) (sym ends.1) stops) c.finished.ensures.missing
 
@@ -94,6 +103,7 @@ returns-in-Err-TooLong-clause-stopped g c =
       before = _;
       others = c.loop-end.invariant.so_far;
       bad = inr (inr (record { begun = long.0; read = long.1; inside = long.2; long = long.3 }));
+      within = reads-within _ _ _ _ _ c.loop-end.invariant.bytes long.4 c.read_line.ensures.taken;
     }
 
 -- a fault in a line is not one of the line
@@ -105,13 +115,13 @@ much-apart e = cc
 
 pub returns-in-Err-Read-clause-stopped : goal.returns-in-Err-Read-clause-stopped
 returns-in-Err-Read-clause-stopped g c =
-    stops-inside _ _ _ _ _ _ _ c.loop-end.invariant.so_far
-    (c.in-Err-Read.ensures.stopped (λ e. read-apart (sym c.in-Err-Read.field-0-is ∙ e)))
+    stops-inside _ _ _ _ _ _ _ c.loop-end.invariant.so_far c.loop-end.invariant.bytes
+    (c.in-Err-Read.ensures.stopped (λ e. read-apart (sym c.in-Err-Read.field-0-is ∙ e))) c.read_line.ensures.taken
 
 pub returns-in-Err-TooMuch-clause-stopped : goal.returns-in-Err-TooMuch-clause-stopped
 returns-in-Err-TooMuch-clause-stopped g c =
-    stops-inside _ _ _ _ _ _ _ c.loop-end.invariant.so_far
-    (c.in-Err-TooMuch.ensures.stopped (λ e. much-apart (sym c.in-Err-TooMuch.field-0-is ∙ e)))
+    stops-inside _ _ _ _ _ _ _ c.loop-end.invariant.so_far c.loop-end.invariant.bytes
+    (c.in-Err-TooMuch.ensures.stopped (λ e. much-apart (sym c.in-Err-TooMuch.field-0-is ∙ e))) c.read_line.ensures.taken
 
 pub returns-in-Err-Bad-clause-stopped : goal.returns-in-Err-Bad-clause-stopped
 returns-in-Err-Bad-clause-stopped g c =
@@ -130,6 +140,7 @@ returns-in-Err-Bad-clause-stopped g c =
         read = c.in-Ok.ensures.line;
         refused = ap (take_line (asked_of c.loop-end.script)) (sym c.as_slice.ensures) ∙ none;
       });
+      within = reads-within _ _ _ _ _ c.loop-end.invariant.bytes c.in-Ok.ensures.counted c.read_line.ensures.taken;
     }
 
 pub returns-in_err-script-clause-stopped : goal.returns-in_err-script-clause-stopped

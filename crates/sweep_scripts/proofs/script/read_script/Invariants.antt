@@ -1,4 +1,5 @@
 use Rattle.std.proofs.Common.{◌≤◌, ◌+◌, ◌-◌}
+use Rattle.bench_lines.specs.Scripts.{CountsTaken}
 use Rattle.bench_lines.specs.declared.reading.TheConstants.{SCRIPT_LIMIT}
 use Rattle.sweep_scripts.specs.Asking.{ReadsLines, asked_of}
 use Rattle.sweep_scripts.proofs.script.read_script.Given as goal
@@ -10,6 +11,7 @@ invariant-loop-end g l = record {
   turns : l.number ≤ l.taken + 1;
   so_far : ReadsLines (l.number - 1) (g.R.Read.remaining l.initial.reader) (g.R.Read.remaining l.reader)
       (asked_of l.script);
+  bytes : CountsTaken (g.R.Read.remaining l.initial.reader) (g.R.Read.remaining l.reader) 0 l.taken;
 }
 
 abbrev pub decreases-loop-end : goal.decreases-loop-end
