@@ -1,6 +1,6 @@
 //! READ BINARY and UPDATE BINARY (ISO/IEC 7816-4, 11.3).
 ghost use Rattle.std.specs.Prelude.{◌≡◌, ◌==◌, if◌then◌else◌, []};
-ghost use Rattle.card_model.specs.Requests.{read_binary, update_binary, HasBetween};
+ghost use Rattle.card_model.specs.Requests.{read_binary as reading, update_binary as updating, HasBetween};
 ghost use Rattle.command_base.specs.Served.{Executes};
 ghost use Rattle.command_base.specs.InPlace.{ExecutesInPlace};
 ghost use Rattle.command_base.specs.Stops.{reply};
@@ -30,7 +30,7 @@ const UPDATING: Need = Need {
 
 /// READ BINARY: writes up to Le bytes into `answer`.
 /// Returns the status word.
-pub fn read_file<B: Board>(
+pub fn read_binary<B: Board>(
     store: &mut Store<B>,
     current: &mut Current,
     place: BinaryPlace,
@@ -38,7 +38,7 @@ pub fn read_file<B: Board>(
     answer: &mut Answer,
 ) -> Result<Sw, Stop>
     requires target { HasTarget store.old current.old place.target }
-    ensures { Executes (read_binary place.target place.offset expected) store.old current.old store.new current.new
+    ensures { Executes (reading place.target place.offset expected) store.old current.old store.new current.new
         answer.new.items (reply result) }
 {
     answer.clear();
@@ -50,7 +50,7 @@ pub fn read_file<B: Board>(
 }
 
 /// UPDATE BINARY: overwrites the bytes from the place on, in one transaction.
-pub fn update_file<B: Board>(
+pub fn update_binary<B: Board>(
     store: &mut Store<B>,
     current: &mut Current,
     place: BinaryPlace,
@@ -58,7 +58,7 @@ pub fn update_file<B: Board>(
 ) -> Result<Sw, Stop>
     requires target { HasTarget store.old current.old place.target }
     requires bytes { HasBetween 1 255 bytes.now }
-    ensures { ExecutesInPlace (update_binary place.target place.offset bytes.now) store.old current.old store.new
+    ensures { ExecutesInPlace (updating place.target place.offset bytes.now) store.old current.old store.new
         current.new [] (reply result) }
 {
     let file = find_file(store, current, place.target, UPDATING)?;

@@ -3,4 +3,4 @@
 
 mod binary;
 
-pub use binary::{read_file, update_file};
+pub use binary::{read_binary, update_binary};

@@ -9,7 +9,7 @@ ghost use Rattle.file_tree.specs.Indexes.{IsIndex};
 
 use crate::card_parts::CardParts;
 use apdu_core::{Answer, Command, Sw};
-use binary_commands::{read_file, update_file};
+use binary_commands::{read_binary, update_binary};
 use card_start::{CARD_IN_USE, header_word};
 use command_base::{Stop, reply};
 use file_commands::{change_life_cycle, create_file, delete_file, terminate_card_usage};
@@ -87,10 +87,10 @@ fn dispatch<B: Board>(
             returned,
             expected,
         } => select_file(store, index, current, selector, returned, expected, answer),
-        Command::ReadBinary { place, expected } => read_file(
+        Command::ReadBinary { place, expected } => read_binary(
             store, current, place, expected, answer,
         ),
-        Command::UpdateBinary { place, bytes } => update_file(store, current, place, bytes),
+        Command::UpdateBinary { place, bytes } => update_binary(store, current, place, bytes),
         Command::CreateFile { template } => create_file(store, current, free, index, template),
         Command::DeleteFile { subject } => delete_file(store, current, free, index, subject),
         Command::ReadRecord {

@@ -39,22 +39,22 @@ unfolding commits
 returns-in-Select-clause-space g c = space_left _ _ _ _ _ _ _ _ c.select_file.ensures tt c.requires.whole.space
 
 pub returns-in-ReadBinary-clause-serves : goal.returns-in-ReadBinary-clause-serves
-returns-in-ReadBinary-clause-serves g c = told _ _ _ _ _ _ _ c.in-ReadBinary.is _ c.read_file.ensures
+returns-in-ReadBinary-clause-serves g c = told _ _ _ _ _ _ _ c.in-ReadBinary.is _ c.read_binary.ensures
 
 pub returns-in-ReadBinary-clause-space : goal.returns-in-ReadBinary-clause-space
 unfolding commits
-returns-in-ReadBinary-clause-space g c = space_left _ _ _ _ _ _ _ _ c.read_file.ensures tt c.requires.whole.space
+returns-in-ReadBinary-clause-space g c = space_left _ _ _ _ _ _ _ _ c.read_binary.ensures tt c.requires.whole.space
 
-pub update_file-requires-clause-bytes : goal.update_file-requires-clause-bytes
-update_file-requires-clause-bytes g c =
+pub update_binary-requires-clause-bytes : goal.update_binary-requires-clause-bytes
+update_binary-requires-clause-bytes g c =
     let all = subst IsCommandInRange c.in-UpdateBinary.is c.requires.in_range in (all.2, all.3)
 
 pub returns-in-UpdateBinary-clause-serves : goal.returns-in-UpdateBinary-clause-serves
 returns-in-UpdateBinary-clause-serves g c =
-    silent _ _ _ _ _ _ _ c.in-UpdateBinary.is _ c.clear.ensures c.update_file.ensures.serves
+    silent _ _ _ _ _ _ _ c.in-UpdateBinary.is _ c.clear.ensures c.update_binary.ensures.serves
 
 pub returns-in-UpdateBinary-clause-space : goal.returns-in-UpdateBinary-clause-space
-returns-in-UpdateBinary-clause-space g c = space_kept _ _ _ _ c.requires.whole.space c.update_file.ensures.space
+returns-in-UpdateBinary-clause-space g c = space_kept _ _ _ _ c.requires.whole.space c.update_binary.ensures.space
 
 pub returns-in-CreateFile-clause-serves : goal.returns-in-CreateFile-clause-serves
 returns-in-CreateFile-clause-serves g c =
@@ -172,10 +172,10 @@ pub returns-in-Select-clause-index : goal.returns-in-Select-clause-index
 returns-in-Select-clause-index g c = index_left _ _ _ _ _ _ _ _ c.select_file.ensures refl c.requires.whole.index
 
 pub returns-in-ReadBinary-clause-index : goal.returns-in-ReadBinary-clause-index
-returns-in-ReadBinary-clause-index g c = index_left _ _ _ _ _ _ _ _ c.read_file.ensures refl c.requires.whole.index
+returns-in-ReadBinary-clause-index g c = index_left _ _ _ _ _ _ _ _ c.read_binary.ensures refl c.requires.whole.index
 
 pub returns-in-UpdateBinary-clause-index : goal.returns-in-UpdateBinary-clause-index
-returns-in-UpdateBinary-clause-index g c = index_left _ _ _ _ _ _ _ _ c.update_file.ensures.serves refl
+returns-in-UpdateBinary-clause-index g c = index_left _ _ _ _ _ _ _ _ c.update_binary.ensures.serves refl
     c.requires.whole.index
 
 pub returns-in-ReadRecord-clause-index : goal.returns-in-ReadRecord-clause-index
@@ -251,8 +251,8 @@ select_file-requires-clause-card g c = record {
   index = c.requires.whole.index;
 }
 
-pub update_file-requires-clause-target : goal.update_file-requires-clause-target
-update_file-requires-clause-target g c = record {
+pub update_binary-requires-clause-target : goal.update_binary-requires-clause-target
+update_binary-requires-clause-target g c = record {
   kept = c.requires.whole.kept;
   range = (subst IsCommandInRange c.in-UpdateBinary.is c.requires.in_range).0;
 }
@@ -275,8 +275,8 @@ search_record-requires-clause-target g c = record {
   range = (subst IsCommandInRange c.in-SearchRecord.is c.requires.in_range).0;
 }
 
-pub read_file-requires : goal.read_file-requires
-read_file-requires g c = record {
+pub read_binary-requires : goal.read_binary-requires
+read_binary-requires g c = record {
   target = record {
     kept = c.requires.whole.kept;
     range = (subst IsCommandInRange c.in-ReadBinary.is c.requires.in_range).0;

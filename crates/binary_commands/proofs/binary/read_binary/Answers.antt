@@ -15,7 +15,7 @@ use Rattle.command_base.specs.laws.Executes.{answered, halted, halted-with}
 use Rattle.binary_commands.proofs.BinaryServes.{asked-most, found-body, found-read, found-read-past, read-short}
 use Rattle.command_base.specs.laws.Naming.{named-current}
 use Rattle.command_base.specs.laws.Stopping.{body-reads, body-said}
-use Rattle.binary_commands.proofs.binary.read_file.Goals as goal
+use Rattle.binary_commands.proofs.binary.read_binary.Goals as goal
 
 pub returns-in_err-file : goal.returns-in_err-file
 returns-in_err-file g c =

@@ -11,7 +11,7 @@ use Rattle.command_base.specs.laws.Halting.{halted-in-place}
 use Rattle.binary_commands.proofs.BinaryServes.{found-body, found-made, found-space, found-stopped}
 use Rattle.command_base.specs.laws.SpaceKept.{space-same}
 use Rattle.command_base.specs.laws.Stopping.{body-kept}
-use Rattle.binary_commands.proofs.binary.update_file.Goals as goal
+use Rattle.binary_commands.proofs.binary.update_binary.Goals as goal
 
 pub returns-in_err-file : goal.returns-in_err-file
 returns-in_err-file g c =
