@@ -5,7 +5,9 @@ ghost use Rattle.undo_journal.specs.StoreCalls.{Learns};
 ghost use Rattle.undo_journal.specs.Memory.{committed, IsReady};
 ghost use Rattle.pin_store.specs.Pages.{AreAtMost, AreMarks, ArePinPages};
 
-use crate::layout::{PIN_MARK_WORD, PINS, TRIES, UNBLOCKING_TRIES};
+use crate::layout::{
+    PIN_MARK_WORD, PINS, TRIES, TRIES_WORD, UNBLOCKING_TRIES, UNBLOCKING_TRIES_WORD,
+};
 use crate::words::word_address;
 use undo_journal::{Board, Store, StoreErr};
 
@@ -33,10 +35,10 @@ pub fn are_pins<B: Board>(store: &mut Store<B>) -> Result<bool, StoreErr>
     requires ready { IsReady store.old }
     ensures { Learns store.old store.new result (λ pins. IsTrue pins ↔ ArePinPages (committed store.old)) }
 {
-    if !are_at_most(store, 0, u32::from(TRIES))? {
+    if !are_at_most(store, TRIES_WORD, u32::from(TRIES))? {
         return Ok(false);
     }
-    are_at_most(store, 1, u32::from(UNBLOCKING_TRIES))
+    are_at_most(store, UNBLOCKING_TRIES_WORD, u32::from(UNBLOCKING_TRIES))
 }
 
 /// Returns true if each mark is 1 (enabled) or 0 (disabled). Don't call it on a memory whose pages have no marks.

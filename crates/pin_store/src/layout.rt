@@ -3,12 +3,23 @@
 pub use card_state::PINS;
 pub use card_state::limits::{TRIES, UNBLOCKING_TRIES};
 
-/// The page of PIN 1. Those of the other PINs follow. Words 0 and 1 are the tries and the unblocking tries, words 2
-/// and 3 the value, words 4 and 5 the unblocking value, word 6 the mark. The other words are unused.
+/// The page of PIN 1. Those of the other PINs follow. A value has two words. The words after the mark are unused.
 pub const FIRST_PIN_PAGE: u16 = 65;
 
 /// The number of words used in a PIN's page.
 pub const PIN_WORDS: u16 = 7;
+
+/// The word for a PIN's tries.
+pub(crate) const TRIES_WORD: u16 = 0;
+
+/// The word for a PIN's unblocking tries.
+pub(crate) const UNBLOCKING_TRIES_WORD: u16 = 1;
+
+/// The first of the two words of a PIN's value.
+pub(crate) const VALUE_WORD: u16 = 2;
+
+/// The first of the two words of a PIN's unblocking value.
+pub(crate) const UNBLOCKING_VALUE_WORD: u16 = 4;
 
 /// The word for a PIN's mark: 1 enabled, 0 verification not required.
 pub const PIN_MARK_WORD: u16 = 6;

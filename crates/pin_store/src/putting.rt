@@ -9,7 +9,7 @@ ghost use Rattle.pin_store.specs.RenewalParts.{renewal_runs, renewal_sets, renew
 ghost use Rattle.pin_store.specs.Trials.{pin_in};
 ghost use Rattle.undo_journal.specs.Rooms.{HasRoom};
 
-use crate::layout::{PIN_MARK_WORD, TRIES, UNBLOCKING_TRIES};
+use crate::layout::{PIN_MARK_WORD, TRIES, TRIES_WORD, UNBLOCKING_TRIES, VALUE_WORD};
 use crate::secret::Secret;
 use crate::words::words_of;
 use undo_journal::{Board, Store, StoreErr, Txn};
@@ -32,8 +32,8 @@ fn set_value<B: Board>(txn: &mut Txn<'_, B>, secret: Secret, new: &[u8; 8]) -> R
     ensures { SetsIts 3 2 secret (changed_pin new.now) txn.old txn.new result }
 {
     let [first, second] = words_of(new);
-    txn.set_run(secret.address_of(0), &[u32::from(TRIES)])?;
-    txn.set_run(secret.address_of(2), &[first, second])
+    txn.set_run(secret.address_of(TRIES_WORD), &[u32::from(TRIES)])?;
+    txn.set_run(secret.address_of(VALUE_WORD), &[first, second])
 }
 
 /// Sets all tries of a PIN, and its value. The tries are 3, the unblocking tries 10. In a transaction, it sets words
@@ -44,7 +44,7 @@ fn set_all<B: Board>(txn: &mut Txn<'_, B>, secret: Secret, new: &[u8; 8]) -> Res
 {
     let [first, second] = words_of(new);
     txn.set_run(
-        secret.address_of(0),
+        secret.address_of(TRIES_WORD),
         &[u32::from(TRIES), u32::from(UNBLOCKING_TRIES), first, second],
     )
 }
@@ -54,7 +54,7 @@ fn set_mark<B: Board>(txn: &mut Txn<'_, B>, secret: Secret, enabled: bool) -> Re
     requires { HasRoom (memory_of txn.old) 2 }
     ensures { SetsIts 2 2 secret (marked_pin enabled) txn.old txn.new result }
 {
-    txn.set_run(secret.address_of(0), &[u32::from(TRIES)])?;
+    txn.set_run(secret.address_of(TRIES_WORD), &[u32::from(TRIES)])?;
     txn.set_run(secret.address_of(PIN_MARK_WORD), &[mark_of(enabled)])
 }
 
@@ -83,7 +83,7 @@ pub(crate) fn put_tries<B: Board>(store: &mut Store<B>, secret: Secret) -> Resul
     requires ready { IsReady store.old }
     ensures { PutsIts StaysShut 1 secret verified_pin store.old store.new result }
 {
-    store.put_alone(secret.address_of(0), u32::from(TRIES))
+    store.put_alone(secret.address_of(TRIES_WORD), u32::from(TRIES))
 }
 
 /// Sets what a match changes, within a transaction.

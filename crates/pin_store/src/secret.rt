@@ -5,8 +5,10 @@ ghost use Rattle.nvm_board.specs.declared.board.TheConstants.{PAGE_WORDS, SECRET
 ghost use Rattle.card_state.specs.Pins.{IsPinNumber};
 ghost use Rattle.card_state.specs.Secrets.{is_unblocking, owner, unblocking_of, value_of};
 ghost use Rattle.pin_store.specs.Pages.{pin_page};
+ghost use Rattle.pin_store.specs.declared.layout.TheConstants.{TRIES_WORD, UNBLOCKING_TRIES_WORD};
+ghost use Rattle.pin_store.specs.declared.layout.TheConstants.{UNBLOCKING_VALUE_WORD, VALUE_WORD};
 
-use crate::layout::PINS;
+use crate::layout::{PINS, TRIES_WORD, UNBLOCKING_TRIES_WORD, UNBLOCKING_VALUE_WORD, VALUE_WORD};
 use crate::words::word_address;
 use card_state::PinNumber;
 use std::marker::Model;
@@ -70,16 +72,24 @@ impl Secret {
 
     /// Returns the index of its tries word.
     pub(crate) fn tries_place(self) -> u16
-        ensures { result ≡ if is_unblocking self then 1 else 0 }
+        ensures { result ≡ if is_unblocking self then UNBLOCKING_TRIES_WORD else TRIES_WORD }
     {
-        if self.is_unblocking() { 1 } else { 0 }
+        if self.is_unblocking() {
+            UNBLOCKING_TRIES_WORD
+        } else {
+            TRIES_WORD
+        }
     }
 
     /// Returns the index of the first of its words.
     pub(crate) fn kept_place(self) -> u16
-        ensures { result ≡ if is_unblocking self then 4 else 2 }
+        ensures { result ≡ if is_unblocking self then UNBLOCKING_VALUE_WORD else VALUE_WORD }
     {
-        if self.is_unblocking() { 4 } else { 2 }
+        if self.is_unblocking() {
+            UNBLOCKING_VALUE_WORD
+        } else {
+            VALUE_WORD
+        }
     }
 
     /// Returns true for an unblocking value.
