@@ -1,10 +1,11 @@
 use Rattle.std.specs.Prelude.{Err, IfErr, IsOk, Ok, Result}
-use Rattle.std.proofs.Common.{◌≡◌, ◌≤◌, ℕ, refl, subst}
+use Rattle.std.proofs.Common.{◌≡◌, ◌≤◌, ◌∙◌, ℕ, refl, subst}
 use Rattle.nvm_board.specs.declared.board.DeviceErr.{DeviceErr}
 use Rattle.nvm_board.specs.declared.board.TheConstants.{MOST_PAGES}
 use Rattle.simulated_boards.specs.declared.cut_board.CutBoard.{CutBoard}
 use Rattle.simulated_boards.specs.Cut.{cut_facts}
 use Rattle.nvm_board.specs.Facts.{Answered, Facts, new_board}
+use Rattle.nvm_board.specs.laws.Sizes.{pages_same}
 use Rattle.undo_journal.specs.Spending.{WritesAtMost}
 use Rattle.card_start.specs.declared.memory_format.MemoryFormat.TheVariants.{Two}
 use Rattle.card_start.specs.Factory.{factory_card, Formats}
@@ -47,3 +48,11 @@ returns-clause-counts c =
 
 pub returns-clause-uncut : goal.returns-clause-uncut
 returns-clause-uncut c = none_due _ (returns-clause-counts c).due
+
+pub returns-clause-pages : goal.returns-clause-pages
+returns-clause-pages c =
+    let old = cut_facts c.in_ok-with_pages.field-0 in
+    let new = cut_facts c.unwrap.result in
+    let done = subst (λ (r : Result CutBoard (CutBoard × DeviceErr)). Formats cut_facts Two
+    c.in_ok-with_pages.field-0 r) c.unwrap.ensures c.format.ensures in
+    pages_same old.words new.words done.written.size ∙ new_pages c.args.pages old c.in_ok-with_pages.ensures.facts
