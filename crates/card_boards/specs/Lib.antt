@@ -1,2 +1,3 @@
--- Boards with the card of an image.
+-- Boards with the factory card, and boards with the card of an image.
+pub mod FactoryBoards
 pub mod Images

@@ -1,2 +1,3 @@
--- The program's command line: its words, and what they ask for.
+-- The program's command line: its words, what they ask for, and the board for it.
+pub mod AskedBoards
 pub mod CommandLines

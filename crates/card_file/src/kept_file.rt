@@ -22,9 +22,13 @@ pub struct KeptFile {
 }
 
 impl KeptFile {
+    ghost use Rattle.std.specs.Prelude.{◌≡◌};
+
     /// Returns the follower of a file that has the words already.
     /// The size is that of the file in bytes. With `sync` each write waits until the disk has it.
-    pub fn new(file: File, size: u64, sync: bool) -> KeptFile {
+    pub fn new(file: File, size: u64, sync: bool) -> KeptFile
+        ensures { result.sync ≡ sync }
+    {
         KeptFile { file, size, sync }
     }
 

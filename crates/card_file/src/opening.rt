@@ -1,8 +1,9 @@
 //! Returns the board that the command line asks for: opens the file of a card, or makes one with the factory card.
-ghost use Rattle.std.specs.Prelude.{◌-◌, IfOk};
+ghost use Rattle.std.specs.Prelude.{◌≡◌, None, Some, IfOk};
+ghost use Rattle.card_boards.specs.FactoryBoards.{IsFactoryBoard};
+ghost use Rattle.card_file.specs.AskedBoards.{IsBoardOf, facts_of, syncs};
 ghost use Rattle.card_file.specs.CommandLines.{new_card_pages, pages_number};
-ghost use Rattle.card_start.specs.Factory.{factory_card};
-ghost use Rattle.command_base.specs.Finding.{Finds, HasCard};
+ghost use Rattle.command_base.specs.Finding.{HasCard};
 ghost use Rattle.kept_board.specs.Kept.{kept_words};
 
 use crate::kept_file::{CardBoard, KeptFile, PAGE_BYTES};
@@ -49,9 +50,11 @@ pub enum NoBoard {
     Card(CardFault),
 }
 
-/// Returns the board with the card that the command line asks for.
+/// Returns the board with the card that the command line asks for. No cut is pending.
 pub fn board_of(rt: &HostRuntime, asked: Asked) -> Result<CardBoard, NoBoard>
-    ensures { IfOk result (λ board. HasCard (kept_words board)) }
+    ensures card { IfOk result (λ board. HasCard (kept_words board)) }
+    ensures board { IfOk result (IsBoardOf asked) }
+    ensures uncut { IfOk result (λ board. (facts_of board).pending ≡ None) }
 {
     match asked {
         Asked::Factory => match factory_board(rt.alloc()) {
@@ -68,7 +71,9 @@ pub fn board_of(rt: &HostRuntime, asked: Asked) -> Result<CardBoard, NoBoard>
 
 /// Returns the card in the file, or the factory card in a new file.
 fn open_card(rt: &HostRuntime, options: &CardOptions) -> Result<CardBoard, CardFault>
-    ensures { IfOk result (λ board. HasCard (kept_words board)) }
+    ensures card { IfOk result (λ board. HasCard (kept_words board)) }
+    ensures kept { IfOk result (λ board. syncs board ≡ Some options.now.sync) }
+    ensures uncut { IfOk result (λ board. (facts_of board).pending ≡ None) }
 {
     let path = options.path.as_str();
     match OpenOptions::new().read(true).write(true).open(rt, path) {
@@ -80,7 +85,9 @@ fn open_card(rt: &HostRuntime, options: &CardOptions) -> Result<CardBoard, CardF
 
 /// Returns the card in an open file.
 fn read_card(alloc: Global, mut file: File, options: &CardOptions) -> Result<CardBoard, CardFault>
-    ensures { IfOk result (λ board. HasCard (kept_words board)) }
+    ensures card { IfOk result (λ board. HasCard (kept_words board)) }
+    ensures kept { IfOk result (λ board. syncs board ≡ Some options.now.sync) }
+    ensures uncut { IfOk result (λ board. (facts_of board).pending ≡ None) }
 {
     lock(&file)?;
     let size = match file.metadata() {
@@ -103,8 +110,9 @@ fn read_card(alloc: Global, mut file: File, options: &CardOptions) -> Result<Car
 /// Makes a file with the factory card, whole or not at all.
 /// It is written under another name first, and renamed once the disk has it.
 fn make_card(rt: &HostRuntime, options: &CardOptions) -> Result<CardBoard, CardFault>
-    ensures { IfOk result (λ board. Finds (kept_words board)
-        (factory_card (new_card_pages (pages_number options.now.pages) - 128))) }
+    ensures factory { IfOk result (λ board. IsFactoryBoard (new_card_pages (pages_number options.now.pages))
+        (facts_of board)) }
+    ensures kept { IfOk result (λ board. syncs board ≡ Some options.now.sync) }
 {
     let pages = options.new_pages();
     let Ok(board) = factory_board_of(rt.alloc(), pages) else {
