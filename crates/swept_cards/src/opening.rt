@@ -1,9 +1,10 @@
 //! The board that is swept: with the factory card, or with the card in a file.
-ghost use Rattle.std.specs.Prelude.{◌≡◌, None, IfOk};
+ghost use Rattle.std.specs.Prelude.{◌≡◌, ◌≢◌, None, IfOk};
+ghost use Rattle.nvm_board.specs.declared.board.TheConstants.{LEAST_PAGES};
 ghost use Rattle.simulated_boards.specs.Cut.{cut_facts};
-ghost use Rattle.card_start.specs.Factory.{factory_card};
-ghost use Rattle.command_base.specs.Finding.{Finds, HasCard};
-ghost use Rattle.bench_turns.specs.NewlyWritten.{IsJustWritten};
+ghost use Rattle.simulated_boards.specs.Given.{board_with};
+ghost use Rattle.command_base.specs.Finding.{HasCard};
+ghost use Rattle.card_boards.specs.FactoryBoards.{IsFactoryBoard};
 
 use card_boards::{NoCard, factory_board, image_board};
 use nvm_board::{MOST_PAGES, PAGE_WORDS};
@@ -64,15 +65,16 @@ impl BoardFault {
 }
 
 /// Returns a board with the card in the file of this path, or with the factory card.
-/// The file is only read.
+/// The file is only read. On a board with its words nothing is counted yet.
 ///
 /// # Errors
 /// The file is not taken as a card's, or there is too little memory.
 pub fn swept_board(rt: &HostRuntime, path: Option<&str>) -> Result<CutBoard, BoardFault>
     ensures card { IfOk result (λ board. HasCard (cut_facts board).words) }
     ensures uncut { IfOk result (λ board. (cut_facts board).pending ≡ None) }
-    ensures factory { IfOk result (λ board. path.entry ≡ None
-        → Finds (cut_facts board).words (factory_card 896) × IsJustWritten (cut_facts board)) }
+    ensures factory { IfOk result (λ board. path.entry ≡ None → IsFactoryBoard LEAST_PAGES (cut_facts board)) }
+    ensures file { IfOk result (λ board. path.entry ≢ None
+        → cut_facts board ≡ board_with (cut_facts board).words) }
 {
     match path {
         None => Ok(factory_board(rt.alloc())?),
@@ -84,6 +86,7 @@ pub fn swept_board(rt: &HostRuntime, path: Option<&str>) -> Result<CutBoard, Boa
 fn read_board(rt: &HostRuntime, path: &str) -> Result<CutBoard, BoardFault>
     ensures card { IfOk result (λ board. HasCard (cut_facts board).words) }
     ensures uncut { IfOk result (λ board. (cut_facts board).pending ≡ None) }
+    ensures file { IfOk result (λ board. cut_facts board ≡ board_with (cut_facts board).words) }
 {
     let mut file = match fs::open(rt, path) {
         Ok(file) => file,
