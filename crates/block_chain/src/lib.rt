@@ -5,9 +5,11 @@
 mod chain;
 pub mod laws;
 mod layout;
+mod words;
 
 pub use chain::{Chain, Extent, FreeRun};
 pub use layout::{
     BLOCK_BYTES, BLOCK_WORDS, FILE_BYTES, FIRST_BLOCK_PAGE, FREE_HEAD, FREE_HEAD_WORD, HEADER_PAGE,
     MOST_BLOCKS, WORD_BYTES,
 };
+pub use words::word_at;

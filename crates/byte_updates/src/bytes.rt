@@ -18,7 +18,7 @@ ghost use Rattle.undo_journal.specs.Lent.{memory_of};
 ghost use Rattle.undo_journal.specs.Rooms.{HasRoom};
 ghost use Rattle.block_links.specs.StoredBlocks.{HasOpenLink, LieIn};
 
-use block_chain::{BLOCK_BYTES, BLOCK_WORDS, Chain, WORD_BYTES};
+use block_chain::{BLOCK_BYTES, BLOCK_WORDS, Chain, WORD_BYTES, word_at};
 use block_links::{next, walk};
 use undo_journal::{Board, PAGE_WORDS, StoreErr, Txn};
 
@@ -55,19 +55,6 @@ fn covers_word(at: u16, offset: u16, bytes: &[u8]) -> bool
     offset <= at && usize::from(at - offset) + 4 <= bytes.len()
 }
 
-/// Returns four bytes from an index on as a word.
-fn word_of(bytes: &[u8], from: usize) -> u32
-    requires { from + 4 ≤ length bytes.now }
-    ensures { (place : ℕ) → place < 4 → slice_index (word_bytes result) place ≡ slice_index bytes.now (from + place) }
-{
-    u32::from_be_bytes([
-        bytes[from],
-        bytes[from + 1],
-        bytes[from + 2],
-        bytes[from + 3],
-    ])
-}
-
 /// Returns the word at an address with new bytes over its own. Its first byte is at `first` in the chain; the new
 /// bytes begin at `offset`. The word is read only if some of its bytes stay, which concerns at most the first and the
 /// last word of an update.
@@ -87,7 +74,7 @@ fn new_word<B: Board>(
     ensures store { ReadsIn txn.old txn.new (result_err result) }
 {
     if covers_word(first, offset, bytes) {
-        return Ok(word_of(bytes, usize::from(first - offset)));
+        return Ok(word_at(bytes, usize::from(first - offset)));
     }
     let word = txn.read(at)?;
     Ok(overwritten_word(word, first, offset, bytes))

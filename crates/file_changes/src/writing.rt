@@ -1,6 +1,6 @@
 //! Writing entries in a transaction.
 
-ghost use Rattle.std.specs.Prelude.{◌≡◌, ◌∷◌, [], ◌≤◌, ◌+◌, ◌*◌, OnOk, length, take, drop};
+ghost use Rattle.std.specs.Prelude.{◌≡◌, ◌∷◌, [], ◌+◌, ◌*◌, OnOk};
 ghost use Rattle.std.specs.Result.{result_err};
 ghost use Rattle.undo_journal.specs.Memory.{current, InRuns};
 ghost use Rattle.undo_journal.specs.Lent.{memory_of};
@@ -11,6 +11,7 @@ ghost use Rattle.file_changes.specs.Conditions.{IsNewEntry};
 ghost use Rattle.file_changes.specs.CreationParts.{WritesEntry};
 ghost use Rattle.undo_journal.specs.Rooms.{HasRoom};
 
+use block_chain::word_at;
 use file_tree::{ENTRY_WORDS, Entry, EntryNumber, entry_address};
 use undo_journal::{Board, StoreErr, Txn};
 
@@ -38,14 +39,6 @@ fn words_of(entry: Entry) -> [u32; ENTRY_WORDS]
         halves(entry.first, entry.last),
         halves(entry.records, entry.start),
     ]
-}
-
-/// Returns four bytes from an index on as a word.
-fn word_at(bytes: &[u8], at: usize) -> u32
-    requires { at + 4 ≤ length bytes.now }
-    ensures { word_bytes result ≡ take 4 (drop at bytes.now) }
-{
-    four_bytes(bytes[at], bytes[at + 1], bytes[at + 2], bytes[at + 3])
 }
 
 /// Returns four bytes as a word.

@@ -13,5 +13,5 @@ returns-then-covers_word-clause-word g c = λ place lt.
     let from : c.from.result + place ≡ first + place - offset = omega (arith, c.from.ensures, low) in
     let begun : offset ≤ first + place = omega (arith, low) in
     let inside : first + place < offset + length bytes = omega (arith, high, lt) in
-    c.word_of.ensures place lt ∙ ap (slice_index bytes) from
+    c.word_at.ensures place lt ∙ ap (slice_index bytes) from
     ∙ sym (byte_over-inside offset (first + place) _ bytes begun inside)

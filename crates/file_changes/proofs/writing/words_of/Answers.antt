@@ -1,7 +1,19 @@
-use Rattle.std.proofs.Common.{rules, ◌≡◌, ◌++◌, [], length, slice_index, ◌∙◌, arith}
+use Rattle.std.proofs.Common.{rules, ◌≡◌, ◌++◌, ◌∷◌, [], ◌+◌, ◌<◌, ◌≤◌, ℕ, List, length, slice_index, take, drop, sym}
+use Rattle.std.proofs.Common.{◌∙◌, ap, arith, lit<}
+use Rattle.block_chain.specs.BlockWords.{word_bytes}
 use Rattle.file_tree.specs.Entries.{high, low, byte_of}
-use Rattle.file_changes.specs.laws.EntryWords.{eight_of, sixteen_of}
+use Rattle.file_changes.specs.laws.EntryWords.{eight_of, four_of, sixteen_of}
 use Rattle.file_changes.proofs.writing.words_of.Goals as goal
+
+-- the bytes of a word that is read from a list
+taken : (bytes : List ℕ) (from word : ℕ) → from + 4 ≤ length bytes
+    → ((place : ℕ) → place < 4 → slice_index (word_bytes word) place ≡ slice_index bytes (from + place))
+    → word_bytes word ≡ take 4 (drop from bytes)
+taken bytes from word fits each =
+    let here : from + 0 ≡ from = omega arith in
+    let first = each 0 (lit< tt) ∙ ap (slice_index bytes) here in
+    (λ i. first i ∷ each 1 (lit< tt) i ∷ each 2 (lit< tt) i ∷ each 3 (lit< tt) i ∷ [])
+    ∙ sym (four_of bytes from fits)
 
 pub returns : goal.returns
 returns c =
@@ -13,9 +25,14 @@ returns c =
     let life : byte_of w0 1 ≡ entry.life = omega (arith, c.two_bytes.ensures) in
     let identifier : low w0 ≡ entry.identifier = omega (arith, c.two_bytes.ensures) in
     let w1 = c.four_bytes.ensures in
-    let rule = (λ i. c.word_at.ensures i ++ (c.word_at-2.ensures i ++ [])) ∙ eight_of entry.rule long in
-    let name = (λ i. c.word_at-3.ensures i ++ (c.word_at-4.ensures i ++ (c.word_at-5.ensures i
-    ++ (c.word_at-6.ensures i ++ [])))) ∙ sixteen_of entry.name long_name in
+    let r0 = taken entry.rule 0 c.word_at.result (omega (arith, long)) c.word_at.ensures in
+    let r4 = taken entry.rule 4 c.word_at-2.result (omega (arith, long)) c.word_at-2.ensures in
+    let rule = (λ i. r0 i ++ (r4 i ++ [])) ∙ eight_of entry.rule long in
+    let n0 = taken entry.name 0 c.word_at-3.result (omega (arith, long_name)) c.word_at-3.ensures in
+    let n4 = taken entry.name 4 c.word_at-4.result (omega (arith, long_name)) c.word_at-4.ensures in
+    let n8 = taken entry.name 8 c.word_at-5.result (omega (arith, long_name)) c.word_at-5.ensures in
+    let n12 = taken entry.name 12 c.word_at-6.result (omega (arith, long_name)) c.word_at-6.ensures in
+    let name = (λ i. n0 i ++ (n4 i ++ (n8 i ++ (n12 i ++ [])))) ∙ sixteen_of entry.name long_name in
     let size : high c.halves.result ≡ entry.size = omega (arith, c.halves.ensures) in
     let record_length : low c.halves.result ≡ entry.record_length = omega (arith, c.halves.ensures) in
     let first : high c.halves-2.result ≡ entry.first = omega (arith, c.halves-2.ensures) in
