@@ -17,13 +17,17 @@ use Rattle.command_base.specs.declared.current.Shown.TheVariants.{Value, Unblock
 abbrev pub fresh_current : Current
 fresh_current = record { df = 0; ef = None; pointer = None; verified = no_pins }
 
--- the session after the file of entry `e` becomes current, by its kind and parent; the verified PINs stay
-abbrev pub current_by : Current → ℕ → ℕ → ℕ → Current
-current_by x e kind parent = record x {
-  df = if kind == kind_byte Dedicated then e else parent;
-  ef = if kind == kind_byte Dedicated then None else Some e;
+-- the session after the file of entry `e` becomes current, by its parent; the verified PINs stay
+abbrev pub made_current : Current → ℕ → ℕ → Bool → Current
+made_current x e parent dedicated = record x {
+  df = if dedicated then e else parent;
+  ef = if dedicated then None else Some e;
   pointer = None;
 }
+
+-- the same, by the kind and the parent of its entry
+abbrev pub current_by : Current → ℕ → ℕ → ℕ → Current
+current_by x e kind parent = made_current x e parent (kind == kind_byte Dedicated)
 
 abbrev pub current_at : Current → ℕ → Entry → Current
 current_at x e entry = current_by x e entry.kind entry.parent

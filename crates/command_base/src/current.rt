@@ -1,7 +1,7 @@
 //! The current files and the verified PINs of a session (ISO/IEC 7816-4, 7.3.1).
 ghost use Rattle.std.specs.Prelude.{◌≡◌};
-ghost use Rattle.command_base.specs.CurrentFiles.{current_at, current_by, fresh_current, named_from, pointer_from};
-ghost use Rattle.command_base.specs.CurrentFiles.{pointing_from, tried_from, unverifies};
+ghost use Rattle.command_base.specs.CurrentFiles.{current_at, current_by, fresh_current, made_current, named_from};
+ghost use Rattle.command_base.specs.CurrentFiles.{pointer_from, pointing_from, tried_from, unverifies};
 
 use apdu_core::Target;
 use card_state::{PinNumber, PinSet};
@@ -42,7 +42,6 @@ impl Current {
     }
 
     /// Returns the session after the file of entry `e` becomes current.
-    /// A dedicated file has no current elementary file in it; an elementary file makes its parent current.
     pub fn at(self, e: EntryNumber, entry: &Entry) -> Current
         ensures { result ≡ current_at self e entry.now }
     {
@@ -53,10 +52,18 @@ impl Current {
     pub fn at_head(self, e: EntryNumber, head: EntryHead) -> Current
         ensures { result ≡ current_by self e head.kind head.parent }
     {
-        let (df, ef) = if head.is_dedicated() {
+        self.at_file(e, EntryNumber::new(head.parent), head.is_dedicated())
+    }
+
+    /// Returns the same session, from the number of the file's parent.
+    /// A dedicated file has no current elementary file in it; an elementary file makes its parent current.
+    pub fn at_file(self, e: EntryNumber, parent: EntryNumber, is_dedicated: bool) -> Current
+        ensures { result ≡ made_current self e parent is_dedicated }
+    {
+        let (df, ef) = if is_dedicated {
             (e, None)
         } else {
-            (EntryNumber::new(head.parent), Some(e))
+            (parent, Some(e))
         };
         Current {
             df,

@@ -58,27 +58,16 @@ pub fn create_file<B: Board>(
         blocks: free.blocks - blocks,
         entries: free.entries - 1,
     };
-    *current = current_at(*current, number, &fcp.kind);
+    *current = at_new_file(*current, number, &fcp.kind);
     Ok(Sw::DONE)
 }
 
 /// Returns the session after the new file of entry `number` became current. Its parent is the current dedicated file.
-fn current_at(current: Current, number: EntryNumber, kind: &FileKind<'_>) -> Current
+fn at_new_file(current: Current, number: EntryNumber, kind: &FileKind<'_>) -> Current
     ensures { result ≡ current_by current number (kind_number kind.now) current.df }
 {
-    let (df, ef) = match kind {
-        FileKind::Df { .. } => (number, None),
-        FileKind::Transparent { .. } | FileKind::Linear { .. } | FileKind::Cyclic { .. } => (
-            current.df,
-            Some(number),
-        ),
-    };
-    Current {
-        df,
-        ef,
-        pointer: None,
-        ..current
-    }
+    let is_dedicated = matches!(kind, FileKind::Df { .. });
+    current.at_file(number, current.df, is_dedicated)
 }
 
 /// Returns the file that CREATE FILE creates, or its refusal.

@@ -88,7 +88,7 @@ returns-clause-serves g c =
     c.requires.card.kept.current c.args.template.now c.in_ok-fcp.fcp found c.find_new_file.ensures.store.only
     c.in-Created.entry c.in-Created.blocks c.in_ok-entry.field-0 c.in_ok-entry.ensures.done c.in-Created.is
     c.create.ensures.by_gate _ c.in_ok-entry.ensures.store (omega arith) c.in_ok-entry.ensures.store.ready _
-    c.current_at.ensures
+    c.at_new_file.ensures
 
 pub returns-clause-space : goal.returns-clause-space
 returns-clause-space g c =
