@@ -4,7 +4,7 @@ They help a person to read a log; what the card does is in docs/CARD.md. Which f
 followed by the answers, as a reader of the log would; what the log doesn't show is asked of a second card."""
 from __future__ import annotations
 
-from collections.abc import Callable
+from collections.abc import Callable, Sequence
 from pathlib import Path
 
 from explaining.commands import BINARY, LIFE_CYCLE, OF_AN_EF, OF_PINS, RECORD, Command
@@ -31,9 +31,10 @@ def read_table() -> dict[str, dict[str, str]]:
 class Log:
     """What is known of the card from the lines so far."""
 
-    def __init__(self, program: str | None = None):
+    def __init__(self, program: Sequence[str] = ()):
         self.table = read_table()
-        self.files, self.twin = Files(), Twin(program)
+        self.files, self.twin = Files(), Twin(list(program))
+        self.twin.begin(self.files)
 
     def took(self, line: str) -> None:
         """A line that the card was given, before it is explained."""

@@ -36,6 +36,10 @@ class Image:
         """How many pairs of the journal count."""
         return self.words[layout.GATE]
 
+    def data(self) -> bytes:
+        """The bytes of a file that has it."""
+        return struct.pack(f">{len(self.words)}I", *self.words)
+
     @cached_property
     def pairs(self) -> list[Pair]:
         """The pairs that count, as far as the journal has room for them."""

@@ -12,6 +12,7 @@ from .templates import STATES, Template, count, follow
 from .twin import Twin
 
 TABLE = Path(__file__).resolve().parent.parent / "words" / "why.table"
+NAMED = re.compile(r"\{(\w+)\}")
 CLAUSE = re.compile(r"(!?)(\w+)(?:([=<>])(\w+))?")
 # which bit of the rule a command asks, and what that bit allows is called
 BITS = {"00B0": 1, "00B2": 1, "00A2": 1, "00D6": 2, "00DC": 2, "8032": 2, "00E2": 3, "00E4": 7}
@@ -48,7 +49,10 @@ def holds(clause: str, facts: dict[str, Fact]) -> bool:
     value = facts.get(name)
     if not relation:
         return bool(value) != bool(negated)
-    wanted = facts[other] if other in facts else int(other, 0) if isinstance(value, int) else other
+    wanted: Fact = other
+    if other in facts or isinstance(value, int):
+        # (a fact of a file that the log doesn't show isn't there)
+        wanted = facts.get(other) if not other[0].isdigit() else int(other, 0)
     if value is None or wanted is None:
         return False
     return {"=": value == wanted, "<": value < wanted, ">": value > wanted}[relation]
@@ -74,7 +78,8 @@ class Case:
         facts = self.facts()
         for _, condition, words in mine:
             if is_met(condition, facts):
-                return words.format_map(facts)
+                # (no reason is given by facts that the log doesn't show)
+                return words.format_map(facts) if facts.keys() >= set(NAMED.findall(words)) else None
         return None
 
     def facts(self) -> dict[str, Fact]:

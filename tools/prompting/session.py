@@ -51,12 +51,12 @@ class Session:
     """The program, and what is known of its card."""
 
     def __init__(self, program: list[str]) -> None:
+        # (before the program starts, and changes a card in a file)
+        self.log = Log(program)
         # (in a session of its own, so that Ctrl-C at the prompt doesn't end it)
         self.process = subprocess.Popen(
             program, stdin=subprocess.PIPE, stdout=subprocess.PIPE, stderr=subprocess.DEVNULL, start_new_session=True
         )
-        # (a program with words of its own, as for a stored card, isn't started a second time)
-        self.log = Log(program[0] if len(program) == 1 else None)
         self.is_on = False
         self.files = {"3F00": None}
 

@@ -87,7 +87,7 @@ class Run:
 
     def explain(self) -> None:
         """Puts the words of ./bench --explain behind each answer that differs."""
-        log = Log(self.program)
+        log = Log([self.program])
         if not any(line.difference for line in self.orders(True)):
             return
         for line, came in self.answers():
