@@ -57,12 +57,12 @@ class Twin:
         lines = [*self.lines, NO_CUT, "on", *questions]
         text = "".join(f"{line}\n" for line in lines).encode("latin-1")
         try:
-            ran = self.run(text)
+            ran = self.run(text, PATIENCE)
         except (OSError, subprocess.TimeoutExpired):
             return []
         return ran.stdout.decode("latin-1").splitlines()[-len(questions) :] if ran.returncode == 0 else []
 
-    def run(self, text: bytes) -> subprocess.CompletedProcess:
+    def run(self, text: bytes, seconds: int | None = None) -> subprocess.CompletedProcess:
         """A run of the program, on a copy of the card where it is one in a file."""
         with TemporaryDirectory() as room:
             copy = FilePath(room) / "card"
@@ -70,7 +70,7 @@ class Twin:
                 copy.write_bytes(self.image.data())
             pairs = zip(["", *self.program], self.program)
             words = [str(copy) if before == "--card" else word for before, word in pairs]
-            return subprocess.run(words, input=text, capture_output=True, timeout=PATIENCE, check=False)
+            return subprocess.run(words, input=text, capture_output=True, timeout=seconds, check=False)
 
     def begin(self, files: Files) -> None:
         """The files of a card in a file, in place of the factory's."""

@@ -3,11 +3,11 @@
 from __future__ import annotations
 
 import re
-import subprocess
 from collections.abc import Iterator
 from fnmatch import fnmatchcase
 
 from card_words import Log
+from explaining.twin import Twin
 from script_lines import fault
 
 from .hints import hint
@@ -19,12 +19,12 @@ BAD_LINE = re.compile(r"error line ([0-9]+)")
 class Run:
     """The program's run of a test file, behind the scripts that prepare the card."""
 
-    def __init__(self, program: str, scripts: list[Script]) -> None:
+    def __init__(self, program: list[str], scripts: list[Script]) -> None:
         self.program, self.scripts, self.script = program, scripts, scripts[-1]
         # (a script that prepares the card may lack its last line feed)
         texts = [it.text if it.text.endswith("\n") else it.text + "\n" for it in scripts[:-1]]
         sent = "".join([*texts, self.script.text]).encode("latin-1")
-        ran = subprocess.run([program], input=sent, capture_output=True, check=False)
+        ran = Twin(program).run(sent)
         self.status = ran.returncode
         self.printed = ran.stdout.decode("latin-1").split("\n")[:-1]
         self.end = end_of(ran.stderr.decode("latin-1"), [it.count("\n") for it in texts])
@@ -87,7 +87,7 @@ class Run:
 
     def explain(self) -> None:
         """Puts the words of ./bench --explain behind each answer that differs."""
-        log = Log([self.program])
+        log = Log(self.program)
         if not any(line.difference for line in self.orders(True)):
             return
         for line, came in self.answers():
@@ -120,7 +120,7 @@ def end_of(told: str, lengths: list[int]) -> tuple[int, int] | None:
     return len(lengths), number
 
 
-def run_file(program: str, path: str, before: list[str], is_strict: bool) -> list[Case]:
+def run_file(program: list[str], path: str, before: list[str], is_strict: bool) -> list[Case]:
     """The cases of a test file with their results; before them the failed ones of scripts that prepare the card."""
     scripts = [read_script(it) for it in [*before, path]]
     for it in scripts[:-1]:
