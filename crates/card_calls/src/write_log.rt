@@ -91,6 +91,9 @@ impl WriteLog {
 impl Follower for WriteLog {
     ghost log = { shown_log };
 
+    // It takes each write whole.
+    ghost behind = { λ _. Bool.false };
+
     fn take(&mut self, at: usize, words: &[u32]) -> bool {
         self.push(Write::new(at, words));
         true

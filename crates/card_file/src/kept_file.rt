@@ -1,5 +1,5 @@
 //! A file with the words of a board.
-ghost use Rattle.std.specs.Prelude.{◌≤◌, length};
+ghost use Rattle.std.specs.Prelude.{◌≡◌, ◌≤◌, false, length};
 ghost use Rattle.nvm_board.specs.declared.board.TheConstants.{PAGE_WORDS};
 
 use kept_board::{Follower, KeptBoard};
@@ -19,6 +19,8 @@ pub struct KeptFile {
     file: File,
     size: u64,
     sync: bool,
+    /// True if the last write failed.
+    behind: bool,
 }
 
 impl KeptFile {
@@ -27,9 +29,14 @@ impl KeptFile {
     /// Returns the follower of a file that has the words already.
     /// The size is that of the file in bytes. With `sync` each write waits until the disk has it.
     pub fn new(file: File, size: u64, sync: bool) -> KeptFile
-        ensures { result.sync ≡ sync }
+        ensures { (result.sync ≡ sync) × (result.behind ≡ false) }
     {
-        KeptFile { file, size, sync }
+        KeptFile {
+            file,
+            size,
+            sync,
+            behind: false,
+        }
     }
 
     /// Returns true if the file still has a name and its size: nobody removed or truncated it.
@@ -46,13 +53,17 @@ impl KeptFile {
 pub type CardBoard = KeptBoard<KeptFile>;
 
 impl Follower for KeptFile {
+    ghost behind = { λ f. f.behind };
+
     fn take(&mut self, at: usize, words: &[u32]) -> bool {
         let bytes = bytes_of(words);
         let size = WORD_BYTES * words.len();
         let wrote = self.file.write_at(&bytes[..size], (WORD_BYTES * at) as u64);
-        matches!(wrote, Ok(count) if count == size)
+        let took = matches!(wrote, Ok(count) if count == size)
             && self.is_there()
-            && (!self.sync || self.file.sync_data().is_ok())
+            && (!self.sync || self.file.sync_data().is_ok());
+        self.behind = !took;
+        took
     }
 }
 

@@ -25,7 +25,7 @@ impl<F: Follower> KeptBoard<F> {
     ghost use Rattle.nvm_board.specs.History.{and_run, run_in};
     ghost use Rattle.simulated_boards.specs.Cut.{WritesOrTears};
     ghost use Rattle.kept_board.specs.Handed.{HandsOn, log_of};
-    ghost use Rattle.kept_board.specs.Kept.{kept_facts, kept_log, kept_words};
+    ghost use Rattle.kept_board.specs.Kept.{follower_state, kept_facts, kept_log, kept_words};
 
     /// The board, and a follower that has its words already, or none.
     pub fn new(cut: CutBoard, follower: Option<F>) -> KeptBoard<F>
@@ -62,10 +62,10 @@ impl<F: Follower> KeptBoard<F> {
         ensures writes { Writes (address page first) words.now (kept_facts F.log self.old)
             (kept_facts F.log self.new) result }
         ensures cut { WritesOrTears (address page first) words.now self.old.cut self.new.cut result }
-        ensures handed { (cut_facts self.old.cut).dark ≡ false → HandsOn self.old.follows
+        ensures handed { (cut_facts self.old.cut).dark ≡ false → HandsOn F.log F.behind
             (run_in (kept_words self.new) (address page first) (length words.now))
-            (log_of F.log self.old.follower) (log_of F.log self.new.follower) }
-        ensures off { (cut_facts self.old.cut).dark ≡ true → self.new.follower ≡ self.old.follower }
+            (follower_state self.old) (follower_state self.new) }
+        ensures off { (cut_facts self.old.cut).dark ≡ true → follower_state self.new ≡ follower_state self.old }
     {
         if self.cut.is_dark() {
             return self.cut.write(page, first, words);
@@ -81,8 +81,8 @@ impl<F: Follower> KeptBoard<F> {
         requires size { size ≤ PAGE_WORDS }
         requires within { at + size ≤ length (cut_facts self.old.cut).words }
         ensures cut { self.new.cut ≡ self.old.cut }
-        ensures handed { HandsOn self.old.follows (run_in (kept_words self.old) at size)
-            (log_of F.log self.old.follower) (log_of F.log self.new.follower) }
+        ensures handed { HandsOn F.log F.behind (run_in (kept_words self.old) at size)
+            (follower_state self.old) (follower_state self.new) }
         ensures logged { kept_log F.log self.new
             ≡ and_run (kept_log F.log self.old) (run_in (kept_words self.old) at size) }
     {
@@ -102,8 +102,8 @@ impl<F: Follower> Board for KeptBoard<F> {
     ghost use Rattle.nvm_board.specs.Facts.{address};
     ghost use Rattle.nvm_board.specs.History.{run_in};
     ghost use Rattle.simulated_boards.specs.Cut.{cut_facts, WritesOrTears};
-    ghost use Rattle.kept_board.specs.Handed.{HandsOn, log_of};
-    ghost use Rattle.kept_board.specs.Kept.{kept_facts, kept_words};
+    ghost use Rattle.kept_board.specs.Handed.{HandsOn};
+    ghost use Rattle.kept_board.specs.Kept.{follower_state, kept_facts, kept_words};
     ghost use Rattle.kept_board.specs.laws.Logging.{kept_is_board};
 
     ghost facts = { kept_facts F.log };
@@ -115,7 +115,7 @@ impl<F: Follower> Board for KeptBoard<F> {
     fn read(&mut self, at: u16) -> Result<u32, DeviceErr>
         requires { at < length (kept_words self.old) }
         ensures tells { TellsWord at (kept_facts F.log self.old) (kept_facts F.log self.new) result }
-        ensures follower { self.new.follower ≡ self.old.follower }
+        ensures follower { follower_state self.new ≡ follower_state self.old }
     {
         self.cut.read(at)
     }
@@ -127,12 +127,12 @@ impl<F: Follower> Board for KeptBoard<F> {
         ensures writes { Writes (address page first) words.now (kept_facts F.log self.old)
             (kept_facts F.log self.new) result }
         ensures cut { WritesOrTears (address page first) words.now self.old.cut self.new.cut result }
-        ensures handed { (cut_facts self.old.cut).dark ≡ false → HandsOn self.old.follows
+        ensures handed { (cut_facts self.old.cut).dark ≡ false → HandsOn F.log F.behind
             (run_in (kept_words self.new) (address page first) (length words.now))
-            (log_of F.log self.old.follower) (log_of F.log self.new.follower) }
+            (follower_state self.old) (follower_state self.new) }
 
         // Nothing is written without power.
-        ensures off { (cut_facts self.old.cut).dark ≡ true → self.new.follower ≡ self.old.follower }
+        ensures off { (cut_facts self.old.cut).dark ≡ true → follower_state self.new ≡ follower_state self.old }
     {
         match self.follower {
             None => self.cut.write(page, first, words),
@@ -144,7 +144,7 @@ impl<F: Follower> Board for KeptBoard<F> {
         requires { secret < SECRETS }
         ensures compares { Compares secret kept.now shown.now (kept_facts F.log self.old)
             (kept_facts F.log self.new) result }
-        ensures follower { self.new.follower ≡ self.old.follower }
+        ensures follower { follower_state self.new ≡ follower_state self.old }
     {
         self.cut.compare(secret, kept, shown)
     }
@@ -153,17 +153,36 @@ impl<F: Follower> Board for KeptBoard<F> {
 }
 
 impl<F: Follower> Socket for KeptBoard<F> {
-    fn light(&mut self) -> Result<(), WornOut> {
+    ghost use Rattle.std.specs.Prelude.{◌↔◌, IsErr, OnErr, OnOk, true, false};
+    ghost use Rattle.nvm_board.specs.Facts.{IsWornOut};
+    ghost use Rattle.kept_board.specs.Kept.{follower_state, kept_facts};
+
+    fn light(&mut self) -> Result<(), WornOut>
+        ensures worn { IsErr result ↔ IsWornOut (kept_facts F.log self.old) }
+        ensures lit { OnOk result (kept_facts F.log self.new ≡ record (kept_facts F.log self.old) { dark = false }) }
+        ensures same { OnErr result (kept_facts F.log self.new ≡ kept_facts F.log self.old) }
+        ensures follower { follower_state self.new ≡ follower_state self.old }
+    {
         self.cut.light()
     }
 
-    fn power_off(&mut self) {
+    fn power_off(&mut self)
+        ensures facts { kept_facts F.log self.new ≡ record (kept_facts F.log self.old) { dark = true } }
+        ensures follower { follower_state self.new ≡ follower_state self.old }
+    {
         self.cut.power_off();
     }
 }
 
 impl<F: Follower> Armed for KeptBoard<F> {
-    fn arm(&mut self, k: u32, mask: u16) {
+    ghost use Rattle.nvm_board.specs.BoardCalls.{Arms};
+    ghost use Rattle.kept_board.specs.Kept.{follower_state, kept_facts};
+
+    fn arm(&mut self, k: u32, mask: u16)
+        requires { 1 ≤ k }
+        ensures arms { Arms k mask (kept_facts F.log self.old) (kept_facts F.log self.new) }
+        ensures follower { follower_state self.new ≡ follower_state self.old }
+    {
         self.cut.arm(k, mask);
     }
 }
