@@ -22,7 +22,7 @@ use Rattle.command_base.specs.Working.{space_in, table_in, IsKept}
 use Rattle.command_base.specs.CurrentFiles.{fresh_current}
 use Rattle.card_start.specs.CardSurveys.{TellsSurvey}
 use Rattle.card_start.specs.declared.faults.StartFault.{StartFault}
-use Rattle.card_start.specs.FaultParts.{fault_of_open, fault_of_store}
+use Rattle.card_start.specs.StartFaults.{fault_of_open, fault_of_store}
 use Rattle.card_start.specs.Running.{StartStopsBy}
 
 module _ (a b c : Facts) (before : Steady a b) where

@@ -2,6 +2,6 @@
 pub mod Factory
 pub mod Starting
 pub mod Running
-pub mod FaultParts
+pub mod StartFaults
 pub mod StartParts
 pub mod CardSurveys

@@ -1,6 +1,6 @@
 //! Why a card stops answering, and why power-on fails.
 ghost use Rattle.std.specs.Prelude.{◌≡◌};
-ghost use Rattle.card_start.specs.FaultParts.{fault_of_open};
+ghost use Rattle.card_start.specs.StartFaults.{fault_of_open};
 
 use undo_journal::OpenFault;
 

@@ -11,7 +11,7 @@ ghost use Rattle.file_tree.specs.Formats.{is_format_2};
 ghost use Rattle.migration.specs.Migrating.{Migrates, migration_writes};
 ghost use Rattle.command_base.specs.Standing.{IsOldCard};
 ghost use Rattle.card_start.specs.CardSurveys.{TellsSurvey};
-ghost use Rattle.card_start.specs.FaultParts.{fault_of_store};
+ghost use Rattle.card_start.specs.StartFaults.{fault_of_store};
 ghost use Rattle.card_start.specs.declared.faults.StartFault.TheVariants as StartFault;
 
 use crate::check::find_card;
