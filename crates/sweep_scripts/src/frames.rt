@@ -5,7 +5,7 @@ ghost use Rattle.sweep_scripts.specs.Framing.{exchange, first_sent, last_command
 
 use crate::steps::{OwnBlock, Step, push_block};
 use std::alloc::{AllocError, Global};
-use t1_link::{BlockBytes, Next, ReaderEnd};
+use t1_link::{BlockBytes, FIELD_LIMIT, Next, ReaderEnd};
 
 /// RESYNCH. Both ends begin anew, so the blocks after it don't depend on those before it.
 const RESYNCH: [u8; 4] = [0x00, 0xC0, 0x00, 0xC0];
@@ -15,9 +15,6 @@ const FIELD_SIZE: [u8; 5] = [0x00, 0xC1, 0x01, 0xFE, 0x3E];
 
 /// R(1) asks for the I-block after one with number 0.
 const READY: [u8; 4] = [0x00, 0x90, 0x00, 0x90];
-
-/// The most bytes of a command in one block.
-const FIELD_LIMIT: usize = 254;
 
 /// Appends the steps that send all blocks of a command but the last, and returns the last.
 ///

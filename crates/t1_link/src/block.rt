@@ -14,7 +14,7 @@ use std::marker::Model;
 use std::ops::DerefSlice;
 
 /// The most bytes of an information field (11.4.2).
-pub(crate) const FIELD_LIMIT: usize = 254;
+pub const FIELD_LIMIT: usize = 254;
 
 /// The bytes of a block besides its information field.
 /// They are node address, control byte, length byte and check byte.

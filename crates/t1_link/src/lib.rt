@@ -8,7 +8,7 @@ mod outgoing;
 mod reader_end;
 mod sequence_number;
 
-pub use block::BlockBytes;
+pub use block::{BlockBytes, FIELD_LIMIT};
 pub use card_end::{Action, AnswerBytes, CardEnd, LONGEST_ANSWER};
 pub use outgoing::LONGEST_COMMAND;
 pub use reader_end::{Failure, Next, ReaderEnd};
