@@ -5,10 +5,7 @@ ghost use Rattle.sweep_reports.specs.DeviceWrites.{IsFirstChange, IsWriteKind, k
 ghost use Rattle.sweep_reports.specs.DeviceWrites.{write_text};
 
 use std::alloc::{AllocError, Global};
-use undo_journal::{GATE, PAGE_WORDS, PAIRS};
-
-/// The address of the first word after the journal. A page has the gate, and a pair is two words.
-const JOURNAL_END: u16 = GATE + PAGE_WORDS + 2 * PAIRS;
+use undo_journal::{GATE, JOURNAL_END};
 
 /// A device write of the command.
 #[derive(Clone, Copy, Drop)]

@@ -13,7 +13,7 @@ mod txn;
 
 pub use batch::{BATCH, Waiting};
 pub use error::{OpenFault, StoreErr};
-pub use layout::{GATE, PAIRS};
+pub use layout::{GATE, JOURNAL_END};
 pub use nvm_board::{Armed, Board, DeviceErr, Faultless, PAGE_WORDS};
 pub use store::Store;
 pub use txn::Txn;
