@@ -5,5 +5,5 @@ pub mod laws;
 mod order;
 mod reading;
 
-pub use order::{COMMAND_LIMIT, GivenBytes, Order};
+pub use order::{BLOCK_LIMIT, COMMAND_LIMIT, GivenBytes, Order};
 pub use reading::{LineBytes, LineEnd, LineFault, SCRIPT_LIMIT, read_line};

@@ -17,7 +17,7 @@ pub(crate) const LINE_LIMIT: usize = 1024;
 pub const COMMAND_LIMIT: usize = LONGEST_COMMAND;
 
 /// The most bytes of a block in a line.
-const BLOCK_LIMIT: usize = 300;
+pub const BLOCK_LIMIT: usize = 300;
 
 /// The most digits of a number.
 const NUMBER_DIGITS: usize = 6;

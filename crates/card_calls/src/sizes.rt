@@ -4,14 +4,11 @@ ghost use Rattle.bench_lines.specs.Orders.{Apdu, Block, IsOrderSized};
 ghost use Rattle.bench_lines.specs.OrderViews.{order_with};
 ghost use Rattle.card_calls.specs.Telling.{FitsCall};
 
-use bench_lines::{COMMAND_LIMIT, Order};
+use bench_lines::{BLOCK_LIMIT, COMMAND_LIMIT, Order};
 use t1_link::LONGEST_ANSWER;
 
 /// The bytes that a caller's buffer has at least. No answer and no block has more.
 pub const ROOM: usize = LONGEST_ANSWER;
-
-/// The most bytes of a block that a caller sends, as in a script.
-const BLOCK_LIMIT: usize = 300;
 
 /// The greatest number of a device write or a block that a caller names, as in a script.
 const NUMBER_LIMIT: u32 = 999_999;
