@@ -5,8 +5,8 @@ mod desk;
 mod exchange;
 mod script;
 
-pub use bench_lines::{COMMAND_LIMIT, Order};
+pub use bench_lines::Order;
 pub use bench_turns::{Item, Turn};
-pub use card_boards::{NoCard, factory_board, factory_board_of, image_board};
+pub use card_boards::factory_board;
 pub use desk::Desk;
 pub use script::{run, run_on};
