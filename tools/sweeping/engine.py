@@ -12,20 +12,24 @@ from typing import TextIO
 from script_lines import fault
 
 COMMAND, PROBE = "# command", "# probe"
+# what the parts of one sweep have in common
+OF_SWEEP = ("script", "card", "parts")
 
 
 class Refused(Exception):
     """Why an input can't be swept, for a person."""
 
 
-def ran(script: str, *words: str) -> list[str]:
-    """The lines that a program prints for a script."""
+def ran(script: str, *words: str, has_parts: bool = True) -> list[str]:
+    """The lines that a program prints for a script, which has the three parts of a sweep or is any script."""
     done = subprocess.run(words, input=script, capture_output=True, encoding="latin-1")
     if done.returncode == 0:
         return done.stdout.splitlines()
     said = (done.stderr.splitlines() or [f"the program ended with status {done.returncode}"])[-1]
-    bad = re.fullmatch(r"error line (\d+): it is no line of a script", said)
+    bad = re.fullmatch(r"error line (\d+)(: it is no line of a script)?", said)
     why = [fault(script.split("\n")[int(bad[1]) - 1].encode("latin-1"), int(bad[1]), True)] if bad else []
+    if not has_parts:
+        raise Refused(": ".join([said, *why]))
     # a comment that was meant to begin a part of the script
     why += [f"line {number} is '{line}'" for number, line in enumerate(script.splitlines(), 1)
             if line not in (COMMAND, PROBE) and re.fullmatch(r"#\s*(command|probe)\s*", line, re.IGNORECASE)]
@@ -56,18 +60,28 @@ def sweep_part(sweeper: str, script: str, depth: int | None, card: str | None, p
     return {"script": whole, "card": summed, "parts": of, "part": number, "lines": [json.loads(it) for it in lines]}
 
 
+def read_part(file: TextIO) -> dict:
+    """The part in a file, with the file's name, whether it is whole, and the numbers that its sweep's parts have."""
+    try:
+        it = json.load(file)
+        about = {"file": file.name, "is_whole": "writes" in it["lines"][-1], "numbers": range(1, it["parts"] + 1)}
+        return {**{key: it[key] for key in (*OF_SWEEP, "part", "lines")}, **about}
+    except (json.JSONDecodeError, IndexError, KeyError, TypeError) as why:
+        raise Refused(f"{file.name} is no part of a sweep, or is cut short ({why})") from None
+
+
 def read_parts(files: list[TextIO]) -> list[dict]:
     """The parts in files. They are of one sweep and whole, and none is missing or comes twice."""
-    try:
-        parts = [json.load(it) for it in files]
-        first, of = parts[0], parts[0]["parts"]
-        if any(it[key] != first[key] for it in parts for key in ("script", "card", "parts")):
-            raise Refused("the parts are not of one sweep: script, card, depth or number of parts differ")
-        for number in range(1, of + 1):
-            are_whole = ["writes" in it["lines"][-1] for it in parts if it["part"] == number]
-            if are_whole != [True]:
-                why = "is missing" if not are_whole else "comes twice" if len(are_whole) > 1 else "is cut short"
-                raise Refused(f"part {number} of {of} {why}")
-    except (json.JSONDecodeError, IndexError, KeyError, TypeError) as why:
-        raise Refused(f"a file is no part of a sweep, or is cut short ({why})") from None
+    parts = [read_part(it) for it in files]
+    first = parts[0]
+    for it in parts:
+        if any(it[key] != first[key] for key in OF_SWEEP):
+            differ = "script, card, depth or number of parts differ"
+            raise Refused(f"the parts are not of one sweep: {differ} between {first['file']} and {it['file']}")
+    for number in first["numbers"]:
+        found = [it for it in parts if it["part"] == number]
+        if [it["is_whole"] for it in found] != [True]:
+            why = "is missing" if not found else "comes twice" if len(found) > 1 else "is cut short"
+            names = f": {', '.join(it['file'] for it in found)}" if found else ""
+            raise Refused(f"part {number} of {first['parts']} {why}{names}")
     return parts

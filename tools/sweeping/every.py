@@ -46,7 +46,7 @@ def probe(files: Files, it: Command, shown: dict[int, str]) -> list[str]:
 def cases(script: str) -> Iterator[tuple[int, str, str]]:
     """Each command by its line, with its answer, and the sweep script that cuts it in its place."""
     lines = script.replace("\r\n", "\n").split("\n")
-    printed, files, shown = iter(ran(script, program())), Files(), {}
+    printed, files, shown = iter(ran(script, program(), has_parts=False)), Files(), {}
     for number, line in enumerate(lines, 1):
         order, _, digits = line.partition(" ")
         answer = next(printed) if order in ORDERS_THAT_PRINT else ""
