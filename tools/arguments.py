@@ -1,6 +1,7 @@
 """Arguments of a command line."""
 from argparse import ArgumentTypeError
 from collections.abc import Callable
+from pathlib import Path
 
 
 def number(most: int = 1_000_000) -> Callable[[str], int]:
@@ -12,3 +13,31 @@ def number(most: int = 1_000_000) -> Callable[[str], int]:
         return int(text)
 
     return parse
+
+
+def output(kind: str, begin: bytes = b"", suffix: str = "") -> Callable[[str], Path]:
+    """The type of an argument that is a file to write, in a folder that is there. What is there already begins as a file
+    of this kind does, or has its suffix: a word in the wrong place overwrites no other file."""
+
+    def parse(text: str) -> Path:
+        path = Path(text)
+        if not path.parent.is_dir():
+            raise ArgumentTypeError(f"there is no folder for {text}")
+        if not text.lower().endswith(suffix):
+            raise ArgumentTypeError(f"{text} would be {kind}: give it a name that ends in {suffix}")
+        if path.is_dir() or not first_bytes(path, len(begin)) in (b"", begin):
+            raise ArgumentTypeError(f"{text} is there and is not {kind}; it stays as it is")
+        return path
+
+    return parse
+
+
+def first_bytes(path: Path, number: int) -> bytes:
+    """The first bytes of a file; none where it isn't there, is a device or a pipe, or can't be read."""
+    try:
+        if path.is_file():
+            with open(path, "rb") as file:
+                return file.read(number)
+    except OSError:
+        pass
+    return b""

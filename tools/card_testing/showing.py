@@ -88,9 +88,22 @@ def of_pictures(checks: Checks, image: Path, picture: Path) -> None:
         checks.compare("the pages that are marked, and the legend's", marks, len(frames))
 
 
+def of_another_file(checks: Checks, image: Path, folder: Path) -> None:
+    """A picture overwrites no card, whose name doesn't end in .svg."""
+    other = folder / "other.card"
+    other.write_bytes(data_of(factory()))
+    status, lines, said = card("--pages", other, image)
+    checks.compare("a picture over a card", (2, []), (status, lines))
+    checks.compare("its reason", True, f"{other} would be SVG: give it a name that ends in .svg" in said)
+    checks.compare("the card below it", True, other.read_bytes() == data_of(factory()))
+    status, _, said = card("--pages", folder / "none" / "it.svg", image)
+    checks.compare("a picture in no folder", (2, True), (status, "there is no folder for " in said))
+
+
 def check(checks: Checks, folder: Path) -> None:
     """All that it prints."""
     image = folder / "shown.image"
     of_text(checks, image)
     of_differences(checks, image, folder / "other.image")
     of_pictures(checks, image, folder / "shown.svg")
+    of_another_file(checks, image, folder)
