@@ -3,6 +3,7 @@ import time
 from argparse import Namespace
 from collections.abc import Iterator
 from functools import partial
+from pathlib import Path as FilePath
 
 from .engine import COMMAND, PROBE, Refused, ran, side_by_side, sweep_part
 from .outcomes import Sweep, aligned
@@ -71,8 +72,8 @@ def row(sweeper: str, path: str, depth: int | None, case: tuple[int, str, str]) 
     return cells, Case(path, line, f"line {line}: {it.name}", 1, wrong)
 
 
-def report_all(options: Namespace) -> tuple[str, str]:
-    """The table of every command of a script, and the reason if outcomes aren't allowed. Writes the reports."""
+def report_all(options: Namespace) -> tuple[str, str, dict[FilePath, str]]:
+    """The table of every command of a script, the reason if outcomes aren't allowed, and the reports to write."""
     script = options.files[0]
     chosen = [it for it in cases(script.read()) if not options.only or it[0] in options.only]
     if missing := sorted({*options.only} - {it[0] for it in chosen}):
@@ -80,9 +81,7 @@ def report_all(options: Namespace) -> tuple[str, str]:
     work = partial(row, program("--sweep"), script.name, options.depth)
     swept = side_by_side(options.jobs, "commands", work, chosen)
     rows, tests = [it for it, _ in swept], [it for _, it in swept]
-    if options.markdown:
-        lines = [f"| {' | '.join(it)} |" for it in [HEAD, ["---"] * len(HEAD), *rows]]
-        print(*lines, sep="\n", file=options.markdown, flush=True)
-    if options.junit:
-        print(junit([tests]), end="", file=options.junit, flush=True)
-    return aligned(HEAD, *rows), "; ".join(f"line {it.line}: {it.reason}" for test in tests for it in test.differences)
+    markdown = "".join(f"| {' | '.join(it)} |\n" for it in [HEAD, ["---"] * len(HEAD), *rows])
+    reports = ((options.markdown, markdown), (options.junit, junit([tests])))
+    fault = "; ".join(f"line {it.line}: {it.reason}" for test in tests for it in test.differences)
+    return aligned(HEAD, *rows), fault, {path: text for path, text in reports if path}
