@@ -1,4 +1,6 @@
 """Outputs of a tool: written whole at its end, and a message and a status of their own where they can't be."""
+from __future__ import annotations
+
 import os
 import sys
 from pathlib import Path
@@ -8,10 +10,10 @@ from typing import NoReturn
 UNWRITABLE = 4
 
 
-def write(path: Path, text: str) -> None:
+def write(path: Path, content: str | bytes) -> None:
     """Writes a file; an error names it, also where the disk is full."""
     try:
-        path.write_text(text, encoding="utf-8")
+        path.write_bytes(content.encode("utf-8") if isinstance(content, str) else content)
     except OSError as error:
         raise OSError(error.errno, error.strerror, str(path)) from error
 

@@ -96,6 +96,14 @@ def of_another_file(checks: Checks, image: Path, folder: Path) -> None:
     checks.compare("a picture over a card", (2, []), (status, lines))
     checks.compare("its reason", True, f"{other} would be SVG: give it a name that ends in .svg" in said)
     checks.compare("the card below it", True, other.read_bytes() == data_of(factory()))
+    full = folder / "full.svg"
+    full.symlink_to("/dev/full")
+    wanted = (4, [], f"card: {full} can't be written: No space left on device\n")
+    checks.compare("a picture where no room is", wanted, card("--pages", full, image))
+    with open("/dev/full", "w", encoding="ascii") as it:
+        ran = subprocess.run([TOP / "tools/card", image], stdout=it, stderr=subprocess.PIPE, text=True)
+    wanted = (4, "card: the output can't be written: No space left on device\n")
+    checks.compare("a card where no room is", wanted, (ran.returncode, ran.stderr))
     status, _, said = card("--pages", folder / "none" / "it.svg", image)
     checks.compare("a picture in no folder", (2, True), (status, "there is no folder for " in said))
 
