@@ -24,7 +24,8 @@ pub record WritesInto {B : Type 0} (facts : B → Facts) (torn : B → ℕ) (boa
 -- The end of the program's work by its fault: that of the reading, or a writer that fails within the report.
 abbrev pub SweepStopsBy : {B : Type 0} (facts : B → Facts) (torn : B → ℕ) → Facts → SweepPart → SweepFault
     → Option (List ℕ) → Option (List ℕ) → Option (List ℕ) → Option (List ℕ) → Type 0
-SweepStopsBy facts torn board part (BadLine number error) script left old new = StopsAtLine number script left
+SweepStopsBy facts torn board part (BadLine number error) script left old new =
+    StopsAtLine number error script left
 SweepStopsBy facts torn board part Read script left old new = StopsInLine script left
 SweepStopsBy facts torn board part Write script left old new = WritesInto facts torn board script left part old new
 SweepStopsBy facts torn board part Memory script left old new = Unit {0}

@@ -1,5 +1,5 @@
 -- Lines that are read one after another, and where that stops.
-use Rattle.std.specs.Prelude.{◌≡◌, ◌≤◌, ◌+◌, ◌-◌, ℕ, suc, List, length, Option, None, Some, IfSome}
+use Rattle.std.specs.Prelude.{◌≡◌, ◌≤◌, ◌+◌, ◌-◌, ℕ, suc, List, length, Option, None, Some, Ok, IfSome}
 use Rattle.std.proofs.Common.{◌∙◌, ap, refl, subst, arith}
 use Rattle.bench_lines.specs.Scripts.{CountsTaken, TakesInto, TakesLine}
 use Rattle.bench_lines.specs.declared.reading.LineEnd.TheVariants.{EndOfScript, LineFeed}
@@ -14,7 +14,7 @@ reads-none reader asked is = (refl, is)
 
 -- one more
 pub reads-next : (n : ℕ) (old between new : Option (List ℕ)) (before asked : Asked) (line : List ℕ) → 1 ≤ n
-    → ReadsLines (n - 1) old between before → TakesLine between new line LineFeed → take_line before line ≡ Some asked
+    → ReadsLines (n - 1) old between before → TakesLine between new line LineFeed → take_line before line ≡ Ok asked
     → ReadsLines (n + 1 - 1) old new asked
 unfolding ReadsLines
 reads-next n old between new before asked line some so_far takes is =

@@ -1,6 +1,7 @@
 -- Faults of a script that a function passes on by `?`.
 use Rattle.std.specs.Prelude.{◌≡◌, ℕ, List, Option, Result, Ok, Err, IfErr, IsErrAnd, MatchResult}
 use Rattle.std.proofs.Common.{sym, subst}
+use Rattle.sweep_scripts.specs.declared.fault.LineError.{LineError}
 use Rattle.sweep_scripts.specs.declared.fault.LineStop.{LineStop}
 use Rattle.sweep_scripts.specs.declared.fault.LineStop.TheVariants as stop
 use Rattle.sweep_scripts.specs.declared.fault.SweepFault.{SweepFault}
@@ -9,7 +10,8 @@ use Rattle.sweep_scripts.specs.Asking.{Asked, Refuses}
 use Rattle.sweep_scripts.specs.SweepEndings.{ReadingStopsBy}
 
 -- too little memory for a line
-pub memory_refuses : {T : Type 0} (r : Result T LineStop) (P : T → Type 0) (taken : Option Asked)
+pub memory_refuses : {T : Type 0} (r : Result T LineStop) (P : T → Type 0)
+    (taken : Result Asked LineError)
     → IsErrAnd r (λ it. it ≡ stop.Memory) → MatchResult r P (λ it. Refuses it taken)
 memory_refuses (Ok t) P taken is = absurd is
 memory_refuses (Err e) P taken is = subst (λ (s : LineStop). Refuses s taken) (sym is) tt

@@ -1,12 +1,15 @@
 -- What the lines of a sweep script ask for.
-use Rattle.std.specs.Prelude.{◌≡◌, ◌≤◌, ◌+◌, ◌-◌, ◌&&◌, nat_eq, nat_le, ℕ, zero, suc, Bool, true, false, List, []}
-use Rattle.std.specs.Prelude.{◌∷◌, ◌++◌, drop, length, codes, Option, Some, None, IfSome, if◌then◌else◌}
+use Rattle.std.specs.Prelude.{◌≡◌, ◌≤◌, ◌+◌, ◌-◌, ◌&&◌, nat_eq, nat_le, ℕ, zero, suc, List, [], ◌∷◌, ◌++◌}
+use Rattle.std.specs.Prelude.{drop, length, codes, Option, Some, None, Result, Ok, Err, IfSome, if◌then◌else◌}
 use Rattle.std.specs.Cmp.Lexicographic.{pointwise}
 use Rattle.bench_lines.specs.Orders.{Order, begins_with, order_of}
 use Rattle.bench_lines.specs.Orders as order
 use Rattle.bench_lines.specs.Scripts.{TakesLine, WhereKnown}
 use Rattle.bench_lines.specs.declared.reading.LineEnd.TheVariants.{LineFeed, EndOfScript}
 use Rattle.bench_lines.specs.declared.reading.TheConstants.{SCRIPT_LIMIT}
+use Rattle.sweep_scripts.specs.declared.fault.LineError.{LineError}
+use Rattle.sweep_scripts.specs.declared.fault.LineError.TheVariants.{NoCommand, NoDepth, NoLine, NoProbe, SetsFault}
+use Rattle.sweep_scripts.specs.declared.fault.LineError.TheVariants.{WrongMark}
 use Rattle.sweep_scripts.specs.declared.fault.LineStop.{LineStop}
 use Rattle.sweep_scripts.specs.declared.fault.LineStop.TheVariants.{Bad, Memory}
 use Rattle.sweep_scripts.specs.declared.script.Section.{Section}
@@ -41,64 +44,64 @@ asked_of s = record {
   depth = s.depth;
 }
 
--- A line is refused only if a script can't have it there. (With too little memory nothing is said.)
-abbrev pub Refuses : LineStop → Option Asked → Type 0
-Refuses (Bad error) taken = taken ≡ None
+-- A line is refused only if a script can't have it there, for this reason. (With too little memory nothing is said.)
+abbrev pub Refuses : LineStop → Result Asked LineError → Type 0
+Refuses (Bad error) taken = taken ≡ Err error
 Refuses Memory taken = Unit {0}
 
 -- the mark of the command
-abbrev pub begins_command : Asked → Section → Option Asked
-begins_command asked Prepare = Some (record asked { section = Command })
-begins_command asked Command = None
-begins_command asked AfterCommand = None
-begins_command asked Probe = None
+abbrev pub begins_command : Asked → Section → Result Asked LineError
+begins_command asked Prepare = Ok (record asked { section = Command })
+begins_command asked Command = Err WrongMark
+begins_command asked AfterCommand = Err WrongMark
+begins_command asked Probe = Err WrongMark
 
 -- the mark of the probe, after the command
-abbrev pub begins_probe : Asked → Section → Option Asked
-begins_probe asked Prepare = None
-begins_probe asked Command = None
-begins_probe asked AfterCommand = Some (record asked { section = Probe })
-begins_probe asked Probe = None
+abbrev pub begins_probe : Asked → Section → Result Asked LineError
+begins_probe asked Prepare = Err WrongMark
+begins_probe asked Command = Err NoCommand
+begins_probe asked AfterCommand = Ok (record asked { section = Probe })
+begins_probe asked Probe = Err WrongMark
 
 -- a digit 0 (48) to 3: the number of power-ons to cut
-abbrev pub sets_depth : Asked → List ℕ → Option Asked
+abbrev pub sets_depth : Asked → List ℕ → Result Asked LineError
 sets_depth asked (digit ∷ []) =
-    if nat_le 48 digit && nat_le digit 51 then Some (record asked { depth = digit - 48 }) else None
-sets_depth asked digits = None
+    if nat_le 48 digit && nat_le digit 51 then Ok (record asked { depth = digit - 48 }) else Err NoDepth
+sets_depth asked digits = Err NoDepth
 
 -- steps of the preparation or the probe
-abbrev pub adds : Asked → Section → List Step → Option Asked
-adds asked Prepare steps = Some (record asked { prepare = asked.prepare ++ steps })
-adds asked Command steps = None
-adds asked AfterCommand steps = None
-adds asked Probe steps = Some (record asked { probe = asked.probe ++ steps; looks = asked.looks ++ length steps ∷ [] })
+abbrev pub adds : Asked → Section → List Step → Result Asked LineError
+adds asked Prepare steps = Ok (record asked { prepare = asked.prepare ++ steps })
+adds asked Command steps = Err NoCommand
+adds asked AfterCommand steps = Err NoCommand
+adds asked Probe steps = Ok (record asked { probe = asked.probe ++ steps; looks = asked.looks ++ length steps ∷ [] })
 
 -- A command. Between the marks it is the one that is cut; all its blocks but the last are sent before.
-abbrev pub sends : Asked → Section → List ℕ → Option Asked
+abbrev pub sends : Asked → Section → List ℕ → Result Asked LineError
 sends asked Prepare bytes = adds asked Prepare (exchange bytes)
-sends asked Command bytes = Some (record asked {
+sends asked Command bytes = Ok (record asked {
   section = AfterCommand;
   prepare = asked.prepare ++ steps_before bytes;
   command = last_command_block bytes;
 })
-sends asked AfterCommand bytes = None
+sends asked AfterCommand bytes = Err NoCommand
 sends asked Probe bytes = adds asked Probe (exchange bytes)
 
 -- An order. Each result has the free space anyway, and only the sweep sets faults.
-abbrev pub takes : Asked → Option Order → Option Asked
-takes asked None = None
-takes asked (Some order.Nothing) = Some asked
-takes asked (Some order.Free) = Some asked
+abbrev pub takes : Asked → Option Order → Result Asked LineError
+takes asked None = Err NoLine
+takes asked (Some order.Nothing) = Ok asked
+takes asked (Some order.Free) = Ok asked
 takes asked (Some order.On) = adds asked asked.section (On ∷ [])
 takes asked (Some order.Off) = adds asked asked.section (Off ∷ [])
 takes asked (Some (order.Block bytes)) = adds asked asked.section (Block bytes ∷ [])
 takes asked (Some (order.Apdu bytes)) = sends asked asked.section bytes
-takes asked (Some (order.Cut number mask)) = None
-takes asked (Some (order.Lose number)) = None
-takes asked (Some (order.Garble number)) = None
+takes asked (Some (order.Cut number mask)) = Err SetsFault
+takes asked (Some (order.Lose number)) = Err SetsFault
+takes asked (Some (order.Garble number)) = Err SetsFault
 
--- A line: a mark, a depth, or an order. None: a bad line.
-unfoldable pub take_line : Asked → List ℕ → Option Asked
+-- A line: a mark, a depth, or an order. A bad line has a reason.
+unfoldable pub take_line : Asked → List ℕ → Result Asked LineError
 take_line asked line =
     if pointwise nat_eq line (codes "# command") then begins_command asked asked.section else
     if pointwise nat_eq line (codes "# probe") then begins_probe asked asked.section else
@@ -110,15 +113,15 @@ unfoldable pub ReadsLines : ℕ → Option (List ℕ) → Option (List ℕ) → 
 ReadsLines zero old new asked = (new ≡ old) × (asked ≡ unasked)
 ReadsLines (suc n) old new asked =
     (between : Option (List ℕ)) × (before : Asked) × (line : List ℕ) × ReadsLines n old between before
-    × TakesLine between new line LineFeed × (take_line before line ≡ Some asked)
+    × TakesLine between new line LineFeed × (take_line before line ≡ Ok asked)
 
--- true if nothing is missing at the end: there is a probe, and so a command
-abbrev pub is_whole : Section → List Step → Bool
-is_whole Probe (step ∷ steps) = true
-is_whole Probe [] = false
-is_whole AfterCommand steps = false
-is_whole Command steps = false
-is_whole Prepare steps = false
+-- the reason at the end of a script, unless there is a probe, and so a command
+abbrev pub missing_at_end : Section → List Step → Option LineError
+missing_at_end Probe (step ∷ steps) = None
+missing_at_end Probe [] = Some NoProbe
+missing_at_end AfterCommand steps = Some NoCommand
+missing_at_end Command steps = Some NoCommand
+missing_at_end Prepare steps = Some NoCommand
 
 -- at most 16,777,216 bytes were read, if the script's bytes are known
 abbrev pub ReadsWithin : Option (List ℕ) → Option (List ℕ) → Type 0
@@ -132,6 +135,6 @@ pub record IsRead (old new : Option (List ℕ)) (asked : Asked) : Type 0 where
   pub line : List ℕ
   pub others : ReadsLines number old between before
   pub last : TakesLine between new line EndOfScript
-  pub takes : take_line before line ≡ Some asked
-  pub whole : is_whole asked.section asked.probe ≡ true
+  pub takes : take_line before line ≡ Ok asked
+  pub whole : missing_at_end asked.section asked.probe ≡ None
   pub size : IfSome old (λ script. length script ≤ SCRIPT_LIMIT)

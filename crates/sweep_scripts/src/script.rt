@@ -1,10 +1,10 @@
 //! A sweep script: the preparation, the command that is cut, and the probe.
-ghost use Rattle.std.specs.Prelude.{◌≡◌, ◌≢◌, ◌≤◌, ◌++◌, ◌∷◌, [], length, None, Some, true, false};
-ghost use Rattle.std.specs.Prelude.{IfErr, IfNone, IfOk, IfSome, MatchResult, OnOk};
+ghost use Rattle.std.specs.Prelude.{◌≡◌, ◌≢◌, ◌≤◌, ◌++◌, ◌∷◌, [], length, None, Some, Ok};
+ghost use Rattle.std.specs.Prelude.{IfErr, IfOk, MatchResult, OnOk};
 ghost use Rattle.bench_lines.specs.OrderViews.{order_with};
 ghost use Rattle.bench_lines.specs.Orders.{IsOrderSized};
-ghost use Rattle.sweep_scripts.specs.Asking.{IsRead, Refuses, adds, asked_of, begins_command, begins_probe, is_whole};
-ghost use Rattle.sweep_scripts.specs.Asking.{sends, sets_depth, take_line, takes, unasked};
+ghost use Rattle.sweep_scripts.specs.Asking.{IsRead, Refuses, adds, asked_of, begins_command, begins_probe};
+ghost use Rattle.sweep_scripts.specs.Asking.{missing_at_end, sends, sets_depth, take_line, takes, unasked};
 ghost use Rattle.sweep_scripts.specs.SweepEndings.{ReadingStopsBy};
 
 use crate::fault::{LineError, LineStop, SweepFault};
@@ -68,7 +68,7 @@ impl SweepScript {
         given: &mut GivenBytes,
     ) -> Result<(), LineStop>
         ensures { MatchResult result
-            (λ _. take_line (asked_of self.old) line.now ≡ Some (asked_of self.new))
+            (λ _. take_line (asked_of self.old) line.now ≡ Ok (asked_of self.new))
             (λ stop. Refuses stop (take_line (asked_of self.old) line.now)) }
     {
         if line == b"# command".as_slice() {
@@ -89,7 +89,7 @@ impl SweepScript {
     /// Begins the section of the command.
     fn begin_command(&mut self) -> Result<(), LineStop>
         ensures taken { MatchResult result
-            (λ _. begins_command (asked_of self.old) self.old.section ≡ Some (asked_of self.new))
+            (λ _. begins_command (asked_of self.old) self.old.section ≡ Ok (asked_of self.new))
             (λ stop. Refuses stop (begins_command (asked_of self.old) self.old.section)) }
         ensures light { IfErr result (λ stop. stop ≢ LineStop.Memory) }
     {
@@ -107,7 +107,7 @@ impl SweepScript {
     /// Begins the section of the probe.
     fn begin_probe(&mut self) -> Result<(), LineStop>
         ensures taken { MatchResult result
-            (λ _. begins_probe (asked_of self.old) self.old.section ≡ Some (asked_of self.new))
+            (λ _. begins_probe (asked_of self.old) self.old.section ≡ Ok (asked_of self.new))
             (λ stop. Refuses stop (begins_probe (asked_of self.old) self.old.section)) }
         ensures light { IfErr result (λ stop. stop ≢ LineStop.Memory) }
     {
@@ -124,7 +124,7 @@ impl SweepScript {
     /// Sets the number of power-ons to cut.
     fn set_depth(&mut self, digits: &[u8]) -> Result<(), LineStop>
         ensures taken { MatchResult result
-            (λ _. sets_depth (asked_of self.old) digits.now ≡ Some (asked_of self.new))
+            (λ _. sets_depth (asked_of self.old) digits.now ≡ Ok (asked_of self.new))
             (λ stop. Refuses stop (sets_depth (asked_of self.old) digits.now)) }
         ensures light { IfErr result (λ stop. stop ≢ LineStop.Memory) }
     {
@@ -142,7 +142,7 @@ impl SweepScript {
     fn take_order(&mut self, alloc: Global, order: Order, given: &[u8]) -> Result<(), LineStop>
         requires { IsOrderSized (order_with order given.now) }
         ensures { MatchResult result
-            (λ _. takes (asked_of self.old) (Some (order_with order given.now)) ≡ Some (asked_of self.new))
+            (λ _. takes (asked_of self.old) (Some (order_with order given.now)) ≡ Ok (asked_of self.new))
             (λ stop. Refuses stop (takes (asked_of self.old) (Some (order_with order given.now)))) }
     {
         match order {
@@ -164,7 +164,7 @@ impl SweepScript {
     #[tactic(auto, using(crate::proofs::Stopped::memory_refuses))]
     fn add(&mut self, step: Step) -> Result<(), LineStop>
         ensures { MatchResult result
-            (λ _. adds (asked_of self.old) self.old.section (step ∷ []) ≡ Some (asked_of self.new))
+            (λ _. adds (asked_of self.old) self.old.section (step ∷ []) ≡ Ok (asked_of self.new))
             (λ stop. Refuses stop (adds (asked_of self.old) self.old.section (step ∷ []))) }
     {
         match self.section {
@@ -185,7 +185,7 @@ impl SweepScript {
     fn send(&mut self, alloc: Global, command: &[u8]) -> Result<(), LineStop>
         requires { IsOrderSized (order_with Order.Apdu command.now) }
         ensures { MatchResult result
-            (λ _. sends (asked_of self.old) self.old.section command.now ≡ Some (asked_of self.new))
+            (λ _. sends (asked_of self.old) self.old.section command.now ≡ Ok (asked_of self.new))
             (λ stop. Refuses stop (sends (asked_of self.old) self.old.section command.now)) }
     {
         match self.section {
@@ -202,8 +202,7 @@ impl SweepScript {
 
     /// Returns what is missing at the end of the script.
     fn missing(&self) -> Option<LineError>
-        ensures whole { IfNone result (is_whole self.now.section self.now.probe.items ≡ true) }
-        ensures missing { IfSome result (λ _. is_whole self.now.section self.now.probe.items ≡ false) }
+        ensures { result ≡ missing_at_end self.now.section self.now.probe.items }
     {
         match self.section {
             Section::Prepare | Section::Command | Section::AfterCommand => Some(
@@ -258,9 +257,9 @@ pub fn read_script<R: BufRead>(alloc: Global, reader: &mut R) -> Result<SweepScr
 /// Returns the script, if nothing is missing at its end.
 fn finished(script: SweepScript, number: u32) -> Result<SweepScript, SweepFault>
     ensures whole { IfOk result (λ whole. (asked_of whole ≡ asked_of script)
-        × (is_whole whole.section whole.probe.items ≡ true)) }
+        × (missing_at_end whole.section whole.probe.items ≡ None)) }
     ensures missing { IfErr result (λ fault. (error : LineError) × (fault ≡ SweepFault.BadLine number error)
-        × (is_whole script.section script.probe.items ≡ false)) }
+        × (missing_at_end script.section script.probe.items ≡ Some error)) }
 {
     match script.missing() {
         Some(error) => Err(SweepFault::BadLine(number, error)),

@@ -1,4 +1,4 @@
-use Rattle.std.proofs.Common.{◌≡◌, ◌∙◌, ◌-◌, None, Some, Err, ap, arith, inl, inr, subst, sym}
+use Rattle.std.proofs.Common.{◌≡◌, ◌∙◌, ◌-◌, Ok, Err, ap, arith, inl, inr, refl, subst, sym}
 use Rattle.std.proofs.lemmas.Result.{IfErr-weaker, IfOk-weaker}
 use Rattle.bench_lines.specs.Scripts.{TakesLine}
 use Rattle.bench_lines.specs.declared.reading.LineFault.TheVariants.{Read, TooLong, TooMuch}
@@ -26,7 +26,7 @@ loop-end-preserved g c =
     let old = g.R.Read.remaining c.loop-end.reader in
     let new = g.R.Read.remaining c.read_line.new.reader in
     let line = c.read_line.new.line in
-    let takes : take_line (asked_of c.loop-end.script) line ≡ Some (asked_of c.take_line.new.self) =
+    let takes : take_line (asked_of c.loop-end.script) line ≡ Ok (asked_of c.take_line.new.self) =
     ap (take_line (asked_of c.loop-end.script)) (sym c.as_slice.ensures)
     ∙ rw c.in-Ok-take_line.is at c.take_line.ensures in
     record {
@@ -48,7 +48,7 @@ returns-in-EndOfScript-clause-read g c =
     let old = g.R.Read.remaining c.loop-end.reader in
     let new = g.R.Read.remaining c.read_line.new.reader in
     let line = c.read_line.new.line in
-    let takes : take_line (asked_of c.loop-end.script) line ≡ Some (asked_of c.take_line.new.self) =
+    let takes : take_line (asked_of c.loop-end.script) line ≡ Ok (asked_of c.take_line.new.self) =
     ap (take_line (asked_of c.loop-end.script)) (sym c.as_slice.ensures)
     ∙ rw c.in-Ok-take_line.is at c.take_line.ensures in
     let last = subst (TakesLine old new line) c.in-EndOfScript.is c.in-Ok.ensures.line in
@@ -60,7 +60,7 @@ returns-in-EndOfScript-clause-read g c =
       line = line;
       others = c.loop-end.invariant.so_far;
       last = last;
-      takes = takes ∙ ap Some (sym ends.0);
+      takes = takes ∙ ap Ok (sym ends.0);
       whole = ends.1;
       size = whole-within first old new line _ _ c.loop-end.invariant.bytes c.in-Ok.ensures.counted last
           c.read_line.ensures.taken;
@@ -72,12 +72,12 @@ returns-in-EndOfScript-clause-stopped g c =
     let old = g.R.Read.remaining c.loop-end.reader in
     let new = g.R.Read.remaining c.read_line.new.reader in
     let line = c.read_line.new.line in
-    let takes : take_line (asked_of c.loop-end.script) line ≡ Some (asked_of c.take_line.new.self) =
+    let takes : take_line (asked_of c.loop-end.script) line ≡ Ok (asked_of c.take_line.new.self) =
     ap (take_line (asked_of c.loop-end.script)) (sym c.as_slice.ensures)
     ∙ rw c.in-Ok-take_line.is at c.take_line.ensures in
     IfErr-weaker c.finished.result _ _
     (λ fault ends.
-    let stops : StopsAtLine c.loop-end.number first new = record {
+    let stops : StopsAtLine c.loop-end.number ends.0 first new = record {
       counted = c.loop-end.invariant.counted;
       between = old;
       before = asked_of c.loop-end.script;
@@ -102,7 +102,7 @@ returns-in-Err-TooLong-clause-stopped g c =
       between = _;
       before = _;
       others = c.loop-end.invariant.so_far;
-      bad = inr (inr (record { begun = long.0; read = long.1; inside = long.2; long = long.3 }));
+      bad = inr (inr (refl, record { begun = long.0; read = long.1; inside = long.2; long = long.3 }));
       within = reads-within _ _ _ _ _ c.loop-end.invariant.bytes long.4 c.read_line.ensures.taken;
     }
 
@@ -125,11 +125,13 @@ returns-in-Err-TooMuch-clause-stopped g c =
 
 pub returns-in-Err-Bad-clause-stopped : goal.returns-in-Err-Bad-clause-stopped
 returns-in-Err-Bad-clause-stopped g c =
+    let first = g.R.Read.remaining c.args.reader.now in
+    let new = g.R.Read.remaining c.read_line.new.reader in
     let line = c.read_line.new.line in
-    let none : take_line (asked_of c.loop-end.script) c.as_slice.result.now ≡ None =
+    let none : take_line (asked_of c.loop-end.script) c.as_slice.result.now ≡ Err c.in-Err-Bad.error =
     subst (λ (s : LineStop). Refuses s (take_line (asked_of c.loop-end.script) c.as_slice.result.now))
     c.in-Err-Bad.field-0-is (rw c.in-Err-Bad.is at c.take_line.ensures) in
-    record {
+    let stops : StopsAtLine c.loop-end.number c.in-Err-Bad.error first new = record {
       counted = c.loop-end.invariant.counted;
       between = _;
       before = asked_of c.loop-end.script;
@@ -141,7 +143,8 @@ returns-in-Err-Bad-clause-stopped g c =
         refused = ap (take_line (asked_of c.loop-end.script)) (sym c.as_slice.ensures) ∙ none;
       });
       within = reads-within _ _ _ _ _ c.loop-end.invariant.bytes c.in-Ok.ensures.counted c.read_line.ensures.taken;
-    }
+    } in
+    rw c.in-Err-Bad.field-0-is stops
 
 pub returns-in_err-script-clause-stopped : goal.returns-in_err-script-clause-stopped
 returns-in_err-script-clause-stopped g c = memory-passed c.from_residual.result _ _ c.from_residual.ensures.1
