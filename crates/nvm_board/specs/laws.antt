@@ -2,4 +2,5 @@
 pub mod Aims
 pub mod History
 pub mod Sizes
+pub mod SteadyCalls
 pub mod Torn

@@ -2,7 +2,7 @@
 use Rattle.std.specs.Prelude.{◌≡◌, ◌+◌, true, false, Ok, Err}
 use Rattle.std.proofs.Common.{refl, sym, ap, inl, inr, subst}
 use Rattle.nvm_board.specs.declared.board.DeviceErr.TheVariants.{PowerLost}
-use Rattle.nvm_board.specs.Facts.{Facts, Answered, IsLostRightly, IsWorn, Steady}
+use Rattle.nvm_board.specs.Facts.{Facts, Answered, IsLostRightly, IsWorn}
 
 -- a dark board, of which nothing changes
 pub off_tells : {T : Type 0} (f : Facts) → f.dark ≡ true → Answered {T = T} f f (Err PowerLost)
@@ -31,10 +31,7 @@ pub worn_rightly : (T : Type 0) (old new : Facts) → IsWorn old → IsLostRight
 unfolding IsLostRightly
 worn_rightly T old new worn = λ lost lit. inr worn
 
--- a lit board that stays as it is, but for its words and what it has counted
-pub lit_tells : {T : Type 0} (old new : Facts) (x : T) → Steady old new → Answered old new (Ok x)
-lit_tells old new x steady = record { ok = λ h. steady; lost = λ h. absurd cc; fault = λ h. absurd cc }
-
+-- an answer that is no error loses nothing
 pub lit_rightly : {T : Type 0} (old new : Facts) (x : T) → IsLostRightly old new (Ok x)
 unfolding IsLostRightly
 lit_rightly old new x = λ lost lit. absurd cc

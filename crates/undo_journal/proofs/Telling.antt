@@ -25,10 +25,6 @@ answered_err old new e (Err f) is told = record {
   fault = λ h. let same : e ≡ device.Fault = cc in told.fault (ap Err same);
 }
 
--- nor does what was answered, where the call went well
-pub answered_ok : {T : Type 0} (old new : Facts) (x : T) → Steady old new → Answered old new (Ok x)
-answered_ok old new x light = record { ok = λ h. light; lost = λ h. absurd cc; fault = λ h. absurd cc }
-
 -- calls in a row that went well
 pub steady_then : (a b c : Facts) → Steady a b → Steady b c → Steady a c
 steady_then a b c first rest = record {

@@ -2,6 +2,7 @@ use Rattle.std.proofs.Common.{Bool, true, ◌==◌, ◌≡◌, ◌+◌, ◌∙�
 use Rattle.std.proofs.Common.{arith, IsSome}
 use Rattle.std.proofs.lemmas.Result.{on_ok_weaker}
 use Rattle.nvm_board.specs.laws.Aims.{aims_same}
+use Rattle.nvm_board.specs.laws.SteadyCalls.{answered_ok}
 use Rattle.undo_journal.specs.declared.batch.Waiting.{Waiting}
 use Rattle.undo_journal.specs.Undo.{data_words}
 use Rattle.undo_journal.specs.Batches.{overlay, look_up, batch_writes, AreSets, with_set}
@@ -15,7 +16,7 @@ use Rattle.undo_journal.specs.Spending.{WritesAtMost}
 use Rattle.undo_journal.specs.BatchParts.{working}
 use Rattle.undo_journal.specs.laws.Calls.{within_more}
 use Rattle.undo_journal.specs.laws.Transactions.{stays_spends}
-use Rattle.undo_journal.proofs.Telling.{answered_ok, steady_same}
+use Rattle.undo_journal.proofs.Telling.{steady_same}
 use Rattle.undo_journal.proofs.batch.add.Goals as goal
 
 pub join-requires-clause-sorted : goal.join-requires-clause-sorted

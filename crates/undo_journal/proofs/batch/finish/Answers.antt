@@ -11,8 +11,9 @@ use Rattle.undo_journal.specs.laws.Memory.{writes_then}
 use Rattle.undo_journal.specs.BatchParts.{working}
 use Rattle.undo_journal.proofs.Costing.{commit-none, commit-some, batch-within}
 use Rattle.nvm_board.specs.laws.Sizes.{least_words}
+use Rattle.nvm_board.specs.laws.SteadyCalls.{answered_ok}
 use Rattle.undo_journal.specs.laws.Exits.{none_ok}
-use Rattle.undo_journal.proofs.Telling.{answered_after, answered_err, answered_ok}
+use Rattle.undo_journal.proofs.Telling.{answered_after, answered_err}
 use Rattle.undo_journal.proofs.batch.finish.Goals as goal
 
 pub returns-then-batch-eq0-clause-done : goal.returns-then-batch-eq0-clause-done

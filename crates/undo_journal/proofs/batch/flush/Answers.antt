@@ -9,7 +9,8 @@ use Rattle.std.proofs.lemmas.List.{nil_from_length}
 use Rattle.std.proofs.lemmas.Result.{on_ok_weaker}
 use Rattle.undo_journal.proofs.Costing.{is-none, is-some}
 use Rattle.undo_journal.specs.laws.Transactions.{stays_spends}
-use Rattle.undo_journal.proofs.Telling.{answered_ok, steady_same}
+use Rattle.undo_journal.proofs.Telling.{steady_same}
+use Rattle.nvm_board.specs.laws.SteadyCalls.{answered_ok}
 use Rattle.undo_journal.proofs.batch.flush.Goals as goal
 
 pub returns-then-is_empty-clause-kept : goal.returns-then-is_empty-clause-kept

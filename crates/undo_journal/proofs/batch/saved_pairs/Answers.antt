@@ -2,11 +2,12 @@ use Rattle.std.proofs.Common.{◌≡◌, ◌<◌, ◌+◌, ◌++◌, ◌∷◌, 
 use Rattle.std.proofs.Common.{ap₂, arith, refl, append_assoc, append-nil, subst}
 use Rattle.std.proofs.lemmas.List.{drop_all, drop_more}
 use Rattle.nvm_board.specs.laws.Aims.{aims_stay}
+use Rattle.nvm_board.specs.laws.SteadyCalls.{answered_ok}
 use Rattle.undo_journal.specs.declared.batch.Waiting.{Waiting}
 use Rattle.undo_journal.specs.Batches.{AreSets}
 use Rattle.undo_journal.specs.JournalParts.{pair_words}
 use Rattle.undo_journal.specs.laws.Exits.{none_ok}
-use Rattle.undo_journal.proofs.Telling.{answered_after, answered_err, answered_ok, boards_same, steady_same}
+use Rattle.undo_journal.proofs.Telling.{answered_after, answered_err, boards_same, steady_same}
 use Rattle.undo_journal.proofs.Telling.{steady_then}
 use Rattle.undo_journal.proofs.Waits.{sets-lower}
 use Rattle.undo_journal.proofs.batch.saved_pairs.Goals as goal

@@ -3,13 +3,14 @@ use Rattle.std.proofs.Common.{ap, arith, refl, subst}
 use Rattle.nvm_board.specs.laws.Aims.{aim_same, aims_kept, aims_then, aims_written}
 use Rattle.undo_journal.specs.declared.batch.Waiting.{Waiting}
 use Rattle.nvm_board.specs.laws.Sizes.{page_of_run}
+use Rattle.nvm_board.specs.laws.SteadyCalls.{answered_ok}
 use Rattle.undo_journal.specs.Batches.{overlay, AreSets, runs_from}
 use Rattle.undo_journal.specs.JournalParts.{first_words}
 use Rattle.undo_journal.specs.laws.Exits.{none_ok}
 use Rattle.std.proofs.lemmas.List.{nil_from_length}
 use Rattle.undo_journal.proofs.Costing.{is-none, is-some}
 use Rattle.undo_journal.proofs.Saving.{same-none}
-use Rattle.undo_journal.proofs.Telling.{answered_after, answered_err, answered_ok, steady_then}
+use Rattle.undo_journal.proofs.Telling.{answered_after, answered_err, steady_then}
 use Rattle.undo_journal.proofs.RunLaws.{turn-few, turn-inside, turn-runs, sets-drop}
 use Rattle.undo_journal.proofs.Turning.{turn-torn, turn-same, turn-named, turn-left}
 use Rattle.undo_journal.proofs.batch.write_words.Goals as goal

@@ -1,6 +1,7 @@
 use Rattle.nvm_board.specs.laws.Sizes.{least_words}
 use Rattle.std.proofs.Common.{◌≡◌, ◌-◌, ◌<◌, suc, true, arith, sym, ap, ◌∙◌, refl, length, subst, ℕ}
 use Rattle.nvm_board.specs.laws.Aims.{aims_same, aims_then}
+use Rattle.nvm_board.specs.laws.SteadyCalls.{answered_ok}
 use Rattle.undo_journal.specs.declared.layout.TheConstants.{GATE}
 use Rattle.undo_journal.specs.Undo.{gate}
 use Rattle.undo_journal.specs.laws.Undo.{undo_shut}
@@ -9,7 +10,7 @@ use Rattle.undo_journal.proofs.Restore.{end-done, end-kept, end-sound, rollback_
 use Rattle.undo_journal.specs.Spending.{rollback_writes, WritesAtMost}
 use Rattle.undo_journal.specs.laws.Exits.{none_ok}
 use Rattle.undo_journal.specs.laws.Transactions.{stays_spends}
-use Rattle.undo_journal.proofs.Telling.{answered_err, answered_after, answered_ok, steady_same}
+use Rattle.undo_journal.proofs.Telling.{answered_err, answered_after, steady_same}
 use Rattle.std.proofs.lemmas.Result.{on_ok_weaker}
 use Rattle.undo_journal.proofs.journal.roll_back.Goals as goal
 

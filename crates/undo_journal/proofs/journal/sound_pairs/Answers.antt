@@ -1,8 +1,9 @@
 use Rattle.std.proofs.Common.{◌≡◌, ◌≤◌, true, false, refl, sym, arith}
 use Rattle.undo_journal.specs.declared.layout.TheConstants.{PAIRS}
 use Rattle.undo_journal.proofs.Saving.{sound-named, named-sound}
-use Rattle.undo_journal.proofs.Telling.{answered_err, answered_after, answered_ok, read_keeps, steady_then}
+use Rattle.undo_journal.proofs.Telling.{answered_err, answered_after, read_keeps, steady_then}
 use Rattle.nvm_board.specs.laws.Sizes.{least_words}
+use Rattle.nvm_board.specs.laws.SteadyCalls.{answered_ok}
 use Rattle.undo_journal.specs.laws.Calls.{boards_then}
 use Rattle.undo_journal.specs.laws.Exits.{none_ok}
 use Rattle.undo_journal.proofs.journal.sound_pairs.Goals as goal

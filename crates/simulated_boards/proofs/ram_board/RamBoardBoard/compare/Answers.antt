@@ -1,7 +1,8 @@
 use Rattle.std.specs.Prelude.{if◌then◌else◌}
 use Rattle.std.proofs.Common.{ℕ, refl, ap, ◌∙◌, inl, rules}
 use Rattle.nvm_board.specs.Facts.{Facts, raised}
-use Rattle.simulated_boards.proofs.Telling.{off_tells, off_rightly, worn_tells, worn_rightly, lit_tells, lit_rightly}
+use Rattle.nvm_board.specs.laws.SteadyCalls.{answered_ok}
+use Rattle.simulated_boards.proofs.Telling.{off_tells, off_rightly, worn_tells, worn_rightly, lit_rightly}
 use Rattle.simulated_boards.proofs.ram_board.RamBoardBoard.compare.Goals as goal
 
 pub returns-then-self : goal.returns-then-self
@@ -37,7 +38,7 @@ returns c = record {
   equal = search rules;
   light =
       let same = c.count.ensures in
-      lit_tells _ _ _ (record {
+      answered_ok _ _ _ (record {
         was_lit = c.if-self.false;
         lit = ap (λ (f : Facts). f.dark) same ∙ c.if-self.false;
         faults = ap (λ (f : Facts). f.faults) same;

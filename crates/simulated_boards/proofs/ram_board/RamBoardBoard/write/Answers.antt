@@ -3,7 +3,8 @@ use Rattle.std.proofs.Math.Seq.{take-append_seam}
 use Rattle.nvm_board.specs.Facts.{Facts, address}
 use Rattle.nvm_board.specs.Torn.{Torn, written}
 use Rattle.nvm_board.specs.laws.Torn.{Torn-none, Torn-all}
-use Rattle.simulated_boards.proofs.Telling.{off_tells, off_rightly, worn_tells, worn_rightly, lit_tells, lit_rightly}
+use Rattle.nvm_board.specs.laws.SteadyCalls.{answered_ok}
+use Rattle.simulated_boards.proofs.Telling.{off_tells, off_rightly, worn_tells, worn_rightly, lit_rightly}
 use Rattle.simulated_boards.proofs.ram_board.RamBoardBoard.write.Goals as goal
 
 pub returns-then-self-clause-writes : goal.returns-then-self-clause-writes
@@ -52,7 +53,7 @@ returns-clause-writes c =
     record {
       done = back ∙ put;
       torn = subst torn (sym (back ∙ put)) (Torn-all _ _ _);
-      light = lit_tells _ _ _ (record { was_lit = lit; lit = lit; faults = refl; cuts = refl; due = refl });
+      light = answered_ok _ _ _ (record { was_lit = lit; lit = lit; faults = refl; cuts = refl; due = refl });
       worn = lit_rightly _ _ _;
       cut = search rules;
       counted = refl;
