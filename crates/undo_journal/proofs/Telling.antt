@@ -7,7 +7,7 @@ use Rattle.nvm_board.specs.declared.board.DeviceErr.{DeviceErr}
 use Rattle.nvm_board.specs.declared.board.DeviceErr.TheVariants as device
 use Rattle.nvm_board.specs.BoardCalls.{TellsWord, Writes}
 use Rattle.nvm_board.specs.Facts.{Facts, Answered, Steady, GoesDark}
-use Rattle.nvm_board.specs.laws.Aims.{aim_same, aims_written}
+use Rattle.nvm_board.specs.laws.Aims.{aims_written}
 use Rattle.undo_journal.specs.declared.error.StoreErr.TheVariants.{PowerLost}
 use Rattle.undo_journal.specs.declared.error.OpenFault.{OpenFault}
 use Rattle.undo_journal.specs.Memory.{Memory, Reports, FailsBy, OpensNot}
@@ -62,10 +62,6 @@ answered_after a b c result first told = record {
 -- a powered board without any call
 pub steady_same : (f : Facts) → f.dark ≡ false → Steady f f
 steady_same f lit = record { was_lit = lit; lit = lit; faults = refl; cuts = refl; due = refl }
-
--- the same of its words and counts
-pub boards_same : (f : Facts) → KeepsBoard f f
-boards_same f = record { cut = aim_same f; words = refl; writes = refl; compares = refl; matches = refl }
 
 -- a read keeps the board
 pub read_keeps : (at : ℕ) (old new : Facts) (result : Result ℕ DeviceErr) → TellsWord at old new result

@@ -24,6 +24,10 @@ keeping_spends n a b kept = record {
   matches = kept.matches;
 }
 
+-- no call keeps the board
+pub boards_same : (f : Facts) → KeepsBoard f f
+boards_same f = record { cut = aim_same f; words = refl; writes = refl; compares = refl; matches = refl }
+
 -- a board that is kept, and kept on
 pub boards_then : (a b c : Facts) → KeepsBoard a b → KeepsBoard b c → KeepsBoard a c
 boards_then a b c first rest = record {

@@ -7,7 +7,8 @@ use Rattle.undo_journal.specs.declared.batch.Waiting.{Waiting}
 use Rattle.undo_journal.specs.Batches.{AreSets}
 use Rattle.undo_journal.specs.JournalParts.{pair_words}
 use Rattle.undo_journal.specs.laws.Exits.{none_ok}
-use Rattle.undo_journal.proofs.Telling.{answered_after, answered_err, boards_same, steady_same}
+use Rattle.undo_journal.specs.laws.Calls.{boards_same}
+use Rattle.undo_journal.proofs.Telling.{answered_after, answered_err, steady_same}
 use Rattle.undo_journal.proofs.Telling.{steady_then}
 use Rattle.undo_journal.proofs.Waits.{sets-lower}
 use Rattle.undo_journal.proofs.batch.saved_pairs.Goals as goal

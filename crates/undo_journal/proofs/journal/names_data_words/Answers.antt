@@ -1,7 +1,7 @@
 use Rattle.std.proofs.Common.{refl, ◌∙◌, arith}
 use Rattle.nvm_board.specs.laws.Sizes.{least_words}
-use Rattle.undo_journal.specs.laws.Calls.{boards_then}
-use Rattle.undo_journal.proofs.Telling.{answered_err, answered_after, boards_same, read_keeps, steady_same}
+use Rattle.undo_journal.specs.laws.Calls.{boards_then, boards_same}
+use Rattle.undo_journal.proofs.Telling.{answered_err, answered_after, read_keeps, steady_same}
 use Rattle.undo_journal.proofs.Telling.{steady_then}
 use Rattle.nvm_board.specs.laws.Aims.{aims_stay}
 use Rattle.nvm_board.specs.laws.SteadyCalls.{answered_ok}
