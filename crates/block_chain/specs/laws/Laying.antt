@@ -1,5 +1,5 @@
 -- Laws of a check of the layout that goes from extent to extent.
-use Rattle.std.proofs.Common.{refl, sym, ◌∙◌, ap, subst, arith, inl, inr, ⊎_elim}
+use Rattle.std.proofs.Common.{refl, sym, ◌∙◌, ap, subst, arith, inl, inr, ⊎_elim, append-nil}
 use Rattle.std.proofs.Math.ListN.{get_or-append}
 use Rattle.std.proofs.Math.Seq.{take-length}
 use Rattle.std.proofs.lemmas.Bool.{cases_lt}
@@ -132,11 +132,7 @@ module _ (n : ℕ) (m : List ℕ) (es : List Extent) where
     next_laid : laid_out m (take (i + 1) es) ≡ laid_out m (take i es) ++ blocks_of m e
     next_laid = ap (laid_out m) next_is ∙ laid_out-append m (take i es) (e ∷ [])
         ∙ ap (λ (ps : List ℕ). laid_out m (take i es) ++ ps)
-        (laid_out-cons m e [] ∙ ap (λ (ps : List ℕ). blocks_of m e ++ ps) (laid_out-nil m) ∙ append_nil (blocks_of m e))
-      where
-        append_nil : (ps : List ℕ) → ps ++ [] ≡ ps
-        append_nil [] = refl
-        append_nil (p ∷ ps) = ap (λ (qs : List ℕ). p ∷ qs) (append_nil ps)
+        (laid_out-cons m e [] ∙ ap (λ (ps : List ℕ). blocks_of m e ++ ps) (laid_out-nil m) ∙ append-nil (blocks_of m e))
 
     next_count : (q : ℕ)
         → count q (free_chain m ++ laid_out m (take (i + 1) es)) ≡ count q

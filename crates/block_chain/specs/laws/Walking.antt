@@ -1,6 +1,6 @@
 -- Laws of a walk over a chain that marks its blocks, to find whether it ends and comes to no marked one.
 use Rattle.std.proofs.Common.{refl, sym, ◌∙◌, ap, ap₂, subst, arith, inl, inr, ⊎_elim}
-use Rattle.std.proofs.Common.{get_or-set_same, get_or-set_other}
+use Rattle.std.proofs.Common.{get_or-set_same, get_or-set_other, append-nil}
 use Rattle.std.proofs.Math.ListN.{length-set}
 use Rattle.std.proofs.lemmas.Bool.{cases_lt}
 use Rattle.std.proofs.lemmas.Bool.Decides.{eqb_tells}
@@ -100,11 +100,7 @@ module _ (end : ℕ) (m : List ℕ) (from n page : ℕ) (old new : List ℕ) (wa
     pub walked_all : n ≤ MOST_BLOCKS → page ≡ 0 → chain m from ≡ pages_from m n from
     walked_all fits none = rest_of fits
         ∙ ap (λ (ps : List ℕ). pages_from m n from ++ ps) (pages_end m (MOST_BLOCKS - n) page none)
-        ∙ append_nil (pages_from m n from)
-      where
-        append_nil : (ps : List ℕ) → ps ++ [] ≡ ps
-        append_nil [] = refl
-        append_nil (p ∷ ps) = ap (λ (qs : List ℕ). p ∷ qs) (append_nil ps)
+        ∙ append-nil (pages_from m n from)
 
     pub walked_fresh : n ≤ MOST_BLOCKS → page ≡ 0 → IsUnmarkedChain end m old from
     walked_fresh fits none = record {
