@@ -4,5 +4,6 @@ pub mod FewTries
 pub mod Finding
 pub mod Numbers
 pub mod Orders
+pub mod PathEnds
 pub mod Rules
 pub mod Spelling

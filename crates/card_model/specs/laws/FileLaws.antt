@@ -1,11 +1,10 @@
 -- SELECT, CREATE FILE and DELETE FILE: proper cards stay proper, and answers are short.
 use Rattle.std.specs.Prelude.{◌≡◌, ◌<◌, ℕ, Bool, true, false, List}
-use Rattle.std.specs.Prelude.{[], ◌∷◌, ◌++◌, length}
+use Rattle.std.specs.Prelude.{[], ◌∷◌, ◌++◌}
 use Rattle.std.specs.Prelude.{Option, Some, None, Result, Ok, Err, cond, not, nat_eq, is_some}
 use Rattle.std.specs.List.{starts_with}
 use Rattle.std.specs.Option.{option_map_or}
 use Rattle.std.proofs.Common.{arith, ap, sym, ◌∙◌, refl, lit<, true≢false}
-use Rattle.std.proofs.lemmas.List.{length-append, get_or_push}
 use Rattle.std.specs.FinMap.{get, retain_keys, get-retain_keys}
 use Rattle.std.specs.FinMap.{slice_cmp-IsAntisymmetric, nat_cmp-IsAntisymmetric}
 use Rattle.card_state.specs.declared.status.TheConstants.Sw.{DONE}
@@ -16,11 +15,12 @@ use Rattle.card_model.specs.declared.fault.FcpFault.{FcpFault}
 use Rattle.card_state.specs.declared.fcp.Fcp.{Fcp}
 use Rattle.card_model.specs.TemplateGrammar.{fcp_read}
 use Rattle.card_state.specs.NewFiles.{new_file, short_of_new}
+use Rattle.card_state.specs.laws.PathEnds.{identifier-push}
 use Rattle.card_model.specs.declared.requests.Subject.{Subject}
 use Rattle.card_model.specs.declared.requests.Returned.{Returned}
 use Rattle.card_model.specs.declared.requests.Returned.TheVariants.{Template, Nothing}
 use Rattle.card_model.specs.Requests.{AreBytes, IsStatusWord, select, create_file, delete_file, Selection}
-use Rattle.card_model.specs.Cards.{Card, File, Path, file_at, identifier, master_file, IsProper, IsProperFile}
+use Rattle.card_model.specs.Cards.{Card, File, Path, file_at, identifier, IsProper, IsProperFile}
 use Rattle.card_model.specs.FileCommands.{created_card, file_created, file_deleted, no_parameters, subject_path}
 use Rattle.card_model.specs.FileCommands.{told_by, with_new, on_create_file, on_delete_file, without}
 use Rattle.card_model.specs.Guards.{given}
@@ -81,13 +81,6 @@ pub short-given : (expected : Option ℕ) (found : List ℕ) → IsText found �
 short-given None found text = record { bytes = no_bytes; size = omega arith }
 short-given (Some le) found text = text
 
--- a new file's identifier
-identifier-behind : (df : Path) (id : ℕ) → identifier (df ++ id ∷ []) ≡ id
-identifier-behind df id =
-    let long = length-append df (id ∷ []) in
-    get_or_push (master_file ∷ df) id 0 (length (df ++ id ∷ [])) (let z : length (master_file ∷ df)
-    ≡ length (df ++ id ∷ []) = omega (arith, long) in z)
-
 module _ (c : Card) (s : Session) (proper : IsProper c) where
   pub fine-selected : (selection : Selection) (returned : Returned) (expected : Option ℕ)
       → IsFine (file_selected c s selection returned expected)
@@ -105,7 +98,7 @@ module _ (c : Card) (s : Session) (proper : IsProper c) where
 
   fine-new : (df : Path) (fcp : Fcp) → IsFineFcp fcp → IsProper (with_new c df fcp)
   fine-new df fcp fine =
-      let id = identifier-behind df fcp.identifier in
+      let id = identifier-push df fcp.identifier in
       let small = fine.identifier in
       proper-insert c (df ++ fcp.identifier ∷ []) (new_file fcp (short_of_new c.tree df fcp))
       (omega (arith, id, small)) proper (proper-new c.tree df fcp fine)

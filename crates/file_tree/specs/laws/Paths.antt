@@ -1,12 +1,12 @@
 -- Paths of entries: how they grow, that no two files have one, and that they lead back by their parents.
 use Rattle.std.specs.Prelude.{◌≡◌, ◌≢◌, ◌<◌, ◌-◌, ℕ, zero, suc, Bool, if◌then◌else◌, List, [], ◌∷◌}
-use Rattle.std.specs.Prelude.{◌++◌, length, take, slice_index}
+use Rattle.std.specs.Prelude.{◌++◌, length}
 use Rattle.std.proofs.Common.{refl, sym, ◌∙◌, ap, arith, inl, inr}
 use Rattle.std.proofs.lemmas.List.{length-append}
 use Rattle.std.proofs.lemmas.Bool.Decides.{eqb_tells}
-use Rattle.std.proofs.Math.Seq.{take-append_seam, get_or-append_seam}
 use Rattle.file_tree.specs.declared.entry.Entry.{Entry}
-use Rattle.card_state.specs.FileTrees.{Path, master_file, parent, identifier}
+use Rattle.card_state.specs.FileTrees.{Path, parent, identifier}
+use Rattle.card_state.specs.laws.PathEnds.{parent-push, identifier-push}
 use Rattle.file_tree.specs.Table.{entry_in, ancestor, path_in, path_of, IsUsed, IsChild, IsTable}
 use Rattle.file_tree.specs.laws.Levels.{ancestor-step}
 
@@ -41,19 +41,6 @@ path-enough t (suc n) e master up = elim (eqb_tells e 0) [
       ∙ ap (λ (p : Path). p ++ (entry_in t e).identifier ∷ []) (path-enough t n (entry_in t e).parent master up)
       ∙ sym (path-below t n e other.1)
 ]
-
--- a list that ends in an element: the list before it, and that element
-pub parent-push : (path : Path) (id : ℕ) → parent (path ++ id ∷ []) ≡ path
-parent-push path id =
-    let l = length-append path (id ∷ []) in
-    let size : length (path ++ id ∷ []) - 1 ≡ length path = omega (arith, l) in
-    ap (λ (n : ℕ). take n (path ++ id ∷ [])) size ∙ take-append_seam path (id ∷ [])
-
-pub identifier-push : (path : Path) (id : ℕ) → identifier (path ++ id ∷ []) ≡ id
-identifier-push path id =
-    let l = length-append path (id ∷ []) in
-    let size : length (path ++ id ∷ []) ≡ suc (length path) = omega (arith, l) in
-    ap (λ (n : ℕ). slice_index (master_file ∷ (path ++ id ∷ [])) n) size ∙ get_or-append_seam path id [] 0
 
 same_last : (ps qs : Path) (a b : ℕ) → ps ++ a ∷ [] ≡ qs ++ b ∷ [] → (ps ≡ qs) × (a ≡ b)
 same_last ps qs a b same = (

@@ -12,11 +12,12 @@ use Rattle.card_state.specs.FileTrees.{is_dedicated}
 use Rattle.file_tree.specs.Entries.{free_entry}
 use Rattle.card_state.specs.Selectors.{Candidate, first_reached, is_named, selected, the_parent, by_name}
 use Rattle.card_state.specs.Selectors.{path_from_master, path_from_current, IsReserved}
+use Rattle.card_state.specs.laws.PathEnds.{parent-push, identifier-push}
 use Rattle.file_tree.specs.Table.{table, entry_in, path_of, IsUsed, IsTable}
 use Rattle.file_tree.specs.Trees.{tree_of, TreeStands}
 use Rattle.file_tree.specs.Indexes.{TellsChild}
 use Rattle.file_tree.specs.Naming.{TellsNamed}
-use Rattle.file_tree.specs.laws.Paths.{path-zero, parent-push, identifier-push, not_empty}
+use Rattle.file_tree.specs.laws.Paths.{path-zero, not_empty}
 use Rattle.file_tree.specs.laws.Paths.{identifier_path, path_of_child}
 use Rattle.file_tree.specs.laws.Nodes.{Node, used_small, exists-used, exists-none}
 use Rattle.file_tree.specs.laws.Tables.{length-table}
