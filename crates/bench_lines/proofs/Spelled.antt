@@ -13,6 +13,7 @@ use Rattle.std.proofs.lemmas.Fmt.{decimal_nonempty, digits_decimal, digits_value
 use Rattle.std.proofs.lemmas.List.{length-append}
 use Rattle.std.proofs.lemmas.List.Elements.{All-cons, All-nil}
 use Rattle.std.proofs.lemmas.Str.Parse.{IsNumeralModel, numerals_by_value}
+use Rattle.std.proofs.Math.Nat.{div-add-mod}
 use Rattle.card_model.specs.Requests.{AreBytes}
 use Rattle.card_model.specs.laws.ByteLaws.{byte-at}
 use Rattle.hex.specs.Hex.{decode_of, encode_with, lower_digits, upper_digits}
@@ -96,9 +97,6 @@ mask-bytes mask small =
     All-cons (λ number. number < 256) (mask / 256) (mask % 256 ∷ []) high
     (All-cons (λ number. number < 256) (mask % 256) [] low (All-nil (λ number. number < 256)))
 
-mask-whole : (mask : ℕ) → 256 * (mask / 256) + mask % 256 ≡ mask
-mask-whole mask = omega arith
-
 cut-spelled : (digits : List ℕ) (number mask : ℕ) → IsDigits digits → 1 ≤ number → number ≤ 999999 → mask < 65536
     → cut_in (decimal number ++ 32 ∷ encode_with digits (mask / 256 ∷ mask % 256 ∷ [])) ≡ Some (Cut number mask)
 unfolding encode_with
@@ -107,7 +105,7 @@ cut-spelled digits number mask table some most small =
     read_back digits (mask / 256 ∷ mask % 256 ∷ []) table (mask-bytes mask small) in
     cut-words (decimal number) _ _ _ _
     ∙ ap₂ (λ (n : Option ℕ) (m : Option ℕ). cut_by n m) (number-spelled number some most)
-    (ap mask_by back ∙ ap (λ (n : ℕ). Some n) (mask-whole mask))
+    (ap mask_by back ∙ ap (λ (n : ℕ). Some n) (div-add-mod mask 256))
 
 -- A line of a word and what follows it is neither too long nor empty.
 line-fits : (word rest : List ℕ) → 1 ≤ length word → length word + length rest ≤ 1024

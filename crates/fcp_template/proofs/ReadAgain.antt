@@ -5,6 +5,7 @@ use Rattle.std.specs.Prelude.{IsTrue}
 use Rattle.std.proofs.lemmas.Bool.Decides.{nat_tests}
 use Rattle.std.proofs.lemmas.Grind.{common_steps}
 use Rattle.std.proofs.lemmas.List.{length-append}
+use Rattle.std.proofs.Math.Nat.{div-add-mod}
 use Rattle.card_state.specs.declared.life_cycle.LifeCycle.{LifeCycle}
 use Rattle.card_state.specs.declared.life_cycle.LifeCycle.TheVariants.{Creation, Initialisation, Deactivated, Activated}
 use Rattle.card_state.specs.declared.life_cycle.LifeCycle.TheVariants.{Terminated}
@@ -32,11 +33,8 @@ use Rattle.card_model.specs.Templates.{IsShortSaid, IsInFull, in_two_bytes, shor
 
 -- ---- each field
 
-two_bytes_again : (n : ℕ) → 256 * (n / 256) + n % 256 ≡ n
-two_bytes_again n = omega arith
-
 identifier_again : (n : ℕ) → n ≢ 0x3F00 → n ≢ 0x3FFF → n ≢ 0xFFFF → identifier_of (in_two_bytes n) ≡ Some n
-identifier_again n mf current reserved = rw (two_bytes_again n) (grind (arith, nat_tests, common_steps))
+identifier_again n mf current reserved = rw (div-add-mod n 256) (grind (arith, nat_tests, common_steps))
 
 short_again : (short : ShortIdentifier) → IsShort short → short ≢ Absent
     → short_read (Some (short_value short)) ≡ Some short
@@ -48,7 +46,7 @@ short_again (Given n) full said =
     rw (low, high) (grind (arith, nat_tests, common_steps))
 
 size_again : (n : ℕ) → IsSize n → size_of (number_read (in_two_bytes n)) ≡ Some n
-size_again n full = rw (two_bytes_again n) (grind (arith, nat_tests, common_steps))
+size_again n full = rw (div-add-mod n 256) (grind (arith, nat_tests, common_steps))
 
 -- a number above 0 that a length divides is at least one length
 one_at_least : (m q n : ℕ) → n ≡ m * q → 1 ≤ n → 1 ≤ q
@@ -126,7 +124,7 @@ module _ (identifier : ℕ) (state : LifeCycle) (rule : List ℕ) (mf : identifi
       (Some records.existing))) (Some (descriptors.Records structure records.record_length (Some records.existing)))
   record_descriptor_again structure records =
       ap (λ (n : ℕ). Some (descriptors.Records structure n (Some records.existing)))
-      (two_bytes_again records.record_length)
+      (div-add-mod records.record_length 256)
 
   fcp_again : (kind : FileKind) → IsKind kind → IsShortSaid kind
       → fcp_of (fcp_objects (of_kind kind)) ≡ Some (of_kind kind)
