@@ -28,6 +28,7 @@ use Rattle.t1_link.specs.ReaderTable.{reader_takes, reader_times_out, requesting
 use Rattle.t1_link.specs.ReaderTable.{turns_answer, turns_block}
 use Rattle.t1_link.specs.ReaderTable.{turns_information, turns_receive_ready, turns_resynch, unknown}
 use Rattle.card_model.specs.Requests.{AreBytes}
+use Rattle.card_model.specs.laws.ProperLaws.{either-if}
 
 -- a block that has bytes, and an information field of bytes
 pub record IsSound (b : Block) : Type 0 where
@@ -68,12 +69,6 @@ IsSoundOutcome (fails failure) = Unit {0}
 pub record IsSoundTurned (t : Turned) : Type 0 where
   pub reader : IsSoundReader t.reader
   pub outcome : IsSoundOutcome t.outcome
-
--- a choice between two that hold is one that holds
-pub either-if : {X : Type 0} (P : X → Type 0) (test : Bool) (one other : X) → P one → P other
-    → P (if test then one else other)
-either-if P true one other y n = y
-either-if P false one other y n = n
 
 no_bytes : AreBytes []
 no_bytes = All-nil (λ number. number < 256)

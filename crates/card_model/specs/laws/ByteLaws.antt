@@ -1,14 +1,14 @@
 -- What bytes name and send is of bytes.
-use Rattle.std.specs.Prelude.{◌≡◌, ◌<◌, ◌==◌, ◌+◌, ℕ, zero, suc, Bool, true, false, nat_lt, List, [], ◌∷◌}
+use Rattle.std.specs.Prelude.{◌≡◌, ◌<◌, ◌==◌, ◌+◌, ℕ, zero, suc, true, nat_lt, List, [], ◌∷◌}
 use Rattle.std.specs.Prelude.{length, take, drop, slice_index}
 use Rattle.std.specs.Prelude.{Option, Some, None, unwrap_or, IfSome}
-use Rattle.std.specs.Prelude.{if◌then◌else◌}
 use Rattle.std.specs.List.{list_all}
 use Rattle.std.proofs.lemmas.Bool.{ltb-true, and_parts}
 use Rattle.std.proofs.Common.{arith, subst, sym, get_or-take, length-take}
 use Rattle.card_model.specs.CommandTable.{SentBody, sent_body, by_identifier, named_file, shown_value, shown_values}
 use Rattle.card_model.specs.Requests.{two_bytes, identifiers, parent, name, path_from_master, path_from_current}
 use Rattle.card_model.specs.Requests.{AreBytes, AreIdentifiers, IsNamedByBytes}
+use Rattle.card_model.specs.laws.ProperLaws.{either-if}
 
 -- a body of bytes
 pub record IsBodyOfBytes (body : SentBody) : Type 0 where
@@ -25,12 +25,6 @@ bytes-take n bytes all k d lt =
     let taken : k < n = omega (arith, lt, some) in
     let below : k < length bytes = omega (arith, lt, some) in
     subst (λ (byte : ℕ). byte < 256) (sym (get_or-take n bytes k d taken)) (all k d below)
-
--- a choice between two that hold is one that holds
-either-if : {X : Type 0} (P : X → Type 0) (test : Bool) (one other : X) → P one → P other
-    → P (if test then one else other)
-either-if P true one other y n = y
-either-if P false one other y n = n
 
 -- each of some bytes, and 0 past their end, is below 256
 pub byte-at : (bytes : List ℕ) (i : ℕ) → AreBytes bytes → slice_index bytes i < 256

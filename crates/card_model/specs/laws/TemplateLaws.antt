@@ -30,15 +30,10 @@ use Rattle.card_state.specs.Selectors.{child_by_short}
 use Rattle.card_model.specs.Requests.{AreBytes}
 use Rattle.card_model.specs.Cards.{AreRecords, IsContent, IsProperFile, IsProperKind, IsProperName, IsProperShort}
 use Rattle.card_model.specs.Cards.{IsRecord}
+use Rattle.card_model.specs.laws.TableLaws.{choose}
 
 abbrev byte : ℕ → Type 0
 byte number = number < 256
-
--- a choice between two that hold is one that holds, where each may rest on its test
-by_test : {X : Type 0} (P : X → Type 0) (test : Bool) (one other : X) → (test ≡ true → P one) → P other
-    → P (if test then one else other)
-by_test P true one other y n = y refl
-by_test P false one other y n = n
 
 -- what both tests tell where they hold
 both : (a b : Bool) → (a && b) ≡ true → (a ≡ true) × (b ≡ true)
@@ -78,7 +73,7 @@ bytes-objects zero (tag ∷ rest) all = tt
 bytes-objects (suc most) (tag ∷ []) all = tt
 bytes-objects (suc most) (tag ∷ n ∷ rest) all =
     let behind = All-tail byte n rest (All-tail byte tag (n ∷ rest) all) in
-    by_test (λ found. IfSome found HaveBytes) (nat_le n (length rest)) _ None
+    choose (λ found. IfSome found HaveBytes) (nat_le n (length rest)) _ None
     (λ is. with_object (record { tag = tag; value = take n rest }) (All-take byte n rest behind)
     (objects_in most (drop n rest)) (bytes-objects most (drop n rest) (All-drop byte n rest behind)))
     tt
@@ -86,7 +81,7 @@ bytes-objects (suc most) (tag ∷ n ∷ rest) all =
 bytes-first : (tag : ℕ) (os : List DataObject) → HaveBytes os → HasBytes (value_at os tag)
 bytes-first tag [] all = tt
 bytes-first tag (o ∷ os) all =
-    by_test (λ found. HasBytes (option_map (λ x. x.value) found)) (o.tag == tag) (Some o) (find (λ x. x.tag == tag) os)
+    choose (λ found. HasBytes (option_map (λ x. x.value) found)) (o.tag == tag) (Some o) (find (λ x. x.tag == tag) os)
     (λ is. all.0) (bytes-first tag os all.1)
 
 -- an identifier of two bytes
@@ -97,7 +92,7 @@ small-identifier (high ∷ low ∷ []) all =
     let h = All-head byte high (low ∷ []) all in
     let l = All-head byte low [] (All-tail byte high (low ∷ []) all) in
     let id : 256 * high + low < 65536 = omega (arith, h, l) in
-    by_test (λ found. IfSome found (λ id. id < 65536))
+    choose (λ found. IfSome found (λ id. id < 65536))
     ((256 * high + low == 0x3F00) || (256 * high + low == 0x3FFF) || (256 * high + low == 0xFFFF)) None
     (Some (256 * high + low)) (λ is. tt) id
 small-identifier (a ∷ b ∷ d ∷ rest) all = tt
@@ -109,14 +104,14 @@ record IsProperRule (rule : List ℕ) : Type 0 where
 
 proper-rule : (value : List ℕ) → AreBytes value → IfSome (rule_read value) IsProperRule
 proper-rule value all =
-    by_test (λ found. IfSome found IsProperRule) (is_rule value) (Some value) None
+    choose (λ found. IfSome found IsProperRule) (is_rule value) (Some value) None
     (λ is. record { bytes = all; size = length-rule value is }) tt
 
 -- a name of at most 16 bytes
 proper-name : (found : Option (List ℕ)) → HasBytes found → IfSome (name_read found) IsProperName
 proper-name None all = tt
 proper-name (Some name) all =
-    by_test (λ told. IfSome told IsProperName) (nat_le 1 (length name) && nat_le (length name) 16) (Some (Some name))
+    choose (λ told. IfSome told IsProperName) (nat_le 1 (length name) && nat_le (length name) 16) (Some (Some name))
     None
     (λ is. record {
       bytes = all;
@@ -135,7 +130,7 @@ small-short : (found : Option (List ℕ)) → IfSome (short_read found) IsSmallS
 small-short None = tt
 small-short (Some []) = tt
 small-short (Some (b ∷ [])) =
-    by_test (λ told. IfSome told IsSmallShort) ((b % 8 == 0) && nat_le 1 (b / 8) && nat_le (b / 8) 30)
+    choose (λ told. IfSome told IsSmallShort) ((b % 8 == 0) && nat_le 1 (b / 8) && nat_le (b / 8) 30)
     (Some (Given (b / 8))) None
     (λ is. (leb-true 1 (b / 8) (both _ _ (both _ _ is).0).1, leb-true (b / 8) 30 (both _ _ is).1)) tt
 small-short (Some (a ∷ b ∷ rest)) = tt
@@ -147,7 +142,7 @@ IsSize size = (1 ≤ size) × (size ≤ 32767)
 small-size : (found : Option ℕ) → IfSome (size_of found) IsSize
 small-size None = tt
 small-size (Some size) =
-    by_test (λ told. IfSome told IsSize) (nat_le 1 size && nat_le size 32767) (Some size) None
+    choose (λ told. IfSome told IsSize) (nat_le 1 size && nat_le size 32767) (Some size) None
     (λ is. (leb-true 1 size (both _ _ is).0, leb-true size 32767 (both _ _ is).1)) tt
 
 -- records in their ranges
@@ -164,7 +159,7 @@ small-records : (record_length : ℕ) (existing : Option ℕ) (size : ℕ) → s
 small-records record_length existing size most =
     let capacity = size / record_length in
     let number = unwrap_or existing capacity in
-    by_test (λ told. IfSome told AreSmall)
+    choose (λ told. IfSome told AreSmall)
     (nat_le 1 record_length && nat_le record_length 255 && (size % record_length == 0)
     && nat_le 1 capacity && nat_le capacity 254 && nat_le number capacity)
     (Some (record { size = size; record_length = record_length; existing = number })) None
@@ -201,7 +196,7 @@ fine-df : (os : List DataObject) → HaveBytes os → IfSome (df_of os) IsFineKi
 unfolding df_of
 fine-df os all =
     through IsProperName IsFineKind (name_read (value_at os 0x84)) _ (proper-name _ (bytes-first 0x84 os all))
-    (λ name proper. by_test (λ told. IfSome told IsFineKind)
+    (λ name proper. choose (λ told. IfSome told IsFineKind)
     (has os 0x88 || has os 0x80 && not (is_some (data_bytes os))) None (Some (Df name)) (λ is. tt) proper)
 
 fine-transparent : (os : List DataObject) → IfSome (transparent_of os) IsFineKind
@@ -209,7 +204,7 @@ unfolding transparent_of
 fine-transparent os =
     through IsSmallShort IsFineKind (short_read (value_at os 0x88)) _ (small-short (value_at os 0x88)) (λ short few.
     through IsSize IsFineKind (size_of (data_bytes os)) _ (small-size (data_bytes os)) (λ size sized.
-    by_test (λ told. IfSome told IsFineKind) (has os 0x84) None (Some (Transparent short size)) (λ is. tt)
+    choose (λ told. IfSome told IsFineKind) (has os 0x84) None (Some (Transparent short size)) (λ is. tt)
     (few, sized)))
 
 -- a file of records, of either order
@@ -226,17 +221,17 @@ fine-records build fine record_length existing os =
     through IsSize IsFineKind (size_of (data_bytes os)) _ (small-size (data_bytes os)) (λ size sized.
     through AreSmall IsFineKind (records_read record_length existing size) _ (small-records record_length existing size
     sized.1) (λ records small.
-    by_test (λ told. IfSome told IsFineKind) (has os 0x84) None (Some (build short records)) (λ is. tt)
+    choose (λ told. IfSome told IsFineKind) (has os 0x84) None (Some (build short records)) (λ is. tt)
     (fine short records few small))))
 
 -- whatever kind of file the descriptor says
 module _ (os : List DataObject) (all : HaveBytes os) where
   fine-plain : (b : ℕ) → IfSome (plain_descriptor b) (λ descriptor. IfSome (kind_read descriptor os) IsFineKind)
   fine-plain b =
-      by_test (λ found. IfSome found (λ descriptor. IfSome (kind_read descriptor os) IsFineKind))
+      choose (λ found. IfSome found (λ descriptor. IfSome (kind_read descriptor os) IsFineKind))
       (b == 0x38 || b == 0x78)
       _ _ (λ is. fine-df os all)
-      (by_test (λ found. IfSome found (λ descriptor. IfSome (kind_read descriptor os) IsFineKind)) (b == 0x01 || b
+      (choose (λ found. IfSome found (λ descriptor. IfSome (kind_read descriptor os) IsFineKind)) (b == 0x01 || b
       == 0x41) _ None (λ is. fine-transparent os) tt)
 
   fine-of_records : (b record_length : ℕ) (existing : Option ℕ)
@@ -245,11 +240,11 @@ module _ (os : List DataObject) (all : HaveBytes os) where
       IsFineKind)
   unfolding record_file_of
   fine-of_records b record_length existing =
-      by_test (λ structure. IfSome (record_descriptor structure record_length existing) (λ descriptor. IfSome (kind_read
+      choose (λ structure. IfSome (record_descriptor structure record_length existing) (λ descriptor. IfSome (kind_read
       descriptor os) IsFineKind)) (b == 0x02 || b == 0x42) _ _
       (λ is. fine-records (λ short records. Linear short records) (λ short records few small. (few, small))
       record_length existing os)
-      (by_test (λ structure. IfSome (record_descriptor structure record_length existing) (λ descriptor. IfSome
+      (choose (λ structure. IfSome (record_descriptor structure record_length existing) (λ descriptor. IfSome
       (kind_read
       descriptor os) IsFineKind)) (b == 0x06 || b == 0x46) _ None
       (λ is. fine-records (λ short records. Cyclic short records) (λ short records few small. (few, small))
@@ -290,7 +285,7 @@ fine-fcp os all =
     through IsProperRule IsFineFcp (value_at os 0x8C >>= rule_read) _
     (through AreBytes IsProperRule (value_at os 0x8C) rule_read (bytes-first 0x8C os all) proper-rule)
     (λ rule proper.
-    by_test (λ told. IfSome told IsFineFcp) (has_unknown os) None
+    choose (λ told. IfSome told IsFineFcp) (has_unknown os) None
     (Some (record { identifier = id; life_cycle = life; rule = rule; kind = kind })) (λ is. tt)
     (record { identifier = small; rule = proper.bytes; rule_size = proper.size; kind = fine }))))))
 
@@ -304,8 +299,8 @@ fine-ok_or (Some fcp) fine = fine
 
 fine-meaning : (os : List DataObject) → HaveBytes os → IsFineRead (meaning os)
 fine-meaning os all =
-    by_test IsFineRead (is_missing os) (Err Missing) _ (λ is. tt)
-    (by_test IsFineRead (is_twice os) (Err Twice) _ (λ is. tt) (fine-ok_or (fcp_of os) (fine-fcp os all)))
+    choose IsFineRead (is_missing os) (Err Missing) _ (λ is. tt)
+    (choose IsFineRead (is_twice os) (Err Twice) _ (λ is. tt) (fine-ok_or (fcp_of os) (fine-fcp os all)))
 
 fine-meaning_of : (found : Option (List DataObject)) → IfSome found HaveBytes → IsFineRead (meaning_of found)
 fine-meaning_of None all = tt
@@ -317,7 +312,7 @@ unfolding fcp_read
 fine-read [] all = tt
 fine-read (tag ∷ []) all = tt
 fine-read (tag ∷ n ∷ body) all =
-    by_test IsFineRead ((tag == 0x62) && nat_le n 0x7F && (length body == n)) (meaning_of (objects_in n body)) _
+    choose IsFineRead ((tag == 0x62) && nat_le n 0x7F && (length body == n)) (meaning_of (objects_in n body)) _
     (λ is. fine-meaning_of (objects_in n body) (bytes-objects n body (All-tail byte n body (All-tail byte tag (n ∷
     body) all))))
     tt
@@ -368,7 +363,7 @@ proper-short_for : (tree : Tree) (df : Path) (id : ℕ) (short : ShortIdentifier
 proper-short_for tree df id Empty few = tt
 proper-short_for tree df id (Given n) few = few
 proper-short_for tree df id Absent few =
-    by_test IsProperShort (nat_le 1 (low_bits id) && nat_le (low_bits id) 30 && is_none (child_by_short tree df
+    choose IsProperShort (nat_le 1 (low_bits id) && nat_le (low_bits id) 30 && is_none (child_by_short tree df
     (low_bits id))) (Some (low_bits id)) None
     (λ is. let few = both _ _ (both _ _ is).0 in (leb-true 1 (low_bits id) few.0, leb-true (low_bits id) 30 few.1)) tt
 
