@@ -1,6 +1,6 @@
 -- The PINs that are disabled, as the code finds them, one after another.
 use Rattle.std.specs.Prelude.{map, not, slice_set, ◌↔◌, Option, Some, None, IsSome, IfSome}
-use Rattle.std.proofs.Common.{◌≡◌, ◌≢◌, ◌<◌, ◌≤◌, ◌+◌, ◌-◌, ℕ, zero, suc, Bool, true, false, List, length, refl, sym}
+use Rattle.std.proofs.Common.{◌≡◌, ◌≢◌, ◌<◌, ◌≤◌, ◌+◌, ◌-◌, ℕ, Bool, true, false, List, length, refl, sym}
 use Rattle.std.proofs.Common.{◌∙◌, ap, subst, arith, inl, inr, true≢false}
 use Rattle.std.proofs.Math.ListN.{length-set}
 use Rattle.std.proofs.lemmas.Bool.Decides.{eqb_tells}
@@ -8,6 +8,7 @@ use Rattle.std.proofs.lemmas.List.{get_or-set_other, get_or-set_same}
 use Rattle.std.specs.List.{range_with_len, slice_index_or}
 use Rattle.card_state.specs.Pins.{no_pins, with_pin, IsPinNumber}
 use Rattle.card_state.specs.declared.pins.TheConstants.{PINS}
+use Rattle.card_state.specs.laws.DisabledPins.{none-marked}
 use Rattle.pin_store.specs.Pages.{pin_at, pins_of}
 use Rattle.command_base.specs.Working.{disabled_in}
 use Rattle.command_base.specs.laws.Verified.{by_places}
@@ -31,17 +32,6 @@ pub record TellsMarks (m : List ℕ) (n : ℕ) (marks : List Bool) : Type 0 wher
   pub long : length marks ≡ 8
   pub told : (k : ℕ) → k < n → slice_index_or marks k false ≡ not (pin_at m k).enabled
   pub clear : (k : ℕ) → n ≤ k → slice_index_or marks k false ≡ false
-
-none-marked : (k : ℕ) → slice_index_or no_pins k false ≡ false
-none-marked zero = refl
-none-marked (suc zero) = refl
-none-marked (suc (suc zero)) = refl
-none-marked (suc (suc (suc zero))) = refl
-none-marked (suc (suc (suc (suc zero)))) = refl
-none-marked (suc (suc (suc (suc (suc zero))))) = refl
-none-marked (suc (suc (suc (suc (suc (suc zero)))))) = refl
-none-marked (suc (suc (suc (suc (suc (suc (suc zero))))))) = refl
-none-marked (suc (suc (suc (suc (suc (suc (suc (suc k)))))))) = refl
 
 pub none-told : (m : List ℕ) → TellsMarks m 0 no_pins
 none-told m = record {

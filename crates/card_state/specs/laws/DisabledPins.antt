@@ -12,7 +12,8 @@ use Rattle.card_state.specs.declared.life_cycle.LifeCycle.TheVariants.{Terminate
 use Rattle.card_state.specs.Pins.{has_pin, no_pins}
 use Rattle.card_state.specs.Rule.{allows, condition_at, is_met}
 
-none-marked : (k : ℕ) → slice_index_or no_pins k false ≡ false
+-- no PIN is marked
+pub none-marked : (k : ℕ) → slice_index_or no_pins k false ≡ false
 none-marked zero = refl
 none-marked (suc zero) = refl
 none-marked (suc (suc zero)) = refl
