@@ -20,6 +20,7 @@ use Rattle.record_slots.specs.Bodies.{cyclic_body_records, IsCyclic}
 use Rattle.record_slots.specs.BodyChanges.{CyclicBecomes}
 use Rattle.record_slots.specs.RingCalls.{ReceivesSum}
 use Rattle.card_state.specs.RecordLists.{spelled, front, raised_number}
+use Rattle.card_state.specs.laws.Spelling.{length-spelled}
 use Rattle.ef_contents.specs.Refusals.{unraised}
 use Rattle.command_base.specs.declared.current.Current.{Current}
 use Rattle.command_base.specs.declared.target_file.Need.{Need}
@@ -40,7 +41,7 @@ use Rattle.command_base.specs.CurrentFiles.{pointing_from}
 use Rattle.record_commands.proofs.RecordBodies.{replaced-fits}
 use Rattle.command_base.specs.laws.Halting.{halted-in-place}
 use Rattle.record_commands.proofs.RecordSums.{increase-commits, increase-effect, increase-free, increase-less}
-use Rattle.record_commands.proofs.RecordSums.{length-spelled, short-fits, too_long}
+use Rattle.record_commands.proofs.RecordSums.{short-fits, too_long}
 use Rattle.record_commands.proofs.RecordWrites.{records-made, records-space, records-torn}
 use Rattle.record_commands.proofs.RecordWrites.{PutsRecords}
 use Rattle.record_commands.proofs.RecordSteps.{agree}

@@ -1,5 +1,5 @@
 -- INCREASE, by the entry of the current cyclic file.
-use Rattle.std.proofs.Common.{◌≡◌, ◌||◌, ◌+◌, ◌^◌, ◌≤◌, ◌%◌, ℕ, zero, suc, Bool, true, false, not, nat_le, nat_lt}
+use Rattle.std.proofs.Common.{◌≡◌, ◌||◌, ◌+◌, ◌^◌, ◌≤◌, ℕ, Bool, true, false, not, nat_le, nat_lt}
 use Rattle.std.proofs.Common.{List, [], ◌∷◌, ◌++◌, length, Option, Some, None, if◌then◌else◌, refl, ◌∙◌, ap}
 use Rattle.std.proofs.lemmas.Bool.{ltb-false}
 use Rattle.nvm_board.specs.Facts.{IsMemory}
@@ -29,12 +29,6 @@ use Rattle.record_commands.specs.RecordParts.{IsRecordFile}
 use Rattle.card_model.specs.laws.Guarding.{guarded-free, guarded-refused}
 use Rattle.record_commands.proofs.RecordBodies.{Agree}
 use Rattle.record_commands.proofs.RecordSteps.{agree}
-
--- as many bytes as are asked for spell a number
-pub length-spelled : (size n : ℕ) → length (spelled size n) ≡ size
-unfolding spelled
-length-spelled zero n = refl
-length-spelled (suc size) n = ap (λ (k : ℕ). suc k) (length-spelled size (n % 256 ^ size))
 
 -- more bytes than a record has, or an answer of more than 256 bytes
 abbrev pub too_long : ℕ → ℕ → Bool
