@@ -1,7 +1,8 @@
 -- CREATE FILE by the dedicated file that is current.
 use Rattle.std.proofs.Common.{◌≡◌, ◌⊎◌, ◌≤◌, ◌-◌, ℕ, Bool, true, false, List, [], ◌∷◌, ◌++◌, length}
-use Rattle.std.proofs.Common.{Option, Some, None, unwrap_or, Result, Ok, Err, refl, sym, ◌∙◌, ap, arith, inl}
+use Rattle.std.proofs.Common.{Option, Some, None, Result, Ok, Err, refl, sym, ◌∙◌, ap, arith, inl}
 use Rattle.std.proofs.Common.{inr, ⊎_elim}
+use Rattle.std.proofs.lemmas.Option.{same_Some}
 use Rattle.std.specs.Prelude.{cond}
 use Rattle.std.specs.Cmp.Lexicographic.{nat_list_cmp_total}
 use Rattle.std.specs.FinMap.{get, get-insert}
@@ -20,7 +21,7 @@ use Rattle.file_changes.specs.CreationRefusals.{creation_refusal}
 use Rattle.card_state.specs.NewFiles.{new_file, short_of_new}
 use Rattle.file_tree.specs.Formats.{block_count}
 use Rattle.card_state.specs.Spaces.{free_space}
-use Rattle.card_model.specs.Cards.{card_space, Card, File, Kind, Path, Tree, dedicated, elementary, no_file}
+use Rattle.card_model.specs.Cards.{card_space, Card, File, Kind, Path, Tree, dedicated, elementary}
 use Rattle.command_base.specs.laws.CardLaws.{card_count, card_space_is}
 use Rattle.card_state.specs.FileLives.{is_barred}
 use Rattle.file_tree.specs.Table.{table, entry_in, path_of}
@@ -41,10 +42,6 @@ use Rattle.command_base.specs.laws.Entries.{card-tree, current-entry, selecting-
 use Rattle.card_model.specs.laws.Doing.{doing-one}
 use Rattle.file_commands.proofs.FileSteps.{create-commits, create-done, create-refused, create-unread, create-unrefused}
 use Rattle.command_base.specs.laws.Keeping.{files-stand, files-after}
-
--- what was found of nothing that is there
-value_of : (one other : File) → Some one ≡ Some other → one ≡ other
-value_of one other is = ap (λ (o : Option File). unwrap_or o no_file) is
 
 -- what becomes current does so whatever was current before
 selecting-any : (s r : Session) (path : Path) (kind : Kind) → s.verified ≡ r.verified
@@ -184,7 +181,7 @@ module _ (m : List ℕ) (sized : IsMemory m) (words : IsCard m) (x : CurrentFile
         ∙ ap (λ (b : Bool). cond b (Some new) (get (tree_of m) path)) (same_of_one path path refl)
 
     file-is : file_in after e ≡ new
-    file-is = value_of (file_in after e) new
+    file-is = same_Some (file_in after e) new
         (sym (get-used after stands.tree.entries e made.used) ∙ ap (get (tree_of after)) made.path ∙ file-there)
 
     abbrev at_file : CurrentFiles

@@ -4,6 +4,7 @@ use Rattle.std.specs.Prelude.{List, [], ◌∷◌, ◌++◌, length, take, nat_l
 use Rattle.std.specs.Prelude.{is_none, unwrap_or}
 use Rattle.std.proofs.Common.{refl, sym, ◌∙◌, ap, arith, inl, inr, true≢false}
 use Rattle.std.proofs.lemmas.Bool.Decides.{eqb_tells, leb_tells}
+use Rattle.std.proofs.lemmas.Option.{none-some}
 use Rattle.card_state.specs.declared.status.Sw.{Sw}
 use Rattle.card_state.specs.declared.status.TheConstants.Sw.{FILE_EXISTS, NAME_EXISTS, WRONG_DATA}
 use Rattle.card_state.specs.declared.fcp.Fcp.{Fcp}
@@ -36,14 +37,11 @@ pub record NoneTaken (tree : Tree) (df : Path) (fcp : Fcp) : Type 0 where
   pub name : has_name tree (name_bytes fcp.kind) ≡ false
   pub short : has_short_given tree df (short_of_kind fcp.kind) ≡ false
 
-some_none : {A : Type 0} (x : A) → Some x ≡ None → ⊥
-some_none {A} x e = true≢false (ap (λ (o : Option A). is_some o) e)
-
 tests_fail : (a b c : Bool) (x y z : Sw) → (if a then Some x else if b then Some y else if c then Some z else None)
     ≡ None → (a ≡ false) × (b ≡ false) × (c ≡ false)
-tests_fail true b c x y z is = absurd (some_none x is)
-tests_fail false true c x y z is = absurd (some_none y is)
-tests_fail false false true x y z is = absurd (some_none z is)
+tests_fail true b c x y z is = absurd (none-some x (sym is))
+tests_fail false true c x y z is = absurd (none-some y (sym is))
+tests_fail false false true x y z is = absurd (none-some z (sym is))
 tests_fail false false false x y z is = (refl, refl, refl)
 
 pub none_taken : (tree : Tree) (df : Path) (fcp : Fcp) → taken_refusal tree df fcp ≡ None → NoneTaken tree df fcp
@@ -55,14 +53,14 @@ none_taken tree df fcp is =
 -- a number that is a short identifier, or 0
 some_number : (n k : ℕ) → short_option n ≡ Some k → n ≡ k
 some_number n k is = elim (eqb_tells n 0) [
-  | inl same ↦ absurd (some_none k (sym is ∙ ap (λ (b : Bool). if b then None else Some n) same.0))
+  | inl same ↦ absurd (none-some k (sym (ap (λ (b : Bool). if b then None else Some n) same.0) ∙ is))
   | inr other ↦ ap (λ (o : Option ℕ). unwrap_or o n) (sym (ap (λ (b : Bool). if b then None else Some n) other.0) ∙ is)
 ]
 
 none_number : (n : ℕ) → short_option n ≡ None → n ≡ 0
 none_number n is = elim (eqb_tells n 0) [
   | inl same ↦ same.1
-  | inr other ↦ absurd (some_none n (sym (ap (λ (b : Bool). if b then None else Some n) other.0) ∙ is))
+  | inr other ↦ absurd (none-some n (sym is ∙ ap (λ (b : Bool). if b then None else Some n) other.0))
 ]
 
 -- The short identifier of a new file is 1 to 30, and no child has it.
@@ -152,7 +150,7 @@ may_stand m df n fcp chain rules dedicated level is none short =
           sym (child_told m rules df fcp.identifier (Some f) used_df (child, same)) ∙ none.identifier);
       shorts = λ some f child same.
           let there = short_named m rules df n used_df some (Some f) (child, same) in
-          some_none (path_of t f) (there ∙ fresh.0.free some);
+          none-some (path_of t f) (sym (there ∙ fresh.0.free some));
       names = λ some f used same.
           let own : name_of (entry_for fcp df n chain) ≡ name_bytes fcp.kind = take_padded 16 (name_bytes fcp.kind) in
           let within : f < length t =

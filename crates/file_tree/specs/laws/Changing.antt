@@ -1,9 +1,10 @@
 -- When the tree of a memory is a given one: it has each used entry's file at the entry's path, and nothing else.
-use Rattle.std.specs.Prelude.{◌≡◌, ◌≢◌, ℕ, Bool, true, false, cond, List, Option, None, Some, is_some}
+use Rattle.std.specs.Prelude.{◌≡◌, ◌≢◌, ℕ, Bool, true, false, cond, List, Option, None, Some}
 use Rattle.std.specs.Cmp.Lexicographic.{nat_list_cmp_total}
 use Rattle.std.specs.FinMap.{get, insert, get-insert, same_map, slice_cmp-IsAntisymmetric, nat_cmp-IsAntisymmetric}
-use Rattle.std.proofs.Common.{refl, sym, ◌∙◌, ap, subst, inl, inr, true≢false}
+use Rattle.std.proofs.Common.{refl, sym, ◌∙◌, ap, subst, inl, inr}
 use Rattle.std.proofs.lemmas.Bool.Decides.{eqb_tells}
+use Rattle.std.proofs.lemmas.Option.{none-some}
 use Rattle.file_tree.specs.declared.entry.Entry.{Entry}
 use Rattle.card_state.specs.FileTrees.{Path, File, Tree}
 use Rattle.file_tree.specs.Table.{table, path_of, IsUsed, IsTable}
@@ -11,9 +12,6 @@ use Rattle.file_tree.specs.Trees.{tree_of, file_in}
 use Rattle.file_tree.specs.laws.Paths.{one_path}
 use Rattle.card_state.specs.laws.Orders.{same_path, one_of_same, same_of_one}
 use Rattle.file_tree.specs.laws.Nodes.{get-used, entry_found}
-
-some_none : {A : Type 0} (x : A) → Some x ≡ None → ⊥
-some_none {A} x e = true≢false (ap (λ (o : Option A). is_some o) e)
 
 -- an entry that has a path
 abbrev pub HasEntryAt : List ℕ → Path → Type 0
@@ -31,8 +29,8 @@ same_tree m tree rules has only =
     missing p none None is = refl
     missing p none (Some f) is =
         let found = only p f is in
-        absurd (some_none (file_in m found.0)
-        (sym (get-used m rules found.0 found.1) ∙ ap (get (tree_of m)) found.2 ∙ none))
+        absurd (none-some (file_in m found.0)
+        (sym none ∙ ap (get (tree_of m)) (sym found.2) ∙ get-used m rules found.0 found.1))
 
     at : (p : Path) (o : Option File) → get (tree_of m) p ≡ o → get (tree_of m) p ≡ get tree p
     at p None is = is ∙ missing p is (get tree p) refl

@@ -5,6 +5,7 @@ use Rattle.std.specs.Prelude.{length, Option, None, Some, IfSome, is_some, unwra
 use Rattle.std.specs.FinMap.{get}
 use Rattle.std.proofs.Common.{refl, sym, ◌∙◌, ap, ap₂, subst, arith, inl, inr}
 use Rattle.std.proofs.lemmas.Bool.Decides.{eqb_tells}
+use Rattle.std.proofs.lemmas.List.{nil_from_length}
 use Rattle.file_tree.specs.declared.entry.Entry.{Entry}
 use Rattle.card_state.specs.FileTrees.{Path, File, master_file, parent, identifier, no_file, exists, file_at}
 use Rattle.card_state.specs.FileTrees.{is_dedicated}
@@ -72,10 +73,6 @@ three_picked false true c p q = refl
 three_picked false false true p q = refl
 three_picked false false false p q = refl
 
-zero_length : (path : Path) → length path ≡ 0 → path ≡ []
-zero_length [] none = refl
-zero_length (id ∷ path) none = absurd (omega arith)
-
 module _ (m : List ℕ) (rules : IsTable (table m)) (df id : ℕ) (used : IsUsed (table m) df) where
   -- the parent of a used entry is used; the master file is its own
   pub above_used : IsUsed (table m) (entry_in (table m) df).parent
@@ -110,7 +107,7 @@ module _ (m : List ℕ) (rules : IsTable (table m)) (df id : ℕ) (used : IsUsed
     | inl same ↦ ap (λ (p : Path). length p == 0) (path-zero (table m) 7 df same.1) ∙ sym same.0
     | inr other ↦ elim (eqb_tells (length (path_of (table m) df)) 0) [
       | inl empty ↦ absurd (other.1 (path_of-empty (table m) rules df used
-          (zero_length (path_of (table m) df) empty.1)))
+          (nil_from_length (path_of (table m) df) empty.1)))
       | inr some ↦ some.0 ∙ sym other.0
     ]
   ]

@@ -8,6 +8,7 @@ use Rattle.std.specs.FinMap.{get, find, get-from_entries}
 use Rattle.std.proofs.Common.{refl, sym, ◌∙◌, ap, ap₂, arith, inl, inr, ⊎_elim, true≢false}
 use Rattle.std.proofs.lemmas.Bool.{cases_lt}
 use Rattle.std.proofs.lemmas.Bool.Decides.{eqb_tells}
+use Rattle.std.proofs.lemmas.Option.{none-some, same_Some}
 use Rattle.file_tree.specs.declared.entry.Entry.{Entry}
 use Rattle.card_state.specs.FileTrees.{dedicated, elementary, Body, Path, File, no_file, exists, file_at, is_dedicated}
 use Rattle.file_tree.specs.Entries.{file_of}
@@ -21,12 +22,6 @@ use Rattle.card_state.specs.laws.Orders.{same_path, one_of_same, same_of_one}
 abbrev pub Node : Type 0
 Node = Path × File
 
-some_is : {A : Type 0} (x y : A) → Some x ≡ Some y → x ≡ y
-some_is {A} x y e = ap (λ (o : Option A). unwrap_or o x) e
-
-none_some : {A : Type 0} (x : A) → None ≡ Some x → ⊥
-none_some {A} x e = true≢false (sym (ap (λ (o : Option A). is_some o) e))
-
 -- what is found in a list of nodes
 abbrev pub find_path : Path → List Node → Option File
 find_path p ns = find (slice_cmp nat_cmp) p ns
@@ -36,16 +31,16 @@ module _ (nodes : ℕ → Option Node) where
   found_first : (a e : ℕ) (p : Path) (f : File) (rest : List Node) → nodes e ≡ Some (p, f)
       → ((k : ℕ) (g : File) → nodes k ≡ Some (p, g) → k ≡ e) → (a ≢ e → find_path p rest ≡ Some f)
       → (o : Option Node) → nodes a ≡ o → find_path p (cons_option o rest) ≡ Some f
-  found_first a e p f rest is alone later None none = later (λ same. none_some (p, f) (sym none ∙ ap nodes same ∙ is))
+  found_first a e p f rest is alone later None none = later (λ same. none-some (p, f) (sym none ∙ ap nodes same ∙ is))
   found_first a e p f rest is alone later (Some x) some = by_test (same_path p x.0) refl
     where
       by_test : (b : Bool) → same_path p x.0 ≡ b → cond b (Some x.1) (find_path p rest) ≡ Some f
       by_test true t =
           let at_p : nodes a ≡ Some (p, x.1) = some ∙ ap (λ (q : Path). Some (q, x.1)) (sym (one_of_same p x.0 t)) in
           let same = alone a x.1 at_p in
-          ap (λ (n : Node). Some n.1) (some_is (p, x.1) (p, f) (sym at_p ∙ ap nodes same ∙ is))
+          ap (λ (n : Node). Some n.1) (same_Some (p, x.1) (p, f) (sym at_p ∙ ap nodes same ∙ is))
       by_test false t = later (λ same.
-          let one = some_is x (p, f) (sym some ∙ ap nodes same ∙ is) in
+          let one = same_Some x (p, f) (sym some ∙ ap nodes same ∙ is) in
           true≢false (sym (same_of_one p x.0 (sym (ap (λ (n : Node). n.0) one))) ∙ t))
 
   -- what is found at a path that one number's node has, and no other's
@@ -89,13 +84,13 @@ module _ (nodes : ℕ → Option Node) where
       by_test true t is = (
         a,
         some
-            ∙ ap₂ (λ (q : Path) (g : File). Some (q, g)) (sym (one_of_same p x.0 t)) (some_is x.1 f is),
+            ∙ ap₂ (λ (q : Path) (g : File). Some (q, g)) (sym (one_of_same p x.0 t)) (same_Some x.1 f is),
       )
       by_test false t is = later is
 
   pub node_found : (a n : ℕ) (p : Path) (f : File) → find_path p (filter_map nodes (range_with_len a n)) ≡ Some f
       → (e : ℕ) × (nodes e ≡ Some (p, f))
-  node_found a zero p f found = absurd (none_some f found)
+  node_found a zero p f found = absurd (none-some f found)
   node_found a (suc n) p f found =
       node_first a p f (filter_map nodes (range_with_len (a + 1) n)) (node_found (a + 1) n p f) (nodes a) refl found
 
@@ -125,9 +120,9 @@ node-free m e free = elim (eqb_tells (entry_in (table m) e).kind 0) [
 pub node_tells : (m : List ℕ) (e : ℕ) (p : Path) (f : File) → node m e ≡ Some (p, f)
     → IsUsed (table m) e × (p ≡ path_of (table m) e) × (f ≡ file_in m e)
 node_tells m e p f is = elim (eqb_tells (entry_in (table m) e).kind 0) [
-  | inl same ↦ absurd (none_some (p, f) (sym (node-free m e same.1) ∙ is))
+  | inl same ↦ absurd (none-some (p, f) (sym (node-free m e same.1) ∙ is))
   | inr other ↦
-      let one = some_is (p, f) (path_of (table m) e, file_in m e) (sym is ∙ node-used m e other.1) in
+      let one = same_Some (p, f) (path_of (table m) e, file_in m e) (sym is ∙ node-used m e other.1) in
       (other.1, ap (λ (n : Node). n.0) one, ap (λ (n : Node). n.1) one)
 ]
 

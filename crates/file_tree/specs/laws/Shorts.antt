@@ -1,7 +1,7 @@
 -- What a short identifier names: the child that the table has with it is the one that the tree has.
 use Rattle.std.specs.Prelude.{◌≤◌, ◌≡◌, ◌≢◌, ◌==◌, ◌<◌, ◌+◌, ℕ, zero, suc, Bool, true, false, cond, not, ◌&&◌}
 use Rattle.std.specs.Prelude.{if◌then◌else◌}
-use Rattle.std.specs.Prelude.{List, [], ◌∷◌, length, Option, None, Some, option_map, is_some, unwrap_or, IfSome}
+use Rattle.std.specs.Prelude.{List, [], ◌∷◌, length, Option, None, Some, option_map, IfSome}
 use Rattle.std.specs.List.{find, range_with_len, filter_map, cons_option}
 use Rattle.std.specs.Option.{option_map_or}
 use Rattle.std.specs.Ordering.{nat_cmp}
@@ -13,6 +13,8 @@ use Rattle.std.proofs.Common.{refl, sym, ◌∙◌, ap, ap₂, subst, arith, inl
 use Rattle.std.proofs.Common.{Greater}
 use Rattle.std.proofs.lemmas.Bool.{and_parts}
 use Rattle.std.proofs.lemmas.Bool.Decides.{eqb_tells}
+use Rattle.std.proofs.lemmas.Option.{none-some, same_Some}
+use Rattle.std.proofs.lemmas.List.{nil_from_length}
 use Rattle.file_tree.specs.declared.entry.Entry.{Entry}
 use Rattle.card_state.specs.FileTrees.{Path, File, Body, dedicated, elementary, parent, short_of}
 use Rattle.card_state.specs.Selectors.{is_child, has_short, child_by_short}
@@ -76,23 +78,17 @@ pub find_none : (test : Node → Bool) (ns : List Node) → EachNode (λ n. test
 find_none test [] each = refl
 find_none test (n ∷ ns) each = ap (λ (b : Bool). if b then Some n else find test ns) each.0 ∙ find_none test ns each.1
 
-none_some : {A : Type 0} (x : A) → None ≡ Some x → ⊥
-none_some {A} x e = true≢false (sym (ap (λ (o : Option A). is_some o) e))
-
-unwrap_some : (x y : File) → Some x ≡ Some y → x ≡ y
-unwrap_some x y e = ap (λ (o : Option File). unwrap_or o x) e
-
 -- the one path whose node passes a test
 pub find_one : (test : Node → Bool) (p : Path) (f : File) (ns : List Node) → test (p, f) ≡ true → find_path p ns
     ≡ Some f → EachNode (λ n. test n ≡ true → n.0 ≡ p) ns → option_map (λ n. n.0) (find test ns) ≡ Some p
-find_one test p f [] passes found each = absurd (none_some f found)
+find_one test p f [] passes found each = absurd (none-some f found)
 find_one test p f (n ∷ ns) passes found each =
     by_test (test n) refl (λ rest. find_one test p f ns passes rest each.1)
   where
     by_path : (b : Bool) → same_path p n.0 ≡ b → cond b (Some n.1) (find_path p ns) ≡ Some f → test n ≡ false
         → find_path p ns ≡ Some f
     by_path true same is fails =
-        let here : n ≡ (p, f) = (λ i. (sym (one_of_same p n.0 same) i, unwrap_some n.1 f is i)) in
+        let here : n ≡ (p, f) = (λ i. (sym (one_of_same p n.0 same) i, same_Some n.1 f is i)) in
         absurd (true≢false (sym passes ∙ sym (ap test here) ∙ fails))
     by_path false same is fails = is
 
@@ -134,10 +130,6 @@ entry_short x bytes n rule some =
       | inr other ↦ other.0
     ]
 
-empty_path : (p : Path) → length p ≡ 0 → p ≡ []
-empty_path [] none = refl
-empty_path (id ∷ p) none = absurd (omega arith)
-
 module _ (m : List ℕ) (rules : IsTable (table m)) (df n : ℕ) (used_df : IsUsed (table m) df) (some : n ≢ 0) where
   abbrev names_it : Node → Bool
   names_it x = is_child (path_of (table m) df) x.0 && has_short x.1 n
@@ -155,7 +147,7 @@ module _ (m : List ℕ) (rules : IsTable (table m)) (df n : ℕ) (used_df : IsUs
       let some_path : (length (path_of (table m) e) == 0) ≡ false =
       elim (eqb_tells (length (path_of (table m) e)) 0) [
         | inl empty ↦ absurd (
-            let zero_at = path_of-empty (table m) rules e child.used (empty_path (path_of (table m) e) empty.1) in
+            let zero_at = path_of-empty (table m) rules e child.used (nil_from_length (path_of (table m) e) empty.1) in
             let below = child.below in
             omega (arith, zero_at, below))
         | inr other ↦ other.0

@@ -3,8 +3,9 @@ use Rattle.nvm_board.specs.Facts.{IsMemory}
 use Rattle.undo_journal.specs.laws.Calls.{reads_then}
 use Rattle.file_tree.specs.Table.{IsUsed}
 use Rattle.undo_journal.specs.laws.Exits.{none_ok}
-use Rattle.std.proofs.Common.{◌≡◌, ℕ, List, length, take, Option, None, Some, is_some, sym, ◌∙◌, ap, subst, arith}
-use Rattle.std.proofs.Common.{inl, inr, ⊎_elim, true≢false, refl}
+use Rattle.std.proofs.Common.{◌≡◌, ℕ, List, length, take, None, sym, ◌∙◌, ap, subst, arith}
+use Rattle.std.proofs.Common.{inl, inr, ⊎_elim, refl}
+use Rattle.std.proofs.lemmas.Option.{none-some}
 use Rattle.file_tree.specs.TreeChanges.{SameTree}
 use Rattle.undo_journal.specs.Memory.{Memory, committed, IsReady}
 use Rattle.file_changes.specs.Adding.{AddsByGate}
@@ -57,9 +58,6 @@ place_at m df fcp place e is found =
 not_refused : (m : List ℕ) (df : ℕ) (fcp : Fcp) (e : ℕ) → FindsPlace m df fcp (At e)
     → creation_refusal (block_count m) (tree_of m) (path_of (table m) df) fcp ≡ None
 not_refused m df fcp e found = λ i. first_reason (found.0 i) (found.1 i)
-
-none_some : {A : Type 0} (x : A) → None ≡ Some x → ⊥
-none_some {A} x e = true≢false (sym (ap (λ (o : Option A). is_some o) e))
 
 -- the short identifier of the words as they were
 short_before : (m now : List ℕ) (df n : ℕ) (fcp : Fcp) → now ≡ m
@@ -228,13 +226,13 @@ pub returns-clause-idle : goal.returns-clause-idle
 returns-clause-idle g c = λ status is.
     let m = committed c.args.store.now in
     let found = place_at m c.args.df c.args.fcp.now _ c.in-At.entry c.in-At.is c.in_ok-entry.ensures.told in
-    absurd (none_some status (sym (not_refused m c.args.df c.args.fcp.now c.in-At.entry found) ∙ is))
+    absurd (none-some status (sym (not_refused m c.args.df c.args.fcp.now c.in-At.entry found) ∙ is))
 
 pub returns-in_err-write_file-clause-idle : goal.returns-in_err-write_file-clause-idle
 returns-in_err-write_file-clause-idle g c = λ status is.
     let m = committed c.args.store.now in
     let found = place_at m c.args.df c.args.fcp.now _ c.in-At.entry c.in-At.is c.in_ok-entry.ensures.told in
-    absurd (none_some status (sym (not_refused m c.args.df c.args.fcp.now c.in-At.entry found) ∙ is))
+    absurd (none-some status (sym (not_refused m c.args.df c.args.fcp.now c.in-At.entry found) ∙ is))
 
 pub returns-in_err-entry-clause-idle : goal.returns-in_err-entry-clause-idle
 returns-in_err-entry-clause-idle g c = λ status is. c.find_place.ensures.store.only
