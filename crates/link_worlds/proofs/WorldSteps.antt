@@ -4,6 +4,7 @@ use Rattle.std.specs.Prelude.{nat_le, if◌then◌else◌, List, [], ◌∷◌, 
 use Rattle.std.specs.Prelude.{length, take, drop, Option, is_some, unwrap_or, Result, Ok, Err, refl}
 use Rattle.std.proofs.Common.{inl, inr, ⊎_elim, sym, ◌∙◌, ap, subst, arith}
 use Rattle.std.proofs.lemmas.Bool.{leb-true, ltb-true, ltb-false, eqb-true, not-false, and_from, and_parts, and_right}
+use Rattle.std.proofs.lemmas.Bool.{not-true}
 use Rattle.std.proofs.lemmas.List.{append_assoc, append-nil, length-append, length-drop, length-take}
 use Rattle.std.proofs.lemmas.List.{take_all, take-append-drop}
 use Rattle.t1_link.specs.declared.block.ErrorKind.{ErrorKind}
@@ -60,16 +61,12 @@ other_than a b e = subst (λ (c : SequenceNumber). same a (other_number c) ≡ f
 turned_back : (a b : SequenceNumber) → a ≡ other_number b → other_number a ≡ b
 turned_back a b e = ap other_number e ∙ other-other b
 
-not_true : (a : Bool) → not a ≡ true → a ≡ false
-not_true true e = absurd cc
-not_true false e = refl
-
 -- no command is given where one is in hand
 busy_refuses : (r : Reader) (command : List ℕ) → r.phase ≡ Busy → may_send r command ≡ true → ⊥
 busy_refuses r command e may =
     let busy : is_busy r.phase ≡ true = ap is_busy e in
     let free : is_busy r.phase ≡ false =
-    not_true (is_busy r.phase) (and_parts (not (is_busy r.phase)) (is_command command) may).0 in
+    not-true (is_busy r.phase) (and_parts (not (is_busy r.phase)) (is_command command) may).0 in
     absurd (cc (busy, free))
 
 -- a command has 1 to 261 bytes

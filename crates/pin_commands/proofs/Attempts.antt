@@ -4,7 +4,7 @@ use Rattle.std.proofs.Common.{◌≡◌, ◌≢◌, ◌⊎◌, ◌<◌, ◌≤�
 use Rattle.std.proofs.Common.{length, Contains}
 use Rattle.std.proofs.Common.{slice_index, slice_set, Option, Some, None, Ok, Err, if◌then◌else◌, refl, sym, ◌∙◌, ap}
 use Rattle.std.proofs.Common.{subst, arith, inl, inr}
-use Rattle.std.proofs.lemmas.Bool.{eq-eqb}
+use Rattle.std.proofs.lemmas.Bool.{eq-eqb, false_from_ne_true}
 use Rattle.std.proofs.Math.ListN.{length-set}
 use Rattle.std.specs.Cmp.Lexicographic.{bytes_decides, pointwise}
 use Rattle.std.specs.Prelude.{nat_eq, IfOk, IsSome, Result}
@@ -115,11 +115,7 @@ right-is : (xs ys : List ℕ) → xs ≡ ys → pointwise nat_eq xs ys ≡ true
 right-is xs ys same = (bytes_decides xs ys).1 same
 
 wrong-is : (xs ys : List ℕ) → ¬ (xs ≡ ys) → pointwise nat_eq xs ys ≡ false
-wrong-is xs ys other = by (pointwise nat_eq xs ys) (λ is. other ((bytes_decides xs ys).0 is))
-  where
-    by : (b : Bool) → (b ≡ true → ⊥) → b ≡ false
-    by true never = absurd (never refl)
-    by false never = refl
+wrong-is xs ys other = false_from_ne_true (pointwise nat_eq xs ys) (λ is. other ((bytes_decides xs ys).0 is))
 
 module _ (request : Request) (a : Attempt) (asks : IsAttempt request a) (old : Memory) (x : Current)
     (sized : IsMemory (committed old)) (card : IsCard (committed old)) (current : IsCurrent (table_in old) x) where

@@ -9,7 +9,7 @@ use Rattle.std.specs.Prelude.{is_some, All}
 use Rattle.std.specs.List.{range_with_len, starts_with, sum_by}
 use Rattle.std.specs.FinMap.{get, retain_keys, get-retain_keys, slice_cmp-IsAntisymmetric, nat_cmp-IsAntisymmetric}
 use Rattle.std.proofs.Common.{refl, sym, ◌∙◌, ap, subst, arith, inl, inr, ⊎_elim, true≢false}
-use Rattle.std.proofs.lemmas.Bool.{cases_lt}
+use Rattle.std.proofs.lemmas.Bool.{cases_lt, not-true}
 use Rattle.std.proofs.lemmas.Bool.Decides.{eqb_tells}
 use Rattle.std.proofs.lemmas.List.{length-append}
 use Rattle.std.proofs.Math.ListN.{length-set}
@@ -452,14 +452,10 @@ module _ (m mid : List ℕ) (top : ℕ) (sized : IsMemory m) (stands : TreeStand
             let out : leads_up (table m) 7 top f ≡ false =
             within_path (table m) stands.entries top above used f found.1
             ∙ ap (λ (q : Path). starts_with nat_eq q (path_of (table m) top)) found.2
-            ∙ not_true (starts_with nat_eq p (path_of (table m) top)) kept in
+            ∙ not-true (starts_with nat_eq p (path_of (table m) top)) kept in
             let v = used_after (table m) (table mid) top stands.entries above used (length-table m) (length-table mid)
             mid_entry f found.1 out in
             (f, used_now f v, ap (λ (t : List Entry). path_of t f) after_table ∙ path_stays f v ∙ found.2)
-          where
-            not_true : (b : Bool) → not b ≡ true → b ≡ false
-            not_true true n = sym n
-            not_true false n = refl
 
     -- The file is away, with all files below it.
     entry_kept : (f : ℕ) → IsUsed (table m) f → starts_with nat_eq (path_of (table m) f) (path_of (table m) top) ≡ false

@@ -5,6 +5,7 @@ use Rattle.std.specs.List.{starts_with}
 use Rattle.std.specs.FinMap.{get, retain_keys, get-retain_keys, slice_cmp-IsAntisymmetric, nat_cmp-IsAntisymmetric}
 use Rattle.std.proofs.Common.{refl, sym, ◌∙◌, ap, subst, arith, true≢false}
 use Rattle.std.proofs.lemmas.List.Elements.{All-filter, filter_passes}
+use Rattle.std.proofs.lemmas.Bool.{not-true}
 use Rattle.file_tree.specs.declared.entry.Entry.{Entry}
 use Rattle.file_tree.specs.declared.steps.Place.{Place}
 use Rattle.file_tree.specs.declared.index.Index.{Index}
@@ -72,10 +73,6 @@ module _ (m after : List ℕ) (top : ℕ) (index : Index) (stands : TreeStands m
   kept_at p = get-retain_keys (tree_of m) outside p
       (λ q same. ap outside (sym (slice_cmp-IsAntisymmetric nat_cmp-IsAntisymmetric p q same)))
 
-  not_true : (b : Bool) → not b ≡ true → b ≡ false
-  not_true true n = sym n
-  not_true false n = refl
-
   -- a file that is there after was there before, outside what is deleted
   was : (f : ℕ) → IsUsed (table after) f
       → IsUsed t f × (leads_up t 7 top f ≡ false) × (entry_in (table after) f ≡ entry_in t f)
@@ -97,7 +94,7 @@ module _ (m after : List ℕ) (top : ℕ) (index : Index) (stands : TreeStands m
           let g = found.0 in
           let apart : starts_with nat_eq (path_of t g) (path_of t top) ≡ false =
           ap (λ (q : Path). starts_with nat_eq q (path_of t top)) found.2
-          ∙ not_true (starts_with nat_eq path (path_of t top)) kept in
+          ∙ not-true (starts_with nat_eq path (path_of t top)) kept in
           let stays = deletes.kept g found.1 apart in
           let now : IsUsed (table after) g = λ none. found.1 (ap (λ (x : Entry). x.kind) (sym stays.0) ∙ none) in
           let one : g ≡ f = one_path (table after) deletes.stands.entries g f now used_f (stays.1 ∙ found.2) in
@@ -122,7 +119,7 @@ module _ (m after : List ℕ) (top : ℕ) (index : Index) (stands : TreeStands m
       (let p = slice_index_or (filter keep places) k d in
       let place = old_each k d lt in
       let out : leads_up t 7 top p.entry ≡ false = sym (leads_is 7 p.entry place.used)
-      ∙ not_true (leads_by places 7 top p.entry) (passes k d lt) in
+      ∙ not-true (leads_by places 7 top p.entry) (passes k d lt) in
       let now = stays p.entry place.used out in
       record {
         below = place.below;

@@ -1,15 +1,11 @@
-use Rattle.std.proofs.Common.{◌≡◌, ◌<◌, ◌≤◌, ◌+◌, ◌==◌, ℕ, zero, suc, Bool, true, false, List, length, slice_index}
-use Rattle.std.proofs.Common.{take, arith, refl, subst, sym, ◌∙◌}
-use Rattle.std.proofs.lemmas.Bool.{eqb-true}
+use Rattle.std.proofs.Common.{◌≡◌, ◌<◌, ◌≤◌, ◌+◌, ◌==◌, ℕ, zero, suc, true, false, List, length, slice_index}
+use Rattle.std.proofs.Common.{take, arith, subst, sym, ◌∙◌}
+use Rattle.std.proofs.lemmas.Bool.{eqb-true, false_from_ne_true}
 use Rattle.std.proofs.lemmas.List.Elements.{All-more, All-nil}
 use Rattle.bench_lines.specs.Scripts.{IsInLine}
 use Rattle.memchr.specs.Find.{is_byte}
 use Rattle.bench_lines.proofs.FirstPlace.{first-given, none-given}
 use Rattle.bench_lines.proofs.reading.size_in_line.Goals as goal
-
-is-false : (test : Bool) → (test ≡ true → ⊥) → test ≡ false
-is-false true never = absurd (never refl)
-is-false false never = refl
 
 -- bytes before the first line feed have none
 in-line : (bytes : List ℕ) (size : ℕ) → size ≤ length bytes
@@ -18,7 +14,7 @@ in-line bytes zero most none = All-nil (λ (b : ℕ). (b == 10) ≡ false)
 in-line bytes (suc n) most none =
     let lt : n < length bytes = omega (arith, most) in
     let one : n + 1 ≡ suc n = omega arith in
-    let other = is-false (slice_index bytes n == 10) (none n (omega arith)) in
+    let other = false_from_ne_true (slice_index bytes n == 10) (none n (omega arith)) in
     subst (λ (m : ℕ). IsInLine (take m bytes)) one
     (All-more (λ (b : ℕ). (b == 10) ≡ false) bytes n 0 lt
     (in-line bytes n (omega (arith, most)) (λ k low. none k (omega (arith, low)))) other)
