@@ -24,6 +24,7 @@ use Rattle.card_state.specs.declared.access_mode.AccessBit.TheVariants.{DeleteCh
 use Rattle.file_tree.specs.Table.{table, entry_in, path_of, IsUsed}
 use Rattle.file_tree.specs.Trees.{tree_of}
 use Rattle.file_tree.specs.laws.Paths.{parent_path, parent_used, path_of-child}
+use Rattle.file_tree.specs.laws.Barring.{barred_push}
 use Rattle.command_base.specs.declared.current.Current.{Current as CurrentFiles}
 use Rattle.file_commands.specs.FileParts.{IsDeletable}
 use Rattle.card_model.specs.FileCommands.{delete_refusals, without}
@@ -36,7 +37,6 @@ use Rattle.card_model.specs.Steps.{IsDoing, served}
 use Rattle.command_base.specs.Working.{session_of, IsCurrent}
 use Rattle.command_base.specs.NamedFiles.{file_refusal}
 use Rattle.command_base.specs.laws.Entries.{card-tree, current-path}
-use Rattle.file_commands.proofs.Above.{above-barred}
 use Rattle.card_model.specs.laws.Doing.{doing-one}
 use Rattle.file_commands.proofs.FileSteps.{delete-by-file, delete-commits, delete-done, delete-unrefused}
 use Rattle.command_base.specs.laws.Keeping.{files-stand, files-after}
@@ -121,7 +121,7 @@ module _ (m : List ℕ) (sized : IsMemory m) (words : IsCard m) (x : CurrentFile
   pub file-verdict : refused_by (delete_refusals c s subject) ≡ deletion_verdict m x e up
   file-verdict =
       let barred = ap (has_barred_above c.tree) path-is
-      ∙ above-barred c.tree (path_of (table m) up) (entry_in (table m) e).identifier in
+      ∙ barred_push c.tree (path_of (table m) up) (entry_in (table m) e).identifier in
       let at = parent_path (table m) words.tree.entries e used in
       delete-by-file c s subject path place below
       ∙ (λ i. file_refusal (barred i) true (allowed c s path DeleteSelf || allowed c s (at i) DeleteChild))

@@ -1,5 +1,4 @@
 pub mod FileSteps
-pub mod Above
 pub mod Deletions
 pub mod Creations
 pub mod CreateServes

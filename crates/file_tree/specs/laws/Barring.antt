@@ -88,7 +88,8 @@ or_swap true false = refl
 or_swap false true = refl
 or_swap false false = refl
 
-barred_push : (tree : Tree) (p : Path) (id : ℕ)
+-- a file is barred exactly where its parent is barred, or bars
+pub barred_push : (tree : Tree) (p : Path) (id : ℕ)
     → has_barred_above tree (p ++ id ∷ []) ≡ (bars (life_at tree p) || has_barred_above tree p)
 barred_push tree p id =
     ap (λ (ps : List Path). list_any (λ q. bars (life_at tree q)) ps) (above_push p id)
