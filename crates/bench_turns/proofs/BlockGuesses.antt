@@ -65,7 +65,7 @@ module _ (c d : Card) (old new : Comparisons) (counts : HasEachCount old) where
 
 -- what a block compares, by the command that runs
 pub block-compares : (old new : Powered) (reaction : Reaction) → IsBlockStage old reaction (card_found new.card)
-    → BlockCompares old reaction new
+    → BlockCompares old reaction new.card.facts
     → ComparesOrStays (card_found old.card) (card_found new.card) (comparisons old.card.facts)
     (comparisons new.card.facts)
 block-compares old new (replies block) stage compares = inl (compares, ap (λ (c : Card). c.pins) stage)
@@ -75,7 +75,7 @@ block-compares old new (runs command) stage compares =
 
 -- a block, whatever comes of it
 module _ (old new : Powered) (reaction : Reaction) (stage : IsBlockStage old reaction (card_found new.card))
-    (compares : BlockCompares old reaction new) (counts : HasEachCount (comparisons old.card.facts)) where
+    (compares : BlockCompares old reaction new.card.facts) (counts : HasEachCount (comparisons old.card.facts)) where
   pub block-pays : HasCard new.card.facts.words
       → ArePaid (card_found old.card) (card_found new.card) (comparisons old.card.facts) (comparisons new.card.facts)
   block-pays there =

@@ -1,12 +1,12 @@
 -- Turns played one after another.
-use Rattle.std.specs.Prelude.{◌≡◌, ◌≢◌, ◌⊎◌, ◌+◌, ◌≤◌, ℕ, true, List, [], ◌∷◌, ◌++◌, refl}
+use Rattle.std.specs.Prelude.{◌≡◌, ◌≢◌, ◌⊎◌, ◌+◌, ◌≤◌, ℕ, Bool, true, List, [], ◌∷◌, ◌++◌, refl}
 use Rattle.std.proofs.Common.{ap, arith, sym, subst, inl, inr, ⊎_elim}
 use Rattle.nvm_board.specs.Facts.{Facts, Fails, Steady}
 use Rattle.nvm_board.specs.laws.History.{wrote_off, wrote_same}
 use Rattle.bench_turns.specs.declared.turn.Turn.{Turn}
 use Rattle.bench_turns.specs.declared.turn.Item.{Item}
 use Rattle.t1_link.specs.CardTable.{link_step}
-use Rattle.undo_journal.specs.Spending.{Advances}
+use Rattle.undo_journal.specs.Spending.{Advances, KeepsBoard}
 use Rattle.card_start.specs.declared.state.CardState.{CardState}
 use Rattle.card_start.specs.declared.state.CardState.TheVariants as state
 use Rattle.card_start.specs.declared.state.CardState.TheVariants.{Working}
@@ -17,7 +17,8 @@ use Rattle.card_start.specs.Running.{Running, card_found}
 use Rattle.command_base.specs.laws.ShownLaws.{ComparesOrStays}
 use Rattle.bench_turns.specs.declared.turn.Item.TheVariants.{Dark, Mute, Reply}
 use Rattle.bench_turns.specs.BenchStates.{BenchState, off, on, bench_facts}
-use Rattle.bench_turns.specs.CardBlocks.{Powered, BlockStands, BlockFails, BlockIsCut, IsBlockStage, Replies}
+use Rattle.bench_turns.specs.CardBlocks.{Powered, BlockChangesNothing, BlockCompares, BlockStands, BlockFails}
+use Rattle.bench_turns.specs.CardBlocks.{BlockIsCut, IsBlockStage, Replies}
 use Rattle.bench_turns.specs.Guessing.{GuessesFew}
 use Rattle.bench_turns.specs.Plays.{BringsNoFault, Plays, PlaysAll, PlaysBlock}
 use Rattle.bench_turns.specs.Turns.{CountsLosses, GoodTurn, Runs, Spends, Wears, dark_of, darks}
@@ -116,8 +117,10 @@ pub plays_cut : (old new : Powered) (got out : List ℕ) → BlockIsCut old got 
     (comparisons new.card.facts) → new.card.facts.writes ≤ old.card.facts.writes + COMMAND_WRITES
     → Advances old.card.facts new.card.facts
     → (old.card.state ≡ Working → BlockStands old (link_step old.link got).reaction new.card.facts.words)
+    → BlockCompares old (link_step old.link got).reaction new.card.facts
+    → (BlockChangesNothing old (link_step old.link got).reaction → KeepsBoard old.card.facts new.card.facts)
     → PlaysBlock (on old) got Dark (off (record new.card.facts { dark = true }))
-plays_cut old new got out cut found stage paid shown writes advances stands = record {
+plays_cut old new got out cut found stage paid shown writes advances stands compares idle = record {
   has_card = λ before. found;
   counts = record {
     cuts = cut.power.cuts;
@@ -130,7 +133,17 @@ plays_cut old new got out cut found stage paid shown writes advances stands = re
   };
   well = λ good. tt;
   guesses = paid-few (on old) (off (record new.card.facts { dark = true })) paid;
-  one = λ before good. record { power = refl; run = cut.run; stage = stage; word = stands good.well };
+  one = λ before good. record {
+    power = refl;
+    run = cut.run;
+    stage = stage;
+    word = stands good.well;
+    compares = subst (λ (dark : Bool). BlockCompares old (link_step old.link got).reaction
+        (record new.card.facts { dark = dark })) cut.power.dark compares;
+    idle = λ nothing.
+        subst (λ (dark : Bool). KeepsBoard old.card.facts (record new.card.facts { dark = dark })) cut.power.dark
+        (idle nothing);
+  };
   wears = λ good.
       wears-shown COMMAND_WRITES (card_found old.card) (card_found new.card) old.card.facts
       (record new.card.facts { dark = true }) shown good.faults writes;

@@ -1,10 +1,12 @@
 -- A card behind its end of the link: its reaction to each block.
 use Rattle.std.specs.Prelude.{◌≡◌, ℕ, List, []}
-use Rattle.nvm_board.specs.Facts.{Steady, GoesDark, Fails}
+use Rattle.nvm_board.specs.Facts.{Facts, Steady, GoesDark, Fails}
 use Rattle.t1_link.specs.CardTable.{Link, link_step, Taken, Reaction, replies, runs, answers, reply_bytes}
+use Rattle.undo_journal.specs.Spending.{KeepsBoard}
 use Rattle.card_model.specs.CommandTable.{asked}
 use Rattle.command_base.specs.Comparing.{comparisons, ComparesAsked, ComparesNothing}
 use Rattle.command_base.specs.Counting.{CountsAnswered}
+use Rattle.command_base.specs.Finding.{found}
 use Rattle.card_start.specs.declared.state.CardState.TheVariants.{Working, Failed, Dark}
 use Rattle.card_model.specs.Cards.{Card}
 use Rattle.card_model.specs.Sessions.{Session, fresh_session}
@@ -60,12 +62,12 @@ abbrev pub BlockChangesNothing : Powered → Reaction → Type 0
 BlockChangesNothing old (replies block) = Unit {0}
 BlockChangesNothing old (runs command) = ChangesNothing (card_found old.card) old.card.session command
 
--- the comparisons of a block: those of the command that it runs, else none
-abbrev pub BlockCompares : Powered → Reaction → Powered → Type 0
-BlockCompares old (replies block) new = ComparesNothing (comparisons old.card.facts) (comparisons new.card.facts)
+-- the comparisons of a block, by the board after it: those of the command that it runs, else none
+abbrev pub BlockCompares : Powered → Reaction → Facts → Type 0
+BlockCompares old (replies block) new = ComparesNothing (comparisons old.card.facts) (comparisons new)
 BlockCompares old (runs command) new =
-    ComparesAsked (asked command) (card_found old.card) (comparisons old.card.facts) (card_found new.card)
-    (comparisons new.card.facts)
+    ComparesAsked (asked command) (card_found old.card) (comparisons old.card.facts) (found new.words)
+    (comparisons new)
 
 -- a reply to a block counts the PIN comparison of the command that it runs; nothing is stated without a command
 abbrev pub BlockCounts : Powered → Reaction → Powered → Type 0
@@ -74,7 +76,8 @@ BlockCounts old (runs command) new =
     CountsAnswered (asked command) (card_found old.card) old.card.session old.card.facts new.card.facts
 
 -- The reply of the link, without power loss and fault of the board. If a command runs, card, session and answer are
--- those of one step of the card model. An answered PIN command made one comparison.
+-- those of one step of the card model. An answered PIN command made one comparison. A block without a PIN command
+-- makes none, and a block that changes nothing permanent writes nothing.
 pub record Replies (old : Powered) (got : List ℕ) (new : Powered) (out : List ℕ) : Type 0 where
   pub power : Steady old.card.facts new.card.facts
   pub state : new.card.state ≡ Working
@@ -86,6 +89,8 @@ pub record Replies (old : Powered) (got : List ℕ) (new : Powered) (out : List 
   pub block : out
       ≡ reply_bytes (block_answered old.link got (λ command. answer_bytes (machine old command).response)).reaction
   pub counted : BlockCounts old (link_step old.link got).reaction new
+  pub compares : BlockCompares old (link_step old.link got).reaction new.card.facts
+  pub idle : BlockChangesNothing old (link_step old.link got).reaction → KeepsBoard old.card.facts new.card.facts
 
 -- The reply of a card whose memory has failed: each command is answered with 6581.
 pub record RepliesFailure (old : Powered) (got : List ℕ) (new : Powered) (out : List ℕ) : Type 0 where

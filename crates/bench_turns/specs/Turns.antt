@@ -2,6 +2,7 @@
 use Rattle.std.specs.Prelude.{◌≡◌, ◌⊎◌, ◌≤◌, ◌+◌, ℕ, if◌then◌else◌, List, [], ◌∷◌}
 use Rattle.nvm_board.specs.Aims.{KeepsAim, WritesRuns}
 use Rattle.nvm_board.specs.Facts.{Facts, IsWorn, IsWornOut, RisesAt}
+use Rattle.undo_journal.specs.Spending.{KeepsBoard}
 use Rattle.undo_journal.specs.declared.layout.TheConstants.{PAIRS}
 use Rattle.command_base.specs.declared.spending.TheConstants.{COMMAND_WRITES}
 use Rattle.nvm_board.specs.declared.board.TheConstants.{MOST_PAGES}
@@ -15,7 +16,8 @@ use Rattle.bench_turns.specs.declared.turn.Turn.TheVariants as turn
 use Rattle.bench_turns.specs.declared.turn.Item.{Item}
 use Rattle.bench_turns.specs.declared.turn.Item.TheVariants.{Atr, Quiet, Mute, Dark, Reply}
 use Rattle.bench_turns.specs.BenchStates.{BenchState, off, on, bench_card, bench_facts, IsFresh, IsOff, switched_off}
-use Rattle.bench_turns.specs.CardBlocks.{Powered, Replies, IsRun, BlockStands, IsBlockStage}
+use Rattle.bench_turns.specs.CardBlocks.{Powered, Replies, IsRun, BlockChangesNothing, BlockCompares, BlockStands}
+use Rattle.bench_turns.specs.CardBlocks.{IsBlockStage}
 use Rattle.bench_turns.specs.Guessing.{GuessesFew}
 
 -- Power-on makes exactly the device writes of the rollback and of the migration to format 2.
@@ -66,12 +68,15 @@ GoesOnWith old got (off facts) out = ⊥
 GoesOnWith old got (on new) out = Replies old got new out
 
 -- Power was lost while a command ran. The card state after recovery is one of its stages, and the words written so far
--- determine which one.
+-- determine which one. Only a PIN command makes a comparison. If the command changes nothing permanent, nothing was
+-- written.
 pub record TurnIsCut (old : Powered) (got : List ℕ) (new : BenchState) : Type 0 where
   pub power : IsOff new
   pub run : IsRun (link_step old.link got).reaction
   pub stage : IsBlockStage old (link_step old.link got).reaction (bench_card new)
   pub word : BlockStands old (link_step old.link got).reaction (bench_facts new).words
+  pub compares : BlockCompares old (link_step old.link got).reaction (bench_facts new)
+  pub idle : BlockChangesNothing old (link_step old.link got).reaction → KeepsBoard old.card.facts (bench_facts new)
 
 -- A block with power on: the card replies, or power is lost.
 abbrev pub Hears : Powered → List ℕ → Item → BenchState → Type 0

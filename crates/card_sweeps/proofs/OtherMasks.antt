@@ -5,8 +5,9 @@ use Rattle.std.proofs.Common.{◌∙◌, ap, inl, inr, refl, subst, sym}
 use Rattle.std.proofs.Math.Logic.{⊎_map}
 use Rattle.card_state.specs.declared.status.Sw.{Sw}
 use Rattle.nvm_board.specs.declared.board.Arm.{Arm}
-use Rattle.nvm_board.specs.Aims.{Aim, KeepsAim, aim, due_of}
+use Rattle.nvm_board.specs.Aims.{Aim, AimStays, KeepsAim, aim, due_of}
 use Rattle.nvm_board.specs.Facts.{Facts}
+use Rattle.undo_journal.specs.Spending.{KeepsBoard}
 use Rattle.card_model.specs.Behaviours.{Attempt}
 use Rattle.card_model.specs.Cards.{Card}
 use Rattle.card_model.specs.CommandTable.{asked}
@@ -21,7 +22,8 @@ use Rattle.bench_turns.specs.declared.turn.Turn.{Turn}
 use Rattle.bench_turns.specs.declared.turn.Item.{Item}
 use Rattle.bench_turns.specs.declared.turn.Item.TheVariants.{Atr, Quiet, Mute, Dark, Reply}
 use Rattle.bench_turns.specs.BenchStates.{BenchState, off, on, bench_facts, with_facts, IsArmed}
-use Rattle.bench_turns.specs.CardBlocks.{BlockCounts, BlockStands, IsBlockStage, Powered, Replies}
+use Rattle.bench_turns.specs.CardBlocks.{BlockChangesNothing, BlockCompares, BlockCounts, BlockStands, IsBlockStage}
+use Rattle.bench_turns.specs.CardBlocks.{Powered, Replies}
 use Rattle.bench_turns.specs.Guessing.{GuessesFew}
 use Rattle.bench_turns.specs.Plays.{IsGood}
 use Rattle.bench_turns.specs.Turns.{GoodBlock, Spends, TakesBlock, TurnIsCut, Wears, dark_of}
@@ -94,6 +96,24 @@ keeps-masked mask old new (inr fell) = inr (record {
       (sym (aim-masked mask old)) (there-masked mask new.writes (aim old) fell.there);
 })
 
+-- a board that is unchanged is unchanged with another mask
+stays-masked : (mask : ℕ) (old new : Facts) → AimStays old new → AimStays (masked mask old) (masked mask new)
+stays-masked mask old new stays = record {
+  off = λ off. ap (masked mask) (stays.off off);
+  aim = aim-masked mask new ∙ ap (aim_masked mask) stays.aim ∙ sym (aim-masked mask old);
+  more = stays.more;
+  log = stays.log;
+}
+
+board-masked : (mask : ℕ) (old new : Facts) → KeepsBoard old new → KeepsBoard (masked mask old) (masked mask new)
+board-masked mask old new kept = record {
+  cut = stays-masked mask old new kept.cut;
+  words = kept.words;
+  writes = kept.writes;
+  compares = kept.compares;
+  matches = kept.matches;
+}
+
 spends-masked : (mask lost : ℕ) (old new : Facts) → Spends lost old new
     → Spends lost (masked mask old) (masked mask new)
 spends-masked mask lost old new s = record {
@@ -125,6 +145,18 @@ counts-masked mask old new (replies block) counts = counts
 counts-masked mask old new (runs command) counts =
     answered-masked mask (asked command) (card_found old.card) old.card.session old.card.facts new.card.facts counts
 
+compares-masked : (mask : ℕ) (old : Powered) (r : Reaction) (new : Facts) → BlockCompares old r new
+    → BlockCompares (powered_masked mask old) r (masked mask new)
+compares-masked mask old (replies block) new compares = compares
+compares-masked mask old (runs command) new compares = compares
+
+idle-masked : (mask : ℕ) (old : Powered) (r : Reaction) (new : Facts)
+    → (BlockChangesNothing old r → KeepsBoard old.card.facts new)
+    → BlockChangesNothing (powered_masked mask old) r
+    → KeepsBoard (powered_masked mask old).card.facts (masked mask new)
+idle-masked mask old (replies block) new idle nothing = board-masked mask old.card.facts new (idle nothing)
+idle-masked mask old (runs command) new idle nothing = board-masked mask old.card.facts new (idle nothing)
+
 stage-masked : (mask : ℕ) (old : Powered) (r : Reaction) (c : Card) → IsBlockStage old r c
     → IsBlockStage (powered_masked mask old) r c
 stage-masked mask old (replies block) c stage = stage
@@ -151,6 +183,8 @@ replies-masked mask old new got out r = record {
   link = r.link;
   block = r.block;
   counted = counts-masked mask old new (link_step old.link got).reaction r.counted;
+  compares = compares-masked mask old (link_step old.link got).reaction new.card.facts r.compares;
+  idle = idle-masked mask old (link_step old.link got).reaction new.card.facts r.idle;
 }
 
 cut-masked : (mask : ℕ) (old : Powered) (got : List ℕ) (new : BenchState) → TurnIsCut old got new
@@ -160,6 +194,8 @@ cut-masked mask old got (off f) cut = record {
   run = cut.run;
   stage = stage-masked mask old (link_step old.link got).reaction _ cut.stage;
   word = stands-masked mask old (link_step old.link got).reaction _ cut.word;
+  compares = compares-masked mask old (link_step old.link got).reaction f cut.compares;
+  idle = idle-masked mask old (link_step old.link got).reaction f cut.idle;
 }
 cut-masked mask old got (on p) cut = absurd cut.power
 

@@ -120,7 +120,7 @@ impl<B: Board> Powered<B> {
         // The write counter never decreases, and a set power cut falls into the write that it was set for.
         ensures advances { Advances self.old.card.facts self.new.card.facts }
         // A comparison permanently uses up a try. Only commands on PINs with data make one.
-        ensures compares { BlockCompares self.old (link_step self.old.link got.now).reaction self.new }
+        ensures compares { BlockCompares self.old (link_step self.old.link got.now).reaction self.new.card.facts }
     {
         out.clear();
         if let CardState::Dark = self.card.state() {

@@ -1,14 +1,11 @@
 use Rattle.undo_journal.specs.Spending.{Advances, KeepsBoard}
-use Rattle.nvm_board.specs.Facts.{Facts}
-use Rattle.nvm_board.specs.laws.Aims.{aim_same}
 use Rattle.undo_journal.specs.laws.Calls.{advances_kept}
 use Rattle.undo_journal.specs.laws.Exits.{none_ok}
-use Rattle.std.specs.Prelude.{◌≡◌, ◌⊎◌, ◌≢◌, ◌≤◌, ◌+◌, ℕ, List, [], Option, Some, None, unwrap_or}
+use Rattle.std.specs.Prelude.{◌≡◌, ◌⊎◌, ◌≢◌, ◌≤◌, ◌+◌, ℕ, List, [], Option, Some, unwrap_or}
 use Rattle.std.proofs.Common.{rules, arith, true, inl, inr, ap, sym, refl, subst, ◌∙◌}
 use Rattle.card_start.specs.declared.state.CardState.TheVariants.{Working, Failed, Dark}
 use Rattle.card_model.specs.CommandTable.{asked}
 use Rattle.card_model.specs.laws.StageLaws.{stage_first}
-use Rattle.t1_link.specs.Blocks.{Block}
 use Rattle.t1_link.specs.CardTable.{answers, reply_bytes, waiting_command, link_step, CardLink, Link, Reaction}
 use Rattle.t1_link.specs.CardTable.{replies, runs}
 use Rattle.command_base.specs.Finding.{HasCard}
@@ -19,12 +16,12 @@ use Rattle.command_base.specs.laws.CompareLaws.{asked-none}
 use Rattle.bench_turns.specs.CardBlocks.{BlockChangesNothing, BlockCompares, BlockStands, BlockFails, IsBlockStage}
 use Rattle.bench_turns.specs.CardBlocks.{BlockIsCut, IsRun}
 use Rattle.bench_turns.specs.CardBlocks.{Powered, Replies}
-use Rattle.bench_turns.proofs.BlockRuns.{cut-at, of-run, run-replies}
+use Rattle.bench_turns.proofs.BlockRuns.{cut-at, kept-board, of-reply, of-run, run-replies, silent-replies}
 use Rattle.bench_turns.proofs.CardStates.{on_err, works_if_cut}
 use Rattle.card_turns.proofs.powered.Powered.block.Goals as goal
 
 -- a card that stays compared nothing
-kept-compares : (p : Powered) (reaction : Reaction) → BlockCompares p reaction p
+kept-compares : (p : Powered) (reaction : Reaction) → BlockCompares p reaction p.card.facts
 kept-compares p (replies block) = refl
 kept-compares p (runs command) =
     asked-none (asked command) (card_found p.card) (comparisons p.card.facts) (card_found p.card)
@@ -38,7 +35,7 @@ returns-in-Dark-clause-compares g c =
 run-compares : (p new : Powered) (reaction : Reaction) (bytes : List ℕ) → waiting_command reaction ≡ Some bytes
     → ComparesAsked (asked bytes) (card_found p.card) (comparisons p.card.facts) (card_found new.card)
     (comparisons new.card.facts)
-    → BlockCompares p reaction new
+    → BlockCompares p reaction new.card.facts
 run-compares p new (replies block) bytes waits compares = cc
 run-compares p new (runs command) bytes waits compares =
     subst (λ (o : Option (List ℕ)). ComparesAsked (asked (unwrap_or o [])) (card_found p.card)
@@ -48,7 +45,7 @@ pub returns-in_err-command-in-Run-clause-compares : goal.returns-in_err-command-
 returns-in_err-command-in-Run-clause-compares g c =
     let new : Powered = record { card = c.command-in-Run.new.self; link = c.take.new.self.link } in
     let waits = ap (λ (e : CardLink). e.waiting) (sym c.take.ensures.state) ∙ c.command.ensures in
-    subst (λ (p : Powered). BlockCompares p (link_step p.link c.args.got.now).reaction new) c.self.view_is
+    subst (λ (p : Powered). BlockCompares p (link_step p.link c.args.got.now).reaction new.card.facts) c.self.view_is
     (run-compares (record { card = c.self.inside.card; link = c.self.inside.link.link }) new
     (link_step c.self.inside.link.link c.args.got.now).reaction c.command.result.now waits
     c.command-in-Run.ensures.compares)
@@ -110,7 +107,7 @@ pub returns-in_ok-command-in-Run-clause-compares : goal.returns-in_ok-command-in
 returns-in_ok-command-in-Run-clause-compares g c =
     let new : Powered = record { card = c.command-in-Run.new.self; link = c.answer.new.self.link } in
     let waits = ap (λ (e : CardLink). e.waiting) (sym c.take.ensures.state) ∙ c.command.ensures in
-    subst (λ (p : Powered). BlockCompares p (link_step p.link c.args.got.now).reaction new) c.self.view_is
+    subst (λ (p : Powered). BlockCompares p (link_step p.link c.args.got.now).reaction new.card.facts) c.self.view_is
     (run-compares (record { card = c.self.inside.card; link = c.self.inside.link.link }) new
     (link_step c.self.inside.link.link c.args.got.now).reaction c.command.result.now waits
     c.command-in-Run.ensures.compares)
@@ -128,7 +125,19 @@ returns-in_ok-command-in-Run-clause-replies g c =
     let block = c.answer.ensures.block ∙ ap (λ (l : Link). reply_bytes (answers l bytes).reaction) taken in
     subst (λ (p : Powered). p.card.state ≡ Working → Replies p got new out ⊎ BlockFails p got new out) c.self.view_is
     (λ works. run-replies old new got c.command.result.now bytes out waits link block
-    (c.in_ok-command-in-Run.ensures.done works))
+    (c.in_ok-command-in-Run.ensures.done works) c.command-in-Run.ensures.compares c.command-in-Run.ensures.idle)
+
+pub returns-in-Reply-clause-replies : goal.returns-in-Reply-clause-replies
+returns-in-Reply-clause-replies g c =
+    let old : Powered = record { card = c.self.inside.card; link = c.self.inside.link.link } in
+    let new : Powered = record { card = c.self.inside.card; link = c.take.new.self.link } in
+    let got = c.args.got.now in
+    let out = c.take.new.out in
+    let silent = ap (λ (e : CardLink). e.waiting) (sym c.take.ensures.state) ∙ c.take.ensures.replied c.in-Reply.is in
+    let link = ap (λ (e : CardLink). e.link) c.take.ensures.state in
+    subst (λ (p : Powered). p.card.state ≡ Working → Replies p got new out ⊎ BlockFails p got new out) c.self.view_is
+    (λ works. inl (silent-replies old c.take.new.self.link got out silent works (c.state.ensures.lit works) link
+    c.take.ensures.block))
 
 pub returns-in-Reply-clause-lost : goal.returns-in-Reply-clause-lost
 returns-in-Reply-clause-lost g c = tt
@@ -228,9 +237,6 @@ kept-stage : (p : Powered) (reaction : Reaction) → IsBlockStage p reaction (ca
 kept-stage p (replies block) = refl
 kept-stage p (runs command) = stage_first (card_found p.card) p.card.session command (card_found p.card) refl
 
-kept-board : (f : Facts) → KeepsBoard f f
-kept-board f = record { cut = aim_same f; words = refl; writes = refl; compares = refl; matches = refl }
-
 pub returns-in-Dark-clause-stage : goal.returns-in-Dark-clause-stage
 returns-in-Dark-clause-stage g c =
     kept-stage c.args.self.now (link_step c.args.self.now.link c.args.got.now).reaction
@@ -264,12 +270,6 @@ returns-in-Dark-clause-idle g c = λ nothing. kept-board _
 pub returns-in-Dark-clause-advances : goal.returns-in-Dark-clause-advances
 returns-in-Dark-clause-advances g c = advances_kept _ _ (kept-board _)
 
--- a fact of the reaction that replies, where no command waits
-of-reply : (P : Reaction → Type 0) (reaction : Reaction) → waiting_command reaction ≡ None
-    → ((block : Block) → P (replies block)) → P reaction
-of-reply P (replies block) none holds = holds block
-of-reply P (runs command) none holds = absurd cc
-
 pub returns-in-Reply-clause-stage : goal.returns-in-Reply-clause-stage
 returns-in-Reply-clause-stage g c =
     let old : Powered = record { card = c.self.inside.card; link = c.self.inside.link.link } in
@@ -302,8 +302,8 @@ returns-in-Reply-clause-compares g c =
     let old : Powered = record { card = c.self.inside.card; link = c.self.inside.link.link } in
     let silent = ap (λ (e : CardLink). e.waiting) (sym c.take.ensures.state) ∙ c.take.ensures.replied c.in-Reply.is in
     let new : Powered = record { card = c.self.inside.card; link = c.take.new.self.link } in
-    subst (λ (p : Powered). BlockCompares p (link_step p.link c.args.got.now).reaction new) c.self.view_is
-    (of-reply (λ (r : Reaction). BlockCompares old r new) (link_step old.link c.args.got.now).reaction silent
+    subst (λ (p : Powered). BlockCompares p (link_step p.link c.args.got.now).reaction new.card.facts) c.self.view_is
+    (of-reply (λ (r : Reaction). BlockCompares old r new.card.facts) (link_step old.link c.args.got.now).reaction silent
     (λ block. refl))
 
 pub returns-in_ok-command-in-Run-clause-unrun : goal.returns-in_ok-command-in-Run-clause-unrun
