@@ -1,5 +1,6 @@
 pub mod TallyLemmas
 pub mod CompleteSweeps
+pub mod FirstRuns
 pub mod SweepLemmas
 pub mod StageLemmas
 pub mod SparedLemmas

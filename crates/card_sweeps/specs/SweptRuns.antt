@@ -35,6 +35,15 @@ unfoldable pub InTurn : (ℕ → List Finding → Type 0) → ℕ → List Findi
 InTurn Part zero all = all ≡ []
 InTurn Part (suc n) all = (before part : List Finding) × InTurn Part n before × Part n part × (all ≡ before ++ part)
 
+-- the first findings, in order: those of whole parts, and the first of the next part
+pub record BeginsInTurn (Part First : ℕ → List Finding → Type 0) (all : List Finding) : Type 0 where
+  pub parts : ℕ
+  pub before : List Finding
+  pub last : List Finding
+  pub each : InTurn Part parts before
+  pub begun : First parts last
+  pub all_are : all ≡ before ++ last
+
 -- One run: power-on and the probe on this board.
 pub record IsOneLook (probe : List Turn) (board : Facts) (all : List Finding) : Type 0 where
   pub given : Finding
@@ -61,6 +70,12 @@ AreAllBehind zero probe board all = IsOneLook probe board all
 AreAllBehind (suc depth) probe board all =
     (SparesStart 1 0 board × IsOneLook probe board all) ⊎ AreBehindStart (AreAllBehind depth probe) board all
 
+-- The first runs after a cut, in order. (There may be none.)
+unfoldable pub AreFirstBehind : ℕ → List Turn → Facts → List Finding → Type 0
+AreFirstBehind zero probe board all = all ≡ []
+AreFirstBehind (suc depth) probe board all = (all ≡ []) ⊎ BeginsInTurn
+    (AreBehindCut (AreAllBehind depth probe) board) (AreBehindCut (AreFirstBehind depth probe) board) all
+
 -- The runs after a cut of the command at this write with mask number i, counted from 0. The board after the first mask
 -- reports the number of words of its torn write, which gives the masks to try. `facts` and `torn` are the facts of a
 -- board, and the number of words of its last torn write.
@@ -72,6 +87,15 @@ pub record AreOfMask {B : Type 0} (facts : B → Facts) (torn : B
   pub words_told : i ≡ 0 → words ≡ words_tried (torn left)
   pub behind : AreAllBehind depth probe (facts left) all
 
+-- The first runs after such a cut.
+pub record AreFirstOfMask {B : Type 0} (facts : B → Facts) (torn : B
+    → ℕ) (board : Facts) (prepare : List Turn) (command : List ℕ) (probe : List Turn)
+    (depth number words i : ℕ) (all : List Finding) : Type 0 where
+  pub left : B
+  pub cut : CutsCommand number (mask_of words i) board prepare command (facts left)
+  pub words_told : i ≡ 0 → words ≡ words_tried (torn left)
+  pub behind : AreFirstBehind depth probe (facts left) all
+
 -- The command is cut at this write with each mask, for the number of words that the board reports.
 pub record AreOfWrite {B : Type 0} (facts : B → Facts) (torn : B → ℕ) (board : Facts) (prepare : List Turn)
     (command : List ℕ) (probe : List Turn) (depth number : ℕ) (all : List Finding) : Type 0 where
@@ -79,6 +103,16 @@ pub record AreOfWrite {B : Type 0} (facts : B → Facts) (torn : B → ℕ) (boa
   pub some : 1 ≤ words
   pub fit : words ≤ 16
   pub each : InTurn (AreOfMask facts torn board prepare command probe depth number words) (mask_count_of words) all
+
+-- The first runs of such a write, with the masks up to one of them.
+pub record AreFirstOfWrite {B : Type 0} (facts : B → Facts) (torn : B → ℕ) (board : Facts) (prepare : List Turn)
+    (command : List ℕ) (probe : List Turn) (depth number : ℕ) (all : List Finding) : Type 0 where
+  pub words : ℕ
+  pub some : 1 ≤ words
+  pub fit : words ≤ 16
+  pub begun : BeginsInTurn (AreOfMask facts torn board prepare command probe depth number words)
+      (AreFirstOfMask facts torn board prepare command probe depth number words) all
+  pub few : begun.parts < mask_count_of words
 
 -- The command doesn't make this write. A cut with one of the masks shows this, and no further mask is tried.
 pub record AreOfUnmadeWrite {B : Type 0} (facts : B → Facts) (torn : B → ℕ) (board : Facts) (prepare : List Turn)
@@ -99,3 +133,10 @@ pub record AreAllRuns {B : Type 0} (facts : B → Facts) (torn : B → ℕ) (boa
   pub done : AreOfUnmadeWrite facts torn board prepare command probe depth (writes + 1) last ⊎ ((writes ≡ 2 ^ 32 - 1)
       × (last ≡ []))
   pub all_are : all ≡ before ++ last
+
+-- The first runs of a sweep, in order.
+abbrev pub AreFirstRuns : {B : Type 0} → (B → Facts) → (B → ℕ) → Facts → List Turn → List ℕ → List Turn → ℕ
+    → List Finding → Type 0
+AreFirstRuns facts torn board prepare command probe depth all =
+    BeginsInTurn (λ n. AreOfWrite facts torn board prepare command probe depth (n + 1))
+    (λ n. AreFirstOfWrite facts torn board prepare command probe depth (n + 1)) all

@@ -1,6 +1,6 @@
 -- Findings of runs, and the number of runs with each.
-use Rattle.std.specs.Prelude.{◌≡◌, ◌≢◌, ◌≤◌, ◌+◌, ◌⊎◌, ℕ, List, [], ◌∷◌, ◌++◌, Some, map, sum_by, slice_get, slice_set}
-use Rattle.std.specs.Prelude.{All, AllPairs}
+use Rattle.std.specs.Prelude.{◌≡◌, ◌≢◌, ◌≤◌, ◌+◌, ◌-◌, ◌^◌, ◌⊎◌, ℕ, List, [], ◌∷◌, ◌++◌, Some, map, sum_by}
+use Rattle.std.specs.Prelude.{All, AllPairs, slice_get, slice_set}
 use Rattle.card_state.specs.declared.space.FreeSpace.{FreeSpace}
 use Rattle.bench_turns.specs.declared.turn.Item.{Item}
 use Rattle.card_sweeps.specs.declared.tally.Seen.{Seen}
@@ -66,3 +66,7 @@ pub record CountsRuns (Are : List Finding → Type 0) (old new : List Seen) : Ty
   pub runs : List Finding
   pub are : Are runs
   pub each : CountsEach runs old new
+
+-- Runs were counted in order: all of them, or at the greatest count the first of them.
+abbrev pub CountsToFull : (Are First : List Finding → Type 0) → ℕ → List Seen → Type 0
+CountsToFull Are First runs seen = CountsRuns Are [] seen ⊎ ((runs ≡ 2 ^ 32 - 1) × CountsRuns First [] seen)

@@ -6,10 +6,12 @@ ghost use Rattle.command_base.specs.Finding.{HasCard};
 ghost use Rattle.bench_turns.specs.Plays.{IsGood};
 ghost use Rattle.bench_turns.specs.BenchStates.{IsWell, bench_facts};
 ghost use Rattle.bench_turns.specs.Turns.{Runs};
-ghost use Rattle.card_sweeps.specs.Tallies.{findings, times_seen, CountsRuns};
+ghost use Rattle.card_sweeps.specs.Tallies.{findings, times_seen, CountsToFull};
 ghost use Rattle.card_sweeps.specs.declared.sweeping.Stop.TheVariants.{Memory};
-ghost use Rattle.card_sweeps.specs.PlanParts.{board_of, AreAll, AreAtWrite, IsGivenBy, Sweeps};
-ghost use Rattle.card_sweeps.specs.SweptRuns.{IsUnmade, IsOneLook, AreAllBehind, AreAllRuns};
+ghost use Rattle.card_sweeps.specs.PlanParts.{board_of, AreAll, AreAtWrite, AreFirst, AreFirstAtWrite, IsGivenBy};
+ghost use Rattle.card_sweeps.specs.PlanParts.{Sweeps};
+ghost use Rattle.card_sweeps.specs.SweptRuns.{IsUnmade, IsOneLook, AreAllBehind, AreAllRuns, AreFirstBehind};
+ghost use Rattle.card_sweeps.specs.SweptRuns.{AreFirstRuns};
 ghost use Rattle.card_sweeps.specs.Sweeps.{CutsCommand, CutsStart, SparesStart, EndsIn, EndsBehindStarts};
 ghost use Rattle.card_sweeps.specs.Sweeps.{GivenByRun, PlaysOn, free_of};
 
@@ -73,9 +75,10 @@ where
     ensures runs { IfOk result (λ s. HasCard (P.Board.facts board.now).words
         → All (GivenByRun (P.Board.facts board.now) prepare.now command.now probe.now depth) (findings s.seen.items)) }
     // The tally is that of the possible runs, in order. docs/SWEEP.md says what is open.
-    ensures complete { IfOk result (λ s. HasCard (P.Board.facts board.now).words → s.runs < 2 ^ 32 - 1
-        → CountsRuns (AreAllRuns P.Board.facts P.Board.torn (P.Board.facts board.now) prepare.now command.now probe.now
-        depth) [] s.seen.items) }
+    ensures complete { IfOk result (λ s. HasCard (P.Board.facts board.now).words → CountsToFull
+        (AreAllRuns P.Board.facts P.Board.torn (P.Board.facts board.now) prepare.now command.now probe.now depth)
+        (AreFirstRuns P.Board.facts P.Board.torn (P.Board.facts board.now) prepare.now command.now probe.now depth)
+        s.runs s.seen.items) }
 {
     let mut sweep = Sweep::new(alloc);
     let plan = Plan {
@@ -140,8 +143,9 @@ where
     ensures sum { IfOk result (λ s. sum_by times_seen s.seen.items ≡ s.runs) }
     ensures runs { IfOk result (λ s. HasCard (P.Board.facts board.now).words
         → All (EndsBehindStarts depth (P.Board.facts board.now) probe.now) (findings s.seen.items)) }
-    ensures complete { IfOk result (λ s. HasCard (P.Board.facts board.now).words → s.runs < 2 ^ 32 - 1
-        → CountsRuns (AreAllBehind depth probe.now (P.Board.facts board.now)) [] s.seen.items) }
+    ensures complete { IfOk result (λ s. HasCard (P.Board.facts board.now).words
+        → CountsToFull (AreAllBehind depth probe.now (P.Board.facts board.now))
+        (AreFirstBehind depth probe.now (P.Board.facts board.now)) s.runs s.seen.items) }
 {
     let mut sweep = Sweep::new(alloc);
     match cut_starts::<P>(alloc, board, probe, depth, &mut sweep) {
@@ -178,7 +182,7 @@ fn cut_command<P: TurnPlayer + Drop>(
 where
     P::Board: Sweepable + Drop,
     ensures { Sweeps (board_of P.Board.facts plan.now).words (IsGivenBy P.Board.facts plan.now)
-        (λ _. AreAll P.Board.facts P.Board.torn plan.now)
+        (λ _. AreAll P.Board.facts P.Board.torn plan.now) (AreFirst P.Board.facts P.Board.torn plan.now)
         sweep.old sweep.new result }
 {
     for whole in 0..u32::MAX {
@@ -200,7 +204,7 @@ where
     P::Board: Sweepable + Drop,
     requires { 1 ≤ k }
     ensures { Sweeps (board_of P.Board.facts plan.now).words (IsGivenBy P.Board.facts plan.now)
-        (AreAtWrite P.Board.facts P.Board.torn plan.now k)
+        (AreAtWrite P.Board.facts P.Board.torn plan.now k) (AreFirstAtWrite P.Board.facts P.Board.torn plan.now k)
         sweep.old sweep.new result }
 {
     let Some(torn) = command_cut::<P>(plan, k, 0)? else {
@@ -265,7 +269,8 @@ fn cut_starts<P: TurnPlayer + Drop>(
 where
     P::Board: Sweepable + Drop,
     ensures { Sweeps (P.Board.facts board.now).words (EndsBehindStarts depth (P.Board.facts board.now) probe.now)
-        (λ _. AreAllBehind depth probe.now (P.Board.facts board.now)) sweep.old sweep.new result }
+        (λ _. AreAllBehind depth probe.now (P.Board.facts board.now))
+        (AreFirstBehind depth probe.now (P.Board.facts board.now)) sweep.old sweep.new result }
 {
     if depth == 0 {
         return look::<P>(alloc, board, probe, sweep);
@@ -317,7 +322,7 @@ fn look<P: TurnPlayer + Drop>(
 where
     P::Board: Sweepable + Drop,
     ensures { Sweeps (P.Board.facts board.now).words (EndsIn (P.Board.facts board.now) probe.now)
-        (λ _. IsOneLook probe.now (P.Board.facts board.now)) sweep.old sweep.new result }
+        (λ _. IsOneLook probe.now (P.Board.facts board.now)) (λ all. all ≡ []) sweep.old sweep.new result }
 {
     if sweep.is_full() {
         return Err(Stop::Full);

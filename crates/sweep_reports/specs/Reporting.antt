@@ -8,8 +8,8 @@ use Rattle.bench_turns.specs.declared.turn.Item.{Item}
 use Rattle.card_sweeps.specs.declared.tally.Seen.{Seen}
 use Rattle.card_sweeps.specs.Masks.{mask_of, mask_count_of, words_tried}
 use Rattle.card_sweeps.specs.Sweeps.{CutsCommand, EndsBehindStarts, PlaysOn}
-use Rattle.card_sweeps.specs.SweptRuns.{AreAllBehind, IsUnmade}
-use Rattle.card_sweeps.specs.Tallies.{CountsRuns, IsTally, findings}
+use Rattle.card_sweeps.specs.SweptRuns.{AreAllBehind, AreFirstBehind, IsUnmade}
+use Rattle.card_sweeps.specs.Tallies.{CountsToFull, IsTally, findings}
 use Rattle.sweep_reports.specs.declared.device_writes.DeviceWrite.{DeviceWrite}
 use Rattle.sweep_scripts.specs.declared.parts.SweepPart.{SweepPart}
 use Rattle.sweep_scripts.specs.declared.script.SweepScript.{SweepScript}
@@ -32,16 +32,16 @@ pub record Sweeping {B : Type 0} (facts : B → Facts) (torn : B → ℕ) : Type
   pub depth : ℕ
   pub part : SweepPart
 
--- The results of all runs after a cut that left this board, each with the number of its runs. At the end of that count
--- the sweep stops. Each result is that of a run. A line begins with the head, and has the answer of each line of the
--- probe, by its number of turns.
+-- The results of all runs after a cut that left this board, each with the number of its runs. At the greatest count they
+-- are those of the first runs. Each line begins with the head, and has the answer of each line of the probe, by its
+-- number of turns.
 pub record AreResults (looks head : List ℕ) (depth : ℕ) (probe : List Turn) (board : Facts) (text : List ℕ) : Type 0
   where
     pub runs : ℕ
     pub seen : List Seen
     pub tally : IsTally runs seen
     pub given : All (EndsBehindStarts depth board probe) (findings seen)
-    pub all : runs < 2 ^ 32 - 1 → CountsRuns (AreAllBehind depth probe board) [] seen
+    pub all : CountsToFull (AreAllBehind depth probe board) (AreFirstBehind depth probe board) runs seen
     pub text_is : text ≡ results_text looks head seen
 
 -- a cut at this device write of `words` words, with mask number i, counted from 0

@@ -1,9 +1,10 @@
 use Rattle.std.proofs.Common.{◌≡◌, ◌<◌, ◌≤◌, ◌+◌, ◌-◌, ◌/◌, ◌%◌, ◌^◌, inl, inr, arith, rules}
-use Rattle.std.proofs.lemmas.Result.{IfOk-weaker}
+use Rattle.std.proofs.lemmas.Result.{IfErr-weaker, IfOk-weaker}
 use Rattle.card_sweeps.proofs.TallyLemmas.{adds-none, adds-on, adds-weaker}
 use Rattle.card_sweeps.proofs.SweepLemmas.{behind_none, behind_whole, behind_more}
 use Rattle.card_sweeps.proofs.CompleteSweeps.{are-behind-none, counts-none, counts-weaker, counts-cut}
 use Rattle.card_sweeps.proofs.CompleteSweeps.{counts-whole, counts-swept}
+use Rattle.card_sweeps.proofs.FirstRuns.{first-behind-none, first-cut, first-whole-none, full-passed}
 use Rattle.card_sweeps.proofs.sweeping.+cut_starts.Goals as goal
 
 pub loop-i-init : goal.loop-i-init
@@ -28,7 +29,10 @@ returns-then-depth-eq0 g t c = record {
   complete = IfOk-weaker c.look.result _ _
       (λ _ complete card. counts-weaker _ _ _ _ (λ all one. are-behind-none _ _ _ all c.if-depth-eq0.true one)
       (complete card)) c.look.ensures.complete;
-  full = search rules;
+  full = IfErr-weaker c.look.result _ _
+      (λ _ stopped full.
+      let was = stopped full in
+      (was.0, λ card. first-behind-none _ _ _ _ _ (was.1 card))) c.look.ensures.full;
 }
 
 pub returns-in_err-cut : goal.returns-in_err-cut
@@ -53,7 +57,11 @@ returns-then-i-eq0 g t c = record {
       (λ _ complete card. counts-whole _ _ _ _ _ _ _ _ more c.if-i-eq0.true (whole card)
       (c.loop-i.invariant.counted card)
       (complete card)) c.look-then-i-eq0.ensures.complete;
-  full = search rules;
+  full = IfErr-weaker c.look-then-i-eq0.result _ _
+      (λ _ stopped full.
+      let was = stopped full in
+      (was.0, λ card. first-whole-none _ _ _ _ _ _ _ _ c.if-i-eq0.true (c.loop-i.invariant.counted card)
+      (was.1 card))) c.look-then-i-eq0.ensures.full;
 }
 
 pub returns-else-i-eq0 : goal.returns-else-i-eq0
@@ -76,7 +84,11 @@ returns-in_err-cut_starts g t c = record {
       (adds-weaker _ _ _ _ (λ given rest. behind_more _ _ _ _ _ _ _ more (cut card) rest)
       (c.cut_starts.ensures.given (cut card).has_card));
   complete = search rules;
-  full = search rules;
+  full = let cut = rw c.in-Some.is at c.in_ok-cut.ensures.cut in
+      let more : 0 < c.args.depth = omega arith in
+      full-passed c.from_residual-in_err-cut_starts.result _ _ _ c.from_residual-in_err-cut_starts.ensures.1
+      (λ was. (was.0, λ card. first-cut _ _ _ _ _ _ _ _ more (c.loop-i.invariant.counted card) (cut card)
+      (was.1 (cut card).has_card))) c.in_err-cut_starts.ensures.full;
 }
 
 pub returns : goal.returns

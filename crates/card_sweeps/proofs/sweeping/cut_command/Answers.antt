@@ -1,6 +1,7 @@
 use Rattle.std.proofs.Common.{◌≡◌, ◌-◌, ◌^◌, arith, rules}
 use Rattle.card_sweeps.proofs.TallyLemmas.{adds-none, adds-on}
 use Rattle.card_sweeps.proofs.CompleteSweeps.{counts-none, counts-next, counts-command, counts-command-full}
+use Rattle.card_sweeps.proofs.FirstRuns.{first-in-turn, full-passed}
 use Rattle.card_sweeps.proofs.sweeping.cut_command.Goals as goal
 
 pub loop-whole-init : goal.loop-whole-init
@@ -18,7 +19,9 @@ returns-in_err-cut_write g c = record {
   given = λ card.
       adds-on _ _ _ _ (c.loop-whole.invariant.so_far card) (c.cut_write.ensures.given card);
   complete = search rules;
-  full = search rules;
+  full = full-passed c.from_residual.result _ _ _ c.from_residual.ensures.1
+      (λ was. (was.0, λ card. first-in-turn _ _ _ _ _ _ (c.loop-whole.invariant.counted card) (was.1 card)))
+      c.in_err-cut_write.ensures.full;
 }
 
 pub returns-then-not-branch : goal.returns-then-not-branch

@@ -5,6 +5,7 @@ use Rattle.card_sweeps.specs.PlanParts.{board_of}
 use Rattle.card_sweeps.proofs.TallyLemmas.{adds-none, adds-on, adds-weaker}
 use Rattle.card_sweeps.proofs.SweepLemmas.{given-by-run}
 use Rattle.card_sweeps.proofs.CompleteSweeps.{counts-none, counts-mask, counts-write, counts-last, mask-is, masks-some}
+use Rattle.card_sweeps.proofs.FirstRuns.{first-mask, full-passed}
 use Rattle.card_sweeps.proofs.sweeping.cut_write.Goals as goal
 
 pub loop-i-init : goal.loop-i-init
@@ -59,7 +60,13 @@ returns-in_err-cut_starts g c = record {
       adds-weaker _ _ _ _ (λ given rest. given-by-run _ _ _ _ _ _ _ _ _ (cut card) rest)
       (c.cut_starts.ensures.given (cut card).has_card);
   complete = search rules;
-  full = search rules;
+  full = let cut = rw c.in-Some.is at c.in_ok-torn.ensures.cut in
+      full-passed c.from_residual-in_err-cut_starts.result _ _ _ c.from_residual-in_err-cut_starts.ensures.1
+      (λ was. (was.0, λ card. first-mask g.P.Board.Board.facts g.P.Board.Sweepable.torn _ _
+      c.words_to_try-words.result 0 _ c.in-Some.torn _ _ _ _ _ _ c.words_to_try-words.ensures.some
+      c.words_to_try-words.ensures.fits (masks-some c.words_to_try-words.result)
+      (λ _. c.words_to_try-words.ensures.tried ∙ ap words_tried c.torn_words.ensures.last) (counts-none _ _)
+      (cut card) (was.1 (cut card).has_card))) c.in_err-cut_starts.ensures.full;
 }
 
 pub returns-in_err-torn-2 : goal.returns-in_err-torn-2
@@ -89,7 +96,21 @@ returns-in_err-cut_starts-2 g c = record {
       (adds-weaker _ _ _ _ (λ given rest. given-by-run _ _ _ _ _ _ _ _ _ (cut card) rest)
       (c.cut_starts-in-loop-i.ensures.given (cut card).has_card));
   complete = search rules;
-  full = search rules;
+  full = let words = c.words_to_try-words.result in
+      let cut = rw c.in-Some-2.is at c.in_ok-torn-2.ensures.cut in
+      let mask : c.mask_at.result ≡ mask_of words c.loop-i.i = mask-is words c.loop-i.i c.mask_at.result
+      c.mask_at.ensures.none c.mask_at.ensures.all c.mask_at.ensures.single in
+      let Cuts : ℕ → Type 0 = λ m. CutsCommand c.args.k m
+      (board_of g.P.Board.Board.facts c.args.plan.now) c.args.plan.now.prepare.now
+      c.args.plan.now.command.now (g.P.Board.Board.facts c.in-Some-2.torn) in
+      let later : c.loop-i.i ≡ 0 → words ≡ words_tried (g.P.Board.Sweepable.torn c.in-Some-2.torn) = λ first.
+      absurd (omega (arith, first)) in
+      let few : c.loop-i.i < mask_count_of words = omega (arith, c.loop-i-test.true, c.mask_count-i-end.ensures) in
+      full-passed c.from_residual-in_err-cut_starts-2.result _ _ _ c.from_residual-in_err-cut_starts-2.ensures.1
+      (λ was. (was.0, λ card. first-mask g.P.Board.Board.facts g.P.Board.Sweepable.torn _ _ words c.loop-i.i _
+      c.in-Some-2.torn _ _ _ _ _ _ c.words_to_try-words.ensures.some c.words_to_try-words.ensures.fits few later
+      (c.loop-i.invariant.counted card) (subst Cuts mask (cut card)) (was.1 (cut card).has_card)))
+      c.in_err-cut_starts-2.ensures.full;
 }
 
 pub returns : goal.returns

@@ -1,8 +1,9 @@
 use Rattle.std.proofs.Common.{sym, ◌∙◌, ap, subst, rules}
 use Rattle.card_sweeps.specs.Sweeps.{EndsIn, off_with}
-use Rattle.card_sweeps.proofs.TallyLemmas.{adds-weaker}
+use Rattle.card_sweeps.proofs.TallyLemmas.{adds-none, adds-weaker}
 use Rattle.card_sweeps.proofs.SweepLemmas.{ends-in}
 use Rattle.card_sweeps.proofs.CompleteSweeps.{counts-one}
+use Rattle.card_sweeps.proofs.FirstRuns.{first-none}
 use Rattle.card_sweeps.proofs.sweeping.look.Goals as goal
 
 pub returns : goal.returns
@@ -33,4 +34,11 @@ returns-in_err-count g c = record {
       c.turn_well.ensures c.free_space_of-free.ensures c.in_ok-trace.ensures card)) c.count.ensures.adds;
   complete = search rules;
   full = search rules;
+}
+
+pub returns-then-is_full : goal.returns-then-is_full
+returns-then-is_full g c = record {
+  given = λ card. adds-none _ _;
+  complete = search rules;
+  full = λ _. (c.is_full.ensures.full.0 c.if-is_full.true, λ card. first-none _);
 }
