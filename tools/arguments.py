@@ -16,8 +16,8 @@ def number(most: int = 1_000_000) -> Callable[[str], int]:
 
 
 def output(kind: str, begin: bytes = b"", suffix: str = "") -> Callable[[str], Path]:
-    """The type of an argument that is a file to write, in a folder that is there. What is there already begins as a file
-    of this kind does, or has its suffix: a word in the wrong place overwrites no other file."""
+    """The type of an argument that is a file to write, in a folder that is there. What is there already begins as a
+    file of this kind does, or has its suffix: a word in the wrong place overwrites no other file."""
 
     def parse(text: str) -> Path:
         path = Path(text)
