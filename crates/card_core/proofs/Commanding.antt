@@ -14,6 +14,7 @@ use Rattle.card_state.specs.declared.status.Sw.{Sw}
 use Rattle.undo_journal.specs.declared.error.StoreErr.{StoreErr}
 use Rattle.undo_journal.specs.declared.error.StoreErr.TheVariants.{PowerLost, Fault}
 use Rattle.undo_journal.specs.Memory.{Memory, IsReady}
+use Rattle.undo_journal.specs.laws.Exits.{ok_anyway, err_anyway}
 use Rattle.card_state.specs.declared.space.FreeSpace.{FreeSpace}
 use Rattle.card_start.specs.declared.state.CardState.{CardState}
 use Rattle.card_start.specs.declared.state.CardState.TheVariants.{Working, Failed, Dark}
@@ -27,14 +28,6 @@ use Rattle.command_base.specs.Working.{card_in, session_in, space_in, table_in, 
 use Rattle.card_core.specs.ShownSessions.{session_while}
 
 -- a fact of a result, where it is one or isn't
-on-ok : {T E : Type 0} (r : Result T E) (P : Type 0) → P → OnOk r P
-on-ok (Ok x) P p = p
-on-ok (Err e) P p = tt
-
-on-err : {T E : Type 0} (r : Result T E) (P : Type 0) → P → OnErr r P
-on-err (Ok x) P p = tt
-on-err (Err e) P p = p
-
 no-ok : {T E : Type 0} (r : Result T E) (P : Type 0) → IsErr r → OnOk r P
 no-ok (Ok x) P is = absurd (true≢false (sym is))
 no-ok (Err e) P is = tt
@@ -113,21 +106,21 @@ module _ (old new : Memory) (x y : Current) (command text said : List ℕ) (read
   pub ended-done : (carried : Result Sw StoreErr) → ExecutesBytes command old x new y text carried
       → Ends carried was now text said result
       → OnOk result (was ≡ Working → Steps before command after said ⊎ CommandFails before after said)
-  ended-done (Ok status) carries ends = on-ok result _ (λ works. inl (done-in status carries ends))
-  ended-done (Err Fault) carries ends = on-ok result _ (λ works. inr (fails-in carries ends))
+  ended-done (Ok status) carries ends = ok_anyway _ result (λ works. inl (done-in status carries ends))
+  ended-done (Err Fault) carries ends = ok_anyway _ result (λ works. inr (fails-in carries ends))
   ended-done (Err PowerLost) carries ends = no-ok result _ (ends.lost refl).0
 
   pub ended-lost : (carried : Result Sw StoreErr) → ExecutesBytes command old x new y text carried
       → Ends carried was now text said result → OnErr result (was ≡ Working → CommandIsCut before after said)
   ended-lost (Ok status) carries ends = no-err result _ ends.done.0
   ended-lost (Err Fault) carries ends = no-err result _ (ends.failed refl).0
-  ended-lost (Err PowerLost) carries ends = on-err result _ (λ works. cut-in carries ends)
+  ended-lost (Err PowerLost) carries ends = err_anyway _ result (λ works. cut-in carries ends)
 
   pub ended-unlit : (carried : Result Sw StoreErr) → ExecutesBytes command old x new y text carried
       → Ends carried was now text said result → OnErr result (new.facts.dark ≡ true)
   ended-unlit (Ok status) carries ends = no-err result _ ends.done.0
   ended-unlit (Err Fault) carries ends = no-err result _ (ends.failed refl).0
-  ended-unlit (Err PowerLost) carries ends = on-err result _ (cut-in carries ends).power.dark
+  ended-unlit (Err PowerLost) carries ends = err_anyway _ result (cut-in carries ends).power.dark
 
   -- the card is one again, and is kept where it works
   pub ended-kept : (carried : Result Sw StoreErr) → ExecutesBytes command old x new y text carried

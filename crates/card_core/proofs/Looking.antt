@@ -7,6 +7,7 @@ use Rattle.card_state.specs.declared.status.Sw.{Sw}
 use Rattle.undo_journal.specs.declared.error.StoreErr.{StoreErr}
 use Rattle.undo_journal.specs.StoreCalls.{OnlyReads}
 use Rattle.undo_journal.specs.Memory.{Memory}
+use Rattle.undo_journal.specs.laws.Exits.{ok_anyway}
 use Rattle.card_state.specs.declared.space.FreeSpace.{FreeSpace}
 use Rattle.card_model.specs.Requests.{Request}
 use Rattle.command_base.specs.declared.current.Current.{Current}
@@ -16,7 +17,6 @@ use Rattle.card_model.specs.PinCommands.{pin_commits}
 use Rattle.card_model.specs.Steps.{IsDoing, commits}
 use Rattle.command_base.specs.Served.{Executes}
 use Rattle.command_base.specs.Working.{card_in, session_in, space_in}
-use Rattle.command_base.specs.laws.Answering.{ok_anyway}
 use Rattle.command_base.specs.laws.SpaceKept.{space-same}
 
 -- each of these cards has the files of a card

@@ -9,6 +9,7 @@ use Rattle.std.specs.Result.{result_err}
 use Rattle.card_state.specs.declared.status.Sw.{Sw}
 use Rattle.card_state.specs.declared.status.TheConstants.Sw.{RECORD_NOT_FOUND, MAXIMUM_REACHED}
 use Rattle.undo_journal.specs.declared.error.StoreErr.{StoreErr}
+use Rattle.undo_journal.specs.laws.Exits.{ok_anyway}
 use Rattle.block_chain.specs.ChainChanges.{AppendsSome}
 use Rattle.ef_contents.specs.declared.error.BodyErr.{BodyErr}
 use Rattle.ef_contents.specs.declared.error.BodyErr.TheVariants.{Store}
@@ -19,7 +20,7 @@ use Rattle.record_slots.specs.BodyChanges.{CyclicBecomes, Increases}
 use Rattle.card_state.specs.RecordLists.{has_record, record_of, front, number_of, spelled, raised_number}
 use Rattle.ef_contents.specs.Refusals.{missing_record, unraised, DecidesUnlessFailed}
 use Rattle.card_state.specs.laws.Numbers.{number-small, spelled-number}
-use Rattle.ef_contents.specs.laws.Refusing.{ok_anyway, store_refuses, there}
+use Rattle.ef_contents.specs.laws.Refusing.{store_refuses, there}
 
 -- at most as many records as there is room for
 pub front-most : (k capacity : ℕ) (new : List ℕ) (records : List (List ℕ)) → k ≡ min (length records + 1) capacity
@@ -123,7 +124,7 @@ pub stored_sum : {T U : Type 0} (r : Result T StoreErr) (s : Result U BodyErr)
     → buffer ≡ spelled size (raised_number records sent) → unraised size records sent ≡ None
     → ReceivesSum size records sent buffer s
 stored_sum r s is size records sent buffer sum none = record {
-  bytes = ok_anyway s _ sum;
+  bytes = ok_anyway _ s sum;
   emptied = store_refuses r s is _;
   buffer = inr sum;
   refusal = subst (λ (answer : Option BodyErr). DecidesUnlessFailed (unraised size records sent) answer) (sym is)

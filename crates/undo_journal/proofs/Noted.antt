@@ -52,15 +52,6 @@ pub unless_failed : {T : Type 0} (P : Type 0) (r : Result T StoreErr) → OnOk r
 unless_failed P (Ok v) h = h
 unless_failed P (Err e) h = tt
 
--- whatever was answered
-pub always : {T E : Type 0} (P : Type 0) (r : Result T E) → P → OnOk r P
-always P (Ok v) h = h
-always P (Err e) h = tt
-
-pub always_err : {T E : Type 0} (P : Type 0) (r : Result T E) → P → OnErr r P
-always_err P (Ok v) h = tt
-always_err P (Err e) h = h
-
 -- the device's answer, and the store's
 module _ {T : Type 0} (answer : Result T DeviceErr) (result : Result T StoreErr)
     (is : result ≡ store_result_of answer) where

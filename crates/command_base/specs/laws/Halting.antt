@@ -4,6 +4,7 @@ use Rattle.std.specs.Result.{IsErrAnd}
 use Rattle.card_state.specs.declared.status.Sw.{Sw}
 use Rattle.undo_journal.specs.StoreCalls.{Reads}
 use Rattle.undo_journal.specs.Memory.{Memory, committed}
+use Rattle.undo_journal.specs.laws.Exits.{ok_anyway}
 use Rattle.card_model.specs.Requests.{Request}
 use Rattle.command_base.specs.declared.current.Current.{Current}
 use Rattle.command_base.specs.declared.stop.Stop.{Stop}
@@ -14,7 +15,6 @@ use Rattle.command_base.specs.Standing.{IsCard}
 use Rattle.card_model.specs.Steps.{served}
 use Rattle.command_base.specs.Stops.{failure_of, reply, IfRefused}
 use Rattle.command_base.specs.Working.{card_in, session_in, table_in, IsCurrent}
-use Rattle.command_base.specs.laws.Answering.{ok_anyway}
 use Rattle.command_base.specs.laws.Executes.{halted}
 use Rattle.command_base.specs.laws.SpaceKept.{space-same}
 

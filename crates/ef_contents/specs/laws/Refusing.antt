@@ -69,8 +69,3 @@ module _ {T : Type 0} (r : Result T BodyErr) (status : Sw) (is : IsErrAnd r (λ 
   pub refused_undecided : (refusal : Option Sw) → refusal ≡ Some status → DecidesUnlessFailed refusal (result_err r)
   refused_undecided refusal due =
       subst (λ (answer : Option BodyErr). DecidesUnlessFailed refusal answer) (told_is r (Refused status) is) due
-
--- what holds anyway holds of a success
-pub ok_anyway : {T E : Type 0} (r : Result T E) (fact : Type 0) → fact → OnOk r fact
-ok_anyway (Ok x) fact holds = holds
-ok_anyway (Err e) fact holds = tt

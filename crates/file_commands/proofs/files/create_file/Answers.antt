@@ -1,5 +1,6 @@
 use Rattle.std.proofs.Common.{[], refl, sym, ◌∙◌, subst, arith}
 use Rattle.undo_journal.specs.Memory.{committed}
+use Rattle.undo_journal.specs.laws.Exits.{ok_anyway}
 use Rattle.file_changes.specs.Creations.{TellsCreation}
 use Rattle.file_changes.specs.declared.creating.Creation.{Creation}
 use Rattle.card_model.specs.Requests.{create_file}
@@ -10,7 +11,6 @@ use Rattle.file_commands.proofs.CreateServes.{creation-taken-one, creation-torn}
 use Rattle.file_commands.proofs.FileSteps.{create-refusal}
 use Rattle.command_base.specs.laws.Readings.{card_still, current_still, index_still}
 use Rattle.command_base.specs.laws.Executes.{halted}
-use Rattle.command_base.specs.laws.Answering.{ok_anyway}
 use Rattle.command_base.specs.laws.SpaceKept.{space-same}
 use Rattle.command_base.specs.laws.CardLaws.{card_space_is}
 use Rattle.command_base.specs.Standing.{IsCard}

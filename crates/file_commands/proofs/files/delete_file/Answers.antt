@@ -2,6 +2,7 @@ use Rattle.std.proofs.Common.{ℕ, [], Result, Ok, None, refl, sym, ◌∙◌, a
 use Rattle.undo_journal.specs.declared.error.StoreErr.{StoreErr}
 use Rattle.undo_journal.specs.Memory.{committed}
 use Rattle.undo_journal.specs.laws.Memory.{reports_then}
+use Rattle.undo_journal.specs.laws.Exits.{ok_anyway}
 use Rattle.card_state.specs.declared.status.Sw.{Sw}
 use Rattle.card_state.specs.declared.status.TheConstants.Sw.{DONE}
 use Rattle.card_model.specs.Requests.{delete_file}
@@ -16,7 +17,6 @@ use Rattle.command_base.specs.laws.Readings.{file_kept, index_still}
 use Rattle.command_base.specs.laws.Executes.{compared-none, halted, reads-compared, torn, written}
 use Rattle.command_base.specs.laws.Stopping.{err-is, none-failed, reply-failed}
 use Rattle.command_base.specs.laws.Words.{went-after}
-use Rattle.command_base.specs.laws.Answering.{ok_anyway}
 use Rattle.command_base.specs.laws.SpaceKept.{space-same}
 use Rattle.file_lookup.specs.laws.StoredFiles.{file_still}
 use Rattle.file_commands.proofs.files.delete_file.Goals as goal

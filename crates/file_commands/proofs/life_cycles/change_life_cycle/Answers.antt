@@ -7,10 +7,10 @@ use Rattle.command_base.specs.Working.{card_in, session_in}
 use Rattle.file_commands.proofs.LifeServes.{change-torn, change-made, change-refused, change-space}
 use Rattle.command_base.specs.laws.Executes.{halted}
 use Rattle.command_base.specs.laws.SpaceKept.{space-same}
-use Rattle.command_base.specs.laws.Answering.{ok_anyway}
 use Rattle.command_base.specs.laws.Stopping.{none-failed, reply-failed}
 use Rattle.command_base.specs.laws.Readings.{file_kept}
 use Rattle.file_lookup.specs.laws.StoredFiles.{file_still}
+use Rattle.undo_journal.specs.laws.Exits.{ok_anyway}
 use Rattle.file_commands.proofs.life_cycles.change_life_cycle.Goals as goal
 
 pub returns : goal.returns

@@ -5,8 +5,8 @@ use Rattle.undo_journal.specs.Spending.{WritesAtMost, rollback_writes}
 use Rattle.undo_journal.specs.laws.Undo.{gate_undone}
 use Rattle.std.proofs.lemmas.Result.{on_ok_weaker}
 use Rattle.undo_journal.proofs.Standing.{new-idle, new-fits}
-use Rattle.undo_journal.proofs.Noted.{always, on_ok, on_dark, failed_before, noted-true, noted-changes}
-use Rattle.undo_journal.specs.laws.Exits.{none_ok}
+use Rattle.undo_journal.proofs.Noted.{on_ok, on_dark, failed_before, noted-true, noted-changes}
+use Rattle.undo_journal.specs.laws.Exits.{none_ok, ok_anyway}
 use Rattle.undo_journal.proofs.store.Store.abandon.Goals as goal
 
 pub returns-in_err-checked-clause-store : goal.returns-in_err-checked-clause-store
@@ -24,7 +24,7 @@ invariant_of-self-2 g c =
     c.noted.ensures.failed undone.light undone.sound
     (on_ok_weaker c.roll_back-answer.result
     (λ done. ap gate done ∙ gate_undone words ∙ sym fresh.used) undone.done)
-    (always _ _ (new-fits _ _ _ fresh.used fresh.waiting))
+    (ok_anyway _ _ (new-fits _ _ _ fresh.used fresh.waiting))
 
 pub returns-clause-store : goal.returns-clause-store
 returns-clause-store g c =

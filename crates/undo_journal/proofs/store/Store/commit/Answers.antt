@@ -2,9 +2,10 @@ use Rattle.std.proofs.Common.{◌≡◌, ◌+◌, ◌≤◌, ap, inl, refl, sym,
 use Rattle.std.proofs.Math.Logic.{⊎_map}
 use Rattle.undo_journal.specs.Memory.{Memory, committed, current, commit_writes}
 use Rattle.undo_journal.specs.Spending.{WritesAtMost}
+use Rattle.undo_journal.specs.laws.Exits.{ok_anyway}
 use Rattle.std.proofs.lemmas.Result.{on_ok_weaker}
 use Rattle.undo_journal.proofs.Standing.{new-idle, new-fits}
-use Rattle.undo_journal.proofs.Noted.{always, on_ok, on_dark, failed_before, noted-true, noted-changes}
+use Rattle.undo_journal.proofs.Noted.{on_ok, on_dark, failed_before, noted-true, noted-changes}
 use Rattle.undo_journal.proofs.store.Store.commit.Goals as goal
 
 pub returns-in-Err-clause-store : goal.returns-in-Err-clause-store
@@ -20,7 +21,7 @@ invariant_of-self g c =
     let fresh = c.new-self-inside.ensures in
     noted-true _ _ _ c.self.view_is c.self.invariant works _ _ c.noted.ensures.answer c.noted.ensures.failed done.light
     done.sound (on_ok_weaker c.finish-answer.result (λ shut. shut ∙ sym fresh.used) done.shut)
-    (always _ _ (new-fits _ _ _ fresh.used fresh.waiting))
+    (ok_anyway _ _ (new-fits _ _ _ fresh.used fresh.waiting))
 
 pub returns-in-Ok-clause-any_exit : goal.returns-in-Ok-clause-any_exit
 returns-in-Ok-clause-any_exit g c =

@@ -7,12 +7,12 @@ use Rattle.undo_journal.specs.Memory.{Memory, committed, current, taken}
 use Rattle.nvm_board.specs.Aims.{AimStays}
 use Rattle.nvm_board.specs.laws.Aims.{aim_same}
 use Rattle.undo_journal.specs.laws.Calls.{reads_same}
-use Rattle.undo_journal.specs.laws.Exits.{error_tells, none_ok}
+use Rattle.undo_journal.specs.laws.Exits.{error_tells, none_ok, ok_anyway, err_anyway}
 use Rattle.undo_journal.specs.laws.Memory.{reports_same}
 use Rattle.undo_journal.proofs.Standing.{held-kept, ready-from}
 use Rattle.std.proofs.lemmas.Result.{on_ok_weaker}
-use Rattle.undo_journal.proofs.Noted.{always, if_ok, on_ok, on_err, on_dark, noted_tells, noted-true, noted-open}
-use Rattle.undo_journal.proofs.Noted.{always_err, noted-reports}
+use Rattle.undo_journal.proofs.Noted.{if_ok, on_ok, on_err, on_dark, noted_tells, noted-true, noted-open}
+use Rattle.undo_journal.proofs.Noted.{noted-reports}
 use Rattle.undo_journal.proofs.store.Store.compare.Goals as goal
 
 pub returns-in_err-check-clause-tells : goal.returns-in_err-check-clause-tells
@@ -27,8 +27,8 @@ invariant_of-self g c =
     let works = c.in_ok-check.ensures.ready.works in
     let held = c.self.invariant.works (ap (λ (m : Memory). m.failed) c.self.view_is ∙ works) in
     noted-true _ _ _ c.self.view_is c.self.invariant works _ _ c.noted.ensures.answer c.noted.ensures.failed kept.light
-    (subst (λ (l : List ℕ). IsSound l) (sym kept.words) held.sound) (always _ _ (ap gate kept.words ∙ held.counts))
-    (always _ _ (held-kept _ _ _ _ kept.words held))
+    (subst (λ (l : List ℕ). IsSound l) (sym kept.words) held.sound) (ok_anyway _ _ (ap gate kept.words ∙ held.counts))
+    (ok_anyway _ _ (held-kept _ _ _ _ kept.words held))
 
 pub returns-clause-equal : goal.returns-clause-equal
 returns-clause-equal g c = if_ok _ _ c.noted.ensures.answer _ _ (λ e h. h) c.compare-answer.ensures.equal
@@ -40,7 +40,7 @@ returns-clause-usable g c =
     noted-open _ _ _ c.self.view_is c.self.invariant works _ _ c.noted.ensures.answer
     c.noted.ensures.failed c.compare-answer.ensures.light (g.met.B.Board.is_board _).sized
     (g.met.B.Board.is_board _).words_fit
-    (always _ _ (held-kept _ _ _ _ c.compare-answer.ensures.words held))
+    (ok_anyway _ _ (held-kept _ _ _ _ c.compare-answer.ensures.words held))
 
 pub returns-clause-ready : goal.returns-clause-ready
 returns-clause-ready g c =
@@ -126,10 +126,10 @@ pub returns-in_err-check-clause-cut : goal.returns-in_err-check-clause-cut
 returns-in_err-check-clause-cut g c = aim_same _
 
 pub returns-in_err-check-clause-compared_err : goal.returns-in_err-check-clause-compared_err
-returns-in_err-check-clause-compared_err g c = always_err _ _ (inl refl)
+returns-in_err-check-clause-compared_err g c = err_anyway _ _ (inl refl)
 
 pub returns-in_err-check-clause-matched_err : goal.returns-in_err-check-clause-matched_err
-returns-in_err-check-clause-matched_err g c = always_err _ _ (inl refl)
+returns-in_err-check-clause-matched_err g c = err_anyway _ _ (inl refl)
 
 pub compare-answer-requires : goal.compare-answer-requires
 compare-answer-requires g c = c.requires

@@ -1,12 +1,13 @@
 use Rattle.std.proofs.Common.{◌+◌, refl, sym, ap, ◌∙◌}
 use Rattle.undo_journal.specs.Undo.{gate, IsDataAddress}
 use Rattle.undo_journal.specs.Memory.{Memory}
+use Rattle.undo_journal.specs.laws.Exits.{ok_anyway}
 use Rattle.undo_journal.proofs.Lasting.{unused-within, place-within, one-gate, one-sound, one-torn, one-written}
 use Rattle.std.proofs.Math.Logic.{⊎_elim}
 use Rattle.undo_journal.proofs.Lasting.{unused-within, idle-within, fits-within, place-within, one-gate, one-sound}
 use Rattle.undo_journal.proofs.Lasting.{one-torn, one-written}
 use Rattle.std.proofs.lemmas.Result.{on_ok_weaker}
-use Rattle.undo_journal.proofs.Noted.{always, on_ok, on_dark, failed_before, noted-true, noted-changes}
+use Rattle.undo_journal.proofs.Noted.{on_ok, on_dark, failed_before, noted-true, noted-changes}
 use Rattle.undo_journal.proofs.store.Store.put_alone.Goals as goal
 
 pub write_word-answer-requires : goal.write_word-answer-requires
@@ -32,7 +33,7 @@ invariant_of-self g c =
     (λ done. one-gate _ _ c.self.view_is
     c.self.invariant works c.requires.idle c.args.at c.args.word c.requires.place _ done ∙ sym unused)
     c.write_word-answer.ensures.done)
-    (always _ _ (fits-within _ _ c.self.view_is c.self.invariant works c.requires.idle _))
+    (ok_anyway _ _ (fits-within _ _ c.self.view_is c.self.invariant works c.requires.idle _))
 
 pub returns-clause-any_exit : goal.returns-clause-any_exit
 returns-clause-any_exit g c =

@@ -9,9 +9,9 @@ use Rattle.undo_journal.specs.declared.batch.Waiting.{Waiting}
 use Rattle.undo_journal.specs.Batches.{overlay, look_up}
 use Rattle.undo_journal.specs.laws.Memory.{length-overlay}
 use Rattle.undo_journal.proofs.Waits.{look_up-found, look_up-none}
-use Rattle.undo_journal.proofs.Noted.{always, if_ok, on_dark, noted_tells, noted-true, noted-open}
+use Rattle.undo_journal.proofs.Noted.{if_ok, on_dark, noted_tells, noted-true, noted-open}
 use Rattle.undo_journal.proofs.Noted.{noted-ready, noted-reads}
-use Rattle.undo_journal.specs.laws.Exits.{error_tells, none_ok}
+use Rattle.undo_journal.specs.laws.Exits.{error_tells, none_ok, ok_anyway}
 use Rattle.undo_journal.proofs.store.Store.read.Goals as goal
 
 pub read-answer-requires : goal.read-answer-requires
@@ -40,8 +40,8 @@ invariant_of-self g c =
     let works = c.in_ok-check.ensures.ready.works in
     let held = c.self.invariant.works (ap (λ (m : Memory). m.failed) c.self.view_is ∙ works) in
     noted-true _ _ _ c.self.view_is c.self.invariant works _ _ c.noted.ensures.answer c.noted.ensures.failed kept.light
-    (subst (λ (l : List ℕ). IsSound l) (sym kept.words) held.sound) (always _ _ (ap gate kept.words ∙ held.counts))
-    (always _ _ (held-kept _ _ _ _ c.read-answer.ensures.words held))
+    (subst (λ (l : List ℕ). IsSound l) (sym kept.words) held.sound) (ok_anyway _ _ (ap gate kept.words ∙ held.counts))
+    (ok_anyway _ _ (held-kept _ _ _ _ c.read-answer.ensures.words held))
 
 pub returns-clause-word : goal.returns-clause-word
 returns-clause-word g c =
@@ -88,7 +88,7 @@ returns-clause-usable g c =
     noted-open _ _ _ c.self.view_is c.self.invariant works _ _ c.noted.ensures.answer
     c.noted.ensures.failed c.read-answer.ensures.light (g.met.B.Board.is_board _).sized
     (g.met.B.Board.is_board _).words_fit
-    (always _ _ (held-kept _ _ _ _ c.read-answer.ensures.words held))
+    (ok_anyway _ _ (held-kept _ _ _ _ c.read-answer.ensures.words held))
 
 pub returns-clause-store : goal.returns-clause-store
 returns-clause-store g c = λ idle.
@@ -101,7 +101,7 @@ returns-clause-store g c = λ idle.
       only = returns-clause-reads g c;
       ready = noted-ready _ _ _ c.self.view_is c.self.invariant works _ _ c.noted.ensures.answer c.noted.ensures.failed
           kept.light (g.met.B.Board.is_board _).sized (g.met.B.Board.is_board _).words_fit
-          (always _ _ (ap gate kept.words ∙ held.counts ∙ none)) unused;
+          (ok_anyway _ _ (ap gate kept.words ∙ held.counts ∙ none)) unused;
       tells = returns-clause-tells g c;
     }
 

@@ -6,8 +6,9 @@ use Rattle.undo_journal.proofs.Standing.{board-place, held-kept}
 use Rattle.undo_journal.specs.declared.batch.Waiting.{Waiting}
 use Rattle.undo_journal.specs.Batches.{overlay, look_up}
 use Rattle.undo_journal.specs.laws.Memory.{length-overlay}
+use Rattle.undo_journal.specs.laws.Exits.{ok_anyway}
 use Rattle.undo_journal.proofs.Waits.{look_up-none}
-use Rattle.undo_journal.proofs.Noted.{always, if_ok, noted_tells, noted-true, noted-ready, noted-reads}
+use Rattle.undo_journal.proofs.Noted.{if_ok, noted_tells, noted-true, noted-ready, noted-reads}
 use Rattle.undo_journal.proofs.store.Store.read_committed.Goals as goal
 
 -- a list of no length
@@ -29,8 +30,8 @@ invariant_of-self g c =
     let works = c.requires.ready.usable.works in
     let held = c.self.invariant.works (ap (λ (m : Memory). m.failed) c.self.view_is ∙ works) in
     noted-true _ _ _ c.self.view_is c.self.invariant works _ _ c.noted.ensures.answer c.noted.ensures.failed kept.light
-    (subst (λ (l : List ℕ). IsSound l) (sym kept.words) held.sound) (always _ _ (ap gate kept.words ∙ held.counts))
-    (always _ _ (held-kept _ _ _ _ c.read-told.ensures.words held))
+    (subst (λ (l : List ℕ). IsSound l) (sym kept.words) held.sound) (ok_anyway _ _ (ap gate kept.words ∙ held.counts))
+    (ok_anyway _ _ (held-kept _ _ _ _ c.read-told.ensures.words held))
 
 pub returns-clause-word : goal.returns-clause-word
 returns-clause-word g c =
@@ -70,6 +71,6 @@ returns-clause-store g c =
           refl refl;
       ready = noted-ready _ _ _ c.self.view_is c.self.invariant works _ _ c.noted.ensures.answer c.noted.ensures.failed
           kept.light (g.met.B.Board.is_board _).sized (g.met.B.Board.is_board _).words_fit
-          (always _ _ (ap gate kept.words ∙ held.counts ∙ none)) unused;
+          (ok_anyway _ _ (ap gate kept.words ∙ held.counts ∙ none)) unused;
       tells = noted_tells _ _ _ (ap (λ (m : Memory). m.failed) c.self.view_is ∙ works) c.noted.ensures.failed;
     }

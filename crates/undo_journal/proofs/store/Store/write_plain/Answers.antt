@@ -3,11 +3,12 @@ use Rattle.nvm_board.specs.Facts.{address}
 use Rattle.nvm_board.specs.laws.Torn.{Torn-none}
 use Rattle.nvm_board.specs.laws.Sizes.{page_of_run}
 use Rattle.undo_journal.specs.Memory.{Memory}
+use Rattle.undo_journal.specs.laws.Exits.{ok_anyway}
 use Rattle.undo_journal.proofs.Standing.{board-run}
 use Rattle.undo_journal.proofs.Lasting.{unused-within, idle-within, fits-within, run-gate, run-sound}
 use Rattle.undo_journal.proofs.Lasting.{run-torn, run-written}
 use Rattle.undo_journal.proofs.Telling.{write_costs}
-use Rattle.undo_journal.proofs.Noted.{always, on_ok, on_dark, failed_before, noted-true, noted-changes}
+use Rattle.undo_journal.proofs.Noted.{on_ok, on_dark, failed_before, noted-true, noted-changes}
 use Rattle.undo_journal.proofs.store.Store.write_plain.Goals as goal
 
 pub write-answer-requires : goal.write-answer-requires
@@ -39,9 +40,9 @@ invariant_of-self g c =
     c.write-answer.ensures.light
     (run-sound _ _ c.self.view_is c.self.invariant works c.requires.idle at c.args.words.now c.requires.place _
     c.write-answer.ensures.torn)
-    (always _ _ (run-gate _ _ c.self.view_is c.self.invariant works c.requires.idle at c.args.words.now c.requires.place
-    _ c.write-answer.ensures.torn ∙ sym unused))
-    (always _ _ (fits-within _ _ c.self.view_is c.self.invariant works c.requires.idle _))
+    (ok_anyway _ _ (run-gate _ _ c.self.view_is c.self.invariant works c.requires.idle at c.args.words.now
+    c.requires.place _ c.write-answer.ensures.torn ∙ sym unused))
+    (ok_anyway _ _ (fits-within _ _ c.self.view_is c.self.invariant works c.requires.idle _))
 
 pub returns-clause-any_exit : goal.returns-clause-any_exit
 returns-clause-any_exit g c =
@@ -63,8 +64,8 @@ returns-clause-store g c =
     c.write-answer.ensures.light 1 (g.met.B.Board.is_board _).sized (g.met.B.Board.is_board _).words_fit
     (run-sound _ _ c.self.view_is c.self.invariant works c.requires.idle at c.args.words.now c.requires.place _
     c.write-answer.ensures.torn)
-    (always _ _ (run-gate _ _ c.self.view_is c.self.invariant works c.requires.idle at c.args.words.now c.requires.place
-    _ c.write-answer.ensures.torn))
+    (ok_anyway _ _ (run-gate _ _ c.self.view_is c.self.invariant works c.requires.idle at c.args.words.now
+    c.requires.place _ c.write-answer.ensures.torn))
     (idle-within _ _ c.self.view_is c.self.invariant works c.requires.idle)
     (write_costs _ _ _ _ _ answered)
 
