@@ -1,11 +1,10 @@
 -- The files and the PINs of a card that is found, and the current files of a session.
-use Rattle.std.specs.Prelude.{◌≡◌, ◌≢◌, ◌<◌, ◌≤◌, ◌==◌, ◌&&◌, ◌++◌, ◌∷◌, [], ℕ, zero, suc, Bool, true, false, not}
+use Rattle.std.specs.Prelude.{◌≡◌, ◌≢◌, ◌<◌, ◌≤◌, ◌==◌, ◌&&◌, ◌++◌, ◌∷◌, [], ℕ, Bool, true, false, not}
 use Rattle.std.specs.Prelude.{if◌then◌else◌, List, length, map, All, Option, Some}
 use Rattle.std.specs.Prelude.{None, IfSome, IsTrue, unwrap_or, option_map}
 use Rattle.std.specs.List.{range_with_len}
 use Rattle.std.specs.FinMap.{get}
 use Rattle.std.proofs.Common.{arith, ap, ap₂, inl, inr, subst, sym, ◌∙◌, refl, true≢false}
-use Rattle.std.proofs.lemmas.List.{length-append}
 use Rattle.std.proofs.lemmas.Bool.Decides.{eqb_tells}
 use Rattle.std.proofs.lemmas.List.Elements.{All-map}
 use Rattle.std.proofs.lemmas.List.FromFn.{length-map-range_with_len}
@@ -16,14 +15,16 @@ use Rattle.card_state.specs.FileTrees.{exists, file_at, is_dedicated}
 use Rattle.card_state.specs.Secrets.{enabled_pin}
 use Rattle.card_model.specs.Cards.{IsProperKind, IsProperShort}
 use Rattle.file_tree.specs.declared.entry.Entry.{Entry}
-use Rattle.file_tree.specs.Entries.{body_of, free_entry, file_of, name_of, rule_of}
+use Rattle.file_tree.specs.Entries.{body_of, free_entry, file_of, name_of}
 use Rattle.file_tree.specs.Formats.{is_format_2}
-use Rattle.file_tree.specs.Table.{table, entry_in, path_in, path_of, IsTable}
+use Rattle.file_tree.specs.Table.{table, entry_in, path_of, IsTable}
 use Rattle.file_tree.specs.Trees.{content, tree_of, TreeStands}
 use Rattle.file_tree.specs.laws.Nodes.{dedicated_entry, entry_found, exists-used, file_at_entry, used_small}
 use Rattle.file_tree.specs.laws.Paths.{one_path, parent_path, parent_used, path_of_child}
 use Rattle.file_tree.specs.laws.Standing.{dedicated_there, stands_tree}
 use Rattle.file_tree.specs.laws.Tables.{length-table}
+use Rattle.file_tree.specs.laws.Refusing.{path_most}
+use Rattle.file_tree.specs.laws.Barring.{rule_of-entry}
 use Rattle.pin_store.specs.Pages.{pin_at, pins_of, unmarked_pins_of}
 use Rattle.command_base.specs.declared.current.Current.{Current}
 use Rattle.command_base.specs.Finding.{HasCard, found, words_found}
@@ -32,20 +33,6 @@ use Rattle.command_base.specs.Working.{IsCurrent, IsElementary, session_of}
 use Rattle.command_base.specs.laws.CardLaws.{any_tree}
 use Rattle.command_base.specs.laws.FoundLaws.{proper-card}
 use Rattle.card_model.specs.WellFormed.{HasCurrentFiles, HasEightBytes, IsWellFormed}
-
--- A path is no longer than its steps.
-short-path : (t : List Entry) (n e : ℕ) → length (path_in t n e) ≤ n
-unfolding path_in
-short-path t zero e = omega arith
-short-path t (suc n) e =
-    let up = short-path t n (entry_in t e).parent in
-    let long = length-append (path_in t n (entry_in t e).parent) ((entry_in t e).identifier ∷ []) in
-    by_test (e == 0) (omega (arith, up, long))
-  where
-    by_test : (b : Bool) → length (path_in t n (entry_in t e).parent ++ (entry_in t e).identifier ∷ []) ≤ suc n
-        → length (if b then [] else path_in t n (entry_in t e).parent ++ (entry_in t e).identifier ∷ []) ≤ suc n
-    by_test true few = omega arith
-    by_test false few = few
 
 -- the name of a DF, and the short identifier of an EF
 own-name : Kind → List ℕ
@@ -88,10 +75,6 @@ entry-short x bytes short is some =
     shortened (x.kind == 1) (x.short == 0) (if x.name_length == 0 then None else Some (name_of x)) x.short short
     (body_of x bytes) (ap (λ (o : Option ℕ). unwrap_or o 0) is) some
 
-entry-rule : (x : Entry) (bytes : List ℕ) → (file_of x bytes).rule ≡ rule_of x
-unfolding file_of
-entry-rule x bytes = refl
-
 -- what a proper kind says of a name and of a short identifier
 proper-name : (kind : Kind) (name : List ℕ) → IsProperKind kind → kind ≡ dedicated (Some name) → 1 ≤ length name
 proper-name kind name proper is = (subst (λ (k : Kind). IsProperKind k) is proper).some
@@ -116,7 +99,7 @@ module _ (m : List ℕ) (any : IsAnyCard m) where
   levels : (path : Path) (file : File) → get (tree_of m) path ≡ Some file → length path ≤ 7
   levels path file is =
       let at = entry_found m path file is in
-      subst (λ (p : Path). length p ≤ 7) at.2 (short-path (table m) 7 at.0)
+      subst (λ (p : Path). length p ≤ 7) at.2 (path_most (table m) 7 at.0)
 
   valid-rules : (path : Path) (file : File) → get (tree_of m) path ≡ Some file → IsTrue (is_rule file.rule)
   valid-rules path file is =
@@ -126,7 +109,7 @@ module _ (m : List ℕ) (any : IsAnyCard m) where
       let entry = entry_in (table m) e in
       let has = (rules.each e free_entry (let l = length-table m in omega (arith, l, below))).used at.1 in
       subst (λ (r : List ℕ). IsTrue (is_rule r)) (sym (ap (λ (f : File). f.rule) at.3
-      ∙ entry-rule entry (content m entry))) has.rule.rule
+      ∙ rule_of-entry entry (content m entry))) has.rule.rule
 
   one-name : (one other : Path) (first second : File) (name : List ℕ) → get (tree_of m) one ≡ Some first
       → get (tree_of m) other ≡ Some second → first.kind ≡ dedicated (Some name)

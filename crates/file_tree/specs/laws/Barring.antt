@@ -55,7 +55,7 @@ life_told_there m rules e used =
     ∙ life_of-entry (entry_in (table m) e) (content m (entry_in (table m) e))
 
 -- and the rule that it has
-rule_of-entry : (x : Entry) (bytes : List ℕ) → (file_of x bytes).rule ≡ rule_of x
+pub rule_of-entry : (x : Entry) (bytes : List ℕ) → (file_of x bytes).rule ≡ rule_of x
 unfolding file_of
 rule_of-entry x bytes = refl
 

@@ -39,7 +39,7 @@ unfolding file_of
 file_named x bytes name = kind_named (x.kind == 1) (x.name_length == 0) (name_of x) name _ _
 
 -- length of a path, by its steps
-path_most : (t : List Entry) (n e : ℕ) → length (path_in t n e) ≤ n
+pub path_most : (t : List Entry) (n e : ℕ) → length (path_in t n e) ≤ n
 unfolding path_in
 path_most t zero e = omega arith
 path_most t (suc n) e = elim (eqb_tells e 0) [
