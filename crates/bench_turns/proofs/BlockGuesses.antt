@@ -1,22 +1,22 @@
 -- The guess law of a block: of the command that runs, if one does.
 use Rattle.std.specs.Prelude.{◌≡◌, ◌+◌, ◌-◌, ℕ, List, length, slice_index}
-use Rattle.std.proofs.Common.{arith, ap, inl, inr, subst, sym, ◌∙◌}
+use Rattle.std.proofs.Common.{ap, inl, inr, subst, sym, ◌∙◌}
 use Rattle.std.proofs.lemmas.List.{length-set}
 use Rattle.std.proofs.lemmas.List.FromFn.{length-map-range_with_len}
 use Rattle.nvm_board.specs.Facts.{raised}
 use Rattle.card_state.specs.declared.pins.TheConstants.{PINS}
 use Rattle.file_tree.specs.Formats.{is_format_2}
 use Rattle.pin_store.specs.Pages.{pin_at, pins_of, unmarked_pins_of}
-use Rattle.card_state.specs.Secrets.{enabled_pin, HasFewTries, Pin}
+use Rattle.card_state.specs.Secrets.{enabled_pin, Pin}
 use Rattle.t1_link.specs.CardTable.{Reaction, replies, runs}
 use Rattle.card_model.specs.Cards.{Card, IsProper}
 use Rattle.command_base.specs.Comparing.{Comparisons, comparisons}
 use Rattle.command_base.specs.Finding.{HasCard, found, words_found}
-use Rattle.card_model.specs.PinCommands.{no_pin, pin_of}
 use Rattle.card_start.specs.Running.{card_found}
 use Rattle.command_base.specs.Standing.{card_of, card_pins}
 use Rattle.command_base.specs.laws.FoundLaws.{found_is_proper}
-use Rattle.card_model.specs.laws.ProperLaws.{at-or, either-if}
+use Rattle.card_model.specs.laws.ProperLaws.{either-if}
+use Rattle.card_model.specs.laws.PinLaws.{few-of}
 use Rattle.command_base.specs.laws.ShownLaws.{ComparesOrStays, compares-or-stays}
 use Rattle.bench_turns.specs.BenchStates.{HasEachCount}
 use Rattle.bench_turns.specs.CardBlocks.{BlockCompares, IsBlockStage, Powered}
@@ -30,11 +30,6 @@ eight-pins m =
     either-if (λ (pins : List Pin). length pins ≡ PINS) (is_format_2 l) (pins_of l) (unmarked_pins_of l)
     (length-map-range_with_len (pin_at l) 0 PINS) (length-map-range_with_len (λ pin. enabled_pin (pin_at l pin)) 0 PINS)
 
--- and no PIN of a proper card has more tries left than there may be
-pub few-tries : (d : Card) (n : ℕ) → IsProper d → HasFewTries (pin_of d n)
-few-tries d n proper =
-    at-or HasFewTries d.pins (n - 1) no_pin (record { tries = omega arith; unblocking_tries = omega arith }) proper.pins
-
 -- as many counts as there were
 raised-length : (counts : List ℕ) (secret : ℕ) → length (raised counts secret) ≡ length counts
 raised-length counts secret = length-set counts secret (slice_index counts secret + 1)
@@ -44,7 +39,7 @@ module _ (c d : Card) (old new : Comparisons) (counts : HasEachCount old) where
   compared-pays : ComparesOrStays c d old new → length c.pins ≡ PINS → IsProper d → ArePaid c d old new
   compared-pays (inl stays) eight proper = nothing-paid c d old new stays.1 stays.0
   compared-pays (inr shown) eight proper =
-      attempt-paid c d shown.0 old new shown.2 shown.1 counts (few-tries d shown.0.pin proper) eight
+      attempt-paid c d shown.0 old new shown.2 shown.1 counts (few-of d shown.0.pin proper) eight
 
   -- and each secret still has its counts
   compared-counts : ComparesOrStays c d old new → HasEachCount new

@@ -8,10 +8,10 @@ use Rattle.card_state.specs.Secrets.{HasFewTries}
 use Rattle.card_model.specs.Cards.{Card}
 use Rattle.command_base.specs.Comparing.{comparisons}
 use Rattle.card_model.specs.PinCommands.{pin_of}
+use Rattle.card_model.specs.laws.PinLaws.{few-of}
 use Rattle.command_base.specs.laws.FoundLaws.{found_is_proper}
 use Rattle.bench_turns.specs.BenchStates.{BenchState, BenchHasCard, bench_card, bench_facts}
 use Rattle.bench_turns.specs.Guessing.{GuessesFew, unblocking_guessed, value_guessed}
-use Rattle.bench_turns.proofs.BlockGuesses.{few-tries}
 use Rattle.bench_turns.proofs.GuessesPaid.{nothing-paid, paid-few}
 
 -- the card that is found stays, and nothing is compared
@@ -40,7 +40,7 @@ pays-on old between new first second = record {
 
 -- the tries of each PIN of a card that is found
 tries-few : (b : BenchState) (n : ℕ) → BenchHasCard b → HasFewTries (pin_of (bench_card b) n)
-tries-few b n there = few-tries (bench_card b) n (found_is_proper (bench_facts b).words there)
+tries-few b n there = few-of (bench_card b) n (found_is_proper (bench_facts b).words there)
 
 -- with so many renewals, at most so many comparisons: of a value, and of an unblocking value
 pub few-values : (old new : BenchState) (n renewals : ℕ) → GuessesFew old new → BenchHasCard old → 1 ≤ n → n ≤ PINS

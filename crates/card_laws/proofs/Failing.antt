@@ -1,6 +1,6 @@
 -- No step answers 6581.
 use Rattle.std.specs.Prelude.{◌≡◌, ◌≢◌, ◌==◌, ◌≤◌, ◌-◌, ℕ, Bool, true, false, List, [], ◌∷◌, Option, Some, None}
-use Rattle.std.specs.Prelude.{Result, Ok, Err, All, IfSome, IfErr, if◌then◌else◌, length, is_some}
+use Rattle.std.specs.Prelude.{Result, Ok, Err, All, IfSome, IfErr, length, is_some}
 use Rattle.std.proofs.Common.{◌∙◌, arith, inl, inr, refl, sym, ap, true≢false}
 use Rattle.std.proofs.lemmas.Bool.{eq-eqb}
 use Rattle.std.proofs.lemmas.List.Elements.{All-set}
@@ -31,6 +31,7 @@ use Rattle.card_model.specs.Behaviours.{Attempt, Outcome, Refusal, charged_card,
 use Rattle.card_model.specs.Behaviours.{refused, refused_by, tries_of, unless_refused}
 use Rattle.card_model.specs.Steps.{behaviour_of, carried_out, effect, outcome_of, refusals_of, served, step}
 use Rattle.card_model.specs.laws.ProperLaws.{at-or, either-if}
+use Rattle.card_model.specs.laws.PinLaws.{ten-tries}
 use Rattle.card_laws.specs.Refused.{IsSuccess}
 use Rattle.card_laws.proofs.Refusing.{read-success, search-success, selection-success}
 
@@ -137,10 +138,6 @@ few-charged c a few =
     let fewer : tries_left a.secret pin - 1 ≤ tries_left a.secret pin = omega arith in
     All-set HasFewTries c.pins (a.pin - 1) (charged_pin a.secret pin)
     (with_few a.secret (tries_left a.secret pin - 1) pin fewer (few-pin c a.pin few)) few
-
-ten-tries : (test : Bool) (pin : Pin) → HasFewTries pin → (if test then pin.unblocking_tries else pin.tries) ≤ 10
-ten-tries true pin few = few.unblocking_tries
-ten-tries false pin few = let most = few.tries in omega (arith, most)
 
 told-other : (c : Card) (n secret : ℕ) → All HasFewTries c.pins → IsOther (tries_status (tries_of c n secret))
 told-other c n secret few =

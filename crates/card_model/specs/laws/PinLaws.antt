@@ -22,7 +22,7 @@ use Rattle.card_model.specs.laws.Lawful.{many-none, many-one, same-none}
 use Rattle.card_model.specs.laws.ProperLaws.{IsFine, at-or, either-if, short-status}
 
 -- each PIN of a proper card, and one that stands for none
-few-of : (c : Card) (n : ℕ) → IsProper c → HasFewTries (pin_of c n)
+pub few-of : (c : Card) (n : ℕ) → IsProper c → HasFewTries (pin_of c n)
 few-of c n proper =
     at-or HasFewTries c.pins (n - 1) no_pin (record { tries = omega arith; unblocking_tries = omega arith }) proper.pins
 
@@ -45,7 +45,7 @@ proper-charged c a proper =
     (few-charged a.secret (pin_of c a.pin) (few-of c a.pin proper))
 
 -- the status word that tells the tries that are left, at most ten
-ten-tries : (test : Bool) (pin : Pin) → HasFewTries pin → (if test then pin.unblocking_tries else pin.tries) ≤ 10
+pub ten-tries : (test : Bool) (pin : Pin) → HasFewTries pin → (if test then pin.unblocking_tries else pin.tries) ≤ 10
 ten-tries true pin few = few.unblocking_tries
 ten-tries false pin few = let most = few.tries in omega (arith, most)
 
