@@ -2,8 +2,6 @@
 use Rattle.std.specs.Prelude.{◌≤◌, ◌+◌, ◌/◌, ℕ, zero, suc}
 use Rattle.std.proofs.Common.{arith}
 use Rattle.block_chain.specs.ChainChanges.{touched_blocks, touched_words}
-use Rattle.undo_journal.specs.Spending.{transaction_writes}
-use Rattle.ef_contents.specs.UpdateWrites.{update_writes}
 
 -- some bytes touch a quarter as many words as they are, rounded up, and one more at most
 pub few_words : (offset n : ℕ) → touched_words offset n ≤ (n + 3) / 4 + 1
@@ -14,9 +12,3 @@ few_words offset (suc n) = omega arith
 pub few_blocks : (offset n : ℕ) → touched_blocks offset n ≤ (n + 59) / 60 + 1
 few_blocks offset zero = omega arith
 few_blocks offset (suc n) = omega arith
-
--- so that an UPDATE BINARY costs
-pub few_updates : (offset n : ℕ)
-    → transaction_writes (touched_words offset n) (touched_blocks offset n) ≤ update_writes n
-few_updates offset n = let words = few_words offset n in let blocks = few_blocks offset n in
-    omega (arith, words, blocks)

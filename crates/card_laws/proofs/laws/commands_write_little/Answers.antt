@@ -1,5 +1,6 @@
 use Rattle.command_base.specs.laws.SpendLaws.{few_writes}
 use Rattle.command_base.specs.laws.TouchLaws as touching
+use Rattle.ef_contents.specs.laws.Updates.{touched_most}
 use Rattle.card_laws.proofs.laws.commands_write_little.Goals as goal
 
 pub returns-clause-most : goal.returns-clause-most
@@ -9,4 +10,4 @@ pub returns-clause-words : goal.returns-clause-words
 returns-clause-words c = touching.few_words
 
 pub returns-clause-updates : goal.returns-clause-updates
-returns-clause-updates c = touching.few_updates
+returns-clause-updates c = touched_most

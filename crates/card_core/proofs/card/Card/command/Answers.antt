@@ -15,11 +15,11 @@ use Rattle.command_base.specs.CommitWords.{StandsAsked}
 use Rattle.command_base.specs.Working.{card_in, table_in}
 use Rattle.card_core.specs.ShownSessions.{session_while}
 use Rattle.command_base.specs.laws.SpendLaws.{few_writes}
-use Rattle.command_base.specs.laws.TouchLaws.{few_updates}
 use Rattle.card_core.proofs.Commanding.{after, still-compares, still-stage, ended-done, ended-kept, ended-lost}
 use Rattle.card_core.proofs.Commanding.{ended-unlit, Ends}
 use Rattle.card_core.proofs.card.Card.command.Given.{Over}
 use Rattle.card_core.proofs.card.Card.command.Goals.{After-end_command}
+use Rattle.ef_contents.specs.laws.Updates.{touched_most}
 use Rattle.card_core.proofs.card.Card.command.Goals as goal
 
 -- the end of the command, as the call told it
@@ -222,7 +222,7 @@ pub returns-clause-updated : goal.returns-clause-updated
 returns-clause-updated g c = λ target offset bytes is.
     let counted = returns-clause-counted g c in
     let asks = ap writes_asked is in
-    let few = few_updates offset (length bytes) in
+    let few = touched_most offset (length bytes) in
     omega (arith, counted, asks, few)
 
 pub returns-in-Failed-clause-updated : goal.returns-in-Failed-clause-updated
