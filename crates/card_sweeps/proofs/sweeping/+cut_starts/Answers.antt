@@ -59,9 +59,11 @@ returns-then-i-eq0 g t c = record {
       (complete card)) c.look-then-i-eq0.ensures.complete;
   full = IfErr-weaker c.look-then-i-eq0.result _ _
       (λ _ stopped full.
-      let was = stopped full in
-      (was.0, λ card. first-whole-none _ _ _ _ _ _ _ _ c.if-i-eq0.true (c.loop-i.invariant.counted card)
-      (was.1 card))) c.look-then-i-eq0.ensures.full;
+      let was = stopped full in (
+        was.0,
+        λ card. first-whole-none _ _ _ _ _ _ _ _ c.if-i-eq0.true (c.loop-i.invariant.counted card)
+            (was.1 card),
+      )) c.look-then-i-eq0.ensures.full;
 }
 
 pub returns-else-i-eq0 : goal.returns-else-i-eq0
@@ -87,8 +89,11 @@ returns-in_err-cut_starts g t c = record {
   full = let cut = rw c.in-Some.is at c.in_ok-cut.ensures.cut in
       let more : 0 < c.args.depth = omega arith in
       full-passed c.from_residual-in_err-cut_starts.result _ _ _ c.from_residual-in_err-cut_starts.ensures.1
-      (λ was. (was.0, λ card. first-cut _ _ _ _ _ _ _ _ more (c.loop-i.invariant.counted card) (cut card)
-      (was.1 (cut card).has_card))) c.in_err-cut_starts.ensures.full;
+      (λ was. (
+        was.0,
+        λ card. first-cut _ _ _ _ _ _ _ _ more (c.loop-i.invariant.counted card) (cut card)
+            (was.1 (cut card).has_card),
+      )) c.in_err-cut_starts.ensures.full;
 }
 
 pub returns : goal.returns

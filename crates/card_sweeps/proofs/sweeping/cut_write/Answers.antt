@@ -62,11 +62,14 @@ returns-in_err-cut_starts g c = record {
   complete = search rules;
   full = let cut = rw c.in-Some.is at c.in_ok-torn.ensures.cut in
       full-passed c.from_residual-in_err-cut_starts.result _ _ _ c.from_residual-in_err-cut_starts.ensures.1
-      (λ was. (was.0, λ card. first-mask g.P.Board.Board.facts g.P.Board.Sweepable.torn _ _
-      c.words_to_try-words.result 0 _ c.in-Some.torn _ _ _ _ _ _ c.words_to_try-words.ensures.some
-      c.words_to_try-words.ensures.fits (masks-some c.words_to_try-words.result)
-      (λ _. c.words_to_try-words.ensures.tried ∙ ap words_tried c.torn_words.ensures.last) (counts-none _ _)
-      (cut card) (was.1 (cut card).has_card))) c.in_err-cut_starts.ensures.full;
+      (λ was. (
+        was.0,
+        λ card. first-mask g.P.Board.Board.facts g.P.Board.Sweepable.torn _ _
+            c.words_to_try-words.result 0 _ c.in-Some.torn _ _ _ _ _ _ c.words_to_try-words.ensures.some
+            c.words_to_try-words.ensures.fits (masks-some c.words_to_try-words.result)
+            (λ _. c.words_to_try-words.ensures.tried ∙ ap words_tried c.torn_words.ensures.last) (counts-none _ _)
+            (cut card) (was.1 (cut card).has_card),
+      )) c.in_err-cut_starts.ensures.full;
 }
 
 pub returns-in_err-torn-2 : goal.returns-in_err-torn-2
@@ -107,9 +110,12 @@ returns-in_err-cut_starts-2 g c = record {
       absurd (omega (arith, first)) in
       let few : c.loop-i.i < mask_count_of words = omega (arith, c.loop-i-test.true, c.mask_count-i-end.ensures) in
       full-passed c.from_residual-in_err-cut_starts-2.result _ _ _ c.from_residual-in_err-cut_starts-2.ensures.1
-      (λ was. (was.0, λ card. first-mask g.P.Board.Board.facts g.P.Board.Sweepable.torn _ _ words c.loop-i.i _
-      c.in-Some-2.torn _ _ _ _ _ _ c.words_to_try-words.ensures.some c.words_to_try-words.ensures.fits few later
-      (c.loop-i.invariant.counted card) (subst Cuts mask (cut card)) (was.1 (cut card).has_card)))
+      (λ was. (
+        was.0,
+        λ card. first-mask g.P.Board.Board.facts g.P.Board.Sweepable.torn _ _ words c.loop-i.i _
+            c.in-Some-2.torn _ _ _ _ _ _ c.words_to_try-words.ensures.some c.words_to_try-words.ensures.fits few later
+            (c.loop-i.invariant.counted card) (subst Cuts mask (cut card)) (was.1 (cut card).has_card),
+      ))
       c.in_err-cut_starts-2.ensures.full;
 }
 
