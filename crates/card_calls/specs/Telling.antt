@@ -5,7 +5,8 @@ use Rattle.nvm_board.specs.Aims.{WritesRuns}
 use Rattle.nvm_board.specs.Facts.{Facts, IsMemory}
 use Rattle.nvm_board.specs.History.{Log, Run, replayed}
 use Rattle.simulated_boards.specs.Given.{board_with}
-use Rattle.card_start.specs.Factory.{factory_card}
+use Rattle.card_start.specs.declared.memory_format.MemoryFormat.TheVariants.{Two}
+use Rattle.card_start.specs.Factory.{IsFactory, factory_card}
 use Rattle.command_base.specs.Finding.{Finds, HasCard}
 use Rattle.bench_lines.specs.Orders.{Order, IsOrderSized, Free}
 use Rattle.bench_turns.specs.BenchStates.{bench_facts}
@@ -192,11 +193,12 @@ FitsCall order out = IsOrderSized order × (ROOM ≤ length out)
 abbrev pub inserted : List ℕ → Bool → SessionState
 inserted words kept = begun_at (board_with words) kept
 
--- a handle has the factory card, in the first state on a new board of 896 blocks, and it isn't kept
+-- a handle has the factory card in format 2, in the first state on a new board of 896 blocks, and it isn't kept
 pub record IsFactoryFresh (now : Option SessionState) : Type 0 where
   pub board : Facts
   pub begun : now ≡ Some (begun_at board false)
   pub card : Finds board.words (factory_card 896)
+  pub words : IsFactory Two board.words
   pub counts : IsJustWritten board
   pub uncut : board.pending ≡ None
 

@@ -3,7 +3,8 @@ use Rattle.std.specs.Prelude.{◌≡◌, true, Option, None, refl}
 use Rattle.std.proofs.Common.{subst, sym, ap, ◌∙◌}
 use Rattle.nvm_board.specs.Aims.{due_of}
 use Rattle.nvm_board.specs.Facts.{Facts}
-use Rattle.card_start.specs.Factory.{factory_card}
+use Rattle.card_start.specs.declared.memory_format.MemoryFormat.TheVariants.{Two}
+use Rattle.card_start.specs.Factory.{IsFactory, factory_card}
 use Rattle.command_base.specs.Finding.{Finds}
 use Rattle.bench_turns.specs.BenchStates.{BenchState, off, bench_card, bench_facts, IsOff}
 use Rattle.t1_link.specs.ReaderTable.{Reader}
@@ -16,12 +17,13 @@ use Rattle.script_effects.specs.Prints.{IsFirstDesk, desk_of}
 
 -- the desk with the factory's board
 pub first_desk : (d : Desk) (f : Facts) → d.bench ≡ off (record f { dark = true }) → d.reader ≡ None
-    → d.line ≡ perfect_line → Finds f.words (factory_card 896) → IsJustWritten f → f.faults ≡ 0
-    → f.due ≡ due_of f.pending → IsFirstDesk d
-first_desk d f bench reader line finds counts faults due = record {
+    → d.line ≡ perfect_line → Finds f.words (factory_card 896) → IsFactory Two f.words → IsJustWritten f
+    → f.faults ≡ 0 → f.due ≡ due_of f.pending → IsFirstDesk d
+first_desk d f bench reader line finds words counts faults due = record {
   power = subst IsOff (sym bench) refl;
   good = subst IsGood (sym bench) (record { has_card = finds.has_card; faults = faults; due = due; well = tt });
   card = subst (λ (b : BenchState). bench_card b ≡ factory_card 896) (sym bench) finds.card;
+  words = subst (λ (b : BenchState). IsFactory Two (bench_facts b).words) (sym bench) words;
   counts = subst (λ (b : BenchState). IsJustWritten (bench_facts b)) (sym bench) (record {
     due = counts.due;
     cuts = counts.cuts;

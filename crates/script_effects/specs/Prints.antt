@@ -1,7 +1,8 @@
 -- The output of a script, line by line.
 use Rattle.std.specs.Prelude.{◌≡◌, ℕ, List, [], ◌∷◌, ◌++◌, None, Some, true}
 use Rattle.nvm_board.specs.Facts.{Facts}
-use Rattle.card_start.specs.Factory.{factory_card}
+use Rattle.card_start.specs.declared.memory_format.MemoryFormat.TheVariants.{Two}
+use Rattle.card_start.specs.Factory.{IsFactory, factory_card}
 pub use Rattle.bench_turns.specs.NewlyWritten.{IsJustWritten}
 use Rattle.bench_lines.specs.Orders.{Order}
 use Rattle.bench_turns.specs.BenchStates.{bench_card, bench_facts, off, IsOff}
@@ -21,11 +22,13 @@ PrintsLines old (line ∷ others) new out =
     × (order_of line ≡ Some order) × Performs order old between prints × IsGood between.bench
     × PrintsLines between others new rest × (out ≡ text_of prints ++ rest)
 
--- The first desk: the factory card on a new board of 896 blocks, power off, and no pending faults on the line.
+-- The first desk: the factory card in format 2 on a new board of 896 blocks, power off, and no pending faults on the
+-- line.
 pub record IsFirstDesk (d : Desk) : Type 0 where
   pub power : IsOff d.bench
   pub good : IsGood d.bench
   pub card : bench_card d.bench ≡ factory_card 896
+  pub words : IsFactory Two (bench_facts d.bench).words
   pub counts : IsJustWritten (bench_facts d.bench)
   pub reader : d.reader ≡ None
   pub line : d.line ≡ perfect_line
