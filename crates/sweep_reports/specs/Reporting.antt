@@ -32,9 +32,9 @@ pub record Sweeping {B : Type 0} (facts : B → Facts) (torn : B → ℕ) : Type
   pub depth : ℕ
   pub part : SweepPart
 
--- The results of all runs after a cut that left this board, each with the number of its runs. At the greatest count they
--- are those of the first runs. Each line begins with the head, and has the answer of each line of the probe, by its
--- number of turns.
+-- The results of all runs after a cut that left this board, each with the number of its runs. At the greatest count
+-- they are those of the first runs. Each line begins with the head, and has the answer of each line of the probe, by
+-- its number of turns.
 pub record AreResults (looks head : List ℕ) (depth : ℕ) (probe : List Turn) (board : Facts) (text : List ℕ) : Type 0
   where
     pub runs : ℕ
