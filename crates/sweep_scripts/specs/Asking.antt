@@ -119,7 +119,7 @@ ReadsLines (suc n) old new asked =
 abbrev pub missing_at_end : Section → List Step → Option LineError
 missing_at_end Probe (step ∷ steps) = None
 missing_at_end Probe [] = Some NoProbe
-missing_at_end AfterCommand steps = Some NoCommand
+missing_at_end AfterCommand steps = Some NoProbe
 missing_at_end Command steps = Some NoCommand
 missing_at_end Prepare steps = Some NoCommand
 

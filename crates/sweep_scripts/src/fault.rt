@@ -20,8 +20,8 @@ pub enum LineError {
     /// There isn't exactly one command between the marks.
     #[error("one apdu has to be between '# command' and '# probe'")]
     NoCommand,
-    /// The probe has no line.
-    #[error("the probe is empty, so nothing would look at the card")]
+    /// The script has no probe, or its probe has no step.
+    #[error("the probe is missing or empty, so nothing would look at the card")]
     NoProbe,
 }
 

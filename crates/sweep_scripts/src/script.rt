@@ -205,9 +205,8 @@ impl SweepScript {
         ensures { result ≡ missing_at_end self.now.section self.now.probe.items }
     {
         match self.section {
-            Section::Prepare | Section::Command | Section::AfterCommand => Some(
-                LineError::NoCommand,
-            ),
+            Section::Prepare | Section::Command => Some(LineError::NoCommand),
+            Section::AfterCommand => Some(LineError::NoProbe),
             Section::Probe => {
                 if self.probe.is_empty() {
                     Some(LineError::NoProbe)
