@@ -17,8 +17,8 @@ pub enum LineError {
     /// The depth is not a digit from 0 to 3.
     #[error("a depth is 0, 1, 2 or 3")]
     NoDepth,
-    /// There isn't exactly one command between the marks.
-    #[error("one apdu has to be between '# command' and '# probe'")]
+    /// The script doesn't have one command, and nothing else, between the marks.
+    #[error("one apdu and nothing else has to be between '# command' and '# probe'")]
     NoCommand,
     /// The script has no probe, or its probe has no step.
     #[error("the probe is missing or empty, so nothing would look at the card")]
