@@ -37,7 +37,8 @@ abbrev pub IsBadLine : Asked → LineError → Option (List ℕ) → Option (Lis
 IsBadLine before error old new = IsRefused before error old new
     ⊎ (IsUnfinished before error old new ⊎ ((error ≡ NoLine) × IsOverlong old new))
 
--- The line with this number, counted from 1, is bad, for this reason. Each line before it was taken.
+-- The line with this number, counted from 1, is bad, for this reason. Each line before it was taken. At most
+-- 16,777,216 bytes were read.
 pub record StopsAtLine (number : ℕ) (error : LineError) (old new : Option (List ℕ)) : Type 0 where
   pub counted : 1 ≤ number
   pub between : Option (List ℕ)
@@ -46,7 +47,8 @@ pub record StopsAtLine (number : ℕ) (error : LineError) (old new : Option (Lis
   pub bad : IsBadLine before error between new
   pub within : ReadsWithin old new
 
--- The reading stopped within a line, before its end and before it was too long. Each line before it was taken.
+-- The reading stopped within a line, before its end and before it was too long. Each line before it was taken. At most
+-- 16,777,216 bytes were read.
 pub record StopsInLine (old new : Option (List ℕ)) : Type 0 where
   pub number : ℕ
   pub between : Option (List ℕ)
@@ -58,7 +60,8 @@ pub record StopsInLine (old new : Option (List ℕ)) : Type 0 where
   pub short : IsTooLong begun → ⊥
   pub within : ReadsWithin old new
 
--- The end of the reading by its fault. A bad line is the first one, and a failing reader stops within a line.
+-- The end of the reading by its fault. A bad line is the first one. The reading stops within a line if the reader
+-- fails, or if the script has more than 16,777,216 bytes.
 abbrev pub ReadingStopsBy : SweepFault → Option (List ℕ) → Option (List ℕ) → Type 0
 ReadingStopsBy (BadLine number error) old new = StopsAtLine number error old new
 ReadingStopsBy Read old new = StopsInLine old new
