@@ -42,8 +42,8 @@ AreAtWrite facts torn plan k false all =
     AreOfUnmadeWrite facts torn (board_of facts plan) plan.prepare.now plan.command.now plan.probe.now plan.depth k all
 
 -- The effect of a part of a sweep on the tally, if the board has a card state. Each added finding is one of these. A
--- completed part has counted all its runs, in order. It reports a full tally only if no further run
--- can be counted, and has then counted the first of them.
+-- completed part has counted all its runs, in order. A part that reports a full tally has counted the first of its
+-- runs, in order, and no further run can be counted.
 pub record Sweeps {T : Type 0} (words : List ℕ) (Is : Finding → Type 0) (Are : T → List Finding → Type 0)
     (First : List Finding → Type 0) (old new : Sweep) (result : Result T Stop) : Type 0 where
   pub given : HasCard words → Adds Is (findings old.seen.items) (findings new.seen.items)
