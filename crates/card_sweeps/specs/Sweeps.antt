@@ -82,7 +82,8 @@ CutsStarts zero board left = left ≡ board
 CutsStarts (suc n) board left =
     (number mask : ℕ) × (between : Facts) × CutsStart number mask board between × CutsStarts n between left
 
--- The end of a run: an uncut power-on, the free space, and the probe.
+-- The end of a run: a power-on, the free space, and the probe. The sweep sets no cut for this power-on. A cut that was
+-- pending on the board may still come.
 pub record EndsIn (board : Facts) (probe : List Turn) (given : Finding) : Type 0 where
   pub item : Item
   pub started : BenchState

@@ -56,7 +56,7 @@ impl From<AllocError> for Stop {
 /// Runs a command, cut at each of its writes.
 /// Each run uses a copy of the board.
 /// Up to `depth` power-ons after it are cut too, until one makes no write. Each run ends with an uncut power-on and the
-/// probe.
+/// probe. A cut that was pending on the board may come in `prepare`.
 ///
 /// # Errors
 /// There is too little memory.
@@ -128,7 +128,8 @@ where
 }
 
 /// Tries every run that may follow on a board.
-/// Up to `depth` power-ons are cut, until one makes no write. Each run ends with an uncut power-on and the probe.
+/// Up to `depth` power-ons are cut, until one makes no write. Each run ends with a power-on for which no cut is set,
+/// and the probe. If no power-on is cut, a cut that was pending on the board may come in this one.
 ///
 /// # Errors
 /// There is too little memory.
@@ -312,7 +313,7 @@ where
     Ok(cut_board(matches!(turned, TurnResult::Dark), bench.into_board()))
 }
 
-/// Counts one run: an uncut power-on, and the probe.
+/// Counts one run: a power-on for which no cut is set, and the probe.
 fn look<P: TurnPlayer + Drop>(
     alloc: Global,
     board: &P::Board,

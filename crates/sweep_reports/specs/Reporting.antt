@@ -146,7 +146,8 @@ pub record AreKindsOrNone {B : Type 0} {facts : B → Facts} {torn : B → ℕ} 
   pub first : IsFirstPart sweeping.part → AreKinds sweeping text
   pub later : (IsFirstPart sweeping.part → ⊥) → text ≡ []
 
--- the items of these turns, and the result of an uncut power-on and the probe after them
+-- The items of these turns, and the result of a power-on and the probe after them. The sweep sets no cut for them. A
+-- cut that was pending on the board may come in them; on the board of the sweep program none is pending (swept_board).
 pub record IsFound {B : Type 0} {facts : B → Facts} {torn : B → ℕ} (sweeping : Sweeping facts torn) (stage : List ℕ)
     (turns : List Turn) (text : List ℕ) : Type 0 where
   pub trace : List Item

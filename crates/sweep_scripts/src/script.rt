@@ -36,7 +36,7 @@ pub struct SweepScript {
     pub prepare: Vec<Step>,
     /// The last block of the command. With it the card carries the command out.
     pub command: OwnBlock,
-    /// The steps after the uncut power-on.
+    /// The steps after the power-on for which the sweep sets no cut.
     pub probe: Vec<Step>,
     /// The number of these steps for each line of the probe.
     pub looks: Vec<usize>,
