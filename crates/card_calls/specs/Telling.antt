@@ -1,6 +1,6 @@
 -- The outcome of a call from C, and its bytes.
 use Rattle.std.specs.Prelude.{◌≡◌, ◌≢◌, ◌≤◌, ◌<◌, ◌*◌, ◌⊎◌, ℕ, ℤ, pos, Bool, true, false, List, [], ◌∷◌, Option, None}
-use Rattle.std.specs.Prelude.{Some, Result, Ok, Err, length, take}
+use Rattle.std.specs.Prelude.{Some, Result, Ok, Err, length, take, drop}
 use Rattle.nvm_board.specs.Aims.{WritesRuns}
 use Rattle.nvm_board.specs.Facts.{Facts, IsMemory}
 use Rattle.nvm_board.specs.History.{Log, Run, replayed}
@@ -127,10 +127,11 @@ CallRuns order (Some was) (Some now) result Holds Fails =
     ⊎ (Fails × (((result ≡ outcome.Untaken) × HasUntaken was now)
     ⊎ ((result ≡ outcome.Overrun) × ((prints : Print) × IsPerformed order was now prints) × LosesWrites was now)))
 
--- the buffer begins with these bytes, and their number is returned
-pub record CopiesOut (bytes new : List ℕ) (size : ℕ) : Type 0 where
+-- The buffer begins with these bytes, and their number is returned. The rest of the buffer is unchanged.
+pub record CopiesOut (bytes old new : List ℕ) (size : ℕ) : Type 0 where
   pub size_is : size ≡ length bytes
   pub copied : take (length bytes) new ≡ bytes
+  pub rest : drop (length bytes) new ≡ drop (length bytes) old
 
 -- no bytes are returned, and the buffer is unchanged
 abbrev pub CopiesNothing : List ℕ → List ℕ → ℕ → Type 0
@@ -143,7 +144,7 @@ Copies old new size prints_atr = CopiesNothing old new size
 Copies old new size prints_mute = CopiesNothing old new size
 Copies old new size prints_dark = CopiesNothing old new size
 Copies old new size prints_lost = CopiesNothing old new size
-Copies old new size (prints_bytes bytes) = CopiesOut bytes new size
+Copies old new size (prints_bytes bytes) = CopiesOut bytes old new size
 Copies old new size (prints_free free) = CopiesNothing old new size
 
 -- the free space is returned, or zeros
@@ -218,7 +219,7 @@ ReadsWords items (Some now) (Err why) = why ≡ outcome.Memory
 abbrev pub TellsWords : Option SessionState → List ℕ → List ℕ → ℕ → ℤ → Type 0
 TellsWords None old new size number = (number ≡ outcome_number outcome.Absent) × CopiesNothing old new size
 TellsWords (Some now) old new size number = let words = (bench_facts now.desk.bench).words in
-    ((number ≡ outcome_number outcome.Done) × CopiesOut words new size)
+    ((number ≡ outcome_number outcome.Done) × CopiesOut words old new size)
     ⊎ ((number ≡ outcome_number outcome.Size) × (size ≡ length words) × (length old < length words)
     × (new ≡ old))
     ⊎ ((number ≡ outcome_number outcome.Memory) × CopiesNothing old new size)
@@ -240,7 +241,7 @@ TakesFrom (Some was) (Some now) (Err why) = ⊥
 abbrev pub CopiesOldest : List Run → List Run → List ℕ → List ℕ → ℕ → ℕ → Type 0
 CopiesOldest [] rest old new offset size = (rest ≡ []) × (offset ≡ 0) × CopiesNothing old new size
 CopiesOldest (run ∷ others) rest old new offset size =
-    (rest ≡ others) × (offset ≡ WORD_BYTES * run.at) × CopiesOut (image_bytes run.words) new size
+    (rest ≡ others) × (offset ≡ WORD_BYTES * run.at) × CopiesOut (image_bytes run.words) old new size
 
 -- A call that takes a write, with enough room for its bytes: the oldest one, and all else stays.
 abbrev pub TakesWrite : Option SessionState → Option SessionState → List ℕ → List ℕ → ℕ → ℕ → ℤ → Type 0

@@ -115,7 +115,7 @@ impl Told {
 /// Copies bytes to the start of a buffer, and returns their number.
 pub fn copy(bytes: &[u8], out: &mut [u8]) -> usize
     requires { length bytes.now ≤ length out.old }
-    ensures { CopiesOut bytes.now out.new result }
+    ensures { CopiesOut bytes.now out.old out.new result }
 {
     out[..bytes.len()].copy_from_slice(bytes);
     bytes.len()
