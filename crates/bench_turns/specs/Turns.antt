@@ -68,8 +68,8 @@ GoesOnWith old got (off facts) out = ⊥
 GoesOnWith old got (on new) out = Replies old got new out
 
 -- Power was lost while a command ran. The card state after recovery is one of its stages, and the words written so far
--- determine which one. Only a PIN command makes a comparison. If the command changes nothing permanent, nothing was
--- written.
+-- determine which one. Only a PIN command makes a comparison: it costs a try, or it matches and resets the tries. If
+-- the command changes nothing permanent, nothing was written.
 pub record TurnIsCut (old : Powered) (got : List ℕ) (new : BenchState) : Type 0 where
   pub power : IsOff new
   pub run : IsRun (link_step old.link got).reaction
