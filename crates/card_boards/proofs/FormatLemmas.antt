@@ -74,11 +74,14 @@ pub just_written : (n : ℕ) (old new : Facts) → old ≡ new_board n → Stead
     → WritesAtMost n old new → IsNewlyWritten n new
 just_written n old new is steady spent =
     let due : old.due ≡ 0 = ap (λ (f : Facts). f.due) is in
+    let faults : old.faults ≡ 0 = ap (λ (f : Facts). f.faults) is in
     let cuts : old.cuts ≡ 0 = ap (λ (f : Facts). f.cuts) is in
     let writes : old.writes ≡ 0 = ap (λ (f : Facts). f.writes) is in
     let most = spent.writes in
     record {
+      lit = steady.lit;
       due = steady.due ∙ due;
+      faults = steady.faults ∙ faults;
       cuts = steady.cuts ∙ cuts;
       writes = omega (arith, most, writes);
       compares = spent.compares ∙ ap (λ (f : Facts). f.compares) is;

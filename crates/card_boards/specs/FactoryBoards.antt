@@ -6,8 +6,8 @@ use Rattle.card_start.specs.Factory.{IsFactory, factory_card}
 use Rattle.command_base.specs.Finding.{Finds}
 use Rattle.bench_turns.specs.NewlyWritten.{IsNewlyWritten}
 
--- The factory card in format 2, on a new board of these pages. Only the writes of its making are counted, and no cut is
--- pending.
+-- The factory card in format 2, on a new board of these pages with power. Only the writes of its making are counted,
+-- and no cut is pending.
 pub record IsFactoryBoard (pages : ℕ) (f : Facts) : Type 0 where
   pub card : Finds f.words (factory_card (pages - 128))
   pub words : IsFactory Two f.words

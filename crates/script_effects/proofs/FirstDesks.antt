@@ -1,5 +1,5 @@
 -- The first desk of a script: power off, no reader, no pending faults.
-use Rattle.std.specs.Prelude.{◌≡◌, true, Option, None, refl}
+use Rattle.std.specs.Prelude.{◌≡◌, true, false, Option, None, refl}
 use Rattle.std.proofs.Common.{subst, sym, ap, ◌∙◌}
 use Rattle.nvm_board.specs.Aims.{due_of}
 use Rattle.nvm_board.specs.Facts.{Facts}
@@ -24,8 +24,10 @@ first_desk d f bench reader line finds words counts faults due = record {
   good = subst IsGood (sym bench) (record { has_card = finds.has_card; faults = faults; due = due; well = tt });
   card = subst (λ (b : BenchState). bench_card b ≡ factory_card 896) (sym bench) finds.card;
   words = subst (λ (b : BenchState). IsFactory Two (bench_facts b).words) (sym bench) words;
-  counts = subst (λ (b : BenchState). IsJustWritten (bench_facts b)) (sym bench) (record {
+  counts = subst (λ (b : BenchState). IsJustWritten (record (bench_facts b) { dark = false })) (sym bench) (record {
+    lit = refl;
     due = counts.due;
+    faults = counts.faults;
     cuts = counts.cuts;
     writes = counts.writes;
     compares = counts.compares;

@@ -1,5 +1,5 @@
 -- The output of a script, line by line.
-use Rattle.std.specs.Prelude.{◌≡◌, ℕ, List, [], ◌∷◌, ◌++◌, None, Some, true}
+use Rattle.std.specs.Prelude.{◌≡◌, ℕ, List, [], ◌∷◌, ◌++◌, None, Some, true, false}
 use Rattle.nvm_board.specs.Facts.{Facts}
 use Rattle.card_start.specs.declared.memory_format.MemoryFormat.TheVariants.{Two}
 use Rattle.card_start.specs.Factory.{IsFactory, factory_card}
@@ -23,13 +23,13 @@ PrintsLines old (line ∷ others) new out =
     × PrintsLines between others new rest × (out ≡ text_of prints ++ rest)
 
 -- The first desk: the factory card in format 2 on a new board of 896 blocks, power off, and no pending faults on the
--- line.
+-- line. But for power, the board is as the card was made on it.
 pub record IsFirstDesk (d : Desk) : Type 0 where
   pub power : IsOff d.bench
   pub good : IsGood d.bench
   pub card : bench_card d.bench ≡ factory_card 896
   pub words : IsFactory Two (bench_facts d.bench).words
-  pub counts : IsJustWritten (bench_facts d.bench)
+  pub counts : IsJustWritten (record (bench_facts d.bench) { dark = false })
   pub reader : d.reader ≡ None
   pub line : d.line ≡ perfect_line
 
