@@ -1,5 +1,5 @@
 -- The board that a command line asks for.
-use Rattle.std.specs.Prelude.{◌≡◌, Bool, Option, None, Some, option_map}
+use Rattle.std.specs.Prelude.{◌≡◌, Bool, Option, None, Some, option_map, if◌then◌else◌}
 use Rattle.nvm_board.specs.declared.board.TheConstants.{LEAST_PAGES}
 use Rattle.nvm_board.specs.Facts.{Facts}
 use Rattle.card_boards.specs.FactoryBoards.{IsFactoryBoard}
@@ -13,12 +13,13 @@ use Rattle.card_file.specs.declared.options.Asked.TheVariants as asked
 abbrev pub facts_of : KeptBoard KeptFile → Facts
 facts_of board = kept_facts (λ file. None) board
 
--- whether each write waits until the disk has it, if a file follows the board
+-- whether each write waits until the disk has it, if a file follows the board and gets the next write
 abbrev pub syncs : KeptBoard KeptFile → Option Bool
-syncs board = option_map (λ file. file.sync) board.follower
+syncs board = if board.follows then option_map (λ file. file.sync) board.follower else None
 
 -- Without `--card` it is a new board of 1,024 pages with the factory card, and no file follows it. A file follows the
--- board of a card in a file, and its writes wait for the disk as the options ask. There is no board for unknown words.
+-- board of a card in a file, gets its next write, and waits for the disk as the options ask. There is no board for
+-- unknown words.
 abbrev pub IsBoardOf : Asked → KeptBoard KeptFile → Type 0
 IsBoardOf asked.Factory board = (board.follower ≡ None) × IsFactoryBoard LEAST_PAGES (facts_of board)
 IsBoardOf (asked.Card options) board = syncs board ≡ Some options.sync
