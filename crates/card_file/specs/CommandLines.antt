@@ -75,7 +75,8 @@ TakesWords old [] new = new ≡ old
 TakesWords old (word ∷ words) new =
     (between : GivenOptions) × TakesRole old.role old word between × TakesWords between words new
 
--- What the options ask for. Without `--card` they ask for the factory card, whatever other words there are.
+-- What the options ask for. Without `--card` they ask for the factory card, whatever other texts there are. The program
+-- refuses a word that is not UTF-8 before.
 abbrev pub IsAskedBy : GivenOptions → Asked → Type 0
 IsAskedBy given (asked.Card options) = (given.path ≡ Some (string_bytes options.path))
     × (given.pages ≡ pages_number options.pages) × (given.sync ≡ options.sync) × (given.known ≡ true)
