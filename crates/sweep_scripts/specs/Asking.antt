@@ -1,6 +1,6 @@
 -- What the lines of a sweep script ask for.
 use Rattle.std.specs.Prelude.{◌≡◌, ◌≤◌, ◌+◌, ◌-◌, ◌&&◌, nat_eq, nat_le, ℕ, zero, suc, List, [], ◌∷◌, ◌++◌}
-use Rattle.std.specs.Prelude.{drop, length, codes, Option, Some, None, Result, Ok, Err, IfSome, if◌then◌else◌}
+use Rattle.std.specs.Prelude.{drop, length, codes, Option, Some, None, is_none, Result, Ok, Err, IfSome, if◌then◌else◌}
 use Rattle.std.specs.Cmp.Lexicographic.{pointwise}
 use Rattle.bench_lines.specs.Orders.{Order, begins_with, order_of}
 use Rattle.bench_lines.specs.Orders as order
@@ -100,9 +100,11 @@ takes asked (Some (order.Cut number mask)) = Err SetsFault
 takes asked (Some (order.Lose number)) = Err SetsFault
 takes asked (Some (order.Garble number)) = Err SetsFault
 
--- A line: a mark, a depth, or an order. A bad line has a reason.
+-- A line: a mark, a depth, or an order. A bad line has one reason. A line without an order, as one that is too long, is
+-- no line, even if it begins as a mark does.
 unfoldable pub take_line : Asked → List ℕ → Result Asked LineError
 take_line asked line =
+    if is_none (order_of line) then Err NoLine else
     if pointwise nat_eq line (codes "# command") then begins_command asked asked.section else
     if pointwise nat_eq line (codes "# probe") then begins_probe asked asked.section else
     if begins_with line (codes "# depth ") then sets_depth asked (drop 8 line) else

@@ -71,6 +71,10 @@ impl SweepScript {
             (λ _. take_line (asked_of self.old) line.now ≡ Ok (asked_of self.new))
             (λ stop. Refuses stop (take_line (asked_of self.old) line.now)) }
     {
+        // First, since a line that is too long is no mark.
+        let Some(order) = Order::parse(line, given) else {
+            return Err(LineStop::Bad(LineError::NoLine));
+        };
         if line == b"# command".as_slice() {
             return self.begin_command();
         }
@@ -80,9 +84,6 @@ impl SweepScript {
         if let Some(digits) = line.strip_prefix(b"# depth ") {
             return self.set_depth(digits);
         }
-        let Some(order) = Order::parse(line, given) else {
-            return Err(LineStop::Bad(LineError::NoLine));
-        };
         self.take_order(alloc, order, given.as_slice())
     }
 
