@@ -14,6 +14,8 @@ from explaining.templates import Template, count
 from explaining.twin import Twin
 
 TABLE = Path(__file__).resolve().parent / "words" / "card.table"
+# the card's PINs have the references 01 to 08; others are told as P2 has them
+PINS = 8
 # the low bits of P2 of READ and UPDATE RECORD
 RECORD_MODES = {2: "next record", 3: "previous record"}
 
@@ -75,7 +77,7 @@ class Log:
         """A command and its answer; what it makes the current file is kept."""
         it, status, data = Command(given), answer[-4:], bytes.fromhex(answer[:-4])
         asked, name = self.command(given), self.table["command"].get(it.key, "")
-        because = None if status == "9000" else Case(it, status, self.files, self.twin, self.table["command"]).why()
+        because = None if status == "9000" else Case(it, status, self.files, self.twin, self.table).why()
         self.follow(it, status)
         words = self.status(status).replace(f"{name}: ", "")
         if because:
@@ -122,7 +124,7 @@ class Log:
         if it.key == "00E0":
             return Template(it.data).identifier
         if it.key in OF_PINS:
-            return f"PIN {it.p2}"
+            return f"PIN {it.p2}" if 1 <= it.p2 <= PINS else f"PIN {it.p2:02X}"
         if it.key == "00FE":
             return ""
         if it.key in ("00E4", *LIFE_CYCLE) and it.data:
@@ -191,7 +193,9 @@ def amount(it: Command) -> str:
     """How many bytes are sent, or asked for."""
     if it.data:
         return count(len(it.data), "byte")
-    return {None: "no Le", 0: "all bytes"}.get(it.expected) or count(it.expected, "byte")
+    if it.expected is None:
+        return "no Le"
+    return count(it.expected, "byte") if it.expected else "all bytes"
 
 
 def record(it: Command) -> str:

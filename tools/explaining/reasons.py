@@ -66,8 +66,8 @@ def is_met(condition: str, facts: dict[str, Fact]) -> bool:
 class Case:
     """A command and its status, and what is known of them."""
 
-    def __init__(self, it: Command, status: str, files: Files, twin: Twin, names: dict[str, str]):
-        self.it, self.status, self.files, self.twin, self.names = it, status, files, twin, names
+    def __init__(self, it: Command, status: str, files: Files, twin: Twin, words: dict[str, dict[str, str]]):
+        self.it, self.status, self.files, self.twin, self.words = it, status, files, twin, words
 
     def why(self) -> str | None:
         """The words of the first row that holds; None where there is none."""
@@ -103,10 +103,10 @@ class Case:
         """What the command's bytes say."""
         it = self.it
         other = f"{'80' if it.key[:2] == '00' else '00'}{it.key[2:]}"
-        name = self.names.get(other)
+        name = self.words["command"].get(other)
         return {
             "fault": it.fault, "cla": it.given[0], "p1": it.p1, "p2": it.p2, "pin": it.p2, "mode": it.p2 & 7,
-            "p1_digits": f"{it.p1:02X}", "p2_digits": f"{it.p2:02X}", "digits": it.data.hex().upper(),
+            "reference": self.words["pin"].get(f"{it.p2:02X}"), "p1_digits": f"{it.p1:02X}", "p2_digits": f"{it.p2:02X}", "digits": it.data.hex().upper(),
             "lc": it.lc, "follow": follow(it.rest, "byte"),
             "sent": len(it.data), "sent_bytes": count(len(it.data), "byte"), "has_data": bool(it.data),
             "has_le": it.expected is not None, "le": it.expected, "short": it.short_identifier(),
