@@ -1,6 +1,7 @@
 """A memory image in a file: its words, its journal, and the words after undo (docs/MEMORY.md, "Undo")."""
 import fcntl
 import os
+import stat
 import struct
 from dataclasses import dataclass
 from functools import cached_property
@@ -78,7 +79,9 @@ def image_of(data: bytes) -> Image:
 def read_image(path: str) -> tuple[Image, bool]:
     """The image in a file, and whether another program has the file locked."""
     try:
-        with open(path, "rb") as it:
+        with open(path, "rb", opener=without_waiting) as it:
+            if not stat.S_ISREG(os.fstat(it.fileno()).st_mode):
+                raise Unreadable(f"{path} is not a regular file; a memory image is one")
             is_used = not can_lock(it.fileno())
             data = it.read(layout.MOST_PAGES * layout.PAGE_BYTES + 1)
             size = os.fstat(it.fileno()).st_size
@@ -90,6 +93,11 @@ def read_image(path: str) -> tuple[Image, bool]:
             f" and {layout.LEAST_PAGES:,} to {layout.MOST_PAGES:,} pages"
         )
     return image_of(data), is_used
+
+
+def without_waiting(path: str, flags: int) -> int:
+    """Opens a file, a FIFO without waiting for its writer."""
+    return os.open(path, flags | os.O_NONBLOCK)
 
 
 def can_lock(descriptor: int) -> bool:

@@ -29,6 +29,16 @@ ENTRY_WORDS = (
 PIN_WORDS = ("tries", "unblocking tries", "value", "value", "unblocking value", "unblocking value", "enabled")
 
 
+# the words of a PIN's page that are its secrets
+PIN_SECRETS = tuple(it for it, use in enumerate(PIN_WORDS) if use.endswith("value"))
+
+
+def is_secret(address: int) -> bool:
+    """Whether the word of this address is a part of a PIN's value or unblocking value."""
+    page, word = divmod(address, PAGE_WORDS)
+    return PIN_PAGE <= page < GATE_PAGE and word in PIN_SECRETS
+
+
 def halves(word: int) -> tuple[int, int]:
     """The upper and the lower 16 bits of a word."""
     return word >> 16, word & 0xFFFF

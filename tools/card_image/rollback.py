@@ -16,6 +16,10 @@ class Step:
     now: int
     earlier: int
 
+    def is_hidden(self, has_secrets: bool) -> bool:
+        """Whether its words are a PIN's, and may not be shown."""
+        return layout.is_secret(self.address) and not has_secrets
+
 
 def steps(reading: Reading) -> list[Step]:
     """Each word that the counting pairs name, once, in the order of the pairs."""

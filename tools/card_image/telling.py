@@ -6,7 +6,7 @@ from typing import Any
 from explaining.templates import count as counted
 
 from . import layout
-from .rollback import steps
+from .rollback import Step, steps
 from .rule_words import allowed, rule_line
 from .tree import Card, File, Pin, Reading
 
@@ -20,7 +20,7 @@ def text(reading: Reading, has_secrets: bool, has_content: bool) -> Iterator[str
     yield f"memory   {counted(image.pages, 'page')}" + (f", format {card.format}" if card else "")
     if card:
         yield f"card     {'terminated' if card.is_terminated else 'in use'}"
-    yield from journal_lines(reading)
+    yield from journal_lines(reading, has_secrets)
     if not card:
         yield from broken_lines(reading)
         return
@@ -32,8 +32,8 @@ def text(reading: Reading, has_secrets: bool, has_content: bool) -> Iterator[str
     yield from pin_lines(card.pins, has_secrets)
 
 
-def journal_lines(reading: Reading) -> Iterator[str]:
-    """What the journal holds, and what recovery does."""
+def journal_lines(reading: Reading, has_secrets: bool) -> Iterator[str]:
+    """What the journal holds, and what recovery does; values of PINs only where they may be shown."""
     image = reading.image
     if reading.bad_journal:
         place, why = reading.bad_journal
@@ -44,8 +44,14 @@ def journal_lines(reading: Reading) -> Iterator[str]:
         pairs = counted(image.gate, "pair")
         yield f"journal  {pairs}: power failed in a transaction, and the next power-on rolls it back:"
         for step in steps(reading):
-            change = "unchanged" if step.now == step.earlier else f"{step.now:08X} back to {step.earlier:08X}"
-            yield f"         {step.place}: {change}"
+            yield f"         {step.place}: {change_line(step, has_secrets)}"
+
+
+def change_line(step: Step, has_secrets: bool) -> str:
+    """The word that recovery replaces, and the one that it writes."""
+    if step.is_hidden(has_secrets):
+        return "back to the value before (--secrets shows it)"
+    return "unchanged" if step.now == step.earlier else f"{step.now:08X} back to {step.earlier:08X}"
 
 
 def broken_lines(reading: Reading) -> Iterator[str]:
@@ -129,8 +135,7 @@ def values(reading: Reading, has_secrets: bool) -> dict[str, Any]:
         journal["bad"] = dict(zip(("place", "why"), reading.bad_journal))
     else:
         journal["rolls_back"] = [
-            {"address": it.address, "place": it.place, "now": f"{it.now:08X}", "earlier": f"{it.earlier:08X}"}
-            for it in steps(reading)
+            {"address": it.address, "place": it.place} | word_values(it, has_secrets) for it in steps(reading)
         ]
     found: dict[str, Any] = {"pages": image.pages, "journal": journal, "is_card": card is not None}
     found["broken"] = [{"rule": it.rule, "place": it.place, "why": it.why} for it in reading.breaks]
@@ -140,6 +145,13 @@ def values(reading: Reading, has_secrets: bool) -> dict[str, Any]:
         found["files"] = [file_values(it) for it in card.files]
         found["pins"] = [pin_values(it, has_secrets) for it in card.pins]
     return found
+
+
+def word_values(step: Step, has_secrets: bool) -> dict[str, str | None]:
+    """The word that recovery replaces, and the one that it writes; null where they may not be shown."""
+    if step.is_hidden(has_secrets):
+        return {"now": None, "earlier": None}
+    return {"now": f"{step.now:08X}", "earlier": f"{step.earlier:08X}"}
 
 
 def file_values(file: File) -> dict[str, Any]:

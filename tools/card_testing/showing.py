@@ -1,5 +1,7 @@
 """What tools/card prints of images that are built by hand: text, differences, pictures, and its exit statuses."""
 import fcntl
+import json
+import os
 import subprocess
 import xml.etree.ElementTree as ElementTree
 from pathlib import Path
@@ -41,7 +43,7 @@ DIFFERENCES: tuple[tuple[dict[int, int], list[str]], ...] = (
 
 def card(*words: str | Path) -> tuple[int, list[str], str]:
     """Runs tools/card: the exit status, the lines printed, and what standard error says."""
-    ran = subprocess.run([TOP / "tools/card", *words], capture_output=True, text=True)
+    ran = subprocess.run([TOP / "tools/card", *words], capture_output=True, text=True, timeout=60)
     return ran.returncode, ran.stdout.splitlines(), ran.stderr
 
 
@@ -62,6 +64,47 @@ def of_text(checks: Checks, image: Path) -> None:
     with open(image, "rb") as it:
         fcntl.flock(it, fcntl.LOCK_EX)
         checks.compare("an image in use", True, "is in use" in card(image)[2])
+
+
+def first_step(*words: str | Path) -> object:
+    """The first word that the next power-on writes back, as programs read it."""
+    return json.loads("".join(card(*words)[1]))["journal"]["rolls_back"][0]
+
+
+def of_secrets(checks: Checks, image: Path, other: Path) -> None:
+    """A CHANGE REFERENCE DATA that lost power: neither PIN is shown, in whatever form, unless they are asked for."""
+    old, new, puk = 0x31323334, 0x39383736, 0x41424344
+    pairs = {GATE: 3, PAIRS: 1042, PAIRS + 1: old, PAIRS + 2: 1040, PAIRS + 3: 3}
+    # (the last secret: the second word of PIN 8's unblocking value)
+    pairs |= {PAIRS + 4: 1157, PAIRS + 5: puk}
+    image.write_bytes(data_of(changed({**pairs, 1042: new})))
+    other.write_bytes(data_of(changed({1042: new})))
+    differences: tuple[str | Path, ...] = ("--diff", image, other)
+    ways: list[tuple[str | Path, ...]] = [(image,), ("--content", image), differences]
+    for words in ways:
+        for form in (words, ("--json", *words)):
+            told = "".join(card(*form)[1])
+            shown = [it for it in (old, new, puk) if f"{it:08X}" in told or it.to_bytes(4, "big").decode() in told]
+            checks.compare(f"no PIN is shown by {' '.join(map(str, form))}", [], shown)
+    hidden = "         PIN 1, value: back to the value before (--secrets shows it)"
+    others = ["         PIN 1, tries: unchanged", hidden.replace("PIN 1, value", "PIN 8, unblocking value")]
+    checks.compare("a hidden PIN's words", [hidden, *others], card(image)[1][3:6])
+    pair: dict[str, object] = {"address": 1042, "place": "PIN 1, value", "now": None, "earlier": None}
+    checks.compare("a hidden PIN for programs", pair, first_step("--json", image))
+    shown_pair = "         PIN 1, value: 39383736 back to 31323334"
+    checks.compare("a PIN that is asked for", shown_pair, card("--secrets", image)[1][3])
+    pair |= {"now": "39383736", "earlier": "31323334"}
+    checks.compare("the same for programs", pair, first_step("--json", "--secrets", image))
+
+
+def of_no_file(checks: Checks, folder: Path) -> None:
+    """What is not a regular file is refused, and nothing waits for a writer."""
+    pipe = folder / "pipe"
+    os.mkfifo(pipe)
+    for path in (pipe, Path("/dev/zero"), Path("/dev/null")):
+        said = f"card: {path} is not a regular file; a memory image is one\n"
+        checks.compare(f"{path.name} as a card", (2, [], said), card(path))
+    checks.compare("a folder as a card", (2, [], f"card: {folder}: Is a directory\n"), card(folder))
 
 
 def of_differences(checks: Checks, image: Path, other: Path) -> None:
@@ -98,12 +141,12 @@ def of_another_file(checks: Checks, image: Path, folder: Path) -> None:
     checks.compare("the card below it", True, other.read_bytes() == data_of(factory()))
     full = folder / "full.svg"
     full.symlink_to("/dev/full")
-    wanted = (4, [], f"card: {full} can't be written: No space left on device\n")
-    checks.compare("a picture where no room is", wanted, card("--pages", full, image))
+    said = f"card: {full} can't be written: No space left on device\n"
+    checks.compare("a picture where no room is", (4, [], said), card("--pages", full, image))
     with open("/dev/full", "w", encoding="ascii") as it:
         ran = subprocess.run([TOP / "tools/card", image], stdout=it, stderr=subprocess.PIPE, text=True)
-    wanted = (4, "card: the output can't be written: No space left on device\n")
-    checks.compare("a card where no room is", wanted, (ran.returncode, ran.stderr))
+    said = "card: the output can't be written: No space left on device\n"
+    checks.compare("a card where no room is", (4, said), (ran.returncode, ran.stderr))
     status, _, said = card("--pages", folder / "none" / "it.svg", image)
     checks.compare("a picture in no folder", (2, True), (status, "there is no folder for " in said))
 
@@ -112,6 +155,8 @@ def check(checks: Checks, folder: Path) -> None:
     """All that it prints."""
     image = folder / "shown.image"
     of_text(checks, image)
+    of_secrets(checks, image, folder / "other.image")
+    of_no_file(checks, folder)
     of_differences(checks, image, folder / "other.image")
     of_pictures(checks, image, folder / "shown.svg")
     of_another_file(checks, image, folder)
