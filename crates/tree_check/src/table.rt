@@ -4,12 +4,19 @@ ghost use Rattle.std.specs.Prelude.{◌≡◌, ◌↔◌, ◌<◌, ◌≤◌, []
 ghost use Rattle.file_tree.specs.Table.{entry_in, ancestor, extents, free_entries, IsMasterFile, IsBelowMaster};
 ghost use Rattle.file_tree.specs.Table.{HaveIdentifiers, IsTable};
 ghost use Rattle.file_tree.specs.TreeParts.{BearOneName, ShareShort, HasOwnShort, HasOwnName};
-ghost use Rattle.file_tree.specs.TreeParts.{AreBelow, AreUnlike, IsAlone};
+ghost use Rattle.file_tree.specs.TreeParts.{AreBelow, AreUnlike};
 ghost use Rattle.tree_check.specs.SurveyParts.{CanBeIndexed};
+ghost use Rattle.tree_check.specs.Sums.{next_sum, name_sum, short_sum, HaveOwnShorts, HaveOwnNames};
 
 use crate::rules::are_entries;
 use card_state::identifiers::MASTER_FILE;
 use file_tree::{DEEPEST, Entry, EntryKind, EntryNumber, ExtentList};
+
+/// The number of sums of names and of short identifiers.
+const SUMS: usize = 256;
+
+/// The factor of a sum.
+const SUM_FACTOR: u8 = 31;
 
 /// Returns the parent of an entry's file. Past the table it is the MF.
 fn parent_of(entries: &[Entry], e: EntryNumber) -> EntryNumber
@@ -123,24 +130,74 @@ fn has_own_name(entries: &[Entry], e: usize) -> bool
     true
 }
 
-/// Returns true if no later used entry conflicts with this one. Identifiers are checked elsewhere.
-fn is_alone(entries: &[Entry], e: usize) -> bool
-    requires { e < length entries.now }
-    ensures { IsTrue result ↔ IsAlone entries.now e }
+/// Returns a sum with one more byte.
+fn next_sum(sum: u8, byte: u8) -> u8
+    ensures { result ≡ next_sum sum byte }
 {
-    has_own_short(entries, e) && has_own_name(entries, e)
+    sum.wrapping_mul(SUM_FACTOR).wrapping_add(byte)
 }
 
-/// Returns true if no two used entries conflict.
-fn are_apart(entries: &[Entry]) -> bool
-    ensures { IsTrue result ↔ AreUnlike entries.now }
+/// Returns the sum of a name. Names that differ in their last byte alone have different sums.
+fn name_sum(name: &[u8]) -> u8
+    ensures { result ≡ name_sum name.now }
 {
-    for e in 0..entries.len() {
-        if entries[e].is_used() && !is_alone(entries, e) {
-            return false;
+    name.iter().fold(0, |sum, byte| next_sum(sum, *byte))
+}
+
+/// Returns the sum of a child's short identifier and its DF.
+fn short_sum(entry: &Entry) -> u8
+    ensures { result ≡ short_sum entry.now }
+{
+    next_sum(entry.parent, entry.short)
+}
+
+/// Returns true if no two used entries are children of one DF with the same short identifier. It compares an entry
+/// with others only if a later one has the same sum.
+fn have_own_shorts(entries: &[Entry]) -> bool
+    ensures { IsTrue result ↔ HaveOwnShorts entries.now }
+{
+    let mut met = [false; SUMS];
+    let mut e = entries.len();
+    while e > 0 {
+        e -= 1;
+        let one = &entries[e];
+        if one.is_used() && one.short != 0 {
+            let sum = usize::from(short_sum(one));
+            if met[sum] && !has_own_short(entries, e) {
+                return false;
+            }
+            met[sum] = true;
         }
     }
     true
+}
+
+/// Returns true if no two used entries have the same name. It compares an entry with others only if a later one has
+/// the same sum.
+fn have_own_names(entries: &[Entry]) -> bool
+    ensures { IsTrue result ↔ HaveOwnNames entries.now }
+{
+    let mut met = [false; SUMS];
+    let mut e = entries.len();
+    while e > 0 {
+        e -= 1;
+        let one = &entries[e];
+        if one.is_used() && one.name_length != 0 {
+            let sum = usize::from(name_sum(one.name()));
+            if met[sum] && !has_own_name(entries, e) {
+                return false;
+            }
+            met[sum] = true;
+        }
+    }
+    true
+}
+
+/// Returns true if no two used entries conflict. Identifiers are checked elsewhere.
+fn are_apart(entries: &[Entry]) -> bool
+    ensures { IsTrue result ↔ AreUnlike entries.now }
+{
+    have_own_shorts(entries) && have_own_names(entries)
 }
 
 /// Returns true if the entries satisfy the rules of a tree. The caller's index has already shown that children of one
