@@ -64,6 +64,25 @@ def make_many(count: int, shorts: int = 0) -> list[str]:
     return [make_bytes(f"{0x6F01 + number:04X}", 10, number + 3 if number < shorts else 0) for number in range(count)]
 
 
+def make_named(count: int, step: int = 0) -> list[str]:
+    """The lines that create DFs below the MF, whose names of 16 bytes differ at the end. With step 31 all names have
+    one sum, by which the check at power-on finds those that it has to compare."""
+    ends = [(it, -step * it % 256) if step else (0, it) for it in range(count)]
+    names = ["A0000000871002FF49FF05890000" + bytes(it).hex().upper() for it in ends]
+    made = [make_directory(f"{0x7F01 + it:04X}", name) for it, name in enumerate(names)]
+    return [line for it in made for line in (it, select("3F00"))]
+
+
+def make_numbered(count: int) -> list[str]:
+    """The lines that create files with short identifiers: up to 29 in each of as many DFs as it takes."""
+    lines = []
+    for it in range(count):
+        if it % 29 == 0:
+            lines += [select("3F00"), make_directory(f"{0x7F01 + it // 29:04X}")]
+        lines.append(make_bytes(f"{0x6F01 + it:04X}", 10, it % 29 + 1))
+    return lines
+
+
 def select(identifier: str) -> str:
     """The line that selects a file by its identifier."""
     return apdu("00A4000C", identifier)
@@ -231,6 +250,8 @@ SINGLE = [
     Kind("a comment of 44 bytes", ["on"], "# a comment of forty-four bytes, and a space"),
     Kind("free", ["on"], "free"),
     Kind("`on`", ["on"], "on", 20, 60),
+    power_on("62 DFs with names of 16 bytes", ["on", *make_named(62)]),
+    power_on("59 EFs with a short identifier", ["on", *make_numbered(59)]),
     Kind("a block that is refused", ["on"], "block 00000500B000000AB5"),
     Kind("SELECT", ["on"], select(FACTORY)),
     Kind("SELECT of the first of 62 files of a DF", DF_OF_62, select(FACTORY)),
@@ -253,6 +274,9 @@ SINGLE = [
     Kind("RESET RETRY COUNTER", ["on"], apdu("002C0001", "313233343536373831323334FFFFFFFF")),
     Kind("ACTIVATE FILE, no change", ["on", ACTIVATABLE], apdu("00440000")),
 ]
+
+# kinds whose counts stand in sentences of docs/COST.md alone
+ONE_SUM = power_on("62 DFs whose names have one sum", ["on", *make_named(62, 31)])
 
 KINDS = [*SINGLE, *[kind for curve in CURVES for _, kind in curve.points]]
 # what the table of docs/COST.md shows: of each curve the last kind, as the picture has the others
