@@ -1,7 +1,6 @@
 """The bench, killed by SIGKILL while it changes a card in a file; each image is judged by the reader."""
 import random
 import signal
-import subprocess
 import threading
 from dataclasses import dataclass, field, replace
 from pathlib import Path

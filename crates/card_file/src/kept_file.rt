@@ -1,10 +1,11 @@
 //! A file with the words of a board.
-ghost use Rattle.std.specs.Prelude.{◌≡◌, ◌≤◌, false, length};
-ghost use Rattle.nvm_board.specs.declared.board.TheConstants.{PAGE_WORDS};
+ghost use Rattle.std.specs.Prelude.{◌≡◌, ◌≤◌, ◌↔◌, ◌+◌, ◌*◌, false, length, IsTrue};
+ghost use Rattle.nvm_board.specs.declared.board.TheConstants.{MOST_PAGES, PAGE_WORDS};
 
 use kept_board::{Follower, KeptBoard};
 use nvm_board::PAGE_WORDS;
 use std::fs::File;
+use std::io;
 use std::os::unix::fs::{FileExt, MetadataExt};
 
 /// The bytes of a word.
@@ -13,11 +14,50 @@ const WORD_BYTES: usize = 4;
 /// The bytes of a page.
 pub const PAGE_BYTES: usize = WORD_BYTES * PAGE_WORDS as usize;
 
+/// What shows that a file is as it was left: its size, the number of its names, and when it was last written.
+#[derive(Clone, Copy)]
+pub struct Stamp {
+    size: u64,
+    names: u64,
+    seconds: i64,
+    nanoseconds: i64,
+}
+
+impl Stamp {
+    /// Returns the stamp of an open file.
+    pub fn of(file: &File) -> io::Result<Stamp> {
+        let it = file.metadata()?;
+        Ok(Stamp {
+            size: it.len(),
+            names: it.nlink(),
+            seconds: it.mtime(),
+            nanoseconds: it.mtime_nsec(),
+        })
+    }
+
+    /// Returns true if nobody removed, linked or truncated the file between two stamps.
+    fn has_place_of(&self, earlier: &Stamp) -> bool
+        ensures { IsTrue result ↔ ((self.now.size ≡ earlier.now.size) × (self.now.names ≡ earlier.now.names)) }
+    {
+        self.size == earlier.size && self.names == earlier.names
+    }
+
+    /// Returns true if nobody wrote the file either.
+    fn is_that_of(&self, earlier: &Stamp) -> bool
+        ensures { IsTrue result ↔ (self.now ≡ earlier.now) }
+    {
+        self.has_place_of(earlier)
+            && self.seconds == earlier.seconds
+            && self.nanoseconds == earlier.nanoseconds
+    }
+}
+
 /// An open file with a board's words, the most significant byte of each first.
 #[derive(Drop)]
 pub struct KeptFile {
     file: File,
-    size: u64,
+    /// The file as its last write left it.
+    stamp: Stamp,
     sync: bool,
     /// True if the last write failed.
     behind: bool,
@@ -26,24 +66,43 @@ pub struct KeptFile {
 impl KeptFile {
     ghost use Rattle.std.specs.Prelude.{◌≡◌};
 
-    /// Returns the follower of a file that has the words already.
-    /// The size is that of the file in bytes. With `sync` each write waits until the disk has it.
-    pub fn new(file: File, size: u64, sync: bool) -> KeptFile
+    /// Returns the follower of a file that has the words already, and was left as the stamp says.
+    /// With `sync` each write waits until the disk has it.
+    pub fn new(file: File, stamp: Stamp, sync: bool) -> KeptFile
         ensures { (result.sync ≡ sync) × (result.behind ≡ false) }
     {
         KeptFile {
             file,
-            size,
+            stamp,
             sync,
             behind: false,
         }
     }
 
-    /// Returns true if the file still has a name and its size: nobody removed or truncated it.
-    fn is_there(&self) -> bool {
-        match self.file.metadata() {
-            Ok(it) => it.len() == self.size && it.nlink() > 0,
-            Err(_) => false,
+    /// Returns true if the file is as the last write left it. Another program may have replaced or changed it.
+    fn is_as_left(&self) -> bool {
+        matches!(Stamp::of(&self.file), Ok(now) if now.is_that_of(&self.stamp))
+    }
+
+    /// Writes the words, and returns true if the file took them all.
+    fn write(&self, at: usize, words: &[u32]) -> bool
+        requires size { length words.now ≤ PAGE_WORDS }
+        requires within { at + length words.now ≤ PAGE_WORDS * MOST_PAGES }
+    {
+        let bytes = bytes_of(words);
+        let size = WORD_BYTES * words.len();
+        let wrote = self.file.write_at(&bytes[..size], (WORD_BYTES * at) as u64);
+        matches!(wrote, Ok(count) if count == size)
+    }
+
+    /// Keeps the stamp after a write, and returns true if the file is still there.
+    fn stamp_again(&mut self) -> bool {
+        match Stamp::of(&self.file) {
+            Ok(now) if now.has_place_of(&self.stamp) => {
+                self.stamp = now;
+                true
+            }
+            Ok(_) | Err(_) => false,
         }
     }
 }
@@ -56,11 +115,9 @@ impl Follower for KeptFile {
     ghost behind = { λ f. f.behind };
 
     fn take(&mut self, at: usize, words: &[u32]) -> bool {
-        let bytes = bytes_of(words);
-        let size = WORD_BYTES * words.len();
-        let wrote = self.file.write_at(&bytes[..size], (WORD_BYTES * at) as u64);
-        let took = matches!(wrote, Ok(count) if count == size)
-            && self.is_there()
+        let took = self.is_as_left()
+            && self.write(at, words)
+            && self.stamp_again()
             && (!self.sync || self.file.sync_data().is_ok());
         self.behind = !took;
         took

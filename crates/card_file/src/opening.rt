@@ -1,12 +1,12 @@
 //! Returns the board that the command line asks for: opens the file of a card, or makes one with the factory card.
-ghost use Rattle.std.specs.Prelude.{◌≡◌, None, Some, IfOk};
+ghost use Rattle.std.specs.Prelude.{◌≡◌, None, Some, IfOk, false};
 ghost use Rattle.card_boards.specs.FactoryBoards.{IsFactoryBoard};
 ghost use Rattle.card_file.specs.AskedBoards.{IsBoardOf, facts_of, syncs};
 ghost use Rattle.card_file.specs.CommandLines.{new_card_pages, pages_number};
 ghost use Rattle.command_base.specs.Finding.{HasCard};
 ghost use Rattle.kept_board.specs.Kept.{kept_words};
 
-use crate::kept_file::{CardBoard, KeptFile, PAGE_BYTES};
+use crate::kept_file::{CardBoard, KeptFile, PAGE_BYTES, Stamp};
 use crate::options::{Asked, CardOptions};
 use card_boards::{NoCard, factory_board, factory_board_of, image_board};
 use kept_board::KeptBoard;
@@ -15,7 +15,12 @@ use simulated_boards::CutBoard;
 use std::alloc::Global;
 use std::fs::{self, File, OpenOptions, TryLockError};
 use std::io::{self, ErrorKind, Read, Write};
+use std::os::unix::fs::OpenOptionsExt;
+use std::random::RandomSource;
 use thiserror::Error;
+
+/// The permission of a card's file, which has the PINs in plain bytes.
+const OWNER_ALONE: u32 = 0o600;
 
 /// Why a file is not taken as a card's. The file stays as it was.
 #[derive(Debug, Drop, Error)]
@@ -28,6 +33,8 @@ pub enum CardFault {
     Read(io::Error),
     #[error("the file can't be made: {0}")]
     Make(io::Error),
+    #[error("it is not a regular file")]
+    NotAFile,
     #[error("the file is in use by another program")]
     InUse,
     #[error("the file can't be locked: {0}")]
@@ -90,15 +97,12 @@ fn read_card(alloc: Global, mut file: File, options: &CardOptions) -> Result<Car
     ensures uncut { IfOk result (λ board. (facts_of board).pending ≡ None) }
 {
     lock(&file)?;
-    let size = match file.metadata() {
-        Ok(it) => it.len(),
-        Err(error) => return Err(CardFault::Read(error)),
-    };
+    let (size, stamp) = size_of(&file)?;
     check_size(size, options)?;
     let words = words_in(alloc, &mut file, size)?;
     match image_board(alloc, words) {
         Ok(board) => {
-            let file = KeptFile::new(file, size, options.sync);
+            let file = KeptFile::new(file, stamp, options.sync);
             Ok(KeptBoard::new(board, Some(file)))
         }
         Err(NoCard::Memory) => Err(CardFault::Memory),
@@ -107,8 +111,18 @@ fn read_card(alloc: Global, mut file: File, options: &CardOptions) -> Result<Car
     }
 }
 
+/// Returns the size of a regular file in bytes, and its stamp.
+fn size_of(file: &File) -> Result<(u64, Stamp), CardFault> {
+    let read = file.metadata().and_then(|it| Ok((it, Stamp::of(file)?)));
+    match read {
+        Ok((it, stamp)) if it.is_file() => Ok((it.len(), stamp)),
+        Ok(_) => Err(CardFault::NotAFile),
+        Err(error) => Err(CardFault::Read(error)),
+    }
+}
+
 /// Makes a file with the factory card, whole or not at all.
-/// It is written under another name first, and renamed once the disk has it.
+/// It is written under a name of its own first, and gets its name once the disk has it.
 fn make_card(rt: &HostRuntime, options: &CardOptions) -> Result<CardBoard, CardFault>
     ensures factory { IfOk result (λ board. IsFactoryBoard (new_card_pages (pages_number options.now.pages))
         (facts_of board)) }
@@ -118,54 +132,79 @@ fn make_card(rt: &HostRuntime, options: &CardOptions) -> Result<CardBoard, CardF
     let Ok(board) = factory_board_of(rt.alloc(), pages) else {
         return Err(CardFault::Memory);
     };
-    let path = options.path.as_str();
-    let Ok(new) = format!(in rt.alloc(); "{path}.new") else {
-        return Err(CardFault::Memory);
-    };
-    let mut file = match OpenOptions::new()
-        .read(true)
-        .write(true)
-        .create(true)
-        .open(rt, new.as_str())
-    {
-        Ok(file) => file,
-        Err(error) => return Err(CardFault::Make(error)),
-    };
-    lock(&file)?;
-    // Another bench can have made the file since this one looked.
-    if fs::exists(rt, path).unwrap_or(true) {
-        let _ = fs::remove_file(rt, new.as_str());
-        return Err(CardFault::InUse);
+    match new_file(rt, board.words(), options) {
+        Ok(file) => Ok(KeptBoard::new(board, Some(file))),
+        Err(_) if fs::exists(rt, options.path.as_str()).unwrap_or(false) => Err(CardFault::InUse),
+        Err(error) => Err(CardFault::Make(error)),
     }
-    if let Err(error) = fill(rt, &mut file, board.words(), new.as_str(), options) {
-        let _ = fs::remove_file(rt, new.as_str());
-        return Err(CardFault::Make(error));
-    }
-    let size = (PAGE_BYTES * usize::from(pages)) as u64;
-    let file = KeptFile::new(file, size, options.sync);
-    Ok(KeptBoard::new(board, Some(file)))
 }
 
-/// Writes a board's words to the new file, and renames it once the disk has them.
-fn fill(
-    rt: &HostRuntime,
-    file: &mut File,
-    words: &[u32],
-    new: &str,
-    options: &CardOptions,
-) -> io::Result<()> {
-    file.set_len(0)?;
+/// Returns the follower of a new file with a board's words. The file is locked, its owner alone may read and write it,
+/// and any other file stays as it was. If the path has a file already, the error says that it exists.
+fn new_file(rt: &HostRuntime, words: &[u32], options: &CardOptions) -> io::Result<KeptFile>
+    ensures { IfOk result (λ file. (file.sync ≡ options.now.sync) × (file.behind ≡ false)) }
+{
+    let new = other_name(rt, options.path.as_str())?;
+    let file = write_new(rt, words, new.as_str(), options.path.as_str())?;
+    let stamp = settle(rt, &file, options)?;
+    Ok(KeptFile::new(file, stamp, options.sync))
+}
+
+/// Returns a new file with words, under the name of a path. The other name, which it has first, is gone in any case.
+fn write_new(rt: &HostRuntime, words: &[u32], new: &str, path: &str) -> io::Result<File> {
+    let mut file = OpenOptions::new()
+        .read(true)
+        .write(true)
+        .create_new(true)
+        .mode(OWNER_ALONE)
+        .open(rt, new)?;
+    let filled = fill(rt, &mut file, words);
+    let named = filled.and_then(|()| give_name(rt, new, path));
+    // (a link leaves both names)
+    let _ = fs::remove_file(rt, new);
+    named?;
+    Ok(file)
+}
+
+/// Returns the stamp of a new file. With `sync` it waits until the disk has the file's name.
+fn settle(rt: &HostRuntime, file: &File, options: &CardOptions) -> io::Result<Stamp> {
+    if options.sync {
+        fs::open(rt, folder_of(options.path.as_str()))?.sync_all()?;
+    }
+    Stamp::of(file)
+}
+
+/// Returns a name in the folder of a path that nobody can have foreseen.
+fn other_name(rt: &HostRuntime, path: &str) -> io::Result<String> {
+    let mut random = [0; 8];
+    rt.fill_bytes(&mut random)?;
+    let number = u64::from_be_bytes(random);
+    let folder = folder_of(path);
+    Ok(format!(in rt.alloc(); "{folder}/card.{number:016x}.new")?)
+}
+
+/// Locks a file, and writes words to it. It returns once the disk has them.
+fn fill(rt: &HostRuntime, file: &mut File, words: &[u32]) -> io::Result<()> {
+    if file.try_lock().is_err() {
+        return Err(ErrorKind::WouldBlock.into());
+    }
     let mut bytes = Vec::new(rt.alloc());
     for word in words {
         bytes.extend_from_slice(&word.to_be_bytes())?;
     }
     file.write_all(&bytes)?;
-    file.sync_all()?;
-    fs::rename(rt, new, options.path.as_str())?;
-    if options.sync {
-        fs::open(rt, folder_of(options.path.as_str()))?.sync_all()?;
+    file.sync_all()
+}
+
+/// Gives a file its name, unless another file has it: another bench can have made it since this one looked.
+fn give_name(rt: &HostRuntime, new: &str, path: &str) -> io::Result<()> {
+    match fs::hard_link(rt, new, path) {
+        Err(error) if error.kind() != ErrorKind::AlreadyExists && !fs::exists(rt, path)? => {
+            // (some file systems have no links)
+            fs::rename(rt, new, path)
+        }
+        linked => linked,
     }
-    Ok(())
 }
 
 /// Returns the folder of a path.
