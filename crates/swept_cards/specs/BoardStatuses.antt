@@ -7,6 +7,7 @@ use Rattle.swept_cards.specs.declared.opening.BoardFault.TheVariants as board
 abbrev pub board_status_of : BoardFault → ℕ
 board_status_of (board.Open error) = 6
 board_status_of (board.Read error) = 6
+board_status_of board.NotAFile = 6
 board_status_of board.InUse = 6
 board_status_of (board.Lock error) = 6
 board_status_of board.Size = 6

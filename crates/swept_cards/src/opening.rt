@@ -27,6 +27,8 @@ pub enum BoardFault {
     Open(io::Error),
     #[error("the file can't be read: {0}")]
     Read(io::Error),
+    #[error("it is not a regular file")]
+    NotAFile,
     #[error("the file is in use by another program")]
     InUse,
     #[error("the file can't be locked: {0}")]
@@ -56,6 +58,7 @@ impl BoardFault {
             BoardFault::Memory => 5,
             BoardFault::Open(_)
             | BoardFault::Read(_)
+            | BoardFault::NotAFile
             | BoardFault::InUse
             | BoardFault::Lock(_)
             | BoardFault::Size
@@ -88,6 +91,10 @@ fn read_board(rt: &HostRuntime, path: &str) -> Result<CutBoard, BoardFault>
     ensures uncut { IfOk result (λ board. (cut_facts board).pending ≡ None) }
     ensures file { IfOk result (λ board. cut_facts board ≡ board_with (cut_facts board).words) }
 {
+    // A FIFO would be opened once another program writes it.
+    if matches!(fs::metadata(rt, path), Ok(it) if !it.is_file()) {
+        return Err(BoardFault::NotAFile);
+    }
     let mut file = match fs::open(rt, path) {
         Ok(file) => file,
         Err(error) => return Err(BoardFault::Open(error)),
