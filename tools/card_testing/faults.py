@@ -9,6 +9,8 @@ import time
 from collections.abc import Callable
 from pathlib import Path
 
+from costing.kinds import make_named
+
 from .bench import ATR, Bench, ask
 from .checks import TOP, Checks
 from .images import changed, data_of, factory
@@ -95,6 +97,20 @@ def of_private_files(checks: Checks, bench: Bench) -> None:
     checks.compare("no other file is left", sorted({bench.image.name, other.name, victim.name, "c" * 255}), left)
     for path in (other, victim, long.image):
         path.unlink(missing_ok=True)
+
+
+def of_names(checks: Checks, bench: Bench) -> None:
+    """Names of DFs that power-on compares, since they have one sum: those that differ are taken, two alike are not."""
+    bench.image.unlink(missing_ok=True)
+    checks.compare("names of one sum", 0, bench.run("\n".join(["on", *make_named(12, 31)]) + "\n")[0])
+    image = bench.image.read_bytes()
+    checks.compare("the card of these names", (0, [ATR], ""), bench.run("on\n"))
+    # (entries 0 and 1 are the MF and the factory's file; a name is in bytes 16 to 31 of its entry's page)
+    for one, other in ((2, 3), (2, 13), (12, 13)):
+        words = bytearray(image)
+        words[64 * (one + 1) + 16:64 * (one + 1) + 32] = image[64 * (other + 1) + 16:64 * (other + 1) + 32]
+        bench.image.write_bytes(words)
+        refused(checks, bench, f"entries {one} and {other} with one name", "no card is found")
 
 
 def of_another_user(checks: Checks, bench: Bench) -> None:
@@ -236,6 +252,7 @@ def check(checks: Checks, program: str, folder: Path) -> None:
     room.mkdir()
     bench = Bench(program, room / "card.image")
     of_the_file(checks, bench)
+    of_names(checks, bench)
     bench.image.write_bytes(data_of(factory()))
     of_another_user(checks, bench)
     of_two(checks, bench)
