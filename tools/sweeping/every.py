@@ -44,10 +44,10 @@ def probe(files: Files, it: Command, shown: dict[int, str]) -> list[str]:
     return lines + [line for at, file in of.items() for line in (select(at), *reads(file))]
 
 
-def cases(script: str) -> Iterator[tuple[int, str, str]]:
+def cases(script: str, is_quiet: bool) -> Iterator[tuple[int, str, str]]:
     """Each command by its line, with its answer, and the sweep script that cuts it in its place."""
     lines = script.replace("\r\n", "\n").split("\n")
-    printed, files, shown = iter(ran(script, program(), has_parts=False)), Files(), {}
+    printed, files, shown = iter(ran(script, program(*["--quiet"] * is_quiet), has_parts=False)), Files(), {}
     for number, line in enumerate(lines, 1):
         order, _, digits = line.partition(" ")
         answer = next(printed) if order in ORDERS_THAT_PRINT else ""
@@ -75,10 +75,10 @@ def row(sweeper: str, path: str, depth: int | None, case: tuple[int, str, str]) 
 def report_all(options: Namespace) -> tuple[str, str, dict[FilePath, str]]:
     """The table of every command of a script, the reason if outcomes aren't allowed, and the reports to write."""
     script = options.files[0]
-    chosen = [it for it in cases(script.read()) if not options.only or it[0] in options.only]
+    chosen = [it for it in cases(script.read(), options.quiet) if not options.only or it[0] in options.only]
     if missing := sorted({*options.only} - {it[0] for it in chosen}):
         raise Refused(f"no command stands in line {', '.join(map(str, missing))}")
-    work = partial(row, program("--sweep"), script.name, options.depth)
+    work = partial(row, program("--sweep", *["--quiet"] * options.quiet), script.name, options.depth)
     swept = side_by_side(options.jobs, "commands", work, chosen)
     rows, tests = [it for it, _ in swept], [it for _, it in swept]
     markdown = "".join(f"| {' | '.join(it)} |\n" for it in [HEAD, ["---"] * len(HEAD), *rows])
