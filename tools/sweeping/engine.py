@@ -2,13 +2,13 @@
 import json
 import re
 import subprocess
-import sys
 from collections.abc import Callable, Sequence
 from hashlib import sha256
 from multiprocessing.pool import ThreadPool
 from pathlib import Path
 from typing import TextIO
 
+from progress import Progress
 from script_lines import fault
 
 COMMAND, PROBE = "# command", "# probe"
@@ -41,12 +41,10 @@ def ran(script: str, *words: str, has_parts: bool = True) -> list[str]:
 def side_by_side(jobs: int, what: str, work: Callable, tasks: Sequence) -> list:
     """The results of tasks, in order; `jobs` tasks run at a time. A terminal shows the progress."""
     results: list = []
-    with ThreadPool(jobs) as pool:
+    with ThreadPool(jobs) as pool, Progress("sweep", f"0 of {len(tasks)} {what}") as progress:
         for it in pool.imap(work, tasks):
             results.append(it)
-            if sys.stderr.isatty():
-                end = "\r" if len(results) < len(tasks) else "\r\033[K"
-                print(f"sweep: {len(results)} of {len(tasks)} {what}", end=end, file=sys.stderr, flush=True)
+            progress.show(f"{len(results)} of {len(tasks)} {what}")
     return results
 
 
