@@ -1,8 +1,14 @@
-"""Debian's PC/SC service with the virtual reader vpcd, for tests: it is started where none runs, and ended then."""
+"""Debian's PC/SC service with the virtual reader vpcd, for tests: one of their own, which is ended with them.
+
+A test that calls `isolate` first has it in a mount and a network namespace of its own, so that another service on the
+machine neither sees it nor is in its way."""
 from __future__ import annotations
 
+import fcntl
 import os
 import shutil
+import socket
+import struct
 import subprocess
 import sys
 import tempfile
@@ -14,6 +20,13 @@ TOOLS = Path(__file__).resolve().parent
 DRIVER = Path("/etc/reader.conf.d/vpcd")
 READER = "Virtual PCD 00 00"
 PORT = 35963
+# where a service listens for its clients
+SOCKET = Path("/run/pcscd/pcscd.comm")
+# set where the namespaces are a test's own
+ISOLATED = "SOFFITFENNEL_ISOLATED"
+IN_NAMESPACES = ("unshare", "--mount", "--net", "--")
+OWN_FOLDER = 'mkdir -p /run/pcscd && mount -t tmpfs tmpfs /run/pcscd && exec "$@"'
+SIOCSIFFLAGS, IFF_UP = 0x8914, 1
 # the python3 that has pyscard
 PYTHON = "/usr/bin/python3"
 PATIENCE = 20
@@ -31,11 +44,32 @@ def missing() -> str | None:
     ):
         if not is_there:
             return f"{package} isn't installed"
-    return None if is_listening() or os.geteuid() == 0 else "no PC/SC service runs, and root alone starts one"
+    return None if os.geteuid() == 0 else "root alone starts a PC/SC service"
+
+
+def isolate() -> None:
+    """Runs the test anew in namespaces of its own, where the system allows it."""
+    if os.environ.get(ISOLATED):
+        raise_loopback()
+    elif os.geteuid() == 0 and subprocess.run([*IN_NAMESPACES, "true"], stderr=subprocess.DEVNULL).returncode == 0:
+        os.environ[ISOLATED] = "1"
+        command = [*IN_NAMESPACES, "sh", "-c", OWN_FOLDER, "sh", sys.executable, *sys.orig_argv[1:]]
+        sys.stdout.flush()
+        os.execvp(command[0], command)
+
+
+def raise_loopback() -> None:
+    """Switches on the loopback device of a new network namespace."""
+    with socket.socket(socket.AF_INET, socket.SOCK_DGRAM) as any_socket:
+        fcntl.ioctl(any_socket, SIOCSIFFLAGS, struct.pack("16sh22x", b"lo", IFF_UP))
+
+
+class InTheWay(Exception):
+    """Another service is in the way of a test's own."""
 
 
 def is_listening() -> bool:
-    """Whether a service with vpcd waits for a card."""
+    """Whether a program listens where vpcd waits for a card."""
     with open("/proc/net/tcp", encoding="ascii") as table:
         return any(line.split()[1].endswith(f":{PORT:04X}") and line.split()[3] == "0A" for line in table)
 
@@ -49,22 +83,36 @@ def wait_for(holds: Callable[[], bool], what: str) -> None:
         time.sleep(0.05)
 
 
+def look_around() -> None:
+    """Looks whether another service is in the way."""
+    # (a socket without a service is left where one was killed)
+    with socket.socket(socket.AF_UNIX, socket.SOCK_STREAM) as client:
+        is_served = client.connect_ex(str(SOCKET)) == 0
+    if is_served or is_listening():
+        what = f"it serves {SOCKET}" if is_served else f"a program listens on port {PORT}"
+        raise InTheWay(f"another PC/SC service is in the way: {what}; end it, as by systemctl stop pcscd.socket pcscd")
+
+
 class Service:
-    """The service, for as long as it is needed."""
+    """The service, for as long as it is needed. Its one reader is vpcd's."""
 
     def __enter__(self) -> Service:
-        self.process = None
-        if not is_listening():
-            self.process = subprocess.Popen(
-                ["/usr/sbin/pcscd", "--foreground"], stdout=subprocess.DEVNULL, stderr=subprocess.DEVNULL
-            )
-            wait_for(is_listening, "pcscd doesn't listen")
+        look_around()
+        self.readers = tempfile.TemporaryDirectory()
+        shutil.copy(DRIVER, self.readers.name)
+        words = ["/usr/sbin/pcscd", "--foreground", "--config", self.readers.name]
+        self.process = subprocess.Popen(words, stdout=subprocess.DEVNULL, stderr=subprocess.DEVNULL)
+        try:
+            wait_for(is_listening, "pcscd doesn't begin to listen")
+        except TimeoutError:
+            self.__exit__()
+            raise
         return self
 
     def __exit__(self, *_) -> None:
-        if self.process:
-            self.process.terminate()
-            self.process.wait()
+        self.process.terminate()
+        self.process.wait()
+        self.readers.cleanup()
 
 
 class Card:
@@ -91,7 +139,6 @@ class Card:
             wait_for(lambda: not has_card(), "the card stays in the reader")
         except TimeoutError:
             pass
-
 
     def log(self) -> list[str]:
         """The lines that the bridge has written to standard error so far."""
