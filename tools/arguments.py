@@ -1,7 +1,39 @@
-"""Arguments of a command line."""
-from argparse import ArgumentTypeError
+"""The command line of a tool, and arguments of it."""
+import re
+import sys
+import textwrap
+from argparse import ArgumentParser, ArgumentTypeError, HelpFormatter
 from collections.abc import Callable
 from pathlib import Path
+from typing import Any, NoReturn
+
+# the exit status of a bad command line, of each tool and of ./bench
+BAD_COMMAND_LINE = 2
+
+
+class Folded(HelpFormatter):
+    """Help whose paragraphs and lists stay apart, in lines as long as the terminal's."""
+
+    def _fill_text(self, text: str, width: int, indent: str) -> str:
+        paragraphs = text.strip().split("\n\n")
+        return "\n\n".join("\n".join(folded(it, width) for it in re.split(r"\n(?=- )", part)) for part in paragraphs)
+
+
+def folded(text: str, width: int) -> str:
+    """A paragraph, or a member of a list, in lines of such a width."""
+    return textwrap.fill(" ".join(text.split()), width, subsequent_indent="  " * text.startswith("- "))
+
+
+class Parser(ArgumentParser):
+    """A command line of which a fault is told in one line; the usage comes with --help."""
+
+    def __init__(self, *words: Any, **named: Any) -> None:
+        super().__init__(*words, **{**named, "formatter_class": Folded})
+
+    def error(self, message: str) -> NoReturn:
+        """Ends the tool."""
+        print(f"{self.prog}: error: {message}", file=sys.stderr)
+        sys.exit(BAD_COMMAND_LINE)
 
 
 def number(most: int = 1_000_000) -> Callable[[str], int]:

@@ -10,15 +10,34 @@ usage_line() {
   echo "usage: tools/$(basename "$0") [-h]${1:+ $1}"
 }
 
+# Folds text to 79 columns. Paragraphs, members of a list and lines that begin with a tool's name stay apart.
+fold_help() {
+  awk '
+    function flush(    i, line) {
+      for (i = 1; i <= many; i++) {
+        if (line != "" && length(line) + 1 + length(words[i]) > 79) { print line; line = indent words[i] }
+        else line = line (line == "" ? "" : " ") words[i]
+      }
+      if (line != "") print line
+      many = 0; indent = ""
+    }
+    /^$/ { flush(); print; next }
+    /^(- |tools\/|usage: )/ { flush(); indent = "  " }
+    { for (i = 1; i <= NF; i++) words[++many] = $i }
+    END { flush() }
+  '
+}
+
 show_help() {
-  usage_line "$1"
-  echo
-  sed -n '2,/^[^#]/s/^# \{0,1\}//p' "$0"
+  {
+    usage_line "$1"
+    echo
+    sed -n '2,/^[^#]/s/^# \{0,1\}//p' "$0"
+  } | fold_help
   exit 0
 }
 
 refuse_words() {
-  usage_line "$1" >&2
   echo "tools/$(basename "$0"): error: unrecognized arguments: ${*:2}" >&2
   exit 2
 }
