@@ -20,6 +20,12 @@ class Refused(Exception):
     """Why an input can't be swept, for a person."""
 
 
+def script_of(file: TextIO) -> str:
+    """The script in a file. Where it is a test, empty lines stand for what it expects, so that lines keep their
+    numbers."""
+    return re.sub(r"^= [^\n]*", "", file.read(), flags=re.M)
+
+
 def ran(script: str, *words: str, has_parts: bool = True) -> list[str]:
     """The lines that a program prints for a script, which has the three parts of a sweep or is any script."""
     done = subprocess.run(words, input=script, capture_output=True, encoding="latin-1")

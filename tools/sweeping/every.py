@@ -4,13 +4,15 @@ from argparse import Namespace
 from collections.abc import Iterator
 from functools import partial
 from pathlib import Path as FilePath
+from tempfile import TemporaryDirectory
 
-from .engine import COMMAND, PROBE, Refused, ran, side_by_side, sweep_part
+from .engine import COMMAND, PROBE, Refused, ran, script_of, side_by_side, sweep_part
 from .outcomes import Sweep, aligned
+from card_image.image import Unreadable, read_image
 from explaining.commands import OF_PINS, Command
 from explaining.files import CARRIED_OUT, Files, Path
 from explaining.templates import Template
-from explaining.twin import select
+from explaining.twin import Twin, select
 from programs import program
 from script_lines import ORDERS_THAT_PRINT
 from testing.reading import Case, Difference
@@ -44,10 +46,25 @@ def probe(files: Files, it: Command, shown: dict[int, str]) -> list[str]:
     return lines + [line for at, file in of.items() for line in (select(at), *reads(file))]
 
 
-def cases(script: str, is_quiet: bool) -> Iterator[tuple[int, str, str]]:
+def printed_by(bench: str, card: str | None, script: str) -> list[str]:
+    """What a script prints, on a copy of the card where it is one in a file."""
+    if card is None:
+        return ran(script, bench, has_parts=False)
+    with TemporaryDirectory() as room:
+        copy = FilePath(room) / "card"
+        try:
+            copy.write_bytes(read_image(card)[0].data())
+        except Unreadable as why:
+            raise Refused(str(why)) from None
+        return ran(script, bench, "--card", str(copy), has_parts=False)
+
+
+def cases(script: str, bench: str, card: str | None) -> Iterator[tuple[int, str, str]]:
     """Each command by its line, with its answer, and the sweep script that cuts it in its place."""
     lines = script.replace("\r\n", "\n").split("\n")
-    printed, files, shown = iter(ran(script, program(*["--quiet"] * is_quiet), has_parts=False)), Files(), {}
+    printed, files, shown = iter(printed_by(bench, card, script)), Files(), {}
+    if card is not None:
+        Twin([bench, "--card", card]).begin(files)
     for number, line in enumerate(lines, 1):
         order, _, digits = line.partition(" ")
         answer = next(printed) if order in ORDERS_THAT_PRINT else ""
@@ -62,10 +79,10 @@ def cases(script: str, is_quiet: bool) -> Iterator[tuple[int, str, str]]:
                 shown |= {it.p2: it.data[-8:].hex()} if it.key in SHOWING and it.data else {}
 
 
-def row(sweeper: str, path: str, depth: int | None, case: tuple[int, str, str]) -> tuple[list[str], Case]:
+def row(sweeper: str, path: str, depth: int | None, card: str | None, case: tuple[int, str, str]) -> tuple[list[str], Case]:
     """The row of a command, and whether its outcomes are allowed, as the case of a test."""
     (line, answer, script), began = case, time.monotonic()
-    it = Sweep([sweep_part(sweeper, script, depth, None, "1/1")])
+    it = Sweep([sweep_part(sweeper, script, depth, card, "1/1")])
     wrong = [Difference(line, it.name, reason=it.fault())] if it.fault() else []
     found = [len(it.writes), f"{it.runs:,}", len(it.outcomes), len(it.stages) if it.writes else 0]
     cells = [str(line), it.name, answer[-4:], *map(str, found), f"{time.monotonic() - began:.1f}"]
@@ -74,11 +91,13 @@ def row(sweeper: str, path: str, depth: int | None, case: tuple[int, str, str]) 
 
 def report_all(options: Namespace) -> tuple[str, str, dict[FilePath, str]]:
     """The table of every command of a script, the reason if outcomes aren't allowed, and the reports to write."""
-    script = options.files[0]
-    chosen = [it for it in cases(script.read(), options.quiet) if not options.only or it[0] in options.only]
+    script, quiet = options.files[0], ["--quiet"] * options.quiet
+    bench = program(*quiet, *["--for-cards"] * (options.card is not None))
+    every = cases(script_of(script), bench, options.card)
+    chosen = [it for it in every if not options.only or it[0] in options.only]
     if missing := sorted({*options.only} - {it[0] for it in chosen}):
         raise Refused(f"no command stands in line {', '.join(map(str, missing))}")
-    work = partial(row, program("--sweep", *["--quiet"] * options.quiet), script.name, options.depth)
+    work = partial(row, program("--sweep", *quiet), script.name, options.depth, options.card)
     swept = side_by_side(options.jobs, "commands", work, chosen)
     rows, tests = [it for it, _ in swept], [it for _, it in swept]
     markdown = "".join(f"| {' | '.join(it)} |\n" for it in [HEAD, ["---"] * len(HEAD), *rows])
