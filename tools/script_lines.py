@@ -30,7 +30,9 @@ ANSWER = re.compile(r"(<|atr [0-9A-F]+|mute|dark|lost)( |$)|free [0-9]+ [0-9]+$"
 SIGN = re.compile(r"([a-z]+)([^a-z0-9_ ])")
 # how a command and its status begin on one line
 WITH_STATUS = re.compile(r"[0-9A-Fa-f]{8,} (?:9000|6[1-9A-Ea-e][0-9A-Fa-f]{2}|6[Ff]00)")
-# how files begin that are no scripts
+# what a card's memory in a file is
+IMAGE = "a card: ./bench --card FILE SCRIPT runs a script on it"
+# how files begin that are not scripts
 OTHER_FILES = {
     b"\x7fELF": "a program",
     b"PK\x03\x04": "a ZIP archive",
@@ -43,6 +45,8 @@ OTHER_FILES = {
     b"<html": "a web page",
     b"TAP version": "a report of ./bench --test --tap",
     b"diff ": "a list of changes",
+    b"TSC1": IMAGE,
+    b"TSC2": IMAGE,
 }
 
 
@@ -161,7 +165,7 @@ def of_no_order(text: str, order: str) -> str:
         return said
     if said := other_words().get(order.lower()):
         return f"there is no order {order!r}: {said}"
-    near = difflib.get_close_matches(order, ORDERS, 1, 0.75)
+    near = difflib.get_close_matches(order.lower(), ORDERS, 1, 0.75)
     return f"there is no order {order!r}" + (f"; is {near[0]} meant?" if near else "")
 
 
@@ -199,7 +203,7 @@ def of_the_file(line: bytes, number: int) -> str | None:
         return "the file is UTF-16: save it as plain text, ASCII or UTF-8"
     if number == 1:
         return next(
-            (f"the file is {what}, and no script" for begin, what in OTHER_FILES.items() if line.startswith(begin)),
+            (f"the file is {what}" if what is IMAGE else f"the file is {what}, not a script" for begin, what in OTHER_FILES.items() if line.startswith(begin)),
             None,
         )
     return None

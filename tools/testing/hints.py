@@ -9,6 +9,8 @@ from fnmatch import fnmatchcase
 PATTERN = re.compile(r"[*?[]")
 OPEN_SET = re.compile(r"\[!?[^\]]?[^\]]*$")
 ANSWER = "< "
+# digits, and what a pattern may have in their place: an answer, were its mark before it
+ONLY_ANSWER = re.compile(r"[0-9A-F?*]{4,}")
 
 
 def plain(text: str) -> str:
@@ -32,7 +34,7 @@ def hint(wanted: str, came: str | None) -> str | None:
         return "[ begins a set of characters in a pattern, and has no ]"
     if came is None:
         return None
-    if came.startswith(ANSWER) and fnmatchcase(came, ANSWER + wanted):
+    if came.startswith(ANSWER) and (fnmatchcase(came, ANSWER + wanted) or ONLY_ANSWER.fullmatch(wanted)):
         return "an answer begins with '< '"
     if fnmatchcase(came, wanted.replace("..", "*").replace("X", "?")):
         return "in a pattern ? stands for one character, and * for any text"

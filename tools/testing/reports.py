@@ -21,6 +21,15 @@ def printable(text: str) -> str:
     return shown(text.encode("latin-1", "replace"))
 
 
+def name_of(case: Case) -> str:
+    """The name of a case as it is written, where it is text in UTF-8."""
+    try:
+        name = case.name.encode("latin-1", "replace").decode("utf-8")
+    except UnicodeDecodeError:
+        return printable(case.name)
+    return name if name.isprintable() else printable(case.name)
+
+
 def file_name(case: Case) -> str:
     """The name of a case's file, without folder and ending."""
     return Path(case.path).stem
@@ -68,7 +77,7 @@ def text(cases: list[Case], has_passed: bool) -> str:
     red, green, plain = (RED, GREEN, PLAIN) if paints() else ("", "", "")
     lines = []
     for case in cases:
-        name = f', case "{printable(case.name)}"' if case.name else ""
+        name = f', case "{name_of(case)}"' if case.name else ""
         for it in case.differences:
             lines.append(f"{red}FAIL{plain} {case.path}{place(it)}{name}{title(it)}")
             lines += [f"  {line}" for line in details(it)]
@@ -84,7 +93,7 @@ def tap(cases: list[Case]) -> str:
     """The report as TAP 13 (testanything.org). Its YAML has the differences, with strings as in JSON."""
     lines = ["TAP version 13", f"1..{len(cases)}"]
     for number, case in enumerate(cases, 1):
-        name = f"{file_name(case)}: {printable(case.name)}" if case.name else file_name(case)
+        name = f"{file_name(case)}: {name_of(case)}" if case.name else file_name(case)
         escaped = name.replace("\\", "\\\\").replace("#", "\\#")
         lines.append(f"{'not ok' if case.differences else 'ok'} {number} - {escaped}")
         if case.differences:
@@ -112,7 +121,7 @@ def junit(files: list[list[Case]]) -> str:
         suite = ElementTree.SubElement(root, "testsuite", name=file_name(file[-1]), tests=str(len(file)))
         suite.attrib.update(failures=str(failed(file)), errors="0", skipped="0")
         for case in file:
-            names = {"classname": file_name(case), "name": printable(case.name) or file_name(case)}
+            names = {"classname": file_name(case), "name": name_of(case) or file_name(case)}
             entry = ElementTree.SubElement(suite, "testcase", **names, file=case.path, line=str(case.line))
             if case.differences:
                 failure = ElementTree.SubElement(
@@ -131,7 +140,7 @@ def as_json(cases: list[Case]) -> str:
         {
             "file": case.path,
             "line": case.line,
-            "name": printable(case.name) or file_name(case),
+            "name": name_of(case) or file_name(case),
             "passed": not case.differences,
             "compared": case.compared,
             "differences": [dict(parts(it)) for it in case.differences],
