@@ -79,7 +79,7 @@ def of_bytes(order: str, given: str) -> str | None:
     if re.match(r"0[xX]", given):
         return "digits are written without 0x before them"
     if WITH_STATUS.fullmatch(given):
-        return f"a status is no part of the order; in a test it stands on the line below: = < *{given.split(' ')[1]}"
+        return f"a status is not part of the order; in a test it stands on the line below: = < *{given.split(' ')[1]}"
     if " " in given and DIGITS.fullmatch(given.replace(" ", "")):
         return "a space stands among the digits: they are one word"
     rest = given[DIGITS.match(given).end() :]
@@ -88,7 +88,7 @@ def of_bytes(order: str, given: str) -> str | None:
     if rest.startswith(" "):
         return "a word follows the digits: a line has one order"
     if rest:
-        return f"{rest[0]!r} is no hexadecimal digit"
+        return f"{rest[0]!r} is not a hexadecimal digit"
     if len(given) % 2:
         return f"{len(given)} digits are an odd number: a byte has two"
     if len(given) // 2 > MOST_BYTES[order]:
@@ -101,7 +101,7 @@ def of_number(word: str) -> str | None:
     if re.match(r"[+-]", word):
         return "a number has no sign"
     if not re.fullmatch(r"[0-9]+", word):
-        return f"{word!r} is no decimal number"
+        return f"{word!r} is not a decimal number"
     if len(word) > 6:
         return f"the number {word} is out of range: it has 1 to 6 digits"
     if not int(word):
@@ -143,7 +143,7 @@ def of_name(text: str) -> str | None:
 def of_no_order(text: str, order: str) -> str:
     """What is meant by a line that begins with none of the orders, as far as it shows."""
     if ANSWER.match(text):
-        return "it is an answer, no order; in a test it stands behind '= ' below its order (./bench --test)"
+        return "it is an answer, not an order; in a test it stands behind '= ' below its order (./bench --test)"
     if order.lower() in ORDERS:
         return f"upper case: the order is {order.lower()}"
     if order.startswith("=") and order != "=":
@@ -164,9 +164,9 @@ def of_no_order(text: str, order: str) -> str:
     if said := of_name(text):
         return said
     if said := other_words().get(order.lower()):
-        return f"there is no order {order!r}: {said}"
+        return f"unknown order {order!r}: {said}"
     near = difflib.get_close_matches(order.lower(), ORDERS, 1, 0.75)
-    return f"there is no order {order!r}" + (f"; is {near[0]} meant?" if near else "")
+    return f"unknown order {order!r}" + (f"; is {near[0]} meant?" if near else "")
 
 
 def of_words(text: str) -> str | None:

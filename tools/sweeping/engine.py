@@ -71,7 +71,7 @@ def read_part(file: TextIO) -> dict:
         about = {"file": file.name, "is_whole": "writes" in it["lines"][-1], "numbers": range(1, it["parts"] + 1)}
         return {**{key: it[key] for key in (*OF_SWEEP, "part", "lines")}, **about}
     except (json.JSONDecodeError, IndexError, KeyError, TypeError) as why:
-        raise Refused(f"{file.name} is no part of a sweep, or is cut short ({why})") from None
+        raise Refused(f"{file.name} is not part of a sweep, or is cut short ({why})") from None
 
 
 def read_parts(files: list[TextIO]) -> list[dict]:
