@@ -28,7 +28,8 @@ class Parser(ArgumentParser):
     """A command line of which a fault is told in one line; the usage comes with --help."""
 
     def __init__(self, *words: Any, **named: Any) -> None:
-        super().__init__(*words, **{**named, "formatter_class": Folded})
+        named["formatter_class"] = Folded
+        super().__init__(*words, **named)
 
     def error(self, message: str) -> NoReturn:
         """Ends the tool."""

@@ -16,7 +16,7 @@ def program(*options: str, given: str | None = None) -> str:
     Later processes don't learn that it is the given one: a wrapper would take itself for it."""
     named = "SWEEP_PROGRAM" if "--sweep" in options else "BENCH_PROGRAM"
     environment = {**os.environ, **({named: given} if given else {})}
-    words = [Path(__file__).with_name("program"), *options]
+    words: list[str | Path] = [Path(__file__).with_name("program"), *options]
     done = subprocess.run(words, stdout=subprocess.PIPE, text=True, check=False, env=environment)
     if done.returncode:
         sys.exit(2)

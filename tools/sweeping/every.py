@@ -62,7 +62,8 @@ def printed_by(bench: str, card: str | None, script: str) -> list[str]:
 def cases(script: str, bench: str, card: str | None) -> Iterator[tuple[int, str, str]]:
     """Each command by its line, with its answer, and the sweep script that cuts it in its place."""
     lines = script.replace("\r\n", "\n").split("\n")
-    printed, files, shown = iter(printed_by(bench, card, script)), Files(), {}
+    printed, files = iter(printed_by(bench, card, script)), Files()
+    shown: dict[int, str] = {}
     if card is not None:
         Twin([bench, "--card", card]).begin(files)
     for number, line in enumerate(lines, 1):
