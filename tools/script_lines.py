@@ -202,10 +202,8 @@ def of_the_file(line: bytes, number: int) -> str | None:
     if number == 1 and line.startswith((b"\xff\xfe", b"\xfe\xff")):
         return "the file is UTF-16: save it as plain text, ASCII or UTF-8"
     if number == 1:
-        return next(
-            (f"the file is {what}" if what is IMAGE else f"the file is {what}, not a script" for begin, what in OTHER_FILES.items() if line.startswith(begin)),
-            None,
-        )
+        what = next((what for begin, what in OTHER_FILES.items() if line.startswith(begin)), None)
+        return what and f"the file is {what}" + ", not a script" * (what is not IMAGE)
     return None
 
 
