@@ -19,7 +19,7 @@ pub struct KeptBoard<F: Follower> {
 }
 
 impl<F: Follower> KeptBoard<F> {
-    ghost use Rattle.std.specs.Prelude.{true, false};
+    ghost use Rattle.std.specs.Prelude.{true, false, is_some, None};
     ghost use Rattle.nvm_board.specs.BoardCalls.{FitsPage, Writes};
     ghost use Rattle.nvm_board.specs.Facts.{address};
     ghost use Rattle.nvm_board.specs.History.{and_run, run_in};
@@ -52,6 +52,22 @@ impl<F: Follower> KeptBoard<F> {
         ensures { result.now ≡ self.now.follower }
     {
         &self.follower
+    }
+
+    /// Returns true if a cut is to come.
+    pub fn pending(&self) -> bool
+        ensures { result ≡ is_some (kept_facts F.log self.now).pending }
+    {
+        self.cut.pending()
+    }
+
+    /// Takes back the cut that is set, if there is one.
+    pub fn disarm(&mut self)
+        ensures facts { kept_facts F.log self.new
+            ≡ record (kept_facts F.log self.old) { due = 0; pending = None } }
+        ensures follower { follower_state self.new ≡ follower_state self.old }
+    {
+        self.cut.disarm();
     }
 
     /// Writes, and hands the words to the follower. This is a function of its own, so that a write without a follower,

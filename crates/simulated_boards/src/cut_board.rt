@@ -19,7 +19,7 @@ pub struct CutBoard {
 }
 
 impl CutBoard {
-    ghost use Rattle.std.specs.Prelude.{◌≡◌, ◌≤◌, is_some, IfOk, IfSome, IsNone};
+    ghost use Rattle.std.specs.Prelude.{◌≡◌, ◌≤◌, is_some, IfOk, IfSome, IsNone, None};
     ghost use Rattle.nvm_board.specs.BoardCalls.{FitsPage};
     ghost use Rattle.simulated_boards.specs.Cut.{cut_facts, last_torn, IsNewCutBoard, WritesOrTears};
     ghost use Rattle.nvm_board.specs.Facts.{IsMemory, address};
@@ -99,6 +99,14 @@ impl CutBoard {
         ensures { result ≡ is_some (cut_facts self.now).pending }
     {
         self.arm.is_some()
+    }
+
+    /// Takes back the cut that is set, if there is one.
+    pub fn disarm(&mut self)
+        ensures facts { cut_facts self.new ≡ record (cut_facts self.old) { due = 0; pending = None } }
+        ensures torn { last_torn self.new ≡ last_torn self.old }
+    {
+        self.arm = None;
     }
 
     /// Returns the length of the last torn write in words, or 0.
