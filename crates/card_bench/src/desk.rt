@@ -1,9 +1,9 @@
 //! The desk of a script: a bench, the reader's end of the link, and the line between the ends.
-ghost use Rattle.std.specs.Prelude.{◌≡◌, ◌≢◌, ◌⊎◌, ℕ, None, Err, take, true, false};
+ghost use Rattle.std.specs.Prelude.{◌≡◌, ◌≢◌, ◌⊎◌, ◌↔◌, ℕ, None, Err, IsTrue, take, true, false};
 ghost use Rattle.std.specs.Prelude.{IfErr, OnErr, OnOk};
 ghost use Rattle.std.specs.Io.KnownBytes.{Appends};
 ghost use Rattle.bench_lines.specs.declared.order.TheConstants.{COMMAND_LIMIT};
-ghost use Rattle.bench_turns.specs.BenchStates.{bench_facts, off};
+ghost use Rattle.bench_turns.specs.BenchStates.{IsOn, bench_facts, off};
 ghost use Rattle.card_model.specs.Requests.{HasBetween};
 ghost use Rattle.script_effects.specs.DeskStates.{print_of, printed_at};
 ghost use Rattle.bench_lines.specs.OrderViews.{order_with};
@@ -81,6 +81,34 @@ impl<P: TurnPlayer> Desk<P> {
         ensures { P.Board.facts result.now ≡ bench_facts self.now.desk.bench }
     {
         self.ends.bench.board()
+    }
+
+    /// The line between the ends.
+    pub fn line(&self) -> Line
+        ensures { result ≡ self.now.desk.line }
+    {
+        self.ends.line
+    }
+
+    /// Returns true if power is on.
+    pub fn is_on(&self) -> bool
+        ensures { IsTrue result ↔ IsOn self.now.desk.bench }
+    {
+        self.ends.bench.is_on()
+    }
+
+    /// The board, power off.
+    pub fn into_board(self) -> P::Board
+        ensures { P.Board.facts result ≡ record (bench_facts self.desk.bench) { dark = true } }
+    {
+        let Desk { ends, in_step: _ } = self;
+        let Ends {
+            bench,
+            reader: _,
+            line: _,
+            blocks: _,
+        } = ends;
+        bench.into_board()
     }
 
     /// Copies the bytes of the last line's result, if it has any, into the buffer.

@@ -1,5 +1,5 @@
 //! The line between the two ends, which may lose or garble a block.
-ghost use Rattle.std.specs.Prelude.{◌≡◌, ◌≤◌, ◌-◌, false, None, Some, if◌then◌else◌};
+ghost use Rattle.std.specs.Prelude.{◌≡◌, ◌≤◌, ◌-◌, false, None, Some, is_some, if◌then◌else◌};
 ghost use Rattle.script_effects.specs.Lines.{arriving, is_due, line_after, pending_after, perfect_line};
 
 use t1_link::BlockBytes;
@@ -38,6 +38,20 @@ impl Line {
         ensures { self.new ≡ record self.old { garble = Some (number - 1) } }
     {
         self.garble = Some(number - 1);
+    }
+
+    /// Returns true if a later block is to be lost.
+    pub fn loses(&self) -> bool
+        ensures { result ≡ is_some self.now.lose }
+    {
+        self.lose.is_some()
+    }
+
+    /// Returns true if a later block is to be garbled.
+    pub fn garbles(&self) -> bool
+        ensures { result ≡ is_some self.now.garble }
+    {
+        self.garble.is_some()
     }
 
     /// Passes the block in the buffer; returns true if it arrives.
