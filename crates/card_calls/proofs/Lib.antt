@@ -1,3 +1,1 @@
-pub mod LogLaws
 pub mod OrderLaws
-pub mod WriteLaws

@@ -1,4 +1,3 @@
-pub mod Collecting
-pub mod LoggedWrites
+pub mod Devices
 pub mod SessionStates
 pub mod Telling

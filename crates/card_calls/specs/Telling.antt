@@ -1,9 +1,8 @@
 -- The outcome of a call from C, and its bytes.
-use Rattle.std.specs.Prelude.{◌≡◌, ◌≢◌, ◌≤◌, ◌<◌, ◌*◌, ◌⊎◌, ℕ, ℤ, pos, Bool, true, false, List, [], ◌∷◌, Option, None}
+use Rattle.std.specs.Prelude.{◌≡◌, ◌≤◌, ◌<◌, ◌⊎◌, ℕ, ℤ, pos, Bool, true, false, List, Option, None}
 use Rattle.std.specs.Prelude.{Some, Result, Ok, Err, length, take, drop}
 use Rattle.nvm_board.specs.Aims.{WritesRuns}
 use Rattle.nvm_board.specs.Facts.{Facts, IsMemory}
-use Rattle.nvm_board.specs.History.{Log, Run, replayed}
 use Rattle.simulated_boards.specs.Given.{board_with}
 use Rattle.card_start.specs.declared.memory_format.MemoryFormat.TheVariants.{Two}
 use Rattle.card_start.specs.Factory.{IsFactory, factory_card}
@@ -20,13 +19,13 @@ use Rattle.script_output.specs.Printouts.{prints_nothing, prints_atr, prints_mut
 use Rattle.script_output.specs.Printouts.{prints_bytes}
 use Rattle.script_output.specs.Printouts.{prints_free}
 use Rattle.card_calls.specs.SessionStates.{SessionState, begun_at}
-use Rattle.card_calls.specs.LoggedWrites.{image_bytes, run_of}
+use Rattle.kept_board.specs.declared.kept_board.KeptBoard.{KeptBoard}
+use Rattle.card_calls.specs.Devices.{device_facts, is_left_behind}
+use Rattle.card_calls.specs.declared.device.Device.{Device}
 use Rattle.card_calls.specs.declared.outcome.Outcome.{Outcome}
 use Rattle.card_calls.specs.declared.outcome.Outcome.TheVariants as outcome
 use Rattle.card_calls.specs.declared.outcome.Told.{Told}
 use Rattle.card_calls.specs.declared.sizes.TheConstants.{ROOM}
-use Rattle.card_calls.specs.declared.write.Write.{Write}
-use Rattle.card_calls.specs.declared.write.TheConstants.{WORD_BYTES}
 
 -- the number that C sees
 abbrev pub outcome_number : Outcome → ℤ
@@ -37,9 +36,8 @@ outcome_number outcome.Lost = pos 3
 outcome_number outcome.Size = pos 4
 outcome_number outcome.Memory = pos 5
 outcome_number outcome.NoCard = pos 6
-outcome_number outcome.Untaken = pos 7
-outcome_number outcome.Overrun = pos 8
-outcome_number outcome.Absent = pos 9
+outcome_number outcome.Behind = pos 7
+outcome_number outcome.Absent = pos 8
 
 -- the outcome of an output
 abbrev pub print_outcome : Print → Outcome
@@ -59,56 +57,38 @@ told_print told = print_of told.came told.bytes.items told.bytes.items
 abbrev pub session_facts : SessionState → Facts
 session_facts s = bench_facts s.desk.bench
 
--- The device writes of a kept card in an order are those that its board made and logged: each once, in order, with the
--- words that it left. Put into the words before the order, they make the words after it. The log has room for as many
--- as the caller. Neither this order nor an earlier one made more.
-pub record HandsOver (was now : SessionState) : Type 0 where
-  pub log : Log
-  pub logs : (session_facts was).log ≡ Some log
-  pub room : log.room ≡ was.room
-  pub made : WritesRuns (session_facts was) (session_facts now)
-  pub fits : length made.runs ≤ was.room
-  pub all : now.untaken ≡ made.runs
-  pub image : (session_facts now).words ≡ replayed (session_facts was).words now.untaken
-  pub whole : (was.overran ≡ false) × (now.overran ≡ false)
-
--- The writes of an order. A card that isn't kept has none to take.
-pub record LogsWrites (was now : SessionState) : Type 0 where
-  pub unkept : now.room ≡ 0 → now.untaken ≡ []
-  pub kept : 0 < now.room → HandsOver was now
-
--- The card is kept, and its board made more device writes in the order than there is room for, or did so in an earlier
--- one.
-pub record LosesWrites (was now : SessionState) : Type 0 where
-  pub kept : 0 < was.room
-  pub log : Log
-  pub logs : (session_facts was).log ≡ Some log
-  pub room : log.room ≡ was.room
-  pub made : WritesRuns (session_facts was) (session_facts now)
-  pub many : (was.overran ≡ true) ⊎ (was.room < length made.runs)
-  pub none : now.untaken ≡ []
-  pub overran : now.overran ≡ true
-
 -- An order runs, and has an output. The memory has a card state after it, the board had no fault, and the guess law
--- holds.
+-- holds. The board made device writes, in order: put into the words before the order, they make the words after it.
+-- The log of the card's device, if it has one, counts them.
 pub record IsPerformed (order : Order) (was now : SessionState) (prints : Print) : Type 0 where
-  pub taken : was.untaken ≡ []
   pub performs : Performs order was.desk now.desk prints
   pub good : IsGood now.desk.bench
   pub guesses : GuessesFew was.desk.bench now.desk.bench
-  pub room : now.room ≡ was.room
+  pub made : WritesRuns (session_facts was) (session_facts now)
 
--- writes of an earlier order are left, so nothing is done
-pub record HasUntaken (was now : SessionState) : Type 0 where
-  pub some : was.untaken ≢ []
-  pub same : now ≡ was
+-- A board with these facts has a device that took all its writes, or none; or the device is behind.
+pub record IsKeptBy (now : SessionState) : Type 0 where
+  pub board : KeptBoard Device
+  pub facts : device_facts board ≡ session_facts now
+  pub behind : is_left_behind board ≡ now.behind
 
--- the result of an order is the output, and its writes are logged; or writes were left; or it overran
+-- The device didn't take a write: one of this order, which has run, or one of an earlier order, and then nothing is
+-- done.
+pub record FellBehind (order : Order) (was now : SessionState) : Type 0 where
+  pub behind : now.behind ≡ true
+  pub how : ((was.behind ≡ true) × (now ≡ was))
+      ⊎ ((was.behind ≡ false) × IsKeptBy now × ((prints : Print) × IsPerformed order was now prints))
+
+-- the device took all writes, of this order and of those before it
+pub record KeepsUp (was now : SessionState) : Type 0 where
+  pub was_up : was.behind ≡ false
+  pub up : now.behind ≡ false
+  pub kept : IsKeptBy now
+
+-- the result of an order is the output, and the device took its writes; or the device is behind
 abbrev pub TellsResult : Order → SessionState → SessionState → Result Told Outcome → Type 0
-TellsResult order was now (Ok told) =
-    IsPerformed order was now (told_print told) × LogsWrites was now
-TellsResult order was now (Err why) = ((why ≡ outcome.Untaken) × HasUntaken was now)
-    ⊎ ((why ≡ outcome.Overrun) × ((prints : Print) × IsPerformed order was now prints) × LosesWrites was now)
+TellsResult order was now (Ok told) = IsPerformed order was now (told_print told) × KeepsUp was now
+TellsResult order was now (Err why) = (why ≡ outcome.Behind) × FellBehind order was now
 
 -- An order to a card. Without a card nothing is done.
 abbrev pub AnswersOrder : Order → Option SessionState → Option SessionState → Result Told Outcome → Type 0
@@ -116,16 +96,15 @@ AnswersOrder order None now result = (now ≡ None) × (result ≡ Err outcome.A
 AnswersOrder order (Some was) None result = ⊥
 AnswersOrder order (Some was) (Some now) result = TellsResult order was now result
 
--- A call that runs an order: its outcome is that of the output, for which `Holds` is true; or writes were left, it
--- overran, or there is no card, for which `Fails` is.
+-- A call that runs an order: its outcome is that of the output, for which `Holds` is true; or the device is behind, or
+-- there is no card, for which `Fails` is.
 abbrev pub CallRuns : Order → Option SessionState → Option SessionState → Outcome → (Print → Type 0) → Type 0 → Type 0
 CallRuns order None now result Holds Fails = (now ≡ None) × (result ≡ outcome.Absent) × Fails
 CallRuns order (Some was) None result Holds Fails = ⊥
 CallRuns order (Some was) (Some now) result Holds Fails =
     ((prints : Print) × IsPerformed order was now prints × (result ≡ print_outcome prints) × Holds prints
-    × LogsWrites was now)
-    ⊎ (Fails × (((result ≡ outcome.Untaken) × HasUntaken was now)
-    ⊎ ((result ≡ outcome.Overrun) × ((prints : Print) × IsPerformed order was now prints) × LosesWrites was now)))
+    × KeepsUp was now)
+    ⊎ (Fails × (result ≡ outcome.Behind) × FellBehind order was now)
 
 -- The buffer begins with these bytes, and their number is returned. The rest of the buffer is unchanged.
 pub record CopiesOut (bytes old new : List ℕ) (size : ℕ) : Type 0 where
@@ -190,11 +169,11 @@ pub record RefusesCall (was now : Option SessionState) (number : ℤ) : Type 0 w
 abbrev pub FitsCall : Order → List ℕ → Type 0
 FitsCall order out = IsOrderSized order × (ROOM ≤ length out)
 
--- the first state of a card of these words
+-- the first state of a card of these words, which may have a device
 abbrev pub inserted : List ℕ → Bool → SessionState
-inserted words kept = begun_at (board_with words) kept
+inserted words attached = begun_at (board_with words) attached
 
--- a handle has the factory card in format 2, in the first state on a new board of 896 blocks, and it isn't kept
+-- a handle has the factory card in format 2, in the first state on a new board of 896 blocks, without a device
 pub record IsFactoryFresh (now : Option SessionState) : Type 0 where
   pub board : Facts
   pub begun : now ≡ Some (begun_at board false)
@@ -223,30 +202,3 @@ TellsWords (Some now) old new size number = let words = (bench_facts now.desk.be
     ⊎ ((number ≡ outcome_number outcome.Size) × (size ≡ length words) × (length old < length words)
     × (new ≡ old))
     ⊎ ((number ≡ outcome_number outcome.Memory) × CopiesNothing old new size)
-
--- a write is the oldest one that the caller has not taken, or there is none
-abbrev pub TakesOldest : SessionState → SessionState → Option Write → Type 0
-TakesOldest was now None = (was.untaken ≡ []) × (now ≡ was)
-TakesOldest was now (Some write) =
-    (was.untaken ≡ run_of write ∷ now.untaken) × (now ≡ record was { untaken = now.untaken })
-
--- the oldest write of a handle's card, if there is a card
-abbrev pub TakesFrom : Option SessionState → Option SessionState → Result (Option Write) Outcome → Type 0
-TakesFrom None now result = (now ≡ None) × (result ≡ Err outcome.Absent)
-TakesFrom (Some was) None result = ⊥
-TakesFrom (Some was) (Some now) (Ok write) = TakesOldest was now write
-TakesFrom (Some was) (Some now) (Err why) = ⊥
-
--- the offset and the bytes in the image of the oldest of these writes, which are the others with it; or no bytes
-abbrev pub CopiesOldest : List Run → List Run → List ℕ → List ℕ → ℕ → ℕ → Type 0
-CopiesOldest [] rest old new offset size = (rest ≡ []) × (offset ≡ 0) × CopiesNothing old new size
-CopiesOldest (run ∷ others) rest old new offset size =
-    (rest ≡ others) × (offset ≡ WORD_BYTES * run.at) × CopiesOut (image_bytes run.words) old new size
-
--- A call that takes a write, with enough room for its bytes: the oldest one, and all else stays.
-abbrev pub TakesWrite : Option SessionState → Option SessionState → List ℕ → List ℕ → ℕ → ℕ → ℤ → Type 0
-TakesWrite None now old new offset size number =
-    (now ≡ None) × (number ≡ outcome_number outcome.Absent) × (offset ≡ 0) × CopiesNothing old new size
-TakesWrite (Some was) None old new offset size number = ⊥
-TakesWrite (Some was) (Some now) old new offset size number = (number ≡ outcome_number outcome.Done)
-    × CopiesOldest was.untaken now.untaken old new offset size × (now ≡ record was { untaken = now.untaken })

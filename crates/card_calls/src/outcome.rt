@@ -24,10 +24,9 @@ pub enum Outcome {
     Memory,
     /// The words are no valid card image.
     NoCard,
-    /// The caller has not taken all writes of an earlier call. Nothing was done.
-    Untaken,
-    /// A call made more writes than there is room for. The caller's image can't follow any more.
-    Overrun,
+    /// The device of the card didn't take a write, in this call or an earlier one. It gets no more, and no call runs the
+    /// card.
+    Behind,
     /// The handle is null.
     Absent,
 }
@@ -45,9 +44,8 @@ impl Outcome {
             Outcome::Size => 4,
             Outcome::Memory => 5,
             Outcome::NoCard => 6,
-            Outcome::Untaken => 7,
-            Outcome::Overrun => 8,
-            Outcome::Absent => 9,
+            Outcome::Behind => 7,
+            Outcome::Absent => 8,
         }
     }
 }

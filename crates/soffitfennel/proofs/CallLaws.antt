@@ -27,13 +27,13 @@ told-runs order (Some was) None told result Holds Fails answers is holds = absur
 told-runs order (Some was) (Some now) told result Holds Fails answers is holds =
     inl (told_print told, answers.0, is, holds, answers.1)
 
--- none, as there is no card, writes are left, or one was lost
+-- none, as there is no card, or its device is behind
 failed-runs : (order : Order) (was now : Option SessionState) (why : Outcome) (Holds : Print → Type 0) (Fails : Type 0)
     → AnswersOrder order was now (Err why) → Fails → CallRuns order was now why Holds Fails
 failed-runs order None now why Holds Fails answers fails = (answers.0, ap why-of answers.1, fails)
 failed-runs order (Some was) None why Holds Fails answers fails = absurd answers
 failed-runs order (Some was) (Some now) why Holds Fails answers fails =
-    inr (fails, answers)
+    inr (fails, answers.0, answers.1)
 
 -- the outcome alone is returned
 pub told_tells : (order : Order) (was now : Option SessionState) (told : Told) (result : Outcome) (number : ℤ)

@@ -5,23 +5,20 @@ mod handle;
 mod held;
 mod session;
 
-ghost use Rattle.std.specs.Prelude.{◌≡◌, ◌≢◌, ◌≤◌, ◌<◌, None, Some, pos, [], length};
+ghost use Rattle.std.specs.Prelude.{◌≡◌, ◌≢◌, None, Some, pos, [], is_some, true, false};
 ghost use Rattle.bench_lines.specs.Orders.{IsOrderSized, On, Off, Apdu, Block, Cut, Lose, Garble};
 ghost use Rattle.bench_lines.specs.OrderViews.{order_with};
 ghost use Rattle.command_base.specs.Finding.{HasCard};
 ghost use Rattle.simulated_boards.specs.Cut.{cut_facts};
 ghost use Rattle.card_calls.specs.SessionStates.{begun_at};
 ghost use Rattle.card_calls.specs.Telling.{AnswersOrder, CopiesNothing, FitsCall, IsFactoryFresh, ReadsWords};
-ghost use Rattle.card_calls.specs.Telling.{RefusesCall, RefusesWords, ReturnsSpace, TakesFrom, TakesWrite, Tells};
+ghost use Rattle.card_calls.specs.Telling.{RefusesCall, RefusesWords, ReturnsSpace, Tells};
 ghost use Rattle.card_calls.specs.Telling.{TellsBytes, TellsWords, inserted, outcome_number, refusal_of};
-ghost use Rattle.card_calls.specs.declared.write.TheConstants.{WRITE_BYTES};
 
 use crate::handle::Handle;
 use crate::session::Session;
 use card_bench::{Order, factory_board};
-use card_calls::{
-    Outcome, Told, WRITE_BYTES, Write, block_fits, board_of, command_fits, copy, order_fits,
-};
+use card_calls::{Outcome, Told, block_fits, board_of, command_fits, order_fits};
 use core::mem::replace_with;
 use simulated_boards::CutBoard;
 use std::alloc::Global;
@@ -155,34 +152,29 @@ fn refuse(alloc: Global, card: &mut Handle) -> i32
     replace_with(card, alloc, tell_refusal).number()
 }
 
-/// Takes the oldest write of a handle's card.
-fn take_write(card: Handle, alloc: Global) -> (Handle, Result<Option<Write>, Outcome>)
-    ensures { TakesFrom card.value result.0.value result.1 }
-{
-    match card.into_session() {
-        Some(mut session) => {
-            let write = session.take_write();
-            (Handle::of(session), Ok(write))
-        }
-        None => (Handle::empty(alloc), Err(Outcome::Absent)),
-    }
-}
-
 /// Puts a card on a board behind a handle, if there is memory for it.
-fn put(alloc: Global, card: &mut Handle, board: CutBoard, kept: bool) -> Outcome
+fn put(alloc: Global, card: &mut Handle, board: CutBoard, device: Option<i32>) -> Outcome
     requires { HasCard (cut_facts board).words }
-    ensures done { result ≡ Outcome.Done → card.new.value ≡ Some (begun_at (cut_facts board) kept) }
+    ensures done { result ≡ Outcome.Done → card.new.value ≡ Some (begun_at (cut_facts board) (is_some device)) }
     ensures undone { result ≢ Outcome.Done → (result ≡ Outcome.Memory) × (card.new.value ≡ card.old.value) }
 {
-    let Ok(session) = Session::new(alloc, board, kept) else {
-        return Outcome::Memory;
-    };
-    match Box::new(alloc, session) {
+    match Box::new(alloc, Session::new(board, device)) {
         Ok(made) => {
             replace_with(card, made, exchange_card);
             Outcome::Done
         }
         Err(_) => Outcome::Memory,
+    }
+}
+
+/// Makes the card whose memory has these words, with power off, in place of the handle's card.
+fn insert(alloc: Global, card: &mut Handle, words: &[u32], device: Option<i32>) -> i32
+    ensures done { result ≡ pos 0 → card.new.value ≡ Some (inserted words.now (is_some device)) }
+    ensures undone { result ≢ pos 0 → (card.new.value ≡ card.old.value) × RefusesWords words.now result }
+{
+    match board_of(alloc, words) {
+        Ok(board) => put(alloc, card, board, device).number(),
+        Err(outcome) => outcome.number(),
     }
 }
 
@@ -194,27 +186,33 @@ pub extern "C" fn soffitfennel_factory(alloc: Global, card: &mut Handle) -> i32
         × (card.new.value ≡ card.old.value) }
 {
     match factory_board(alloc) {
-        Ok(board) => put(alloc, card, board, false).number(),
+        Ok(board) => put(alloc, card, board, None).number(),
         Err(_) => Outcome::Memory.number(),
     }
 }
 
-/// Makes the card whose memory has these words, with power off, in place of the handle's card.
-/// The caller takes the writes of a kept card.
+/// Makes the card whose memory has these words, with power off, in place of the handle's card. Nothing keeps it.
 #[unsafe(no_mangle)]
-pub extern "C" fn soffitfennel_insert(
+pub extern "C" fn soffitfennel_insert(alloc: Global, card: &mut Handle, words: &[u32]) -> i32
+    ensures done { result ≡ pos 0 → card.new.value ≡ Some (inserted words.now false) }
+    ensures undone { result ≢ pos 0 → (card.new.value ≡ card.old.value) × RefusesWords words.now result }
+{
+    insert(alloc, card, words, None)
+}
+
+/// Makes the card whose memory has these words, with power off, in place of the handle's card. The device of this
+/// number has the words already, and gets each device write before the card goes on.
+#[unsafe(no_mangle)]
+pub extern "C" fn soffitfennel_attach(
     alloc: Global,
     card: &mut Handle,
     words: &[u32],
-    kept: bool,
+    device: i32,
 ) -> i32
-    ensures done { result ≡ pos 0 → card.new.value ≡ Some (inserted words.now kept) }
+    ensures done { result ≡ pos 0 → card.new.value ≡ Some (inserted words.now true) }
     ensures undone { result ≢ pos 0 → (card.new.value ≡ card.old.value) × RefusesWords words.now result }
 {
-    match board_of(alloc, words) {
-        Ok(board) => put(alloc, card, board, kept).number(),
-        Err(outcome) => outcome.number(),
-    }
+    insert(alloc, card, words, Some(device))
 }
 
 /// Switches power on, after power off if it is on.
@@ -353,37 +351,6 @@ pub extern "C" fn soffitfennel_words(
             *size = 0;
             outcome.number()
         }
-    }
-}
-
-/// Takes the oldest write that the caller has not taken: its offset in the image, and its bytes. None is left if there
-/// are no bytes.
-#[unsafe(no_mangle)]
-pub extern "C" fn soffitfennel_write(
-    alloc: Global,
-    card: &mut Handle,
-    offset: &mut usize,
-    bytes: &mut [u8],
-    size: &mut usize,
-) -> i32
-    ensures takes { WRITE_BYTES ≤ length bytes.old
-        → TakesWrite card.old.value card.new.value bytes.old bytes.new offset.new size.new result }
-    ensures unfit { length bytes.old < WRITE_BYTES → RefusesCall card.old.value card.new.value result
-        × (offset.new ≡ 0) × CopiesNothing bytes.old bytes.new size.new }
-{
-    *offset = 0;
-    *size = 0;
-    if bytes.len() < WRITE_BYTES {
-        return refuse(alloc, card);
-    }
-    match replace_with(card, alloc, take_write) {
-        Ok(Some(write)) => {
-            *offset = write.offset();
-            *size = copy(&write.bytes(), bytes);
-            Outcome::Done.number()
-        }
-        Ok(None) => Outcome::Done.number(),
-        Err(outcome) => outcome.number(),
     }
 }
 

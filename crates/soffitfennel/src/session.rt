@@ -1,17 +1,16 @@
 //! A card at its desk.
-ghost use Rattle.std.specs.Prelude.{◌≡◌, IfOk};
+ghost use Rattle.std.specs.Prelude.{◌≡◌, IfOk, is_some};
 ghost use Rattle.bench_lines.specs.Orders.{IsOrderSized};
 ghost use Rattle.bench_lines.specs.OrderViews.{order_with};
 ghost use Rattle.bench_turns.specs.BenchStates.{bench_facts};
 ghost use Rattle.command_base.specs.Finding.{HasCard};
 ghost use Rattle.simulated_boards.specs.Cut.{cut_facts};
 ghost use Rattle.card_calls.specs.SessionStates.{begun_at};
-ghost use Rattle.card_calls.specs.Telling.{TakesOldest, TellsResult};
+ghost use Rattle.card_calls.specs.Telling.{TellsResult};
 
 use card_bench::{Desk, Order};
-use card_calls::{Collected, Outcome, Told, Write, WriteLog, log_for};
+use card_calls::{DeviceBoard, Outcome, Told, followed, is_behind};
 use card_turns::Bench;
-use kept_board::KeptBoard;
 use nvm_board::has_no_fault;
 use simulated_boards::CutBoard;
 use std::alloc::{AllocError, Global};
@@ -21,19 +20,16 @@ use t1_link::AnswerBytes;
 /// A card at its desk. Its memory always has a card state after recovery, and its board never has a fault.
 #[derive(Drop)]
 pub struct Session {
-    desk: Desk<Bench<KeptBoard<WriteLog>>>,
-    collected: Collected,
+    desk: Desk<Bench<DeviceBoard>>,
+    /// True if the card's device didn't take a write.
+    behind: bool,
 }
 
 impl Model for Session {
-    ghost use Rattle.std.specs.Prelude.{map};
     ghost use Rattle.std.specs.Coded.{codes};
     ghost use Rattle.card_model.specs.Sessions.{session_code};
-    ghost use Rattle.bench_turns.specs.BenchStates.{bench_facts};
     ghost use Rattle.bench_turns.specs.Plays.{IsGood};
-    ghost use Rattle.card_calls.specs.Collecting.{IsInStep};
     ghost use Rattle.card_calls.specs.SessionStates.{SessionState};
-    ghost use Rattle.card_calls.specs.LoggedWrites.{run_of};
 
     ghost Value = { SessionState };
 
@@ -41,58 +37,46 @@ impl Model for Session {
 
     ghost view = { λ s. record {
       desk = s.desk.desk;
-      untaken = map run_of s.collected.writes.items;
-      room = s.collected.writes.capacity;
-      overran = s.collected.overran;
+      behind = s.behind;
     } };
 
-    ghost invariant = { λ s. IsGood s.desk.desk.bench × IsInStep (bench_facts s.desk.desk.bench).log s.collected };
+    ghost invariant = { λ s. IsGood s.desk.desk.bench };
 }
 
 impl Session {
-    /// Returns a session with this board, with power off. The caller takes the writes of a kept card.
-    ///
-    /// # Errors
-    /// There is too little memory.
-    pub fn new(alloc: Global, board: CutBoard, kept: bool) -> Result<Session, AllocError>
+    /// Returns a session with this board, with power off. The device of this number has the board's words already, and
+    /// gets each of its writes.
+    pub fn new(board: CutBoard, device: Option<i32>) -> Session
         requires { HasCard (cut_facts board).words }
-        ensures { IfOk result (λ session. session ≡ begun_at (cut_facts board) kept) }
+        ensures { result ≡ begun_at (cut_facts board) (is_some device) }
     {
-        let log = log_for(alloc, kept)?;
-        let collected = Collected::new(alloc, kept)?;
-        let board = KeptBoard::new(board, log);
+        let board = followed(board, device);
         has_no_fault(&board);
-        Ok(Session {
+        Session {
             desk: Desk::new(board),
-            collected,
-        })
+            behind: false,
+        }
     }
 
     /// Runs an order, and returns its result.
     ///
     /// # Errors
-    /// `Untaken` if the caller has not taken all writes, and `Overrun` if there is no room for all.
+    /// `Behind` if the card's device didn't take a write of this order, or of an earlier one. Then no order runs.
     pub fn perform(&mut self, order: Order, given: &[u8]) -> Result<Told, Outcome>
         requires { IsOrderSized (order_with order given.now) }
         ensures { TellsResult (order_with order given.now) self.old self.new result }
     {
-        if !self.collected.writes.is_empty() {
-            return Err(Outcome::Untaken);
+        if self.behind {
+            return Err(Outcome::Behind);
         }
         let came = self.desk.perform(order, given);
-        if !self.collected.collect(self.desk.board()) {
-            return Err(Outcome::Overrun);
+        if is_behind(self.desk.board()) {
+            self.behind = true;
+            return Err(Outcome::Behind);
         }
         let mut bytes = AnswerBytes::new();
         self.desk.copy_bytes(came, &mut bytes);
         Ok(Told { came, bytes })
-    }
-
-    /// Takes the oldest write that the caller has not taken.
-    pub fn take_write(&mut self) -> Option<Write>
-        ensures { TakesOldest self.old self.new result }
-    {
-        self.collected.writes.pop_front()
     }
 
     /// Returns a copy of the memory's words.

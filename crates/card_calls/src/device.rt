@@ -1,0 +1,91 @@
+//! A device of the caller that follows a board: it has each write before the board's call returns.
+ghost use Rattle.std.specs.Prelude.{◌≡◌, ◌≤◌, Bool, length, is_some};
+ghost use Rattle.nvm_board.specs.declared.board.TheConstants.{PAGE_WORDS};
+ghost use Rattle.simulated_boards.specs.Cut.{cut_facts};
+ghost use Rattle.card_calls.specs.Devices.{begun_log, device_facts, device_log, is_left_behind};
+
+use kept_board::{Follower, KeptBoard};
+use nvm_board::PAGE_WORDS;
+use simulated_boards::CutBoard;
+
+/// The bytes of a word.
+const WORD_BYTES: usize = 4;
+
+/// The most bytes of a device write.
+const WRITE_BYTES: usize = WORD_BYTES * PAGE_WORDS as usize;
+
+/// A device of the caller, by its number: what `pwrite` knows it by. It has a board's words, the most significant byte
+/// of each first.
+#[derive(Drop)]
+pub struct Device {
+    pub number: i32,
+    /// The device writes of the board since the device follows it, modulo 2^64.
+    pub writes: u64,
+    /// True if it didn't take one of them. It gets none after that.
+    pub behind: bool,
+}
+
+/// The board of a card. A device may follow it.
+pub type DeviceBoard = KeptBoard<Device>;
+
+/// Returns a board that a device follows, which has its words already, or one that nothing follows.
+pub fn followed(cut: CutBoard, device: Option<i32>) -> DeviceBoard
+    ensures facts { device_facts result ≡ record (cut_facts cut) { log = begun_log (is_some device) } }
+    ensures up { is_left_behind result ≡ Bool.false }
+{
+    match device {
+        Some(number) => KeptBoard::new(
+            cut,
+            Some(Device {
+                number,
+                writes: 0,
+                behind: false,
+            }),
+        ),
+        None => KeptBoard::new(cut, None),
+    }
+}
+
+/// Returns true if a board has a device, and that didn't take a write.
+pub fn is_behind(board: &DeviceBoard) -> bool
+    ensures { result ≡ is_left_behind board.now }
+{
+    match board.follower() {
+        Some(device) => device.behind,
+        None => false,
+    }
+}
+
+impl Follower for Device {
+    ghost log = { device_log };
+
+    // It counts each write.
+    ghost behind = { λ _. Bool.false };
+
+    // One call of `pwrite` for one device write, so a device sees where each begins and ends.
+    fn take(&mut self, at: usize, words: &[u32]) -> bool {
+        self.writes = self.writes.wrapping_add(1);
+        if !self.behind {
+            let bytes = bytes_of(words);
+            let size = WORD_BYTES * words.len();
+            let took = libc::pwrite(self.number, &bytes[..size], (WORD_BYTES * at) as i64);
+            self.behind = took != size as isize;
+        }
+        true
+    }
+}
+
+/// Returns the bytes of words, the most significant byte of each first.
+fn bytes_of(words: &[u32]) -> [u8; WRITE_BYTES]
+    requires { length words.now ≤ PAGE_WORDS }
+{
+    let mut bytes = [0; WRITE_BYTES];
+    for i in 0..words.len() {
+        let [a, b, c, d] = words[i].to_be_bytes();
+        bytes[WORD_BYTES * i] = a;
+        bytes[WORD_BYTES * i + 1] = b;
+        bytes[WORD_BYTES * i + 2] = c;
+        bytes[WORD_BYTES * i + 3] = d;
+    }
+    bytes
+}
