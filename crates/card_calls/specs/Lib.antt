@@ -1,3 +1,4 @@
 pub mod Devices
+pub mod ScriptCalls
 pub mod SessionStates
 pub mod Telling

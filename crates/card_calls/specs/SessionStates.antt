@@ -10,8 +10,8 @@ pub record SessionState : Type 0 where
   pub desk : Desk
   pub behind : Bool
 
--- The first state of a card on a board, which may have a device: power off, no reader, and no pending fault of the line.
--- The device has all words, and its log is empty.
+-- The first state of a card on a board, which may have a device: power off, no reader, and no pending fault of the
+-- line. The device has all words, and its log is empty.
 abbrev pub begun_at : Facts → Bool → SessionState
 begun_at facts attached = record {
   desk = desk_of (record facts { log = begun_log attached });

@@ -1,19 +1,23 @@
 -- The outcome of a call from C, and its bytes.
-use Rattle.std.specs.Prelude.{◌≡◌, ◌≤◌, ◌<◌, ◌⊎◌, ℕ, ℤ, pos, Bool, true, false, List, Option, None}
-use Rattle.std.specs.Prelude.{Some, Result, Ok, Err, length, take, drop}
+use Rattle.std.specs.Prelude.{◌≡◌, ◌≤◌, ◌<◌, ◌⊎◌, ◌+◌, ◌-◌, ℕ, ℤ, pos, Bool, true, false, List, Option, None}
+use Rattle.std.specs.Prelude.{Some, Result, Ok, Err, length, take, drop, is_some, if◌then◌else◌}
 use Rattle.nvm_board.specs.Aims.{WritesRuns}
-use Rattle.nvm_board.specs.Facts.{Facts, IsMemory}
+use Rattle.nvm_board.specs.declared.board.TheConstants.{LEAST_PAGES, MOST_PAGES}
+use Rattle.nvm_board.specs.Facts.{Facts, IsMemory, pages_of}
+use Rattle.undo_journal.specs.Undo.{IsBadJournal, IsSound}
 use Rattle.simulated_boards.specs.Given.{board_with}
 use Rattle.card_start.specs.declared.memory_format.MemoryFormat.TheVariants.{Two}
 use Rattle.card_start.specs.Factory.{IsFactory, factory_card}
-use Rattle.command_base.specs.Finding.{Finds, HasCard}
+use Rattle.command_base.specs.Finding.{Finds, HasCard, words_found}
+use Rattle.command_base.specs.Standing.{IsAnyCard}
 use Rattle.bench_lines.specs.Orders.{Order, IsOrderSized, Free}
-use Rattle.bench_turns.specs.BenchStates.{bench_facts}
+use Rattle.bench_turns.specs.BenchStates.{BenchState, off, on, bench_facts}
 use Rattle.bench_turns.specs.Guessing.{GuessesFew}
+use Rattle.bench_turns.specs.NewlyWritten.{IsNewlyWritten}
 use Rattle.bench_turns.specs.Plays.{IsGood}
 use Rattle.script_effects.specs.DeskStates.{print_of}
 use Rattle.script_effects.specs.Performing.{Performs}
-use Rattle.script_effects.specs.Prints.{IsJustWritten}
+use Rattle.script_effects.specs.Prints.{desk_of}
 use Rattle.script_output.specs.Printouts.{Print}
 use Rattle.script_output.specs.Printouts.{prints_nothing, prints_atr, prints_mute, prints_dark, prints_lost}
 use Rattle.script_output.specs.Printouts.{prints_bytes}
@@ -36,7 +40,7 @@ outcome_number outcome.Lost = pos 3
 outcome_number outcome.Size = pos 4
 outcome_number outcome.Memory = pos 5
 outcome_number outcome.NoCard = pos 6
-outcome_number outcome.Behind = pos 7
+outcome_number outcome.Unstored = pos 7
 outcome_number outcome.Absent = pos 8
 
 -- the outcome of an output
@@ -56,6 +60,11 @@ told_print told = print_of told.came told.bytes.items told.bytes.items
 -- the facts of a session's board
 abbrev pub session_facts : SessionState → Facts
 session_facts s = bench_facts s.desk.bench
+
+-- power is on
+abbrev pub is_on : BenchState → Bool
+is_on (off facts) = false
+is_on (on powered) = true
 
 -- An order runs, and has an output. The memory has a card state after it, the board had no fault, and the guess law
 -- holds. The board made device writes, in order: put into the words before the order, they make the words after it.
@@ -88,7 +97,7 @@ pub record KeepsUp (was now : SessionState) : Type 0 where
 -- the result of an order is the output, and the device took its writes; or the device is behind
 abbrev pub TellsResult : Order → SessionState → SessionState → Result Told Outcome → Type 0
 TellsResult order was now (Ok told) = IsPerformed order was now (told_print told) × KeepsUp was now
-TellsResult order was now (Err why) = (why ≡ outcome.Behind) × FellBehind order was now
+TellsResult order was now (Err why) = (why ≡ outcome.Unstored) × FellBehind order was now
 
 -- An order to a card. Without a card nothing is done.
 abbrev pub AnswersOrder : Order → Option SessionState → Option SessionState → Result Told Outcome → Type 0
@@ -104,7 +113,7 @@ CallRuns order (Some was) None result Holds Fails = ⊥
 CallRuns order (Some was) (Some now) result Holds Fails =
     ((prints : Print) × IsPerformed order was now prints × (result ≡ print_outcome prints) × Holds prints
     × KeepsUp was now)
-    ⊎ (Fails × (result ≡ outcome.Behind) × FellBehind order was now)
+    ⊎ (Fails × (result ≡ outcome.Unstored) × FellBehind order was now)
 
 -- The buffer begins with these bytes, and their number is returned. The rest of the buffer is unchanged.
 pub record CopiesOut (bytes old new : List ℕ) (size : ℕ) : Type 0 where
@@ -173,20 +182,70 @@ FitsCall order out = IsOrderSized order × (ROOM ≤ length out)
 abbrev pub inserted : List ℕ → Bool → SessionState
 inserted words attached = begun_at (board_with words) attached
 
--- a handle has the factory card in format 2, in the first state on a new board of 896 blocks, without a device
-pub record IsFactoryFresh (now : Option SessionState) : Type 0 where
+-- A new board of so many pages has the factory card in format 2. All pages but the first 128 are blocks.
+pub record IsFactoryBoard (pages : ℕ) (board : Facts) : Type 0 where
+  pub card : Finds board.words (factory_card (pages - 128))
+  pub words : IsFactory Two board.words
+  pub counts : IsNewlyWritten pages board
+  pub uncut : board.pending ≡ None
+  pub sized : pages_of board.words ≡ pages
+
+-- a handle has the factory card in the first state on a new board of so many pages, without a device
+pub record IsFactoryFresh (pages : ℕ) (now : Option SessionState) : Type 0 where
   pub board : Facts
   pub begun : now ≡ Some (begun_at board false)
-  pub card : Finds board.words (factory_card 896)
-  pub words : IsFactory Two board.words
-  pub counts : IsJustWritten board
-  pub uncut : board.pending ≡ None
+  pub factory : IsFactoryBoard pages board
+
+-- why a number of pages is refused: there is too little memory, or no memory has it
+abbrev pub RefusesPages : ℕ → ℤ → Type 0
+RefusesPages pages number = (number ≡ outcome_number outcome.Memory)
+    ⊎ ((number ≡ outcome_number outcome.Size) × ¬ ((LEAST_PAGES ≤ pages) × (pages ≤ MOST_PAGES)))
 
 -- why words are refused: there is too little memory, no board has this number of words, or they have no card
 abbrev pub RefusesWords : List ℕ → ℤ → Type 0
 RefusesWords words number = (number ≡ outcome_number outcome.Memory)
     ⊎ ((number ≡ outcome_number outcome.Size) × ¬ IsMemory words)
     ⊎ ((number ≡ outcome_number outcome.NoCard) × IsMemory words × ¬ HasCard words)
+
+-- what is wrong with words of a memory's size: the journal can't be undone, or the memory after undo is no valid card
+abbrev pub IsWrongBy : ℕ → List ℕ → Type 0
+IsWrongBy why words = ((why ≡ 1) × IsBadJournal words)
+    ⊎ ((why ≡ 2) × IsSound words × ¬ IsAnyCard (words_found words))
+
+-- Words are checked: they are a card image, there is too little memory, no memory has so many, or they are no card.
+abbrev pub ChecksWords : List ℕ → ℤ → ℕ → Type 0
+ChecksWords words number why = ((number ≡ outcome_number outcome.Done) × (why ≡ 0) × HasCard words)
+    ⊎ ((number ≡ outcome_number outcome.Memory) × (why ≡ 0))
+    ⊎ ((number ≡ outcome_number outcome.Size) × (why ≡ 0) × ¬ IsMemory words)
+    ⊎ ((number ≡ outcome_number outcome.NoCard) × IsMemory words × ¬ HasCard words × IsWrongBy why words)
+
+-- n if the bit is set, else 0
+abbrev pub bit_of : Bool → ℕ → ℕ
+bit_of b n = if b then n else 0
+
+-- what a card is in, as a number: power is on, it has a device, a cut, a loss or a garbling is to come, or its device
+-- didn't store a write
+abbrev pub state_bits : SessionState → ℕ
+state_bits s = bit_of (is_on s.desk.bench) 1 + bit_of (is_some (session_facts s).log) 2
+    + bit_of (is_some (session_facts s).pending) 4
+    + bit_of (is_some s.desk.line.lose) 8 + bit_of (is_some s.desk.line.garble) 16 + bit_of s.behind 32
+
+-- a call that returns what a card is in
+abbrev pub ReturnsState : Option SessionState → ℕ → ℤ → Type 0
+ReturnsState None state number = (number ≡ outcome_number outcome.Absent) × (state ≡ 0)
+ReturnsState (Some now) state number = (number ≡ outcome_number outcome.Done) × (state ≡ state_bits now)
+
+-- a card without power, for which nothing is to come
+abbrev pub cleared : SessionState → SessionState
+cleared s = record {
+  desk = desk_of (record (session_facts s) { due = 0; pending = None });
+  behind = s.behind;
+}
+
+-- a call that takes back all that is to come, and switches power off
+abbrev pub ClearsFaults : Option SessionState → Option SessionState → ℤ → Type 0
+ClearsFaults None now number = (number ≡ outcome_number outcome.Absent) × (now ≡ None)
+ClearsFaults (Some was) now number = (number ≡ outcome_number outcome.Done) × (now ≡ Some (cleared was))
 
 -- the words of a card are read, if there is a card and enough memory
 abbrev pub ReadsWords : {V : Type 0} → (V → List ℕ) → Option SessionState → Result V Outcome → Type 0

@@ -1,13 +1,16 @@
-//! The board of a card that a caller inserts.
-ghost use Rattle.std.specs.Prelude.{◌≡◌, ◌≢◌, ℕ, List, IfOk, IfErr};
+//! The board of a card that a caller makes, of words or new.
+ghost use Rattle.std.specs.Prelude.{◌≡◌, ◌≢◌, ◌↔◌, ℕ, List, IfOk, IfErr, IsTrue};
+ghost use Rattle.nvm_board.specs.Facts.{IsMemory};
 ghost use Rattle.card_boards.specs.Images.{IsRefusedRightly};
 ghost use Rattle.command_base.specs.Finding.{HasCard};
 ghost use Rattle.simulated_boards.specs.Cut.{cut_facts};
 ghost use Rattle.simulated_boards.specs.Given.{board_with};
-ghost use Rattle.card_calls.specs.Telling.{RefusesWords, outcome_number};
+ghost use Rattle.card_calls.specs.Telling.{ChecksWords, IsFactoryBoard, RefusesPages, RefusesWords, outcome_number};
 
 use crate::outcome::Outcome;
-use card_boards::{NoCard, image_board};
+use card_boards::{NoCard, factory_board_of, image_board};
+use card_start::StartFault;
+use nvm_board::{LEAST_PAGES, MOST_PAGES, PAGE_WORDS};
 use simulated_boards::CutBoard;
 use std::alloc::Global;
 
@@ -21,24 +24,97 @@ pub fn board_of(alloc: Global, words: &[u32]) -> Result<CutBoard, Outcome>
     ensures refused { IfErr result (λ why. RefusesWords words.now (outcome_number why)) }
     ensures undone { IfErr result (λ why. why ≢ Outcome.Done) }
 {
+    match card_of(alloc, words) {
+        Ok(board) => Ok(board),
+        Err(why) => Err(refusal(&why)),
+    }
+}
+
+/// Returns a new board with these words, if they are a valid card image. It asks for memory only if a card's memory has
+/// so many words.
+///
+/// # Errors
+/// Why they are none.
+fn card_of(alloc: Global, words: &[u32]) -> Result<CutBoard, NoCard>
+    ensures facts { IfOk result (λ board. cut_facts board ≡ board_with words.now) }
+    ensures card { IfOk result (λ board. HasCard (cut_facts board).words) }
+    ensures refused { IfErr result (λ why. IsRefusedRightly why words.now) }
+{
+    if !has_memory_size(words) {
+        return Err(NoCard::Size);
+    }
     let mut own = Vec::new(alloc);
     if own.extend_from_slice(words).is_err() {
-        return Err(Outcome::Memory);
+        return Err(NoCard::Memory);
     }
-    match image_board(alloc, own) {
+    image_board(alloc, own)
+}
+
+/// Returns true if a memory has so many words: 1,024 to 4,096 whole pages.
+fn has_memory_size(words: &[u32]) -> bool
+    ensures { IsTrue result ↔ IsMemory words.now }
+{
+    let pages = words.len() / usize::from(PAGE_WORDS);
+    words.len() % usize::from(PAGE_WORDS) == 0
+        && pages >= usize::from(LEAST_PAGES)
+        && pages <= usize::from(MOST_PAGES)
+}
+
+/// Tells whether words are a valid card image, and the number of what is wrong with them.
+pub fn check_words(alloc: Global, words: &[u32]) -> (Outcome, u32)
+    ensures { ChecksWords words.now (outcome_number result.0) result.1 }
+{
+    match card_of(alloc, words) {
+        Ok(_) => (Outcome::Done, 0),
+        Err(why) => wrong(&why),
+    }
+}
+
+/// Returns a new board of so many pages with the factory card.
+///
+/// # Errors
+/// `Size`: no memory has so many pages. `Memory`.
+pub fn factory_of(alloc: Global, pages: usize) -> Result<CutBoard, Outcome>
+    ensures factory { IfOk result (λ board. IsFactoryBoard pages (cut_facts board)) }
+    ensures card { IfOk result (λ board. HasCard (cut_facts board).words) }
+    ensures refused { IfErr result (λ why. RefusesPages pages (outcome_number why)) }
+    ensures undone { IfErr result (λ why. why ≢ Outcome.Done) }
+{
+    if pages < usize::from(LEAST_PAGES) || pages > usize::from(MOST_PAGES) {
+        return Err(Outcome::Size);
+    }
+    match factory_board_of(alloc, pages as u16) {
         Ok(board) => Ok(board),
-        Err(why) => Err(refusal(why)),
+        Err(_) => Err(Outcome::Memory),
     }
 }
 
 /// Returns the outcome of words that are refused.
-fn refusal(why: NoCard) -> Outcome
-    ensures rightly { (words : List ℕ) → IsRefusedRightly why words → RefusesWords words (outcome_number result) }
+fn refusal(why: &NoCard) -> Outcome
+    ensures rightly { (words : List ℕ) → IsRefusedRightly why.now words
+        → RefusesWords words (outcome_number result) }
     ensures undone { result ≢ Outcome.Done }
 {
     match why {
         NoCard::Memory => Outcome::Memory,
         NoCard::Size => Outcome::Size,
         NoCard::Start(_) => Outcome::NoCard,
+    }
+}
+
+/// Returns the outcome of words that are refused, and the number of what is wrong.
+fn wrong(why: &NoCard) -> (Outcome, u32)
+    ensures { (words : List ℕ) → IsRefusedRightly why.now words
+        → ChecksWords words (outcome_number result.0) result.1 }
+{
+    match why {
+        NoCard::Memory => (Outcome::Memory, 0),
+        NoCard::Size => (Outcome::Size, 0),
+        NoCard::Start(StartFault::BadJournal) => (Outcome::NoCard, 1),
+        // A new board loses no power, and has no fault.
+        NoCard::Start(StartFault::Damaged | StartFault::PowerLost | StartFault::Fault) => (
+            Outcome::NoCard,
+            2,
+        ),
     }
 }

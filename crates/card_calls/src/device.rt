@@ -4,7 +4,7 @@ ghost use Rattle.nvm_board.specs.declared.board.TheConstants.{PAGE_WORDS};
 ghost use Rattle.simulated_boards.specs.Cut.{cut_facts};
 ghost use Rattle.card_calls.specs.Devices.{begun_log, device_facts, device_log, is_left_behind};
 
-use kept_board::{Follower, KeptBoard};
+use kept_board::{Followed, Follower, KeptBoard};
 use nvm_board::PAGE_WORDS;
 use simulated_boards::CutBoard;
 
@@ -54,6 +54,13 @@ pub fn is_behind(board: &DeviceBoard) -> bool
         Some(device) => device.behind,
         None => false,
     }
+}
+
+/// Returns true if a board has a device.
+pub fn has_device(board: &DeviceBoard) -> bool
+    ensures { result ≡ is_some (device_facts board.now).log }
+{
+    board.follows() && board.follower().is_some()
 }
 
 impl Follower for Device {

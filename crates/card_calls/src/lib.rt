@@ -6,7 +6,7 @@ mod device;
 mod outcome;
 mod sizes;
 
-pub use boards::board_of;
-pub use device::{Device, DeviceBoard, followed, is_behind};
-pub use outcome::{Outcome, Told, copy};
+pub use boards::{board_of, check_words, factory_of};
+pub use device::{Device, DeviceBoard, followed, has_device, is_behind};
+pub use outcome::{Outcome, Told, bit, copy};
 pub use sizes::{ROOM, block_fits, command_fits, order_fits};

@@ -1,6 +1,7 @@
 //! The outcome of a call, and the result of an order with its bytes.
 ghost use Rattle.std.specs.Prelude.{◌≡◌, ◌≤◌, length};
-ghost use Rattle.card_calls.specs.Telling.{Copies, CopiesOut, ReportsSpace, outcome_number, print_outcome, told_print};
+ghost use Rattle.card_calls.specs.Telling.{Copies, CopiesOut, ReportsSpace, bit_of, outcome_number, print_outcome};
+ghost use Rattle.card_calls.specs.Telling.{told_print};
 ghost use Rattle.card_calls.specs.declared.sizes.TheConstants.{ROOM};
 
 use card_state::FreeSpace;
@@ -24,9 +25,9 @@ pub enum Outcome {
     Memory,
     /// The words are no valid card image.
     NoCard,
-    /// The device of the card didn't take a write, in this call or an earlier one. It gets no more, and no call runs the
-    /// card.
-    Behind,
+    /// The device of the card didn't store a write, in this call or an earlier one. It gets no more, and no call runs
+    /// the card.
+    Unstored,
     /// The handle is null.
     Absent,
 }
@@ -44,7 +45,7 @@ impl Outcome {
             Outcome::Size => 4,
             Outcome::Memory => 5,
             Outcome::NoCard => 6,
-            Outcome::Behind => 7,
+            Outcome::Unstored => 7,
             Outcome::Absent => 8,
         }
     }
@@ -108,6 +109,13 @@ impl Told {
             },
         }
     }
+}
+
+/// Returns a number if a bit is set, else 0.
+pub fn bit(is_set: bool, number: u32) -> u32
+    ensures { result ≡ bit_of is_set number }
+{
+    if is_set { number } else { 0 }
 }
 
 /// Copies bytes to the start of a buffer, and returns their number.

@@ -1,6 +1,9 @@
 //! The card as a library for C: a card is a pointer that the caller keeps, and doesn't look behind.
+//!
+//! Each export returns 32 bits: WebAssembly has no narrower results.
 #![tactic(auto)]
 
+mod bench;
 mod handle;
 mod held;
 mod session;
@@ -10,16 +13,22 @@ ghost use Rattle.bench_lines.specs.Orders.{IsOrderSized, On, Off, Apdu, Block, C
 ghost use Rattle.bench_lines.specs.OrderViews.{order_with};
 ghost use Rattle.command_base.specs.Finding.{HasCard};
 ghost use Rattle.simulated_boards.specs.Cut.{cut_facts};
+ghost use Rattle.card_calls.specs.ScriptCalls.{RunsScript};
 ghost use Rattle.card_calls.specs.SessionStates.{begun_at};
-ghost use Rattle.card_calls.specs.Telling.{AnswersOrder, CopiesNothing, FitsCall, IsFactoryFresh, ReadsWords};
-ghost use Rattle.card_calls.specs.Telling.{RefusesCall, RefusesWords, ReturnsSpace, Tells};
+ghost use Rattle.card_calls.specs.Telling.{AnswersOrder, ChecksWords, ClearsFaults, CopiesNothing, FitsCall};
+ghost use Rattle.card_calls.specs.Telling.{IsFactoryFresh, ReadsWords, RefusesCall, RefusesPages, RefusesWords};
+ghost use Rattle.card_calls.specs.Telling.{ReturnsSpace, ReturnsState, Tells};
 ghost use Rattle.card_calls.specs.Telling.{TellsBytes, TellsWords, inserted, outcome_number, refusal_of};
 
+use crate::bench::printed;
 use crate::handle::Handle;
 use crate::session::Session;
-use card_bench::{Order, factory_board};
-use card_calls::{Outcome, Told, block_fits, board_of, command_fits, order_fits};
+use card_bench::Order;
+use card_calls::{
+    Outcome, Told, block_fits, board_of, check_words, command_fits, copy, factory_of, order_fits,
+};
 use core::mem::replace_with;
+use script_output::RunFault;
 use simulated_boards::CutBoard;
 use std::alloc::Global;
 
@@ -118,6 +127,33 @@ fn read_words(card: Handle, alloc: Global) -> (Handle, Result<Vec<u32>, Outcome>
     }
 }
 
+/// Returns what a handle's card is in.
+fn read_state(card: Handle, alloc: Global) -> (Handle, (Outcome, u32))
+    ensures same { result.0.value ≡ card.value }
+    ensures returns { ReturnsState card.value result.1.1 (outcome_number result.1.0) }
+{
+    match card.into_session() {
+        Some(session) => {
+            let state = session.state();
+            (Handle::of(session), (Outcome::Done, state))
+        }
+        None => (Handle::empty(alloc), (Outcome::Absent, 0)),
+    }
+}
+
+/// Takes back what is to come of a handle's card, and switches power off.
+fn clear_card(card: Handle, alloc: Global) -> (Handle, Outcome)
+    ensures { ClearsFaults card.value result.0.value (outcome_number result.1) }
+{
+    match card.into_session() {
+        Some(mut session) => {
+            session.clear_faults();
+            (Handle::of(session), Outcome::Done)
+        }
+        None => (Handle::empty(alloc), Outcome::Absent),
+    }
+}
+
 /// Ends the card of a handle, and puts another one in its place.
 fn exchange_card(card: Handle, session: Box<Session>) -> (Handle, ())
     ensures { result.0.value ≡ Some session.value }
@@ -178,16 +214,15 @@ fn insert(alloc: Global, card: &mut Handle, words: &[u32], device: Option<i32>) 
     }
 }
 
-/// Makes the factory card, with power off, in place of the handle's card.
+/// Makes the factory card on a new memory of 1,024 to 4,096 pages, with power off, in place of the handle's card.
 #[unsafe(no_mangle)]
-pub extern "C" fn soffitfennel_factory(alloc: Global, card: &mut Handle) -> i32
-    ensures done { result ≡ pos 0 → IsFactoryFresh card.new.value }
-    ensures undone { result ≢ pos 0 → (result ≡ outcome_number Outcome.Memory)
-        × (card.new.value ≡ card.old.value) }
+pub extern "C" fn soffitfennel_factory(alloc: Global, card: &mut Handle, pages: usize) -> i32
+    ensures done { result ≡ pos 0 → IsFactoryFresh pages card.new.value }
+    ensures undone { result ≢ pos 0 → (card.new.value ≡ card.old.value) × RefusesPages pages result }
 {
-    match factory_board(alloc) {
+    match factory_of(alloc, pages) {
         Ok(board) => put(alloc, card, board, None).number(),
-        Err(_) => Outcome::Memory.number(),
+        Err(outcome) => outcome.number(),
     }
 }
 
@@ -301,10 +336,30 @@ pub extern "C" fn soffitfennel_garble(alloc: Global, card: &mut Handle, number: 
     run_order(alloc, card, Order::Garble(number))
 }
 
+/// Takes back a cut, a loss and a garbling that are to come, and switches power off.
+#[unsafe(no_mangle)]
+pub extern "C" fn soffitfennel_clear_faults(alloc: Global, card: &mut Handle) -> i32
+    ensures { ClearsFaults card.old.value card.new.value result }
+{
+    replace_with(card, alloc, clear_card).number()
+}
+
+/// Returns what the card is in, as a number: the sum of 1 if power is on, 2 if it has a device, 4 if a cut is to come,
+/// 8 if a block is to be lost, 16 if one is to be garbled, and 32 if its device didn't store a write.
+#[unsafe(no_mangle)]
+pub extern "C" fn soffitfennel_state(alloc: Global, card: &mut Handle, state: &mut u32) -> i32
+    ensures same { card.new.value ≡ card.old.value }
+    ensures returns { ReturnsState card.old.value state.new result }
+{
+    let (outcome, bits) = replace_with(card, alloc, read_state);
+    *state = bits;
+    outcome.number()
+}
+
 /// Returns the free space: unused blocks of the memory, and unused entries of the file table.
 #[tactic(auto, using(crate::proofs::CallLaws::told_space, crate::proofs::CallLaws::failed_space))]
 #[unsafe(no_mangle)]
-pub extern "C" fn soffitfennel_free(
+pub extern "C" fn soffitfennel_free_space(
     alloc: Global,
     card: &mut Handle,
     blocks: &mut u16,
@@ -356,8 +411,42 @@ pub extern "C" fn soffitfennel_words(
 
 /// Ends the handle's card, frees its memory, and sets the handle to null.
 #[unsafe(no_mangle)]
-pub extern "C" fn soffitfennel_remove(alloc: Global, card: &mut Handle)
+pub extern "C" fn soffitfennel_free(alloc: Global, card: &mut Handle)
     ensures { card.new.value ≡ None }
 {
     replace_with(card, alloc, end_card);
+}
+
+/// Tells whether words are a valid card image, and if not, what is wrong with them.
+#[unsafe(no_mangle)]
+pub extern "C" fn soffitfennel_check(alloc: Global, words: &[u32], why: &mut u32) -> i32
+    ensures { ChecksWords words.now result why.new }
+{
+    let (outcome, reason) = check_words(alloc, words);
+    *why = reason;
+    outcome.number()
+}
+
+/// Runs a script on the factory card, as the bench does, and returns the bench's exit status. The output is in the
+/// buffer. If the buffer has too little room for it, nothing is copied, and the status is that of an output that can't
+/// be written.
+#[unsafe(no_mangle)]
+pub extern "C" fn soffitfennel_run(
+    alloc: Global,
+    script: &[u8],
+    output: &mut [u8],
+    size: &mut usize,
+) -> i32
+    ensures { RunsScript script.now output.old output.new size.new result }
+{
+    let (text, stopped) = printed(alloc, script);
+    if text.len() > output.len() {
+        *size = 0;
+        return i32::from(RunFault::Write.status());
+    }
+    *size = copy(&text, output);
+    match stopped {
+        None => 0,
+        Some(fault) => i32::from(fault.status()),
+    }
 }

@@ -1,16 +1,18 @@
 //! A card at its desk.
-ghost use Rattle.std.specs.Prelude.{◌≡◌, IfOk, is_some};
+ghost use Rattle.std.specs.Prelude.{◌≡◌, IfOk, None, is_some};
 ghost use Rattle.bench_lines.specs.Orders.{IsOrderSized};
 ghost use Rattle.bench_lines.specs.OrderViews.{order_with};
 ghost use Rattle.bench_turns.specs.BenchStates.{bench_facts};
 ghost use Rattle.command_base.specs.Finding.{HasCard};
+ghost use Rattle.script_effects.specs.Prints.{desk_of};
 ghost use Rattle.simulated_boards.specs.Cut.{cut_facts};
 ghost use Rattle.card_calls.specs.SessionStates.{begun_at};
-ghost use Rattle.card_calls.specs.Telling.{TellsResult};
+ghost use Rattle.card_calls.specs.Telling.{TellsResult, cleared, state_bits};
 
 use card_bench::{Desk, Order};
-use card_calls::{DeviceBoard, Outcome, Told, followed, is_behind};
+use card_calls::{DeviceBoard, Outcome, Told, bit, followed, has_device, is_behind};
 use card_turns::Bench;
+use core::mem::replace_with;
 use nvm_board::has_no_fault;
 use simulated_boards::CutBoard;
 use std::alloc::{AllocError, Global};
@@ -61,22 +63,42 @@ impl Session {
     /// Runs an order, and returns its result.
     ///
     /// # Errors
-    /// `Behind` if the card's device didn't take a write of this order, or of an earlier one. Then no order runs.
+    /// `Unstored` if the card's device didn't take a write of this order, or of an earlier one. Then no order runs.
     pub fn perform(&mut self, order: Order, given: &[u8]) -> Result<Told, Outcome>
         requires { IsOrderSized (order_with order given.now) }
         ensures { TellsResult (order_with order given.now) self.old self.new result }
     {
         if self.behind {
-            return Err(Outcome::Behind);
+            return Err(Outcome::Unstored);
         }
         let came = self.desk.perform(order, given);
         if is_behind(self.desk.board()) {
             self.behind = true;
-            return Err(Outcome::Behind);
+            return Err(Outcome::Unstored);
         }
         let mut bytes = AnswerBytes::new();
         self.desk.copy_bytes(came, &mut bytes);
         Ok(Told { came, bytes })
+    }
+
+    /// Returns what the card is in, as a number.
+    pub fn state(&self) -> u32
+        ensures { result ≡ state_bits self.now }
+    {
+        let line = self.desk.line();
+        bit(self.desk.is_on(), 1)
+            + bit(has_device(self.desk.board()), 2)
+            + bit(self.desk.board().pending(), 4)
+            + bit(line.loses(), 8)
+            + bit(line.garbles(), 16)
+            + bit(self.behind, 32)
+    }
+
+    /// Takes back the cut, the loss and the garbling that are to come, and switches power off.
+    pub fn clear_faults(&mut self)
+        ensures { self.new ≡ cleared self.old }
+    {
+        replace_with(&mut self.desk, (), cleared_desk);
     }
 
     /// Returns a copy of the memory's words.
@@ -90,4 +112,13 @@ impl Session {
         words.extend_from_slice(self.desk.board().words())?;
         Ok(words)
     }
+}
+
+/// Returns the desk with a perfect line, power off, and no cut to come.
+fn cleared_desk(desk: Desk<Bench<DeviceBoard>>, _: ()) -> (Desk<Bench<DeviceBoard>>, ())
+    ensures { result.0.desk ≡ desk_of (record (bench_facts desk.desk.bench) { due = 0; pending = None }) }
+{
+    let mut board = desk.into_board();
+    board.disarm();
+    (Desk::new(board), ())
 }

@@ -1,0 +1,31 @@
+-- A call that runs a whole script on the factory card.
+use Rattle.std.specs.Prelude.{◌≡◌, ◌≢◌, ◌⊎◌, ◌<◌, ℕ, ℤ, pos, List, [], Option, None, Some, length}
+use Rattle.script_output.specs.Faults.{status_of}
+use Rattle.script_output.specs.declared.fault.RunFault.{RunFault}
+use Rattle.script_output.specs.declared.fault.RunFault.TheVariants.{Memory, Write}
+use Rattle.script_effects.specs.Exchanges.{Desk}
+use Rattle.script_effects.specs.Prints.{IsFirstDesk}
+use Rattle.script_effects.specs.ScriptEndings.{IsRunToEnd, RunStopsBy}
+use Rattle.card_calls.specs.Telling.{CopiesNothing, CopiesOut}
+
+-- A script ran on the factory card, and printed this: to its end, or until a fault stopped it. With too little memory
+-- it printed nothing.
+abbrev pub EndsScript : List ℕ → List ℕ → Option RunFault → Type 0
+EndsScript script text None =
+    (first : Desk) × IsFirstDesk first × IsRunToEnd first script (Some []) (Some text)
+EndsScript script text (Some fault) = (fault ≡ Memory → text ≡ [])
+    × (fault ≢ Memory → (first : Desk) × (rest : Option (List ℕ)) × IsFirstDesk first
+    × RunStopsBy first fault (Some script) rest (Some []) (Some text))
+
+-- the exit status of a script
+abbrev pub exit_status : Option RunFault → ℤ
+exit_status None = pos 0
+exit_status (Some fault) = pos (status_of fault)
+
+-- A call that runs a script: it returns the exit status, and copies out what the script printed. If the buffer is too
+-- small for that, the status is that of a writer that fails.
+abbrev pub RunsScript : List ℕ → List ℕ → List ℕ → ℕ → ℤ → Type 0
+RunsScript script old new size number =
+    (text : List ℕ) × (fault : Option RunFault) × EndsScript script text fault
+    × (((number ≡ exit_status fault) × CopiesOut text old new size)
+    ⊎ ((number ≡ exit_status (Some Write)) × (length old < length text) × CopiesNothing old new size))

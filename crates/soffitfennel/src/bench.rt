@@ -1,0 +1,26 @@
+//! The bench over a script, with its output in memory.
+ghost use Rattle.card_calls.specs.ScriptCalls.{EndsScript};
+
+use card_bench::{factory_board, run_on};
+use card_calls::{DeviceBoard, followed};
+use card_turns::Bench;
+use script_output::RunFault;
+use std::alloc::Global;
+
+/// Runs a script on the factory card, as the bench's program does. Returns what it printed, and the fault that stopped
+/// it.
+#[tactic(auto, using(script_effects::proofs::FirstDesks::first_desk))]
+pub fn printed(alloc: Global, script: &[u8]) -> (Vec<u8>, Option<RunFault>)
+    ensures { EndsScript script.now result.0.items result.1 }
+{
+    let mut reader = script;
+    let mut text = Vec::new(alloc);
+    let Ok(board) = factory_board(alloc) else {
+        return (text, Some(RunFault::Memory));
+    };
+    // (a board that other calls use too, so that its code stands once in the library)
+    match run_on::<Bench<DeviceBoard>, _, _>(followed(board, None), &mut reader, &mut text) {
+        Ok(()) => (text, None),
+        Err(fault) => (text, Some(fault)),
+    }
+}
