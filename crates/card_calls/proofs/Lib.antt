@@ -1,1 +1,2 @@
+pub mod ImageLaws
 pub mod OrderLaws

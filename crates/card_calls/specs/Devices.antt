@@ -1,11 +1,16 @@
 -- A board that a device follows.
-use Rattle.std.specs.Prelude.{Bool, true, false, [], Option, None, Some}
+use Rattle.std.specs.Prelude.{ℕ, List, Bool, true, false, [], Option, None, Some, flat_map}
+use Rattle.std.specs.Int.{w32, to_be_bytes}
 use Rattle.nvm_board.specs.Facts.{Facts}
 use Rattle.nvm_board.specs.History.{Log}
 use Rattle.kept_board.specs.declared.kept_board.KeptBoard.{KeptBoard}
 use Rattle.kept_board.specs.Handed.{is_behind}
 use Rattle.kept_board.specs.Kept.{kept_facts}
 use Rattle.card_calls.specs.declared.device.Device.{Device}
+
+-- the bytes of words in an image: the most significant of each first
+abbrev pub image_bytes : List ℕ → List ℕ
+image_bytes words = flat_map (to_be_bytes w32) words
 
 -- the log of a device: a number of writes, and none of them
 abbrev pub device_log : Device → Option Log

@@ -1,18 +1,19 @@
 //! A device of the caller that follows a board: it has each write before the board's call returns.
-ghost use Rattle.std.specs.Prelude.{◌≡◌, ◌≤◌, Bool, length, is_some};
-ghost use Rattle.nvm_board.specs.declared.board.TheConstants.{PAGE_WORDS};
+ghost use Rattle.std.specs.Prelude.{◌≡◌, ◌≤◌, ◌+◌, ◌*◌, Bool, length, is_some, pos};
+ghost use Rattle.nvm_board.specs.declared.board.TheConstants.{MOST_PAGES, PAGE_WORDS};
 ghost use Rattle.simulated_boards.specs.Cut.{cut_facts};
-ghost use Rattle.card_calls.specs.Devices.{begun_log, device_facts, device_log, is_left_behind};
+ghost use Rattle.card_calls.specs.Devices.{begun_log, device_facts, device_log, image_bytes, is_left_behind};
+ghost use Rattle.card_calls.specs.declared.device.TheConstants.{WORD_BYTES};
 
+use arrayvec::ArrayVec;
 use kept_board::{Followed, Follower, KeptBoard};
-use nvm_board::PAGE_WORDS;
 use simulated_boards::CutBoard;
 
 /// The bytes of a word.
 const WORD_BYTES: usize = 4;
 
 /// The most bytes of a device write.
-const WRITE_BYTES: usize = WORD_BYTES * PAGE_WORDS as usize;
+const WRITE_BYTES: usize = 64;
 
 /// A device of the caller, by its number: what `pwrite` knows it by. It has a board's words, the most significant byte
 /// of each first.
@@ -69,30 +70,43 @@ impl Follower for Device {
     // It counts each write.
     ghost behind = { λ _. Bool.false };
 
-    // One call of `pwrite` for one device write, so a device sees where each begins and ends.
     fn take(&mut self, at: usize, words: &[u32]) -> bool {
         self.writes = self.writes.wrapping_add(1);
         if !self.behind {
-            let bytes = bytes_of(words);
-            let size = WORD_BYTES * words.len();
-            let took = libc::pwrite(self.number, &bytes[..size], (WORD_BYTES * at) as i64);
-            self.behind = took != size as isize;
+            self.behind = !stores(self.number, at, words);
         }
         true
     }
 }
 
-/// Returns the bytes of words, the most significant byte of each first.
-fn bytes_of(words: &[u32]) -> [u8; WRITE_BYTES]
-    requires { length words.now ≤ PAGE_WORDS }
+/// Hands the bytes of words from an address on to a device, and returns true if it took them all. It is one call of
+/// `pwrite` for one device write, so a device sees where each begins and ends. No clause can say what it gets.
+fn stores(device: i32, at: usize, words: &[u32]) -> bool
+    requires size { length words.now ≤ PAGE_WORDS }
+    requires within { at + length words.now ≤ PAGE_WORDS * MOST_PAGES }
 {
-    let mut bytes = [0; WRITE_BYTES];
+    let bytes = bytes_of(words);
+    libc::pwrite(device, &bytes, offset_of(at)) == bytes.len() as isize
+}
+
+/// Returns the offset of a word's first byte in the image.
+fn offset_of(at: usize) -> i64
+    requires { at ≤ PAGE_WORDS * MOST_PAGES }
+    ensures { result ≡ pos (WORD_BYTES * at) }
+{
+    (WORD_BYTES * at) as i64
+}
+
+/// Returns the bytes of words in the image, the most significant of each word first.
+fn bytes_of(words: &[u32]) -> ArrayVec<u8, WRITE_BYTES>
+    requires { length words.now ≤ PAGE_WORDS }
+    ensures { result.items ≡ image_bytes words.now }
+{
+    let mut bytes = ArrayVec::new();
     for i in 0..words.len() {
-        let [a, b, c, d] = words[i].to_be_bytes();
-        bytes[WORD_BYTES * i] = a;
-        bytes[WORD_BYTES * i + 1] = b;
-        bytes[WORD_BYTES * i + 2] = c;
-        bytes[WORD_BYTES * i + 3] = d;
+        bytes
+            .try_extend_from_slice(&words[i].to_be_bytes())
+            .unwrap();
     }
     bytes
 }
