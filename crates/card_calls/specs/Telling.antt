@@ -247,17 +247,12 @@ abbrev pub ClearsFaults : Option SessionState → Option SessionState → ℤ �
 ClearsFaults None now number = (number ≡ outcome_number outcome.Absent) × (now ≡ None)
 ClearsFaults (Some was) now number = (number ≡ outcome_number outcome.Done) × (now ≡ Some (cleared was))
 
--- the words of a card are read, if there is a card and enough memory
-abbrev pub ReadsWords : {V : Type 0} → (V → List ℕ) → Option SessionState → Result V Outcome → Type 0
-ReadsWords items None result = result ≡ Err outcome.Absent
-ReadsWords items (Some now) (Ok read) = items read ≡ (bench_facts now.desk.bench).words
-ReadsWords items (Some now) (Err why) = why ≡ outcome.Memory
+-- Words are copied to the start of a buffer, if that has room for all of them. Their number is returned in any case.
+abbrev pub CopiesWords : List ℕ → List ℕ → List ℕ → ℕ → ℤ → Type 0
+CopiesWords words old new size number = ((number ≡ outcome_number outcome.Done) × CopiesOut words old new size)
+    ⊎ ((number ≡ outcome_number outcome.Size) × (size ≡ length words) × (length old < length words) × (new ≡ old))
 
--- A call that copies a card's words out: all of them, or none for one of three reasons. Then the buffer is unchanged.
+-- a call that copies a card's words out
 abbrev pub TellsWords : Option SessionState → List ℕ → List ℕ → ℕ → ℤ → Type 0
 TellsWords None old new size number = (number ≡ outcome_number outcome.Absent) × CopiesNothing old new size
-TellsWords (Some now) old new size number = let words = (bench_facts now.desk.bench).words in
-    ((number ≡ outcome_number outcome.Done) × CopiesOut words old new size)
-    ⊎ ((number ≡ outcome_number outcome.Size) × (size ≡ length words) × (length old < length words)
-    × (new ≡ old))
-    ⊎ ((number ≡ outcome_number outcome.Memory) × CopiesNothing old new size)
+TellsWords (Some now) old new size number = CopiesWords (session_facts now).words old new size number

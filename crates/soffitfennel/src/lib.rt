@@ -16,7 +16,7 @@ ghost use Rattle.simulated_boards.specs.Cut.{cut_facts};
 ghost use Rattle.card_calls.specs.ScriptCalls.{RunsScript};
 ghost use Rattle.card_calls.specs.SessionStates.{begun_at};
 ghost use Rattle.card_calls.specs.Telling.{AnswersOrder, ChecksWords, ClearsFaults, CopiesNothing, FitsCall};
-ghost use Rattle.card_calls.specs.Telling.{IsFactoryFresh, ReadsWords, RefusesCall, RefusesPages, RefusesWords};
+ghost use Rattle.card_calls.specs.Telling.{IsFactoryFresh, RefusesCall, RefusesPages, RefusesWords};
 ghost use Rattle.card_calls.specs.Telling.{ReturnsSpace, ReturnsState, Tells};
 ghost use Rattle.card_calls.specs.Telling.{TellsBytes, TellsWords, inserted, outcome_number, refusal_of};
 
@@ -27,7 +27,7 @@ use card_bench::Order;
 use card_calls::{
     Outcome, Told, block_fits, board_of, check_words, command_fits, copy, factory_of, order_fits,
 };
-use core::mem::replace_with;
+use core::mem::{replace, replace_with};
 use script_output::RunFault;
 use simulated_boards::CutBoard;
 use std::alloc::Global;
@@ -107,23 +107,6 @@ fn exchange(
             *size = 0;
             outcome.number()
         }
-    }
-}
-
-/// Returns a copy of the words of a handle's card.
-fn read_words(card: Handle, alloc: Global) -> (Handle, Result<Vec<u32>, Outcome>)
-    ensures same { result.0.value ≡ card.value }
-    ensures reads { ReadsWords (λ words. words.items) card.value result.1 }
-{
-    match card.into_session() {
-        Some(session) => {
-            let read = match session.words(alloc) {
-                Ok(words) => Ok(words),
-                Err(_) => Err(Outcome::Memory),
-            };
-            (Handle::of(session), read)
-        }
-        None => (Handle::empty(alloc), Err(Outcome::Absent)),
     }
 }
 
@@ -382,7 +365,7 @@ pub extern "C" fn soffitfennel_free_space(
     }
 }
 
-/// Copies the memory's words out, and returns their number.
+/// Copies the memory's words out, and returns their number. It asks for no memory.
 #[unsafe(no_mangle)]
 pub extern "C" fn soffitfennel_words(
     alloc: Global,
@@ -393,18 +376,16 @@ pub extern "C" fn soffitfennel_words(
     ensures same { card.new.value ≡ card.old.value }
     ensures reads { TellsWords card.old.value words.old words.new size.new result }
 {
-    match replace_with(card, alloc, read_words) {
-        Ok(read) => {
-            *size = read.len();
-            if words.len() < read.len() {
-                return Outcome::Size.number();
-            }
-            words[..read.len()].copy_from_slice(&read);
-            Outcome::Done.number()
-        }
-        Err(outcome) => {
-            *size = 0;
+    match replace(card, Handle::empty(alloc)).into_session() {
+        Some(session) => {
+            let (outcome, count) = session.copy_words(words);
+            *size = count;
+            replace_with(card, session, exchange_card);
             outcome.number()
+        }
+        None => {
+            *size = 0;
+            Outcome::Absent.number()
         }
     }
 }

@@ -1,5 +1,5 @@
 //! A card at its desk.
-ghost use Rattle.std.specs.Prelude.{◌≡◌, IfOk, None, is_some};
+ghost use Rattle.std.specs.Prelude.{◌≡◌, None, is_some};
 ghost use Rattle.bench_lines.specs.Orders.{IsOrderSized};
 ghost use Rattle.bench_lines.specs.OrderViews.{order_with};
 ghost use Rattle.bench_turns.specs.BenchStates.{bench_facts};
@@ -7,7 +7,7 @@ ghost use Rattle.command_base.specs.Finding.{HasCard};
 ghost use Rattle.script_effects.specs.Prints.{desk_of};
 ghost use Rattle.simulated_boards.specs.Cut.{cut_facts};
 ghost use Rattle.card_calls.specs.SessionStates.{begun_at};
-ghost use Rattle.card_calls.specs.Telling.{TellsResult, cleared, state_bits};
+ghost use Rattle.card_calls.specs.Telling.{CopiesWords, TellsResult, cleared, outcome_number, state_bits};
 
 use card_bench::{Desk, Order};
 use card_calls::{DeviceBoard, Outcome, Told, bit, followed, has_device, is_behind};
@@ -15,7 +15,6 @@ use card_turns::Bench;
 use core::mem::replace_with;
 use nvm_board::has_no_fault;
 use simulated_boards::CutBoard;
-use std::alloc::{AllocError, Global};
 use std::marker::Model;
 use t1_link::AnswerBytes;
 
@@ -101,16 +100,17 @@ impl Session {
         replace_with(&mut self.desk, (), cleared_desk);
     }
 
-    /// Returns a copy of the memory's words.
-    ///
-    /// # Errors
-    /// There is too little memory.
-    pub fn words(&self, alloc: Global) -> Result<Vec<u32>, AllocError>
-        ensures { IfOk result (λ words. words.items ≡ (bench_facts self.now.desk.bench).words) }
+    /// Copies the memory's words to the start of a buffer that has room for them all. Returns their number.
+    pub fn copy_words(&self, out: &mut [u32]) -> (Outcome, usize)
+        ensures { CopiesWords (bench_facts self.now.desk.bench).words out.old out.new result.1
+            (outcome_number result.0) }
     {
-        let mut words = Vec::new(alloc);
-        words.extend_from_slice(self.desk.board().words())?;
-        Ok(words)
+        let words = self.desk.board().words();
+        if out.len() < words.len() {
+            return (Outcome::Size, words.len());
+        }
+        out[..words.len()].copy_from_slice(words);
+        (Outcome::Done, words.len())
     }
 }
 
