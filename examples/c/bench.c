@@ -1,6 +1,7 @@
 /* Runs the script on standard input on a card of the library, and prints what ./bench prints (docs/SCRIPT.md). */
 #include "soffitfennel.h"
 
+#include <stdbool.h>
 #include <stdio.h>
 #include <string.h>
 
@@ -65,10 +66,10 @@ static void print_bytes(int32_t outcome, const uint8_t *bytes, size_t size)
         printf("\n");
 }
 
-static void print_free(soffitfennel_card *card)
+static void print_free(soffitfennel_card **card)
 {
     uint16_t blocks, entries;
-    int32_t outcome = soffitfennel_free(card, &blocks, &entries);
+    int32_t outcome = soffitfennel_free_space(card, &blocks, &entries);
 
     print(outcome, "");
     if (outcome == SOFFITFENNEL_DONE)
@@ -76,7 +77,7 @@ static void print_free(soffitfennel_card *card)
 }
 
 /* Runs an order with bytes or numbers. False: it is none. */
-static bool run_given(soffitfennel_card *card, const char *line)
+static bool run_given(soffitfennel_card **card, const char *line)
 {
     uint8_t bytes[SOFFITFENNEL_BLOCK], answer[SOFFITFENNEL_ROOM], mask[2];
     size_t count, size, length = strlen(line);
@@ -107,7 +108,7 @@ static bool run_given(soffitfennel_card *card, const char *line)
 }
 
 /* Runs a line. False: it is none of the language. */
-static bool run(soffitfennel_card *card, const char *line)
+static bool run(soffitfennel_card **card, const char *line)
 {
     if (*line == 0 || *line == '#')
         return true;
@@ -147,11 +148,11 @@ static int read_line(char *line, size_t *taken)
 int main(void)
 {
     char line[LINE_LIMIT + 2];
-    soffitfennel_card card = NULL;
+    soffitfennel_card *card = NULL;
     size_t taken = 0;
     int status = 0, more = 1;
 
-    if (soffitfennel_factory(&card) != SOFFITFENNEL_DONE)
+    if (soffitfennel_factory(&card, SOFFITFENNEL_PAGES) != SOFFITFENNEL_DONE)
         return NO_MEMORY;
     for (unsigned long number = 1; status == 0 && more == 1; number++) {
         more = read_line(line, &taken);
@@ -164,6 +165,6 @@ int main(void)
             status = UNWRITABLE;
         }
     }
-    soffitfennel_remove(&card);
+    soffitfennel_free(&card);
     return status;
 }

@@ -25,11 +25,11 @@ static double seconds(void)
 int main(void)
 {
     uint8_t answer[SOFFITFENNEL_ROOM];
-    soffitfennel_card card = NULL;
+    soffitfennel_card *card = NULL;
     size_t size;
     double begin;
 
-    if (soffitfennel_factory(&card) != SOFFITFENNEL_DONE)
+    if (soffitfennel_factory(&card, SOFFITFENNEL_PAGES) != SOFFITFENNEL_DONE)
         return 1;
     soffitfennel_power_on(&card);
     soffitfennel_command(&card, select_iccid, sizeof select_iccid, answer, sizeof answer, &size);
@@ -42,6 +42,6 @@ int main(void)
     for (int i = 0; i < COUNT; i++)
         soffitfennel_block(&card, blocks[i % 2], sizeof blocks[0], answer, sizeof answer, &size);
     printf("%.0f blocks a second, %zu bytes each\n", COUNT / (seconds() - begin), size);
-    soffitfennel_remove(&card);
+    soffitfennel_free(&card);
     return 0;
 }

@@ -1,0 +1,30 @@
+/* The version of the library, and the names of outcomes. */
+#include "soffitfennel.h"
+
+const char *soffitfennel_version(void) { return SOFFITFENNEL_VERSION; }
+
+const char *soffitfennel_outcome_name(int32_t outcome)
+{
+    switch (outcome) {
+    case SOFFITFENNEL_DONE:
+        return "DONE";
+    case SOFFITFENNEL_MUTE:
+        return "MUTE";
+    case SOFFITFENNEL_DARK:
+        return "DARK";
+    case SOFFITFENNEL_LOST:
+        return "LOST";
+    case SOFFITFENNEL_SIZE:
+        return "SIZE";
+    case SOFFITFENNEL_MEMORY:
+        return "MEMORY";
+    case SOFFITFENNEL_NO_CARD:
+        return "NO_CARD";
+    case SOFFITFENNEL_UNSTORED:
+        return "UNSTORED";
+    case SOFFITFENNEL_ABSENT:
+        return "ABSENT";
+    default:
+        return "UNKNOWN";
+    }
+}
