@@ -1,8 +1,20 @@
-//! Links the library in the folder that SOFFITFENNEL_LIB names.
+//! Links the library in the folder that SOFFITFENNEL_LIB names, or that tools/library fills.
+use std::path::PathBuf;
+
 fn main() {
     println!("cargo:rerun-if-env-changed=SOFFITFENNEL_LIB");
-    if let Ok(folder) = std::env::var("SOFFITFENNEL_LIB") {
-        println!("cargo:rustc-link-search=native={folder}");
+    println!("cargo:rerun-if-changed=build.rs");
+    let folder = match std::env::var_os("SOFFITFENNEL_LIB") {
+        Some(named) => PathBuf::from(named),
+        None => PathBuf::from(env!("CARGO_MANIFEST_DIR")).join("../../library/out"),
+    };
+    // (the pages of the crate need no library)
+    if std::env::var_os("DOCS_RS").is_none() && !folder.join("libsoffitfennel.a").is_file() {
+        eprintln!("there is no libsoffitfennel.a in {}", folder.display());
+        eprintln!("run tools/library first, and let SOFFITFENNEL_LIB name the folder that it fills");
+        std::process::exit(1);
     }
+    println!("cargo:rerun-if-changed={}", folder.join("libsoffitfennel.a").display());
+    println!("cargo:rustc-link-search=native={}", folder.display());
     println!("cargo:rustc-link-lib=static=soffitfennel");
 }

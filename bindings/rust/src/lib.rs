@@ -1,6 +1,6 @@
 //! The smart card of Soffitfennel: a safe wrapper of its C library.
 //!
-//! ```no_run
+//! ```
 //! use soffitfennel::{Card, Error, ROOM};
 //!
 //! fn main() -> Result<(), Error> {
@@ -21,38 +21,40 @@
 #[cfg(feature = "std")]
 extern crate std;
 
-use core::ffi::c_void;
 use core::fmt;
 use core::ptr;
 
 /// The bytes of a buffer for an answer or a block.
 pub const ROOM: usize = 258;
 
-/// The bytes of a buffer for a device write.
-pub const WRITE_ROOM: usize = 64;
-
 /// The answer to reset of every card.
 pub const ATR: [u8; 7] = [0x3B, 0x80, 0x81, 0x31, 0xFE, 0x45, 0x8B];
 
-/// The words of the factory card's memory.
-pub const WORDS: usize = 16_384;
+/// The pages of the bench's factory card, and the fewest of a memory.
+pub const PAGES: usize = 1_024;
+
+/// The most pages of a memory.
+pub const MOST_PAGES: usize = 4_096;
+
+/// The words of a memory of [`PAGES`].
+pub const WORDS: usize = 16 * PAGES;
 
 /// The most words of a memory.
-pub const MOST_WORDS: usize = 65_536;
+pub const MOST_WORDS: usize = 16 * MOST_PAGES;
 
-type Pointer = *mut c_void;
+/// What the library has behind a pointer.
+#[repr(C)]
+struct Behind {
+    _private: [u8; 0],
+}
+
+type Pointer = *mut Behind;
 type Exchange = unsafe extern "C" fn(*mut Pointer, *const u8, usize, *mut u8, usize, *mut usize) -> i32;
 
 extern "C" {
-    fn soffitfennel_factory(card: *mut Pointer) -> i32;
-    fn soffitfennel_insert(card: *mut Pointer, words: *const u32, count: usize, kept: bool) -> i32;
-    fn soffitfennel_write(
-        card: *mut Pointer,
-        offset: *mut usize,
-        bytes: *mut u8,
-        room: usize,
-        size: *mut usize,
-    ) -> i32;
+    fn soffitfennel_factory(card: *mut Pointer, pages: usize) -> i32;
+    fn soffitfennel_insert(card: *mut Pointer, words: *const u32, count: usize) -> i32;
+    fn soffitfennel_attach(card: *mut Pointer, words: *const u32, count: usize, device: i32) -> i32;
     fn soffitfennel_power_on(card: *mut Pointer) -> i32;
     fn soffitfennel_power_off(card: *mut Pointer) -> i32;
     fn soffitfennel_command(
@@ -74,13 +76,16 @@ extern "C" {
     fn soffitfennel_cut(card: *mut Pointer, number: u32, mask: u16) -> i32;
     fn soffitfennel_lose(card: *mut Pointer, number: u32) -> i32;
     fn soffitfennel_garble(card: *mut Pointer, number: u32) -> i32;
-    fn soffitfennel_free(card: *mut Pointer, blocks: *mut u16, entries: *mut u16) -> i32;
+    fn soffitfennel_clear_faults(card: *mut Pointer) -> i32;
+    fn soffitfennel_state(card: *mut Pointer, state: *mut u32) -> i32;
+    fn soffitfennel_free_space(card: *mut Pointer, blocks: *mut u16, entries: *mut u16) -> i32;
     fn soffitfennel_words(card: *mut Pointer, words: *mut u32, count: usize, size: *mut usize) -> i32;
-    fn soffitfennel_remove(card: *mut Pointer);
+    fn soffitfennel_free(card: *mut Pointer);
 }
 
 /// Why a call has no result.
 #[derive(Clone, Copy, Debug, PartialEq, Eq)]
+#[non_exhaustive]
 pub enum Error {
     /// No answer: power is off, or power-on fails.
     Mute,
@@ -94,24 +99,24 @@ pub enum Error {
     Memory,
     /// No card is found in the words.
     NoCard,
-    /// Device writes of an earlier call are not taken. Nothing was done.
-    Untaken,
-    /// A call made more device writes than there is room for. The image is out of date for good.
-    Overrun,
+    /// The device did not take a write. Make the card again from the device.
+    Unstored,
+    /// The library returned a number that this crate doesn't know.
+    Unknown(i32),
 }
 
 impl fmt::Display for Error {
     fn fmt(&self, f: &mut fmt::Formatter<'_>) -> fmt::Result {
-        f.write_str(match self {
-            Error::Mute => "the card gives no answer",
-            Error::Dark => "power was lost",
-            Error::Lost => "the link was lost",
-            Error::Size => "a length or a number is out of its range",
-            Error::Memory => "there is too little memory",
-            Error::NoCard => "no card is found in the words",
-            Error::Untaken => "writes of an earlier call are not taken",
-            Error::Overrun => "a call made too many writes",
-        })
+        match self {
+            Error::Mute => f.write_str("the card gives no answer"),
+            Error::Dark => f.write_str("power was lost"),
+            Error::Lost => f.write_str("the link was lost"),
+            Error::Size => f.write_str("a length or a number is out of its range"),
+            Error::Memory => f.write_str("there is too little memory"),
+            Error::NoCard => f.write_str("no card is found in the words"),
+            Error::Unstored => f.write_str("the device did not take a write"),
+            Error::Unknown(outcome) => write!(f, "the library returned {outcome}, which is not known here"),
+        }
     }
 }
 
@@ -127,18 +132,9 @@ fn done(outcome: i32) -> Result<(), Error> {
         4 => Error::Size,
         5 => Error::Memory,
         6 => Error::NoCard,
-        7 => Error::Untaken,
-        _ => Error::Overrun,
+        7 => Error::Unstored,
+        _ => Error::Unknown(outcome),
     })
-}
-
-/// A device write of a kept card: its bytes, and their offset in the image.
-#[derive(Clone, Copy, Debug, PartialEq, Eq)]
-pub struct Write<'a> {
-    /// The offset of the first byte.
-    pub offset: usize,
-    /// The bytes.
-    pub bytes: &'a [u8],
 }
 
 /// The free space of a card.
@@ -150,39 +146,83 @@ pub struct FreeSpace {
     pub entries: u16,
 }
 
+/// The power of a card, its device, and the faults that are pending.
+#[derive(Clone, Copy, Debug, PartialEq, Eq)]
+#[non_exhaustive]
+pub struct State {
+    /// Power is on.
+    pub has_power: bool,
+    /// A device gets the card's writes.
+    pub has_device: bool,
+    /// A power cut is pending.
+    pub has_cut: bool,
+    /// A block that the line loses is pending.
+    pub has_loss: bool,
+    /// A block that the line garbles is pending.
+    pub has_garbling: bool,
+    /// The device did not take a write.
+    pub is_unstored: bool,
+}
+
 /// A card, with its memory and its end of the link.
 #[derive(Debug)]
 pub struct Card {
-    // SAFETY of all calls below: a pointer that the library gave, or null, and that no other `Card` has. `&mut self`
-    // allows one call at a time, and each slice is valid for its call.
+    // SAFETY of all calls below: a pointer that the library gave, and that no other `Card` has. `&mut self` allows one
+    // call at a time, and each slice is valid for its call.
     pointer: Pointer,
+    // (dropped behind the card, which writes to it)
+    #[cfg(all(feature = "std", unix))]
+    file: Option<std::fs::File>,
 }
 
-// SAFETY: a card has no state outside of its memory, so another thread may make the next call.
+// SAFETY: a card has no state outside of its memory and its file, so another thread may make the next call.
 unsafe impl Send for Card {}
 
 impl Card {
-    /// Makes the factory card, with power off.
+    /// A card without a file of its own.
+    fn of(pointer: Pointer) -> Card {
+        Card {
+            pointer,
+            #[cfg(all(feature = "std", unix))]
+            file: None,
+        }
+    }
+
+    /// Makes the factory card on a memory of [`PAGES`], with power off.
+    ///
+    /// ```
+    /// let mut card = soffitfennel::Card::factory()?;
+    /// card.power_on()?;
+    /// # Ok::<(), soffitfennel::Error>(())
+    /// ```
     pub fn factory() -> Result<Card, Error> {
-        let mut pointer = ptr::null_mut();
-        done(unsafe { soffitfennel_factory(&mut pointer) })?;
-        Ok(Card { pointer })
+        Card::factory_of(PAGES)
     }
 
-    /// Makes the card whose memory has these words, with power off. The caller takes the device writes of a kept card.
-    pub fn insert(words: &[u32], kept: bool) -> Result<Card, Error> {
+    /// Makes the factory card on a memory of so many pages, [`PAGES`] to [`MOST_PAGES`], with power off.
+    pub fn factory_of(pages: usize) -> Result<Card, Error> {
         let mut pointer = ptr::null_mut();
-        done(unsafe { soffitfennel_insert(&mut pointer, words.as_ptr(), words.len(), kept) })?;
-        Ok(Card { pointer })
+        done(unsafe { soffitfennel_factory(&mut pointer, pages) })?;
+        Ok(Card::of(pointer))
     }
 
-    /// Takes the oldest device write that was not taken. Store all of a call before you use its result.
-    pub fn take_write<'a>(&mut self, bytes: &'a mut [u8; WRITE_ROOM]) -> Result<Option<Write<'a>>, Error> {
-        let (mut offset, mut size) = (0, 0);
-        done(unsafe {
-            soffitfennel_write(&mut self.pointer, &mut offset, bytes.as_mut_ptr(), WRITE_ROOM, &mut size)
-        })?;
-        Ok(if size == 0 { None } else { Some(Write { offset, bytes: &bytes[..size] }) })
+    /// Makes the card whose memory has these words, with power off. It has no device.
+    pub fn insert(words: &[u32]) -> Result<Card, Error> {
+        let mut pointer = ptr::null_mut();
+        done(unsafe { soffitfennel_insert(&mut pointer, words.as_ptr(), words.len()) })?;
+        Ok(Card::of(pointer))
+    }
+
+    /// Makes the card whose memory has these words, with power off. The device of this number has the words already, and
+    /// `soffitfennel_store` gets each device write before the card goes on.
+    ///
+    /// # Safety
+    /// With the library's own `soffitfennel_store` the number is a descriptor that stays open, and belongs to a file
+    /// that is not mapped, as long as the card lives. Another one keeps the duties that `soffitfennel.h` names.
+    pub unsafe fn attach_raw(words: &[u32], device: i32) -> Result<Card, Error> {
+        let mut pointer = ptr::null_mut();
+        done(unsafe { soffitfennel_attach(&mut pointer, words.as_ptr(), words.len(), device) })?;
+        Ok(Card::of(pointer))
     }
 
     /// Switches power on, after power off if it is on.
@@ -226,10 +266,30 @@ impl Card {
         done(unsafe { soffitfennel_garble(&mut self.pointer, number) })
     }
 
+    /// Takes back each fault that is pending, and switches power off.
+    pub fn clear_faults(&mut self) -> Result<(), Error> {
+        done(unsafe { soffitfennel_clear_faults(&mut self.pointer) })
+    }
+
+    /// Returns the state of the card.
+    pub fn state(&mut self) -> Result<State, Error> {
+        let mut bits = 0;
+        done(unsafe { soffitfennel_state(&mut self.pointer, &mut bits) })?;
+        let has = |bit: u32| bits & bit != 0;
+        Ok(State {
+            has_power: has(1),
+            has_device: has(2),
+            has_cut: has(4),
+            has_loss: has(8),
+            has_garbling: has(16),
+            is_unstored: has(32),
+        })
+    }
+
     /// Returns the free space.
-    pub fn free(&mut self) -> Result<FreeSpace, Error> {
+    pub fn free_space(&mut self) -> Result<FreeSpace, Error> {
         let (mut blocks, mut entries) = (0, 0);
-        done(unsafe { soffitfennel_free(&mut self.pointer, &mut blocks, &mut entries) })?;
+        done(unsafe { soffitfennel_free_space(&mut self.pointer, &mut blocks, &mut entries) })?;
         Ok(FreeSpace { blocks, entries })
     }
 
@@ -243,6 +303,26 @@ impl Card {
 
 impl Drop for Card {
     fn drop(&mut self) {
-        unsafe { soffitfennel_remove(&mut self.pointer) }
+        unsafe { soffitfennel_free(&mut self.pointer) }
+    }
+}
+
+#[cfg(all(feature = "std", unix))]
+mod files;
+
+#[cfg(test)]
+mod tests {
+    use super::{done, Error};
+
+    #[test]
+    fn each_outcome_is_its_own() {
+        let all = [Error::Mute, Error::Dark, Error::Lost, Error::Size, Error::Memory, Error::NoCard, Error::Unstored];
+        assert_eq!(done(0), Ok(()));
+        for (number, error) in (1..).zip(all) {
+            assert_eq!(done(number), Err(error));
+        }
+        for number in [-1, 8, 9, 77] {
+            assert_eq!(done(number), Err(Error::Unknown(number)));
+        }
     }
 }

@@ -1,5 +1,9 @@
 //! A card in safe Rust. The answers are those of examples/torn_pair.out and docs/CARD.md.
-use soffitfennel::{Card, Error, FreeSpace, ROOM, WORDS, WRITE_ROOM};
+use std::fs::{File, OpenOptions};
+use std::io;
+use std::path::PathBuf;
+
+use soffitfennel::{Card, Error, FreeSpace, MOST_PAGES, MOST_WORDS, ROOM, WORDS};
 
 const SELECT_ICCID: [u8; 7] = [0x00, 0xA4, 0x00, 0x0C, 0x02, 0x2F, 0xE2];
 const READ_ICCID: [u8; 5] = [0x00, 0xB0, 0x00, 0x00, 0x0A];
@@ -35,18 +39,10 @@ fn an_update_that_is_cut_is_taken_back() -> Result<(), Error> {
     assert_eq!(card.transmit(&UPDATE, &mut answer), Err(Error::Dark));
     assert_eq!(card.transmit(&READ_ICCID, &mut answer), Err(Error::Mute));
     let mut words = vec![0; WORDS];
-    let mut other = Card::insert(card.words(&mut words)?, false)?;
+    let mut other = Card::insert(card.words(&mut words)?)?;
     for it in [&mut card, &mut other] {
         it.power_on()?;
         assert_eq!(iccid(it)?, ICCID);
-    }
-    Ok(())
-}
-
-fn store(card: &mut Card, image: &mut [u8]) -> Result<(), Error> {
-    let mut bytes = [0; WRITE_ROOM];
-    while let Some(write) = card.take_write(&mut bytes)? {
-        image[write.offset..][..write.bytes.len()].copy_from_slice(write.bytes);
     }
     Ok(())
 }
@@ -56,21 +52,104 @@ fn image_of(card: &mut Card) -> Result<Vec<u8>, Error> {
     Ok(card.words(&mut words)?.iter().flat_map(|word| word.to_be_bytes()).collect())
 }
 
+/// A file with the factory card, which is removed at the end.
+struct Kept(PathBuf);
+
+impl Kept {
+    fn new(name: &str) -> io::Result<Kept> {
+        let kept = Kept(std::env::temp_dir().join(format!("soffitfennel-{name}-{}", std::process::id())));
+        std::fs::write(&kept.0, image_of(&mut Card::factory()?)?)?;
+        Ok(kept)
+    }
+
+    fn open(&self) -> io::Result<File> {
+        OpenOptions::new().read(true).write(true).open(&self.0)
+    }
+}
+
+impl Drop for Kept {
+    fn drop(&mut self) {
+        let _ = std::fs::remove_file(&self.0);
+    }
+}
+
 #[test]
-fn the_writes_of_a_kept_card_make_its_image() -> Result<(), Error> {
-    let mut answer = [0; ROOM];
-    let mut words = vec![0; WORDS];
-    let mut card = Card::insert(Card::factory()?.words(&mut words)?, true)?;
-    let mut image = image_of(&mut card)?;
+fn a_file_has_each_write_of_its_card() -> io::Result<()> {
+    let (kept, mut answer) = (Kept::new("writes")?, [0; ROOM]);
+    let mut card = Card::attach(kept.open()?)?;
+    assert!(card.state()?.has_device);
     card.power_on()?;
     for command in [&SELECT_ICCID[..], &VERIFY, &UPDATE] {
-        store(&mut card, &mut image)?;
         assert_eq!(card.transmit(command, &mut answer)?, [0x90, 0x00]);
+        assert_eq!(std::fs::read(&kept.0)?, image_of(&mut card)?);
     }
-    assert_eq!(card.transmit(&READ_ICCID, &mut answer), Err(Error::Untaken));
-    store(&mut card, &mut image)?;
-    assert_eq!(image, image_of(&mut card)?);
-    assert_eq!(card.transmit(&READ_ICCID, &mut answer)?[..4], UPDATE[5..]);
+    drop(card);
+    let mut card = Card::attach(kept.open()?)?;
+    card.power_on()?;
+    assert_eq!(iccid(&mut card)?[..4], UPDATE[5..]);
+    Ok(())
+}
+
+#[test]
+fn a_file_has_one_user() -> io::Result<()> {
+    let kept = Kept::new("user")?;
+    let card = Card::attach(kept.open()?)?;
+    assert_eq!(Card::attach(kept.open()?).err().map(|it| it.kind()), Some(io::ErrorKind::WouldBlock));
+    drop(card);
+    Card::attach(kept.open()?).map(drop)
+}
+
+#[test]
+fn a_file_that_takes_no_write_ends_its_card() -> io::Result<()> {
+    let (kept, mut answer) = (Kept::new("refusal")?, [0; ROOM]);
+    let mut card = Card::attach(File::open(&kept.0)?)?;
+    let outcome = card.power_on().and_then(|()| card.transmit(&VERIFY, &mut answer).map(drop));
+    assert_eq!(outcome, Err(Error::Unstored));
+    assert!(card.state()?.is_unstored);
+    assert_eq!(std::fs::read(&kept.0)?, image_of(&mut Card::factory()?)?);
+    Ok(())
+}
+
+#[test]
+fn a_file_without_a_card_is_an_error() -> io::Result<()> {
+    let kept = Kept::new("none")?;
+    for (size, wanted) in [(0, Error::Size), (65_535, Error::Size), (65_536, Error::NoCard), (1 << 20, Error::Size)] {
+        std::fs::write(&kept.0, vec![0; size])?;
+        let error = Card::attach(kept.open()?).map(drop).expect_err("a card of no image");
+        assert_eq!(error.get_ref().and_then(|it| it.downcast_ref()), Some(&wanted));
+    }
+    assert!(Card::attach(OpenOptions::new().read(true).write(true).open("/dev/null")?).is_err());
+    Ok(())
+}
+
+#[test]
+fn faults_are_taken_back() -> Result<(), Error> {
+    let mut answer = [0; ROOM];
+    let mut card = powered()?;
+    card.transmit(&SELECT_ICCID, &mut answer)?;
+    card.transmit(&VERIFY, &mut answer)?;
+    card.cut(1, 0)?;
+    card.lose(1)?;
+    card.garble(1)?;
+    let state = card.state()?;
+    assert!(state.has_power && !state.has_device && state.has_cut && state.has_loss && state.has_garbling);
+    card.clear_faults()?;
+    let state = card.state()?;
+    assert!(!state.has_power && !state.has_cut && !state.has_loss && !state.has_garbling);
+    card.power_on()?;
+    card.transmit(&SELECT_ICCID, &mut answer)?;
+    card.transmit(&VERIFY, &mut answer)?;
+    assert_eq!(card.transmit(&UPDATE, &mut answer)?, [0x90, 0x00]);
+    Ok(())
+}
+
+#[test]
+fn a_memory_has_1024_to_4096_pages() -> Result<(), Error> {
+    let mut words = vec![0; MOST_WORDS];
+    assert_eq!(Card::factory_of(MOST_PAGES)?.words(&mut words)?.len(), MOST_WORDS);
+    for pages in [0, 1_023, 4_097, usize::MAX] {
+        assert_eq!(Card::factory_of(pages).err(), Some(Error::Size));
+    }
     Ok(())
 }
 
@@ -92,16 +171,16 @@ fn each_wrong_size_is_an_error() -> Result<(), Error> {
     assert_eq!(card.block(&[0; 301], &mut answer), Err(Error::Size));
     assert_eq!(card.cut(0, 0), Err(Error::Size));
     assert_eq!(card.words(&mut [0; 3]), Err(Error::Size));
-    assert_eq!(Card::insert(&[0; 17], false).err(), Some(Error::Size));
-    assert_eq!(Card::insert(&[0; WORDS], true).err(), Some(Error::NoCard));
+    assert_eq!(Card::insert(&[0; 17]).err(), Some(Error::Size));
+    assert_eq!(Card::insert(&[0; WORDS]).err(), Some(Error::NoCard));
     Ok(())
 }
 
 #[test]
 fn a_card_goes_to_another_thread() -> Result<(), Error> {
     let mut card = powered()?;
-    let free = card.free()?;
-    let other = std::thread::spawn(move || card.free()).join().expect("a thread that ends")?;
+    let free = card.free_space()?;
+    let other = std::thread::spawn(move || card.free_space()).join().expect("a thread that ends")?;
     assert_eq!(free, other);
     assert_ne!(free, FreeSpace { blocks: 0, entries: 0 });
     Ok(())

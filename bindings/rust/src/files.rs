@@ -1,0 +1,62 @@
+//! A card whose memory is in a file.
+use std::fs::File;
+use std::io;
+use std::os::unix::fs::FileExt;
+use std::os::unix::io::AsRawFd;
+use std::vec::Vec;
+
+use crate::{Card, Error, MOST_WORDS};
+
+const LOCK_EXCLUSIVE: i32 = 2;
+const LOCK_AT_ONCE: i32 = 4;
+
+extern "C" {
+    fn flock(file: i32, operation: i32) -> i32;
+}
+
+impl From<Error> for io::Error {
+    fn from(error: Error) -> io::Error {
+        io::Error::new(io::ErrorKind::Other, error)
+    }
+}
+
+impl Card {
+    /// Makes the card whose image is in a file that is open for reading and writing, with power off. The file gets each
+    /// device write before the card goes on. The card owns the file, and holds a lock on it.
+    ///
+    /// Open the file with `O_DSYNC`, so that the disk has each write before the next one. Else a loss of power of the
+    /// machine can leave no card in it.
+    ///
+    /// ```no_run
+    /// let file = std::fs::OpenOptions::new().read(true).write(true).open("my.card")?;
+    /// let mut card = soffitfennel::Card::attach(file)?;
+    /// card.power_on()?;
+    /// # Ok::<(), std::io::Error>(())
+    /// ```
+    pub fn attach(file: File) -> io::Result<Card> {
+        if !file.metadata()?.is_file() {
+            return Err(io::Error::new(io::ErrorKind::InvalidInput, "it is no regular file"));
+        }
+        // SAFETY: the descriptor is open.
+        if unsafe { flock(file.as_raw_fd(), LOCK_EXCLUSIVE | LOCK_AT_ONCE) } != 0 {
+            return Err(io::Error::last_os_error());
+        }
+        let words = words_of(&file)?;
+        // SAFETY: the card owns the file.
+        let mut card = unsafe { Card::attach_raw(&words, file.as_raw_fd()) }?;
+        card.file = Some(file);
+        Ok(card)
+    }
+}
+
+/// The words of the image in a file.
+fn words_of(file: &File) -> io::Result<Vec<u32>> {
+    let size = file.metadata()?.len();
+    if size % 4 != 0 || size > 4 * MOST_WORDS as u64 {
+        return Err(Error::Size.into());
+    }
+    let mut image = std::vec![0; size as usize];
+    file.read_exact_at(&mut image, 0)?;
+    let words = image.chunks_exact(4);
+    Ok(words.map(|word| u32::from_be_bytes([word[0], word[1], word[2], word[3]])).collect())
+}
