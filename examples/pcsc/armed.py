@@ -1,5 +1,5 @@
-# A client arms a power cut, a lost and a garbled block in the reader Soffitfennel, by SCardControl. The update that is cut
-# is taken back, and a fault of the line changes no answer.
+# A client arms a power cut, a lost and a garbled block in the reader Soffitfennel, by SCardControl. Its DEVICENAME ends
+# with :faults. The update that is cut is taken back, and a fault of the line changes no answer.
 import time
 
 from smartcard.Exceptions import CardConnectionException, NoCardException
