@@ -1,4 +1,5 @@
-/* The memory of the image: code and constants, data, heap and stack. */
+/* The memory of the image: code and constants, data, heap and stack, which a loss of power empties. Behind them is the
+ * memory of the card, which it does not. */
 ENTRY(start)
 SECTIONS
 {
@@ -7,7 +8,8 @@ SECTIONS
     .rodata : { *(.rodata .rodata.*) }
     .data : { *(.data .data.*) }
     .bss : { *(.bss .bss.*) *(COMMON) }
-    .heap (NOLOAD) : ALIGN(16) { heap_begin = .; . += 0x12000; heap_end = .; }
+    .heap (NOLOAD) : ALIGN(16) { heap_begin = .; . += 0x90000; heap_end = .; }
     .stack (NOLOAD) : ALIGN(16) { stack_begin = .; . += 0x10000; stack_end = .; }
+    kept_begin = 0x40200000;
     /DISCARD/ : { *(.comment) *(.note .note.*) *(.eh_frame .eh_frame_hdr) }
 }

@@ -1,9 +1,12 @@
-/* A card on a board without an operating system. The serial port carries messages in both directions.
+/* A card on a board without an operating system. The serial port carries messages in both directions. The card is kept
+ * in a memory that survives a loss of power: here a part of the board's RAM, which qemu can keep in a file.
  *
  * To the card: an order (1 byte), a length (2 bytes, most significant first), and so many bytes.
  * From the card: an outcome of soffitfennel.h (1 byte), a length, and so many bytes.
  */
 #include "soffitfennel.h"
+
+#include <stdbool.h>
 
 enum { OFF = 0, ON = 1, BLOCK = 2, FREE = 3, USE = 4 };
 enum { MOST = SOFFITFENNEL_BLOCK, ALIGNMENT = 16, PAINT = 0xA5 };
@@ -11,6 +14,15 @@ enum { MOST = SOFFITFENNEL_BLOCK, ALIGNMENT = 16, PAINT = 0xA5 };
 /* The serial port of the board, an Arm PL011, and two bits of its flags. */
 static volatile uint32_t *const port = (volatile uint32_t *)0x09000000;
 enum { DATA = 0, FLAGS = 6, NOTHING_CAME = 1 << 4, CANNOT_SEND = 1 << 5 };
+
+/* The memory that survives: words, each of which is stored whole or not at all, as in FRAM. */
+extern uint32_t kept_begin[];
+
+/* The pages of a new card. (make PAGES=4096 makes the largest one.) */
+#ifndef PAGES
+#define PAGES SOFFITFENNEL_PAGES
+#endif
+enum { KEPT = 1, WORDS = PAGES * SOFFITFENNEL_PAGE_WORDS };
 
 extern uint8_t heap_begin[], heap_end[], stack_begin[], stack_end[];
 static uint8_t *heap_free = heap_begin;
@@ -45,7 +57,7 @@ void *memset(void *to, int byte, size_t size)
     return to;
 }
 
-/* The heap only grows: one card is made, and none is removed. */
+/* The heap only grows: the card that is made is never ended. */
 struct tried rattle_alloc(size_t size, size_t align)
 {
     size_t whole = ((size != 0 ? size : align) + ALIGNMENT - 1) / ALIGNMENT * ALIGNMENT;
@@ -67,6 +79,46 @@ struct tried rattle_realloc(uint8_t *memory, size_t kept, size_t size, size_t al
 void rattle_dealloc(void *memory)
 {
     (void)memory;
+}
+
+/* Stores a device write of the card. The barrier waits until the memory has each word. */
+int64_t soffitfennel_store(int32_t device, const void *bytes, size_t size, int64_t offset)
+{
+    const uint8_t *from = bytes;
+
+    (void)device;
+    for (size_t i = 0; i < size; i += 4)
+        ((volatile uint32_t *)kept_begin)[((size_t)offset + i) / 4] = (uint32_t)from[i] << 24
+            | (uint32_t)from[i + 1] << 16 | (uint32_t)from[i + 2] << 8 | from[i + 3];
+    __asm__ volatile("dsb sy" ::: "memory");
+    return (int64_t)size;
+}
+
+/* Whether the memory is as it was made: empty. */
+static bool is_new(void)
+{
+    for (size_t i = 0; i < WORDS; i++)
+        if (kept_begin[i] != 0)
+            return false;
+    return true;
+}
+
+/* Makes the card of the memory, and puts the factory card into it first if it is new. A loss of power under way leaves
+ * a memory that is refused from then on: a real board gets its card in the factory. */
+static int32_t make_card(soffitfennel_card **card)
+{
+    size_t size;
+
+    if (is_new()) {
+        int32_t outcome = soffitfennel_factory(card, PAGES);
+        if (outcome == SOFFITFENNEL_DONE)
+            outcome = soffitfennel_words(card, kept_begin, WORDS, &size);
+        if (outcome != SOFFITFENNEL_DONE)
+            return outcome;
+        soffitfennel_free(card);
+        heap_free = heap_begin;
+    }
+    return soffitfennel_attach(card, kept_begin, WORDS, KEPT);
 }
 
 static uint8_t receive(void)
@@ -100,7 +152,7 @@ static size_t tell_use(void)
     return put(put(0, (uint32_t)(heap_free - heap_begin), 4), (uint32_t)(stack_end - deepest), 4);
 }
 
-static int32_t obey(soffitfennel_card *card, uint8_t order, size_t count, size_t *size)
+static int32_t obey(soffitfennel_card **card, uint8_t order, size_t count, size_t *size)
 {
     uint16_t blocks, entries;
     int32_t outcome;
@@ -114,7 +166,7 @@ static int32_t obey(soffitfennel_card *card, uint8_t order, size_t count, size_t
     case BLOCK:
         return soffitfennel_block(card, sent, count, reply, SOFFITFENNEL_ROOM, size);
     case FREE:
-        outcome = soffitfennel_free(card, &blocks, &entries);
+        outcome = soffitfennel_free_space(card, &blocks, &entries);
         *size = put(put(0, blocks, 2), entries, 2);
         return outcome;
     case USE:
@@ -127,10 +179,10 @@ static int32_t obey(soffitfennel_card *card, uint8_t order, size_t count, size_t
 
 void run(void)
 {
-    soffitfennel_card card = NULL;
+    soffitfennel_card *card = NULL;
     size_t size;
 
-    if (soffitfennel_factory(&card) != SOFFITFENNEL_DONE)
+    if (make_card(&card) != SOFFITFENNEL_DONE)
         return;
     for (;;) {
         uint8_t order = receive();
