@@ -1,0 +1,46 @@
+use Rattle.std.proofs.Common.{◌≡◌, ◌≤◌, ◌<◌, ◌+◌, ℕ, List, refl, sym, ap, ◌∙◌, arith}
+use Rattle.flash_board.specs.FlashLogs.{base_in}
+use Rattle.flash_board.specs.laws.Copying.{SameArea, area_found, copied_none, copied_more, other_area}
+use Rattle.flash_board.proofs.moving.copy_pages.Goals as goal
+
+pub loop-page-init : goal.loop-page-init
+loop-page-init g c =
+    let m = (g.F.Flash.state c.args.flash.now).words in record {
+      lit = c.requires.lit;
+      steady = record { lit = c.requires.lit; due = refl; faults = refl };
+      copied = copied_none m c.args.table.now (base_in c.args.from) (base_in c.args.to) c.requires.free;
+    }
+
+pub copy_page-requires-clause-entry : goal.copy_page-requires-clause-entry
+copy_page-requires-clause-entry g c =
+    let m = (g.F.Flash.state c.args.flash.now).words in
+    let mid = (g.F.Flash.state c.loop-page.flash).words in
+    let from = base_in c.args.from in
+    let has = c.loop-page.invariant.copied in
+    let page = c.loop-page.page in
+    let same : SameArea m mid from = other_area m mid c.args.from c.args.to c.requires.areas has.elsewhere in
+    let lt : page < 1024 = omega arith in
+    has.kept page (omega arith) ∙ c.requires.index.each page lt ∙ sym (area_found m mid from same page)
+
+pub loop-page-preserved : goal.loop-page-preserved
+loop-page-preserved g c =
+    let m = (g.F.Flash.state c.args.flash.now).words in
+    let mid = (g.F.Flash.state c.loop-page.flash).words in
+    let after = (g.F.Flash.state c.copy_page.new.flash).words in
+    let from = base_in c.args.from in
+    let to = base_in c.args.to in
+    let has = c.loop-page.invariant.copied in
+    let page = c.loop-page.page in
+    let same : SameArea m mid from = other_area m mid c.args.from c.args.to c.requires.areas has.elsewhere in
+    let lit = c.in_ok-next.ensures.light.ok refl in
+    record {
+      lit = lit.lit;
+      steady = record {
+        lit = lit.lit;
+        due = lit.due ∙ c.loop-page.invariant.steady.due;
+        faults = lit.faults ∙ c.loop-page.invariant.steady.faults;
+      };
+      copied = copied_more m c.args.table.now mid c.loop-page.table from to page c.loop-page.next has after
+          c.copy_page.new.table c.in_ok-next.next c.copy_page.ensures.elsewhere c.in_ok-next.ensures.copies
+          c.in_ok-next.ensures.more same;
+    }

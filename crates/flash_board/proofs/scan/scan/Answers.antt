@@ -1,0 +1,16 @@
+use Rattle.std.proofs.Common.{◌≡◌, ◌∙◌, sym, refl, arith}
+use Rattle.flash_board.specs.FlashLogs.{base_in}
+use Rattle.flash_board.specs.laws.Indexing.{find_zero, free_none}
+use Rattle.flash_board.proofs.scan.scan.Goals as goal
+
+pub loop-slot-init : goal.loop-slot-init
+loop-slot-init g c =
+    let m = (g.F.Flash.state c.args.flash.now).words in
+    let base = base_in c.args.area in
+    record {
+      words = refl;
+      lit = c.requires.lit;
+      steady = record { lit = c.requires.lit; due = refl; faults = refl };
+      index = record { each = λ p lt. c.blank_table.ensures p lt ∙ sym (find_zero m base p) };
+      free = free_none m base 0;
+    }

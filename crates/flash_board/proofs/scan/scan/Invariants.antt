@@ -1,0 +1,14 @@
+use Rattle.std.proofs.Common.{◌≡◌, ℕ, false, length}
+use Rattle.flash_board.specs.FlashCalls.{StaysLit}
+use Rattle.flash_board.specs.PageTables.{IsPageTable, AreFree}
+use Rattle.flash_board.specs.FlashLogs.{base_in}
+use Rattle.flash_board.proofs.scan.scan.Given as goal
+
+abbrev pub invariant-loop-slot : goal.invariant-loop-slot
+invariant-loop-slot g l = let old = g.F.Flash.state l.initial.flash in let new = g.F.Flash.state l.flash in record {
+  words : new.words ≡ old.words;
+  lit : new.dark ≡ false;
+  steady : StaysLit old new;
+  index : IsPageTable old.words (base_in l.area) l.slot l.table;
+  free : AreFree old.words (base_in l.area) l.next l.slot;
+}

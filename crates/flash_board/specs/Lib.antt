@@ -1,0 +1,10 @@
+pub mod CopyParts
+pub mod FlashBlocks
+pub mod FlashCalls
+pub mod FlashFacts
+pub mod FlashLogs
+pub mod PageTables
+pub mod Places
+pub mod Rings
+pub mod SlotParts
+pub mod laws

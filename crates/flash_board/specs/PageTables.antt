@@ -1,0 +1,15 @@
+-- The table of a board's pages, and the free slots.
+use Rattle.std.specs.Prelude.{◌≡◌, ◌≤◌, ◌<◌, ◌+◌, ℕ, false, List, slice_index}
+use Rattle.flash_board.specs.declared.layout.TheConstants.{SLOTS}
+use Rattle.flash_board.specs.declared.flash.TheConstants.{BLANK}
+use Rattle.flash_board.specs.FlashCalls.{AreFilled}
+use Rattle.flash_board.specs.FlashLogs.{find, slot_of}
+
+-- The table has the slot of each page, by the first n slots.
+pub record IsPageTable (m : List ℕ) (base n : ℕ) (table : List ℕ) : Type 0 where
+  pub each : (p : ℕ) → p < 1024 → slice_index table p ≡ find m base n p
+
+-- From a slot on, up to the nth, all are blank.
+pub record AreFree (m : List ℕ) (base next n : ℕ) : Type 0 where
+  pub within : next ≤ n
+  pub free : (s : ℕ) → next ≤ s → s < n → AreFilled m (slot_of base s) 20 BLANK

@@ -1,0 +1,107 @@
+-- A record that is put, whole or not, is a write of the board that is done or not begun.
+use Rattle.std.specs.Prelude.{◌≡◌, ◌≢◌, ◌⊎◌, ◌<◌, ◌≤◌, ◌+◌, ◌-◌, ◌*◌, ℕ, zero, suc, Bool, true, false, List, length}
+use Rattle.std.specs.Prelude.{slice_index, slice_set}
+use Rattle.std.proofs.Common.{refl, sym, ◌∙◌, ap, ap₂, inl, inr, ⊎_elim, arith, get_or-set_same, get_or-set_other}
+use Rattle.std.proofs.lemmas.Bool.{cases_eq}
+use Rattle.nvm_board.specs.Torn.{written}
+use Rattle.flash_board.specs.declared.layout.TheConstants.{SLOTS}
+use Rattle.flash_board.specs.FlashCalls.{SameElsewhere}
+use Rattle.flash_board.specs.PageTables.{IsPageTable, AreFree}
+use Rattle.flash_board.specs.FlashLogs.{find, is_marked, slot_of, page_word, words_of, base_in, turn_of}
+use Rattle.flash_board.specs.SlotParts.{IsPut, PutsInSlot}
+use Rattle.flash_board.specs.Rings.{SameMarks}
+use Rattle.flash_board.specs.laws.Putting.{other_mark, word_kept, none_kept, find_kept, put_found, put_word, put_other}
+use Rattle.flash_board.specs.laws.Marks.{blank_slot, blank_same}
+use Rattle.flash_board.specs.laws.Turns.{slot_marks, turn_same}
+use Rattle.flash_board.specs.laws.Words.{words_same, words_written, overlaid}
+
+module _ (m after : List ℕ) (area s : ℕ) (elsewhere : SameElsewhere m (slot_of (base_in area) s) 20 after)
+    (below : s < SLOTS) (home : base_in area ≡ base_in (turn_of m)) (are : AreFree m (base_in area) s SLOTS) where
+  free : is_marked m (slot_of (base_in area) s + 18) ≡ false
+  free = blank_slot m (slot_of (base_in area) s) (are.free s (omega arith) below)
+
+  marks : SameMarks m after
+  marks = slot_marks m after area s below elsewhere
+
+  turn : turn_of after ≡ turn_of m
+  turn = turn_same m after marks
+
+  -- without its mark the record changes nothing
+  pub unmarked_same : is_marked after (slot_of (base_in area) s + 18) ≡ false → words_of after ≡ words_of m
+  unmarked_same none = words_same m after (base_in area) home turn
+      (λ p k small lt. none_kept m after (base_in area) s elsewhere free SLOTS p k (omega (arith, lt)) none)
+
+  module _ (words : List ℕ) (page : ℕ) (size : length words ≡ 18) (within : page < 1024)
+      (names : slice_index words 16 ≡ page) (put : IsPut after (slot_of (base_in area) s) words) where
+    behind : (t : ℕ) → s < t → t < SLOTS → is_marked m (slot_of (base_in area) t + 18) ≡ false
+    behind t from lt = blank_slot m (slot_of (base_in area) t) (are.free t (omega (arith, from)) lt)
+
+    -- with it, it is the write
+    pub put_written : (first : ℕ) (run : List ℕ) → first + length run ≤ 16
+        → ((k : ℕ) → k < 16 → slice_index words k ≡ slice_index (written (words_of m) (16 * page + first) run) (16 * page + k))
+        → words_of after ≡ written (words_of m) (16 * page + first) run
+    put_written first run fits each = words_written m after (base_in area) home turn page first run within fits
+        (λ p k small other lt. word_kept m after (base_in area) s elsewhere free SLOTS p k (omega (arith, lt))
+        (put_other m after (base_in area) s elsewhere words SLOTS page size below names behind put p other))
+        (λ k lt. put_word m after (base_in area) s elsewhere words SLOTS page size below names behind put k lt ∙ each k lt)
+
+    -- and the table has it
+    pub put_index : (table : List ℕ) → length table ≡ 1024 → IsPageTable m (base_in area) SLOTS table
+        → IsPageTable after (base_in area) SLOTS (slice_set table page (s + 1))
+    put_index table all index = record {
+      each = λ p lt. ⊎_elim
+          (λ (e : p ≡ page).
+          let one : s + 1 ≡ suc s = omega arith in
+          ap (λ (k : ℕ). slice_index (slice_set table page (s + 1)) k) e
+          ∙ get_or-set_same table page (s + 1) 0 (omega (arith, all, within)) ∙ one
+          ∙ sym (ap (λ (k : ℕ). find after (base_in area) SLOTS k) e
+          ∙ put_found m after (base_in area) s elsewhere words SLOTS page size below names behind put))
+          (λ (other : p ≢ page).
+          get_or-set_other table page p (s + 1) 0 other ∙ index.each p lt
+          ∙ sym (find_kept m after (base_in area) s elsewhere free SLOTS p
+          (put_other m after (base_in area) s elsewhere words SLOTS page size below names behind put p other)))
+          (cases_eq p page);
+    }
+
+  -- the slots behind it are free
+  pub free_behind : AreFree after (base_in area) (s + 1) SLOTS
+  free_behind = record {
+    within = omega (arith, below);
+    free = λ t from lt. let past : slot_of (base_in area) s + 20 ≤ slot_of (base_in area) t = omega (arith, from) in
+        blank_same m after (slot_of (base_in area) t) 20 (slot_of (base_in area) s) 20 elsewhere (inr past)
+        (are.free t (omega (arith, from)) lt);
+  }
+
+-- What a run leaves that is put into the record of its page: the words are as before, or it is written.
+module _ (m after : List ℕ) (area s page first : ℕ) (run old words : List ℕ) (below : s < SLOTS)
+    (home : base_in area ≡ base_in (turn_of m)) (are : AreFree m (base_in area) s SLOTS) (size : length words ≡ 18)
+    (within : page < 1024) (fits : first + length run ≤ 16)
+    (was : (k : ℕ) → k < 16 → slice_index old k ≡ page_word m (base_in area) SLOTS page k)
+    (named : slice_index old 16 ≡ page)
+    (other : (k : ℕ) → (k < first) ⊎ (first + length run ≤ k) → slice_index words k ≡ slice_index old k)
+    (over : (k : ℕ) → k < length run → slice_index words (first + k) ≡ slice_index run k) where
+  names : slice_index words 16 ≡ page
+  names = other 16 (inr fits) ∙ named
+
+  pub run_marks : PutsInSlot m (slot_of (base_in area) s) words after → SameMarks m after
+  run_marks puts = slot_marks m after area s below puts.elsewhere
+
+  pub run_done : PutsInSlot m (slot_of (base_in area) s) words after → IsPut after (slot_of (base_in area) s) words
+      → words_of after ≡ written (words_of m) (16 * page + first) run
+  run_done puts put =
+      put_written m after area s puts.elsewhere below home are words page size within names put first run fits
+      (overlaid m after (base_in area) home (turn_same m after (run_marks puts)) page first run within fits old words was other over)
+
+  pub run_whole : PutsInSlot m (slot_of (base_in area) s) words after
+      → (words_of after ≡ words_of m) ⊎ (words_of after ≡ written (words_of m) (16 * page + first) run)
+  run_whole puts = ⊎_elim
+      (λ (none : is_marked after (slot_of (base_in area) s + 18) ≡ false).
+      inl (unmarked_same m after area s puts.elsewhere below home are none))
+      (λ (put : IsPut after (slot_of (base_in area) s) words). inr (run_done puts put))
+      puts.whole
+
+  pub run_index : (table : List ℕ) → length table ≡ 1024 → IsPageTable m (base_in area) SLOTS table
+      → PutsInSlot m (slot_of (base_in area) s) words after → IsPut after (slot_of (base_in area) s) words
+      → IsPageTable after (base_in area) SLOTS (slice_set table page (s + 1))
+  run_index table all index puts put =
+      put_index m after area s puts.elsewhere below home are words page size within names put table all index

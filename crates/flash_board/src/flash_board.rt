@@ -1,0 +1,221 @@
+//! The board on a flash.
+ghost use Rattle.std.specs.Prelude.{◌≡◌, ◌+◌, ◌*◌, ◌<◌, ◌≤◌, ◌↔◌, ◌⊎◌, if◌then◌else◌, true, false, length, IsTrue};
+ghost use Rattle.std.specs.Prelude.{All, Contains, IfOk, slice_index};
+ghost use Rattle.nvm_board.specs.declared.board.TheConstants.{SECRETS, COUNT_END};
+ghost use Rattle.nvm_board.specs.Facts.{AreWords};
+
+use crate::flash::{Flash, FlashSocket};
+use crate::flash_log::FlashLog;
+use crate::layout::PAGES;
+use nvm_board::{Board, COUNT_END, DeviceErr, SECRETS, Socket, WornOut};
+
+/// A board on a flash.
+#[derive(Drop)]
+pub struct FlashBoard<F: Flash> {
+    log: FlashLog<F>,
+    dark: bool,
+    faults: u64,
+    cuts: u64,
+    writes: u64,
+    compares: [u64; SECRETS as usize],
+    matches: [u64; SECRETS as usize],
+    ghost lit: { dark ≡ false → log.dark ≡ false },
+    ghost sized: { length log.words ≡ 16384 },
+    ghost words_fit: { AreWords log.words },
+    ghost compares_counted: { length compares ≡ SECRETS },
+    ghost matches_counted: { length matches ≡ SECRETS },
+    ghost faults_fit: { faults ≤ COUNT_END },
+    ghost cuts_fit: { cuts ≤ COUNT_END },
+    ghost writes_fit: { writes ≤ COUNT_END },
+    ghost compares_fit: { All (λ n. n ≤ COUNT_END) compares },
+    ghost matches_fit: { All (λ n. n ≤ COUNT_END) matches },
+    ghost may_go: { dark ≡ false → cuts < COUNT_END },
+}
+
+impl<F: Flash> FlashBoard<F> {
+    ghost use Rattle.nvm_board.specs.Facts.{IsWorn, IsWornOut, raised};
+    ghost use Rattle.flash_board.specs.FlashFacts.{flash_facts};
+    ghost use Rattle.flash_board.specs.FlashCalls.{FlashState};
+
+    /// The board of a log that has power. Its counts are 0.
+    pub fn new(log: FlashLog<F>) -> FlashBoard<F>
+        requires { log.dark ≡ false }
+        ensures words { (flash_facts result).words ≡ log.words }
+        ensures lit { (flash_facts result).dark ≡ false }
+    {
+        log.words_fit();
+        FlashBoard {
+            log,
+            dark: false,
+            faults: 0,
+            cuts: 0,
+            writes: 0,
+            compares: [0; SECRETS as usize],
+            matches: [0; SECRETS as usize],
+        }
+    }
+
+    /// Gives the log back.
+    pub fn into_log(self) -> FlashLog<F>
+        ensures { result.words ≡ (flash_facts self).words }
+    {
+        self.log
+    }
+
+    /// Returns true if a count is at its end.
+    fn is_worn_out(&self) -> bool
+        ensures worn { IsTrue result ↔ IsWornOut (flash_facts self.now) }
+        ensures spare { result ≡ false → self.now.cuts < COUNT_END }
+    {
+        self.cuts == COUNT_END
+            || self.faults == COUNT_END
+            || self.writes == COUNT_END
+            || has_ended(&self.compares)
+            || has_ended(&self.matches)
+    }
+
+    /// Loses power in a call.
+    fn go_dark(&mut self)
+        requires { self.old.dark ≡ false }
+        ensures { flash_facts self.new ≡ record (flash_facts self.old) { dark = true; cuts = self.old.cuts + 1 } }
+    {
+        self.cuts += 1;
+        self.dark = true;
+    }
+
+    /// Returns true if a count of this comparison is at its end: that of comparisons, or on a match that of matches.
+    fn counts_end(&self, secret: usize, equal: bool) -> bool
+        requires { secret < SECRETS }
+        ensures exact { IsTrue result ↔ ((slice_index self.now.compares secret ≡ COUNT_END)
+            ⊎ ((equal ≡ true) × (slice_index self.now.matches secret ≡ COUNT_END))) }
+        ensures worn { IsTrue result → IsWorn (flash_facts self.now) }
+        ensures spare { result ≡ false → slice_index self.now.compares secret < COUNT_END }
+        ensures spare_match { result ≡ false → equal ≡ true → slice_index self.now.matches secret < COUNT_END }
+    {
+        self.compares[secret] == COUNT_END || equal && self.matches[secret] == COUNT_END
+    }
+
+    /// Counts a comparison of a secret, and a match if `equal`.
+    fn count(&mut self, secret: usize, equal: bool)
+        requires place { secret < SECRETS }
+        requires spare { slice_index self.old.compares secret < COUNT_END }
+        requires spare_match { equal ≡ true → slice_index self.old.matches secret < COUNT_END }
+        ensures { flash_facts self.new ≡ record (flash_facts self.old) {
+          compares = raised self.old.compares secret;
+          matches = if equal then raised self.old.matches secret else self.old.matches;
+        } }
+    {
+        self.compares[secret] += 1;
+        if equal {
+            self.matches[secret] += 1;
+        }
+    }
+}
+
+impl<F: Flash> Board for FlashBoard<F> {
+    ghost use Rattle.flash_board.specs.FlashFacts.{flash_facts};
+    ghost use Rattle.flash_board.specs.laws.Boards.{flash_is_board};
+
+    ghost facts = { flash_facts };
+
+    fn pages(&self) -> u16 {
+        PAGES
+    }
+
+    #[tactic(auto, unfolding(nvm_board::specs::Facts::IsLostRightly))]
+    fn read(&mut self, at: u16) -> Result<u32, DeviceErr> {
+        if self.dark {
+            return Err(DeviceErr::PowerLost);
+        }
+        match self.log.read(at) {
+            Ok(word) => Ok(word),
+            Err(DeviceErr::PowerLost) => {
+                self.cuts += 1;
+                self.dark = true;
+                Err(DeviceErr::PowerLost)
+            }
+            Err(DeviceErr::Fault) => {
+                if self.faults == COUNT_END {
+                    self.cuts += 1;
+                    self.dark = true;
+                    return Err(DeviceErr::PowerLost);
+                }
+                self.faults += 1;
+                Err(DeviceErr::Fault)
+            }
+        }
+    }
+
+    #[tactic(auto, unfolding(nvm_board::specs::Facts::IsLostRightly))]
+    fn write(&mut self, page: u16, first: u8, words: &[u32]) -> Result<(), DeviceErr> {
+        if self.dark {
+            return Err(DeviceErr::PowerLost);
+        }
+        if self.writes == COUNT_END {
+            self.go_dark();
+            return Err(DeviceErr::PowerLost);
+        }
+        let ended = self.log.write(page, first, words);
+        self.log.words_fit();
+        match ended {
+            Ok(()) => {
+                self.writes += 1;
+                Ok(())
+            }
+            Err(DeviceErr::PowerLost) => {
+                self.cuts += 1;
+                self.dark = true;
+                Err(DeviceErr::PowerLost)
+            }
+            Err(DeviceErr::Fault) => {
+                if self.faults == COUNT_END {
+                    self.cuts += 1;
+                    self.dark = true;
+                    return Err(DeviceErr::PowerLost);
+                }
+                self.faults += 1;
+                Err(DeviceErr::Fault)
+            }
+        }
+    }
+
+    #[tactic(auto, unfolding(nvm_board::specs::Facts::IsLostRightly))]
+    fn compare(&mut self, secret: u8, kept: &[u8; 8], shown: &[u8; 8]) -> Result<bool, DeviceErr> {
+        if self.dark {
+            return Err(DeviceErr::PowerLost);
+        }
+        let place = usize::from(secret);
+        let equal = kept == shown;
+        if self.counts_end(place, equal) {
+            self.go_dark();
+            return Err(DeviceErr::PowerLost);
+        }
+        self.count(place, equal);
+        Ok(equal)
+    }
+
+    ghost is_board = { flash_is_board };
+}
+
+impl<F: FlashSocket> Socket for FlashBoard<F> {
+    fn light(&mut self) -> Result<(), WornOut> {
+        if self.is_worn_out() {
+            return Err(WornOut);
+        }
+        self.log.light();
+        self.dark = false;
+        Ok(())
+    }
+
+    fn power_off(&mut self) {
+        self.log.power_off();
+        self.dark = true;
+    }
+}
+
+/// Returns true if one of the counts is at its end.
+fn has_ended(counts: &[u64]) -> bool
+    ensures { IsTrue result ↔ Contains counts.now COUNT_END }
+{
+    counts.contains(&COUNT_END)
+}

@@ -1,0 +1,142 @@
+//! The log of a flash as one value: the words that it stands for, and its power.
+ghost use Rattle.std.specs.Prelude.{◌≡◌, ◌⊎◌, ◌<◌, ◌≤◌, ◌+◌, ◌*◌, true, false, length, slice_index, IfOk, IfErr, OnOk};
+ghost use Rattle.nvm_board.specs.Facts.{AreWords};
+ghost use Rattle.nvm_board.specs.Torn.{written};
+ghost use Rattle.flash_board.specs.FlashCalls.{Lights};
+
+use crate::flash::{Flash, FlashSocket};
+use crate::image::blank_table;
+use crate::place::Place;
+use crate::steps::{read_at, write_at};
+use crate::turns::has_ring;
+use nvm_board::DeviceErr;
+use std::marker::Model;
+
+/// The reason why a flash isn't taken.
+#[derive(Clone, Copy, Debug, PartialEq, Eq)]
+pub enum OpenFault {
+    /// No log is on it.
+    NoLog,
+    /// Power was lost.
+    PowerLost,
+    /// The flash failed.
+    Fault,
+}
+
+/// A flash, and where its pages are.
+#[derive(Drop)]
+pub struct FlashLog<F: Flash> {
+    flash: F,
+    place: Place,
+}
+
+impl<F: Flash> Model for FlashLog<F> {
+    ghost use Rattle.flash_board.specs.FlashCalls.{FlashState};
+    ghost use Rattle.flash_board.specs.Places.{IsLog, state_of};
+
+    ghost Value = { FlashState };
+
+    ghost view = { λ l. state_of (F.state l.flash) };
+
+    ghost invariant = { λ l. IsLog (F.state l.flash).words l.place };
+}
+
+impl<F: Flash> FlashLog<F> {
+    ghost use Rattle.flash_board.specs.FlashLogs.{words_of};
+    ghost use Rattle.flash_board.specs.Places.{state_of};
+    ghost use Rattle.flash_board.specs.Rings.{IsRing};
+
+    /// The log of a flash that has one.
+    pub fn new(flash: F) -> FlashLog<F>
+        requires { IsRing (F.state flash).words }
+        ensures is { result ≡ state_of (F.state flash) }
+    {
+        FlashLog {
+            flash,
+            place: Place {
+                ready: false,
+                table: blank_table(),
+                turn: 0,
+                next: 0,
+                tried: 0,
+            },
+        }
+    }
+
+    /// The log of a flash, if it has one.
+    ///
+    /// # Errors
+    /// The flash has no log, power was lost, or the flash failed.
+    pub fn open(flash: F) -> Result<FlashLog<F>, (F, OpenFault)>
+        requires { (F.state flash).dark ≡ false }
+        ensures is { IfOk result (λ l. (l.words ≡ words_of (F.state flash).words) × (l.dark ≡ false)) }
+        ensures none { IfErr result (λ e. (F.state e.0).words ≡ (F.state flash).words) }
+    {
+        let mut flash = flash;
+        match has_ring(&mut flash) {
+            Ok(true) => Ok(FlashLog::new(flash)),
+            Ok(false) => Err((flash, OpenFault::NoLog)),
+            Err(DeviceErr::PowerLost) => Err((flash, OpenFault::PowerLost)),
+            Err(DeviceErr::Fault) => Err((flash, OpenFault::Fault)),
+        }
+    }
+
+    /// Gives the flash back, of which a log can be made again.
+    pub fn into_flash(self) -> F
+        ensures is { state_of (F.state result) ≡ self }
+        ensures ring { IsRing (F.state result).words }
+    {
+        let FlashLog { flash, place: _ } = self;
+        flash
+    }
+
+    /// Proves that there are 16 words a page, of 32 bits.
+    pub fn words_fit(&self)
+        ensures size { length self.now.words ≡ 16384 }
+        ensures fit { AreWords self.now.words }
+    {
+        let _ = &self.flash;
+    }
+
+    /// Reads a word.
+    pub fn read(&mut self, at: u16) -> Result<u32, DeviceErr>
+        requires lit { self.old.dark ≡ false }
+        requires at { at < 16384 }
+        ensures word { IfOk result (λ w. w ≡ slice_index self.old.words at) }
+        ensures words { self.new.words ≡ self.old.words }
+        ensures light { Lights self.old self.new result }
+    {
+        read_at(&mut self.flash, &mut self.place, at)
+    }
+
+    /// Writes a run of a page. At every exit all words of the run are old, or all are new.
+    pub fn write(&mut self, page: u16, first: u8, words: &[u32]) -> Result<(), DeviceErr>
+        requires lit { self.old.dark ≡ false }
+        requires page { page < 1024 }
+        requires run { first + length words.now ≤ 16 }
+        ensures whole { (self.new.words ≡ self.old.words)
+            ⊎ (self.new.words ≡ written self.old.words (16 * page + first) words.now) }
+        ensures done { OnOk result (self.new.words ≡ written self.old.words (16 * page + first) words.now) }
+        ensures light { Lights self.old self.new result }
+    {
+        write_at(&mut self.flash, &mut self.place, page, first, words)
+    }
+}
+
+impl<F: FlashSocket> FlashLog<F> {
+    /// Switches power on. The next call finds the pages again.
+    pub fn light(&mut self)
+        ensures { self.new ≡ record self.old { dark = false } }
+    {
+        self.place.ready = false;
+        self.place.tried = 0;
+        self.flash.light();
+    }
+
+    /// Switches power off.
+    pub fn power_off(&mut self)
+        ensures { self.new ≡ record self.old { dark = true } }
+    {
+        self.flash.power_off();
+    }
+}

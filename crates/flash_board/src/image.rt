@@ -1,0 +1,80 @@
+//! The words of a page.
+ghost use Rattle.std.specs.Prelude.{◌≡◌, ◌⊎◌, ◌<◌, ◌≤◌, ◌+◌, ℕ, false, length, slice_index, IfOk};
+ghost use Rattle.flash_board.specs.FlashCalls.{Lights};
+ghost use Rattle.flash_board.specs.FlashLogs.{base_in, find, page_word};
+ghost use Rattle.flash_board.specs.declared.layout.TheConstants.{SLOTS};
+
+use crate::flash::Flash;
+use crate::layout::slot_at;
+use crate::record::Record;
+use nvm_board::DeviceErr;
+
+/// Where the pages of a board stand: 0 for a page that was never written, else its slot and 1.
+pub type Table = [u16; 1024];
+
+/// Returns the table of a board that was never written.
+pub fn blank_table() -> Table
+    ensures { (p : ℕ) → p < 1024 → slice_index result p ≡ 0 }
+{
+    [0; 1024]
+}
+
+/// Returns the word of a page.
+pub fn read_word<F: Flash>(
+    flash: &mut F,
+    area: u8,
+    table: &Table,
+    page: u16,
+    place: u16,
+) -> Result<u32, DeviceErr>
+    requires lit { (F.state flash.old).dark ≡ false }
+    requires entry { slice_index table.now page ≡ find (F.state flash.old).words (base_in area) SLOTS page }
+    requires page { page < 1024 }
+    requires place { place < 16 }
+    ensures word { IfOk result (λ w. w ≡ page_word (F.state flash.old).words (base_in area) SLOTS page place) }
+    ensures words { (F.state flash.new).words ≡ (F.state flash.old).words }
+    ensures light { Lights (F.state flash.old) (F.state flash.new) result }
+{
+    let found = table[usize::from(page)];
+    if found == 0 {
+        return Ok(0);
+    }
+    let word = flash.read(slot_at(area, found - 1) + u32::from(place))?;
+    Ok(word)
+}
+
+/// Returns the record of a page as it is.
+pub fn record_of<F: Flash>(
+    flash: &mut F,
+    area: u8,
+    table: &Table,
+    page: u16,
+) -> Result<Record, DeviceErr>
+    requires lit { (F.state flash.old).dark ≡ false }
+    requires entry { slice_index table.now page ≡ find (F.state flash.old).words (base_in area) SLOTS page }
+    requires page { page < 1024 }
+    ensures each { IfOk result (λ r. (k : ℕ) → k < 16
+        → slice_index r k ≡ page_word (F.state flash.old).words (base_in area) SLOTS page k) }
+    ensures names { IfOk result (λ r. slice_index r 16 ≡ page) }
+    ensures words { (F.state flash.new).words ≡ (F.state flash.old).words }
+    ensures light { Lights (F.state flash.old) (F.state flash.new) result }
+{
+    let mut found: Record = [0; 18];
+    for k in 0..16u16 {
+        found[usize::from(k)] = read_word(flash, area, table, page, k)?;
+    }
+    found[16] = u32::from(page);
+    Ok(found)
+}
+
+/// PutsInSlot the words of a run into a record.
+pub fn overlay(found: &mut Record, first: u8, words: &[u32])
+    requires { first + length words.now ≤ 16 }
+    ensures other { (k : ℕ) → (k < first) ⊎ (first + length words.now ≤ k)
+        → slice_index found.new k ≡ slice_index found.old k }
+    ensures run { (k : ℕ) → k < length words.now → slice_index found.new (first + k) ≡ slice_index words.now k }
+{
+    for k in 0..words.len() {
+        found[usize::from(first) + k] = words[k];
+    }
+}

@@ -1,0 +1,22 @@
+//! A board on a flash. Each write of the board is whole or not begun, whatever a power loss leaves in the words that the
+//! flash was programming, or in the block that it was erasing.
+#![tactic(auto)]
+
+mod flash;
+mod flash_board;
+mod flash_log;
+mod image;
+mod layout;
+mod moving;
+mod place;
+mod record;
+mod scan;
+mod steps;
+mod turns;
+mod writing;
+
+pub use flash::{BLANK, BLOCKS, FLASH_WORDS, Flash, FlashSocket};
+pub use flash_board::FlashBoard;
+pub use flash_log::{FlashLog, OpenFault};
+pub use layout::{AREA_WORDS, PAGES, RECORD_WORDS, SLOT_WORDS, SLOTS};
+pub use turns::format_flash;

@@ -1,0 +1,99 @@
+//! Records and marks.
+ghost use Rattle.std.specs.Prelude.{◌≡◌, ◌<◌, ◌≤◌, ◌+◌, true, false, IfOk, OnOk, length};
+ghost use Rattle.flash_board.specs.FlashCalls.{Lights, SameElsewhere, IsThere, AreFilled};
+ghost use Rattle.flash_board.specs.FlashLogs.{is_marked as has_mark, is_closed as has_closed};
+ghost use Rattle.flash_board.specs.SlotParts.{PutsInSlot, IsPut};
+ghost use Rattle.flash_board.specs.declared.flash.TheConstants.{BLANK, FLASH_WORDS};
+
+use crate::flash::{BLANK, Flash};
+use crate::layout::{FIRST_MARK, RECORD_WORDS, SECOND_MARK, SLOT_WORDS};
+use nvm_board::DeviceErr;
+
+/// The words of a record.
+pub type Record = [u32; 18];
+
+/// Returns true if a mark is at the address.
+pub fn is_marked<F: Flash>(flash: &mut F, at: u32) -> Result<bool, DeviceErr>
+    requires lit { (F.state flash.old).dark ≡ false }
+    requires within { at + 2 ≤ FLASH_WORDS }
+    ensures marked { IfOk result (λ b. b ≡ has_mark (F.state flash.old).words at) }
+    ensures words { (F.state flash.new).words ≡ (F.state flash.old).words }
+    ensures light { Lights (F.state flash.old) (F.state flash.new) result }
+{
+    let first = flash.read(at)?;
+    let second = flash.read(at + 1)?;
+    Ok(first == FIRST_MARK && second == SECOND_MARK)
+}
+
+/// Programs a mark.
+pub fn mark<F: Flash>(flash: &mut F, at: u32) -> Result<(), DeviceErr>
+    requires lit { (F.state flash.old).dark ≡ false }
+    requires blank { AreFilled (F.state flash.old).words at 2 BLANK }
+    requires within { at + 2 ≤ FLASH_WORDS }
+    ensures done { OnOk result (has_mark (F.state flash.new).words at ≡ true) }
+    ensures elsewhere { SameElsewhere (F.state flash.old).words at 2 (F.state flash.new).words }
+    ensures light { Lights (F.state flash.old) (F.state flash.new) result }
+{
+    flash.program(at, &[FIRST_MARK, SECOND_MARK])?;
+    Ok(())
+}
+
+/// Returns true if the place of a mark is not blank.
+pub fn is_closed<F: Flash>(flash: &mut F, at: u32) -> Result<bool, DeviceErr>
+    requires lit { (F.state flash.old).dark ≡ false }
+    requires within { at + 2 ≤ FLASH_WORDS }
+    ensures closed { IfOk result (λ b. b ≡ has_closed (F.state flash.old).words at) }
+    ensures words { (F.state flash.new).words ≡ (F.state flash.old).words }
+    ensures light { Lights (F.state flash.old) (F.state flash.new) result }
+{
+    let first = flash.read(at)?;
+    let second = flash.read(at + 1)?;
+    if first != BLANK {
+        return Ok(true);
+    }
+    Ok(second != BLANK)
+}
+
+/// Closes a block.
+pub fn close<F: Flash>(flash: &mut F, at: u32) -> Result<(), DeviceErr>
+    requires lit { (F.state flash.old).dark ≡ false }
+    requires opened { has_closed (F.state flash.old).words at ≡ false }
+    requires within { at + 2 ≤ FLASH_WORDS }
+    ensures done { OnOk result (has_closed (F.state flash.new).words at ≡ true) }
+    ensures elsewhere { SameElsewhere (F.state flash.old).words at 2 (F.state flash.new).words }
+    ensures light { Lights (F.state flash.old) (F.state flash.new) result }
+{
+    flash.program(at, &[FIRST_MARK, SECOND_MARK])?;
+    Ok(())
+}
+
+/// PutsInSlot a record into a blank slot, and then its mark. At every exit the slot has no mark, or it has the
+/// record and its mark.
+pub fn put_record<F: Flash>(flash: &mut F, at: u32, words: &Record) -> Result<(), DeviceErr>
+    requires lit { (F.state flash.old).dark ≡ false }
+    requires within { at + 20 ≤ FLASH_WORDS }
+    requires blank { AreFilled (F.state flash.old).words at 20 BLANK }
+    ensures puts { PutsInSlot (F.state flash.old).words at words.now (F.state flash.new).words }
+    ensures done { OnOk result (IsPut (F.state flash.new).words at words.now) }
+    ensures light { Lights (F.state flash.old) (F.state flash.new) result }
+{
+    flash.program(at, words)?;
+    mark(flash, at + RECORD_WORDS)?;
+    Ok(())
+}
+
+/// Returns true if all words of a slot are blank.
+pub fn is_blank<F: Flash>(flash: &mut F, at: u32) -> Result<bool, DeviceErr>
+    requires lit { (F.state flash.old).dark ≡ false }
+    requires within { at + 20 ≤ FLASH_WORDS }
+    ensures blank { IfOk result (λ b. b ≡ true → AreFilled (F.state flash.old).words at 20 BLANK) }
+    ensures words { (F.state flash.new).words ≡ (F.state flash.old).words }
+    ensures light { Lights (F.state flash.old) (F.state flash.new) result }
+{
+    for k in 0..SLOT_WORDS {
+        if flash.read(at + k)? != BLANK {
+            return Ok(false);
+        }
+    }
+    Ok(true)
+}

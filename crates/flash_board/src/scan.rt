@@ -1,0 +1,59 @@
+//! The scan of an area at power-on.
+ghost use Rattle.std.specs.Prelude.{◌≡◌, ◌≤◌, ◌<◌, ◌+◌, false, IfOk};
+ghost use Rattle.flash_board.specs.FlashCalls.{Lights};
+ghost use Rattle.flash_board.specs.PageTables.{IsPageTable, AreFree};
+ghost use Rattle.flash_board.specs.FlashLogs.{base_in};
+ghost use Rattle.flash_board.specs.declared.layout.TheConstants.{SLOTS};
+
+use crate::flash::Flash;
+use crate::image::{Table, blank_table};
+use crate::layout::{NUMBER_PLACE, PAGES, RECORD_WORDS, SLOTS, slot_at};
+use crate::record::{is_blank, is_marked};
+use nvm_board::DeviceErr;
+
+/// Takes one slot more into the table, and returns the first slot that is free.
+fn scan_slot<F: Flash>(
+    flash: &mut F,
+    area: u8,
+    slot: u16,
+    next: u16,
+    table: &mut Table,
+) -> Result<u16, DeviceErr>
+    requires lit { (F.state flash.old).dark ≡ false }
+    requires below { slot < SLOTS }
+    requires index { IsPageTable (F.state flash.old).words (base_in area) slot table.old }
+    requires free { AreFree (F.state flash.old).words (base_in area) next slot }
+    ensures index { IfOk result (λ _. IsPageTable (F.state flash.old).words (base_in area) (slot + 1) table.new) }
+    ensures free { IfOk result (λ n. AreFree (F.state flash.old).words (base_in area) n (slot + 1)) }
+    ensures words { (F.state flash.new).words ≡ (F.state flash.old).words }
+    ensures light { Lights (F.state flash.old) (F.state flash.new) result }
+{
+    let at = slot_at(area, slot);
+    if is_marked(flash, at + RECORD_WORDS)? {
+        let number = flash.read(at + NUMBER_PLACE)?;
+        if number < u32::from(PAGES) {
+            table[number as usize] = slot + 1;
+        }
+        return Ok(slot + 1);
+    }
+    if is_blank(flash, at)? {
+        return Ok(next);
+    }
+    Ok(slot + 1)
+}
+
+/// Finds the slot of each page, and returns the first slot that is free, with all that follow it.
+pub fn scan<F: Flash>(flash: &mut F, area: u8, table: &mut Table) -> Result<u16, DeviceErr>
+    requires lit { (F.state flash.old).dark ≡ false }
+    ensures index { IfOk result (λ _. IsPageTable (F.state flash.old).words (base_in area) SLOTS table.new) }
+    ensures free { IfOk result (λ n. AreFree (F.state flash.old).words (base_in area) n SLOTS) }
+    ensures words { (F.state flash.new).words ≡ (F.state flash.old).words }
+    ensures light { Lights (F.state flash.old) (F.state flash.new) result }
+{
+    *table = blank_table();
+    let mut next = 0;
+    for slot in 0..SLOTS {
+        next = scan_slot(flash, area, slot, next, table)?;
+    }
+    Ok(next)
+}

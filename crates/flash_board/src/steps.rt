@@ -1,0 +1,135 @@
+//! The steps of a read and a write of the log.
+ghost use Rattle.std.specs.Prelude.{◌≡◌, ◌⊎◌, ◌<◌, ◌≤◌, ◌+◌, ◌*◌, true, false, length, slice_index, IfOk, OnOk};
+ghost use Rattle.nvm_board.specs.Torn.{written};
+ghost use Rattle.flash_board.specs.FlashCalls.{Lights};
+ghost use Rattle.flash_board.specs.FlashLogs.{words_of};
+ghost use Rattle.flash_board.specs.Places.{IsLog, IsPlaceOf};
+ghost use Rattle.flash_board.specs.declared.layout.TheConstants.{SLOTS};
+
+use crate::flash::Flash;
+use crate::image::read_word;
+use crate::layout::SLOTS;
+use crate::place::Place;
+use crate::scan::scan;
+use crate::turns::{find_turn, home, move_to_a, move_to_b, pass_witness};
+use crate::writing::write_run;
+use nvm_board::DeviceErr;
+
+/// Passes over the slots that were tried.
+fn later(next: u16, tried: u16) -> u16
+    requires { next ≤ SLOTS }
+    ensures least { next ≤ result }
+    ensures most { result ≤ SLOTS }
+{
+    if next < tried && tried <= SLOTS {
+        tried
+    } else {
+        next
+    }
+}
+
+/// Finds the pages, if they are not known.
+pub fn settle<F: Flash>(flash: &mut F, place: &mut Place) -> Result<(), DeviceErr>
+    requires lit { (F.state flash.old).dark ≡ false }
+    requires log { IsLog (F.state flash.old).words place.old }
+    ensures words { (F.state flash.new).words ≡ (F.state flash.old).words }
+    ensures log { IsLog (F.state flash.new).words place.new }
+    ensures ready { OnOk result (place.new.ready ≡ true) }
+    ensures light { Lights (F.state flash.old) (F.state flash.new) result }
+{
+    if place.ready {
+        return Ok(());
+    }
+    let turn = find_turn(flash)?;
+    let next = scan(flash, home(turn), &mut place.table)?;
+    place.turn = turn;
+    place.next = later(next, place.tried);
+    place.ready = true;
+    Ok(())
+}
+
+/// Makes room for a record.
+pub fn make_room<F: Flash>(flash: &mut F, place: &mut Place) -> Result<(), DeviceErr>
+    requires lit { (F.state flash.old).dark ≡ false }
+    requires log { IsLog (F.state flash.old).words place.old }
+    requires ready { place.old.ready ≡ true }
+    ensures words { words_of (F.state flash.new).words ≡ words_of (F.state flash.old).words }
+    ensures log { IsLog (F.state flash.new).words place.new }
+    ensures ready { OnOk result (place.new.ready ≡ true) }
+    ensures room { OnOk result (place.new.next < SLOTS) }
+    ensures light { Lights (F.state flash.old) (F.state flash.new) result }
+{
+    if place.next < SLOTS {
+        return Ok(());
+    }
+    place.ready = false;
+    place.tried = 0;
+    if place.turn == 0 {
+        let next = move_to_b(flash, &mut place.table)?;
+        place.turn = 1;
+        place.next = next;
+        place.ready = true;
+        return Ok(());
+    }
+    if place.turn == 1 {
+        pass_witness(flash)?;
+    }
+    let next = move_to_a(flash, &mut place.table)?;
+    place.turn = 0;
+    place.next = next;
+    place.ready = true;
+    Ok(())
+}
+
+/// Reads a word of the board.
+pub fn read_at<F: Flash>(flash: &mut F, place: &mut Place, at: u16) -> Result<u32, DeviceErr>
+    requires lit { (F.state flash.old).dark ≡ false }
+    requires log { IsLog (F.state flash.old).words place.old }
+    requires at { at < 16384 }
+    ensures word { IfOk result (λ w. w ≡ slice_index (words_of (F.state flash.old).words) at) }
+    ensures words { (F.state flash.new).words ≡ (F.state flash.old).words }
+    ensures log { IsLog (F.state flash.new).words place.new }
+    ensures light { Lights (F.state flash.old) (F.state flash.new) result }
+{
+    settle(flash, place)?;
+    let word = read_word(flash, home(place.turn), &place.table, at / 16, at % 16)?;
+    Ok(word)
+}
+
+/// Writes a run of a page. At every exit all words of the run are old, or all are new.
+pub fn write_at<F: Flash>(
+    flash: &mut F,
+    place: &mut Place,
+    page: u16,
+    first: u8,
+    words: &[u32],
+) -> Result<(), DeviceErr>
+    requires lit { (F.state flash.old).dark ≡ false }
+    requires log { IsLog (F.state flash.old).words place.old }
+    requires page { page < 1024 }
+    requires run { first + length words.now ≤ 16 }
+    ensures whole { (words_of (F.state flash.new).words ≡ words_of (F.state flash.old).words)
+        ⊎ (words_of (F.state flash.new).words
+        ≡ written (words_of (F.state flash.old).words) (16 * page + first) words.now) }
+    ensures done { OnOk result (words_of (F.state flash.new).words
+        ≡ written (words_of (F.state flash.old).words) (16 * page + first) words.now) }
+    ensures log { IsLog (F.state flash.new).words place.new }
+    ensures light { Lights (F.state flash.old) (F.state flash.new) result }
+{
+    settle(flash, place)?;
+    make_room(flash, place)?;
+    place.ready = false;
+    place.tried = place.next + 1;
+    write_run(
+        flash,
+        home(place.turn),
+        &mut place.table,
+        place.next,
+        page,
+        first,
+        words,
+    )?;
+    place.next += 1;
+    place.ready = true;
+    Ok(())
+}

@@ -1,0 +1,48 @@
+//! A write of the board: a record in a free slot.
+ghost use Rattle.std.specs.Prelude.{◌≡◌, ◌⊎◌, ◌<◌, ◌≤◌, ◌+◌, ◌*◌, false, length, OnOk};
+ghost use Rattle.nvm_board.specs.Torn.{written};
+ghost use Rattle.flash_board.specs.FlashCalls.{Lights};
+ghost use Rattle.flash_board.specs.PageTables.{IsPageTable, AreFree};
+ghost use Rattle.flash_board.specs.FlashLogs.{base_in, turn_of, words_of};
+ghost use Rattle.flash_board.specs.Rings.{SameMarks};
+ghost use Rattle.flash_board.specs.declared.layout.TheConstants.{SLOTS};
+
+use crate::flash::Flash;
+use crate::image::{Table, overlay, record_of};
+use crate::layout::slot_at;
+use crate::record::put_record;
+use nvm_board::DeviceErr;
+
+/// Writes a run of a page. At every exit all words of the run are old, or all are new.
+pub fn write_run<F: Flash>(
+    flash: &mut F,
+    area: u8,
+    table: &mut Table,
+    next: u16,
+    page: u16,
+    first: u8,
+    words: &[u32],
+) -> Result<(), DeviceErr>
+    requires lit { (F.state flash.old).dark ≡ false }
+    requires home { base_in area ≡ base_in (turn_of (F.state flash.old).words) }
+    requires index { IsPageTable (F.state flash.old).words (base_in area) SLOTS table.old }
+    requires free { AreFree (F.state flash.old).words (base_in area) next SLOTS }
+    requires room { next < SLOTS }
+    requires page { page < 1024 }
+    requires run { first + length words.now ≤ 16 }
+    ensures whole { (words_of (F.state flash.new).words ≡ words_of (F.state flash.old).words)
+        ⊎ (words_of (F.state flash.new).words
+        ≡ written (words_of (F.state flash.old).words) (16 * page + first) words.now) }
+    ensures done { OnOk result (words_of (F.state flash.new).words
+        ≡ written (words_of (F.state flash.old).words) (16 * page + first) words.now) }
+    ensures index { OnOk result (IsPageTable (F.state flash.new).words (base_in area) SLOTS table.new) }
+    ensures free { OnOk result (AreFree (F.state flash.new).words (base_in area) (next + 1) SLOTS) }
+    ensures marks { SameMarks (F.state flash.old).words (F.state flash.new).words }
+    ensures light { Lights (F.state flash.old) (F.state flash.new) result }
+{
+    let mut found = record_of(flash, area, table, page)?;
+    overlay(&mut found, first, words);
+    put_record(flash, slot_at(area, next), &found)?;
+    table[usize::from(page)] = next + 1;
+    Ok(())
+}
