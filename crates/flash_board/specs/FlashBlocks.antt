@@ -1,5 +1,5 @@
 -- Where the blocks of a flash lie.
-use Rattle.std.specs.Prelude.{ℕ, zero, suc, nat_eq, if◌then◌else◌}
+use Rattle.std.specs.Prelude.{ℕ, nat_eq, if◌then◌else◌}
 
 -- the address of a block: area A, area B, the witness
 abbrev pub block_start : ℕ → ℕ

@@ -1,6 +1,5 @@
 -- The table of a board's pages, and the free slots.
-use Rattle.std.specs.Prelude.{◌≡◌, ◌≤◌, ◌<◌, ◌+◌, ℕ, false, List, slice_index}
-use Rattle.flash_board.specs.declared.layout.TheConstants.{SLOTS}
+use Rattle.std.specs.Prelude.{◌≡◌, ◌≤◌, ◌<◌, ℕ, List, slice_index}
 use Rattle.flash_board.specs.declared.flash.TheConstants.{BLANK}
 use Rattle.flash_board.specs.FlashCalls.{AreFilled}
 use Rattle.flash_board.specs.FlashLogs.{find, slot_of}

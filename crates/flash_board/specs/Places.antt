@@ -1,8 +1,10 @@
 -- Where the pages are, as working memory knows it.
-use Rattle.std.specs.Prelude.{◌≡◌, ◌<◌, ◌≤◌, ℕ, Bool, true, false, List, slice_index}
+use Rattle.std.specs.Prelude.{◌≡◌, ◌<◌, ℕ, true, List}
 use Rattle.flash_board.specs.declared.layout.TheConstants.{SLOTS}
 use Rattle.flash_board.specs.declared.place.Place.{Place}
-use Rattle.flash_board.specs.FlashCalls.{FlashState}
+use Rattle.flash_board.specs.declared.flash_log.OpenFault.{OpenFault}
+use Rattle.flash_board.specs.declared.flash_log.OpenFault.TheVariants.{NoLog, PowerLost, Fault}
+use Rattle.flash_board.specs.FlashCalls.{FlashState, GoesOut, HasFailed}
 use Rattle.flash_board.specs.PageTables.{IsPageTable, AreFree}
 use Rattle.flash_board.specs.FlashLogs.{base_in, turn_of, words_of}
 use Rattle.flash_board.specs.Rings.{IsRing}
@@ -19,6 +21,12 @@ pub record IsLog (m : List ℕ) (p : Place) : Type 0 where
   pub ring : IsRing m
   pub known : p.ready ≡ true → IsPlaceOf m p
 
--- A flash with the words that it stands for in place of its own.
+-- A flash with the words of its board in place of its own.
 abbrev pub state_of : FlashState → FlashState
-state_of s = record { words = words_of s.words; dark = s.dark; due = s.due; faults = s.faults }
+state_of s = record { words = words_of s.words; dark = s.dark; due = s.due; faults = s.faults; operations = s.operations }
+
+-- Why a flash is not taken: it has no log, and nothing changed; power was lost; or it failed. No word changed.
+abbrev pub OpenStopsBy : OpenFault → FlashState → FlashState → Type 0
+OpenStopsBy NoLog old new = (new ≡ old) × ¬ IsRing old.words
+OpenStopsBy PowerLost old new = GoesOut old new × (new.words ≡ old.words)
+OpenStopsBy Fault old new = HasFailed old new × (new.words ≡ old.words)

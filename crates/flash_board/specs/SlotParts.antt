@@ -1,5 +1,5 @@
 -- What putting a record leaves.
-use Rattle.std.specs.Prelude.{◌≡◌, ◌⊎◌, ◌<◌, ◌+◌, ℕ, true, false, List, length, slice_index}
+use Rattle.std.specs.Prelude.{◌≡◌, ◌⊎◌, ◌+◌, ℕ, true, false, List}
 use Rattle.flash_board.specs.FlashCalls.{SameElsewhere, IsThere}
 use Rattle.flash_board.specs.FlashLogs.{is_marked}
 

@@ -28,6 +28,7 @@ pub trait Flash {
         requires within { at < FLASH_WORDS }
         ensures word { IfOk result (λ w. w ≡ slice_index (state self.old).words at) }
         ensures words { (state self.new).words ≡ (state self.old).words }
+        ensures work { (state self.new).operations ≡ (state self.old).operations }
         ensures light { Lights (state self.old) (state self.new) result };
 
     /// Programs words from an address on, where all words are blank. After an error each word of the run holds
@@ -38,6 +39,7 @@ pub trait Flash {
         requires within { at + length words.now ≤ FLASH_WORDS }
         ensures done { OnOk result (IsThere (state self.new).words at words.now) }
         ensures elsewhere { SameElsewhere (state self.old).words at (length words.now) (state self.new).words }
+        ensures work { (state self.new).operations ≤ (state self.old).operations + 1 }
         ensures light { Lights (state self.old) (state self.new) result };
 
     /// Erases a block. After an error each of its words holds anything. No other word changes.
@@ -47,6 +49,7 @@ pub trait Flash {
         ensures done { OnOk result (AreFilled (state self.new).words (block_start block) (block_size block) BLANK) }
         ensures elsewhere { SameElsewhere (state self.old).words (block_start block) (block_size block)
             (state self.new).words }
+        ensures work { (state self.new).operations ≤ (state self.old).operations + 1 }
         ensures light { Lights (state self.old) (state self.new) result };
 
     /// Each flash has all its words, of 32 bits.

@@ -30,18 +30,17 @@ pub struct FlashBoard<F: Flash> {
     ghost compares_fit: { All (λ n. n ≤ COUNT_END) compares },
     ghost matches_fit: { All (λ n. n ≤ COUNT_END) matches },
     ghost may_go: { dark ≡ false → cuts < COUNT_END },
+    ghost faults_are_its_own: { faults ≤ log.faults },
 }
 
 impl<F: Flash> FlashBoard<F> {
     ghost use Rattle.nvm_board.specs.Facts.{IsWorn, IsWornOut, raised};
-    ghost use Rattle.flash_board.specs.FlashFacts.{flash_facts};
-    ghost use Rattle.flash_board.specs.FlashCalls.{FlashState};
+    ghost use Rattle.flash_board.specs.FlashFacts.{flash_facts, made_of};
 
     /// The board of a log that has power. Its counts are 0.
     pub fn new(log: FlashLog<F>) -> FlashBoard<F>
         requires { log.dark ≡ false }
-        ensures words { (flash_facts result).words ≡ log.words }
-        ensures lit { (flash_facts result).dark ≡ false }
+        ensures { flash_facts result ≡ made_of log }
     {
         log.words_fit();
         FlashBoard {
@@ -57,7 +56,10 @@ impl<F: Flash> FlashBoard<F> {
 
     /// Gives the log back.
     pub fn into_log(self) -> FlashLog<F>
-        ensures { result.words ≡ (flash_facts self).words }
+        ensures words { result.words ≡ (flash_facts self).words }
+        ensures due { result.due ≡ (flash_facts self).due }
+        // A fault of the board is one of its flash.
+        ensures faults { (flash_facts self).faults ≤ result.faults }
     {
         self.log
     }

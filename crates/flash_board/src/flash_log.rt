@@ -2,7 +2,8 @@
 ghost use Rattle.std.specs.Prelude.{◌≡◌, ◌⊎◌, ◌<◌, ◌≤◌, ◌+◌, ◌*◌, true, false, length, slice_index, IfOk, IfErr, OnOk};
 ghost use Rattle.nvm_board.specs.Facts.{AreWords};
 ghost use Rattle.nvm_board.specs.Torn.{written};
-ghost use Rattle.flash_board.specs.FlashCalls.{Lights};
+ghost use Rattle.flash_board.specs.FlashCalls.{Costs, Lights, Tries};
+ghost use Rattle.flash_board.specs.declared.layout.TheConstants.{TRIES};
 
 use crate::flash::{Flash, FlashSocket};
 use crate::image::blank_table;
@@ -42,8 +43,7 @@ impl<F: Flash> Model for FlashLog<F> {
 }
 
 impl<F: Flash> FlashLog<F> {
-    ghost use Rattle.flash_board.specs.FlashLogs.{words_of};
-    ghost use Rattle.flash_board.specs.Places.{state_of};
+    ghost use Rattle.flash_board.specs.Places.{OpenStopsBy, state_of};
     ghost use Rattle.flash_board.specs.Rings.{IsRing};
 
     /// The log of a flash that has one.
@@ -69,8 +69,9 @@ impl<F: Flash> FlashLog<F> {
     /// The flash has no log, power was lost, or the flash failed.
     pub fn open(flash: F) -> Result<FlashLog<F>, (F, OpenFault)>
         requires { (F.state flash).dark ≡ false }
-        ensures is { IfOk result (λ l. (l.words ≡ words_of (F.state flash).words) × (l.dark ≡ false)) }
-        ensures none { IfErr result (λ e. (F.state e.0).words ≡ (F.state flash).words) }
+        ensures log { IfOk result (λ l. l ≡ state_of (F.state flash)) }
+        ensures has_log { IfOk result (λ _. IsRing (F.state flash).words) }
+        ensures stopped { IfErr result (λ e. OpenStopsBy e.1 (F.state flash) (F.state e.0)) }
     {
         let mut flash = flash;
         match has_ring(&mut flash) {
@@ -104,6 +105,7 @@ impl<F: Flash> FlashLog<F> {
         requires at { at < 16384 }
         ensures word { IfOk result (λ w. w ≡ slice_index self.old.words at) }
         ensures words { self.new.words ≡ self.old.words }
+        ensures work { self.new.operations ≡ self.old.operations }
         ensures light { Lights self.old self.new result }
     {
         read_at(&mut self.flash, &mut self.place, at)
@@ -117,7 +119,8 @@ impl<F: Flash> FlashLog<F> {
         ensures whole { (self.new.words ≡ self.old.words)
             ⊎ (self.new.words ≡ written self.old.words (16 * page + first) words.now) }
         ensures done { OnOk result (self.new.words ≡ written self.old.words (16 * page + first) words.now) }
-        ensures light { Lights self.old self.new result }
+        ensures light { Tries TRIES self.old self.new result }
+        ensures work { Costs 2054 2056 self.old self.new }
     {
         write_at(&mut self.flash, &mut self.place, page, first, words)
     }

@@ -33,6 +33,7 @@ pub fn read_word<F: Flash>(
     requires place { place < 16 }
     ensures word { IfOk result (λ w. w ≡ page_word (F.state flash.old).words (base_in area) SLOTS page place) }
     ensures words { (F.state flash.new).words ≡ (F.state flash.old).words }
+    ensures work { (F.state flash.new).operations ≡ (F.state flash.old).operations }
     ensures light { Lights (F.state flash.old) (F.state flash.new) result }
 {
     let found = table[usize::from(page)];
@@ -57,6 +58,7 @@ pub fn record_of<F: Flash>(
         → slice_index r k ≡ page_word (F.state flash.old).words (base_in area) SLOTS page k) }
     ensures names { IfOk result (λ r. slice_index r 16 ≡ page) }
     ensures words { (F.state flash.new).words ≡ (F.state flash.old).words }
+    ensures work { (F.state flash.new).operations ≡ (F.state flash.old).operations }
     ensures light { Lights (F.state flash.old) (F.state flash.new) result }
 {
     let mut found: Record = [0; 18];

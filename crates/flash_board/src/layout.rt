@@ -9,6 +9,12 @@ pub const PAGES: u16 = 1024;
 /// The number of slots of an area.
 pub const SLOTS: u16 = 1280;
 
+/// The number of slots of an area that a move may pass over, since they fail.
+pub const SPARES: u16 = 255;
+
+/// The number of times that a write is tried, until a Fault of the flash is returned.
+pub const TRIES: u8 = 8;
+
 /// The number of words of a slot: a record, and its mark.
 pub const SLOT_WORDS: u32 = 20;
 

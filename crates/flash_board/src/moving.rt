@@ -1,16 +1,46 @@
 //! Copies of the pages to another area.
-ghost use Rattle.std.specs.Prelude.{◌≡◌, ◌<◌, ◌≤◌, ◌+◌, false, slice_index, IfOk};
-ghost use Rattle.flash_board.specs.FlashCalls.{Lights, SameElsewhere};
-ghost use Rattle.flash_board.specs.CopyParts.{CopiesPage, HasCopied};
+ghost use Rattle.std.specs.Prelude.{◌≡◌, ◌<◌, ◌≤◌, ◌+◌, ◌-◌, false, slice_index, IfOk};
+ghost use Rattle.flash_board.specs.FlashCalls.{Costs, SameElsewhere, Tries};
+ghost use Rattle.flash_board.specs.CopyParts.{CopiesPage, HasCopied, KeepsOthers};
 ghost use Rattle.flash_board.specs.PageTables.{IsPageTable, AreFree};
-ghost use Rattle.flash_board.specs.FlashLogs.{base_in, find};
-ghost use Rattle.flash_board.specs.declared.layout.TheConstants.{SLOTS};
+ghost use Rattle.flash_board.specs.FlashLogs.{base_in, find, slot_of};
+ghost use Rattle.flash_board.specs.SlotParts.{IsPut};
+ghost use Rattle.flash_board.specs.declared.layout.TheConstants.{SLOTS, SPARES};
 
 use crate::flash::Flash;
 use crate::image::{Table, record_of};
-use crate::layout::{PAGES, slot_at};
-use crate::record::put_record;
+use crate::layout::{PAGES, SPARES, slot_at};
+use crate::record::{Record, put_record};
 use nvm_board::DeviceErr;
+
+/// Puts a record into the first slot from `next` on that takes it, below `end`. A slot that fails is passed over.
+fn put_in_spare<F: Flash>(
+    flash: &mut F,
+    area: u8,
+    next: u16,
+    end: u16,
+    words: &Record,
+) -> Result<u16, DeviceErr>
+    requires lit { (F.state flash.old).dark ≡ false }
+    requires some { next < end }
+    requires end { end ≤ SLOTS }
+    requires free { AreFree (F.state flash.old).words (base_in area) next SLOTS }
+    ensures elsewhere { SameElsewhere (F.state flash.old).words (base_in area) 25600 (F.state flash.new).words }
+    ensures put { IfOk result (λ s. s < end × IsPut (F.state flash.new).words (slot_of (base_in area) s) words.now
+        × KeepsOthers (F.state flash.old).words (base_in area) (slice_index words.now 16) (F.state flash.new).words
+        (s + 1)) }
+    ensures light { Tries (end - next) (F.state flash.old) (F.state flash.new) result }
+    ensures work { Costs 2 2 (F.state flash.old) (F.state flash.new) }
+{
+    for slot in next..end {
+        match put_record(flash, slot_at(area, slot), words) {
+            Ok(()) => return Ok(slot),
+            Err(DeviceErr::PowerLost) => return Err(DeviceErr::PowerLost),
+            Err(DeviceErr::Fault) => {}
+        }
+    }
+    Err(DeviceErr::Fault)
+}
 
 /// Copies a page to a free slot of the other area, and returns the first one that is free after it. A page that was
 /// never written takes no slot.
@@ -24,23 +54,24 @@ fn copy_page<F: Flash>(
 ) -> Result<u16, DeviceErr>
     requires lit { (F.state flash.old).dark ≡ false }
     requires page { page < 1024 }
-    requires next { next ≤ page }
+    requires next { next ≤ page + SPARES }
     requires entry { slice_index table.old page ≡ find (F.state flash.old).words (base_in from) SLOTS page }
     requires left { find (F.state flash.old).words (base_in to) SLOTS page ≡ 0 }
     requires free { AreFree (F.state flash.old).words (base_in to) next SLOTS }
     ensures elsewhere { SameElsewhere (F.state flash.old).words (base_in to) 25600 (F.state flash.new).words }
     ensures copies { IfOk result (λ n. CopiesPage (F.state flash.old).words table.old (base_in from) (base_in to) page
         (F.state flash.new).words table.new n) }
-    ensures more { IfOk result (λ n. n ≤ next + 1) }
-    ensures light { Lights (F.state flash.old) (F.state flash.new) result }
+    ensures more { IfOk result (λ n. n ≤ page + 1 + SPARES) }
+    ensures light { Tries 1 (F.state flash.old) (F.state flash.new) result }
+    ensures work { Costs 2 2 (F.state flash.old) (F.state flash.new) }
 {
     if table[usize::from(page)] == 0 {
         return Ok(next);
     }
     let found = record_of(flash, from, table, page)?;
-    put_record(flash, slot_at(to, next), &found)?;
-    table[usize::from(page)] = next + 1;
-    Ok(next + 1)
+    let slot = put_in_spare(flash, to, next, page + 1 + SPARES, &found)?;
+    table[usize::from(page)] = slot + 1;
+    Ok(slot + 1)
 }
 
 /// Copies all pages to an erased area, and returns the first slot that is free.
@@ -57,7 +88,8 @@ pub fn copy_pages<F: Flash>(
     ensures elsewhere { SameElsewhere (F.state flash.old).words (base_in to) 25600 (F.state flash.new).words }
     ensures copied { IfOk result (λ n. HasCopied (F.state flash.old).words table.old (base_in from) (base_in to) 1024
         (F.state flash.new).words table.new n) }
-    ensures light { Lights (F.state flash.old) (F.state flash.new) result }
+    ensures light { Tries 1 (F.state flash.old) (F.state flash.new) result }
+    ensures work { Costs 2048 2 (F.state flash.old) (F.state flash.new) }
 {
     let mut next = 0;
     for page in 0..PAGES {

@@ -18,6 +18,7 @@ pub fn is_marked<F: Flash>(flash: &mut F, at: u32) -> Result<bool, DeviceErr>
     requires within { at + 2 ≤ FLASH_WORDS }
     ensures marked { IfOk result (λ b. b ≡ has_mark (F.state flash.old).words at) }
     ensures words { (F.state flash.new).words ≡ (F.state flash.old).words }
+    ensures work { (F.state flash.new).operations ≡ (F.state flash.old).operations }
     ensures light { Lights (F.state flash.old) (F.state flash.new) result }
 {
     let first = flash.read(at)?;
@@ -32,6 +33,7 @@ pub fn mark<F: Flash>(flash: &mut F, at: u32) -> Result<(), DeviceErr>
     requires within { at + 2 ≤ FLASH_WORDS }
     ensures done { OnOk result (has_mark (F.state flash.new).words at ≡ true) }
     ensures elsewhere { SameElsewhere (F.state flash.old).words at 2 (F.state flash.new).words }
+    ensures work { (F.state flash.new).operations ≤ (F.state flash.old).operations + 1 }
     ensures light { Lights (F.state flash.old) (F.state flash.new) result }
 {
     flash.program(at, &[FIRST_MARK, SECOND_MARK])?;
@@ -44,6 +46,7 @@ pub fn is_closed<F: Flash>(flash: &mut F, at: u32) -> Result<bool, DeviceErr>
     requires within { at + 2 ≤ FLASH_WORDS }
     ensures closed { IfOk result (λ b. b ≡ has_closed (F.state flash.old).words at) }
     ensures words { (F.state flash.new).words ≡ (F.state flash.old).words }
+    ensures work { (F.state flash.new).operations ≡ (F.state flash.old).operations }
     ensures light { Lights (F.state flash.old) (F.state flash.new) result }
 {
     let first = flash.read(at)?;
@@ -61,6 +64,7 @@ pub fn close<F: Flash>(flash: &mut F, at: u32) -> Result<(), DeviceErr>
     requires within { at + 2 ≤ FLASH_WORDS }
     ensures done { OnOk result (has_closed (F.state flash.new).words at ≡ true) }
     ensures elsewhere { SameElsewhere (F.state flash.old).words at 2 (F.state flash.new).words }
+    ensures work { (F.state flash.new).operations ≤ (F.state flash.old).operations + 1 }
     ensures light { Lights (F.state flash.old) (F.state flash.new) result }
 {
     flash.program(at, &[FIRST_MARK, SECOND_MARK])?;
@@ -75,6 +79,7 @@ pub fn put_record<F: Flash>(flash: &mut F, at: u32, words: &Record) -> Result<()
     requires blank { AreFilled (F.state flash.old).words at 20 BLANK }
     ensures puts { PutsInSlot (F.state flash.old).words at words.now (F.state flash.new).words }
     ensures done { OnOk result (IsPut (F.state flash.new).words at words.now) }
+    ensures work { (F.state flash.new).operations ≤ (F.state flash.old).operations + 2 }
     ensures light { Lights (F.state flash.old) (F.state flash.new) result }
 {
     flash.program(at, words)?;
@@ -88,6 +93,7 @@ pub fn is_blank<F: Flash>(flash: &mut F, at: u32) -> Result<bool, DeviceErr>
     requires within { at + 20 ≤ FLASH_WORDS }
     ensures blank { IfOk result (λ b. b ≡ true → AreFilled (F.state flash.old).words at 20 BLANK) }
     ensures words { (F.state flash.new).words ≡ (F.state flash.old).words }
+    ensures work { (F.state flash.new).operations ≡ (F.state flash.old).operations }
     ensures light { Lights (F.state flash.old) (F.state flash.new) result }
 {
     for k in 0..SLOT_WORDS {

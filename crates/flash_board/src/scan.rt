@@ -26,6 +26,7 @@ fn scan_slot<F: Flash>(
     ensures index { IfOk result (λ _. IsPageTable (F.state flash.old).words (base_in area) (slot + 1) table.new) }
     ensures free { IfOk result (λ n. AreFree (F.state flash.old).words (base_in area) n (slot + 1)) }
     ensures words { (F.state flash.new).words ≡ (F.state flash.old).words }
+    ensures work { (F.state flash.new).operations ≡ (F.state flash.old).operations }
     ensures light { Lights (F.state flash.old) (F.state flash.new) result }
 {
     let at = slot_at(area, slot);
@@ -48,6 +49,7 @@ pub fn scan<F: Flash>(flash: &mut F, area: u8, table: &mut Table) -> Result<u16,
     ensures index { IfOk result (λ _. IsPageTable (F.state flash.old).words (base_in area) SLOTS table.new) }
     ensures free { IfOk result (λ n. AreFree (F.state flash.old).words (base_in area) n SLOTS) }
     ensures words { (F.state flash.new).words ≡ (F.state flash.old).words }
+    ensures work { (F.state flash.new).operations ≡ (F.state flash.old).operations }
     ensures light { Lights (F.state flash.old) (F.state flash.new) result }
 {
     *table = blank_table();

@@ -1,14 +1,14 @@
 //! The steps of a read and a write of the log.
 ghost use Rattle.std.specs.Prelude.{◌≡◌, ◌⊎◌, ◌<◌, ◌≤◌, ◌+◌, ◌*◌, true, false, length, slice_index, IfOk, OnOk};
 ghost use Rattle.nvm_board.specs.Torn.{written};
-ghost use Rattle.flash_board.specs.FlashCalls.{Lights};
+ghost use Rattle.flash_board.specs.FlashCalls.{Costs, Lights, Tries};
 ghost use Rattle.flash_board.specs.FlashLogs.{words_of};
 ghost use Rattle.flash_board.specs.Places.{IsLog, IsPlaceOf};
-ghost use Rattle.flash_board.specs.declared.layout.TheConstants.{SLOTS};
+ghost use Rattle.flash_board.specs.declared.layout.TheConstants.{SLOTS, TRIES};
 
 use crate::flash::Flash;
 use crate::image::read_word;
-use crate::layout::SLOTS;
+use crate::layout::{SLOTS, TRIES};
 use crate::place::Place;
 use crate::scan::scan;
 use crate::turns::{find_turn, home, move_to_a, move_to_b, pass_witness};
@@ -33,6 +33,7 @@ pub fn settle<F: Flash>(flash: &mut F, place: &mut Place) -> Result<(), DeviceEr
     requires lit { (F.state flash.old).dark ≡ false }
     requires log { IsLog (F.state flash.old).words place.old }
     ensures words { (F.state flash.new).words ≡ (F.state flash.old).words }
+    ensures work { (F.state flash.new).operations ≡ (F.state flash.old).operations }
     ensures log { IsLog (F.state flash.new).words place.new }
     ensures ready { OnOk result (place.new.ready ≡ true) }
     ensures light { Lights (F.state flash.old) (F.state flash.new) result }
@@ -57,7 +58,8 @@ pub fn make_room<F: Flash>(flash: &mut F, place: &mut Place) -> Result<(), Devic
     ensures log { IsLog (F.state flash.new).words place.new }
     ensures ready { OnOk result (place.new.ready ≡ true) }
     ensures room { OnOk result (place.new.next < SLOTS) }
-    ensures light { Lights (F.state flash.old) (F.state flash.new) result }
+    ensures light { Tries 1 (F.state flash.old) (F.state flash.new) result }
+    ensures work { Costs 2052 2 (F.state flash.old) (F.state flash.new) }
 {
     if place.next < SLOTS {
         return Ok(());
@@ -88,6 +90,7 @@ pub fn read_at<F: Flash>(flash: &mut F, place: &mut Place, at: u16) -> Result<u3
     requires at { at < 16384 }
     ensures word { IfOk result (λ w. w ≡ slice_index (words_of (F.state flash.old).words) at) }
     ensures words { (F.state flash.new).words ≡ (F.state flash.old).words }
+    ensures work { (F.state flash.new).operations ≡ (F.state flash.old).operations }
     ensures log { IsLog (F.state flash.new).words place.new }
     ensures light { Lights (F.state flash.old) (F.state flash.new) result }
 {
@@ -96,8 +99,8 @@ pub fn read_at<F: Flash>(flash: &mut F, place: &mut Place, at: u16) -> Result<u3
     Ok(word)
 }
 
-/// Writes a run of a page. At every exit all words of the run are old, or all are new.
-pub fn write_at<F: Flash>(
+/// Writes a run of a page, or fails once. At every exit all words of the run are old, or all are new.
+fn write_once<F: Flash>(
     flash: &mut F,
     place: &mut Place,
     page: u16,
@@ -114,7 +117,8 @@ pub fn write_at<F: Flash>(
     ensures done { OnOk result (words_of (F.state flash.new).words
         ≡ written (words_of (F.state flash.old).words) (16 * page + first) words.now) }
     ensures log { IsLog (F.state flash.new).words place.new }
-    ensures light { Lights (F.state flash.old) (F.state flash.new) result }
+    ensures light { Tries 1 (F.state flash.old) (F.state flash.new) result }
+    ensures work { Costs 2054 2 (F.state flash.old) (F.state flash.new) }
 {
     settle(flash, place)?;
     make_room(flash, place)?;
@@ -132,4 +136,36 @@ pub fn write_at<F: Flash>(
     place.next += 1;
     place.ready = true;
     Ok(())
+}
+
+/// Writes a run of a page. At every exit all words of the run are old, or all are new. A Fault of
+/// the flash is returned only if as many tries failed, each in a slot that the others didn't use.
+pub fn write_at<F: Flash>(
+    flash: &mut F,
+    place: &mut Place,
+    page: u16,
+    first: u8,
+    words: &[u32],
+) -> Result<(), DeviceErr>
+    requires lit { (F.state flash.old).dark ≡ false }
+    requires log { IsLog (F.state flash.old).words place.old }
+    requires page { page < 1024 }
+    requires run { first + length words.now ≤ 16 }
+    ensures whole { (words_of (F.state flash.new).words ≡ words_of (F.state flash.old).words)
+        ⊎ (words_of (F.state flash.new).words
+        ≡ written (words_of (F.state flash.old).words) (16 * page + first) words.now) }
+    ensures done { OnOk result (words_of (F.state flash.new).words
+        ≡ written (words_of (F.state flash.old).words) (16 * page + first) words.now) }
+    ensures log { IsLog (F.state flash.new).words place.new }
+    ensures light { Tries TRIES (F.state flash.old) (F.state flash.new) result }
+    ensures work { Costs 2054 2056 (F.state flash.old) (F.state flash.new) }
+{
+    for _ in 1..TRIES {
+        match write_once(flash, place, page, first, words) {
+            Ok(()) => return Ok(()),
+            Err(DeviceErr::PowerLost) => return Err(DeviceErr::PowerLost),
+            Err(DeviceErr::Fault) => {}
+        }
+    }
+    write_once(flash, place, page, first, words)
 }

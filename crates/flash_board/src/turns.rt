@@ -1,12 +1,12 @@
 //! Whose turn it is: the three blocks stand in a ring, and the turn is that of the open block behind a closed one.
 //! In turn 0 the pages are in area A, in turns 1 and 2 in area B. The block behind that of the turn holds anything.
 ghost use Rattle.std.specs.Prelude.{◌≡◌, ◌≢◌, ◌⊎◌, ◌<◌, ◌≤◌, ◌+◌, ℕ, true, false, IfOk, OnOk, slice_index};
-ghost use Rattle.flash_board.specs.FlashCalls.{Lights, SameElsewhere};
+ghost use Rattle.flash_board.specs.FlashCalls.{Costs, Lights, SameElsewhere, Tries};
 ghost use Rattle.flash_board.specs.PageTables.{IsPageTable, AreFree};
 ghost use Rattle.flash_board.specs.FlashLogs.{base_in, close_of, page_word, turn_by, turn_of, words_of};
 ghost use Rattle.flash_board.specs.FlashLogs.{is_closed as has_closed};
 ghost use Rattle.flash_board.specs.Rings.{IsRing};
-ghost use Rattle.flash_board.specs.declared.layout.TheConstants.{SLOTS};
+ghost use Rattle.flash_board.specs.declared.layout.TheConstants.{SLOTS, SPARES};
 
 use crate::flash::Flash;
 use crate::image::Table;
@@ -31,6 +31,7 @@ pub fn find_turn<F: Flash>(flash: &mut F) -> Result<u8, DeviceErr>
     ensures turn { IfOk result (λ t. t ≡ turn_of (F.state flash.old).words) }
     ensures small { IfOk result (λ t. t < 3) }
     ensures words { (F.state flash.new).words ≡ (F.state flash.old).words }
+    ensures work { (F.state flash.new).operations ≡ (F.state flash.old).operations }
     ensures light { Lights (F.state flash.old) (F.state flash.new) result }
 {
     let a = is_closed(flash, 25600)?;
@@ -43,7 +44,9 @@ pub fn find_turn<F: Flash>(flash: &mut F) -> Result<u8, DeviceErr>
 pub fn has_ring<F: Flash>(flash: &mut F) -> Result<bool, DeviceErr>
     requires { (F.state flash.old).dark ≡ false }
     ensures ring { IfOk result (λ b. b ≡ true → IsRing (F.state flash.old).words) }
+    ensures none { IfOk result (λ b. b ≡ false → ¬ IsRing (F.state flash.old).words) }
     ensures words { (F.state flash.new).words ≡ (F.state flash.old).words }
+    ensures work { (F.state flash.new).operations ≡ (F.state flash.old).operations }
     ensures light { Lights (F.state flash.old) (F.state flash.new) result }
 {
     let a = is_closed(flash, 25600)?;
@@ -60,6 +63,7 @@ pub fn pass_witness<F: Flash>(flash: &mut F) -> Result<(), DeviceErr>
     ensures ring { IsRing (F.state flash.new).words }
     ensures area { SameElsewhere (F.state flash.old).words 51202 4 (F.state flash.new).words }
     ensures done { OnOk result (turn_of (F.state flash.new).words ≡ 2) }
+    ensures work { (F.state flash.new).operations ≤ (F.state flash.old).operations + 2 }
     ensures light { Lights (F.state flash.old) (F.state flash.new) result }
 {
     flash.erase(2)?;
@@ -79,8 +83,9 @@ fn fill<F: Flash>(flash: &mut F, from: u8, to: u8, table: &mut Table) -> Result<
         ≡ page_word (F.state flash.old).words (base_in from) SLOTS p k) }
     ensures index { OnOk result (IsPageTable (F.state flash.new).words (base_in to) SLOTS table.new) }
     ensures free { IfOk result (λ n. AreFree (F.state flash.new).words (base_in to) n SLOTS) }
-    ensures room { IfOk result (λ n. n ≤ 1024) }
-    ensures light { Lights (F.state flash.old) (F.state flash.new) result }
+    ensures room { IfOk result (λ n. n ≤ 1024 + SPARES) }
+    ensures light { Tries 1 (F.state flash.old) (F.state flash.new) result }
+    ensures work { Costs 2049 2 (F.state flash.old) (F.state flash.new) }
 {
     flash.erase(to)?;
     let next = copy_pages(flash, from, to, table)?;
@@ -98,8 +103,9 @@ pub fn move_to_b<F: Flash>(flash: &mut F, table: &mut Table) -> Result<u16, Devi
     ensures done { OnOk result (turn_of (F.state flash.new).words ≡ 1) }
     ensures index { OnOk result (IsPageTable (F.state flash.new).words 25602 SLOTS table.new) }
     ensures free { IfOk result (λ n. AreFree (F.state flash.new).words 25602 n SLOTS) }
-    ensures room { IfOk result (λ n. n ≤ 1024) }
-    ensures light { Lights (F.state flash.old) (F.state flash.new) result }
+    ensures room { IfOk result (λ n. n ≤ 1024 + SPARES) }
+    ensures light { Tries 1 (F.state flash.old) (F.state flash.new) result }
+    ensures work { Costs 2050 2 (F.state flash.old) (F.state flash.new) }
 {
     let next = fill(flash, 0, 1, table)?;
     close(flash, 25600)?;
@@ -116,8 +122,9 @@ pub fn move_to_a<F: Flash>(flash: &mut F, table: &mut Table) -> Result<u16, Devi
     ensures done { OnOk result (turn_of (F.state flash.new).words ≡ 0) }
     ensures index { OnOk result (IsPageTable (F.state flash.new).words 0 SLOTS table.new) }
     ensures free { IfOk result (λ n. AreFree (F.state flash.new).words 0 n SLOTS) }
-    ensures room { IfOk result (λ n. n ≤ 1024) }
-    ensures light { Lights (F.state flash.old) (F.state flash.new) result }
+    ensures room { IfOk result (λ n. n ≤ 1024 + SPARES) }
+    ensures light { Tries 1 (F.state flash.old) (F.state flash.new) result }
+    ensures work { Costs 2050 2 (F.state flash.old) (F.state flash.new) }
 {
     let next = fill(flash, 1, 0, table)?;
     close(flash, 51204)?;
@@ -143,6 +150,7 @@ pub fn format_flash<F: Flash>(flash: &mut F) -> Result<(), DeviceErr>
     requires { (F.state flash.old).dark ≡ false }
     ensures ring { OnOk result (IsRing (F.state flash.new).words) }
     ensures blank { OnOk result ((i : ℕ) → i < 16384 → slice_index (words_of (F.state flash.new).words) i ≡ 0) }
+    ensures work { (F.state flash.new).operations ≤ (F.state flash.old).operations + 4 }
     ensures light { Lights (F.state flash.old) (F.state flash.new) result }
 {
     flash.erase(0)?;

@@ -38,6 +38,7 @@ pub fn write_run<F: Flash>(
     ensures index { OnOk result (IsPageTable (F.state flash.new).words (base_in area) SLOTS table.new) }
     ensures free { OnOk result (AreFree (F.state flash.new).words (base_in area) (next + 1) SLOTS) }
     ensures marks { SameMarks (F.state flash.old).words (F.state flash.new).words }
+    ensures work { (F.state flash.new).operations ≤ (F.state flash.old).operations + 2 }
     ensures light { Lights (F.state flash.old) (F.state flash.new) result }
 {
     let mut found = record_of(flash, area, table, page)?;

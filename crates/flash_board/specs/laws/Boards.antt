@@ -1,14 +1,12 @@
 -- A board on a flash is one, and what its calls do to power.
-use Rattle.std.specs.Prelude.{◌≡◌, ◌⊎◌, ◌<◌, ◌≤◌, ◌+◌, ℕ, true, false, List, Option, None, Result, Ok, Err, length}
-use Rattle.std.proofs.Common.{refl, sym, ap, ◌∙◌, arith, inl, inr, ⊎_elim, subst}
-use Rattle.nvm_board.specs.declared.board.DeviceErr.{DeviceErr}
+use Rattle.std.specs.Prelude.{◌≡◌, ◌⊎◌, ◌+◌, ℕ, true, false, List, Ok, Err}
+use Rattle.std.proofs.Common.{refl, sym, arith, inl, inr, ⊎_elim, subst}
 use Rattle.nvm_board.specs.declared.board.DeviceErr.TheVariants.{PowerLost, Fault}
 use Rattle.nvm_board.specs.Facts.{Facts, IsBoard, Answered, IsLostRightly, IsWorn}
 use Rattle.nvm_board.specs.Torn.{Torn, written}
 use Rattle.nvm_board.specs.laws.Sizes.{memory_of_pages}
 use Rattle.nvm_board.specs.laws.Torn.{Torn-none, Torn-all}
 use Rattle.flash_board.specs.declared.flash_board.FlashBoard.{FlashBoard}
-use Rattle.flash_board.specs.FlashCalls.{FlashState, GoesOut, StaysLit}
 use Rattle.flash_board.specs.FlashFacts.{flash_facts}
 
 pub flash_is_board : {F : Type 0} {g : _} (b : FlashBoard F g) → IsBoard (flash_facts b)

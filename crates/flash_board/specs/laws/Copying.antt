@@ -1,19 +1,19 @@
 -- Laws of pages that are copied to the other area.
-use Rattle.std.specs.Prelude.{◌≡◌, ◌≢◌, ◌⊎◌, ◌<◌, ◌≤◌, ◌+◌, ◌-◌, ◌*◌, ℕ, zero, suc, Bool, true, false, List, length}
+use Rattle.std.specs.Prelude.{◌≡◌, ◌≢◌, ◌⊎◌, ◌<◌, ◌≤◌, ◌+◌, ℕ, zero, suc, Bool, false, List, length}
 use Rattle.std.specs.Prelude.{slice_index, slice_set, nat_eq, ◌&&◌}
-use Rattle.std.proofs.Common.{refl, sym, ◌∙◌, ap, ap₂, subst, inl, inr, ⊎_elim, arith, get_or-set_same}
+use Rattle.std.proofs.Common.{refl, sym, ◌∙◌, ap, ap₂, inl, inr, ⊎_elim, arith, get_or-set_same}
 use Rattle.std.proofs.Common.{get_or-set_other}
-use Rattle.std.proofs.lemmas.Bool.{cases_eq, cases_lt}
-use Rattle.flash_board.specs.declared.layout.TheConstants.{SLOTS, FIRST_MARK, SECOND_MARK}
-use Rattle.flash_board.specs.FlashCalls.{SameElsewhere, AreFilled}
-use Rattle.flash_board.specs.CopyParts.{CopiesPage, HasCopied}
-use Rattle.flash_board.specs.PageTables.{IsPageTable, AreFree}
+use Rattle.std.proofs.lemmas.Bool.{cases_eq, eq-eqb, ne_eqb}
+use Rattle.flash_board.specs.declared.layout.TheConstants.{SLOTS, SPARES, FIRST_MARK, SECOND_MARK}
+use Rattle.flash_board.specs.FlashCalls.{SameElsewhere}
+use Rattle.flash_board.specs.CopyParts.{CopiesPage, HasCopied, KeepsOthers}
+use Rattle.flash_board.specs.PageTables.{AreFree}
 use Rattle.flash_board.specs.FlashLogs.{holds, find, is_marked, slot_of, word_of, page_word, base_in}
 use Rattle.flash_board.specs.SlotParts.{IsPut, PutsInSlot}
-use Rattle.flash_board.specs.laws.Finding.{IsFound, find-same, find-tells, find-past}
+use Rattle.flash_board.specs.laws.Finding.{find-same, find-tells, find-past, find-top}
 use Rattle.flash_board.specs.laws.Indexing.{find_zero}
 use Rattle.flash_board.specs.laws.Marks.{elsewhere_wider, elsewhere_then, blank_slot, blank_same}
-use Rattle.flash_board.specs.laws.Putting.{holds_none, other_mark, word_kept, find_kept, put_found, put_word, put_other}
+use Rattle.flash_board.specs.laws.Putting.{holds_none, word_kept, find_kept}
 
 -- The words of an area's slots are the same.
 pub record SameArea (m after : List ℕ) (base : ℕ) : Type 0 where
@@ -76,47 +76,88 @@ copies_none m table from to page next entry none free are = record {
   free = are;
 }
 
--- a record of a page that is put into the first free slot of the other area
-module _ (m after table : List ℕ) (from to page s : ℕ) (words : List ℕ) (puts : PutsInSlot m (slot_of to s) words after)
-    (put : IsPut after (slot_of to s) words) (below : s < SLOTS) (are : AreFree m to s SLOTS)
-    (size : length words ≡ 18) (within : page < 1024) (all : length table ≡ 1024) (names : slice_index words 16 ≡ page)
-    (each : (k : ℕ) → k < 16 → slice_index words k ≡ page_word m from SLOTS page k) where
-  free : is_marked m (slot_of to s + 18) ≡ false
-  free = blank_slot m (slot_of to s) (are.free s (omega arith) below)
+-- a record that is put into the first free slot, whole or not, changes no other page
+module _ (m after : List ℕ) (base s : ℕ) (words : List ℕ) (puts : PutsInSlot m (slot_of base s) words after)
+    (below : s < SLOTS) (are : AreFree m base s SLOTS) (size : length words ≡ 18) where
+  free : is_marked m (slot_of base s + 18) ≡ false
+  free = blank_slot m (slot_of base s) (are.free s (omega arith) below)
 
-  behind : (t : ℕ) → s < t → t < SLOTS → is_marked m (slot_of to t + 18) ≡ false
-  behind t later lt = blank_slot m (slot_of to t) (are.free t (omega (arith, later)) lt)
-
-  not_here : (p : ℕ) → p ≢ page → holds after to s p ≡ false
-  not_here p other = put_other m after to s puts.elsewhere words SLOTS page size below names behind put p other
-
-  pub copies_put : CopiesPage m table from to page after (slice_set table page (s + 1)) (s + 1)
-  copies_put = record {
-    words = λ k lt. put_word m after to s puts.elsewhere words SLOTS page size below names behind put k lt ∙ each k lt;
-    others =
-        λ p k other lt. word_kept m after to s puts.elsewhere free SLOTS p k (omega (arith, lt)) (not_here p other);
-    found = λ p other. find_kept m after to s puts.elsewhere free SLOTS p (not_here p other);
-    entry = let one : s + 1 ≡ suc s = omega arith in
-        get_or-set_same table page (s + 1) 0 (omega (arith, all, within)) ∙ one
-        ∙ sym (put_found m after to s puts.elsewhere words SLOTS page size below names behind put);
-    entries = λ p other. get_or-set_other table page p (s + 1) 0 other;
-    free = record {
-      within = omega (arith, below);
-      free = λ t later lt. let past : slot_of to s + 20 ≤ slot_of to t = omega (arith, later) in
-          blank_same m after (slot_of to t) 20 (slot_of to s) 20 puts.elsewhere (inr past)
-          (are.free t (omega (arith, later)) lt);
-    };
+  -- what is behind it stays free
+  pub behind_free : AreFree after base (s + 1) SLOTS
+  behind_free = record {
+    within = omega (arith, below);
+    free = λ t later lt. let past : slot_of base s + 20 ≤ slot_of base t = omega (arith, later) in
+        blank_same m after (slot_of base t) 20 (slot_of base s) 20 puts.elsewhere (inr past)
+        (are.free t (omega (arith, later)) lt);
   }
+
+  not_here : (page p : ℕ) → slice_index words 16 ≡ page → p ≢ page → holds after base s p ≡ false
+  not_here page p names other = ⊎_elim
+      (λ (none : is_marked after (slot_of base s + 18) ≡ false). holds_none after base s p none)
+      (λ (put : IsPut after (slot_of base s) words).
+      let named : slice_index after (slot_of base s + 16) ≡ page = put.there.each 16 (omega (arith, size)) ∙ names in
+      ap₂ (λ (a b : Bool). a && b) put.marked (ne_eqb _ p (λ e. other (sym e ∙ named))))
+      puts.whole
+
+  pub others_kept : (page : ℕ) → slice_index words 16 ≡ page → KeepsOthers m base page after (s + 1)
+  others_kept page names = record {
+    others = λ p k other lt.
+        word_kept m after base s puts.elsewhere free SLOTS p k (omega (arith, lt)) (not_here page p names other);
+    found = λ p other. find_kept m after base s puts.elsewhere free SLOTS p (not_here page p names other);
+    free = behind_free;
+  }
+
+  pub in_area : SameElsewhere m base 25600 after
+  in_area = elsewhere_wider m after (slot_of base s) 20 base 25600 (omega arith) (omega (arith, below)) puts.elsewhere
+
+pub others_none : (m : List ℕ) (base page s : ℕ) → AreFree m base s SLOTS → KeepsOthers m base page m s
+others_none m base page s are = record { others = λ p k other lt. refl; found = λ p other. refl; free = are }
+
+pub others_then : (m mid after : List ℕ) (base page s t : ℕ) → KeepsOthers m base page mid s
+    → KeepsOthers mid base page after t → KeepsOthers m base page after t
+others_then m mid after base page s t g h = record {
+  others = λ p k other lt. h.others p k other lt ∙ g.others p k other lt;
+  found = λ p other. h.found p other ∙ g.found p other;
+  free = h.free;
+}
+
+-- a record in the last slot that isn't free is that of its page
+pub last_found : (m : List ℕ) (base s page : ℕ) (words : List ℕ) → IsPut m (slot_of base s) words → length words ≡ 18
+    → slice_index words 16 ≡ page → s < SLOTS → AreFree m base (s + 1) SLOTS → find m base SLOTS page ≡ suc s
+last_found m base s page words put size names below are =
+    let named : slice_index m (slot_of base s + 16) ≡ page = put.there.each 16 (omega (arith, size)) ∙ names in
+    find-past m base SLOTS page (suc s) (omega (arith, below))
+    (λ t from lt. holds_none m base t page (blank_slot m (slot_of base t) (are.free t (omega (arith, from)) lt)))
+    ∙ find-top m base s page (ap₂ (λ (a b : Bool). a && b) put.marked (eq-eqb _ _ named))
+
+-- a page whose record is put into a slot of the other area, behind those that failed
+pub copies_put : (m after table : List ℕ) (from to page s : ℕ) (words : List ℕ) → IsPut after (slot_of to s) words
+    → KeepsOthers m to page after (s + 1) → s < SLOTS → length words ≡ 18 → page < 1024 → length table ≡ 1024
+    → slice_index words 16 ≡ page
+    → ((k : ℕ) → k < 16 → slice_index words k ≡ page_word m from SLOTS page k)
+    → CopiesPage m table from to page after (slice_set table page (s + 1)) (s + 1)
+copies_put m after table from to page s words put kept below size within all names each =
+    let found : find after to SLOTS page ≡ suc s = last_found after to s page words put size names below kept.free in
+    record {
+      words = λ k lt.
+          ap (λ (f : ℕ). word_of after to f k) found ∙ put.there.each k (omega (arith, size, lt)) ∙ each k lt;
+      others = kept.others;
+      found = kept.found;
+      entry = let one : s + 1 ≡ suc s = omega arith in
+          get_or-set_same table page (s + 1) 0 (omega (arith, all, within)) ∙ one ∙ sym found;
+      entries = λ p other. get_or-set_other table page p (s + 1) 0 other;
+      free = kept.free;
+    }
 
 -- one page more
 module _ (m table mid then : List ℕ) (from to page next : ℕ) (has : HasCopied m table from to page mid then next)
     (after last : List ℕ) (more : ℕ) (elsewhere : SameElsewhere mid to 25600 after)
-    (copies : CopiesPage mid then from to page after last more) (bound : more ≤ next + 1)
+    (copies : CopiesPage mid then from to page after last more) (bound : more ≤ page + 1 + SPARES)
     (same : SameArea m mid from) where
   pub copied_more : HasCopied m table from to (page + 1) after last more
   copied_more = record {
     elsewhere = elsewhere_then m mid after to 25600 has.elsewhere elsewhere;
-    below = omega (arith, bound, has.below);
+    below = omega (arith, bound);
     words = λ p k lt small. ⊎_elim
         (λ (e : p ≡ page). ap (λ (q : ℕ). page_word after to SLOTS q k) e ∙ copies.words k small
         ∙ area_page m mid from same page k small ∙ sym (ap (λ (q : ℕ). page_word m from SLOTS q k) e))

@@ -1,9 +1,9 @@
 -- Laws of the slots that hold a page.
-use Rattle.std.specs.Prelude.{◌≡◌, ◌≢◌, ◌⊎◌, ◌<◌, ◌≤◌, ◌+◌, ◌*◌, ℕ, zero, suc, Bool, true, false, List, [], ◌∷◌}
-use Rattle.std.specs.Prelude.{◌&&◌, nat_eq, length, slice_index, if◌then◌else◌}
-use Rattle.std.proofs.Common.{refl, sym, ◌∙◌, ap, ap₂, subst, inl, inr, ⊎_elim, arith, true≢false}
+use Rattle.std.specs.Prelude.{◌≡◌, ◌<◌, ◌≤◌, ◌+◌, ℕ, zero, suc, Bool, true, false, List}
+use Rattle.std.specs.Prelude.{length, slice_index, if◌then◌else◌}
+use Rattle.std.proofs.Common.{refl, ◌∙◌, ap, ap₂, subst, ⊎_elim, arith}
 use Rattle.std.proofs.lemmas.Bool.{cases_lt}
-use Rattle.flash_board.specs.FlashLogs.{holds, find, is_marked, slot_of, image}
+use Rattle.flash_board.specs.FlashLogs.{holds, find, image}
 
 -- the slots hold the same, so that the page is found at the same place
 pub find-same : (m after : List ℕ) (base n p : ℕ) → ((s : ℕ) → s < n → holds after base s p ≡ holds m base s p)

@@ -1,26 +1,24 @@
 -- What a call of the flash does to power, as the board tells it.
-use Rattle.std.specs.Prelude.{◌≡◌, ◌≢◌, ◌⊎◌, ◌<◌, ◌≤◌, ◌+◌, ◌/◌, ◌%◌, ◌^◌, ℕ, zero, suc, true, false, List, length}
-use Rattle.std.specs.Prelude.{slice_index, All}
-use Rattle.std.specs.Prelude.{Result, Ok, Err}
-use Rattle.std.proofs.Common.{refl, sym, ap, ◌∙◌, arith, inl, inr, subst}
+use Rattle.std.specs.Prelude.{◌≡◌, ◌<◌, ◌≤◌, ◌+◌, ◌/◌, ◌%◌, ◌^◌, ℕ, zero, suc, false, List, length}
+use Rattle.std.proofs.Common.{sym, ◌∙◌, arith, subst}
 use Rattle.std.proofs.lemmas.List.Elements.{All-get_or, All-from_get_or}
-use Rattle.nvm_board.specs.declared.board.DeviceErr.{DeviceErr}
 use Rattle.nvm_board.specs.Facts.{AreWords}
 use Rattle.flash_board.specs.declared.flash.TheConstants.{FLASH_WORDS}
 use Rattle.flash_board.specs.declared.layout.TheConstants.{SLOTS}
-use Rattle.flash_board.specs.FlashCalls.{FlashState, Lights}
-use Rattle.flash_board.specs.FlashLogs.{find, page_word, word_of, slot_of, base_in, turn_of, words_of}
-use Rattle.flash_board.specs.Places.{state_of}
+use Rattle.flash_board.specs.FlashCalls.{FlashState, StaysLit}
+use Rattle.flash_board.specs.FlashLogs.{find, word_of, slot_of, base_in, turn_of, words_of}
 use Rattle.flash_board.specs.laws.Indexing.{base_most, find_most}
 use Rattle.flash_board.specs.laws.Words.{length-words, index-words}
 
--- the light of the log is that of its flash
-pub lights_of : {T : Type 0} (old new : FlashState) (result : Result T DeviceErr) → Lights old new result
-    → Lights (state_of old) (state_of new) result
-lights_of old new result h = record {
-  ok = λ r. let s = h.ok r in record { lit = s.lit; due = s.due; faults = s.faults };
-  lost = λ r. let s = h.lost r in record { dark = s.dark; due = s.due; faults = s.faults };
-  fault = λ r. let s = h.fault r in record { lit = s.lit; due = s.due; faults = s.faults };
+-- calls that only read leave the flash as it was
+pub state_same : (old new : FlashState) → old.dark ≡ false → StaysLit old new → new.words ≡ old.words
+    → new.operations ≡ old.operations → new ≡ old
+state_same old new was stays words operations = λ i. record {
+  words = words i;
+  dark = (stays.lit ∙ sym was) i;
+  due = stays.due i;
+  faults = stays.faults i;
+  operations = operations i;
 }
 
 -- the words of the board have 32 bits, since those of the flash do

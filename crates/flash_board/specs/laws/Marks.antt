@@ -1,7 +1,7 @@
 -- Laws of words that stay, and of marks.
-use Rattle.std.specs.Prelude.{◌≡◌, ◌≢◌, ◌⊎◌, ◌<◌, ◌≤◌, ◌+◌, ◌*◌, ℕ, zero, suc, Bool, true, false, List, length}
+use Rattle.std.specs.Prelude.{◌≡◌, ◌≢◌, ◌⊎◌, ◌<◌, ◌≤◌, ◌+◌, ℕ, Bool, true, false, List, length}
 use Rattle.std.specs.Prelude.{◌&&◌, not, nat_eq, slice_index}
-use Rattle.std.proofs.Common.{refl, sym, ◌∙◌, ap, ap₂, inl, inr, ⊎_elim, arith, true≢false}
+use Rattle.std.proofs.Common.{refl, ◌∙◌, ap, ap₂, inl, inr, ⊎_elim, arith, true≢false}
 use Rattle.std.proofs.lemmas.Bool.{cases_eq, eqb-true}
 use Rattle.flash_board.specs.declared.layout.TheConstants.{FIRST_MARK, SECOND_MARK}
 use Rattle.flash_board.specs.FlashCalls.{SameElsewhere, IsThere, AreFilled}

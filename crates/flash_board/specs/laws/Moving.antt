@@ -1,21 +1,19 @@
 -- Laws of a move to the other area, and of the turn that passes to the witness.
-use Rattle.std.specs.Prelude.{◌≡◌, ◌≢◌, ◌⊎◌, ◌<◌, ◌≤◌, ◌+◌, ◌*◌, ◌/◌, ◌%◌, ℕ, zero, suc, Bool, true, false, List}
-use Rattle.std.specs.Prelude.{length}
+use Rattle.std.specs.Prelude.{◌≡◌, ◌≢◌, ◌⊎◌, ◌<◌, ◌≤◌, ◌+◌, ◌*◌, ◌/◌, ◌%◌, ℕ, Bool, true, false, List}
 use Rattle.std.specs.Prelude.{slice_index, nat_eq, ◌&&◌, not, if◌then◌else◌}
-use Rattle.std.proofs.Common.{refl, sym, ◌∙◌, ap, ap₂, subst, inl, inr, ⊎_elim, arith, true≢false}
+use Rattle.std.proofs.Common.{refl, sym, ◌∙◌, ap, ap₂, inl, inr, ⊎_elim, arith, true≢false}
 use Rattle.std.proofs.lemmas.Bool.{cases_eq, ne_eqb}
 use Rattle.std.proofs.lemmas.Grind.{same_number_lists}
-use Rattle.flash_board.specs.declared.layout.TheConstants.{SLOTS, FIRST_MARK, SECOND_MARK}
+use Rattle.flash_board.specs.declared.layout.TheConstants.{SLOTS}
 use Rattle.flash_board.specs.declared.flash.TheConstants.{BLANK}
 use Rattle.flash_board.specs.FlashBlocks.{block_start, block_size}
 use Rattle.flash_board.specs.FlashCalls.{SameElsewhere, AreFilled}
-use Rattle.flash_board.specs.CopyParts.{HasCopied}
-use Rattle.flash_board.specs.PageTables.{IsPageTable, AreFree}
-use Rattle.flash_board.specs.FlashLogs.{find, is_closed, slot_of, page_word, word_of, base_in, turn_of, turn_by}
+use Rattle.flash_board.specs.PageTables.{AreFree}
+use Rattle.flash_board.specs.FlashLogs.{find, is_closed, slot_of, page_word, word_of, base_in, turn_of}
 use Rattle.flash_board.specs.FlashLogs.{words_of, close_of}
 use Rattle.flash_board.specs.Rings.{IsRing}
-use Rattle.flash_board.specs.laws.Copying.{SameArea, area_page, area_found, area_free, none_found, bases, other_area}
-use Rattle.flash_board.specs.laws.Marks.{closed_same, elsewhere_wider, elsewhere_then}
+use Rattle.flash_board.specs.laws.Copying.{SameArea, area_page, area_free, none_found, bases}
+use Rattle.flash_board.specs.laws.Marks.{closed_same}
 use Rattle.flash_board.specs.laws.Turns.{turn_marks, zero_marks, one_marks, two_marks, zero_turn, one_turn, two_turn}
 use Rattle.flash_board.specs.laws.Words.{length-words, index-words}
 

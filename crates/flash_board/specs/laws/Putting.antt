@@ -1,14 +1,14 @@
 -- What a record that is put changes of the pages: nothing, or the page that it names.
-use Rattle.std.specs.Prelude.{◌≡◌, ◌≢◌, ◌⊎◌, ◌<◌, ◌≤◌, ◌+◌, ◌*◌, ◌/◌, ◌%◌, ℕ, zero, suc, Bool, true, false, List}
+use Rattle.std.specs.Prelude.{◌≡◌, ◌≢◌, ◌⊎◌, ◌<◌, ◌≤◌, ◌+◌, ◌*◌, ℕ, zero, suc, Bool, true, false, List}
 use Rattle.std.specs.Prelude.{length}
-use Rattle.std.specs.Prelude.{◌&&◌, nat_eq, slice_index, if◌then◌else◌}
-use Rattle.std.proofs.Common.{refl, sym, ◌∙◌, ap, ap₂, subst, inl, inr, ⊎_elim, arith, true≢false}
+use Rattle.std.specs.Prelude.{◌&&◌, nat_eq, slice_index}
+use Rattle.std.proofs.Common.{refl, sym, ◌∙◌, ap, ap₂, inl, inr, ⊎_elim, arith, true≢false}
 use Rattle.std.proofs.lemmas.Bool.{cases_eq, cases_order, eq-eqb, ne_eqb}
-use Rattle.flash_board.specs.FlashCalls.{SameElsewhere, IsThere}
+use Rattle.flash_board.specs.FlashCalls.{SameElsewhere}
 use Rattle.flash_board.specs.FlashLogs.{holds, find, is_marked, slot_of, word_of, page_word}
-use Rattle.flash_board.specs.SlotParts.{IsPut, PutsInSlot}
+use Rattle.flash_board.specs.SlotParts.{IsPut}
 use Rattle.flash_board.specs.laws.Marks.{mark_same}
-use Rattle.flash_board.specs.laws.Finding.{IsFound, find-same, find-past, find-top, find-tells}
+use Rattle.flash_board.specs.laws.Finding.{find-same, find-past, find-top, find-tells}
 
 -- a slot without a mark holds nothing
 pub holds_none : (m : List ℕ) (base s p : ℕ) → is_marked m (slot_of base s + 18) ≡ false → holds m base s p ≡ false

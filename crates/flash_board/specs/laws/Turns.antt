@@ -1,7 +1,7 @@
 -- Laws of the marks that close blocks, and of the turn.
-use Rattle.std.specs.Prelude.{◌≡◌, ◌≢◌, ◌⊎◌, ◌<◌, ◌≤◌, ◌+◌, ◌*◌, ℕ, zero, suc, Bool, true, false, List, length}
-use Rattle.std.specs.Prelude.{◌&&◌, not, nat_eq, slice_index, if◌then◌else◌}
-use Rattle.std.proofs.Common.{refl, sym, ◌∙◌, ap, ap₂, inl, inr, ⊎_elim, arith, true≢false}
+use Rattle.std.specs.Prelude.{◌≡◌, ◌⊎◌, ◌<◌, ◌≤◌, ◌+◌, ℕ, Bool, true, false, List}
+use Rattle.std.specs.Prelude.{nat_eq, if◌then◌else◌}
+use Rattle.std.proofs.Common.{refl, sym, ◌∙◌, inl, inr, ⊎_elim, arith, true≢false}
 use Rattle.flash_board.specs.FlashCalls.{SameElsewhere}
 use Rattle.flash_board.specs.FlashLogs.{is_closed, slot_of, base_in, turn_of, turn_by}
 use Rattle.flash_board.specs.Rings.{IsRing, SameMarks}

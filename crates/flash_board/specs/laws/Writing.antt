@@ -1,16 +1,18 @@
 -- A record that is put, whole or not, is a write of the board that is done or not begun.
-use Rattle.std.specs.Prelude.{◌≡◌, ◌≢◌, ◌⊎◌, ◌<◌, ◌≤◌, ◌+◌, ◌-◌, ◌*◌, ℕ, zero, suc, Bool, true, false, List, length}
+use Rattle.std.specs.Prelude.{◌≡◌, ◌≢◌, ◌⊎◌, ◌<◌, ◌≤◌, ◌+◌, ◌-◌, ◌*◌, ℕ, suc, false, List, length}
 use Rattle.std.specs.Prelude.{slice_index, slice_set}
-use Rattle.std.proofs.Common.{refl, sym, ◌∙◌, ap, ap₂, inl, inr, ⊎_elim, arith, get_or-set_same, get_or-set_other}
-use Rattle.std.proofs.lemmas.Bool.{cases_eq}
+use Rattle.std.proofs.Common.{sym, ◌∙◌, ap, inl, inr, ⊎_elim, arith, get_or-set_same, get_or-set_other}
+use Rattle.std.proofs.lemmas.Bool.{cases_eq, cases_lt}
+use Rattle.std.proofs.lemmas.Grind.{same_number_lists}
 use Rattle.nvm_board.specs.Torn.{written}
+use Rattle.nvm_board.specs.laws.Torn.{length-written, written-elsewhere, written-inside}
 use Rattle.flash_board.specs.declared.layout.TheConstants.{SLOTS}
 use Rattle.flash_board.specs.FlashCalls.{SameElsewhere}
 use Rattle.flash_board.specs.PageTables.{IsPageTable, AreFree}
 use Rattle.flash_board.specs.FlashLogs.{find, is_marked, slot_of, page_word, words_of, base_in, turn_of}
 use Rattle.flash_board.specs.SlotParts.{IsPut, PutsInSlot}
 use Rattle.flash_board.specs.Rings.{SameMarks}
-use Rattle.flash_board.specs.laws.Putting.{other_mark, word_kept, none_kept, find_kept, put_found, put_word, put_other}
+use Rattle.flash_board.specs.laws.Putting.{word_kept, none_kept, find_kept, put_found, put_word, put_other}
 use Rattle.flash_board.specs.laws.Marks.{blank_slot, blank_same}
 use Rattle.flash_board.specs.laws.Turns.{slot_marks, turn_same}
 use Rattle.flash_board.specs.laws.Words.{words_same, words_written, overlaid}
@@ -71,6 +73,44 @@ module _ (m after : List ℕ) (area s : ℕ) (elsewhere : SameElsewhere m (slot_
         blank_same m after (slot_of (base_in area) t) 20 (slot_of (base_in area) s) 20 elsewhere (inr past)
         (are.free t (omega (arith, from)) lt);
   }
+
+-- a run that is written twice
+written_twice : (m run : List ℕ) (at : ℕ) → at + length run ≤ length m
+    → written (written m at run) at run ≡ written m at run
+written_twice m run at fits =
+    let once : length (written m at run) ≡ length m = length-written m run at in
+    same_number_lists (written (written m at run) at run) (written m at run) (length-written (written m at run) run at)
+    (λ i lt. ⊎_elim
+    (λ (before : i < at). written-elsewhere (written m at run) run at i (inl before))
+    (λ (from : at ≤ i). ⊎_elim
+    (λ (inside : i < at + length run).
+    let j : i - at < length run = omega (arith, inside, from) in
+    let place : i ≡ at + (i - at) = omega (arith, from) in
+    let room : at + length run ≤ length (written m at run) = omega (arith, fits, once) in
+    ap (λ (k : ℕ). slice_index (written (written m at run) at run) k) place
+    ∙ written-inside (written m at run) run at (i - at) room j ∙ sym (written-inside m run at (i - at) fits j)
+    ∙ sym (ap (λ (k : ℕ). slice_index (written m at run) k) place))
+    (λ (past : at + length run ≤ i). written-elsewhere (written m at run) run at i (inr past))
+    (cases_lt i (at + length run)))
+    (cases_lt i at))
+
+-- a run that is written, or not begun, and then written
+pub done_again : (m mid after run : List ℕ) (at : ℕ) → at + length run ≤ length m
+    → (mid ≡ m) ⊎ (mid ≡ written m at run) → after ≡ written mid at run → after ≡ written m at run
+done_again m mid after run at fits was done = ⊎_elim
+    (λ (old : mid ≡ m). done ∙ ap (λ (l : List ℕ). written l at run) old)
+    (λ (new : mid ≡ written m at run).
+    done ∙ ap (λ (l : List ℕ). written l at run) new ∙ written_twice m run at fits) was
+
+-- a run that is written, or not begun, twice
+pub whole_again : (m mid after run : List ℕ) (at : ℕ) → at + length run ≤ length m
+    → (mid ≡ m) ⊎ (mid ≡ written m at run) → (after ≡ mid) ⊎ (after ≡ written mid at run)
+    → (after ≡ m) ⊎ (after ≡ written m at run)
+whole_again m mid after run at fits was is = ⊎_elim
+    (λ (same : after ≡ mid). ⊎_elim
+    (λ (old : mid ≡ m). inl (same ∙ old))
+    (λ (new : mid ≡ written m at run). inr (same ∙ new)) was)
+    (λ (done : after ≡ written mid at run). inr (done_again m mid after run at fits was done)) is
 
 -- What a run leaves that is put into the record of its page: the words are as before, or it is written.
 module _ (m after : List ℕ) (area s page first : ℕ) (run old words : List ℕ) (below : s < SLOTS)

@@ -1,6 +1,6 @@
-use Rattle.std.proofs.Common.{◌≡◌, ◌≤◌, ◌+◌, ◌-◌, ◌*◌, ℕ, slice_index, ap, ◌∙◌, arith}
+use Rattle.std.proofs.Common.{◌≡◌, ◌≤◌, ℕ, slice_index, ap, ◌∙◌, arith}
 use Rattle.flash_board.specs.declared.layout.TheConstants.{SLOTS}
-use Rattle.flash_board.specs.FlashLogs.{base_in, find, slot_of}
+use Rattle.flash_board.specs.FlashLogs.{base_in, find}
 use Rattle.flash_board.specs.laws.Indexing.{base_most, find_most}
 use Rattle.flash_board.proofs.image.read_word.Goals as goal
 

@@ -1,4 +1,4 @@
-use Rattle.std.proofs.Common.{◌≡◌, ◌≤◌, ◌<◌, ◌+◌, ℕ, List, refl, sym, ap, ◌∙◌, arith}
+use Rattle.std.proofs.Common.{◌<◌, refl, sym, ◌∙◌, arith}
 use Rattle.flash_board.specs.FlashLogs.{base_in}
 use Rattle.flash_board.specs.laws.Copying.{SameArea, area_found, copied_none, copied_more, other_area}
 use Rattle.flash_board.proofs.moving.copy_pages.Goals as goal
@@ -7,7 +7,8 @@ pub loop-page-init : goal.loop-page-init
 loop-page-init g c =
     let m = (g.F.Flash.state c.args.flash.now).words in record {
       lit = c.requires.lit;
-      steady = record { lit = c.requires.lit; due = refl; faults = refl };
+      steady = record { lit = c.requires.lit; due = refl; faults = omega arith };
+      operations = omega arith;
       copied = copied_none m c.args.table.now (base_in c.args.from) (base_in c.args.to) c.requires.free;
     }
 
@@ -38,8 +39,9 @@ loop-page-preserved g c =
       steady = record {
         lit = lit.lit;
         due = lit.due ∙ c.loop-page.invariant.steady.due;
-        faults = lit.faults ∙ c.loop-page.invariant.steady.faults;
+        faults = omega (arith, lit.faults, c.loop-page.invariant.steady.faults);
       };
+      operations = omega (arith, c.loop-page.invariant.operations, c.copy_page.ensures.work.operations);
       copied = copied_more m c.args.table.now mid c.loop-page.table from to page c.loop-page.next has after
           c.copy_page.new.table c.in_ok-next.next c.copy_page.ensures.elsewhere c.in_ok-next.ensures.copies
           c.in_ok-next.ensures.more same;

@@ -1,5 +1,5 @@
 use Rattle.std.specs.Prelude.{◌&&◌}
-use Rattle.std.proofs.Common.{◌≡◌, ◌+◌, ℕ, Bool, true, nat_eq, List, slice_index, sym, ap, ap₂, ◌∙◌}
+use Rattle.std.proofs.Common.{◌≡◌, ◌+◌, ℕ, Bool, nat_eq, List, slice_index, sym, ap, ◌∙◌}
 use Rattle.std.proofs.lemmas.Bool.{eq-eqb, ne_eqb}
 use Rattle.flash_board.specs.declared.layout.TheConstants.{FIRST_MARK, SECOND_MARK}
 use Rattle.flash_board.specs.FlashLogs.{is_marked as has_mark}

@@ -1,4 +1,4 @@
-use Rattle.std.proofs.Common.{◌≡◌, ◌∙◌, sym, refl, arith}
+use Rattle.std.proofs.Common.{◌∙◌, sym, refl}
 use Rattle.flash_board.specs.FlashLogs.{base_in}
 use Rattle.flash_board.specs.laws.Indexing.{find_zero, free_none}
 use Rattle.flash_board.proofs.scan.scan.Goals as goal
@@ -9,6 +9,7 @@ loop-slot-init g c =
     let base = base_in c.args.area in
     record {
       words = refl;
+      work = refl;
       lit = c.requires.lit;
       steady = record { lit = c.requires.lit; due = refl; faults = refl };
       index = record { each = λ p lt. c.blank_table.ensures p lt ∙ sym (find_zero m base p) };

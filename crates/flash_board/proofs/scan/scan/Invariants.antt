@@ -1,4 +1,4 @@
-use Rattle.std.proofs.Common.{◌≡◌, ℕ, false, length}
+use Rattle.std.proofs.Common.{◌≡◌, false}
 use Rattle.flash_board.specs.FlashCalls.{StaysLit}
 use Rattle.flash_board.specs.PageTables.{IsPageTable, AreFree}
 use Rattle.flash_board.specs.FlashLogs.{base_in}
@@ -7,6 +7,7 @@ use Rattle.flash_board.proofs.scan.scan.Given as goal
 abbrev pub invariant-loop-slot : goal.invariant-loop-slot
 invariant-loop-slot g l = let old = g.F.Flash.state l.initial.flash in let new = g.F.Flash.state l.flash in record {
   words : new.words ≡ old.words;
+  work : new.operations ≡ old.operations;
   lit : new.dark ≡ false;
   steady : StaysLit old new;
   index : IsPageTable old.words (base_in l.area) l.slot l.table;

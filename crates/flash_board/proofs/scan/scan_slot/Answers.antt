@@ -1,6 +1,5 @@
-use Rattle.std.proofs.Common.{◌≡◌, ◌≤◌, ◌<◌, ◌+◌, ◌*◌, ℕ, true, false, List, length, slice_index, slice_set, sym, ap}
+use Rattle.std.proofs.Common.{◌≡◌, ◌≤◌, ◌<◌, ◌+◌, ℕ, true, false, List, slice_index, sym, ap}
 use Rattle.std.proofs.Common.{subst, ◌∙◌, arith}
-use Rattle.flash_board.specs.declared.layout.TheConstants.{SLOTS}
 use Rattle.flash_board.specs.declared.flash.TheConstants.{BLANK}
 use Rattle.flash_board.specs.FlashCalls.{AreFilled}
 use Rattle.flash_board.specs.PageTables.{IsPageTable}

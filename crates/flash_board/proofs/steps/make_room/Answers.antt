@@ -1,7 +1,6 @@
-use Rattle.std.proofs.Common.{◌≡◌, ◌≤◌, ◌<◌, ◌+◌, ℕ, List, sym, ap, subst, ◌∙◌}
+use Rattle.std.proofs.Common.{ℕ, List, sym, subst, ◌∙◌}
 use Rattle.flash_board.specs.declared.layout.TheConstants.{SLOTS}
 use Rattle.flash_board.specs.PageTables.{IsPageTable}
-use Rattle.flash_board.specs.FlashLogs.{base_in}
 use Rattle.flash_board.specs.laws.Copying.{SameArea, area_found}
 use Rattle.flash_board.specs.laws.Moving.{base_other, witness_area}
 use Rattle.flash_board.proofs.steps.make_room.Goals as goal

@@ -1,4 +1,4 @@
-use Rattle.std.proofs.Common.{◌≡◌, ◌/◌, ◌%◌, ℕ, List, slice_index, sym, ap, ◌∙◌}
+use Rattle.std.proofs.Common.{◌/◌, ◌%◌, ℕ, List, slice_index, sym, ap, ◌∙◌}
 use Rattle.flash_board.specs.declared.layout.TheConstants.{SLOTS}
 use Rattle.flash_board.specs.FlashLogs.{base_in, page_word, words_of}
 use Rattle.flash_board.specs.laws.Words.{index-words}

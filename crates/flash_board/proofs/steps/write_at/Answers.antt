@@ -1,23 +1,92 @@
-use Rattle.std.proofs.Common.{◌≡◌, ◌+◌, ℕ, sym, subst, ◌∙◌}
-use Rattle.flash_board.specs.declared.layout.TheConstants.{SLOTS}
-use Rattle.flash_board.specs.PageTables.{IsPageTable, AreFree}
-use Rattle.flash_board.specs.laws.Turns.{turn_same, ring_same}
+use Rattle.std.proofs.Common.{◌≡◌, ◌≤◌, ◌+◌, ◌*◌, length, Err, refl, ap, inl, ◌∙◌, arith}
+use Rattle.std.proofs.lemmas.Result.{on_ok_weaker}
+use Rattle.flash_board.specs.FlashLogs.{words_of}
+use Rattle.flash_board.specs.laws.Words.{length-words}
+use Rattle.flash_board.specs.laws.Writing.{whole_again, done_again}
 use Rattle.flash_board.proofs.steps.write_at.Goals as goal
 
-pub returns-clause-log : goal.returns-clause-log
-returns-clause-log g c =
-    let m = (g.F.Flash.state c.make_room.new.flash).words in
-    let after = (g.F.Flash.state c.write_run.new.flash).words in
-    let marks = c.write_run.ensures.marks in
-    let known = c.make_room.ensures.log.known c.in_ok-make_room.ensures.ready in
-    let table = c.write_run.new.table in
-    let next = c.make_room.new.place.next + 1 in
-    record {
-      ring = ring_same m after marks c.make_room.ensures.log.ring;
-      known = λ _. record {
-        turn = known.turn ∙ sym (turn_same m after marks);
-        small = known.small;
-        index = subst (λ (b : ℕ). IsPageTable after b SLOTS table) c.home.ensures.is c.in_ok-write_run.ensures.index;
-        free = subst (λ (b : ℕ). AreFree after b next SLOTS) c.home.ensures.is c.in_ok-write_run.ensures.free;
+pub loop-init : goal.loop-init
+loop-init g c = record {
+  lit = c.requires.lit;
+  steady = record { lit = c.requires.lit; due = refl; faults = omega arith };
+  failed = omega arith;
+  operations = omega arith;
+  log = c.requires.log;
+  whole = inl refl;
+}
+
+pub loop-preserved : goal.loop-preserved
+loop-preserved g c =
+    let m = words_of (g.F.Flash.state c.args.flash.now).words in
+    let mid = words_of (g.F.Flash.state c.loop.flash).words in
+    let after = words_of (g.F.Flash.state c.write_once.new.flash).words in
+    let at = 16 * c.args.page + c.args.first in
+    let all : length m ≡ 16384 = length-words (g.F.Flash.state c.args.flash.now).words in
+    let fits : at + length c.args.words.now ≤ length m = omega (arith, all, c.requires.page, c.requires.run) in
+    let was = c.loop.invariant in
+    let failed = c.in-Err-Fault.ensures.light.fault (ap Err c.in-Err-Fault.field-0-is) in
+    let power = failed.0 in
+    let more = failed.1 in
+    let work = c.write_once.ensures.work.operations in record {
+      lit = power.lit;
+      steady = record {
+        lit = power.lit;
+        due = power.due ∙ was.steady.due;
+        faults = omega (arith, was.steady.faults, more);
       };
+      failed = omega (arith, was.failed, more);
+      operations = omega (arith, was.operations, work, more);
+      log = c.write_once.ensures.log;
+      whole = whole_again m mid after c.args.words.now at fits was.whole c.write_once.ensures.whole;
     }
+
+pub returns-in-Ok-clause-whole : goal.returns-in-Ok-clause-whole
+returns-in-Ok-clause-whole g c =
+    let m = words_of (g.F.Flash.state c.args.flash.now).words in
+    let mid = words_of (g.F.Flash.state c.loop.flash).words in
+    let after = words_of (g.F.Flash.state c.write_once.new.flash).words in
+    let at = 16 * c.args.page + c.args.first in
+    let all : length m ≡ 16384 = length-words (g.F.Flash.state c.args.flash.now).words in
+    let fits : at + length c.args.words.now ≤ length m = omega (arith, all, c.requires.page, c.requires.run) in
+    whole_again m mid after c.args.words.now at fits c.loop.invariant.whole c.write_once.ensures.whole
+
+pub returns-in-Ok-clause-done : goal.returns-in-Ok-clause-done
+returns-in-Ok-clause-done g c =
+    let m = words_of (g.F.Flash.state c.args.flash.now).words in
+    let mid = words_of (g.F.Flash.state c.loop.flash).words in
+    let after = words_of (g.F.Flash.state c.write_once.new.flash).words in
+    let at = 16 * c.args.page + c.args.first in
+    let all : length m ≡ 16384 = length-words (g.F.Flash.state c.args.flash.now).words in
+    let fits : at + length c.args.words.now ≤ length m = omega (arith, all, c.requires.page, c.requires.run) in
+    done_again m mid after c.args.words.now at fits c.loop.invariant.whole c.in-Ok.ensures.done
+
+pub returns-in-Err-PowerLost-clause-whole : goal.returns-in-Err-PowerLost-clause-whole
+returns-in-Err-PowerLost-clause-whole g c =
+    let m = words_of (g.F.Flash.state c.args.flash.now).words in
+    let mid = words_of (g.F.Flash.state c.loop.flash).words in
+    let after = words_of (g.F.Flash.state c.write_once.new.flash).words in
+    let at = 16 * c.args.page + c.args.first in
+    let all : length m ≡ 16384 = length-words (g.F.Flash.state c.args.flash.now).words in
+    let fits : at + length c.args.words.now ≤ length m = omega (arith, all, c.requires.page, c.requires.run) in
+    whole_again m mid after c.args.words.now at fits c.loop.invariant.whole c.write_once.ensures.whole
+
+pub returns-clause-whole : goal.returns-clause-whole
+returns-clause-whole g c =
+    let m = words_of (g.F.Flash.state c.args.flash.now).words in
+    let mid = words_of (g.F.Flash.state c.loop.flash).words in
+    let after = words_of (g.F.Flash.state c.write_once-2.new.flash).words in
+    let at = 16 * c.args.page + c.args.first in
+    let all : length m ≡ 16384 = length-words (g.F.Flash.state c.args.flash.now).words in
+    let fits : at + length c.args.words.now ≤ length m = omega (arith, all, c.requires.page, c.requires.run) in
+    whole_again m mid after c.args.words.now at fits c.loop.invariant.whole c.write_once-2.ensures.whole
+
+pub returns-clause-done : goal.returns-clause-done
+returns-clause-done g c =
+    let m = words_of (g.F.Flash.state c.args.flash.now).words in
+    let mid = words_of (g.F.Flash.state c.loop.flash).words in
+    let after = words_of (g.F.Flash.state c.write_once-2.new.flash).words in
+    let at = 16 * c.args.page + c.args.first in
+    let all : length m ≡ 16384 = length-words (g.F.Flash.state c.args.flash.now).words in
+    let fits : at + length c.args.words.now ≤ length m = omega (arith, all, c.requires.page, c.requires.run) in
+    on_ok_weaker c.write_once-2.result (done_again m mid after c.args.words.now at fits c.loop.invariant.whole)
+    c.write_once-2.ensures.done

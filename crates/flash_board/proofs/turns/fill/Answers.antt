@@ -1,11 +1,11 @@
-use Rattle.std.proofs.Common.{◌≡◌, ◌≤◌, ◌<◌, ◌+◌, ℕ, false, inr, sym, ap, subst, ◌∙◌, arith}
+use Rattle.std.proofs.Common.{◌≤◌, ◌<◌, ◌+◌, ℕ, inr, sym, ap, subst, ◌∙◌, arith}
 use Rattle.flash_board.specs.declared.flash.TheConstants.{BLANK}
-use Rattle.flash_board.specs.FlashBlocks.{block_start, block_size}
+use Rattle.flash_board.specs.FlashBlocks.{block_start}
 use Rattle.flash_board.specs.FlashCalls.{SameElsewhere, AreFilled}
-use Rattle.flash_board.specs.FlashLogs.{base_in, close_of, is_closed as has_closed}
+use Rattle.flash_board.specs.FlashLogs.{base_in, is_closed as has_closed}
 use Rattle.flash_board.specs.laws.Copying.{SameArea, area_found, area_page}
 use Rattle.flash_board.specs.laws.Marks.{closed_same}
-use Rattle.flash_board.specs.laws.Moving.{IsArea, is_area, whole_area, erased_free, erased_open}
+use Rattle.flash_board.specs.laws.Moving.{is_area, whole_area, erased_free, erased_open}
 use Rattle.flash_board.proofs.turns.fill.Goals as goal
 
 pub copy_pages-requires-clause-index : goal.copy_pages-requires-clause-index

@@ -1,11 +1,9 @@
-use Rattle.std.proofs.Common.{◌≡◌, ◌≤◌, ◌<◌, ◌+◌, ℕ, List, true, false, ⊎_elim, sym, ap, ◌∙◌, inl, inr, arith}
+use Rattle.std.proofs.Common.{◌≡◌, ◌≤◌, ◌<◌, ◌+◌, ⊎_elim, sym, ◌∙◌, inl, inr, arith}
 use Rattle.std.proofs.Common.{true≢false}
-use Rattle.flash_board.specs.PageTables.{IsPageTable}
-use Rattle.flash_board.specs.FlashLogs.{turn_of, is_closed as has_closed}
+use Rattle.flash_board.specs.FlashLogs.{turn_of}
 use Rattle.flash_board.specs.laws.Copying.{SameArea, area_found, area_free}
-use Rattle.flash_board.specs.laws.Moving.{Passes, Stays, zero_stays, one_stays, two_stays, zero_passes, two_passes}
-use Rattle.flash_board.specs.laws.Moving.{witness_passes}
-use Rattle.flash_board.specs.laws.Turns.{zero_marks, one_marks, two_marks}
+use Rattle.flash_board.specs.laws.Moving.{Passes, Stays, two_stays, two_passes}
+use Rattle.flash_board.specs.laws.Turns.{two_marks}
 use Rattle.flash_board.specs.laws.Marks.{closed_same}
 use Rattle.flash_board.proofs.turns.move_to_a.Goals as goal
 

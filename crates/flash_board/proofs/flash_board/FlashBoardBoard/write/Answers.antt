@@ -1,4 +1,4 @@
-use Rattle.std.proofs.Common.{◌≡◌, ◌+◌, ℕ, List, refl, sym, ap, subst, ◌∙◌, rules}
+use Rattle.std.proofs.Common.{ℕ, List, refl, sym, ap, subst, rules}
 use Rattle.nvm_board.specs.Facts.{Facts, address, IsLostRightly}
 use Rattle.nvm_board.specs.Torn.{Torn}
 use Rattle.nvm_board.specs.laws.Torn.{Torn-none}

@@ -1,0 +1,15 @@
+use Rattle.std.proofs.Common.{◌≡◌, ◌≤◌, ◌+◌, ◌*◌, false, slice_index}
+use Rattle.flash_board.specs.CopyParts.{KeepsOthers}
+use Rattle.flash_board.specs.FlashCalls.{KeepsPower, SameElsewhere}
+use Rattle.flash_board.specs.FlashLogs.{base_in}
+use Rattle.flash_board.proofs.moving.put_in_spare.Given as goal
+
+abbrev pub invariant-loop-slot : goal.invariant-loop-slot
+invariant-loop-slot g l = let old = g.F.Flash.state l.initial.flash in let new = g.F.Flash.state l.flash in record {
+  lit : new.dark ≡ false;
+  steady : KeepsPower old new;
+  failed : old.faults + l.slot ≤ new.faults + l.next;
+  operations : new.operations + 2 * old.faults ≤ old.operations + 2 * new.faults;
+  elsewhere : SameElsewhere old.words (base_in l.area) 25600 new.words;
+  kept : KeepsOthers old.words (base_in l.area) (slice_index l.words 16) new.words l.slot;
+}

@@ -1,0 +1,17 @@
+use Rattle.std.proofs.Common.{◌≡◌, ◌⊎◌, ◌≤◌, ◌+◌, ◌*◌, false}
+use Rattle.nvm_board.specs.Torn.{written}
+use Rattle.flash_board.specs.FlashCalls.{KeepsPower}
+use Rattle.flash_board.specs.FlashLogs.{words_of}
+use Rattle.flash_board.specs.Places.{IsLog}
+use Rattle.flash_board.proofs.steps.write_at.Given as goal
+
+abbrev pub invariant-loop : goal.invariant-loop
+invariant-loop g l = let old = g.F.Flash.state l.initial.flash in let new = g.F.Flash.state l.flash in record {
+  lit : new.dark ≡ false;
+  steady : KeepsPower old new;
+  failed : old.faults + l.counter ≤ new.faults + 1;
+  operations : new.operations + 2056 * old.faults ≤ old.operations + 2056 * new.faults;
+  log : IsLog new.words l.place;
+  whole : (words_of new.words ≡ words_of old.words)
+      ⊎ (words_of new.words ≡ written (words_of old.words) (16 * l.page + l.first) l.words);
+}
