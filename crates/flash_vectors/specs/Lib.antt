@@ -1,0 +1,2 @@
+pub mod SimCuts
+pub mod SimStates

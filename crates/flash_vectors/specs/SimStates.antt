@@ -1,0 +1,13 @@
+-- The state of a simulated flash.
+use Rattle.flash_board.specs.FlashCalls.{FlashState}
+use Rattle.flash_vectors.specs.SimCuts.{cuts_set}
+use Rattle.flash_vectors.specs.declared.sim_flash.SimFlash.{SimFlash}
+
+abbrev pub sim_state : SimFlash → FlashState
+sim_state f = record {
+  words = f.words.items;
+  dark = f.dark;
+  due = cuts_set f.fails f.left;
+  faults = f.faults;
+  operations = f.operations;
+}

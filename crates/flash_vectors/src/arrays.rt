@@ -1,0 +1,120 @@
+//! Random writes with power losses and faults, beside a board in working memory.
+ghost use Rattle.std.specs.Prelude.{◌<◌, ◌≤◌, ◌+◌};
+
+use crate::SimFlash;
+use flash_board::{FlashBoard, FlashLog, FlashSocket, format_flash};
+use nvm_board::{Board, DeviceErr};
+use simulated_boards::RamBoard;
+use std::test::Fail;
+
+/// The writes of a round, if no power loss ends it.
+const WRITES: u32 = 400;
+
+/// Random numbers.
+#[derive(Drop)]
+struct Random(u64);
+
+impl Random {
+    /// Returns a number below `end`.
+    fn below(&mut self, end: u32) -> u32
+        requires { 0 < end }
+        ensures { result < end }
+    {
+        self.0 = self
+            .0
+            .wrapping_mul(6_364_136_223_846_793_005)
+            .wrapping_add(1_442_695_040_888_963_407);
+        (self.0 >> 33) as u32 % end
+    }
+}
+
+/// Returns the board of a flash whose power comes back. All but the flash is lost.
+pub fn powered(flash: SimFlash) -> Result<FlashBoard<SimFlash>, Fail> {
+    let mut flash = flash;
+    flash.light();
+    match FlashLog::open(flash) {
+        Ok(log) => Ok(FlashBoard::new(log)),
+        Err(_) => Err(Fail::from("the flash has no log")),
+    }
+}
+
+/// Returns three words.
+fn words_at<B: Board>(board: &mut B, at: u16) -> Result<[u32; 3], Fail>
+    requires { at + 3 ≤ 16384 }
+{
+    Ok([board.read(at)?, board.read(at + 1)?, board.read(at + 2)?])
+}
+
+/// Returns true if two boards have the same words.
+fn are_same<A: Board, B: Board>(one: &mut A, other: &mut B) -> Result<bool, Fail> {
+    for at in 0..16384 {
+        if one.read(at)? != other.read(at)? {
+            return Ok(false);
+        }
+    }
+    Ok(true)
+}
+
+/// Writes three words to both boards. Returns the flash if power is lost: then they are old, or all are new.
+fn write_both(
+    board: FlashBoard<SimFlash>,
+    ram: &mut RamBoard,
+    random: &mut Random,
+) -> Result<FlashBoard<SimFlash>, Fail> {
+    // Mostly few pages, so that a move copies few.
+    let few = random.below(4) > 0;
+    let page = if few {
+        random.below(9) * 113
+    } else {
+        random.below(1024)
+    } as u16;
+    let first = random.below(14) as u8;
+    let words = [
+        random.below(1 << 31),
+        random.below(1 << 31),
+        random.below(1 << 31),
+    ];
+    let mut board = board;
+    if board.write(page, first, &words) == Err(DeviceErr::PowerLost) {
+        board = powered(board.into_log().into_flash())?;
+        let now = words_at(&mut board, 16 * page + u16::from(first))?;
+        if now == words_at(ram, 16 * page + u16::from(first))? {
+            return Ok(board);
+        }
+    }
+    ram.write(page, first, &words)?;
+    if words_at(&mut board, 16 * page + u16::from(first))? != words {
+        return Err(Fail::from("the words are neither old nor new"));
+    }
+    Ok(board)
+}
+
+/// Plays writes, of which one meets a power loss or a fault at some operation of the flash.
+fn play_round(flash: SimFlash, ram: &mut RamBoard, random: &mut Random) -> Result<SimFlash, Fail> {
+    let mut flash = flash;
+    let far = [3, 8, 40, 700, 2500][random.below(5) as usize];
+    flash.set(1 + random.below(far), random.below(4) == 0);
+    let mut board = powered(flash)?;
+    for _ in 0..WRITES {
+        board = write_both(board, ram, random)?;
+    }
+    if random.below(8) == 0 && !are_same(&mut board, ram)? {
+        return Err(Fail::from("a word differs"));
+    }
+    Ok(board.into_log().into_flash())
+}
+
+#[test]
+fn writes_are_whole_or_not_begun(rt: HostRuntime) -> Result<(), Fail> {
+    let mut random = Random(7);
+    let mut flash = SimFlash::new(rt.alloc(), 7)?;
+    format_flash(&mut flash)?;
+    // A slot that always fails, and stays blank.
+    flash.stick(25602 + 20 * 600);
+    let mut ram = RamBoard::new(rt.alloc())?;
+    for _ in 0..200 {
+        flash = play_round(flash, &mut ram, &mut random)?;
+    }
+    assert!(rt; flash.faults() > 0 && flash.operations() > 100_000);
+    Ok(())
+}
