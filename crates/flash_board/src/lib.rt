@@ -1,5 +1,5 @@
-//! A board on a flash. Each write of the board is whole or not begun, whatever a power loss leaves in the words that the
-//! flash was programming, or in the block that it was erasing.
+//! A board on a flash. Each write of the board is whole or not begun, whatever a power loss leaves in the words that
+//! the flash was programming, or in the block that it was erasing.
 #![tactic(auto)]
 
 mod flash;
