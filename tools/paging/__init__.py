@@ -1,0 +1,1 @@
+"""What tools/page makes of web/, the module and the examples."""
