@@ -1,0 +1,1 @@
+"""The browsers that tools/test-page drives, and what it compares."""

@@ -1,0 +1,288 @@
+"""Chromium by chromedriver's HTTP, and Firefox by its own protocol, Marionette, since Debian has no geckodriver.
+
+Neither has a window, nor a way to any other machine."""
+from __future__ import annotations
+
+import base64
+import json
+import os
+import re
+import shutil
+import socket
+import subprocess
+import tempfile
+import time
+import urllib.error
+import urllib.request
+from pathlib import Path
+from typing import Any, Protocol
+
+SIZE = (1400, 1000)
+SECONDS = 120
+# (a proxy of the environment isn't asked for this machine)
+OPENER = urllib.request.build_opener(urllib.request.ProxyHandler({}))
+ELEMENT = "element-6066-11e4-a52e-4f735466cecf"
+# of Firefox: nothing but this machine is reached, and nothing is asked of its makers
+PREFERENCES = {
+    "marionette.port": 0,
+    "network.proxy.type": 1,
+    "network.proxy.http": "127.0.0.1",
+    "network.proxy.http_port": 9,
+    "network.proxy.ssl": "127.0.0.1",
+    "network.proxy.ssl_port": 9,
+    "network.proxy.no_proxies_on": "127.0.0.1",
+    "browser.shell.checkDefaultBrowser": False,
+    "datareporting.policy.dataSubmissionEnabled": False,
+    "app.update.enabled": False,
+    "browser.startup.homepage": "about:blank",
+    "toolkit.telemetry.enabled": False,
+}
+
+
+class Missing(Exception):
+    """A browser that isn't installed."""
+
+
+class Browser(Protocol):
+    """What the tests need of a browser."""
+
+    name: str
+
+    def get(self, url: str) -> None:
+        ...
+
+    def run(self, script: str, *given: object) -> Any:
+        ...
+
+    def wait_for(self, script: str, *given: object) -> Any:
+        ...
+
+    def keys(self, selector: str, text: str) -> None:
+        ...
+
+    def click(self, selector: str) -> None:
+        ...
+
+    def picture(self, path: Path) -> None:
+        ...
+
+    def messages(self) -> list[str]:
+        ...
+
+    def requests(self) -> list[str]:
+        ...
+
+    def size(self, width: int, height: int) -> None:
+        ...
+
+    def quit(self) -> None:
+        ...
+
+
+class Chromium:
+    """Chromium, by the program chromedriver and its HTTP."""
+
+    name = "Chromium"
+
+    def __init__(self) -> None:
+        program, driver = shutil.which("chromium"), shutil.which("chromedriver")
+        if not program or not driver:
+            raise Missing("chromium and chromium-driver")
+        self.room = tempfile.TemporaryDirectory(prefix="page-test-")
+        self.process = subprocess.Popen(
+            [driver, "--port=0"], stdout=subprocess.PIPE, stderr=subprocess.DEVNULL, text=True
+        )
+        assert self.process.stdout
+        said = (re.search(r"successfully on port ([0-9]+)", line) for line in self.process.stdout)
+        port = next((it[1] for it in said if it), None)
+        if not port:
+            raise Missing("a chromedriver that starts")
+        self.base = f"http://127.0.0.1:{port}/session"
+        self.base += "/" + self.call("", {"capabilities": {"alwaysMatch": self.wanted(program)}})["sessionId"]
+        self.call("/timeouts", {"script": 1000 * SECONDS})
+
+    def wanted(self, program: str) -> dict[str, Any]:
+        """What the browser is started with."""
+        words = [
+            "--headless=new",
+            "--disable-gpu",
+            f"--window-size={SIZE[0]},{SIZE[1]}",
+            "--no-first-run",
+            "--host-resolver-rules=MAP * ~NOTFOUND, EXCLUDE 127.0.0.1",
+            "--disable-background-networking",
+            f"--user-data-dir={self.room.name}/profile",
+            "--force-color-profile=srgb",
+        ]
+        # (its own sandbox needs a user that isn't root)
+        words += ["--no-sandbox", "--disable-dev-shm-usage"] if os.geteuid() == 0 else []
+        prefs = {"download.default_directory": self.room.name, "profile.default_content_setting_values.clipboard": 1}
+        return {
+            "goog:chromeOptions": {"binary": program, "args": words, "prefs": prefs},
+            "goog:loggingPrefs": {"browser": "ALL", "performance": "ALL"},
+        }
+
+    def call(self, path: str, more: dict[str, Any] | None = None, method: str = "POST") -> Any:
+        """A command of the protocol, and its value."""
+        data = None if more is None else json.dumps(more).encode()
+        asked = urllib.request.Request(self.base + path, data, {"Content-Type": "application/json"}, method=method)
+        try:
+            with OPENER.open(asked, timeout=2 * SECONDS) as answer:
+                return json.load(answer)["value"]
+        except urllib.error.HTTPError as error:
+            raise RuntimeError(json.load(error)["value"]["message"].splitlines()[0]) from None
+
+    def get(self, url: str) -> None:
+        self.call("/url", {"url": url})
+
+    def run(self, script: str, *given: object) -> Any:
+        return self.call("/execute/sync", {"script": script, "args": given})
+
+    def wait_for(self, script: str, *given: object) -> Any:
+        return self.call("/execute/async", {"script": script, "args": given})
+
+    def found(self, selector: str) -> str:
+        """The name of an element."""
+        return self.call("/element", {"using": "css selector", "value": selector})[ELEMENT]
+
+    def keys(self, selector: str, text: str) -> None:
+        self.call(f"/element/{self.found(selector)}/value", {"text": text})
+
+    def click(self, selector: str) -> None:
+        self.call(f"/element/{self.found(selector)}/click", {})
+
+    def send(self, key: str) -> None:
+        """A key, to whatever has the focus."""
+        steps = [{"type": "keyDown", "value": key}, {"type": "keyUp", "value": key}]
+        self.call("/actions", {"actions": [{"type": "key", "id": "keys", "actions": steps}]})
+
+    def picture(self, path: Path) -> None:
+        path.write_bytes(base64.b64decode(self.call("/screenshot", method="GET")))
+
+    def messages(self) -> list[str]:
+        return [f"{it['level']}: {it['message']}" for it in self.call("/se/log", {"type": "browser"})]
+
+    def requests(self) -> list[str]:
+        """The addresses that the page asked for since the last call."""
+        told = [json.loads(it["message"])["message"] for it in self.call("/se/log", {"type": "performance"})]
+        return [it["params"]["request"]["url"] for it in told if it["method"] == "Network.requestWillBeSent"]
+
+    def devtools(self, command: str, **given: object) -> Any:
+        """A command of the DevTools protocol."""
+        return self.call("/goog/cdp/execute", {"cmd": command, "params": given})
+
+    def size(self, width: int, height: int) -> None:
+        self.devtools(
+            "Emulation.setDeviceMetricsOverride", width=width, height=height, deviceScaleFactor=1, mobile=False
+        )
+
+    def tree(self) -> list[dict[str, Any]]:
+        """The accessibility tree."""
+        return self.devtools("Accessibility.getFullAXTree")["nodes"]
+
+    def dark(self, is_dark: bool) -> None:
+        """Sets the visitor's colours."""
+        features = [{"name": "prefers-color-scheme", "value": "dark" if is_dark else "light"}]
+        self.devtools("Emulation.setEmulatedMedia", features=features)
+
+    def quit(self) -> None:
+        try:
+            self.call("", method="DELETE")
+        except (RuntimeError, OSError):
+            pass
+        self.process.terminate()
+        self.process.wait(30)
+        self.room.cleanup()
+
+
+class Firefox:
+    """Firefox."""
+
+    name = "Firefox"
+
+    def __init__(self) -> None:
+        program = shutil.which("firefox-esr") or shutil.which("firefox")
+        if not program:
+            raise Missing("firefox-esr")
+        self.room, self.number = tempfile.TemporaryDirectory(prefix="page-test-"), 0
+        profile = Path(self.room.name)
+        lines = [f"user_pref({json.dumps(name)}, {json.dumps(it)});\n" for name, it in PREFERENCES.items()]
+        (profile / "user.js").write_text("".join(lines), encoding="utf-8")
+        words = [program, "--headless", "--no-remote", "--marionette", "--profile", self.room.name]
+        words += ["--width", str(SIZE[0]), "--height", str(SIZE[1])]
+        # (its sandbox wants namespaces that a container may not have)
+        environment = {**os.environ, "HOME": self.room.name, "MOZ_DISABLE_CONTENT_SANDBOX": "1"}
+        quiet = subprocess.DEVNULL
+        self.process = subprocess.Popen(words, env=environment, stdin=quiet, stdout=quiet, stderr=quiet)
+        self.line = self.connected(profile / "MarionetteActivePort")
+        self.read()
+        self.call("WebDriver:NewSession", {})
+        self.call("WebDriver:SetTimeouts", {"script": 1000 * SECONDS})
+
+    def connected(self, port: Path) -> socket.socket:
+        """The connection, once Firefox has said its port."""
+        end = time.monotonic() + SECONDS
+        while time.monotonic() < end and self.process.poll() is None:
+            if port.is_file() and (digits := port.read_text()).isdigit():
+                return socket.create_connection(("127.0.0.1", int(digits)))
+            time.sleep(0.1)
+        raise Missing("a firefox-esr that starts")
+
+    def read(self) -> Any:
+        """One message: its length, a colon, JSON."""
+        digits = b""
+        while (it := self.line.recv(1)) != b":":
+            digits += it
+        text = b""
+        while len(text) < int(digits):
+            text += self.line.recv(int(digits) - len(text))
+        return json.loads(text)
+
+    def call(self, name: str, more: dict[str, Any]) -> Any:
+        """A command and its result."""
+        self.number += 1
+        text = json.dumps([0, self.number, name, more]).encode()
+        self.line.sendall(b"%d:%s" % (len(text), text))
+        _, _, error, result = self.read()
+        if error:
+            raise RuntimeError(error["message"])
+        return result.get("value") if isinstance(result, dict) and "value" in result else result
+
+    def get(self, url: str) -> None:
+        self.call("WebDriver:Navigate", {"url": url})
+
+    def run(self, script: str, *given: object) -> Any:
+        return self.call("WebDriver:ExecuteScript", {"script": script, "args": given, "sandbox": None})
+
+    def wait_for(self, script: str, *given: object) -> Any:
+        return self.call("WebDriver:ExecuteAsyncScript", {"script": script, "args": given, "sandbox": None})
+
+    def found(self, selector: str) -> str:
+        """The name of an element."""
+        return self.call("WebDriver:FindElement", {"using": "css selector", "value": selector})[ELEMENT]
+
+    def keys(self, selector: str, text: str) -> None:
+        self.call("WebDriver:ElementSendKeys", {"id": self.found(selector), "text": text})
+
+    def click(self, selector: str) -> None:
+        self.call("WebDriver:ElementClick", {"id": self.found(selector)})
+
+    def picture(self, path: Path) -> None:
+        path.write_bytes(base64.b64decode(self.call("WebDriver:TakeScreenshot", {"full": False})))
+
+    def messages(self) -> list[str]:
+        return []
+
+    def requests(self) -> list[str]:
+        return []
+
+    def size(self, width: int, height: int) -> None:
+        self.call("WebDriver:SetWindowRect", {"width": width, "height": height})
+
+    def quit(self) -> None:
+        try:
+            self.call("Marionette:Quit", {"flags": ["eForceQuit"]})
+        except (RuntimeError, OSError, ValueError):
+            self.process.terminate()
+        self.line.close()
+        self.process.wait(30)
+        self.room.cleanup()

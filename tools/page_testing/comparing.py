@@ -1,0 +1,219 @@
+"""What the page's parts answer, compared with the bench, explain.rows, tools/bad-line, the prompt and tools/sweep."""
+from __future__ import annotations
+
+import base64
+import json
+import random
+import re
+import subprocess
+from collections.abc import Callable, Iterator
+from functools import cache
+from pathlib import Path
+from typing import Any
+
+from prompting.names import NAMES, Unclear, line_for
+from script_lines import ORDERS_THAT_PRINT, fault
+
+TOP = Path(__file__).resolve().parent.parent.parent
+SWEEPS = ("update_binary", "change_pin", "delete_directory")
+# what JavaScript has no table of, and what only a file's first line has
+NOT_COMPARED = re.compile(r" \([a-z0-9 -]+\), which no order has$|^the file |^it ends with a carriage return and")
+PAGES = 1024
+Ask = Callable[[str, Any], Any]
+
+
+class Tally:
+    """What passed, and what did not."""
+
+    def __init__(self) -> None:
+        self.passed = self.failed = 0
+
+    def same(self, came: object, wanted: object, what: str) -> None:
+        """Compares, and reports what differs."""
+        if came == wanted:
+            self.passed += 1
+        else:
+            self.failed += 1
+            print(f"FAIL {what}\n  wanted: {str(wanted)[:400]}\n  came:   {str(came)[:400]}", flush=True)
+
+    def true(self, holds: bool, what: str) -> None:
+        """Counts a thing that must hold."""
+        self.same(holds, True, what)
+
+
+@cache
+def scripts() -> dict[str, bytes]:
+    """All scripts of the repository; of a test the lines that run."""
+    paths = [
+        *(TOP / "examples").glob("**/*.script"),
+        *(TOP / "examples").glob("tests/*.test"),
+        *TOP.glob("rows/*.rows"),
+    ]
+    found = {}
+    for path in sorted(paths):
+        lines = path.read_bytes().splitlines(True)
+        kept = lines if path.suffix == ".script" else [it for it in lines if not it.startswith(b"= ")]
+        found[str(path.relative_to(TOP))] = b"".join(kept)
+    return found
+
+
+@cache
+def wanted_outputs(program: str) -> dict[str, tuple[str, int]]:
+    """What the bench prints of each script, and its status."""
+    found = {}
+    for name, script in scripts().items():
+        ran = subprocess.run([program], input=script, stdout=subprocess.PIPE, stderr=subprocess.DEVNULL, check=False)
+        found[name] = ran.stdout.decode("latin-1"), ran.returncode
+    return found
+
+
+def compare_outputs(ask: Ask, program: str, tally: Tally, where: str) -> None:
+    """Each script by the page's own run and by the bench in the module, and by the bench."""
+    came = ask("outputs", [it.decode("latin-1") for it in scripts().values()])
+    for (name, wanted), it in zip(wanted_outputs(program).items(), came):
+        tally.same((it["mine"], it["status"]), wanted, f"{where}: {name} by the page")
+        tally.same(
+            (it["bench"]["output"], it["bench"]["status"]), wanted, f"{where}: {name} by the bench in the module"
+        )
+
+
+def explained() -> Iterator[tuple[list[str], dict[int, tuple[str, str]]]]:
+    """The cases of explain.rows: the lines, and by the number of an answer its line and its words."""
+    lines: list[str] = []
+    wanted: dict[int, tuple[str, str]] = {}
+    for line in (TOP / "tools/explain.rows").read_text(encoding="utf-8").splitlines():
+        if line.startswith("case "):
+            if lines:
+                yield lines, wanted
+            lines, wanted = ["on"], {}
+        elif line.startswith("~ "):
+            wanted[sum(it.split(" ")[0] in ORDERS_THAT_PRINT for it in lines) - 1] = lines[-1], line[2:]
+        elif line and not line.startswith("#"):
+            lines.append(line)
+    yield lines, wanted
+
+
+def compare_words(ask: Ask, tally: Tally, where: str) -> None:
+    """The words of each answer."""
+    cases = list(explained())
+    came = ask("words", ["\n".join(lines) + "\n" for lines, _ in cases])
+    for said, (_, wanted) in zip(came, cases):
+        for at, (line, words) in wanted.items():
+            tally.same(said[at] if at < len(said) else None, words, f"{where}: the words of {line[:60]}")
+
+
+def some_lines() -> list[str]:
+    """Lines of all kinds: those of the examples, with one thing changed, and names of the prompt with their words."""
+    chance, found = random.Random(7), set()
+    for script in scripts().values():
+        found |= set(script.decode("latin-1").split("\n"))
+    plain = sorted(it for it in found if len(it) < 1100 and not it.endswith("\r"))
+    for line in list(plain):
+        at, sign = chance.randrange(len(line) + 1), chance.choice(" \t#0gAx-=>;")
+        plain.append(
+            line[:at] + chance.choice([sign, sign + line[at : at + 1], "", 2 * line[at : at + 1]]) + line[at + 1 :]
+        )
+    words = [
+        "",
+        "2FE2",
+        "..",
+        "name A0000000871002",
+        "3F00/2FE2",
+        "0",
+        "0 256",
+        "0 0102",
+        "1",
+        "next 0102",
+        "01FF",
+        "9",
+        "1 1234",
+        "1 1234 5678",
+        "1 12345678 123456789",
+        "6F01 transparent 10",
+        "6F01 cyclic 4 3",
+        "6F02 directory",
+        "6F02 directory A0",
+        "6F01 linear 0 3",
+        "card",
+        "file 6F01",
+        "what",
+        "x y z",
+    ]
+    plain += [f"{name} {it}".rstrip() for name in [*NAMES, "selct", "SELECT", "aapdu", "reset", "onn"] for it in words]
+    return plain
+
+
+def wanted_name(line: str) -> dict[str, str] | None:
+    """What the prompt makes of a line."""
+    try:
+        made = line_for(line) if line.split() else None
+    except Unclear as why:
+        return {"why": str(why)}
+    return None if made is None else {"line": made}
+
+
+def compare_lines(ask: Ask, tally: Tally, where: str) -> None:
+    """Good and bad lines, as tools/bad-line and the prompt have them; a check for each of three questions."""
+    lines = some_lines()
+    others: dict[str, list[tuple[str, object, object]]] = {
+        "whether a line is one": [],
+        "its fault": [],
+        "its name": [],
+    }
+    for line, came in zip(lines, ask("lines", lines)):
+        why = fault(line.encode("latin-1"), 2, True)
+        if came["isGood"] != (why is None):
+            others["whether a line is one"].append((line, came["isGood"], why))
+        if why and not NOT_COMPARED.search(why) and came["why"] != why:
+            others["its fault"].append((line, came["why"], why))
+        if line.isascii() and line.isprintable() and came["name"] != wanted_name(line):
+            others["its name"].append((line, came["name"], wanted_name(line)))
+    for what, differ in others.items():
+        tally.same(differ[:3], [], f"{where}: {what}, of {len(lines)} lines")
+
+
+@cache
+def wanted_sweep(path: Path) -> dict[str, Any]:
+    """What tools/sweep finds."""
+    words, quiet = [str(TOP / "tools/sweep"), "--json", str(path)], subprocess.DEVNULL
+    told = json.loads(subprocess.run(words, stdout=subprocess.PIPE, stderr=quiet, check=True).stdout)
+    return {
+        "answer": f"< {told['answer']}",
+        "runs": told["runs"],
+        "commits": told["commits"],
+        "writes": [[it["words"], it["kind"]] for it in told["writes"]],
+        "outcomes": [[it["runs"], it["card"]] for it in told["outcomes"]],
+    }
+
+
+def compare_sweeps(ask: Ask, tally: Tally, where: str) -> None:
+    """Every cut of some commands, as tools/sweep has them."""
+    for name in SWEEPS:
+        path = TOP / "examples/sweep" / f"{name}.script"
+        tally.same(ask("sweep", path.read_text(encoding="latin-1")), wanted_sweep(path), f"{where}: the sweep {name}")
+
+
+def compare_images(ask: Ask, program: str, tally: Tally, where: str, room: Path) -> None:
+    """Memory images: the bench's own, damaged ones, and files that are none."""
+    card = room / "images.card"
+    subprocess.run([program, "--card", card], input=b"on\n", stdout=subprocess.DEVNULL, check=True)
+    good, chance = card.read_bytes(), random.Random(8)
+    unmarked, deep = b"XXXX" + good[4:], bytearray(good)
+    deep[64 * 73 : 64 * 73 + 4] = b"\0\0\xff\xff"
+    sizes = [b"", good[:-1], good[:-64], good + bytes(64 * 3 * PAGES + 64), chance.randbytes(100)]
+    noise = [chance.randbytes(64 * PAGES), bytes(64 * PAGES)]
+    images = [good, good + bytes(64), unmarked, bytes(deep), *sizes, *noise]
+    came = ask("images", [base64.b64encode(it).decode() for it in images])
+    tally.same(came[:4], [None, None, "no card", "no card"], f"{where}: images of the right size")
+    for size, it in zip(sizes, came[4:]):
+        tally.true("a memory image has 64 bytes a page" in str(it), f"{where}: an image of {len(size)} bytes: {it}")
+    tally.same(came[-2:], ["no card", "no card"], f"{where}: noise as an image")
+
+
+def compare_all(ask: Ask, program: str, tally: Tally, where: str, room: Path) -> None:
+    """All of these."""
+    compare_outputs(ask, program, tally, where)
+    compare_words(ask, tally, where)
+    compare_lines(ask, tally, where)
+    compare_sweeps(ask, tally, where)
+    compare_images(ask, program, tally, where, room)
