@@ -77,8 +77,9 @@ export class MemoryView {
       const does = it.kind === "commit" ? "lowers the gate" : "an old word goes back";
       return `power-on, write ${now - own} of ${all - own}: ${does}`;
     }
-    const of = this.state.plain?.writes.length ?? own, fails = this.state.chosen && now === own;
-    return `write ${now} of ${of}: ${ACTIONS[it.kind]}${fails ? ", and power fails" : ""}`;
+    const { plain, chosen } = this.state, of = plain?.writes.length ?? own, fails = chosen && now === own;
+    // (a torn write is told as the whole one)
+    return `write ${now} of ${of}: ${ACTIONS[plain?.writes[now - 1]?.kind ?? it.kind]}${fails ? ", and power fails" : ""}`;
   }
 
   // The words of a write, old and new. A command's own write has a box for each, and a button that cuts there.

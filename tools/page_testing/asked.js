@@ -46,7 +46,20 @@
     };
   },
 
-  // Random bytes as images: what each is refused with, or null.
+  // The cards in images: files, PINs, free space, as the page shows them.
+  cards({ parts }, images) {
+    const { cardOf, imageOf } = parts.memory, { hex } = parts.card;
+    return images.map((letters) => {
+      const { files, pins, terminated, free, freeEntries } = cardOf(imageOf(parts.share.unbase64(letters)));
+      return {
+        files: files.map((it) => [["3F00", ...it.path].join("/"), it.kind, it.state, hex(it.body), it.records.map(hex)]),
+        pins: pins.map((it) => [it.tries, it.unblocking, it.value, it.puk, it.enabled]),
+        terminated, free: free.length, freeEntries,
+      };
+    });
+  },
+
+  // Images: what each is refused with, or null.
   images({ parts, module }, images) {
     const { Card } = parts.card;
     return images.map((letters) => {
