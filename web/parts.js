@@ -10,6 +10,7 @@ import * as run from "./run.js";
 import * as script from "./script.js";
 import * as share from "./share.js";
 import * as sweep from "./sweep.js";
+import * as templates from "./templates.js";
 import * as words from "./words.js";
 
-export const parts = { bench, card, fault, files, memory, names, run, script, share, sweep, words };
+export const parts = { bench, card, fault, files, memory, names, run, script, share, sweep, templates, words };

@@ -79,7 +79,8 @@ export class MemoryView {
     }
     const { plain, chosen } = this.state, of = plain?.writes.length ?? own, fails = chosen && now === own;
     // (a torn write is told as the whole one)
-    return `write ${now} of ${of}: ${ACTIONS[plain?.writes[now - 1]?.kind ?? it.kind]}${fails ? ", and power fails" : ""}`;
+    const does = ACTIONS[plain?.writes[now - 1]?.kind ?? it.kind];
+    return `write ${now} of ${of}: ${does}${fails ? ", and power fails" : ""}`;
   }
 
   // The words of a write, old and new. A command's own write has a box for each, and a button that cuts there.

@@ -1,7 +1,7 @@
 // What a command asks, what its answer says, and why it was refused: the words of tools/words, by facts of the
 // command's bytes, of the session, and of the card that the memory held before it. As tools/explain says it.
 
-import { hex } from "./card.js";
+import { hex, unhex } from "./card.js";
 import { STATES } from "./memory.js";
 import { Template, action, allows, count, follow, templateFault } from "./templates.js";
 
@@ -13,6 +13,11 @@ const BITS = {
   "00B0": 1, "00B2": 1, "00A2": 1, "00D6": 2, "00DC": 2, "8032": 2, "00E2": 3, "00E4": 7, "00E6": 6, "00E8": 6,
   "00FE": 6, "0044": 5, "0004": 4,
 };
+// the control byte of a block: where R-blocks and S-blocks begin, and the bit that says that more follows
+const R_BLOCK = 0x80;
+const S_BLOCK = 0xc0;
+const MORE = 0x20;
+const R_ERRORS = { 1: ", the check byte was wrong", 2: ", something else was wrong" };
 const BLOCK_BYTES = 60;
 const PINS = 8; // the card's; other references are told as P2 has them
 const named = (path) => (path ? ["3F00", ...path].at(-1) : null);
@@ -48,6 +53,9 @@ class Command {
   }
 }
 
+// Whether a block is an I-block that carries a whole command or answer.
+const isWhole = (block) => block.length > 4 && !(block[1] & (R_BLOCK | MORE)) && block[2] === block.length - 4;
+
 // The tables of tools/words: of each kind of thing its words by its key, and of each status its rows.
 export function readTables(card, why) {
   const names = {}, rows = {};
@@ -79,7 +87,7 @@ export class Log {
     const [kind, ...value] = printed.split(" "), { names } = this.tables;
     if (kind === "free") return `${count(Number(value[0]), "block")} and ${value[1]} entries are free`;
     if (asked.order === "on") [this.directory, this.element] = [[], null];
-    if (asked.order === "block" && kind === "<") return "a block of T=1";
+    if (asked.order === "block" && kind === "<") return this.blocks(asked.bytes, unhex(value[0]));
     if (kind === "<") return this.exchange(asked.bytes, value[0]);
     const words = names.answer[kind] ?? "";
     return asked.order === "apdu" ? `${this.command(new Command(asked.bytes))}: ${words}` : words;
@@ -88,7 +96,7 @@ export class Log {
   exchange(given, answer) {
     const it = new Command(given), status = answer.slice(-4), { names } = this.tables, asked = this.command(it);
     const because = status === "9000" ? null : this.why(it, status);
-    if (CARRIED_OUT.includes(status) && !it.fault) this.carriedOut(it);
+    this.follow(it, status);
     let words = this.status(status).replace(`${names.command[it.key]}: `, "");
     if (because) words = because[0] === "=" ? because.slice(1) : `${words}: ${because}`;
     if (it.key === "00A4" && answer.startsWith("62") && answer.length > 4) {
@@ -96,6 +104,42 @@ export class Log {
       words += `; ${new Template(bytes).inWords()}`;
     }
     return `${asked}: ${words}`;
+  }
+
+  // What a command that was carried out changes for those behind it.
+  follow(it, status) {
+    if (CARRIED_OUT.includes(status) && !it.fault) this.carriedOut(it);
+  }
+
+  // ---- blocks of T=1
+
+  // A block and its reply; a whole command in them is followed.
+  blocks(given, reply) {
+    const asked = this.block(given, (inner) => this.command(new Command(inner)));
+    const words = `${asked}; the reply: ${this.block(reply, (inner) => this.response(inner))}`;
+    if (isWhole(given) && isWhole(reply)) this.follow(new Command(given.slice(3, -1)), hex(reply.slice(-3, -1)));
+    return words;
+  }
+
+  // A block by its kind; what a whole I-block carries is told by `inner`.
+  block(given, inner) {
+    if (given.length < 4 || given[2] !== given.length - 4) return "a block of a wrong length";
+    if (given.reduce((sum, it) => sum ^ it)) return "a block with a wrong check byte";
+    if (given[0]) return `a block with node address ${byte(given[0])}`;
+    const control = given[1];
+    if (control < R_BLOCK) {
+      return `I-block ${(control >> 6) & 1}, ${control & MORE ? "more follows" : inner(given.slice(3, -1))}`;
+    }
+    if (control < S_BLOCK) return `R-block ${(control >> 4) & 1}${R_ERRORS[control & 0xf] ?? ""}`;
+    const words = this.tables.names.block[byte(control)] ?? byte(control);
+    return `S-block, ${words}${given.length === 5 ? ` ${given[3]}` : ""}`;
+  }
+
+  // The bytes of an answer: its status, and how many bytes stand before it.
+  response(data) {
+    const many = (it) => count(it, "byte");
+    if (data.length < 2) return many(data.length);
+    return `${data.length > 2 ? `${many(data.length - 2)}, ` : ""}${this.status(hex(data.slice(-2)))}`;
   }
 
   status(word) {

@@ -19,6 +19,7 @@ from .rewriting import Rewriting
 
 TOP = Path(__file__).resolve().parent.parent.parent
 CRATE = TOP / "crates" / "soffitfennel"
+ARCHIVE = CRATE / "out" / f"lib{CRATE.name}.a"
 HEAP = Path(__file__).resolve().parent / "heap.c"
 TARGET = "wasm32-unknown-unknown"
 # the function of C that stores a write of a card with a device, and its name for the page
@@ -82,15 +83,30 @@ def proved_text(room: Path) -> str:
     for name in ("rt", "rtlib.py"):
         shutil.copy(kit / "bin" / name, copy / "bin" / name)
     write_program(copy / "toolchain/bin/clang", KEEPER.format(kept=kept, compiler=compiler))
-    words = [str(TOP / "tools/library"), "--target", "x86_64-unknown-linux-gnu", str(room / "library")]
-    path = f"{copy / 'bin'}:{os.environ['PATH']}"
-    ran = subprocess.run(words, env={**os.environ, "PATH": path}, stdout=sys.stderr, check=False)
-    if ran.returncode or not kept.is_file():
-        raise Failed("the library wasn't proved and built")
+    prove_library(room, copy / "bin")
+    if not kept.is_file():
+        raise Strange("it proved the library and compiled no module")
     text = room / "proved.ll"
     of_module = ["-x", "ir", kept, "-S", "-emit-llvm", "-O0", "-Xclang", "-disable-llvm-passes", "-o", text]
     run(compiler, "--target=x86_64-unknown-linux-gnu", "--no-default-config", *of_module)
     return text.read_text(encoding="utf-8")
+
+
+def prove_library(room: Path, programs: Path) -> None:
+    """Proves the library by the programs of a folder. With --target it is always proved anew, and its archive is moved
+    away: the one that was there comes back."""
+    words = [str(TOP / "tools/library"), "--target", "x86_64-unknown-linux-gnu", str(room / "library")]
+    environment = {key: it for key, it in os.environ.items() if key != "SOFFITFENNEL_ARCHIVE"}
+    environment["PATH"] = f"{programs}:{os.environ['PATH']}"
+    kept = room / ARCHIVE.name
+    if ARCHIVE.is_file():
+        shutil.copy2(ARCHIVE, kept)
+    try:
+        if subprocess.run(words, env=environment, stdout=sys.stderr, check=False).returncode:
+            raise Failed("the library wasn't proved and built")
+    finally:
+        if kept.is_file():
+            shutil.copy2(kept, ARCHIVE)
 
 
 def kit_folder() -> Path:

@@ -49,7 +49,7 @@
       lost: names.filter((it) => it && !document.getElementById(it)),
       headings: all("h1, h2, h3").map((it) => it.tagName).join(" "),
       landmarks: ["header", "main", "footer"].map((it) => all(it).length),
-      unreached: all("body *").filter((it) => scrolls(it) && isLong(it) && !isReached(it)).map((it) => it.id || it.className),
+      unreached: all("body *").filter((it) => scrolls(it) && isLong(it) && !isReached(it)).map((it) => it.id),
       keepsZoom: !/user-scalable|maximum/.test(document.querySelector("meta[name=viewport]").content),
     };
   },

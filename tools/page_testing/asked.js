@@ -17,7 +17,8 @@
       const made = parts.run.run(card, parts.script.lines(script)), log = new parts.words.Log(tables);
       const image = made.first.slice(), said = [];
       for (const row of made.rows) {
-        if (row.printed !== null) said.push(log.printed(row.asked, row.printed, parts.memory.cardOf(image)));
+        const card = parts.memory.cardOf(image);
+        if (row.asked && row.printed !== null) said.push(log.printed(row.asked, row.printed, card));
         for (const it of row.writes) image.set(it.words, it.address);
       }
       return said;
@@ -52,7 +53,8 @@
     return images.map((letters) => {
       const { files, pins, terminated, free, freeEntries } = cardOf(imageOf(parts.share.unbase64(letters)));
       return {
-        files: files.map((it) => [["3F00", ...it.path].join("/"), it.kind, it.state, hex(it.body), it.records.map(hex)]),
+        files: files.map((it) =>
+          [["3F00", ...it.path].join("/"), it.kind, it.state, hex(it.body), it.records.map(hex)]),
         pins: pins.map((it) => [it.tries, it.unblocking, it.value, it.puk, it.enabled]),
         terminated, free: free.length, freeEntries,
       };
@@ -70,6 +72,15 @@
       } catch (why) {
         return why.outcome ?? why.message;
       }
+    });
+  },
+
+  // Of templates, given as digits: the fault of each, and else its words.
+  templates({ parts }, given) {
+    const { Template, templateFault } = parts.templates;
+    return given.map((digits) => {
+      const text = parts.card.unhex(digits);
+      return templateFault(text) ?? new Template(text).inWords();
     });
   },
 

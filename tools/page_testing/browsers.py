@@ -39,6 +39,22 @@ PREFERENCES = {
 }
 
 
+# in Firefox itself: keeps the address of each request of a page; the messages of the console that are of a page
+WATCH = """
+globalThis.asked = [];
+const keep = (it) => it.loadInfo?.triggeringPrincipal?.isContentPrincipal && asked.push(it.URI.spec);
+Services.obs.addObserver((it) => keep(it.QueryInterface(Ci.nsIHttpChannel)), "http-on-modify-request");
+"""
+MESSAGES = """
+const all = Services.console.getMessageArray().filter((it) => it instanceof Ci.nsIScriptError);
+Services.console.reset();
+// (a page that is left while its script runs is no error)
+const isLeft = (it) => it.errorMessage.startsWith("Script terminated by timeout");
+const isOfPage = (it) => /^(http|file|data|blob)/.test(it.sourceName) && !isLeft(it);
+return all.filter(isOfPage).map((it) => it.errorMessage + " " + it.sourceName);
+"""
+
+
 class Missing(Exception):
     """A browser that isn't installed."""
 
@@ -207,7 +223,8 @@ class Firefox:
         profile = Path(self.room.name)
         lines = [f"user_pref({json.dumps(name)}, {json.dumps(it)});\n" for name, it in PREFERENCES.items()]
         (profile / "user.js").write_text("".join(lines), encoding="utf-8")
-        words = [program, "--headless", "--no-remote", "--marionette", "--profile", self.room.name]
+        words = [program, "--headless", "--no-remote", "--marionette", "--remote-allow-system-access"]
+        words += ["--profile", self.room.name]
         words += ["--width", str(SIZE[0]), "--height", str(SIZE[1])]
         # (its sandbox wants namespaces that a container may not have)
         environment = {**os.environ, "HOME": self.room.name, "MOZ_DISABLE_CONTENT_SANDBOX": "1"}
@@ -217,6 +234,15 @@ class Firefox:
         self.read()
         self.call("WebDriver:NewSession", {})
         self.call("WebDriver:SetTimeouts", {"script": 1000 * SECONDS})
+        self.inside(WATCH)
+
+    def inside(self, script: str) -> Any:
+        """Runs a script in the browser itself, and not in the page."""
+        self.call("Marionette:SetContext", {"value": "chrome"})
+        try:
+            return self.call("WebDriver:ExecuteScript", {"script": script, "args": [], "sandbox": "system"})
+        finally:
+            self.call("Marionette:SetContext", {"value": "content"})
 
     def connected(self, port: Path) -> socket.socket:
         """The connection, once Firefox has said its port."""
@@ -270,10 +296,12 @@ class Firefox:
         path.write_bytes(base64.b64decode(self.call("WebDriver:TakeScreenshot", {"full": False})))
 
     def messages(self) -> list[str]:
-        return []
+        """What the console has of pages since the last call."""
+        return self.inside(MESSAGES)
 
     def requests(self) -> list[str]:
-        return []
+        """The addresses that any page asked for by HTTP since the last call."""
+        return self.inside("return globalThis.asked.splice(0);")
 
     def size(self, width: int, height: int) -> None:
         self.call("WebDriver:SetWindowRect", {"width": width, "height": height})

@@ -7,13 +7,16 @@ import random
 import re
 import subprocess
 from collections.abc import Callable, Iterator
+from concurrent.futures import ThreadPoolExecutor
 from functools import cache
+from itertools import zip_longest
 from pathlib import Path
 from typing import Any
 
 from card_image import layout
 from card_image.image import Image, image_of
 from card_image.tree import File, read
+from explaining.templates import Template, fault as template_fault
 from prompting.names import NAMES, Unclear, line_for
 from script_lines import ORDERS_THAT_PRINT, fault
 
@@ -21,6 +24,7 @@ TOP = Path(__file__).resolve().parent.parent.parent
 # scripts whose cards are compared, and what cuts them short
 CARDS = ("personalise", "records_ring", "delete_tree", "pin_under_cuts", "torn_batch", "end_of_use")
 CUT = b"\non\ncut 5 0001\napdu 00A4000C022FE2\napdu 002000010831323334FFFFFFFF\napdu 00D600000A01020304050607080910\n"
+MOST_EXPLAINED, MOST_TEMPLATES = 24, 4000
 SWEEPS = ("update_binary", "change_pin", "delete_directory")
 # what JavaScript has no table of, and what only a file's first line has
 NOT_COMPARED = re.compile(r" \([a-z0-9 -]+\), which no order has$|^the file |^it ends with a carriage return and")
@@ -106,6 +110,63 @@ def compare_words(ask: Ask, tally: Tally, where: str) -> None:
     for said, (_, wanted) in zip(came, cases):
         for at, (line, words) in wanted.items():
             tally.same(said[at] if at < len(said) else None, words, f"{where}: the words of {line[:60]}")
+
+
+@cache
+def explained_scripts(program: str) -> list[tuple[str, bytes, list[str]]]:
+    """Some scripts with the words of ./bench --explain."""
+    good = [(name, it) for name, it in scripts().items() if "/bad_" not in name]
+    chosen = random.Random(9).sample(good, min(len(good), MOST_EXPLAINED))
+
+    def words(script: bytes) -> list[str]:
+        command = [str(TOP / "tools/explain"), program]
+        ran = subprocess.run(command, input=script, stdout=subprocess.PIPE, stderr=subprocess.DEVNULL, check=False)
+        return [it.partition("# ")[2] for it in ran.stdout.decode("latin-1").splitlines()]
+
+    with ThreadPoolExecutor() as pool:
+        told = list(pool.map(words, [it for _, it in chosen]))
+    return [(name, script, it) for (name, script), it in zip(chosen, told)]
+
+
+def compare_scripts_words(ask: Ask, program: str, tally: Tally, where: str) -> None:
+    """The words of each line of some scripts."""
+    wanted = explained_scripts(program)
+    came = ask("words", [script.decode("latin-1") for _, script, _ in wanted])
+    for (name, _, words), said in zip(wanted, came):
+        # (the page knows the card's memory, and may say more)
+        differ = [pair for pair in zip_longest(said, words, fillvalue="") if not pair[0].startswith(pair[1] or "?")]
+        tally.same(differ[:2], [], f"{where}: the words of {name}")
+
+
+def some_templates() -> list[bytes]:
+    """Templates of CREATE FILE in the scripts, and the same with one byte changed, with and without a right length."""
+    found = {
+        it
+        for script in scripts().values()
+        for it in re.findall(rb"(?im)^apdu 00E00000[0-9A-F]{2}(62[0-9A-F]+)", script)
+    }
+    chance, plain = random.Random(10), sorted(bytes.fromhex(it.decode()) for it in found if len(it) % 2 == 0)
+    for template in plain * (1 + MOST_TEMPLATES // (1 + len(plain))):
+        at, byte = chance.randrange(len(template)), chance.choice([0, 1, 2, 5, 8, 0x11, 0x7F, 0x80, 0x84, 0x88, 0xFF])
+        made = (
+            template[:at]
+            + chance.choice([bytes([byte]), b"", bytes([byte]) + template[at : at + 1]])
+            + template[at + 1 :]
+        )
+        plain.append(made if chance.random() < 0.5 else made[:1] + bytes([len(made[2:]) & 0x7F]) + made[2:])
+    return [it for it in plain if it]
+
+
+def compare_templates(ask: Ask, tally: Tally, where: str) -> None:
+    """The faults and the words of templates, as tools/explain has them."""
+    texts = some_templates()
+    came = ask("templates", [it.hex() for it in texts])
+    differ = [
+        (text.hex(), said, wanted)
+        for text, said in zip(texts, came)
+        if said != (wanted := template_fault(text) or Template(text).in_words())
+    ]
+    tally.same(differ[:3], [], f"{where}: the words of {len(texts)} templates")
 
 
 def some_lines() -> list[str]:
@@ -206,7 +267,7 @@ def compare_images(ask: Ask, program: str, tally: Tally, where: str, room: Path)
     good, chance = card.read_bytes(), random.Random(8)
     unmarked, deep = b"XXXX" + good[4:], bytearray(good)
     deep[64 * 73 : 64 * 73 + 4] = b"\0\0\xff\xff"
-    sizes = [b"", good[:-1], good[:-64], good + bytes(64 * 3 * PAGES + 64), chance.randbytes(100)]
+    sizes = [b"", good[:-1], good + bytes(4), good[:-64], good + bytes(64 * 3 * PAGES + 64), chance.randbytes(100)]
     noise = [chance.randbytes(64 * PAGES), bytes(64 * PAGES)]
     images = [good, good + bytes(64), unmarked, bytes(deep), *sizes, *noise]
     came = ask("images", [base64.b64encode(it).decode() for it in images])
@@ -276,6 +337,8 @@ def compare_all(ask: Ask, program: str, tally: Tally, where: str, room: Path) ->
     steps: dict[str, Callable[[], None]] = {
         "outputs": lambda: compare_outputs(ask, program, tally, where),
         "words": lambda: compare_words(ask, tally, where),
+        "templates": lambda: compare_templates(ask, tally, where),
+        "words of scripts": lambda: compare_scripts_words(ask, program, tally, where),
         "lines": lambda: compare_lines(ask, tally, where),
         "sweeps": lambda: compare_sweeps(ask, tally, where),
         "cards": lambda: compare_cards(ask, program, tally, where, room),
