@@ -113,7 +113,7 @@ def kit_folder() -> Path:
     """The folder of the toolchain."""
     rt = shutil.which("rt")
     if not rt:
-        raise Strange("its command rt is not on the path")
+        raise Strange("the toolchain's command rt is not on the path; --module takes a module that was made elsewhere")
     return Path(rt).resolve().parent.parent
 
 

@@ -14,6 +14,7 @@ from narrowing.building import CRATE, TOP, tool
 STORED = TOP / "web" / "card.sum"
 # the examples that come first: those with a command to cut
 FIRST = ("update_binary", "update_record", "delete_directory", "change_pin", "one_word")
+NOT_KNOWN = "not known"
 TABLES = ("card", "why", "orders")
 MOST_EXAMPLE = 20_000
 MOST_ABOUT = 70
@@ -53,15 +54,18 @@ def sources() -> str:
 
 def kit() -> str:
     """The toolchain and the logic of its proofs."""
-    ran = subprocess.run(["rt", "version"], stdout=subprocess.PIPE, text=True, check=False)
-    return ran.stdout.strip() or "not known"
+    try:
+        ran = subprocess.run(["rt", "version"], stdout=subprocess.PIPE, text=True, check=False)
+    except OSError:
+        return NOT_KNOWN
+    return ran.stdout.strip() or NOT_KNOWN
 
 
 def commit() -> str:
     """The commit of this clone."""
     ran = subprocess.run([TOP / "tools/version"], stdout=subprocess.PIPE, text=True, check=False)
     found = re.search(r"^commit: +(.*)$", ran.stdout, re.M)
-    return found[1] if found else "not known"
+    return found[1] if found else NOT_KNOWN
 
 
 def stored() -> dict[str, str]:
