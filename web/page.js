@@ -22,6 +22,7 @@ const TYPING = 120; // milliseconds without a key after which a script runs
 const FACTORY = "The script begins with the factory card. You can drop the file of another one here.";
 const PROVED = "This module is compiled from sources that were proved; the compiler is trusted.";
 const UNPROVED = "This module is not the one that the repository stores a sum of: nothing is said of its proof.";
+const NO_SUM = "This browser makes no sum of a page without https: nothing is said of the module’s proof.";
 const NO_BROWSER = "This browser can’t run the card. It needs WebAssembly with SIMD and DecompressionStream " +
   "(Chrome or Edge 103, Firefox 113, Safari 16.4, or later).";
 
@@ -181,7 +182,7 @@ async function load() {
   const bytes = await gunzip(unbase64(MODULE)), sum = await crypto.subtle?.digest("SHA-256", bytes);
   const digits = sum && hex(new Uint8Array(sum)).toLowerCase();
   const isStored = digits === SUMS.module;
-  $("standing").textContent = SUMS.isProved && (isStored || !digits) ? PROVED : UNPROVED;
+  $("standing").textContent = !digits ? NO_SUM : SUMS.isProved && isStored ? PROVED : UNPROVED;
   const check = isStored ? "made here, and the same" : digits ? "MADE HERE, AND ANOTHER ONE" : "not made: no https";
   $("sums").append(table(["what", "sum"], [
     [`module, ${count(bytes.length, "byte")} (${check})`, [digits ?? SUMS.module, "mono"]],
