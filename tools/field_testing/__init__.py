@@ -1,0 +1,1 @@
+"""Tests of the tools for real sessions (docs/FIELD.md)."""

@@ -1,0 +1,1 @@
+"""A card from its description, and back: tools/issue."""
