@@ -1,0 +1,1 @@
+"""Traces of real sessions as tests: tools/replay."""
