@@ -1,19 +1,16 @@
 -- The outcome of a call from C, and its bytes.
-use Rattle.std.specs.Prelude.{◌≡◌, ◌≤◌, ◌<◌, ◌⊎◌, ◌+◌, ◌-◌, ℕ, ℤ, pos, Bool, true, false, List, Option, None}
+use Rattle.std.specs.Prelude.{◌≡◌, ◌≤◌, ◌<◌, ◌⊎◌, ◌+◌, ℕ, ℤ, pos, Bool, true, false, List, Option, None}
 use Rattle.std.specs.Prelude.{Some, Result, Ok, Err, length, take, drop, is_some, if◌then◌else◌}
 use Rattle.nvm_board.specs.Aims.{WritesRuns}
 use Rattle.nvm_board.specs.declared.board.TheConstants.{LEAST_PAGES, MOST_PAGES}
-use Rattle.nvm_board.specs.Facts.{Facts, IsMemory, pages_of}
+use Rattle.nvm_board.specs.Facts.{Facts, IsMemory}
 use Rattle.undo_journal.specs.Undo.{IsBadJournal, IsSound}
 use Rattle.simulated_boards.specs.Given.{board_with}
-use Rattle.card_start.specs.declared.memory_format.MemoryFormat.TheVariants.{Two}
-use Rattle.card_start.specs.Factory.{IsFactory, factory_card}
-use Rattle.command_base.specs.Finding.{Finds, HasCard, words_found}
+use Rattle.command_base.specs.Finding.{HasCard, words_found}
 use Rattle.command_base.specs.Standing.{IsAnyCard}
 use Rattle.bench_lines.specs.Orders.{Order, IsOrderSized, Free}
 use Rattle.bench_turns.specs.BenchStates.{BenchState, off, on, bench_facts}
 use Rattle.bench_turns.specs.Guessing.{GuessesFew}
-use Rattle.bench_turns.specs.NewlyWritten.{IsNewlyWritten}
 use Rattle.bench_turns.specs.Plays.{IsGood}
 use Rattle.script_effects.specs.DeskStates.{print_of}
 use Rattle.script_effects.specs.Performing.{Performs}
@@ -22,6 +19,7 @@ use Rattle.script_output.specs.Printouts.{Print}
 use Rattle.script_output.specs.Printouts.{prints_nothing, prints_atr, prints_mute, prints_dark, prints_lost}
 use Rattle.script_output.specs.Printouts.{prints_bytes}
 use Rattle.script_output.specs.Printouts.{prints_free}
+use Rattle.card_boards.specs.FactoryBoards.{IsFactoryBoard}
 use Rattle.card_calls.specs.SessionStates.{SessionState, begun_at}
 use Rattle.kept_board.specs.declared.kept_board.KeptBoard.{KeptBoard}
 use Rattle.card_calls.specs.Devices.{device_facts, is_left_behind}
@@ -181,14 +179,6 @@ FitsCall order out = IsOrderSized order × (ROOM ≤ length out)
 -- the first state of a card of these words, which may have a device
 abbrev pub inserted : List ℕ → Bool → SessionState
 inserted words attached = begun_at (board_with words) attached
-
--- A new board of so many pages has the factory card in format 2. All pages but the first 128 are blocks.
-pub record IsFactoryBoard (pages : ℕ) (board : Facts) : Type 0 where
-  pub card : Finds board.words (factory_card (pages - 128))
-  pub words : IsFactory Two board.words
-  pub counts : IsNewlyWritten pages board
-  pub uncut : board.pending ≡ None
-  pub sized : pages_of board.words ≡ pages
 
 -- a handle has the factory card in the first state on a new board of so many pages, without a device
 pub record IsFactoryFresh (pages : ℕ) (now : Option SessionState) : Type 0 where

@@ -1,11 +1,12 @@
 //! The board of a card that a caller makes, of words or new.
 ghost use Rattle.std.specs.Prelude.{◌≡◌, ◌≢◌, ◌↔◌, ℕ, List, IfOk, IfErr, IsTrue};
 ghost use Rattle.nvm_board.specs.Facts.{IsMemory};
+ghost use Rattle.card_boards.specs.FactoryBoards.{IsFactoryBoard};
 ghost use Rattle.card_boards.specs.Images.{IsRefusedRightly};
 ghost use Rattle.command_base.specs.Finding.{HasCard};
 ghost use Rattle.simulated_boards.specs.Cut.{cut_facts};
 ghost use Rattle.simulated_boards.specs.Given.{board_with};
-ghost use Rattle.card_calls.specs.Telling.{ChecksWords, IsFactoryBoard, RefusesPages, RefusesWords, outcome_number};
+ghost use Rattle.card_calls.specs.Telling.{ChecksWords, RefusesPages, RefusesWords, outcome_number};
 
 use crate::outcome::Outcome;
 use card_boards::{NoCard, factory_board_of, image_board};

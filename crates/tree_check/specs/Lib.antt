@@ -2,4 +2,4 @@
 pub mod WalkParts
 pub mod Surveys
 pub mod SurveyParts
-pub mod Sums
+pub mod SumParts

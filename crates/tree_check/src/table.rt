@@ -6,7 +6,7 @@ ghost use Rattle.file_tree.specs.Table.{HaveIdentifiers, IsTable};
 ghost use Rattle.file_tree.specs.TreeParts.{BearOneName, ShareShort, HasOwnShort, HasOwnName};
 ghost use Rattle.file_tree.specs.TreeParts.{AreBelow, AreUnlike};
 ghost use Rattle.tree_check.specs.SurveyParts.{CanBeIndexed};
-ghost use Rattle.tree_check.specs.Sums.{next_sum, name_sum, short_sum, HaveOwnShorts, HaveOwnNames};
+ghost use Rattle.tree_check.specs.SumParts.{next_sum, name_sum, short_sum, HaveOwnShorts, HaveOwnNames};
 
 use crate::rules::are_entries;
 use card_state::identifiers::MASTER_FILE;

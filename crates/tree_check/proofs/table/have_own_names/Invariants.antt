@@ -3,7 +3,7 @@ use Rattle.std.specs.Prelude.{Bool}
 use Rattle.file_tree.specs.Table.{entry_in, IsUsed}
 use Rattle.file_tree.specs.TreeParts.{HasOwnName}
 use Rattle.file_tree.specs.Entries.{name_of}
-use Rattle.tree_check.specs.Sums.{name_sum}
+use Rattle.tree_check.specs.SumParts.{name_sum}
 use Rattle.tree_check.proofs.table.have_own_names.Given as goal
 
 abbrev pub invariant-loop-e : goal.invariant-loop-e

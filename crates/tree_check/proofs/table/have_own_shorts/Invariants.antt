@@ -2,7 +2,7 @@ use Rattle.std.proofs.Common.{◌≡◌, ◌≢◌, ◌≤◌, ℕ, true, length
 use Rattle.std.specs.Prelude.{Bool}
 use Rattle.file_tree.specs.Table.{entry_in, IsUsed}
 use Rattle.file_tree.specs.TreeParts.{HasOwnShort}
-use Rattle.tree_check.specs.Sums.{short_sum}
+use Rattle.tree_check.specs.SumParts.{short_sum}
 use Rattle.tree_check.proofs.table.have_own_shorts.Given as goal
 
 abbrev pub invariant-loop-e : goal.invariant-loop-e
