@@ -177,7 +177,7 @@ fn put(alloc: Global, card: &mut Handle, board: CutBoard, device: Option<i32>) -
     ensures done { result ≡ Outcome.Done → card.new.value ≡ Some (begun_at (cut_facts board) (is_some device)) }
     ensures undone { result ≢ Outcome.Done → (result ≡ Outcome.Memory) × (card.new.value ≡ card.old.value) }
 {
-    match Box::new(alloc, Session::new(board, device)) {
+    match Box::new(alloc, Session::new(alloc, board, device)) {
         Ok(made) => {
             replace_with(card, made, exchange_card);
             Outcome::Done

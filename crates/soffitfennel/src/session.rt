@@ -15,6 +15,7 @@ use card_turns::Bench;
 use core::mem::replace_with;
 use nvm_board::has_no_fault;
 use simulated_boards::CutBoard;
+use std::alloc::Global;
 use std::marker::Model;
 use t1_link::AnswerBytes;
 
@@ -47,11 +48,11 @@ impl Model for Session {
 impl Session {
     /// Returns a session with this board, with power off. The device of this number has the board's words already, and
     /// gets each of its writes.
-    pub fn new(board: CutBoard, device: Option<i32>) -> Session
+    pub fn new(alloc: Global, board: CutBoard, device: Option<i32>) -> Session
         requires { HasCard (cut_facts board).words }
         ensures { result ≡ begun_at (cut_facts board) (is_some device) }
     {
-        let board = followed(board, device);
+        let board = followed(alloc, board, device);
         has_no_fault(&board);
         Session {
             desk: Desk::new(board),
