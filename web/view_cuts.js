@@ -6,6 +6,7 @@ import { OTHER, TAKEN, sweep } from "./sweep.js";
 import { count } from "./templates.js";
 
 const MOST_WRITES = 60; // of a command whose cuts are tried without being asked
+const TELLING = 500; // milliseconds between two words of how far it is: a screen reader says each of them
 const HINT = "Each column is one write to memory, each row says which words of it were new when power failed. ";
 
 // Shows the line's cuts; `cutAt` is called with the write and the mask of a cell that is chosen.
@@ -29,8 +30,12 @@ export function showCuts(state, cutAt) {
 // Tries every cut in slices, and draws the picture.
 async function tryAll(state, mine, cutAt) {
   const { before, asked, writes } = state.plain, began = performance.now();
+  let told = began;
   const pause = async (done) => {
-    $("tally").textContent = `Cutting power .. write ${done} of ${writes.length}`;
+    if (performance.now() - told > TELLING) {
+      $("tally").textContent = `Cutting power .. write ${done} of ${writes.length}`;
+      told = performance.now();
+    }
     await new Promise((then) => setTimeout(then));
     return state.sweep === mine;
   };
