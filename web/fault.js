@@ -30,13 +30,13 @@ function ofBytes(order, given) {
   if (!given) return `no digits follow ${order}`;
   if (/^0[xX]/.test(given)) return "digits are written without 0x before them";
   if (WITH_STATUS.test(given)) {
-    return `a status is no part of the order; in a test it stands on the line below: = < *${given.split(" ")[1]}`;
+    return `a status is not part of the order; in a test it stands on the line below: = < *${given.split(" ")[1]}`;
   }
   if (/^[0-9A-Fa-f]*( +[0-9A-Fa-f]*)+$/.test(given)) return "a space stands among the digits: they are one word";
   const rest = given.replace(/^[0-9A-Fa-f]*/, "");
   if (startsWithOne(rest.replace(/^ +/, ""), OTHER_COMMENTS)) return BEHIND_A_COMMAND;
   if (rest.startsWith(" ")) return "a word follows the digits: a line has one order";
-  if (rest) return `${quoted(rest[0])} is no hexadecimal digit`;
+  if (rest) return `${quoted(rest[0])} is not a hexadecimal digit`;
   if (given.length % 2) return `${given.length} digits are an odd number: a byte has two`;
   if (given.length / 2 <= MOST_BYTES[order]) return null;
   return `${given.length / 2} bytes are too many: ${order} takes 1 to ${MOST_BYTES[order]}`;
@@ -45,7 +45,7 @@ function ofBytes(order, given) {
 // What is wrong with a count, if anything.
 function ofNumber(word) {
   if (/^[+-]/.test(word)) return "a number has no sign";
-  if (!/^[0-9]+$/.test(word)) return `${quoted(word)} is no decimal number`;
+  if (!/^[0-9]+$/.test(word)) return `${quoted(word)} is not a decimal number`;
   if (word.length > 6) return `the number ${word} is out of range: it has 1 to 6 digits`;
   return Number(word) ? null : `the number ${word} is out of range: it is at least 1`;
 }
@@ -83,7 +83,7 @@ function ofName(text) {
 function ofNoOrder(text, order, otherWords) {
   const low = order.toLowerCase(), sign = /^([a-z]+)([^a-z0-9_ ])/.exec(low);
   if (ANSWER.test(text)) {
-    return "it is an answer, no order; in a test it stands behind '= ' below its order (./bench --test)";
+    return "it is an answer, not an order; in a test it stands behind '= ' below its order (./bench --test)";
   }
   if (ORDERS.includes(low)) return `upper case: the order is ${low}`;
   if (order.startsWith("=") && order !== "=") {
@@ -102,8 +102,8 @@ function ofNoOrder(text, order, otherWords) {
   if (sign && ORDERS.includes(sign[1])) {
     return `${quoted(sign[2])} stands behind the order ${sign[1]}: a line has one order, and its words have no signs`;
   }
-  const of = ofName(text) || (otherWords[low] && `there is no order ${quoted(order)}: ${otherWords[low]}`);
-  return of || `there is no order ${quoted(order)}${nearest(order)}`;
+  const of = ofName(text) || (otherWords[low] && `unknown order ${quoted(order)}: ${otherWords[low]}`);
+  return of || `unknown order ${quoted(order)}${nearest(low)}`;
 }
 
 function nearest(order) {

@@ -108,7 +108,7 @@ class Visitor:
         self.same(self.printed()[-1], "error line 5", "a bad line")
         self.same(
             self.text("#because"),
-            "Line 5: error line 5. there is no order 'aplu'; is apdu meant?.",
+            "Line 5: error line 5. unknown order 'aplu'; is apdu meant?.",
             "says what is wrong with it",
         )
 
