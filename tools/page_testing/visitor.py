@@ -93,6 +93,12 @@ class Visitor:
             self.browser.run("return document.querySelectorAll('.cell').length"), 46, "draws a cell for each cut"
         )
         self.same(self.browser.run("return soffitfennel.state.same"), True, "the module's reader prints the same")
+        came = self.browser.run(
+            """const it = soffitfennel.state, output = it.printed.map((line) => line + "\\n").join("");
+            const tries = [[output, 0], [output + "x", 0], [output.replace("9000", "6A82"), 0], [output, 2]];
+            return tries.map(([text, status]) => it.isSame({ output: text, status }));"""
+        )
+        self.same(came, [True, False, False, False], "a difference between the outputs is seen")
 
     def types(self) -> None:
         """Types commands, a name, a bad line."""
