@@ -17,8 +17,16 @@ struct apdu {
     size_t count;
 };
 
-/* The length of a command's data. */
+/* The length of a command's data, of a whole command. */
 static size_t data_size(const struct apdu *apdu) { return apdu->count > 5 ? apdu->bytes[4] : 0; }
+
+/* Whether a command's length is what its Lc says; the card refuses it otherwise. */
+static bool is_whole(const struct apdu *apdu)
+{
+    size_t rest = apdu->count - 4;
+
+    return rest < 2 || (apdu->bytes[4] > 0 && (rest == 1u + apdu->bytes[4] || rest == 2u + apdu->bytes[4]));
+}
 
 static bool has_le(const struct apdu *apdu) { return apdu->count == 5 || apdu->count == 6 + data_size(apdu); }
 
@@ -250,7 +258,7 @@ static int32_t select_file(struct view *view, const struct apdu *given, uint8_t 
     bool is_asked = given->bytes[3] == WITH_TEMPLATE && has_le(given);
     uint8_t le = is_asked ? given->bytes[given->count - 1] : 0;
 
-    if (given->bytes[3] != WITH_TEMPLATE && given->bytes[3] != WITHOUT_DATA)
+    if (!is_whole(given) || (given->bytes[3] != WITH_TEMPLATE && given->bytes[3] != WITHOUT_DATA))
         return to_card(view, given, answer, size);
     int32_t outcome = ask_template(view, given, le, answer, size);
     if (!is_done(outcome, answer, *size) || *size <= 2)

@@ -146,5 +146,6 @@ class NoSession(Tearing):
 
     @unittest.skipUnless(shutil.which("pgrep"), "procps isn't installed")
     def test_no_client_goes_on(self) -> None:
-        self.torn("--patience", "1", self.image("purse"), "--", "sh", "-c", "sleep 4321 & sleep 4321", status=2)
-        self.assertEqual(subprocess.run(["pgrep", "-f", "sleep 4321"], capture_output=True, check=False).stdout, b"")
+        sleep = f"sleep {100_000 + os.getpid()}"
+        self.torn("--patience", "1", self.image("purse"), "--", "sh", "-c", f"{sleep} & {sleep}", status=2)
+        self.assertEqual(subprocess.run(["pgrep", "-f", sleep], capture_output=True, check=False).stdout, b"")
