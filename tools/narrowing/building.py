@@ -22,8 +22,6 @@ CRATE = TOP / "crates" / "soffitfennel"
 ARCHIVE = CRATE / "out" / f"lib{CRATE.name}.a"
 HEAP = Path(__file__).resolve().parent / "heap.c"
 TARGET = "wasm32-unknown-unknown"
-# the function of C that stores a write of a card with a device, and its name for the page
-IMPORTS = {"pwrite": "soffitfennel_store"}
 WORDS = (
     f"--target={TARGET}",
     "--no-default-config",
@@ -133,14 +131,13 @@ def exports(text: str) -> list[str]:
 def compiled(text: str, room: Path) -> bytes:
     """The module of WebAssembly of a module of LLVM for x86-64."""
     bin_, made, heap, out = kit_folder() / "toolchain/bin", room / "card.o", room / "heap.o", room / "card.wasm"
-    source, linker, allowed = room / "card.ll", room / "wasm-ld", room / "imports"
-    source.write_text(Rewriting(dict(IMPORTS)).module(text), encoding="utf-8")
+    source, linker = room / "card.ll", room / "wasm-ld"
+    source.write_text(Rewriting().module(text), encoding="utf-8")
     run(bin_ / "clang", *WORDS, *OF_KIT, "-x", "ir", source, "-c", "-Os", "-o", made)
     run(bin_ / "clang", *WORDS, "-O2", "-ffreestanding", "-Wall", "-Wextra", "-Werror", "-c", HEAP, "-o", heap)
     linker.symlink_to(bin_ / "ld.lld")
-    allowed.write_text("\n".join(IMPORTS.values()) + "\n", encoding="utf-8")
     words = ["--no-entry", "--gc-sections", "--strip-all", "--stack-first", "-z", f"stack-size={STACK_BYTES}"]
-    words += [f"--allow-undefined-file={allowed}", "--export=__global_base", "-o", str(out)]
+    words += ["--export=__global_base", "-o", str(out)]
     run(linker, *words, *(f"--export={it}" for it in exports(text)), made, heap)
     return out.read_bytes()
 
