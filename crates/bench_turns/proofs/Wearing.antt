@@ -19,7 +19,6 @@ use Rattle.command_base.specs.Comparing.{Comparisons, comparisons}
 use Rattle.command_base.specs.Finding.{HasCard, words_found}
 use Rattle.card_model.specs.laws.ProperLaws.{at-or, either-if}
 use Rattle.command_base.specs.laws.ShownLaws.{ComparesOrStays}
-use Rattle.bench_lines.specs.Orders.{On, Off, Block}
 use Rattle.bench_turns.specs.declared.turn.Item.{Item}
 use Rattle.bench_turns.specs.declared.turn.Item.TheVariants as item
 use Rattle.bench_turns.specs.declared.turn.Turn.{Turn}

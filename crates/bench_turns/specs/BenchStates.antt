@@ -11,7 +11,6 @@ use Rattle.card_model.specs.Sessions.{fresh_session}
 use Rattle.card_state.specs.declared.space.FreeSpace.{FreeSpace}
 use Rattle.t1_link.specs.CardTable.{fresh}
 use Rattle.bench_turns.specs.CardBlocks.{Powered}
-use Rattle.bench_lines.specs.Orders.{Nothing}
 
 pub data BenchState : Type 0 where
   off : Facts → BenchState
