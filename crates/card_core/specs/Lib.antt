@@ -1,4 +1,5 @@
--- Power-on, the calls of a powered card, and the factory image. The card itself is defined in card_state, and its
--- commands in card_model and command_base.
+-- Power-on, the calls of a powered card, and what a refused command leaves. The card itself is defined in card_model,
+-- and its commands there and in command_base.
+pub mod Refused
 pub mod ShownSessions
 pub mod WholeCards

@@ -4,6 +4,7 @@
 mod card;
 mod card_parts;
 mod commands;
+pub mod laws;
 
 pub use apdu_core::Answer;
 pub use card::Card;

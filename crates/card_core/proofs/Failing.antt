@@ -32,8 +32,8 @@ use Rattle.card_model.specs.Behaviours.{refused, refused_by, tries_of, unless_re
 use Rattle.card_model.specs.Steps.{behaviour_of, carried_out, effect, outcome_of, refusals_of, served, step}
 use Rattle.card_model.specs.laws.ProperLaws.{at-or, either-if}
 use Rattle.card_model.specs.laws.PinLaws.{ten-tries}
-use Rattle.card_laws.specs.Refused.{IsSuccess}
-use Rattle.card_laws.proofs.Refusing.{read-success, search-success, selection-success}
+use Rattle.card_core.specs.Refused.{IsSuccess}
+use Rattle.card_core.proofs.Refusing.{read-success, search-success, selection-success}
 
 abbrev IsOther : Sw → Type 0
 IsOther status = status.0 ≢ 0x6581

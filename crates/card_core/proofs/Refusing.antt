@@ -19,7 +19,7 @@ use Rattle.card_model.specs.Cards.{Card}
 use Rattle.card_model.specs.Sessions.{Session}
 use Rattle.card_model.specs.Behaviours.{Attempt, Outcome, Response, is_right, refused, refused_by, unless_refused}
 use Rattle.card_model.specs.Steps.{attempt_of, behaviour_of, effect, outcome_of, refusals_of, served, step}
-use Rattle.card_laws.specs.Refused.{IsSuccess, LeavesAll, ShowsWrong, ShowsWrongBy}
+use Rattle.card_core.specs.Refused.{IsSuccess, LeavesAll, ShowsWrong, ShowsWrongBy}
 
 abbrev EndsSo : Card → Session → Option Attempt → Outcome → Type 0
 EndsSo c s shown o = LeavesAll c s o ⊎ IsSuccess o.response.status ⊎ ShowsWrongBy c shown o.response.status

@@ -1,5 +1,5 @@
 use Rattle.card_model.specs.laws.BlockLaws.{stages_keep_blocks, step_keeps_blocks}
-use Rattle.card_laws.proofs.laws.steps_keep_blocks.Goals as goal
+use Rattle.card_core.proofs.laws.steps_keep_blocks.Goals as goal
 
 pub returns-clause-step : goal.returns-clause-step
 returns-clause-step _ = λ c s command. step_keeps_blocks c s command

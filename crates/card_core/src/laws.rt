@@ -18,7 +18,7 @@ ghost use Rattle.card_model.specs.Cards.{Card, IsAnswer, IsProper};
 ghost use Rattle.command_base.specs.Finding.{Finds, HasCard, found};
 ghost use Rattle.card_model.specs.Behaviours.{answer_bytes};
 ghost use Rattle.command_base.specs.Standing.{StandsFor};
-ghost use Rattle.card_laws.specs.Refused.{IsSuccess, LeavesAll, ShowsWrong};
+ghost use Rattle.card_core.specs.Refused.{IsSuccess, LeavesAll, ShowsWrong};
 ghost use Rattle.card_model.specs.WellFormed.{IsWellFormed};
 ghost use Rattle.card_model.specs.CommandTable.{asked};
 ghost use Rattle.card_model.specs.Sessions.{Session};

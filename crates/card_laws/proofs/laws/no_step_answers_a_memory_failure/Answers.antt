@@ -1,5 +1,0 @@
-use Rattle.card_laws.proofs.Failing.{never-failing}
-use Rattle.card_laws.proofs.laws.no_step_answers_a_memory_failure.Goals as goal
-
-pub returns : goal.returns
-returns c = never-failing

@@ -1,2 +1,0 @@
--- What a refused command leaves.
-pub mod Refused

@@ -1,4 +1,0 @@
-//! Laws of the card: what recovery finds, and what a command changes, as contracts of functions that do nothing.
-#![tactic(auto)]
-
-pub mod laws;
