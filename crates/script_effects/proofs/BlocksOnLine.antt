@@ -11,7 +11,7 @@ use Rattle.t1_link.specs.BlockLaws.{frame-heard, heard-other_check}
 use Rattle.script_effects.specs.declared.line.Line.{Line}
 use Rattle.t1_link.specs.Garbled.{last_bit_turned}
 use Rattle.script_effects.specs.Lines.{arriving, is_due, line_after, pending_after}
-use Rattle.link_worlds.specs.Worlds.{are_bytes, is_garbled, may_arrive}
+use Rattle.t1_link.specs.Worlds.{are_bytes, is_garbled, may_arrive}
 
 -- no block was put on the line
 pending_after-none : (pending : Option ℕ) → pending_after 0 pending ≡ pending

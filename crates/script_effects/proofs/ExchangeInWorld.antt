@@ -14,20 +14,20 @@ use Rattle.script_effects.specs.ExchangeWorlds.{Course, EndsSo, ExchangeLaw, Goe
 use Rattle.script_effects.specs.ExchangeWorlds.{ExchangeIsCut, StandIn, bytes_of_line}
 use Rattle.script_effects.specs.ExchangeWorlds.{exchange_events, fate, fates}
 use Rattle.script_effects.specs.Lines.{line_after}
-use Rattle.link_worlds.specs.TreeMachine.{IsProperState, Served, tree_machine}
-use Rattle.link_worlds.specs.Worlds.{Event, Report, World, arrival, giving, is_command, may_send, powered, send}
-use Rattle.link_worlds.specs.Worlds.{turning}
-use Rattle.link_worlds.specs.Worlds.{world, world_step}
-use Rattle.link_worlds.specs.WorldLaw.{comes_of, is_under_way}
-use Rattle.link_worlds.specs.WorldRepairs.{counts_after, newest, watched}
+use Rattle.t1_link.specs.TreeMachine.{IsProperState, Served, tree_machine}
+use Rattle.t1_link.specs.Worlds.{Event, Report, World, arrival, giving, is_command, may_send, powered, send}
+use Rattle.t1_link.specs.Worlds.{turning}
+use Rattle.t1_link.specs.Worlds.{world, world_step}
+use Rattle.t1_link.specs.WorldLaw.{comes_of, is_under_way}
+use Rattle.t1_link.specs.WorldRepairs.{counts_after, newest, watched}
 use Rattle.script_effects.proofs.ExchangeSteps.{IsReached, IsWay, LeadsTo, ShowsIn}
 use Rattle.script_effects.proofs.ExchangeSteps.{is-way-under_way, passed, same-reader}
 use Rattle.script_effects.proofs.ExchangeSteps.{shows-noted, stands-turned, stepped, stepped-is}
 use Rattle.script_effects.proofs.BlocksOnLine.{line_after-later, line_after-none}
-use Rattle.link_worlds.proofs.SoundWorlds.{AnswersByBytes, sound-powered, sound-step, sound-world}
-use Rattle.link_worlds.proofs.TreeAnswers.{tree-answers}
-use Rattle.link_worlds.proofs.WorldLawful.{good-world, world-lawful}
-use Rattle.link_worlds.proofs.WorldSteps.{good-step}
+use Rattle.t1_link.proofs.SoundWorlds.{AnswersByBytes, sound-powered, sound-step, sound-world}
+use Rattle.t1_link.proofs.TreeAnswers.{tree-answers}
+use Rattle.t1_link.proofs.WorldLawful.{good-world, world-lawful}
+use Rattle.t1_link.proofs.WorldSteps.{good-step}
 
 tree-bytes : AnswersByBytes tree_machine IsProperState
 tree-bytes = record {

@@ -28,18 +28,18 @@ use Rattle.script_effects.specs.ExchangeWorlds.{fate, state_served}
 use Rattle.script_effects.specs.Lines as lines
 use Rattle.t1_link.specs.Garbled.{last_bit_turned}
 use Rattle.script_effects.specs.Lines.{is_due, line_after}
-use Rattle.link_worlds.specs.TreeMachine.{IsProperState, Served, tree_machine}
-use Rattle.link_worlds.specs.Worlds.{Arrival, Done, Failed, Line as WorldLine, Report, Unknown, World, arrival}
-use Rattle.link_worlds.specs.Worlds.{after_arrival, at_card, at_reader, garble}
-use Rattle.link_worlds.specs.Worlds.{in_vain, lose, may_arrive, noted, pass, reacting, taking, toward_card}
-use Rattle.link_worlds.specs.Worlds.{toward_reader, turning, world_step}
-use Rattle.link_worlds.specs.WorldLaw.{is_under_way}
-use Rattle.link_worlds.specs.WorldRepairs.{Counts, newest}
-use Rattle.link_worlds.proofs.CommandsGiven.{none-fault, runs-given}
+use Rattle.t1_link.specs.TreeMachine.{IsProperState, Served, tree_machine}
+use Rattle.t1_link.specs.Worlds.{Arrival, Done, Failed, Line as WorldLine, Report, Unknown, World, arrival}
+use Rattle.t1_link.specs.Worlds.{after_arrival, at_card, at_reader, garble}
+use Rattle.t1_link.specs.Worlds.{in_vain, lose, may_arrive, noted, pass, reacting, taking, toward_card}
+use Rattle.t1_link.specs.Worlds.{toward_reader, turning, world_step}
+use Rattle.t1_link.specs.WorldLaw.{is_under_way}
+use Rattle.t1_link.specs.WorldRepairs.{Counts, newest}
+use Rattle.t1_link.proofs.CommandsGiven.{none-fault, runs-given}
 use Rattle.script_effects.proofs.BlocksOnLine.{garbled-may_arrive, heard-garbled}
-use Rattle.link_worlds.proofs.SoundBlocks.{IsSound, frame-bytes, told-bytes}
-use Rattle.link_worlds.proofs.SoundWorlds.{IsSoundLine, IsSoundWorld}
-use Rattle.link_worlds.proofs.WorldPhases.{Good}
+use Rattle.t1_link.proofs.SoundBlocks.{IsSound, frame-bytes, told-bytes}
+use Rattle.t1_link.proofs.SoundWorlds.{IsSoundLine, IsSoundWorld}
+use Rattle.t1_link.proofs.WorldPhases.{Good}
 
 -- the block that goes on the line next is the one under way
 abbrev pub IsWay : NextBlock → WorldLine → Type 0

@@ -21,12 +21,12 @@ use Rattle.script_effects.specs.Performing.{Performs, PerformsCommand, reader_af
 use Rattle.script_output.specs.Printouts.{Print, prints_atr}
 use Rattle.script_effects.specs.ScriptWorlds.{CommandInWorld, IsInNewWorld, IsInWorld, LineInWorld, PowerOnLaw, LineLaw}
 use Rattle.bench_lines.specs.Spellings.{IsOrderOfBytes}
-use Rattle.link_worlds.specs.TreeMachine.{IsProperState, Served, tree_machine}
+use Rattle.t1_link.specs.TreeMachine.{IsProperState, Served, tree_machine}
 use Rattle.bench_turns.specs.Turns.{GoodTurn}
-use Rattle.link_worlds.specs.Worlds.{Event, World, are_bytes, is_command, world}
-use Rattle.link_worlds.specs.WorldLaw.{comes_of}
+use Rattle.t1_link.specs.Worlds.{Event, World, are_bytes, is_command, world}
+use Rattle.t1_link.specs.WorldLaw.{comes_of}
 use Rattle.script_effects.proofs.ExchangeInWorld.{exchange-runs}
-use Rattle.link_worlds.proofs.SoundBlocks.{told-bytes}
+use Rattle.t1_link.proofs.SoundBlocks.{told-bytes}
 
 -- a command of a line is one of the world
 command-so : (bytes : List ℕ) → 1 ≤ length bytes → length bytes ≤ 261 → AreBytes bytes → is_command bytes ≡ true

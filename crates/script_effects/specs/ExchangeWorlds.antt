@@ -18,11 +18,11 @@ use Rattle.bench_turns.specs.BenchStates.{BenchState, off, on, bench_card, bench
 use Rattle.bench_turns.specs.CardBlocks.{Powered}
 use Rattle.script_effects.specs.Exchanges.{Ends, Exchanged}
 use Rattle.script_effects.specs.Lines.{is_due, line_after}
-use Rattle.link_worlds.specs.TreeMachine.{IsProperState, Served, tree_machine}
-use Rattle.link_worlds.specs.Worlds.{Arrival, Done, Event, Failed, Line as WorldLine, Report, Unknown, World, arrival}
-use Rattle.link_worlds.specs.Worlds.{at_card, garble, is_command, lose, pass, quiet}
-use Rattle.link_worlds.specs.Worlds.{send, toward_card, toward_reader, world_step}
-use Rattle.link_worlds.specs.WorldLaw.{comes_of, is_under_way}
+use Rattle.t1_link.specs.TreeMachine.{IsProperState, Served, tree_machine}
+use Rattle.t1_link.specs.Worlds.{Arrival, Done, Event, Failed, Line as WorldLine, Report, Unknown, World, arrival}
+use Rattle.t1_link.specs.Worlds.{at_card, garble, is_command, lose, pass, quiet}
+use Rattle.t1_link.specs.Worlds.{send, toward_card, toward_reader, world_step}
+use Rattle.t1_link.specs.WorldLaw.{comes_of, is_under_way}
 
 -- the state of a card at the bench: its card state after recovery, and its session
 abbrev pub state_served : Powered → Served

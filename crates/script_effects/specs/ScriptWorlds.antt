@@ -12,9 +12,9 @@ use Rattle.bench_lines.specs.Orders.{IsOrderSized}
 use Rattle.script_effects.specs.Performing.{Performs}
 use Rattle.script_output.specs.Printouts.{Print, prints_atr}
 use Rattle.bench_lines.specs.Spellings.{IsOrderOfBytes}
-use Rattle.link_worlds.specs.TreeMachine.{IsProperState, Served, tree_machine}
-use Rattle.link_worlds.specs.Worlds.{Event, quiet}
-use Rattle.link_worlds.specs.WorldLaw.{comes_of}
+use Rattle.t1_link.specs.TreeMachine.{IsProperState, Served, tree_machine}
+use Rattle.t1_link.specs.Worlds.{Event, quiet}
+use Rattle.t1_link.specs.WorldLaw.{comes_of}
 
 -- The desk is in the world after these events since power-on: a command may be sent, both ends and the card are those
 -- of that world, and nothing is under way.

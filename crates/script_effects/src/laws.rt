@@ -24,7 +24,7 @@ ghost use Rattle.script_effects.specs.ScriptWorlds.{PowerOnLaw, LineLaw};
 ghost use Rattle.bench_turns.specs.Turns.{GoodBlock, GoodTurn, Runs, dark_of, run_steps, turn_steps};
 ghost use Rattle.file_tree.specs.Formats.{is_format_2};
 ghost use Rattle.command_base.specs.Finding.{words_found};
-ghost use Rattle.link_worlds.specs.Worlds.{are_bytes, may_arrive};
+ghost use Rattle.t1_link.specs.Worlds.{are_bytes, may_arrive};
 
 /// Only the number of earlier blocks decides which block a fault hits.
 /// After some blocks, the line treats the next ones as the former line would have done, counted from there.

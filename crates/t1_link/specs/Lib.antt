@@ -8,6 +8,10 @@ pub mod ReaderFields
 pub mod ReaderTable
 pub mod SequenceNumbers
 pub mod SpokenParts
+pub mod TreeMachine
+pub mod WorldLaw
+pub mod WorldRepairs
+pub mod Worlds
 pub mod laws
 pub use Rattle.t1_link.specs.laws.Blocks as BlockLaws
 pub use Rattle.t1_link.specs.laws.CardRows

@@ -1,4 +1,5 @@
-//! Both ends of the block protocol T=1 (ISO/IEC 7816-3, third edition, clause 11).
+//! Both ends of the block protocol T=1, and the law of the link over a lossy line (ISO/IEC 7816-3, third edition,
+//! clause 11).
 #![tactic(auto)]
 
 mod block;
@@ -7,6 +8,7 @@ pub mod laws;
 mod outgoing;
 mod reader_end;
 mod sequence_number;
+pub mod world_laws;
 
 pub use block::{BlockBytes, FIELD_LIMIT};
 pub use card_end::{Action, AnswerBytes, CardEnd, LONGEST_ANSWER};

@@ -1,7 +1,7 @@
-use Rattle.link_worlds.specs.TreeMachine.{tree_machine, IsProperState}
-use Rattle.link_worlds.proofs.TreeAnswers.{tree-answers}
-use Rattle.link_worlds.proofs.WorldLawful.{world-lawful, world-repairs, world-resynchs}
-use Rattle.link_worlds.proofs.laws.world.Goals as goal
+use Rattle.t1_link.specs.TreeMachine.{tree_machine, IsProperState}
+use Rattle.t1_link.proofs.TreeAnswers.{tree-answers}
+use Rattle.t1_link.proofs.WorldLawful.{world-lawful, world-repairs, world-resynchs}
+use Rattle.t1_link.proofs.world_laws.world.Goals as goal
 
 pub returns-clause-law : goal.returns-clause-law
 returns-clause-law c = world-lawful tree_machine IsProperState tree-answers

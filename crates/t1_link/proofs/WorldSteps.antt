@@ -29,22 +29,22 @@ use Rattle.t1_link.specs.ReaderRows.{reader_takes-resynch, reader_times_out-asks
 use Rattle.t1_link.specs.ReaderRows.{reader_times_out-resynch, turns_answer-done, turns_answer-more, turns_block-again}
 use Rattle.t1_link.specs.ReaderRows.{turns_block-fault, turns_block-joins}
 use Rattle.t1_link.specs.ReaderRows.{turns_block-next, turns_block-nothing, turns_resynch-answered, turns_resynch-else}
-use Rattle.link_worlds.specs.Worlds.{Answers, Arrival, Carried, Done, Event, Failed, Line, Machine, Report}
-use Rattle.link_worlds.specs.Worlds.{Unknown, World, arrival, after_arrival, at_card, at_reader}
-use Rattle.link_worlds.specs.Worlds.{carrying, garble, giving, are_bytes, in_vain, is_command, is_garbled}
-use Rattle.link_worlds.specs.Worlds.{lose, may_arrive, may_send, nothing, pass, powered, quiet}
-use Rattle.link_worlds.specs.Worlds.{running, send, taking, toward_card, toward_reader, turning, world_step}
-use Rattle.link_worlds.specs.WorldRepairs.{Counts, Watched, answer_blocks, command_blocks, counted, counts_after}
-use Rattle.link_worlds.specs.WorldRepairs.{faulted, newest, no_counts, passed, watch}
-use Rattle.link_worlds.specs.WorldLaw.{Kept, OnlyRequestsFollow, requests}
-use Rattle.link_worlds.proofs.WorldPhases.{Budget, Exchange, UnderWay, Kind, Straight, asks_card, asks_reader}
-use Rattle.link_worlds.proofs.WorldPhases.{kind_back}
-use Rattle.link_worlds.proofs.WorldPhases.{kind_there, many, need, newest_answer}
-use Rattle.link_worlds.proofs.WorldPhases.{none_yet, offers_card, offers_reader, once, After, AnswerOffered, At}
-use Rattle.link_worlds.proofs.WorldPhases.{Awaits, Before, CommandOffered, Core, Good, History}
-use Rattle.link_worlds.proofs.WorldPhases.{Requesting, Stage, ToCard, ToReader, answer_offered, answer_taken}
-use Rattle.link_worlds.proofs.WorldPhases.{at_rest, kind_of, command_offered, command_taken, core}
-use Rattle.link_worlds.proofs.WorldPhases.{exchange, given_up, requesting_now}
+use Rattle.t1_link.specs.Worlds.{Answers, Arrival, Carried, Done, Event, Failed, Line, Machine, Report}
+use Rattle.t1_link.specs.Worlds.{Unknown, World, arrival, after_arrival, at_card, at_reader}
+use Rattle.t1_link.specs.Worlds.{carrying, garble, giving, are_bytes, in_vain, is_command, is_garbled}
+use Rattle.t1_link.specs.Worlds.{lose, may_arrive, may_send, nothing, pass, powered, quiet}
+use Rattle.t1_link.specs.Worlds.{running, send, taking, toward_card, toward_reader, turning, world_step}
+use Rattle.t1_link.specs.WorldRepairs.{Counts, Watched, answer_blocks, command_blocks, counted, counts_after}
+use Rattle.t1_link.specs.WorldRepairs.{faulted, newest, no_counts, passed, watch}
+use Rattle.t1_link.specs.WorldLaw.{Kept, OnlyRequestsFollow, requests}
+use Rattle.t1_link.proofs.WorldPhases.{Budget, Exchange, UnderWay, Kind, Straight, asks_card, asks_reader}
+use Rattle.t1_link.proofs.WorldPhases.{kind_back}
+use Rattle.t1_link.proofs.WorldPhases.{kind_there, many, need, newest_answer}
+use Rattle.t1_link.proofs.WorldPhases.{none_yet, offers_card, offers_reader, once, After, AnswerOffered, At}
+use Rattle.t1_link.proofs.WorldPhases.{Awaits, Before, CommandOffered, Core, Good, History}
+use Rattle.t1_link.proofs.WorldPhases.{Requesting, Stage, ToCard, ToReader, answer_offered, answer_taken}
+use Rattle.t1_link.proofs.WorldPhases.{at_rest, kind_of, command_offered, command_taken, core}
+use Rattle.t1_link.proofs.WorldPhases.{exchange, given_up, requesting_now}
 
 pub none_left : (xs : List ℕ) → not (length xs == 0) ≡ false → xs ≡ []
 none_left [] e = refl

@@ -4,8 +4,8 @@ use Rattle.std.proofs.lemmas.Bool.{and_parts}
 use Rattle.card_model.specs.Requests.{AreBytes}
 use Rattle.card_model.specs.laws.ByteLaws.{are_bytes-tell}
 use Rattle.card_model.specs.laws.AnswerLaws.{answers_are_short, step_keeps_proper}
-use Rattle.link_worlds.specs.TreeMachine.{tree_machine, IsProperState}
-use Rattle.link_worlds.specs.Worlds.{Answers, are_bytes, is_command}
+use Rattle.t1_link.specs.TreeMachine.{tree_machine, IsProperState}
+use Rattle.t1_link.specs.Worlds.{Answers, are_bytes, is_command}
 
 pub command-bytes : (command : List ℕ) → is_command command ≡ true → AreBytes command
 command-bytes command sound = are_bytes-tell command (and_parts (are_bytes command) _ sound).0

@@ -1,10 +1,10 @@
 -- Bounded repair (ISO/IEC 7816-3, clause 11.6): a command with at most one line fault gets its answer.
 use Rattle.std.specs.Prelude.{◌≡◌, ◌+◌, ◌*◌, ◌/◌, ◌≤◌, ◌<◌, ℕ, true, false, if◌then◌else◌, List, [], ◌∷◌, length}
 use Rattle.t1_link.specs.ReaderTable.{is_busy}
-use Rattle.link_worlds.specs.Worlds.{Arrival, Done, Event, Failed, Machine, Report, Unknown, World, arrival, at_card}
-use Rattle.link_worlds.specs.Worlds.{at_reader, garble, in_vain, lose, may_send}
-use Rattle.link_worlds.specs.Worlds.{nothing, pass, powered, send, world_step}
-use Rattle.link_worlds.specs.WorldLaw.{comes_of}
+use Rattle.t1_link.specs.Worlds.{Arrival, Done, Event, Failed, Machine, Report, Unknown, World, arrival, at_card}
+use Rattle.t1_link.specs.Worlds.{at_reader, garble, in_vain, lose, may_send}
+use Rattle.t1_link.specs.Worlds.{nothing, pass, powered, send, world_step}
+use Rattle.t1_link.specs.WorldLaw.{comes_of}
 
 -- The blocks since a command was last sent: how many arrived intact, and how many were lost or garbled.
 pub record Counts : Type 0 where

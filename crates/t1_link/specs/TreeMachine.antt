@@ -2,7 +2,7 @@
 use Rattle.card_model.specs.Cards.{Card, IsProper}
 use Rattle.card_model.specs.Sessions.{Session}
 use Rattle.card_model.specs.Steps.{answer_bytes, carried_out}
-use Rattle.link_worlds.specs.Worlds.{Machine}
+use Rattle.t1_link.specs.Worlds.{Machine}
 
 pub record Served : Type 0 where
   pub card : Card

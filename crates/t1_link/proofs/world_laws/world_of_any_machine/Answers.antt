@@ -1,6 +1,6 @@
 use Rattle.std.proofs.Common.{IsTrue}
-use Rattle.link_worlds.proofs.WorldLawful.{world-lawful, world-repairs, world-resynchs}
-use Rattle.link_worlds.proofs.laws.world_of_any_machine.Goals as goal
+use Rattle.t1_link.proofs.WorldLawful.{world-lawful, world-repairs, world-resynchs}
+use Rattle.t1_link.proofs.world_laws.world_of_any_machine.Goals as goal
 
 pub returns-clause-law : goal.returns-clause-law
 returns-clause-law g c = λ machine holds fits. world-lawful machine (λ m. IsTrue (holds m)) fits

@@ -9,20 +9,20 @@ use Rattle.t1_link.specs.ReaderTable.{is_busy, reader_step, Turned, fresh_reader
 use Rattle.t1_link.specs.ReaderTable.{turns_resynch, unknown}
 use Rattle.t1_link.specs.ReaderRows.{reader_takes-resynch, reader_times_out-resynch, requesting_again-last}
 use Rattle.t1_link.specs.ReaderRows.{requesting_again-more, turns_resynch-answered, turns_resynch-else}
-use Rattle.link_worlds.specs.Worlds.{world, Answers, Arrival, Event, Failed, Line, Machine, Unknown, World}
-use Rattle.link_worlds.specs.Worlds.{arrival, after_arrival, at_reader, garble, in_vain, is_command}
-use Rattle.link_worlds.specs.Worlds.{lose, nothing, pass, powered, quiet, send, toward_card, toward_reader}
-use Rattle.link_worlds.specs.Worlds.{turning, world_step}
-use Rattle.link_worlds.specs.WorldLaw.{is_under_way, IsUnanswered, Kept, Lawful, ResynchLaw, Resynchs, WorldLaw}
-use Rattle.link_worlds.specs.WorldLaw.{comes_of, requests, so_far}
-use Rattle.link_worlds.proofs.WorldPhases.{After, At, Budget, Core, Good, Kind, Requesting, Stage, Straight, ToCard}
-use Rattle.link_worlds.proofs.WorldPhases.{ToReader, answer_offered, answer_taken}
-use Rattle.link_worlds.proofs.WorldPhases.{asks_card, asks_reader, at_rest, command_offered, command_taken}
-use Rattle.link_worlds.proofs.WorldPhases.{core, exchange, given_up, kind_of, many, newest_answer}
-use Rattle.link_worlds.proofs.WorldPhases.{none_yet, offers_card, offers_reader, once, requesting_now}
-use Rattle.link_worlds.proofs.WorldSteps.{at-open, command_size, good-powered, good-watch, some_left}
-use Rattle.link_worlds.specs.WorldRepairs.{Counts, RepairLaw, Repaired, Watched, counts_after, newest, no_counts}
-use Rattle.link_worlds.specs.WorldRepairs.{watch, watched}
+use Rattle.t1_link.specs.Worlds.{world, Answers, Arrival, Event, Failed, Line, Machine, Unknown, World}
+use Rattle.t1_link.specs.Worlds.{arrival, after_arrival, at_reader, garble, in_vain, is_command}
+use Rattle.t1_link.specs.Worlds.{lose, nothing, pass, powered, quiet, send, toward_card, toward_reader}
+use Rattle.t1_link.specs.Worlds.{turning, world_step}
+use Rattle.t1_link.specs.WorldLaw.{is_under_way, IsUnanswered, Kept, Lawful, ResynchLaw, Resynchs, WorldLaw}
+use Rattle.t1_link.specs.WorldLaw.{comes_of, requests, so_far}
+use Rattle.t1_link.proofs.WorldPhases.{After, At, Budget, Core, Good, Kind, Requesting, Stage, Straight, ToCard}
+use Rattle.t1_link.proofs.WorldPhases.{ToReader, answer_offered, answer_taken}
+use Rattle.t1_link.proofs.WorldPhases.{asks_card, asks_reader, at_rest, command_offered, command_taken}
+use Rattle.t1_link.proofs.WorldPhases.{core, exchange, given_up, kind_of, many, newest_answer}
+use Rattle.t1_link.proofs.WorldPhases.{none_yet, offers_card, offers_reader, once, requesting_now}
+use Rattle.t1_link.proofs.WorldSteps.{at-open, command_size, good-powered, good-watch, some_left}
+use Rattle.t1_link.specs.WorldRepairs.{Counts, RepairLaw, Repaired, Watched, counts_after, newest, no_counts}
+use Rattle.t1_link.specs.WorldRepairs.{watch, watched}
 
 send-quiet : (line : Line) (command : List ℕ) → arrival line (send command) ≡ nothing
 send-quiet quiet command = refl

@@ -12,12 +12,12 @@ use Rattle.t1_link.specs.SequenceNumbers.{other_number, same}
 use Rattle.t1_link.specs.CardTable.{Link, Taken, card_takes, fresh, joined, refusing, replies, replying, runs, sending}
 use Rattle.t1_link.specs.CardTable.{sent_block, sent_more, sent_number}
 use Rattle.t1_link.specs.CardRows.{card_takes-fault, card_takes-joins, card_takes-resynch, card_takes-runs}
-use Rattle.link_worlds.specs.Worlds.{Machine, World, quiet, toward_card, toward_reader}
-use Rattle.link_worlds.specs.WorldRepairs.{Counts, newest}
-use Rattle.link_worlds.proofs.WorldPhases.{At, CommandOffered, Good, Stage, ToCard, ToReader, answer_offered}
-use Rattle.link_worlds.proofs.WorldPhases.{answer_taken, at_rest, command_offered}
-use Rattle.link_worlds.proofs.WorldPhases.{command_taken, core, exchange, given_up, requesting_now}
-use Rattle.link_worlds.proofs.WorldSteps.{command_size, none_left, same_as}
+use Rattle.t1_link.specs.Worlds.{Machine, World, quiet, toward_card, toward_reader}
+use Rattle.t1_link.specs.WorldRepairs.{Counts, newest}
+use Rattle.t1_link.proofs.WorldPhases.{At, CommandOffered, Good, Stage, ToCard, ToReader, answer_offered}
+use Rattle.t1_link.proofs.WorldPhases.{answer_taken, at_rest, command_offered}
+use Rattle.t1_link.proofs.WorldPhases.{command_taken, core, exchange, given_up, requesting_now}
+use Rattle.t1_link.proofs.WorldSteps.{command_size, none_left, same_as}
 use Rattle.card_model.specs.laws.ProperLaws.{either-if}
 
 -- a reaction that runs no command

@@ -5,10 +5,10 @@ use Rattle.t1_link.specs.declared.reader_end.Failure.TheVariants.{LinkLost}
 use Rattle.t1_link.specs.Blocks.{Block, information, receive_ready, resynch_request, resynch_response, ifs_request}
 use Rattle.t1_link.specs.Blocks.{ifs_response, heard}
 use Rattle.t1_link.specs.ReaderTable.{is_busy}
-use Rattle.link_worlds.specs.Worlds.{Arrival, Carried, Done, Event, Failed, Line, Machine, Report, Unknown, World}
-use Rattle.link_worlds.specs.Worlds.{arrival, at_reader}
-use Rattle.link_worlds.specs.Worlds.{carrying, in_vain, is_command, powered, quiet, toward_card, toward_reader}
-use Rattle.link_worlds.specs.Worlds.{world, world_step}
+use Rattle.t1_link.specs.Worlds.{Arrival, Carried, Done, Event, Failed, Line, Machine, Report, Unknown, World}
+use Rattle.t1_link.specs.Worlds.{arrival, at_reader}
+use Rattle.t1_link.specs.Worlds.{carrying, in_vain, is_command, powered, quiet, toward_card, toward_reader}
+use Rattle.t1_link.specs.Worlds.{world, world_step}
 
 -- the report doesn't say whether the command ran
 abbrev pub IsOpenEnded : Report → Type 0

@@ -6,11 +6,11 @@ use Rattle.t1_link.specs.declared.sequence_number.SequenceNumber.{SequenceNumber
 use Rattle.t1_link.specs.Blocks.{Block, frame, heard, information, receive_ready, resynch_request, resynch_response}
 use Rattle.t1_link.specs.SequenceNumbers.{other_number}
 use Rattle.t1_link.specs.CardTable.{Link, fresh, sent_block, sent_more}
-use Rattle.link_worlds.specs.Worlds.{Carried, carrying, Line, Machine, Report, Unknown, World, is_command, quiet}
-use Rattle.link_worlds.specs.Worlds.{toward_card, toward_reader}
-use Rattle.link_worlds.specs.WorldRepairs.{Counts, NoneFailed, Repaired, answer_blocks, command_blocks, newest}
+use Rattle.t1_link.specs.Worlds.{Carried, carrying, Line, Machine, Report, Unknown, World, is_command, quiet}
+use Rattle.t1_link.specs.Worlds.{toward_card, toward_reader}
+use Rattle.t1_link.specs.WorldRepairs.{Counts, NoneFailed, Repaired, answer_blocks, command_blocks, newest}
 use Rattle.std.proofs.Common.{inl, inr}
-use Rattle.link_worlds.specs.WorldLaw.{Fits, Kept, OnlyRequestsFollow, requests}
+use Rattle.t1_link.specs.WorldLaw.{Fits, Kept, OnlyRequestsFollow, requests}
 
 -- what came to pass, and the state that the machine is in
 pub record History (M : Type 0) : Type 0 where

@@ -1,10 +1,10 @@
 //! The law of the world of both ends.
 
 ghost use Rattle.std.specs.Prelude.{Bool, IsTrue};
-ghost use Rattle.link_worlds.specs.TreeMachine.{tree_machine, IsProperState};
-ghost use Rattle.link_worlds.specs.WorldLaw.{ResynchLaw, WorldLaw};
-ghost use Rattle.link_worlds.specs.WorldRepairs.{RepairLaw};
-ghost use Rattle.link_worlds.specs.Worlds.{Answers, Machine};
+ghost use Rattle.t1_link.specs.TreeMachine.{tree_machine, IsProperState};
+ghost use Rattle.t1_link.specs.WorldLaw.{ResynchLaw, WorldLaw};
+ghost use Rattle.t1_link.specs.WorldRepairs.{RepairLaw};
+ghost use Rattle.t1_link.specs.Worlds.{Answers, Machine};
 
 /// States the law of the world of both ends.
 /// The source is ISO/IEC 7816-3, clause 11.6.

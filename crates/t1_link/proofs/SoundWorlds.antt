@@ -10,14 +10,14 @@ use Rattle.t1_link.specs.CardTable.{Reaction, link_step, replies, runs, sending}
 use Rattle.t1_link.specs.ReaderTable.{CommandReport, Turned, fails, gives, is_busy, reader_sends, reader_step}
 use Rattle.t1_link.specs.ReaderTable.{reader_times_out, sends, unknown}
 use Rattle.card_model.specs.Requests.{AreBytes}
-use Rattle.link_worlds.specs.Worlds.{Arrival, Event, Line, Machine, World, are_bytes, arrival, after_arrival}
-use Rattle.link_worlds.specs.Worlds.{at_card, at_reader, garble, giving, in_vain, is_command}
-use Rattle.link_worlds.specs.Worlds.{is_garbled, lose, may_arrive, may_send, noted, nothing, pass, powered, quiet}
-use Rattle.link_worlds.specs.Worlds.{reacting, send, toward_card, toward_reader, turning, world, world_step}
-use Rattle.link_worlds.proofs.SoundBlocks.{IsSound, IsSoundLink, IsSoundOutcome, IsSoundReaction, IsSoundReader}
-use Rattle.link_worlds.proofs.SoundBlocks.{IsSoundTaken, IsSoundTurned, IsSoundlyHeard}
-use Rattle.link_worlds.proofs.SoundBlocks.{sound-in_vain, sound-sending, sound-sends, sound-taken, sound-turned}
-use Rattle.link_worlds.proofs.TreeAnswers.{command-bytes}
+use Rattle.t1_link.specs.Worlds.{Arrival, Event, Line, Machine, World, are_bytes, arrival, after_arrival}
+use Rattle.t1_link.specs.Worlds.{at_card, at_reader, garble, giving, in_vain, is_command}
+use Rattle.t1_link.specs.Worlds.{is_garbled, lose, may_arrive, may_send, noted, nothing, pass, powered, quiet}
+use Rattle.t1_link.specs.Worlds.{reacting, send, toward_card, toward_reader, turning, world, world_step}
+use Rattle.t1_link.proofs.SoundBlocks.{IsSound, IsSoundLink, IsSoundOutcome, IsSoundReaction, IsSoundReader}
+use Rattle.t1_link.proofs.SoundBlocks.{IsSoundTaken, IsSoundTurned, IsSoundlyHeard}
+use Rattle.t1_link.proofs.SoundBlocks.{sound-in_vain, sound-sending, sound-sends, sound-taken, sound-turned}
+use Rattle.t1_link.proofs.TreeAnswers.{command-bytes}
 
 abbrev pub IsSoundLine : Line → Type 0
 IsSoundLine quiet = Unit {0}

@@ -1,4 +1,0 @@
-pub mod TreeMachine
-pub mod WorldLaw
-pub mod WorldRepairs
-pub mod Worlds
