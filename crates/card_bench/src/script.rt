@@ -10,10 +10,9 @@ use crate::desk::Desk;
 use bench_lines::{GivenBytes, LineBytes, LineEnd, LineFault, Order, SCRIPT_LIMIT, read_line};
 use bench_turns::TurnPlayer;
 use card_boards::factory_board;
-use kept_board::Followed;
 use nvm_board::has_no_fault;
 use script_output::{NO_TEXT, RunFault};
-use simulated_boards::CutBoard;
+use simulated_boards::{CutBoard, Followed};
 use std::alloc::Global;
 use std::io::{BufRead, Write};
 

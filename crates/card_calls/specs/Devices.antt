@@ -3,9 +3,9 @@ use Rattle.std.specs.Prelude.{ℕ, List, Bool, true, false, [], Option, None, So
 use Rattle.std.specs.Int.{w32, to_be_bytes}
 use Rattle.nvm_board.specs.Facts.{Facts}
 use Rattle.nvm_board.specs.History.{Log}
-use Rattle.kept_board.specs.declared.kept_board.KeptBoard.{KeptBoard}
-use Rattle.kept_board.specs.Handed.{is_behind}
-use Rattle.kept_board.specs.Kept.{kept_facts}
+use Rattle.simulated_boards.specs.declared.kept_board.KeptBoard.{KeptBoard}
+use Rattle.simulated_boards.specs.Handed.{is_behind}
+use Rattle.simulated_boards.specs.Kept.{kept_facts}
 use Rattle.card_calls.specs.declared.device.Device.{Device}
 
 -- the bytes of words in an image: the most significant of each first

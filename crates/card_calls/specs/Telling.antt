@@ -21,7 +21,7 @@ use Rattle.script_output.specs.Printouts.{prints_bytes}
 use Rattle.script_output.specs.Printouts.{prints_free}
 use Rattle.card_boards.specs.FactoryBoards.{IsFactoryBoard}
 use Rattle.card_calls.specs.SessionStates.{SessionState, begun_at}
-use Rattle.kept_board.specs.declared.kept_board.KeptBoard.{KeptBoard}
+use Rattle.simulated_boards.specs.declared.kept_board.KeptBoard.{KeptBoard}
 use Rattle.card_calls.specs.Devices.{device_facts, is_left_behind}
 use Rattle.card_calls.specs.declared.device.Device.{Device}
 use Rattle.card_calls.specs.declared.outcome.Outcome.{Outcome}

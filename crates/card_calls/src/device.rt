@@ -9,8 +9,7 @@ ghost use Rattle.card_calls.specs.Devices.{begun_log, device_facts, device_log, 
 ghost use Rattle.card_calls.specs.declared.device.TheConstants.{WORD_BYTES};
 
 use arrayvec::ArrayVec;
-use kept_board::{Followed, Follower, KeptBoard};
-use simulated_boards::CutBoard;
+use simulated_boards::{CutBoard, Followed, Follower, KeptBoard};
 use std::alloc::Global;
 
 /// The bytes of a word.

@@ -3,8 +3,8 @@ use Rattle.std.specs.Prelude.{◌≡◌, Bool, Option, None, Some, option_map, i
 use Rattle.nvm_board.specs.declared.board.TheConstants.{LEAST_PAGES}
 use Rattle.nvm_board.specs.Facts.{Facts}
 use Rattle.card_boards.specs.FactoryBoards.{IsFactoryBoard}
-use Rattle.kept_board.specs.declared.kept_board.KeptBoard.{KeptBoard}
-use Rattle.kept_board.specs.Kept.{kept_facts}
+use Rattle.simulated_boards.specs.declared.kept_board.KeptBoard.{KeptBoard}
+use Rattle.simulated_boards.specs.Kept.{kept_facts}
 use Rattle.card_file.specs.declared.kept_file.KeptFile.{KeptFile}
 use Rattle.card_file.specs.declared.options.Asked.{Asked}
 use Rattle.card_file.specs.declared.options.Asked.TheVariants as asked

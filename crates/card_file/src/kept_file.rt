@@ -2,8 +2,8 @@
 ghost use Rattle.std.specs.Prelude.{◌≡◌, ◌≤◌, ◌↔◌, ◌+◌, ◌*◌, false, length, IsTrue};
 ghost use Rattle.nvm_board.specs.declared.board.TheConstants.{MOST_PAGES, PAGE_WORDS};
 
-use kept_board::{Follower, KeptBoard};
 use nvm_board::PAGE_WORDS;
+use simulated_boards::{Follower, KeptBoard};
 use std::fs::File;
 use std::io;
 use std::os::unix::fs::{FileExt, MetadataExt};

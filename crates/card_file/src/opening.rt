@@ -4,14 +4,13 @@ ghost use Rattle.card_boards.specs.FactoryBoards.{IsFactoryBoard};
 ghost use Rattle.card_file.specs.AskedBoards.{IsBoardOf, facts_of, syncs};
 ghost use Rattle.card_file.specs.CommandLines.{new_card_pages, pages_number};
 ghost use Rattle.command_base.specs.Finding.{HasCard};
-ghost use Rattle.kept_board.specs.Kept.{kept_words};
+ghost use Rattle.simulated_boards.specs.Kept.{kept_words};
 
 use crate::kept_file::{CardBoard, KeptFile, PAGE_BYTES, Stamp};
 use crate::options::{Asked, CardOptions};
 use card_boards::{NoCard, factory_board, factory_board_of, image_board};
-use kept_board::KeptBoard;
 use nvm_board::{LEAST_PAGES, MOST_PAGES};
-use simulated_boards::CutBoard;
+use simulated_boards::{CutBoard, KeptBoard};
 use std::alloc::Global;
 use std::fs::{self, File, OpenOptions, TryLockError};
 use std::io::{self, ErrorKind, Read, Write};

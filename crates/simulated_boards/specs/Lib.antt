@@ -1,6 +1,8 @@
--- Simulated boards: their facts, their power cuts and their faults.
+-- Simulated boards: their facts, their power cuts, their faults, and what a follower is handed.
 pub mod Ram
 pub mod Given
 pub mod Cut
 pub mod Faulty
+pub mod Handed
+pub mod Kept
 pub mod laws

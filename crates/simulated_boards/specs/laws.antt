@@ -1,2 +1,3 @@
 -- Laws of the definitions, with their proofs.
 pub mod Counts
+pub mod Logging

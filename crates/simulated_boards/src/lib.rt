@@ -1,13 +1,19 @@
-//! Boards that are simulated in working memory: a plain one, one that loses power at a set write, and one whose
-//! device fails at a set call or write.
+//! Boards that are simulated in working memory: a plain one, one that loses power at a set write, one whose device
+//! fails at a set call or write, and one that something outside of it follows, as a file does.
 #![tactic(auto)]
 
 mod arming;
 mod cut_board;
 mod fault_board;
+mod followed;
+mod follower;
+mod kept_board;
 mod ram_board;
 mod runs;
 
 pub use cut_board::CutBoard;
 pub use fault_board::{Counted, FaultBoard};
+pub use followed::Followed;
+pub use follower::Follower;
+pub use kept_board::KeptBoard;
 pub use ram_board::RamBoard;

@@ -7,9 +7,9 @@ use Rattle.nvm_board.specs.laws.Torn.{length-Torn}
 use Rattle.simulated_boards.specs.Cut.{cut_facts}
 use Rattle.simulated_boards.specs.declared.cut_board.CutBoard.{CutBoard}
 use Rattle.simulated_boards.specs.laws.Counts.{cut_is_board}
-use Rattle.kept_board.specs.Kept.{kept_log}
-use Rattle.kept_board.specs.laws.Logging.{with_log, writes_logged}
-use Rattle.kept_board.proofs.kept_board.KeptBoard.write_followed.Goals as goal
+use Rattle.simulated_boards.specs.Kept.{kept_log}
+use Rattle.simulated_boards.specs.laws.Logging.{with_log, writes_logged}
+use Rattle.simulated_boards.proofs.kept_board.KeptBoard.write_followed.Goals as goal
 
 -- a write changes no number of words, so its run lies in the memory after it too
 pub hand_on-requires-clause-within : goal.hand_on-requires-clause-within

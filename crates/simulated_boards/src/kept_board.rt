@@ -3,10 +3,10 @@ ghost use Rattle.std.specs.Prelude.{◌≡◌, ◌+◌, ◌≤◌, length};
 ghost use Rattle.simulated_boards.specs.Cut.{cut_facts};
 ghost use Rattle.nvm_board.specs.declared.board.TheConstants.{PAGE_WORDS};
 
+use crate::cut_board::CutBoard;
 use crate::followed::Followed;
 use crate::follower::Follower;
 use nvm_board::{Armed, Board, DeviceErr, Faultless, PAGE_WORDS, Socket, WornOut};
-use simulated_boards::CutBoard;
 
 /// A board in working memory that can be cut, and its follower, if it has one. The board hands the words of each device
 /// write to its follower, once, in order, as the write left them, also if it was torn. A follower that fails changes
@@ -24,8 +24,8 @@ impl<F: Follower> KeptBoard<F> {
     ghost use Rattle.nvm_board.specs.Facts.{address};
     ghost use Rattle.nvm_board.specs.History.{and_run, run_in};
     ghost use Rattle.simulated_boards.specs.Cut.{WritesOrTears};
-    ghost use Rattle.kept_board.specs.Handed.{HandsOn, log_of};
-    ghost use Rattle.kept_board.specs.Kept.{follower_state, kept_facts, kept_log, kept_words};
+    ghost use Rattle.simulated_boards.specs.Handed.{HandsOn, log_of};
+    ghost use Rattle.simulated_boards.specs.Kept.{follower_state, kept_facts, kept_log, kept_words};
 
     /// The board, and a follower that has its words already, or none.
     pub fn new(cut: CutBoard, follower: Option<F>) -> KeptBoard<F>
@@ -118,9 +118,9 @@ impl<F: Follower> Board for KeptBoard<F> {
     ghost use Rattle.nvm_board.specs.Facts.{address};
     ghost use Rattle.nvm_board.specs.History.{run_in};
     ghost use Rattle.simulated_boards.specs.Cut.{cut_facts, WritesOrTears};
-    ghost use Rattle.kept_board.specs.Handed.{HandsOn};
-    ghost use Rattle.kept_board.specs.Kept.{follower_state, kept_facts, kept_words};
-    ghost use Rattle.kept_board.specs.laws.Logging.{kept_is_board};
+    ghost use Rattle.simulated_boards.specs.Handed.{HandsOn};
+    ghost use Rattle.simulated_boards.specs.Kept.{follower_state, kept_facts, kept_words};
+    ghost use Rattle.simulated_boards.specs.laws.Logging.{kept_is_board};
 
     ghost facts = { kept_facts F.log };
 
@@ -171,7 +171,7 @@ impl<F: Follower> Board for KeptBoard<F> {
 impl<F: Follower> Socket for KeptBoard<F> {
     ghost use Rattle.std.specs.Prelude.{◌↔◌, IsErr, OnErr, OnOk, true, false};
     ghost use Rattle.nvm_board.specs.Facts.{IsWornOut};
-    ghost use Rattle.kept_board.specs.Kept.{follower_state, kept_facts};
+    ghost use Rattle.simulated_boards.specs.Kept.{follower_state, kept_facts};
 
     fn light(&mut self) -> Result<(), WornOut>
         ensures worn { IsErr result ↔ IsWornOut (kept_facts F.log self.old) }
@@ -192,7 +192,7 @@ impl<F: Follower> Socket for KeptBoard<F> {
 
 impl<F: Follower> Armed for KeptBoard<F> {
     ghost use Rattle.nvm_board.specs.BoardCalls.{Arms};
-    ghost use Rattle.kept_board.specs.Kept.{follower_state, kept_facts};
+    ghost use Rattle.simulated_boards.specs.Kept.{follower_state, kept_facts};
 
     fn arm(&mut self, k: u32, mask: u16)
         requires { 1 ≤ k }

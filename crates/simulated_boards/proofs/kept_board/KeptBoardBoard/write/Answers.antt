@@ -3,10 +3,10 @@ use Rattle.std.proofs.Common.{◌≡◌, Bool, true, false, Option, Some, None, 
 use Rattle.nvm_board.specs.Facts.{address}
 use Rattle.nvm_board.specs.History.{Log, Run, and_run}
 use Rattle.simulated_boards.specs.Cut.{cut_facts}
-use Rattle.kept_board.specs.Handed.{log_of}
-use Rattle.kept_board.specs.Kept.{kept_log}
-use Rattle.kept_board.specs.laws.Logging.{writes_logged}
-use Rattle.kept_board.proofs.kept_board.KeptBoardBoard.write.Goals as goal
+use Rattle.simulated_boards.specs.Handed.{log_of}
+use Rattle.simulated_boards.specs.Kept.{kept_log}
+use Rattle.simulated_boards.specs.laws.Logging.{writes_logged}
+use Rattle.simulated_boards.proofs.kept_board.KeptBoardBoard.write.Goals as goal
 
 -- nothing is logged where nothing follows
 logs_none : {F : Type 0} (log : F → Option Log) (follower : Option F) (follows : Bool) (run : Run)

@@ -3,8 +3,8 @@ use Rattle.std.specs.Prelude.{ℕ, List, Option, None, if◌then◌else◌}
 use Rattle.nvm_board.specs.Facts.{Facts}
 use Rattle.nvm_board.specs.History.{Log}
 use Rattle.simulated_boards.specs.Cut.{cut_facts}
-use Rattle.kept_board.specs.Handed.{log_of, FollowerState}
-use Rattle.kept_board.specs.declared.kept_board.KeptBoard.{KeptBoard}
+use Rattle.simulated_boards.specs.Handed.{log_of, FollowerState}
+use Rattle.simulated_boards.specs.declared.kept_board.KeptBoard.{KeptBoard}
 
 -- the words of the board
 abbrev pub kept_words : {F : Type 0} → KeptBoard F → List ℕ

@@ -1,8 +1,8 @@
 //! Boards whose words something outside may follow.
 ghost use Rattle.std.specs.Prelude.{◌≡◌, Bool, true};
 
+use crate::cut_board::CutBoard;
 use nvm_board::Board;
-use simulated_boards::CutBoard;
 
 /// A board whose words something outside, such as a file, may follow.
 pub trait Followed: Board {

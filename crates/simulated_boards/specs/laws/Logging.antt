@@ -8,8 +8,8 @@ use Rattle.nvm_board.specs.BoardCalls.{Compares, TellsWord, Writes}
 use Rattle.nvm_board.specs.Facts.{Answered, Facts, GoesDark, IsBoard, IsLostRightly}
 use Rattle.nvm_board.specs.History.{Log, and_run, run_in}
 use Rattle.simulated_boards.specs.laws.Counts.{cut_is_board}
-use Rattle.kept_board.specs.Kept.{kept_facts}
-use Rattle.kept_board.specs.declared.kept_board.KeptBoard.{KeptBoard}
+use Rattle.simulated_boards.specs.Kept.{kept_facts}
+use Rattle.simulated_boards.specs.declared.kept_board.KeptBoard.{KeptBoard}
 
 -- a board, with this log in place of its own
 abbrev pub with_log : Option Log → Facts → Facts

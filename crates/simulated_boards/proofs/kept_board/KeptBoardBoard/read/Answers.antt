@@ -1,7 +1,7 @@
 use Rattle.simulated_boards.specs.Cut.{cut_facts}
-use Rattle.kept_board.specs.Kept.{kept_log}
-use Rattle.kept_board.specs.laws.Logging.{tells_logged}
-use Rattle.kept_board.proofs.kept_board.KeptBoardBoard.read.Goals as goal
+use Rattle.simulated_boards.specs.Kept.{kept_log}
+use Rattle.simulated_boards.specs.laws.Logging.{tells_logged}
+use Rattle.simulated_boards.proofs.kept_board.KeptBoardBoard.read.Goals as goal
 
 pub returns-clause-tells : goal.returns-clause-tells
 returns-clause-tells g c =
