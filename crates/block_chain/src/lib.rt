@@ -1,5 +1,5 @@
 //! Blocks and chains of a memory: lists of bytes that share no block. The free blocks are a chain too. Code here reads
-//! no store: the calls on chains are in `block_links`, `stored_bytes`, `byte_updates` and `block_store`.
+//! no store: the calls on chains are in `block_links`, `chain_bytes` and `block_store`.
 #![tactic(auto)]
 
 mod chain;

@@ -1,6 +1,6 @@
 //! Laws of the constants, as contracts of functions that do nothing.
 ghost use Rattle.std.specs.Prelude.{◌≡◌, ◌≤◌, ℕ};
-ghost use Rattle.byte_updates.specs.Writes.{put_writes};
+ghost use Rattle.chain_bytes.specs.Writes.{put_writes};
 ghost use Rattle.ef_contents.specs.UpdateWrites.{update_writes};
 ghost use Rattle.record_slots.specs.declared.layout.TheConstants.{MOST_RECORD_BYTES, RECORD_WRITES, UPDATE_WRITES};
 ghost use Rattle.record_slots.specs.BodyChanges.{record_put_writes};

@@ -19,7 +19,7 @@ use Rattle.record_slots.specs.laws.Lists.{at-newest_first}
 use Rattle.record_slots.specs.laws.Rings.{told_number, told_start, cyclic_is}
 use Rattle.ef_contents.specs.laws.Slots.{slot-within, slot-take, length-slot}
 use Rattle.std.proofs.Math.Nat.{mod-lt}
-use Rattle.byte_updates.specs.laws.Keeping.{chain_kept, before_kept}
+use Rattle.chain_bytes.specs.laws.Keeping.{chain_kept, before_kept}
 use Rattle.block_links.specs.StoredBlocks.{LieIn}
 
 -- as many bytes as the blocks have

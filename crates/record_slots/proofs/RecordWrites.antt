@@ -12,7 +12,7 @@ use Rattle.undo_journal.specs.Batches.{batch_writes, look_up}
 use Rattle.undo_journal.specs.Memory.{Memory, Joins, commit_writes, spent, taken}
 use Rattle.undo_journal.specs.laws.Joining.{commit_of_some, joins-first, joins-begins, joins-takes}
 use Rattle.block_chain.specs.ChainChanges.{touched_words}
-use Rattle.byte_updates.specs.Writes.{put_writes, WaitInBlocks}
+use Rattle.chain_bytes.specs.Writes.{put_writes, WaitInBlocks}
 use Rattle.block_chain.specs.laws.Overwriting.{touched}
 use Rattle.record_slots.specs.BodyChanges.{record_put_writes}
 

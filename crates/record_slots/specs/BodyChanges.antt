@@ -7,7 +7,7 @@ use Rattle.block_chain.specs.BlockWords.{word}
 use Rattle.block_chain.specs.Counts.{IsNotIn}
 use Rattle.block_chain.specs.Chains.{chain_of, chain_bytes}
 use Rattle.block_chain.specs.ChainChanges.{touched_words}
-use Rattle.byte_updates.specs.Writes.{batch_count, run_count}
+use Rattle.chain_bytes.specs.Writes.{batch_count, run_count}
 use Rattle.block_chain.specs.declared.layout.TheConstants.{WORD_BYTES}
 use Rattle.card_state.specs.FileTrees.{overwrite}
 use Rattle.record_slots.specs.declared.cyclic.Cyclic.{Cyclic}

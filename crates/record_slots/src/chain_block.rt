@@ -8,7 +8,7 @@ ghost use Rattle.record_slots.specs.ReadParts.{IsBlockOf};
 ghost use Rattle.block_links.specs.StoredBlocks.{HasChain};
 
 use block_chain::Chain;
-use stored_bytes::block_at;
+use chain_bytes::block_at;
 use undo_journal::{Board, Store, StoreErr};
 
 /// A block of a chain: its number in the chain, from 0, and its page.

@@ -11,7 +11,7 @@ use crate::chain_block::ChainBlock;
 use crate::slot::{RecordSlot, offset_of, slot_of};
 use arrayvec::ArrayVec;
 use block_chain::{BLOCK_BYTES, Chain};
-use stored_bytes::read_bytes;
+use chain_bytes::read_bytes;
 use undo_journal::{Board, Store, StoreErr};
 
 impl RecordSlot {

@@ -6,12 +6,12 @@ ghost use Rattle.undo_journal.specs.StoreCalls.{SetsIn};
 ghost use Rattle.undo_journal.specs.Lent.{memory_of};
 ghost use Rattle.undo_journal.specs.declared.layout.TheConstants.{GATE};
 ghost use Rattle.block_chain.specs.ChainChanges.{touched_blocks, touched_words};
-ghost use Rattle.byte_updates.specs.Writes.{put_writes};
+ghost use Rattle.chain_bytes.specs.Writes.{put_writes};
 ghost use Rattle.record_slots.specs.declared.layout.TheConstants.{RECORD_WRITES, UPDATE_WRITES};
 ghost use Rattle.card_state.specs.RecordLists.{front};
 ghost use Rattle.record_slots.specs.Bodies.{counts_word, cyclic_body_records};
 ghost use Rattle.record_slots.specs.StoredBodies.{TakesRecord, TakesFront};
-ghost use Rattle.byte_updates.specs.Updates.{TakesBytes};
+ghost use Rattle.chain_bytes.specs.Updates.{TakesBytes};
 ghost use Rattle.record_slots.specs.BodyChanges.{record_put_writes, slot_offset};
 ghost use Rattle.record_slots.specs.BodyChanges.{CyclicBecomes, PutsRecord, RecordsBecome};
 ghost use Rattle.ef_contents.specs.BodyCalls.{Commits};
@@ -21,7 +21,7 @@ ghost use Rattle.block_links.specs.StoredBlocks.{LieIn};
 use crate::cyclic::Cyclic;
 use crate::slot::{FreeSlot, RecordSlot, offset_of, slot_of};
 use block_chain::Chain;
-use byte_updates::{put_bytes, set_bytes};
+use chain_bytes::{put_bytes, set_bytes};
 use undo_journal::{Board, Store, StoreErr, Txn};
 
 /// Returns the entry's word for its records. It has their number and the slot of record 1.

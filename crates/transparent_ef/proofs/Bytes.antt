@@ -19,7 +19,7 @@ use Rattle.block_chain.specs.laws.Overwriting.{index-overwrite, length-overwrite
 use Rattle.transparent_ef.specs.declared.transparent.Transparent.{Transparent}
 use Rattle.transparent_ef.specs.TransparentBodies.{transparent_bytes, IsTransparent, TransparentBecomes}
 use Rattle.ef_contents.specs.Refusals.{past_end, overlong}
-use Rattle.byte_updates.specs.laws.Keeping.{chain_kept}
+use Rattle.chain_bytes.specs.laws.Keeping.{chain_kept}
 use Rattle.ef_contents.specs.laws.Refusing.{not_so}
 
 -- the first of the first bytes

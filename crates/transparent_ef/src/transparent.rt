@@ -4,7 +4,7 @@ ghost use Rattle.undo_journal.specs.Memory.{committed};
 ghost use Rattle.undo_journal.specs.Spending.{transaction_writes, WritesAtMost};
 ghost use Rattle.card_state.specs.FileTrees.{overwrite};
 ghost use Rattle.block_chain.specs.ChainChanges.{touched_blocks, touched_words};
-ghost use Rattle.byte_updates.specs.Writes.{put_writes};
+ghost use Rattle.chain_bytes.specs.Writes.{put_writes};
 ghost use Rattle.ef_contents.specs.Refusals.{past_end, overlong};
 ghost use Rattle.transparent_ef.specs.TransparentBodies.{transparent_bytes, HasBytes, TransparentBecomes};
 ghost use Rattle.ef_contents.specs.UpdateWrites.{update_writes};
@@ -12,10 +12,9 @@ ghost use Rattle.ef_contents.specs.BodyCalls.{CommitsUnlessRefused, ReadsUnlessR
 
 use arrayvec::ArrayVec;
 use block_chain::Chain;
-use byte_updates::put_bytes;
 use card_state::Sw;
+use chain_bytes::{put_bytes, read_bytes};
 use ef_contents::{BodyErr, from_store};
-use stored_bytes::read_bytes;
 use undo_journal::{Board, Store};
 
 /// The body of a transparent EF. It has a chain, and a size of 1 to 32,767 bytes.

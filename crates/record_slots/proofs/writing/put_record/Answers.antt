@@ -7,7 +7,7 @@ use Rattle.undo_journal.specs.laws.Transactions.{begun}
 use Rattle.block_chain.specs.ChainChanges.{touched_words, touched_blocks}
 use Rattle.record_slots.specs.declared.layout.TheConstants.{RECORD_WRITES}
 use Rattle.record_slots.specs.BodyChanges.{record_put_writes, PutsRecord}
-use Rattle.byte_updates.specs.laws.Touching.{touched_few, touched_few_blocks}
+use Rattle.chain_bytes.specs.laws.Touching.{touched_few, touched_few_blocks}
 use Rattle.block_links.specs.StoredBlocks.{LieIn}
 use Rattle.record_slots.proofs.writing.put_record.Goals as goal
 

@@ -3,12 +3,12 @@ use Rattle.undo_journal.specs.Memory.{committed}
 use Rattle.undo_journal.specs.Spending.{transaction_writes}
 use Rattle.block_chain.specs.Chains.{chain_of}
 use Rattle.block_chain.specs.ChainChanges.{Overwrites, touched_words, touched_blocks}
-use Rattle.byte_updates.specs.Writes.{put_writes}
+use Rattle.chain_bytes.specs.Writes.{put_writes}
 use Rattle.ef_contents.specs.BodyCalls.{Commits}
 use Rattle.record_slots.specs.BodyChanges.{slot_offset}
 use Rattle.record_slots.proofs.Becoming.{ring_put, slot_lies}
 use Rattle.ef_contents.specs.laws.Calling.{commits_weaker, commits_within, counted_at}
-use Rattle.byte_updates.specs.laws.Touching.{touched_few, touched_few_blocks}
+use Rattle.chain_bytes.specs.laws.Touching.{touched_few, touched_few_blocks}
 use Rattle.record_slots.proofs.slot.RecordSlot.replace.Goals as goal
 
 pub returns-clause-commits : goal.returns-clause-commits

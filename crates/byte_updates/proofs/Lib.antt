@@ -1,4 +1,0 @@
-pub mod Puts
-pub mod RunCosts
-pub mod Places
-pub mod Counting

@@ -1,0 +1,5 @@
+pub mod Runs
+pub mod Puts
+pub mod RunCosts
+pub mod Places
+pub mod Counting
