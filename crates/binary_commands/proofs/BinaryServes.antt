@@ -19,9 +19,9 @@ use Rattle.card_model.specs.declared.requests.Target.{Target}
 use Rattle.card_model.specs.Requests.{Request, read_binary, update_binary}
 use Rattle.block_chain.specs.Chains.{bytes_of}
 use Rattle.block_chain.specs.ChainChanges.{AppendsSome}
-use Rattle.transparent_ef.specs.declared.transparent.Transparent.{Transparent}
-use Rattle.transparent_ef.specs.TransparentBodies.{transparent_bytes, IsTransparent}
-use Rattle.transparent_ef.specs.TransparentBodies.{TransparentBecomes}
+use Rattle.ef_body.specs.declared.transparent.Transparent.{Transparent}
+use Rattle.ef_body.specs.TransparentBodies.{transparent_bytes, IsTransparent}
+use Rattle.ef_body.specs.TransparentBodies.{TransparentBecomes}
 use Rattle.ef_contents.specs.Refusals.{why_failed, Decides, WhereRefused, overlong, past_end}
 use Rattle.ef_contents.specs.declared.error.BodyErr.{BodyErr}
 use Rattle.ef_contents.specs.declared.error.BodyErr.TheVariants as body_err

@@ -12,8 +12,8 @@ use block_chain::Chain;
 use card_state::AccessBit;
 use card_state::limits::MOST_ANSWER_DATA;
 use command_base::{Current, Need, Stop, Structure, find_file};
+use ef_body::Transparent;
 use file_tree::Entry;
-use transparent_ef::Transparent;
 use undo_journal::{Board, Store};
 
 /// What READ BINARY needs of its file.

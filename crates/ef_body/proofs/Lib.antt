@@ -1,2 +1,11 @@
 pub mod Taken
 pub mod Updating
+pub mod Bytes
+pub mod Putting
+pub mod Becoming
+pub mod Adding
+pub mod Increasing
+pub mod Finding
+pub mod Resting
+pub mod Passing
+pub mod RecordWrites

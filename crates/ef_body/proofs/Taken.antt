@@ -4,10 +4,10 @@ use Rattle.std.proofs.Math.ListN.{length-set}
 use Rattle.std.specs.Prelude.{◌≡◌, ◌<◌, ◌≤◌, ◌-◌, ℕ, List, [], ◌∷◌, ◌++◌, length, slice_set}
 use Rattle.block_chain.specs.Chains.{chain_bytes}
 use Rattle.ef_contents.specs.Records.{newest_first}
-use Rattle.record_slots.specs.declared.cyclic.Cyclic.{Cyclic}
-use Rattle.record_slots.specs.Bodies.{number_told, start_told, cyclic_body_records}
-use Rattle.record_slots.specs.BodyChanges.{RecordsBecome}
-use Rattle.record_slots.specs.laws.Lists.{in_order-ring, length-newest_first}
+use Rattle.ef_body.specs.declared.cyclic.Cyclic.{Cyclic}
+use Rattle.ef_body.specs.Bodies.{number_told, start_told, cyclic_body_records}
+use Rattle.ef_body.specs.BodyChanges.{RecordsBecome}
+use Rattle.ef_body.specs.laws.Lists.{in_order-ring, length-newest_first}
 use Rattle.ef_body.specs.declared.linear.Linear.{Linear}
 use Rattle.ef_body.specs.LinearBodies.{linear_body_records, ring_of, IsLinear, LinearBecomes}
 use Rattle.ef_body.specs.laws.Linears.{length-linear, ring_records}

@@ -4,7 +4,7 @@ use Rattle.std.specs.Prelude.{◌≤◌, ℕ}
 use Rattle.chain_bytes.specs.Writes.{put_writes}
 use Rattle.chain_bytes.specs.laws.Touching.{touched_few, touched_few_blocks}
 use Rattle.chain_bytes.specs.laws.Writes.{put_writes_most}
-use Rattle.record_slots.specs.declared.layout.TheConstants.{UPDATE_WRITES}
+use Rattle.ef_body.specs.declared.layout.TheConstants.{UPDATE_WRITES}
 use Rattle.ef_contents.specs.UpdateWrites.{update_writes}
 use Rattle.ef_contents.specs.laws.Updates.{touched_most}
 

@@ -3,9 +3,9 @@ use Rattle.std.specs.Prelude.{◌≡◌, ◌≤◌, ℕ, List, length, slice_ind
 use Rattle.undo_journal.specs.Memory.{Memory, committed, IsReady}
 use Rattle.block_chain.specs.Chains.{chain_of, chain_bytes}
 use Rattle.ef_contents.specs.Records.{linear_order}
-use Rattle.record_slots.specs.declared.cyclic.Cyclic.{Cyclic}
-use Rattle.record_slots.specs.Bodies.{counts_word, number_told, start_told, HasSlots}
-use Rattle.record_slots.specs.BodyChanges.{OnlyBody}
+use Rattle.ef_body.specs.declared.cyclic.Cyclic.{Cyclic}
+use Rattle.ef_body.specs.Bodies.{counts_word, number_told, start_told, HasSlots}
+use Rattle.ef_body.specs.BodyChanges.{OnlyBody}
 use Rattle.ef_body.specs.declared.linear.Linear.{Linear}
 
 -- The records of a linear EF, in number order.

@@ -2,8 +2,8 @@
 ghost use Rattle.std.specs.Prelude.{◌≡◌, ◌≤◌, ℕ};
 ghost use Rattle.chain_bytes.specs.Writes.{put_writes};
 ghost use Rattle.ef_contents.specs.UpdateWrites.{update_writes};
-ghost use Rattle.record_slots.specs.declared.layout.TheConstants.{MOST_RECORD_BYTES, RECORD_WRITES, UPDATE_WRITES};
-ghost use Rattle.record_slots.specs.BodyChanges.{record_put_writes};
+ghost use Rattle.ef_body.specs.declared.layout.TheConstants.{MOST_RECORD_BYTES, RECORD_WRITES, UPDATE_WRITES};
+ghost use Rattle.ef_body.specs.BodyChanges.{record_put_writes};
 
 /// Proves the greatest record length and numbers of device writes. A record has at most 255 bytes. An update of one
 /// takes at most 33 device writes, and a new record at most 34.

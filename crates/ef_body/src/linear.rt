@@ -3,17 +3,18 @@ ghost use Rattle.std.specs.Prelude.{◌≡◌, ◌-◌, ◌++◌, ◌∷◌, [],
 ghost use Rattle.std.specs.Prelude.{ℕ, List, IfOk};
 ghost use Rattle.std.specs.Result.{result_err};
 ghost use Rattle.undo_journal.specs.Memory.{committed};
-ghost use Rattle.record_slots.specs.declared.layout.TheConstants.{UPDATE_WRITES, RECORD_WRITES};
+ghost use Rattle.ef_body.specs.declared.layout.TheConstants.{UPDATE_WRITES, RECORD_WRITES};
 ghost use Rattle.ef_contents.specs.Refusals.{missing_record, full};
 ghost use Rattle.ef_body.specs.LinearBodies.{linear_body_records, ring_of, IsLinear, LinearBecomes, TakesLinear};
 ghost use Rattle.ef_contents.specs.BodyCalls.{CommitsUnlessRefused};
 ghost use Rattle.ef_body.specs.laws.Linears.{ring_is, ring_records};
 
+use crate::cyclic::Cyclic;
 use crate::record_body::RecordBody;
+use crate::slot::FreeSlot;
 use block_chain::Chain;
 use card_state::Sw;
 use ef_contents::{BodyErr, from_store};
-use record_slots::{Cyclic, FreeSlot};
 use undo_journal::{Board, Store};
 
 /// The body of a linear EF. It has the chain of its blocks, the record length in bytes (1 to 255), and the capacity

@@ -1,17 +1,18 @@
 //! Lookup, reading and search of records by number, the same for linear and cyclic EFs.
 ghost use Rattle.std.specs.Prelude.{◌≡◌, ◌≤◌, ℕ, List, refl};
 ghost use Rattle.undo_journal.specs.Memory.{committed, IsReady};
-ghost use Rattle.record_slots.specs.declared.cyclic.Cyclic.{Cyclic};
+ghost use Rattle.ef_body.specs.declared.cyclic.Cyclic.{Cyclic};
 ghost use Rattle.card_state.specs.RecordLists.{record_of, records_found};
 ghost use Rattle.ef_contents.specs.Refusals.{missing_record};
-ghost use Rattle.record_slots.specs.Bodies.{cyclic_body_records, IsCyclic};
+ghost use Rattle.ef_body.specs.Bodies.{cyclic_body_records, IsCyclic};
 ghost use Rattle.ef_contents.specs.BodyCalls.{ReadsUnlessRefused};
-ghost use Rattle.record_slots.specs.RingCalls.{FindsRecord};
+ghost use Rattle.ef_body.specs.RingCalls.{FindsRecord};
 
+use crate::cyclic::Cyclic;
+use crate::slot::RecordSlot;
 use arrayvec::ArrayVec;
 use card_state::{Direction, Sw};
 use ef_contents::{BodyErr, from_store};
-use record_slots::{Cyclic, RecordSlot};
 use undo_journal::{Board, Store};
 
 /// A body of records, in the slots of a ring. Record 1 is the first of a linear EF, the newest of a cyclic one.

@@ -13,9 +13,9 @@ use Rattle.undo_journal.specs.Commits.{CommitsByGate}
 use Rattle.undo_journal.specs.Memory.{Memory, committed, IsReady}
 use Rattle.card_model.specs.Requests.{append_record}
 use Rattle.card_model.specs.declared.requests.Target.{Target}
-use Rattle.record_slots.specs.declared.cyclic.Cyclic.{Cyclic as Ring}
-use Rattle.record_slots.specs.declared.layout.TheConstants.{RECORD_WRITES}
-use Rattle.record_slots.specs.Bodies.{cyclic_body_records, IsCyclic}
+use Rattle.ef_body.specs.declared.cyclic.Cyclic.{Cyclic as Ring}
+use Rattle.ef_body.specs.declared.layout.TheConstants.{RECORD_WRITES}
+use Rattle.ef_body.specs.Bodies.{cyclic_body_records, IsCyclic}
 use Rattle.command_base.specs.declared.current.Current.{Current}
 use Rattle.command_base.specs.declared.target_file.Need.{Need}
 use Rattle.command_base.specs.declared.target_file.Structure.TheVariants.{Records}

@@ -13,12 +13,12 @@ use Rattle.undo_journal.specs.Memory.{Memory, committed, IsReady}
 use Rattle.undo_journal.specs.laws.Calls.{reads_then}
 use Rattle.card_model.specs.Requests.{increase}
 use Rattle.card_model.specs.declared.requests.Target.TheVariants as target
-use Rattle.record_slots.specs.declared.cyclic.Cyclic.{Cyclic as Ring}
-use Rattle.record_slots.specs.declared.slot.RecordSlot.{RecordSlot}
-use Rattle.record_slots.specs.declared.layout.TheConstants.{RECORD_WRITES}
-use Rattle.record_slots.specs.Bodies.{cyclic_body_records, IsCyclic}
-use Rattle.record_slots.specs.BodyChanges.{CyclicBecomes}
-use Rattle.record_slots.specs.RingCalls.{ReceivesSum}
+use Rattle.ef_body.specs.declared.cyclic.Cyclic.{Cyclic as Ring}
+use Rattle.ef_body.specs.declared.slot.RecordSlot.{RecordSlot}
+use Rattle.ef_body.specs.declared.layout.TheConstants.{RECORD_WRITES}
+use Rattle.ef_body.specs.Bodies.{cyclic_body_records, IsCyclic}
+use Rattle.ef_body.specs.BodyChanges.{CyclicBecomes}
+use Rattle.ef_body.specs.RingCalls.{ReceivesSum}
 use Rattle.card_state.specs.RecordLists.{spelled, front, raised_number}
 use Rattle.card_state.specs.laws.Spelling.{length-spelled}
 use Rattle.ef_contents.specs.Refusals.{unraised}

@@ -15,10 +15,10 @@ use Rattle.block_chain.specs.Counts.{count, IsNotIn}
 use Rattle.block_chain.specs.Layout.{blocks_of}
 use Rattle.block_chain.specs.laws.Bytes.{blocks_same, AreBlocks, leads_blocks}
 use Rattle.block_chain.specs.laws.Footprints.{not_among}
-use Rattle.record_slots.specs.declared.cyclic.Cyclic.{Cyclic as Ring}
-use Rattle.record_slots.specs.Bodies.{cyclic_body_records, number_told, start_told, IsCyclic}
-use Rattle.record_slots.specs.BodyChanges.{OnlyBody}
-use Rattle.record_slots.specs.laws.Lists.{length-newest_first}
+use Rattle.ef_body.specs.declared.cyclic.Cyclic.{Cyclic as Ring}
+use Rattle.ef_body.specs.Bodies.{cyclic_body_records, number_told, start_told, IsCyclic}
+use Rattle.ef_body.specs.BodyChanges.{OnlyBody}
+use Rattle.ef_body.specs.laws.Lists.{length-newest_first}
 use Rattle.file_tree.specs.declared.entry.Entry.{Entry}
 use Rattle.card_state.specs.FileTrees.{Kind, File, Tree, elementary, file_at}
 use Rattle.file_tree.specs.TreeChanges.{KeepsRest}

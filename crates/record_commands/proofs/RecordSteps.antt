@@ -18,9 +18,9 @@ use Rattle.undo_journal.specs.Memory.{Memory, committed, IsReady}
 use Rattle.command_base.specs.Served.{Executes}
 use Rattle.command_base.specs.Working.{card_in, session_in, table_in, session_of, IsCurrent}
 use Rattle.command_base.specs.CurrentFiles.{pointer_from, pointing_from}
-use Rattle.record_slots.specs.declared.cyclic.Cyclic.{Cyclic as Ring}
-use Rattle.record_slots.specs.declared.slot.RecordSlot.{RecordSlot}
-use Rattle.record_slots.specs.Bodies.{cyclic_body_records, IsCyclic}
+use Rattle.ef_body.specs.declared.cyclic.Cyclic.{Cyclic as Ring}
+use Rattle.ef_body.specs.declared.slot.RecordSlot.{RecordSlot}
+use Rattle.ef_body.specs.Bodies.{cyclic_body_records, IsCyclic}
 use Rattle.card_state.specs.RecordLists.{has_record, record_of, records_found as found_in}
 use Rattle.ef_contents.specs.Refusals.{missing_record}
 use Rattle.file_tree.specs.Table.{table, path_of, IsUsed}

@@ -8,7 +8,7 @@ use Rattle.card_state.specs.declared.status.Sw.{Sw}
 use Rattle.card_state.specs.declared.status.TheConstants.Sw.{DONE, MAXIMUM_REACHED, RECORD_NOT_FOUND, WRONG_LENGTH}
 use Rattle.card_model.specs.Requests.{increase}
 use Rattle.card_model.specs.declared.requests.Target.TheVariants as target
-use Rattle.record_slots.specs.Bodies.{cyclic_body_records}
+use Rattle.ef_body.specs.Bodies.{cyclic_body_records}
 use Rattle.card_state.specs.RecordLists.{spelled, front, has_record, raised_number}
 use Rattle.ef_contents.specs.Refusals.{unraised}
 use Rattle.file_tree.specs.Table.{table}

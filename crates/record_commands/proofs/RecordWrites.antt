@@ -17,10 +17,10 @@ use Rattle.card_model.specs.Requests.{Request, append_record, update_record}
 use Rattle.card_model.specs.declared.requests.Target.{Target}
 use Rattle.card_model.specs.declared.requests.RecordChoice.{RecordChoice}
 use Rattle.card_model.specs.declared.requests.RecordChoice.TheVariants.{Next, Previous, At}
-use Rattle.record_slots.specs.declared.cyclic.Cyclic.{Cyclic as Ring}
-use Rattle.record_slots.specs.Bodies.{cyclic_body_records}
+use Rattle.ef_body.specs.declared.cyclic.Cyclic.{Cyclic as Ring}
+use Rattle.ef_body.specs.Bodies.{cyclic_body_records}
 use Rattle.card_state.specs.RecordLists.{has_record}
-use Rattle.record_slots.specs.declared.layout.TheConstants.{RECORD_WRITES}
+use Rattle.ef_body.specs.declared.layout.TheConstants.{RECORD_WRITES}
 use Rattle.file_tree.specs.Table.{table, entry_in}
 use Rattle.command_base.specs.declared.current.Current.{Current}
 use Rattle.command_base.specs.declared.target_file.Need.{Need}

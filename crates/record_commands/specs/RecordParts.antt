@@ -12,8 +12,8 @@ use Rattle.file_tree.specs.declared.layout.TheConstants.{FIRST_ENTRY_PAGE, RECOR
 use Rattle.nvm_board.specs.declared.board.TheConstants.{PAGE_WORDS}
 use Rattle.card_model.specs.declared.requests.RecordChoice.{RecordChoice}
 use Rattle.card_model.specs.declared.requests.RecordChoice.TheVariants.{Next, Previous, At}
-use Rattle.record_slots.specs.declared.cyclic.Cyclic.{Cyclic as Ring}
-use Rattle.record_slots.specs.BodyChanges.{CyclicBecomes, RecordsBecome}
+use Rattle.ef_body.specs.declared.cyclic.Cyclic.{Cyclic as Ring}
+use Rattle.ef_body.specs.BodyChanges.{CyclicBecomes, RecordsBecome}
 use Rattle.card_state.specs.RecordLists.{front}
 use Rattle.record_commands.specs.declared.record_file.RecordFile.{RecordFile}
 use Rattle.record_commands.specs.declared.record_file.Room.{Room}

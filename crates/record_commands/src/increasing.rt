@@ -10,7 +10,7 @@ use apdu_core::{Answer, Sw, Target};
 use card_state::AccessBit;
 use card_state::limits::MOST_ANSWER_DATA;
 use command_base::{Current, Need, ResponseData, Stop, Structure, asks_less, give, right_length};
-use record_slots::Cyclic;
+use ef_body::Cyclic;
 use undo_journal::{Board, Store};
 
 /// What INCREASE needs of its file.

@@ -3,11 +3,11 @@ ghost use Rattle.std.specs.Prelude.{◌≡◌, ◌≤◌, ◌⊎◌, ◌==◌, i
 ghost use Rattle.std.specs.Result.{result_err};
 ghost use Rattle.card_state.specs.declared.status.TheConstants.Sw.{NO_ROOM};
 ghost use Rattle.undo_journal.specs.Memory.{committed};
-ghost use Rattle.record_slots.specs.declared.layout.TheConstants.{RECORD_WRITES};
-ghost use Rattle.record_slots.specs.Bodies.{cyclic_body_records};
+ghost use Rattle.ef_body.specs.declared.layout.TheConstants.{RECORD_WRITES};
+ghost use Rattle.ef_body.specs.Bodies.{cyclic_body_records};
 ghost use Rattle.ef_contents.specs.BodyCalls.{Commits};
-ghost use Rattle.record_slots.specs.RingCalls.{FindsRecord};
-ghost use Rattle.record_slots.specs.StoredBodies.{TakesRecord};
+ghost use Rattle.ef_body.specs.RingCalls.{FindsRecord};
+ghost use Rattle.ef_body.specs.StoredBodies.{TakesRecord};
 ghost use Rattle.file_tree.specs.declared.kinds.EntryKind.TheVariants as kinds;
 ghost use Rattle.file_tree.specs.Kinds.{kind_byte};
 ghost use Rattle.card_model.specs.RecordCommands.{next_record, place_number, pointer_after, previous_record};
@@ -20,8 +20,8 @@ ghost use Rattle.command_base.specs.TemplateParts.{IsToldEntry};
 use apdu_core::{RecordChoice, RecordPlace};
 use block_chain::Chain;
 use card_state::Sw;
+use ef_body::{Cyclic, FreeSlot, RecordSlot};
 use file_tree::{Entry, EntryKind, EntryNumber, RECORDS_WORD, entry_address};
-use record_slots::{Cyclic, FreeSlot, RecordSlot};
 use undo_journal::{Board, Store, StoreErr};
 
 /// A record file: its entry number, its ring, and its kind.

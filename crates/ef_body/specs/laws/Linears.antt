@@ -3,9 +3,9 @@ use Rattle.std.proofs.Common.{sym, ◌∙◌, ap, arith}
 use Rattle.std.specs.Prelude.{◌≡◌, ℕ, List, length}
 use Rattle.block_chain.specs.Chains.{chain_bytes}
 use Rattle.ef_contents.specs.Records.{linear_order}
-use Rattle.record_slots.specs.Bodies.{cyclic_body_records, IsCyclic}
-use Rattle.record_slots.specs.laws.Lists.{length-in_order, in_order-ring}
-use Rattle.record_slots.specs.laws.Rings.{told_number, cyclic_is}
+use Rattle.ef_body.specs.Bodies.{cyclic_body_records, IsCyclic}
+use Rattle.ef_body.specs.laws.Lists.{length-in_order, in_order-ring}
+use Rattle.ef_body.specs.laws.Rings.{told_number, cyclic_is}
 use Rattle.ef_body.specs.declared.linear.Linear.{Linear}
 use Rattle.ef_body.specs.LinearBodies.{linear_body_records, ring_of, IsLinear}
 

@@ -4,7 +4,7 @@ use Rattle.undo_journal.specs.laws.Calls.{reads_then}
 use Rattle.undo_journal.specs.laws.Told.{reads_on}
 use Rattle.card_model.specs.Requests.{read_binary}
 use Rattle.card_state.specs.declared.access_mode.AccessBit.TheVariants.{Read}
-use Rattle.transparent_ef.specs.TransparentBodies.{transparent_bytes}
+use Rattle.ef_body.specs.TransparentBodies.{transparent_bytes}
 use Rattle.command_base.specs.declared.current.Current.{Current}
 use Rattle.command_base.specs.Stops.{stop_of_body}
 use Rattle.command_base.specs.Working.{card_in, session_in, table_in, IsCurrent}

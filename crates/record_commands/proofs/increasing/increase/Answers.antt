@@ -4,7 +4,7 @@ use Rattle.undo_journal.specs.Memory.{committed}
 use Rattle.undo_journal.specs.laws.Told.{reads_on}
 use Rattle.card_model.specs.Requests.{increase}
 use Rattle.card_model.specs.declared.requests.Target.TheVariants as target
-use Rattle.record_slots.specs.Bodies.{cyclic_body_records, IsCyclic}
+use Rattle.ef_body.specs.Bodies.{cyclic_body_records, IsCyclic}
 use Rattle.ef_contents.specs.Refusals.{unraised}
 use Rattle.command_base.specs.declared.current.Current.{Current}
 use Rattle.command_base.specs.declared.stop.Stop.TheVariants.{Refused}

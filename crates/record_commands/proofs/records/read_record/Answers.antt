@@ -11,7 +11,7 @@ use Rattle.card_state.specs.StatusWords.{length_status}
 use Rattle.card_model.specs.declared.requests.RecordChoice.{RecordChoice}
 use Rattle.card_model.specs.declared.requests.Target.{Target}
 use Rattle.card_model.specs.Requests.{read_record}
-use Rattle.record_slots.specs.Bodies.{cyclic_body_records}
+use Rattle.ef_body.specs.Bodies.{cyclic_body_records}
 use Rattle.card_state.specs.RecordLists.{record_of}
 use Rattle.command_base.specs.declared.current.Current.{Current}
 use Rattle.command_base.specs.declared.stop.Stop.TheVariants.{Refused}
@@ -22,8 +22,8 @@ use Rattle.command_base.specs.Working.{card_in, session_in, table_in, IsCurrent}
 use Rattle.command_base.specs.CurrentFiles.{pointer_from, pointing_from}
 use Rattle.record_commands.specs.RecordParts.{chosen_in}
 use Rattle.record_commands.specs.declared.record_file.RecordFile.{RecordFile}
-use Rattle.record_slots.specs.declared.cyclic.Cyclic.{Cyclic as Ring}
-use Rattle.record_slots.specs.declared.slot.RecordSlot.{RecordSlot}
+use Rattle.ef_body.specs.declared.cyclic.Cyclic.{Cyclic as Ring}
+use Rattle.ef_body.specs.declared.slot.RecordSlot.{RecordSlot}
 use Rattle.card_model.specs.Behaviours.{refused, outcome}
 use Rattle.record_commands.proofs.RecordBodies.{slot-few, slot-long}
 use Rattle.record_commands.proofs.RecordSteps.{choice-barred, choice-gone, chosen-body, chosen-has, current-is}

@@ -2,8 +2,8 @@ use Rattle.std.proofs.Common.{rules, ◌∙◌, ℕ, List, ap, subst}
 use Rattle.undo_journal.specs.Memory.{committed}
 use Rattle.card_state.specs.RecordLists.{record_of}
 use Rattle.ef_contents.specs.BodyCalls.{ReadsInto}
-use Rattle.record_slots.specs.laws.Rings.{length-records}
-use Rattle.record_slots.specs.laws.Rings.{received_record}
+use Rattle.ef_body.specs.laws.Rings.{length-records}
+use Rattle.ef_body.specs.laws.Rings.{received_record}
 use Rattle.ef_contents.specs.laws.Calling.{refused_reads, store_reads}
 use Rattle.ef_body.proofs.record_body.RecordBody.read.Goals as goal
 

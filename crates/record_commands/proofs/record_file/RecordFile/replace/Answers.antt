@@ -1,7 +1,7 @@
 use Rattle.std.proofs.Common.{◌≤◌, ℕ, Bool, false, List, arith, sym, subst}
 use Rattle.undo_journal.specs.Memory.{committed}
-use Rattle.record_slots.specs.declared.layout.TheConstants.{RECORD_WRITES, UPDATE_WRITES}
-use Rattle.record_slots.specs.Bodies.{cyclic_body_records}
+use Rattle.ef_body.specs.declared.layout.TheConstants.{RECORD_WRITES, UPDATE_WRITES}
+use Rattle.ef_body.specs.Bodies.{cyclic_body_records}
 use Rattle.ef_contents.specs.BodyCalls.{Commits}
 use Rattle.record_commands.specs.RecordParts.{replaced_in, RingBecomes}
 use Rattle.record_commands.proofs.RecordPuts.{commits-within}

@@ -1,7 +1,7 @@
 use Rattle.std.proofs.Common.{sym, subst}
 use Rattle.undo_journal.specs.Memory.{committed}
-use Rattle.record_slots.specs.declared.layout.TheConstants.{RECORD_WRITES}
-use Rattle.record_slots.specs.Bodies.{cyclic_body_records}
+use Rattle.ef_body.specs.declared.layout.TheConstants.{RECORD_WRITES}
+use Rattle.ef_body.specs.Bodies.{cyclic_body_records}
 use Rattle.ef_contents.specs.BodyCalls.{Commits}
 use Rattle.record_commands.specs.declared.record_file.Room.{Room}
 use Rattle.record_commands.specs.RecordParts.{appended_in, ring_room, wraps_room, RingBecomes}

@@ -1,8 +1,0 @@
--- Bodies of record EFs: in a memory and in a store, their changes, and the postconditions of calls; and the steps
--- inside them. The laws are in a module of their own.
-pub mod Bodies
-pub mod StoredBodies
-pub mod RingCalls
-pub mod BodyChanges
-pub mod ReadParts
-pub mod laws

@@ -1,5 +1,0 @@
-use Rattle.std.proofs.Common.{rules}
-use Rattle.transparent_ef.proofs.transparent.Transparent.ends_before.Goals as goal
-
-pub returns : goal.returns
-returns c = search rules

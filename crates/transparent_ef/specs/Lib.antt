@@ -1,2 +1,0 @@
--- Transparent EFs in a memory.
-pub mod TransparentBodies
