@@ -9,13 +9,14 @@ ghost use Rattle.file_tree.specs.Indexes.{IsIndex};
 
 use crate::card_parts::CardParts;
 use apdu_core::{Answer, Command, Sw};
-use binary_commands::{read_binary, update_binary};
 use card_start::{CARD_IN_USE, header_word};
 use command_base::{Stop, reply};
+use content_commands::{
+    append_record, increase, read_binary, read_record, search_record, update_binary, update_record,
+};
 use file_commands::{change_life_cycle, create_file, delete_file, terminate_card_usage};
 use file_tree::STATE_WORD;
 use pin_commands::{change_reference_data, change_requirement, reset_retry_counter, verify};
-use record_commands::{append_record, increase, read_record, search_record, update_record};
 use select_command::select_file;
 use undo_journal::{Board, StoreErr};
 

@@ -1,2 +1,0 @@
-pub mod BinarySteps
-pub mod BinaryServes

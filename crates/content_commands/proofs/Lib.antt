@@ -1,0 +1,13 @@
+pub mod BinarySteps
+pub mod BinaryServes
+pub mod RecordBodies
+pub mod RecordSteps
+pub mod RecordTables
+pub mod RecordChanges
+pub mod RecordWrites
+pub mod RecordSums
+pub mod UpdateServes
+pub mod AppendServes
+pub mod IncreaseServes
+pub mod RecordKinds
+pub mod RecordPuts
