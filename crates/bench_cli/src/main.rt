@@ -6,7 +6,7 @@ ghost use Rattle.std.specs.Prelude.{◌≡◌, MatchResult};
 ghost use Rattle.script_output.specs.Faults.{status_of};
 
 use card_bench::run_on;
-use card_file::{Asked, CardFault, NoBoard, board_of, read_words};
+use card_files::{Asked, CardFault, NoBoard, board_of, read_words};
 use card_turns::Bench;
 use script_output::RunFault;
 use std::env;

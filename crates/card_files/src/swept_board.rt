@@ -48,7 +48,7 @@ impl From<AllocError> for BoardFault {
 }
 
 impl BoardFault {
-    ghost use Rattle.swept_cards.specs.BoardStatuses.{board_status_of};
+    ghost use Rattle.card_files.specs.BoardStatuses.{board_status_of};
 
     /// Returns the exit status that reports it: 5 or 6.
     pub fn status(&self) -> u8

@@ -5,9 +5,9 @@ use Rattle.nvm_board.specs.Facts.{Facts}
 use Rattle.card_boards.specs.FactoryBoards.{IsFactoryBoard}
 use Rattle.simulated_boards.specs.declared.kept_board.KeptBoard.{KeptBoard}
 use Rattle.simulated_boards.specs.Kept.{kept_facts}
-use Rattle.card_file.specs.declared.kept_file.KeptFile.{KeptFile}
-use Rattle.card_file.specs.declared.options.Asked.{Asked}
-use Rattle.card_file.specs.declared.options.Asked.TheVariants as asked
+use Rattle.card_files.specs.declared.kept_file.KeptFile.{KeptFile}
+use Rattle.card_files.specs.declared.options.Asked.{Asked}
+use Rattle.card_files.specs.declared.options.Asked.TheVariants as asked
 
 -- the facts of a board: the log of a file is not known
 abbrev pub facts_of : KeptBoard KeptFile → Facts

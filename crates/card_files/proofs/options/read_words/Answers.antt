@@ -1,9 +1,9 @@
 use Rattle.std.proofs.Common.{map, take}
 use Rattle.std.specs.String.{string_bytes}
 use Rattle.std.specs.Vec.Iter.{into_iter_items, into_iter_len}
-use Rattle.card_file.specs.CommandLines.{options_read}
-use Rattle.card_file.proofs.Words.{takes_all, takes_first, takes_none}
-use Rattle.card_file.proofs.options.read_words.Goals as goal
+use Rattle.card_files.specs.CommandLines.{options_read}
+use Rattle.card_files.proofs.Words.{takes_all, takes_first, takes_none}
+use Rattle.card_files.proofs.options.read_words.Goals as goal
 
 pub loop-word-init : goal.loop-word-init
 loop-word-init c = λ last told. told

@@ -13,7 +13,7 @@ pub struct PageCount {
 }
 
 impl PageCount {
-    ghost use Rattle.card_file.specs.CommandLines.{pages_number, ArePagesOf};
+    ghost use Rattle.card_files.specs.CommandLines.{pages_number, ArePagesOf};
 
     /// Returns the number in a text, if a board can have it.
     pub fn parse(text: &str) -> Option<PageCount>

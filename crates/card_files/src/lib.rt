@@ -1,11 +1,13 @@
-//! The card in a file, and the command line that names it.
+//! The card in a file: the command line that names it, its board for a script, and its board for a sweep.
 #![tactic(auto)]
 
 mod kept_file;
 mod opening;
 mod options;
 mod page_count;
+mod swept_board;
 
 pub use kept_file::CardBoard;
 pub use opening::{CardFault, NoBoard, board_of};
 pub use options::{Asked, CardOptions, read_words};
+pub use swept_board::{BoardFault, swept_board};

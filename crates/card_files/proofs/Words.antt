@@ -1,6 +1,6 @@
 -- The words of a command line, taken one by one from an iterator.
 use Rattle.std.proofs.Common.{◌≡◌, ◌+◌, ℕ, suc, List, ◌∷◌, map, take, refl, sym, subst, arith}
-use Rattle.card_file.specs.CommandLines.{no_options, GivenOptions, TakesRole, TakesWords}
+use Rattle.card_files.specs.CommandLines.{no_options, GivenOptions, TakesRole, TakesWords}
 
 -- a word is taken, then the rest
 pub takes_first : {X : Type 0} (bytes : X → List ℕ) (old mid last : GivenOptions) (words rest : List X) (n k : ℕ)

@@ -1,8 +1,8 @@
 //! Returns the board that the command line asks for: opens the file of a card, or makes one with the factory card.
 ghost use Rattle.std.specs.Prelude.{◌≡◌, None, Some, IfOk, false};
 ghost use Rattle.card_boards.specs.FactoryBoards.{IsFactoryBoard};
-ghost use Rattle.card_file.specs.AskedBoards.{IsBoardOf, facts_of, syncs};
-ghost use Rattle.card_file.specs.CommandLines.{new_card_pages, pages_number};
+ghost use Rattle.card_files.specs.AskedBoards.{IsBoardOf, facts_of, syncs};
+ghost use Rattle.card_files.specs.CommandLines.{new_card_pages, pages_number};
 ghost use Rattle.command_base.specs.Finding.{HasCard};
 ghost use Rattle.simulated_boards.specs.Kept.{kept_words};
 

@@ -1,8 +1,8 @@
 use Rattle.std.proofs.Common.{map, take}
 use Rattle.std.specs.String.{string_bytes}
 use Rattle.std.specs.Vec.Iter.{into_iter_items, into_iter_len}
-use Rattle.card_file.specs.CommandLines.{options_read, GivenOptions, TakesWords}
-use Rattle.card_file.proofs.options.read_words.Given as goal
+use Rattle.card_files.specs.CommandLines.{options_read, GivenOptions, TakesWords}
+use Rattle.card_files.proofs.options.read_words.Given as goal
 
 abbrev pub invariant-loop-word : goal.invariant-loop-word
 invariant-loop-word l = (last : GivenOptions)

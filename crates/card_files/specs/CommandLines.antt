@@ -4,12 +4,12 @@ use Rattle.std.specs.Prelude.{option_map, is_some}
 use Rattle.std.specs.Str.Parse.{digits_value, without_leading_plus, IsNumeral}
 use Rattle.std.specs.String.{string_bytes}
 use Rattle.nvm_board.specs.declared.board.TheConstants.{LEAST_PAGES, MOST_PAGES}
-use Rattle.card_file.specs.declared.options.Asked.{Asked}
-use Rattle.card_file.specs.declared.options.Asked.TheVariants as asked
-use Rattle.card_file.specs.declared.options.Next.{Next}
-use Rattle.card_file.specs.declared.options.Next.TheVariants as next
-use Rattle.card_file.specs.declared.page_count.PageCount.{PageCount}
-use Rattle.card_file.specs.declared.options.Reading.{Reading}
+use Rattle.card_files.specs.declared.options.Asked.{Asked}
+use Rattle.card_files.specs.declared.options.Asked.TheVariants as asked
+use Rattle.card_files.specs.declared.options.Next.{Next}
+use Rattle.card_files.specs.declared.options.Next.TheVariants as next
+use Rattle.card_files.specs.declared.page_count.PageCount.{PageCount}
+use Rattle.card_files.specs.declared.options.Reading.{Reading}
 
 -- The options that some words give, and the role of the next word.
 pub record GivenOptions : Type 0 where

@@ -2,8 +2,8 @@
 ghost use Rattle.std.specs.Prelude.{◌≡◌, ◌≤◌, map, take};
 ghost use Rattle.std.specs.String.{string_bytes};
 ghost use Rattle.std.specs.Vec.Iter.{into_iter_items, into_iter_len};
-ghost use Rattle.card_file.specs.CommandLines.{GivenOptions, IsAskedBy, TakesWords};
-ghost use Rattle.card_file.specs.CommandLines.{new_card_pages, no_options, pages_number};
+ghost use Rattle.card_files.specs.CommandLines.{GivenOptions, IsAskedBy, TakesWords};
+ghost use Rattle.card_files.specs.CommandLines.{new_card_pages, no_options, pages_number};
 ghost use Rattle.nvm_board.specs.declared.board.TheConstants.{LEAST_PAGES, MOST_PAGES};
 
 use crate::page_count::PageCount;
@@ -66,7 +66,7 @@ struct Reading {
 impl Reading {
     ghost use Rattle.std.specs.Prelude.{◌≡◌};
     ghost use Rattle.std.specs.String.{string_bytes};
-    ghost use Rattle.card_file.specs.CommandLines.{options_read, no_options, IsAskedBy, TakesOption, TakesRole};
+    ghost use Rattle.card_files.specs.CommandLines.{options_read, no_options, IsAskedBy, TakesOption, TakesRole};
 
     /// Returns that no word was read.
     fn new() -> Reading
