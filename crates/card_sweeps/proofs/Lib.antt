@@ -5,3 +5,7 @@ pub mod SweepLemmas
 pub mod StageLemmas
 pub mod SparedLemmas
 pub mod OtherMasks
+pub mod Turned
+mod ReadSo
+pub mod Stopped
+mod SweepWords

@@ -1,6 +1,13 @@
--- What a sweep tries, its masks, and what it counts.
+-- What a sweep's command line and script ask for; the cuts that a sweep tries, its runs, and its counts.
 pub mod Masks
 pub mod Sweeps
 pub mod SweptRuns
 pub mod Tallies
 pub mod PlanParts
+pub mod Turning
+pub mod Framing
+pub mod Asking
+pub mod PartTexts
+pub mod SweepOptions
+pub mod ExitStatuses
+pub mod SweepEndings

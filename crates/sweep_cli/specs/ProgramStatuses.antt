@@ -2,7 +2,7 @@
 use Rattle.std.specs.Prelude.{ℕ}
 use Rattle.sweep_cli.specs.declared.fault.ProgramFault.{ProgramFault}
 use Rattle.sweep_cli.specs.declared.fault.ProgramFault.TheVariants.{Usage, NoBoard, NoReport}
-use Rattle.sweep_scripts.specs.ExitStatuses.{exit_status_of}
+use Rattle.card_sweeps.specs.ExitStatuses.{exit_status_of}
 use Rattle.card_files.specs.BoardStatuses.{board_status_of}
 
 -- the exit status of the program

@@ -1,6 +1,6 @@
 //! Why the program has no report.
 use card_files::BoardFault;
-use sweep_scripts::SweepFault;
+use card_sweeps::SweepFault;
 use thiserror::Error;
 
 /// Why the program has no report.

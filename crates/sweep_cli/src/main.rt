@@ -8,6 +8,7 @@ ghost use Rattle.sweep_cli.specs.ProgramStatuses.{program_status_of};
 mod fault;
 
 use card_files::swept_board;
+use card_sweeps::{Options, SweepFault, read_words};
 use card_turns::Bench;
 use fault::ProgramFault;
 use simulated_boards::CutBoard;
@@ -15,7 +16,6 @@ use std::env;
 use std::io::{self, BufReader, ErrorKind};
 use std::process::ExitCode;
 use sweep_reports::report;
-use sweep_scripts::{Options, SweepFault, read_words};
 
 /// Returns what the command line asks for.
 fn asked(rt: &HostRuntime) -> Result<Options, ProgramFault> {

@@ -2,10 +2,10 @@
 use Rattle.std.specs.Prelude.{◌≡◌, ℕ, List, Option, Result, Ok, Err, IfErr, IsErrAnd}
 use Rattle.std.proofs.Common.{sym, subst}
 use Rattle.nvm_board.specs.Facts.{Facts}
-use Rattle.sweep_scripts.specs.declared.fault.SweepFault.{SweepFault}
-use Rattle.sweep_scripts.specs.declared.fault.SweepFault.TheVariants.{BadLine, Read, Write, Memory}
-use Rattle.sweep_scripts.specs.declared.parts.SweepPart.{SweepPart}
-use Rattle.sweep_scripts.specs.SweepEndings.{ReadingStopsBy}
+use Rattle.card_sweeps.specs.declared.fault.SweepFault.{SweepFault}
+use Rattle.card_sweeps.specs.declared.fault.SweepFault.TheVariants.{BadLine, Read, Write, Memory}
+use Rattle.card_sweeps.specs.declared.parts.SweepPart.{SweepPart}
+use Rattle.card_sweeps.specs.SweepEndings.{ReadingStopsBy}
 use Rattle.sweep_reports.specs.ReportEndings.{SweepStopsBy}
 
 -- too little memory, while the report is made

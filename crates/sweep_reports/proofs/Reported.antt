@@ -6,7 +6,7 @@ use Rattle.bench_turns.specs.declared.turn.Item.{Item}
 use Rattle.bench_turns.specs.declared.turn.Turn.{Turn}
 use Rattle.card_sweeps.specs.Masks.{mask_of}
 use Rattle.card_sweeps.specs.Sweeps.{CutsCommand}
-use Rattle.sweep_scripts.specs.PartTexts.{IsOfPart}
+use Rattle.card_sweeps.specs.PartTexts.{IsOfPart}
 use Rattle.sweep_reports.specs.declared.device_writes.DeviceWrite.{DeviceWrite}
 use Rattle.sweep_reports.specs.DeviceWrites.{kinds_text, write_text}
 use Rattle.sweep_reports.specs.ReportParts.{AddsText}

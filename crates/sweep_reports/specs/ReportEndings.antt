@@ -2,12 +2,12 @@
 use Rattle.std.specs.Prelude.{ℕ, List, take, Option}
 use Rattle.std.specs.Io.KnownBytes.{Appends}
 use Rattle.nvm_board.specs.Facts.{Facts}
-use Rattle.sweep_scripts.specs.declared.fault.SweepFault.{SweepFault}
-use Rattle.sweep_scripts.specs.declared.fault.SweepFault.TheVariants.{BadLine, Read, Write, Memory}
-use Rattle.sweep_scripts.specs.declared.parts.SweepPart.{SweepPart}
-use Rattle.sweep_scripts.specs.declared.script.SweepScript.{SweepScript}
-use Rattle.sweep_scripts.specs.Asking.{IsRead, asked_of}
-use Rattle.sweep_scripts.specs.SweepEndings.{StopsAtLine, StopsInLine}
+use Rattle.card_sweeps.specs.declared.fault.SweepFault.{SweepFault}
+use Rattle.card_sweeps.specs.declared.fault.SweepFault.TheVariants.{BadLine, Read, Write, Memory}
+use Rattle.card_sweeps.specs.declared.parts.SweepPart.{SweepPart}
+use Rattle.card_sweeps.specs.declared.script.SweepScript.{SweepScript}
+use Rattle.card_sweeps.specs.Asking.{IsRead, asked_of}
+use Rattle.card_sweeps.specs.SweepEndings.{StopsAtLine, StopsInLine}
 use Rattle.sweep_reports.specs.Reporting.{IsReport}
 
 -- A script was read to its end, and the first bytes of the report of a sweep of it were written.

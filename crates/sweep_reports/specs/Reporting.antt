@@ -11,14 +11,14 @@ use Rattle.card_sweeps.specs.Sweeps.{CutsCommand, EndsBehindStarts, PlaysOn}
 use Rattle.card_sweeps.specs.SweptRuns.{AreAllBehind, AreFirstBehind, IsUnmade}
 use Rattle.card_sweeps.specs.Tallies.{CountsToFull, IsTally, findings}
 use Rattle.sweep_reports.specs.declared.device_writes.DeviceWrite.{DeviceWrite}
-use Rattle.sweep_scripts.specs.declared.parts.SweepPart.{SweepPart}
-use Rattle.sweep_scripts.specs.declared.script.SweepScript.{SweepScript}
-use Rattle.sweep_scripts.specs.declared.steps.Step.TheVariants.{Block}
-use Rattle.sweep_scripts.specs.Asking.{IsRead, asked_of}
-use Rattle.sweep_scripts.specs.PartTexts.{IsFirstPart, IsOfPart}
+use Rattle.card_sweeps.specs.declared.parts.SweepPart.{SweepPart}
+use Rattle.card_sweeps.specs.declared.script.SweepScript.{SweepScript}
+use Rattle.card_sweeps.specs.declared.steps.Step.TheVariants.{Block}
+use Rattle.card_sweeps.specs.Asking.{IsRead, asked_of}
+use Rattle.card_sweeps.specs.PartTexts.{IsFirstPart, IsOfPart}
 use Rattle.sweep_reports.specs.DeviceWrites.{IsWriteKind, kinds_text}
 use Rattle.sweep_reports.specs.Printing.{cut_head, results_text, stage_head, total_text}
-use Rattle.sweep_scripts.specs.Turning.{AreTurns}
+use Rattle.card_sweeps.specs.Turning.{AreTurns}
 
 -- What a sweep tries: on copies of a board, a command after a preparation, power-ons that are cut, and a probe. It
 -- tries one part of the cuts. `facts` and `torn` are the facts of such a board, and the number of words of its last

@@ -12,9 +12,10 @@ use crate::device_writes::{DeviceWrite, WriteKind, push_kinds};
 use crate::lines::{cut_head, push_results, push_total, stage_head};
 use crate::readable_board::ReadableBoard;
 use bench_turns::{Turn, TurnPlayer};
-use card_sweeps::{Sweepable, cut_at, mask_at, mask_count, play_copy, sweep_behind, words_to_try};
+use card_sweeps::{
+    SweepPart, Sweepable, cut_at, mask_at, mask_count, play_copy, sweep_behind, words_to_try,
+};
 use std::alloc::{AllocError, Global};
-use sweep_scripts::SweepPart;
 
 /// The plan of a sweep. Each run uses a copy of the board.
 #[derive(Drop)]

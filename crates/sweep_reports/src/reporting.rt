@@ -4,15 +4,15 @@ ghost use Rattle.command_base.specs.Finding.{HasCard};
 ghost use Rattle.sweep_reports.specs.ReportParts.{AddsText, sweeping_of};
 ghost use Rattle.sweep_reports.specs.Reporting.{HasSections, IsReport, WritesReport};
 ghost use Rattle.sweep_reports.specs.ReportEndings.{SweepStopsBy};
-ghost use Rattle.sweep_scripts.specs.Turning.{AreTurns};
+ghost use Rattle.card_sweeps.specs.Turning.{AreTurns};
 
 use crate::plan::{Plan, push_first_part, push_stage, push_writes};
 use crate::readable_board::ReadableBoard;
 use bench_turns::{Turn, TurnPlayer};
+use card_sweeps::{Step, SweepFault, SweepPart, SweepScript, read_script, turns_of};
 use script_output::write_line;
 use std::alloc::{AllocError, Global};
 use std::io::{BufRead, Write};
-use sweep_scripts::{Step, SweepFault, SweepPart, SweepScript, read_script, turns_of};
 
 /// The turns of a script.
 #[derive(Drop)]

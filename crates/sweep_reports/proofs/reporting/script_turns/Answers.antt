@@ -1,5 +1,5 @@
 use Rattle.std.proofs.Common.{refl}
-use Rattle.sweep_scripts.proofs.Turned.{are-turns-same}
+use Rattle.card_sweeps.proofs.Turned.{are-turns-same}
 use Rattle.sweep_reports.proofs.reporting.script_turns.Goals as goal
 
 pub returns-clause-prepare : goal.returns-clause-prepare

@@ -1,6 +1,6 @@
 use Rattle.std.proofs.Common.{refl}
 use Rattle.sweep_reports.proofs.Reported.{sections-first}
-use Rattle.sweep_scripts.proofs.Turned.{are-turns-same}
+use Rattle.card_sweeps.proofs.Turned.{are-turns-same}
 use Rattle.sweep_reports.proofs.reporting.swept.Goals as goal
 
 pub returns : goal.returns

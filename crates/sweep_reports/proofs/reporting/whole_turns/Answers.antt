@@ -1,7 +1,7 @@
 use Rattle.std.proofs.Common.{◌++◌, ◌∷◌, [], List, ap, refl}
-use Rattle.sweep_scripts.specs.declared.steps.Step.{Step}
-use Rattle.sweep_scripts.specs.declared.steps.Step.TheVariants.{Block}
-use Rattle.sweep_scripts.proofs.Turned.{are-turns-push, are-turns-same}
+use Rattle.card_sweeps.specs.declared.steps.Step.{Step}
+use Rattle.card_sweeps.specs.declared.steps.Step.TheVariants.{Block}
+use Rattle.card_sweeps.proofs.Turned.{are-turns-push, are-turns-same}
 use Rattle.sweep_reports.proofs.reporting.whole_turns.Goals as goal
 
 pub returns : goal.returns

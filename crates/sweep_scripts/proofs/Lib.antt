@@ -1,4 +1,0 @@
-pub mod Turned
-mod ReadSo
-pub mod Stopped
-mod SweepWords
