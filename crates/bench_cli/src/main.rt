@@ -3,12 +3,12 @@
 #![tactic(auto)]
 
 ghost use Rattle.std.specs.Prelude.{◌≡◌, MatchResult};
-ghost use Rattle.script_output.specs.Faults.{status_of};
+ghost use Rattle.bench_lines.specs.Faults.{status_of};
 
+use bench_lines::RunFault;
 use card_bench::run_on;
 use card_files::{Asked, CardFault, NoBoard, board_of, read_words};
 use card_turns::Bench;
-use script_output::RunFault;
 use std::env;
 use std::io::{self, BufReader, ErrorKind};
 use std::process::ExitCode;

@@ -2,3 +2,5 @@ mod FirstPlace
 mod HexLimits
 mod PartsTaken
 mod Spelled
+pub mod Digits
+pub mod Written

@@ -11,13 +11,12 @@ ghost use Rattle.bench_lines.specs.Orders.{IsOrderSized};
 ghost use Rattle.script_effects.specs.Lines.{perfect_line};
 ghost use Rattle.script_effects.specs.Performing.{Performs, PerformsCommand, TakesTurn, free_shown};
 ghost use Rattle.bench_turns.specs.Plays.{IsGood};
-ghost use Rattle.script_output.specs.Printouts.{prints_nothing, text_of};
+ghost use Rattle.bench_lines.specs.Printouts.{prints_nothing, text_of};
 
 use crate::exchange::{Ends, exchange};
-use bench_lines::Order;
+use bench_lines::{Order, PrintedText, RunFault};
 use bench_turns::{Turn, TurnPlayer};
 use script_effects::{Blocks, Ending, Line, LineResult};
-use script_output::{PrintedText, RunFault};
 use simulated_boards::Followed;
 use std::io::Write;
 use std::marker::Model;

@@ -7,11 +7,12 @@ ghost use Rattle.bench_turns.specs.Plays.{IsGood};
 ghost use Rattle.command_base.specs.Finding.{HasCard};
 
 use crate::desk::Desk;
-use bench_lines::{GivenBytes, LineBytes, LineEnd, LineFault, Order, SCRIPT_LIMIT, read_line};
+use bench_lines::{
+    GivenBytes, LineBytes, LineEnd, LineFault, NO_TEXT, Order, RunFault, SCRIPT_LIMIT, read_line,
+};
 use bench_turns::TurnPlayer;
 use card_boards::factory_board;
 use nvm_board::has_no_fault;
-use script_output::{NO_TEXT, RunFault};
 use simulated_boards::{CutBoard, Followed};
 use std::alloc::Global;
 use std::io::{BufRead, Write};

@@ -6,7 +6,7 @@ use Rattle.script_effects.specs.Exchanges.{Desk}
 use Rattle.script_effects.specs.Performing.{Performs}
 use Rattle.script_effects.proofs.GuessedLines.{performs_few}
 use Rattle.script_effects.proofs.WrittenLines.{performs_wrote}
-use Rattle.script_output.specs.Printouts.{Print}
+use Rattle.bench_lines.specs.Printouts.{Print}
 use Rattle.card_calls.specs.Telling.{IsPerformed}
 
 -- an order that ran

@@ -1,8 +1,8 @@
 -- A call that runs a whole script on the factory card.
 use Rattle.std.specs.Prelude.{◌≡◌, ◌≢◌, ◌⊎◌, ◌<◌, ℕ, ℤ, pos, List, [], Option, None, Some, length}
-use Rattle.script_output.specs.Faults.{status_of}
-use Rattle.script_output.specs.declared.fault.RunFault.{RunFault}
-use Rattle.script_output.specs.declared.fault.RunFault.TheVariants.{Memory, Write}
+use Rattle.bench_lines.specs.Faults.{status_of}
+use Rattle.bench_lines.specs.declared.fault.RunFault.{RunFault}
+use Rattle.bench_lines.specs.declared.fault.RunFault.TheVariants.{Memory, Write}
 use Rattle.script_effects.specs.Exchanges.{Desk}
 use Rattle.script_effects.specs.Prints.{IsFirstDesk}
 use Rattle.script_effects.specs.ScriptEndings.{IsRunToEnd, RunStopsBy}

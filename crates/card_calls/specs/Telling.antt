@@ -15,10 +15,10 @@ use Rattle.bench_turns.specs.Plays.{IsGood}
 use Rattle.script_effects.specs.DeskStates.{print_of}
 use Rattle.script_effects.specs.Performing.{Performs}
 use Rattle.script_effects.specs.Prints.{desk_of}
-use Rattle.script_output.specs.Printouts.{Print}
-use Rattle.script_output.specs.Printouts.{prints_nothing, prints_atr, prints_mute, prints_dark, prints_lost}
-use Rattle.script_output.specs.Printouts.{prints_bytes}
-use Rattle.script_output.specs.Printouts.{prints_free}
+use Rattle.bench_lines.specs.Printouts.{Print}
+use Rattle.bench_lines.specs.Printouts.{prints_nothing, prints_atr, prints_mute, prints_dark, prints_lost}
+use Rattle.bench_lines.specs.Printouts.{prints_bytes}
+use Rattle.bench_lines.specs.Printouts.{prints_free}
 use Rattle.card_boards.specs.FactoryBoards.{IsFactoryBoard}
 use Rattle.card_calls.specs.SessionStates.{SessionState, begun_at}
 use Rattle.simulated_boards.specs.declared.kept_board.KeptBoard.{KeptBoard}

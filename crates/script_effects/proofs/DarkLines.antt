@@ -20,7 +20,7 @@ use Rattle.script_effects.specs.Exchanges.{Arrives, CardTakes, Commands, Desk, E
 use Rattle.script_effects.specs.Exchanges.{following, printed_by, toward_card, toward_reader}
 use Rattle.bench_turns.specs.Lasting.{HasLeft}
 use Rattle.script_effects.specs.Performing.{Performs, PerformsCommand, shown, free_shown}
-use Rattle.script_output.specs.Printouts.{prints_dark}
+use Rattle.bench_lines.specs.Printouts.{prints_dark}
 use Rattle.bench_turns.specs.Turns.{dark_of, turn_steps}
 use Rattle.bench_turns.proofs.Wearing.{block-due, due-spent, fewer}
 use Rattle.script_effects.proofs.LineWear.{LINE_STEPS, arrives-last, turn-left}

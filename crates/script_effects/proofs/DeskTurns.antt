@@ -13,7 +13,7 @@ use Rattle.bench_turns.specs.declared.turn.Item.TheVariants.{Atr, Quiet, Mute, D
 use Rattle.bench_turns.specs.BenchStates.{BenchState, off, on}
 use Rattle.script_effects.specs.Exchanges.{Desk}
 use Rattle.script_effects.specs.Performing.{PerformsBlock, PerformsOff, TakesTurn, reader_after, shown}
-use Rattle.script_output.specs.Printouts.{Print}
+use Rattle.bench_lines.specs.Printouts.{Print}
 use Rattle.bench_turns.specs.Turns.{GoodTurn, TakesBlock}
 
 -- nothing comes of power off

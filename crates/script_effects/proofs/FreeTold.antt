@@ -4,7 +4,7 @@ use Rattle.card_state.specs.declared.space.FreeSpace.{FreeSpace}
 use Rattle.bench_turns.specs.BenchStates.{BenchState, off, on, TellsFree}
 use Rattle.script_effects.specs.Performing.{free_shown}
 use Rattle.bench_turns.specs.Plays.{IsGood}
-use Rattle.script_output.specs.Printouts.{Print, prints_free, prints_mute}
+use Rattle.bench_lines.specs.Printouts.{Print, prints_free, prints_mute}
 
 abbrev told_print : Option FreeSpace → Print
 told_print None = prints_mute

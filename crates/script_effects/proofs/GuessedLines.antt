@@ -16,7 +16,7 @@ use Rattle.script_effects.specs.Lines.{arriving}
 use Rattle.script_effects.specs.Exchanges.{Passes, answered, link_lost, power_lost}
 use Rattle.script_effects.specs.Exchanges.{set_back, toward_card, toward_reader}
 use Rattle.script_effects.specs.Performing.{Performs, PerformsCommand}
-use Rattle.script_output.specs.Printouts.{Print}
+use Rattle.bench_lines.specs.Printouts.{Print}
 
 -- without a turn nothing is compared
 few-stay : (old new : BenchState) → new ≡ old → GuessesFew old new

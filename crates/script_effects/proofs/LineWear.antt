@@ -23,7 +23,7 @@ use Rattle.script_effects.specs.Exchanges.{Arrives, CardTakes, Commands, Desk, E
 use Rattle.script_effects.specs.Exchanges.{toward_card, toward_reader}
 use Rattle.bench_turns.specs.Lasting.{HasLeft}
 use Rattle.script_effects.specs.Performing.{Performs, PerformsCommand}
-use Rattle.script_output.specs.Printouts.{Print}
+use Rattle.bench_lines.specs.Printouts.{Print}
 use Rattle.script_effects.specs.Prints.{IsFirstDesk, PrintsLines}
 use Rattle.bench_turns.specs.Turns.{turn_steps}
 use Rattle.bench_turns.proofs.Wearing.{fewer, few-steps, turn-lasts, block-lasts, stays-last}

@@ -18,7 +18,7 @@ use Rattle.script_effects.specs.Exchanges.{Commands, Desk, GoesOn, left_by}
 use Rattle.script_effects.specs.ExchangeWorlds.{GoesAs, StandIn, course_of, exchange_events, state_served}
 use Rattle.bench_lines.specs.Orders.{IsOrderSized}
 use Rattle.script_effects.specs.Performing.{Performs, PerformsCommand, reader_after, shown}
-use Rattle.script_output.specs.Printouts.{Print, prints_atr}
+use Rattle.bench_lines.specs.Printouts.{Print, prints_atr}
 use Rattle.script_effects.specs.ScriptWorlds.{CommandInWorld, IsInNewWorld, IsInWorld, LineInWorld, PowerOnLaw, LineLaw}
 use Rattle.bench_lines.specs.Spellings.{IsOrderOfBytes}
 use Rattle.t1_link.specs.TreeMachine.{IsProperState, Served, tree_machine}

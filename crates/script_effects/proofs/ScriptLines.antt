@@ -23,8 +23,8 @@ use Rattle.script_effects.specs.ScriptEndings.{HasWritten, IsReadInto, IsRunInto
 use Rattle.script_effects.specs.Exchanges.{Desk}
 use Rattle.script_effects.specs.Performing.{Performs}
 use Rattle.bench_turns.specs.Plays.{IsGood}
-use Rattle.script_output.specs.Printouts.{Print, text_of}
-use Rattle.script_output.specs.Printouts as print
+use Rattle.bench_lines.specs.Printouts.{Print, text_of}
+use Rattle.bench_lines.specs.Printouts as print
 use Rattle.script_effects.specs.Prints.{LinesPrint, PrintsLines}
 
 -- it prints nothing

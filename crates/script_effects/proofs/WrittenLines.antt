@@ -19,7 +19,7 @@ use Rattle.script_effects.specs.Exchanges.{set_back, toward_card, toward_reader}
 use Rattle.script_effects.specs.declared.reader_turns.TheConstants.{LINE_BLOCKS}
 use Rattle.script_effects.specs.Lines.{arriving}
 use Rattle.script_effects.specs.Performing.{Performs, PerformsCommand}
-use Rattle.script_output.specs.Printouts.{Print}
+use Rattle.bench_lines.specs.Printouts.{Print}
 
 -- the device writes, and how many they are at most
 pub record WritesFew (most : ℕ) (old new : BenchState) : Type 0 where

@@ -5,8 +5,8 @@ use Rattle.script_effects.specs.declared.line_result.LineResult.{LineResult}
 use Rattle.script_effects.specs.declared.line_result.LineResult.TheVariants.{Nothing, Atr, Mute, Dark, Lost, Answer}
 use Rattle.script_effects.specs.declared.line_result.LineResult.TheVariants.{Block, Free}
 use Rattle.script_effects.specs.Exchanges.{Desk}
-use Rattle.script_output.specs.Printouts.{Print, prints_atr, prints_bytes, prints_dark, prints_free, prints_lost}
-use Rattle.script_output.specs.Printouts.{prints_mute, prints_nothing}
+use Rattle.bench_lines.specs.Printouts.{Print, prints_atr, prints_bytes, prints_dark, prints_free, prints_lost}
+use Rattle.bench_lines.specs.Printouts.{prints_mute, prints_nothing}
 
 -- the desk, the answer to the last command, and the block that returned last
 pub record DeskState : Type 0 where

@@ -8,7 +8,7 @@ use Rattle.bench_turns.specs.declared.turn.Item.TheVariants as item
 use Rattle.script_effects.specs.declared.line.Line.{Line}
 use Rattle.bench_turns.specs.BenchStates.{BenchState}
 use Rattle.script_effects.specs.Lines.{arriving, line_after}
-use Rattle.script_output.specs.Printouts.{Print, prints_bytes, prints_dark, prints_lost}
+use Rattle.bench_lines.specs.Printouts.{Print, prints_bytes, prints_dark, prints_lost}
 use Rattle.bench_turns.specs.Turns.{GoodBlock}
 
 -- the next block on the line, toward either end

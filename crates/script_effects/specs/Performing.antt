@@ -6,8 +6,8 @@ use Rattle.bench_turns.specs.declared.turn.Turn.{Turn}
 use Rattle.bench_turns.specs.declared.turn.Item.{Item}
 use Rattle.bench_turns.specs.BenchStates.{BenchState, off, on, IsArmed}
 use Rattle.script_effects.specs.Exchanges.{Commands, Desk}
-use Rattle.script_output.specs.Printouts.{Print, prints_nothing, prints_atr, prints_mute, prints_dark, prints_bytes}
-use Rattle.script_output.specs.Printouts.{prints_free}
+use Rattle.bench_lines.specs.Printouts.{Print, prints_nothing, prints_atr, prints_mute, prints_dark, prints_bytes}
+use Rattle.bench_lines.specs.Printouts.{prints_free}
 use Rattle.card_start.specs.Running.{card_found}
 use Rattle.card_model.specs.Cards.{card_space}
 use Rattle.bench_turns.specs.Turns.{GoodBlock, GoodTurn}

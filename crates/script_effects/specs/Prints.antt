@@ -11,7 +11,7 @@ use Rattle.bench_lines.specs.Orders.{order_of}
 use Rattle.script_effects.specs.Lines.{perfect_line}
 use Rattle.script_effects.specs.Performing.{Performs}
 use Rattle.bench_turns.specs.Plays.{IsGood}
-use Rattle.script_output.specs.Printouts.{Print, text_of}
+use Rattle.bench_lines.specs.Printouts.{Print, text_of}
 
 -- Lines that run in order, and their concatenated output. After each of them the bench's memory has a card state after
 -- recovery, and it never had a fault.

@@ -4,8 +4,8 @@ use Rattle.std.specs.Io.KnownBytes.{Appends}
 use Rattle.std.specs.Str.Lines.{lines}
 use Rattle.nvm_board.specs.Facts.{Facts}
 use Rattle.bench_turns.specs.BenchStates.{bench_facts}
-use Rattle.script_output.specs.declared.fault.RunFault.{RunFault}
-use Rattle.script_output.specs.declared.fault.RunFault.TheVariants.{BadLine, Read, Write, Memory, Unkept}
+use Rattle.bench_lines.specs.declared.fault.RunFault.{RunFault}
+use Rattle.bench_lines.specs.declared.fault.RunFault.TheVariants.{BadLine, Read, Write, Memory, Unkept}
 use Rattle.bench_lines.specs.declared.reading.TheConstants.{SCRIPT_LIMIT}
 use Rattle.script_effects.specs.Exchanges.{Desk}
 use Rattle.script_effects.specs.Prints.{LinesPrint, PrintsLines}

@@ -10,7 +10,7 @@ use Rattle.script_effects.specs.Exchanges.{Desk, GoesOn, left_by, printed_by}
 use Rattle.script_effects.specs.ExchangeWorlds.{GoesAs, StandIn, course_of, exchange_events}
 use Rattle.bench_lines.specs.Orders.{IsOrderSized}
 use Rattle.script_effects.specs.Performing.{Performs}
-use Rattle.script_output.specs.Printouts.{Print, prints_atr}
+use Rattle.bench_lines.specs.Printouts.{Print, prints_atr}
 use Rattle.bench_lines.specs.Spellings.{IsOrderOfBytes}
 use Rattle.t1_link.specs.TreeMachine.{IsProperState, Served, tree_machine}
 use Rattle.t1_link.specs.Worlds.{Event, quiet}

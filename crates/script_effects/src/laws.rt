@@ -18,7 +18,7 @@ ghost use Rattle.bench_turns.specs.Lasting.{HasLeft};
 ghost use Rattle.script_effects.specs.Lines.{arriving, line_after};
 ghost use Rattle.script_effects.specs.Performing.{Performs};
 ghost use Rattle.bench_turns.specs.Plays.{IsGood};
-ghost use Rattle.script_output.specs.Printouts.{prints_dark};
+ghost use Rattle.bench_lines.specs.Printouts.{prints_dark};
 ghost use Rattle.script_effects.specs.Prints.{IsFirstDesk, PrintsLines};
 ghost use Rattle.script_effects.specs.ScriptWorlds.{PowerOnLaw, LineLaw};
 ghost use Rattle.bench_turns.specs.Turns.{GoodBlock, GoodTurn, Runs, dark_of, run_steps, turn_steps};

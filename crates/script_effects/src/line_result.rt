@@ -6,12 +6,12 @@ ghost use Rattle.script_effects.specs.ExchangeValues.{ended_of};
 ghost use Rattle.script_effects.specs.Exchanges.{printed_by};
 ghost use Rattle.script_effects.specs.Performing.{shown};
 ghost use Rattle.bench_turns.specs.Plays.{TellsItem};
-ghost use Rattle.script_output.specs.Printouts.{prints_nothing, text_of};
+ghost use Rattle.bench_lines.specs.Printouts.{prints_nothing, text_of};
 
 use crate::reader_turns::Ending;
+use bench_lines::{ATR, PrintedText, RunFault, print_bytes, print_free, write_line};
 use bench_turns::TurnResult;
 use card_state::FreeSpace;
-use script_output::{ATR, PrintedText, RunFault, print_bytes, print_free, write_line};
 use std::io::Write;
 use t1_link::{BlockBytes, ReaderEnd};
 

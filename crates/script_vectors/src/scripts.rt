@@ -1,8 +1,8 @@
 //! Scripts that end without a line feed or at a bad line. The rows test the output of valid lines.
 
+use bench_lines::RunFault;
 use card_bench::run;
 use card_turns::Bench;
-use script_output::RunFault;
 use simulated_boards::CutBoard;
 use std::alloc::Global;
 use std::io::BufRead;

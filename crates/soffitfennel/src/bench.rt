@@ -1,10 +1,10 @@
 //! The bench over a script, with its output in memory.
 ghost use Rattle.card_calls.specs.ScriptCalls.{EndsScript};
 
+use bench_lines::RunFault;
 use card_bench::{factory_board, run_on};
 use card_calls::{DeviceBoard, followed};
 use card_turns::Bench;
-use script_output::RunFault;
 use std::alloc::Global;
 
 /// Runs a script on the factory card, as the bench's program does. Returns what it printed, and the fault that stopped

@@ -23,12 +23,12 @@ ghost use Rattle.card_calls.specs.Telling.{TellsBytes, TellsWords, inserted, out
 use crate::bench::printed;
 use crate::handle::Handle;
 use crate::session::Session;
+use bench_lines::RunFault;
 use card_bench::Order;
 use card_calls::{
     Outcome, Told, block_fits, board_of, check_words, command_fits, copy, factory_of, order_fits,
 };
 use core::mem::{replace, replace_with};
-use script_output::RunFault;
 use simulated_boards::CutBoard;
 use std::alloc::Global;
 

@@ -8,9 +8,9 @@ ghost use Rattle.card_sweeps.specs.Turning.{AreTurns};
 
 use crate::plan::{Plan, push_first_part, push_stage, push_writes};
 use crate::readable_board::ReadableBoard;
+use bench_lines::write_line;
 use bench_turns::{Turn, TurnPlayer};
 use card_sweeps::{Step, SweepFault, SweepPart, SweepScript, read_script, turns_of};
-use script_output::write_line;
 use std::alloc::{AllocError, Global};
 use std::io::{BufRead, Write};
 

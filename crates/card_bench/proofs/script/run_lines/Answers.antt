@@ -2,7 +2,7 @@ use Rattle.std.proofs.Common.{◌≡◌, ◌+◌, ◌-◌, ℕ, List, Option, So
 use Rattle.std.proofs.Common.{inl, inr, subst, sym, ◌∙◌, ap, arith}
 use Rattle.std.specs.Prelude.{IsErrAnd}
 use Rattle.bench_lines.specs.declared.reading.LineFault.TheVariants.{Read, TooLong, TooMuch}
-use Rattle.script_output.specs.declared.fault.RunFault.{RunFault}
+use Rattle.bench_lines.specs.declared.fault.RunFault.{RunFault}
 use Rattle.script_effects.specs.ScriptEndings.{IsRunToLine, IsRunUnkept, RunStopsBy, StopsUnkept}
 use Rattle.bench_lines.specs.OrderViews.{order_with}
 use Rattle.bench_lines.specs.Orders.{order_of}

@@ -3,7 +3,7 @@ use Rattle.std.proofs.Common.{subst, sym}
 use Rattle.script_effects.specs.DeskStates.{DeskState}
 use Rattle.script_effects.specs.Performing.{free_shown}
 use Rattle.bench_turns.specs.Plays.{IsGood}
-use Rattle.script_output.specs.Printouts.{prints_free, prints_mute}
+use Rattle.bench_lines.specs.Printouts.{prints_free, prints_mute}
 use Rattle.script_effects.proofs.FreeTold.{free-told, none-told}
 use Rattle.card_bench.proofs.desk.Desk.free_space.Goals as goal
 

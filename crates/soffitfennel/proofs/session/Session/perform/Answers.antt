@@ -1,7 +1,7 @@
 use Rattle.std.proofs.Common.{◌≡◌, ◌∙◌, false, true, inr, refl, subst, sym}
 use Rattle.bench_lines.specs.OrderViews.{order_with}
 use Rattle.script_effects.specs.DeskStates.{print_of, printed_at}
-use Rattle.script_output.specs.Printouts.{Print}
+use Rattle.bench_lines.specs.Printouts.{Print}
 use Rattle.card_calls.specs.SessionStates.{SessionState}
 use Rattle.card_calls.specs.Telling.{IsKeptBy, IsPerformed}
 use Rattle.card_calls.proofs.OrderLaws.{performed}

@@ -1,7 +1,7 @@
 -- The exit status of each fault; 0 means success.
 use Rattle.std.specs.Prelude.{ℕ}
-use Rattle.script_output.specs.declared.fault.RunFault.{RunFault}
-use Rattle.script_output.specs.declared.fault.RunFault.TheVariants.{BadLine, Read, Write, Memory, Unkept}
+use Rattle.bench_lines.specs.declared.fault.RunFault.{RunFault}
+use Rattle.bench_lines.specs.declared.fault.RunFault.TheVariants.{BadLine, Read, Write, Memory, Unkept}
 
 abbrev pub status_of : RunFault → ℕ
 status_of (BadLine line) = 2

@@ -1,7 +1,7 @@
 use Rattle.std.proofs.Common.{◌≡◌, ◌≤◌, ◌+◌, ◌*◌, ◌++◌, codes, drop, take, length}
 use Rattle.hex.specs.Hex.{encode_upper}
-use Rattle.script_output.specs.declared.printing.TheConstants.{PRINTED_ROOM}
-use Rattle.script_output.proofs.printing.spell.Given as goal
+use Rattle.bench_lines.specs.declared.printing.TheConstants.{PRINTED_ROOM}
+use Rattle.bench_lines.proofs.printing.spell.Given as goal
 
 abbrev pub invariant-loop-i : goal.invariant-loop-i
 invariant-loop-i l = record {

@@ -23,7 +23,7 @@ pub enum RunFault {
 
 impl RunFault {
     ghost use Rattle.std.specs.Prelude.{◌≡◌};
-    ghost use Rattle.script_output.specs.Faults.{status_of};
+    ghost use Rattle.bench_lines.specs.Faults.{status_of};
 
     /// Returns the exit status of the fault: 2 to 5, or 7.
     pub fn status(&self) -> u8

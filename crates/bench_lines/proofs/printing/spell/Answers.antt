@@ -1,10 +1,10 @@
 use Rattle.std.proofs.Common.{◌≡◌, ◌++◌, ◌∙◌, ap, arith, length, List, ℕ}
 use Rattle.std.proofs.lemmas.List.{length-set}
 use Rattle.hex.specs.Hex.{encode_upper}
-use Rattle.script_output.specs.declared.printing.TheConstants.{PRINTED_ROOM}
+use Rattle.bench_lines.specs.declared.printing.TheConstants.{PRINTED_ROOM}
 use Rattle.hex.proofs.Pairs.{take-two_writes}
-use Rattle.script_output.proofs.Digits.{spelled_more, spelled_all}
-use Rattle.script_output.proofs.printing.spell.Goals as goal
+use Rattle.bench_lines.proofs.Digits.{spelled_more, spelled_all}
+use Rattle.bench_lines.proofs.printing.spell.Goals as goal
 
 pub loop-i-init : goal.loop-i-init
 loop-i-init c =

@@ -2,7 +2,7 @@
 ghost use Rattle.std.specs.Prelude.{◌≡◌, ◌≤◌, ◌<◌, ℕ, length, take, slice_index, IfErr, OnErr, OnOk};
 ghost use Rattle.std.specs.Io.KnownBytes.{Appends};
 ghost use Rattle.hex.specs.Hex.{upper_digits};
-ghost use Rattle.script_output.specs.Printouts.{prints_bytes, prints_free, text_of};
+ghost use Rattle.bench_lines.specs.Printouts.{prints_bytes, prints_free, text_of};
 
 use crate::fault::RunFault;
 use arrayvec::ArrayVec;

@@ -1,6 +1,6 @@
 use Rattle.std.proofs.Common.{rules}
-use Rattle.script_output.proofs.Written.{appends_part}
-use Rattle.script_output.proofs.printing.write_line.Goals as goal
+use Rattle.bench_lines.proofs.Written.{appends_part}
+use Rattle.bench_lines.proofs.printing.write_line.Goals as goal
 
 pub loop-written-preserved : goal.loop-written-preserved
 loop-written-preserved g c = record {
