@@ -13,9 +13,7 @@ from .contracts import TOP, reading
 CRATES = TOP / "crates"
 MODEL = CRATES / "card_model" / "specs"
 # crates whose public calls a person who builds on the card makes; those of others are named where none of these is
-OUTER = (
-    "t1_link", "card_start", "card_core", "bench_turns", "card_turns", "card_sweeps", "script_effects", "card_bench",
-)
+OUTER = ("t1_link", "card_start", "card_core", "bench_turns", "card_turns", "card_sweeps", "card_bench")
 FUNCTION = re.compile(r"\s*(pub )?(final )?(const )?fn ")
 TYPE = re.compile(r"^(?:pub )?(?:struct|enum) (\w+)", re.M)
 

@@ -14,7 +14,7 @@ pub fn limits()
 {}
 
 /// The order of a line and its bytes are in range.
-/// So the law `script_goes_on_in_a_world` of `script_effects` holds for every line of a script.
+/// So the law `script_goes_on_in_a_world` of `card_bench` holds for every line of a script.
 pub fn orders_are_in_range()
     ensures { (line : List ℕ) (order : Order) → order_of line ≡ Some order → IsOrderSized order × IsOrderOfBytes order }
 {}

@@ -5,18 +5,20 @@ ghost use Rattle.std.specs.Io.KnownBytes.{Appends};
 ghost use Rattle.bench_lines.specs.declared.order.TheConstants.{COMMAND_LIMIT};
 ghost use Rattle.bench_turns.specs.BenchStates.{IsOn, bench_facts, off};
 ghost use Rattle.card_model.specs.Requests.{HasBetween};
-ghost use Rattle.script_effects.specs.DeskStates.{print_of, printed_at};
+ghost use Rattle.card_bench.specs.DeskStates.{print_of, printed_at};
 ghost use Rattle.bench_lines.specs.OrderViews.{order_with};
 ghost use Rattle.bench_lines.specs.Orders.{IsOrderSized};
-ghost use Rattle.script_effects.specs.Lines.{perfect_line};
-ghost use Rattle.script_effects.specs.Performing.{Performs, PerformsCommand, TakesTurn, free_shown};
+ghost use Rattle.card_bench.specs.Lines.{perfect_line};
+ghost use Rattle.card_bench.specs.Performing.{Performs, PerformsCommand, TakesTurn, free_shown};
 ghost use Rattle.bench_turns.specs.Plays.{IsGood};
 ghost use Rattle.bench_lines.specs.Printouts.{prints_nothing, text_of};
 
 use crate::exchange::{Ends, exchange};
+use crate::line::Line;
+use crate::line_result::LineResult;
+use crate::reader_turns::{Blocks, Ending};
 use bench_lines::{Order, PrintedText, RunFault};
 use bench_turns::{Turn, TurnPlayer};
-use script_effects::{Blocks, Ending, Line, LineResult};
 use simulated_boards::Followed;
 use std::io::Write;
 use std::marker::Model;
@@ -35,7 +37,7 @@ impl<P: TurnPlayer> Model for Desk<P> {
     ghost use Rattle.std.specs.Prelude.{◌≢◌, IsTrue};
     ghost use Rattle.t1_link.specs.declared.reader_end.Phase.TheVariants.{Busy};
     ghost use Rattle.card_model.specs.Sessions.{session_code};
-    ghost use Rattle.script_effects.specs.DeskStates.{DeskState, reader_there};
+    ghost use Rattle.card_bench.specs.DeskStates.{DeskState, reader_there};
 
     ghost Value = { DeskState };
 
@@ -165,7 +167,7 @@ where
 
 impl<P: TurnPlayer> Desk<P> {
     /// Runs the order of a line, with its bytes, and returns the result.
-    #[tactic(auto, using(script_effects::proofs::DeskTurns::off_taken, script_effects::proofs::DeskTurns::block_taken))]
+    #[tactic(auto, using(crate::proofs::DeskTurns::off_taken, crate::proofs::DeskTurns::block_taken))]
     pub fn perform(&mut self, order: Order, given: &[u8]) -> LineResult
         requires sized { IsOrderSized (order_with order given.now) }
         requires good { IsGood self.old.desk.bench }

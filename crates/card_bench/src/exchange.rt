@@ -4,13 +4,14 @@ ghost use Rattle.card_model.specs.Requests.{HasBetween};
 ghost use Rattle.t1_link.specs.declared.reader_end.Phase.TheVariants.{Busy};
 ghost use Rattle.bench_lines.specs.declared.order.TheConstants.{COMMAND_LIMIT};
 ghost use Rattle.bench_turns.specs.BenchStates.{IsOn};
-ghost use Rattle.script_effects.specs.Exchanges.{Exchanged, Exchanges, GoesOn, Passes};
+ghost use Rattle.card_bench.specs.Exchanges.{Exchanged, Exchanges, GoesOn, Passes};
 ghost use Rattle.card_bench.specs.EndsParts.{ends_of};
-ghost use Rattle.script_effects.specs.ExchangeValues.{ended_of, follows_of, next_block, HasPower};
+ghost use Rattle.card_bench.specs.ExchangeValues.{ended_of, follows_of, next_block, HasPower};
 ghost use Rattle.bench_turns.specs.Plays.{IsGood};
 
+use crate::line::Line;
+use crate::reader_turns::{Blocks, Ending, LINE_BLOCKS, Toward, begin, hear, wait};
 use bench_turns::{Turn, TurnPlayer, TurnResult};
-use script_effects::{Blocks, Ending, LINE_BLOCKS, Line, Toward, begin, hear, wait};
 use std::ops::ControlFlow;
 use t1_link::ReaderEnd;
 

@@ -1,8 +1,8 @@
 //! Runs a script, from its first line to its last.
 ghost use Rattle.std.specs.Prelude.{◌≡◌, ◌≢◌, false, Err, IfSome, IfErr, OnOk};
-ghost use Rattle.script_effects.specs.ScriptEndings.{IsRunToEnd, RunStopsBy, StopsUnkept};
-ghost use Rattle.script_effects.specs.Exchanges.{Desk as DeskValue};
-ghost use Rattle.script_effects.specs.Prints.{IsFirstDesk, desk_of};
+ghost use Rattle.card_bench.specs.ScriptEndings.{IsRunToEnd, RunStopsBy, StopsUnkept};
+ghost use Rattle.card_bench.specs.Exchanges.{Desk as DeskValue};
+ghost use Rattle.card_bench.specs.Prints.{IsFirstDesk, desk_of};
 ghost use Rattle.bench_turns.specs.Plays.{IsGood};
 ghost use Rattle.command_base.specs.Finding.{HasCard};
 

@@ -2,10 +2,10 @@
 use Rattle.std.specs.Prelude.{Bool}
 use Rattle.bench_lines.specs.Orders.{Order}
 use Rattle.bench_turns.specs.Plays.{IsGood}
-use Rattle.script_effects.specs.Exchanges.{Desk}
-use Rattle.script_effects.specs.Performing.{Performs}
-use Rattle.script_effects.proofs.GuessedLines.{performs_few}
-use Rattle.script_effects.proofs.WrittenLines.{performs_wrote}
+use Rattle.card_bench.specs.Exchanges.{Desk}
+use Rattle.card_bench.specs.Performing.{Performs}
+use Rattle.card_bench.proofs.GuessedLines.{performs_few}
+use Rattle.card_bench.proofs.WrittenLines.{performs_wrote}
 use Rattle.bench_lines.specs.Printouts.{Print}
 use Rattle.card_calls.specs.Telling.{IsPerformed}
 

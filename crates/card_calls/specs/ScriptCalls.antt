@@ -3,9 +3,9 @@ use Rattle.std.specs.Prelude.{◌≡◌, ◌≢◌, ◌⊎◌, ◌<◌, ℕ, ℤ
 use Rattle.bench_lines.specs.Faults.{status_of}
 use Rattle.bench_lines.specs.declared.fault.RunFault.{RunFault}
 use Rattle.bench_lines.specs.declared.fault.RunFault.TheVariants.{Memory, Write}
-use Rattle.script_effects.specs.Exchanges.{Desk}
-use Rattle.script_effects.specs.Prints.{IsFirstDesk}
-use Rattle.script_effects.specs.ScriptEndings.{IsRunToEnd, RunStopsBy}
+use Rattle.card_bench.specs.Exchanges.{Desk}
+use Rattle.card_bench.specs.Prints.{IsFirstDesk}
+use Rattle.card_bench.specs.ScriptEndings.{IsRunToEnd, RunStopsBy}
 use Rattle.card_calls.specs.Telling.{CopiesNothing, CopiesOut}
 
 -- A script ran on the factory card, and printed this: to its end, or until a fault stopped it. With too little memory

@@ -1,8 +1,8 @@
 -- The state of a `Session`.
 use Rattle.std.specs.Prelude.{Bool, false}
 use Rattle.nvm_board.specs.Facts.{Facts}
-use Rattle.script_effects.specs.Exchanges.{Desk}
-use Rattle.script_effects.specs.Prints.{desk_of}
+use Rattle.card_bench.specs.Exchanges.{Desk}
+use Rattle.card_bench.specs.Prints.{desk_of}
 use Rattle.card_calls.specs.Devices.{begun_log}
 
 -- The desk, and whether the device of its board didn't take a write.

@@ -12,9 +12,9 @@ use Rattle.bench_lines.specs.Orders.{Order, IsOrderSized, Free}
 use Rattle.bench_turns.specs.BenchStates.{BenchState, off, on, bench_facts}
 use Rattle.bench_turns.specs.Guessing.{GuessesFew}
 use Rattle.bench_turns.specs.Plays.{IsGood}
-use Rattle.script_effects.specs.DeskStates.{print_of}
-use Rattle.script_effects.specs.Performing.{Performs}
-use Rattle.script_effects.specs.Prints.{desk_of}
+use Rattle.card_bench.specs.DeskStates.{print_of}
+use Rattle.card_bench.specs.Performing.{Performs}
+use Rattle.card_bench.specs.Prints.{desk_of}
 use Rattle.bench_lines.specs.Printouts.{Print}
 use Rattle.bench_lines.specs.Printouts.{prints_nothing, prints_atr, prints_mute, prints_dark, prints_lost}
 use Rattle.bench_lines.specs.Printouts.{prints_bytes}

@@ -4,8 +4,8 @@ ghost use Rattle.card_calls.specs.Telling.{Copies, CopiesOut, ReportsSpace, bit_
 ghost use Rattle.card_calls.specs.Telling.{told_print};
 ghost use Rattle.card_calls.specs.declared.sizes.TheConstants.{ROOM};
 
+use card_bench::LineResult;
 use card_state::FreeSpace;
-use script_effects::LineResult;
 use t1_link::AnswerBytes;
 
 /// The outcome of a call. C sees its number.

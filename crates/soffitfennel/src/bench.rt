@@ -9,7 +9,7 @@ use std::alloc::Global;
 
 /// Runs a script on the factory card, as the bench's program does. Returns what it printed, and the fault that stopped
 /// it.
-#[tactic(auto, using(script_effects::proofs::FirstDesks::first_desk))]
+#[tactic(auto, using(card_bench::proofs::FirstDesks::first_desk))]
 pub fn printed(alloc: Global, script: &[u8]) -> (Vec<u8>, Option<RunFault>)
     ensures { EndsScript script.now result.0.items result.1 }
 {

@@ -4,7 +4,7 @@ ghost use Rattle.bench_lines.specs.Orders.{IsOrderSized};
 ghost use Rattle.bench_lines.specs.OrderViews.{order_with};
 ghost use Rattle.bench_turns.specs.BenchStates.{bench_facts};
 ghost use Rattle.command_base.specs.Finding.{HasCard};
-ghost use Rattle.script_effects.specs.Prints.{desk_of};
+ghost use Rattle.card_bench.specs.Prints.{desk_of};
 ghost use Rattle.simulated_boards.specs.Cut.{cut_facts};
 ghost use Rattle.card_calls.specs.SessionStates.{begun_at};
 ghost use Rattle.card_calls.specs.Telling.{CopiesWords, TellsResult, cleared, outcome_number, state_bits};

@@ -1,13 +1,13 @@
 use Rattle.std.specs.Prelude.{Bool, Err, List, None, Ok, Some, ℕ, if◌then◌else◌}
 use Rattle.std.proofs.Common.{◌∙◌, ap, subst, sym}
 use Rattle.bench_turns.specs.declared.turn.Turn.TheVariants as turn
-use Rattle.script_effects.specs.Exchanges.{power_lost, toward_reader}
-use Rattle.script_effects.specs.declared.reader_turns.Toward.{Toward}
+use Rattle.card_bench.specs.Exchanges.{power_lost, toward_reader}
+use Rattle.card_bench.specs.declared.reader_turns.Toward.{Toward}
 use Rattle.card_bench.specs.EndsParts.{ends_of}
-use Rattle.script_effects.specs.ExchangeValues.{next_block}
-use Rattle.script_effects.specs.Exchanges.{Passes}
+use Rattle.card_bench.specs.ExchangeValues.{next_block}
+use Rattle.card_bench.specs.Exchanges.{Passes}
 use Rattle.bench_turns.specs.Turns.{GoodBlock, GoodTurn}
-use Rattle.script_effects.proofs.ExchangeRuns.{takes_there}
+use Rattle.card_bench.proofs.ExchangeRuns.{takes_there}
 use Rattle.bench_turns.proofs.TurnsTold.{good-block, lost-so, replies-on, tells-so}
 use Rattle.card_bench.proofs.exchange.pass.Goals as goal
 

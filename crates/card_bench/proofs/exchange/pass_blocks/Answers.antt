@@ -1,7 +1,7 @@
 use Rattle.std.proofs.Common.{◌≡◌, ◌+◌, ◌-◌, suc, arith}
 use Rattle.card_bench.specs.EndsParts.{ends_of}
-use Rattle.script_effects.specs.ExchangeValues.{next_block}
-use Rattle.script_effects.proofs.ExchangeRuns.{begins, ends, gives_up, goes_on}
+use Rattle.card_bench.specs.ExchangeValues.{next_block}
+use Rattle.card_bench.proofs.ExchangeRuns.{begins, ends, gives_up, goes_on}
 use Rattle.card_bench.proofs.exchange.pass_blocks.Goals as goal
 
 pub returns-in-Break-clause-run : goal.returns-in-Break-clause-run

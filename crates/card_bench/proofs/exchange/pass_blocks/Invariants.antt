@@ -2,9 +2,9 @@ use Rattle.std.proofs.Common.{◌≡◌, ◌≤◌, ◌-◌}
 use Rattle.t1_link.specs.declared.reader_end.Phase.TheVariants.{Busy}
 use Rattle.bench_turns.specs.BenchStates.{IsOn}
 use Rattle.card_bench.specs.EndsParts.{ends_of}
-use Rattle.script_effects.specs.ExchangeValues.{next_block}
+use Rattle.card_bench.specs.ExchangeValues.{next_block}
 use Rattle.bench_turns.specs.Plays.{IsGood}
-use Rattle.script_effects.proofs.ExchangeRuns.{HasPassed}
+use Rattle.card_bench.proofs.ExchangeRuns.{HasPassed}
 use Rattle.card_bench.proofs.exchange.pass_blocks.Given as goal
 
 abbrev pub invariant-loop : goal.invariant-loop

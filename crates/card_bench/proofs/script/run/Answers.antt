@@ -1,8 +1,8 @@
 use Rattle.std.proofs.Common.{refl, true≢false}
 use Rattle.std.proofs.lemmas.Result.{IfErr-weaker, on_ok_weaker}
 use Rattle.simulated_boards.specs.Cut.{cut_facts}
-use Rattle.script_effects.specs.Prints.{IsFirstDesk, desk_of}
-use Rattle.script_effects.proofs.FirstDesks.{first_desk}
+use Rattle.card_bench.specs.Prints.{IsFirstDesk, desk_of}
+use Rattle.card_bench.proofs.FirstDesks.{first_desk}
 use Rattle.card_bench.proofs.script.run.Goals as goal
 
 pub run_on-requires : goal.run_on-requires

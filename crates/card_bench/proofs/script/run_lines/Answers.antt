@@ -3,15 +3,15 @@ use Rattle.std.proofs.Common.{inl, inr, subst, sym, ◌∙◌, ap, arith}
 use Rattle.std.specs.Prelude.{IsErrAnd}
 use Rattle.bench_lines.specs.declared.reading.LineFault.TheVariants.{Read, TooLong, TooMuch}
 use Rattle.bench_lines.specs.declared.fault.RunFault.{RunFault}
-use Rattle.script_effects.specs.ScriptEndings.{IsRunToLine, IsRunUnkept, RunStopsBy, StopsUnkept}
+use Rattle.card_bench.specs.ScriptEndings.{IsRunToLine, IsRunUnkept, RunStopsBy, StopsUnkept}
 use Rattle.bench_lines.specs.OrderViews.{order_with}
 use Rattle.bench_lines.specs.Orders.{order_of}
 use Rattle.bench_lines.specs.Scripts.{TakesLine, WhereKnown}
-use Rattle.script_effects.proofs.ScriptLines.{begins_run, goes_on, is_done, is_bad, is_too_long, is_unread}
-use Rattle.script_effects.proofs.ScriptLines.{is_unanswered, is_unanswered_by, is_unwritten}
-use Rattle.script_effects.proofs.ScriptLines.{speaks, HasRun}
+use Rattle.card_bench.proofs.ScriptLines.{begins_run, goes_on, is_done, is_bad, is_too_long, is_unread}
+use Rattle.card_bench.proofs.ScriptLines.{is_unanswered, is_unanswered_by, is_unwritten}
+use Rattle.card_bench.proofs.ScriptLines.{speaks, HasRun}
 use Rattle.bench_lines.specs.laws.SizedOrders.{order_of-in_range}
-use Rattle.script_effects.specs.DeskStates.{printed_at}
+use Rattle.card_bench.specs.DeskStates.{printed_at}
 use Rattle.card_bench.proofs.script.run_lines.Goals as goal
 
 pub returns-in-Err-TooLong-clause-stopped : goal.returns-in-Err-TooLong-clause-stopped

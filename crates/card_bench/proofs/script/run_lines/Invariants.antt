@@ -1,7 +1,7 @@
 use Rattle.std.proofs.Common.{◌≤◌, ◌+◌, ◌-◌}
 use Rattle.bench_turns.specs.Plays.{IsGood}
 use Rattle.bench_lines.specs.declared.reading.TheConstants.{SCRIPT_LIMIT}
-use Rattle.script_effects.proofs.ScriptLines.{HasRun}
+use Rattle.card_bench.proofs.ScriptLines.{HasRun}
 use Rattle.card_bench.proofs.script.run_lines.Given as goal
 
 abbrev pub invariant-loop-number : goal.invariant-loop-number

@@ -1,7 +1,7 @@
 use Rattle.std.proofs.Common.{OnOk, IfErr, IfSome, subst}
-use Rattle.script_effects.specs.ScriptEndings.{IsRunToEnd, RunStopsBy, StopsUnkept}
-use Rattle.script_effects.specs.Exchanges.{Desk}
-use Rattle.script_effects.proofs.FirstDesks.{desk_is}
+use Rattle.card_bench.specs.ScriptEndings.{IsRunToEnd, RunStopsBy, StopsUnkept}
+use Rattle.card_bench.specs.Exchanges.{Desk}
+use Rattle.card_bench.proofs.FirstDesks.{desk_is}
 use Rattle.card_bench.proofs.script.run_on.Goals as goal
 
 pub returns-clause-done : goal.returns-clause-done

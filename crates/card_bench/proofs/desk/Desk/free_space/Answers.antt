@@ -1,10 +1,10 @@
 use Rattle.std.specs.Prelude.{◌≡◌}
 use Rattle.std.proofs.Common.{subst, sym}
-use Rattle.script_effects.specs.DeskStates.{DeskState}
-use Rattle.script_effects.specs.Performing.{free_shown}
+use Rattle.card_bench.specs.DeskStates.{DeskState}
+use Rattle.card_bench.specs.Performing.{free_shown}
 use Rattle.bench_turns.specs.Plays.{IsGood}
 use Rattle.bench_lines.specs.Printouts.{prints_free, prints_mute}
-use Rattle.script_effects.proofs.FreeTold.{free-told, none-told}
+use Rattle.card_bench.proofs.FreeTold.{free-told, none-told}
 use Rattle.card_bench.proofs.desk.Desk.free_space.Goals as goal
 
 pub returns-in-Some : goal.returns-in-Some

@@ -1,8 +1,8 @@
 use Rattle.std.proofs.Common.{refl, subst, sym}
-use Rattle.script_effects.specs.DeskStates.{DeskState, print_of, reader_there}
-use Rattle.script_effects.specs.Performing.{TakesTurn}
+use Rattle.card_bench.specs.DeskStates.{DeskState, print_of, reader_there}
+use Rattle.card_bench.specs.Performing.{TakesTurn}
 use Rattle.bench_turns.specs.Plays.{IsGood}
-use Rattle.script_effects.proofs.DeskTurns.{turn-taken}
+use Rattle.card_bench.proofs.DeskTurns.{turn-taken}
 use Rattle.card_bench.proofs.desk.Desk.turn.Goals as goal
 
 pub returns-clause-taken : goal.returns-clause-taken

@@ -1,6 +1,6 @@
 use Rattle.std.proofs.Common.{◌≡◌, ◌∙◌, false, true, inr, refl, subst, sym}
 use Rattle.bench_lines.specs.OrderViews.{order_with}
-use Rattle.script_effects.specs.DeskStates.{print_of, printed_at}
+use Rattle.card_bench.specs.DeskStates.{print_of, printed_at}
 use Rattle.bench_lines.specs.Printouts.{Print}
 use Rattle.card_calls.specs.SessionStates.{SessionState}
 use Rattle.card_calls.specs.Telling.{IsKeptBy, IsPerformed}

@@ -1,8 +1,0 @@
-use Rattle.script_effects.proofs.ScriptInWorld.{power-on-begins, line-goes_on}
-use Rattle.script_effects.proofs.laws.script_goes_on_in_a_world.Goals as goal
-
-pub returns-clause-begins : goal.returns-clause-begins
-returns-clause-begins c = power-on-begins
-
-pub returns-clause-goes_on : goal.returns-clause-goes_on
-returns-clause-goes_on c = line-goes_on
