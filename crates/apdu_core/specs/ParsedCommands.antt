@@ -7,7 +7,7 @@ use Rattle.card_model.specs.Requests.{path_from_current, Request, select, read_b
 use Rattle.card_model.specs.Requests.{delete_file, read_record, update_record, append_record, search_record, increase}
 use Rattle.card_model.specs.Requests.{change_life_cycle, terminate_card_usage, verify, change_reference_data}
 use Rattle.card_model.specs.Requests.{reset_retry_counter, change_requirement, IsSizedName, fields_of}
-use Rattle.card_state.specs.declared.status.Sw.{Sw}
+use Rattle.card_model.specs.declared.status.Sw.{Sw}
 use Rattle.apdu_core.specs.declared.commands.Command.{Command}
 use Rattle.apdu_core.specs.declared.commands.Command.TheVariants.{Select, ReadBinary, UpdateBinary, CreateFile}
 use Rattle.apdu_core.specs.declared.commands.Command.TheVariants.{DeleteFile, ReadRecord, UpdateRecord, AppendRecord}

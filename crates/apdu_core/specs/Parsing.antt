@@ -2,8 +2,8 @@
 -- Only `IsParsed` occurs in a public contract, that of `Command::parse`.
 use Rattle.std.specs.Prelude.{◌≡◌, ◌≤◌, Bool, ℕ, List, length, Option, Some, None, is_some, IfSome}
 use Rattle.std.specs.Prelude.{Result, is_ok, IfOk, IfErr}
-use Rattle.card_state.specs.declared.status.Sw.{Sw}
-use Rattle.card_state.specs.declared.status.TheConstants.Sw.{WRONG_LENGTH}
+use Rattle.card_model.specs.declared.status.Sw.{Sw}
+use Rattle.card_model.specs.declared.status.TheConstants.Sw.{WRONG_LENGTH}
 use Rattle.apdu_core.specs.declared.commands.Command.{Command}
 use Rattle.apdu_core.specs.declared.form.CommandBody.{CommandBody}
 use Rattle.apdu_core.specs.declared.form.Operands.{Operands}

@@ -8,8 +8,7 @@ ghost use Rattle.card_model.specs.Requests.{IsTarget};
 use crate::commands::{Command, Parsed};
 use crate::form::{CommandBody, Operands};
 use byteorder::{BigEndian, ByteOrder};
-use card_model::Target;
-use card_state::Sw;
+use card_model::{Sw, Target};
 
 /// An elementary file, and an offset of 0 to 32,767 bytes.
 #[derive(Clone, Copy)]

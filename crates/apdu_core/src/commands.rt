@@ -16,9 +16,9 @@ use crate::records::{
 };
 use crate::select::{Selector, parse_select};
 use card_model::{
-    LifeCycleChange, RecordChoice, RecordPlace, RequirementChange, Returned, Subject, Target,
+    Direction, LifeCycleChange, PinNumber, RecordChoice, RecordPlace, RequirementChange, Returned,
+    Subject, Sw, Target,
 };
-use card_state::{Direction, PinNumber, Sw};
 
 /// A command as a value.
 /// `expected` is its Le byte: the number of bytes requested, where 0 means all.

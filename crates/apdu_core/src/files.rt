@@ -1,14 +1,13 @@
 //! CREATE FILE and DELETE FILE (ISO/IEC 7816-9).
 ghost use Rattle.std.specs.Prelude.{◌≡◌, ◌==◌, ◌||◌, ◌&&◌, not, Some, is_some, length};
-ghost use Rattle.card_state.specs.declared.status.TheConstants.Sw.{WRONG_LENGTH};
+ghost use Rattle.card_model.specs.declared.status.TheConstants.Sw.{WRONG_LENGTH};
 ghost use Rattle.card_model.specs.CommandTable.{create_file_row, delete_file_row, subject_named};
 ghost use Rattle.apdu_core.specs.Parsing.{Parses, ReadsWhere};
 
 use crate::commands::{Command, Parsed};
 use crate::form::{CommandBody, Operands};
 use byteorder::{BigEndian, ByteOrder};
-use card_model::Subject;
-use card_state::Sw;
+use card_model::{Subject, Sw};
 
 /// Returns the file that the data field names.
 /// No data names the current file, and two bytes are an identifier.

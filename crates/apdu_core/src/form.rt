@@ -1,10 +1,10 @@
 //! The parts of a short command after its instruction: P1, P2 and body (ISO/IEC 7816-4, 5.2).
 ghost use Rattle.std.specs.Prelude.{◌≡◌, ◌≢◌, ◌≤◌, ◌∷◌, ◌&&◌, ◌==◌, [], nat_le, not, length, is_some, Some};
-ghost use Rattle.card_state.specs.declared.status.TheConstants.Sw.{WRONG_LENGTH, WRONG_PARAMETERS};
+ghost use Rattle.card_model.specs.declared.status.TheConstants.Sw.{WRONG_LENGTH, WRONG_PARAMETERS};
 ghost use Rattle.card_model.specs.CommandTable.{is_no_parameter};
 ghost use Rattle.apdu_core.specs.Parsing.{ReadsWhere, ReadsBody};
 
-use card_state::Sw;
+use card_model::Sw;
 
 /// P1, P2, and the bytes after the header.
 #[derive(Clone, Copy)]

@@ -7,7 +7,7 @@ ghost use Rattle.card_model.specs.declared.requests.LifeCycleChange.{LifeCycleCh
 ghost use Rattle.card_model.specs.declared.requests.LifeCycleChange.TheVariants.{TerminateEf};
 ghost use Rattle.card_model.specs.declared.requests.RequirementChange.{RequirementChange};
 ghost use Rattle.card_model.specs.declared.requests.RequirementChange.TheVariants.{Disable, Enable};
-ghost use Rattle.card_state.specs.declared.direction.Direction.TheVariants.{Backward};
+ghost use Rattle.card_model.specs.declared.direction.Direction.TheVariants.{Backward};
 ghost use Rattle.card_model.specs.declared.requests.RecordChoice.TheVariants.{Previous, At};
 ghost use Rattle.card_model.specs.declared.requests.RecordPlace.TheVariants.{CurrentRecord, Number};
 ghost use Rattle.card_model.specs.declared.requests.Returned.TheVariants.{Template, Nothing};

@@ -14,11 +14,10 @@ mod select;
 
 use arrayvec::ArrayVec;
 pub use binary::BinaryPlace;
+use card_model::limits::MOST_ANSWER_DATA;
 pub use card_model::{
-    LifeCycleChange, RecordChoice, RecordPlace, RequirementChange, Returned, Subject, Target,
+    LifeCycleChange, RecordChoice, RecordPlace, RequirementChange, Returned, Subject, Sw, Target,
 };
-pub use card_state::Sw;
-use card_state::limits::MOST_ANSWER_DATA;
 pub use commands::Command;
 pub use path::FilePath;
 pub use pins::Replacement;

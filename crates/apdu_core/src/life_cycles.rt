@@ -6,8 +6,7 @@ ghost use Rattle.apdu_core.specs.Parsing.{Parses};
 use crate::commands::{Command, Parsed};
 use crate::files::subject_of;
 use crate::form::{CommandBody, Operands};
-use card_model::LifeCycleChange;
-use card_state::Sw;
+use card_model::{LifeCycleChange, Sw};
 
 /// Parses a command that changes a life cycle, after its instruction.
 ///

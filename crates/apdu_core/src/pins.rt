@@ -1,14 +1,13 @@
 //! Commands on PINs (ISO/IEC 7816-4, 11.5).
 ghost use Rattle.std.specs.Prelude.{◌≡◌, ◌==◌, Some, length, take, drop};
-ghost use Rattle.card_state.specs.declared.status.TheConstants.Sw.{WRONG_PARAMETERS};
+ghost use Rattle.card_model.specs.declared.status.TheConstants.Sw.{WRONG_PARAMETERS};
 ghost use Rattle.card_model.specs.CommandTable.{verify_row, change_reference_data_row, reset_retry_counter_row, is_pin};
 ghost use Rattle.card_model.specs.CommandTable.{requirement_row};
 ghost use Rattle.apdu_core.specs.Parsing.{Parses, NamesWhere, ReadsWhere};
 
 use crate::commands::{Command, Parsed};
 use crate::form::{CommandBody, Operands};
-use card_model::RequirementChange;
-use card_state::{PinNumber, Sw};
+use card_model::{PinNumber, RequirementChange, Sw};
 
 /// The presented value, and the new value of the PIN.
 #[derive(Clone, Copy)]

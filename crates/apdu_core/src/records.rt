@@ -8,8 +8,7 @@ ghost use Rattle.card_model.specs.CommandTable.{record_place, is_choice, record_
 
 use crate::commands::{Command, Parsed};
 use crate::form::{CommandBody, Operands};
-use card_model::{RecordChoice, RecordPlace, Target};
-use card_state::{Direction, Sw};
+use card_model::{Direction, RecordChoice, RecordPlace, Sw, Target};
 
 /// A record of an elementary file, as P1 and P2 name it.
 #[derive(Clone, Copy)]

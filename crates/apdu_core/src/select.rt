@@ -10,9 +10,8 @@ use crate::commands::{Command, Parsed};
 use crate::form::{CommandBody, Operands};
 use crate::path::FilePath;
 use byteorder::{BigEndian, ByteOrder};
-use card_model::Returned;
-use card_state::Sw;
-use card_state::limits::MOST_NAME_BYTES;
+use card_model::limits::MOST_NAME_BYTES;
+use card_model::{Returned, Sw};
 
 /// How SELECT names a file (ISO/IEC 7816-4, 11.2.2).
 #[derive(Clone, Copy)]

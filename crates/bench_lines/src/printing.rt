@@ -6,7 +6,7 @@ ghost use Rattle.bench_lines.specs.Printouts.{prints_bytes, prints_free, text_of
 
 use crate::fault::RunFault;
 use arrayvec::ArrayVec;
-use card_state::FreeSpace;
+use card_model::FreeSpace;
 use itoa::Buffer;
 use std::io::Write;
 use t1_link::LONGEST_ANSWER;

@@ -4,10 +4,10 @@ use Rattle.std.proofs.Common.{ap, inl, inr, subst, sym, ◌∙◌}
 use Rattle.std.proofs.lemmas.List.{length-set}
 use Rattle.std.proofs.lemmas.List.FromFn.{length-map-range_with_len}
 use Rattle.nvm_board.specs.Facts.{raised}
-use Rattle.card_state.specs.declared.pins.TheConstants.{PINS}
+use Rattle.card_model.specs.declared.pins.TheConstants.{PINS}
 use Rattle.file_tree.specs.Formats.{is_format_2}
 use Rattle.pin_store.specs.Pages.{pin_at, pins_of, unmarked_pins_of}
-use Rattle.card_state.specs.Secrets.{enabled_pin, Pin}
+use Rattle.card_model.specs.Secrets.{enabled_pin, Pin}
 use Rattle.t1_link.specs.CardTable.{Reaction, replies, runs}
 use Rattle.card_model.specs.Cards.{Card, IsProper}
 use Rattle.command_base.specs.Comparing.{Comparisons, comparisons}

@@ -3,8 +3,8 @@ use Rattle.std.specs.Prelude.{◌≡◌, ◌≤◌, ◌+◌, ◌*◌, ℕ, List}
 use Rattle.std.proofs.Common.{arith, ap, ap₂}
 use Rattle.nvm_board.specs.Facts.{Facts}
 use Rattle.undo_journal.specs.Spending.{WritesAtMost}
-use Rattle.card_state.specs.declared.pins.TheConstants.{PINS}
-use Rattle.card_state.specs.Secrets.{HasFewTries}
+use Rattle.card_model.specs.declared.pins.TheConstants.{PINS}
+use Rattle.card_model.specs.Secrets.{HasFewTries}
 use Rattle.card_model.specs.Cards.{Card}
 use Rattle.command_base.specs.Comparing.{comparisons}
 use Rattle.card_model.specs.PinCommands.{pin_of}

@@ -6,9 +6,9 @@ use Rattle.std.proofs.lemmas.Bool.{cases_eq, cases_lt}
 use Rattle.std.proofs.lemmas.List.{get_or-set_same, get_or-set_other, get_or_past, set-get_or}
 use Rattle.nvm_board.specs.declared.board.TheConstants.{SECRETS}
 use Rattle.nvm_board.specs.Facts.{raised}
-use Rattle.card_state.specs.declared.pins.TheConstants.{PINS}
-use Rattle.card_state.specs.declared.limits.TheConstants.{TRIES, UNBLOCKING_TRIES}
-use Rattle.card_state.specs.Secrets.{HasFewTries, full_tries, is_unblocking, tries_left}
+use Rattle.card_model.specs.declared.pins.TheConstants.{PINS}
+use Rattle.card_model.specs.declared.limits.TheConstants.{TRIES, UNBLOCKING_TRIES}
+use Rattle.card_model.specs.Secrets.{HasFewTries, full_tries, is_unblocking, tries_left}
 use Rattle.pin_store.specs.laws.Tries.{is_unblocking_value, is_value}
 use Rattle.card_model.specs.Cards.{Card, Pin}
 use Rattle.command_base.specs.Comparing.{Comparisons, comparisons, ComparesAttempt, CostsATry, Matches}

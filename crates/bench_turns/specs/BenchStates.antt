@@ -8,7 +8,7 @@ use Rattle.command_base.specs.Comparing.{Comparisons}
 use Rattle.command_base.specs.Finding.{HasCard, found}
 use Rattle.card_start.specs.Running.{card_found}
 use Rattle.card_model.specs.Sessions.{fresh_session}
-use Rattle.card_state.specs.declared.space.FreeSpace.{FreeSpace}
+use Rattle.card_model.specs.declared.space.FreeSpace.{FreeSpace}
 use Rattle.t1_link.specs.CardTable.{fresh}
 use Rattle.bench_turns.specs.CardBlocks.{Powered}
 

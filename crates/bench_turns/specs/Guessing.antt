@@ -1,8 +1,8 @@
 -- The guess law (ISO/IEC 7816-4, clause 11, basic security handling). In any run, whatever loses power or fails,
 -- a comparison of a secret uses up a try, and only a match resets the tries.
 use Rattle.std.specs.Prelude.{◌≤◌, ◌+◌, ◌*◌, ℕ, slice_index}
-use Rattle.card_state.specs.declared.pins.TheConstants.{PINS}
-use Rattle.card_state.specs.declared.limits.TheConstants.{TRIES, UNBLOCKING_TRIES}
+use Rattle.card_model.specs.declared.pins.TheConstants.{PINS}
+use Rattle.card_model.specs.declared.limits.TheConstants.{TRIES, UNBLOCKING_TRIES}
 use Rattle.card_model.specs.PinCommands.{pin_of, unblocking_of, value_of}
 use Rattle.bench_turns.specs.BenchStates.{BenchState, bench_card, bench_facts}
 

@@ -1,7 +1,7 @@
 //! Laws of turns: each function's contract is one law.
 
 ghost use Rattle.std.specs.Prelude.{◌≤◌, ◌+◌, ◌*◌, ℕ};
-ghost use Rattle.card_state.specs.declared.pins.TheConstants.{PINS};
+ghost use Rattle.card_model.specs.declared.pins.TheConstants.{PINS};
 ghost use Rattle.bench_turns.specs.BenchStates.{BenchState, BenchHasCard};
 ghost use Rattle.bench_turns.specs.Guessing.{GuessesFew, unblocking_guessed, value_guessed};
 

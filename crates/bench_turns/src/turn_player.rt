@@ -6,7 +6,7 @@ ghost use Rattle.bench_turns.specs.Turns.{GoodTurn, Runs};
 
 use crate::turn::{Item, Turn};
 use crate::turn_result::TurnResult;
-use card_state::FreeSpace;
+use card_model::FreeSpace;
 use nvm_board::{Armed, Faultless};
 use t1_link::BlockBytes;
 

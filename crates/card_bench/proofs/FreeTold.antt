@@ -1,6 +1,6 @@
 -- What is told of the free space is printed.
 use Rattle.std.proofs.Common.{◌≡◌, None, Option, Some, ap}
-use Rattle.card_state.specs.declared.space.FreeSpace.{FreeSpace}
+use Rattle.card_model.specs.declared.space.FreeSpace.{FreeSpace}
 use Rattle.bench_turns.specs.BenchStates.{BenchState, off, on, TellsFree}
 use Rattle.card_bench.specs.Performing.{free_shown}
 use Rattle.bench_turns.specs.Plays.{IsGood}

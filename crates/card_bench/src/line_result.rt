@@ -11,7 +11,7 @@ ghost use Rattle.bench_lines.specs.Printouts.{prints_nothing, text_of};
 use crate::reader_turns::Ending;
 use bench_lines::{ATR, PrintedText, RunFault, print_bytes, print_free, write_line};
 use bench_turns::TurnResult;
-use card_state::FreeSpace;
+use card_model::FreeSpace;
 use std::io::Write;
 use t1_link::{BlockBytes, ReaderEnd};
 

@@ -5,7 +5,7 @@ ghost use Rattle.card_calls.specs.Telling.{told_print};
 ghost use Rattle.card_calls.specs.declared.sizes.TheConstants.{ROOM};
 
 use card_bench::LineResult;
-use card_state::FreeSpace;
+use card_model::FreeSpace;
 use t1_link::AnswerBytes;
 
 /// The outcome of a call. C sees its number.

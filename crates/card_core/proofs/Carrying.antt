@@ -4,8 +4,8 @@ use Rattle.std.proofs.Common.{Option, Some, None}
 use Rattle.std.proofs.Common.{Result, Ok, Err, IfOk, OnOk, if◌then◌else◌, sym, ◌∙◌, ap, subst, arith, inl, inr}
 use Rattle.std.proofs.Common.{⊎_elim, refl}
 use Rattle.std.specs.Result.{result_err}
-use Rattle.card_state.specs.declared.status.Sw.{Sw}
-use Rattle.card_state.specs.declared.status.TheConstants.Sw.{CONDITIONS_NOT_SATISFIED}
+use Rattle.card_model.specs.declared.status.Sw.{Sw}
+use Rattle.card_model.specs.declared.status.TheConstants.Sw.{CONDITIONS_NOT_SATISFIED}
 use Rattle.undo_journal.specs.declared.error.StoreErr.{StoreErr}
 use Rattle.undo_journal.specs.StoreCalls.{OnlyReads}
 use Rattle.undo_journal.specs.Undo.{gate}

@@ -10,12 +10,12 @@ use Rattle.command_base.specs.Comparing.{comparisons, ComparesAsked}
 use Rattle.command_base.specs.Counting.{CountsAnswered}
 use Rattle.card_model.specs.Steps.{IsStage, carried_out}
 use Rattle.command_base.specs.laws.CompareLaws.{asked-none}
-use Rattle.card_state.specs.declared.status.Sw.{Sw}
+use Rattle.card_model.specs.declared.status.Sw.{Sw}
 use Rattle.undo_journal.specs.declared.error.StoreErr.{StoreErr}
 use Rattle.undo_journal.specs.declared.error.StoreErr.TheVariants.{PowerLost, Fault}
 use Rattle.undo_journal.specs.Memory.{Memory, IsReady}
 use Rattle.undo_journal.specs.laws.Exits.{ok_anyway, err_anyway}
-use Rattle.card_state.specs.declared.space.FreeSpace.{FreeSpace}
+use Rattle.card_model.specs.declared.space.FreeSpace.{FreeSpace}
 use Rattle.card_start.specs.declared.state.CardState.{CardState}
 use Rattle.card_start.specs.declared.state.CardState.TheVariants.{Working, Failed, Dark}
 use Rattle.command_base.specs.declared.current.Current.{Current}

@@ -4,11 +4,11 @@ use Rattle.std.specs.Prelude.{Result, Ok, Err, All, IfSome, IfErr, length, is_so
 use Rattle.std.proofs.Common.{◌∙◌, arith, inl, inr, refl, sym, ap, true≢false}
 use Rattle.std.proofs.lemmas.Bool.{eq-eqb}
 use Rattle.std.proofs.lemmas.List.Elements.{All-set}
-use Rattle.card_state.specs.declared.status.Sw.{Sw}
-use Rattle.card_state.specs.declared.status.TheConstants.Sw.{CONDITIONS_NOT_SATISFIED, MEMORY_FAILURE, UNKNOWN_CLASS}
-use Rattle.card_state.specs.declared.status.TheConstants.Sw.{WRONG_LENGTH, WRONG_PARAMETERS}
-use Rattle.card_state.specs.Secrets.{HasFewTries, charged_pin, is_unblocking, tries_left}
-use Rattle.card_state.specs.laws.FewTries.{with_few}
+use Rattle.card_model.specs.declared.status.Sw.{Sw}
+use Rattle.card_model.specs.declared.status.TheConstants.Sw.{CONDITIONS_NOT_SATISFIED, MEMORY_FAILURE, UNKNOWN_CLASS}
+use Rattle.card_model.specs.declared.status.TheConstants.Sw.{WRONG_LENGTH, WRONG_PARAMETERS}
+use Rattle.card_model.specs.Secrets.{HasFewTries, charged_pin, is_unblocking, tries_left}
+use Rattle.card_model.specs.laws.FewTries.{with_few}
 use Rattle.card_model.specs.declared.requests.RequirementChange.{RequirementChange}
 use Rattle.card_model.specs.declared.requests.RequirementChange.TheVariants.{Disable, Enable}
 use Rattle.card_model.specs.declared.requests.Subject.{Subject}

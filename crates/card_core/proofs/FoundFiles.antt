@@ -8,11 +8,11 @@ use Rattle.std.proofs.Common.{arith, ap, ap₂, inl, inr, subst, sym, ◌∙◌,
 use Rattle.std.proofs.lemmas.Bool.Decides.{eqb_tells}
 use Rattle.std.proofs.lemmas.List.Elements.{All-map}
 use Rattle.std.proofs.lemmas.List.FromFn.{length-map-range_with_len}
-use Rattle.card_state.specs.Rule.{is_rule}
-use Rattle.card_state.specs.declared.pins.TheConstants.{PINS}
-use Rattle.card_state.specs.FileTrees.{Body, File, Kind, Path, dedicated, elementary, parent, short_of}
-use Rattle.card_state.specs.FileTrees.{exists, file_at, is_dedicated}
-use Rattle.card_state.specs.Secrets.{enabled_pin}
+use Rattle.card_model.specs.Rule.{is_rule}
+use Rattle.card_model.specs.declared.pins.TheConstants.{PINS}
+use Rattle.card_model.specs.FileTrees.{Body, File, Kind, Path, dedicated, elementary, parent, short_of}
+use Rattle.card_model.specs.FileTrees.{exists, file_at, is_dedicated}
+use Rattle.card_model.specs.Secrets.{enabled_pin}
 use Rattle.card_model.specs.Cards.{IsProperKind, IsProperShort}
 use Rattle.file_tree.specs.declared.entry.Entry.{Entry}
 use Rattle.file_tree.specs.Entries.{body_of, free_entry, file_of, name_of}

@@ -1,12 +1,12 @@
 -- The behaviour of a command: refusals in their order, the answer, the attempt on a PIN, the commits.
 use Rattle.std.specs.Prelude.{ℕ, ◌/◌, ◌%◌, Bool, List, [], ◌∷◌, ◌++◌, Option, Some, None, if◌then◌else◌, ◌-◌, ◌&&◌}
 use Rattle.std.specs.Prelude.{not, nat_eq, true, slice_index_or, slice_set}
-use Rattle.card_state.specs.declared.status.Sw.{Sw}
+use Rattle.card_model.specs.declared.status.Sw.{Sw}
 use Rattle.card_model.specs.Cards.{Card, Pin}
 use Rattle.card_model.specs.Sessions.{Session}
 use Rattle.std.specs.Cmp.Lexicographic.{pointwise}
-use Rattle.card_state.specs.Secrets.{charged_pin, kept, tries_left}
-pub use Rattle.card_state.specs.Secrets.{unblocking_of, value_of}
+use Rattle.card_model.specs.Secrets.{charged_pin, kept, tries_left}
+pub use Rattle.card_model.specs.Secrets.{unblocking_of, value_of}
 
 -- The outcome of a command: refusals in their order, and the answer.
 

@@ -1,8 +1,8 @@
 -- READ BINARY and UPDATE BINARY: the bytes of a transparent EF (ISO/IEC 7816-4, 11.3).
 use Rattle.std.specs.Prelude.{ℕ, ◌+◌, ◌==◌, nat_lt, nat_le, List, [], ◌∷◌, length, take, drop, if◌then◌else◌}
-use Rattle.card_state.specs.declared.access_mode.AccessBit.TheVariants.{Read, Update}
-use Rattle.card_state.specs.declared.status.Sw.{Sw}
-use Rattle.card_state.specs.declared.status.TheConstants.Sw.{DONE, END_REACHED, NO_ROOM, WRONG_OFFSET}
+use Rattle.card_model.specs.declared.access_mode.AccessBit.TheVariants.{Read, Update}
+use Rattle.card_model.specs.declared.status.Sw.{Sw}
+use Rattle.card_model.specs.declared.status.TheConstants.Sw.{DONE, END_REACHED, NO_ROOM, WRONG_OFFSET}
 use Rattle.card_model.specs.declared.requests.Target.{Target}
 use Rattle.card_model.specs.Behaviours.{Behaviour, changes, looks, Outcome, Refusal, Refusals, Response, only_status}
 use Rattle.card_model.specs.Cards.{Card, is_transparent, file_bytes, overwrite, with_content}

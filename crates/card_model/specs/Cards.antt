@@ -1,14 +1,14 @@
 -- The card, and when it is proper (ISO/IEC 7816-4, clause 7; ETSI TS 102 221, clause 8).
 use Rattle.std.specs.Prelude.{ℕ, Bool, List, ◌≡◌, ◌<◌, ◌≤◌, ◌*◌, length, All, Option, Some, None}
 use Rattle.std.specs.FinMap.{insert, get}
-use Rattle.card_state.specs.declared.space.FreeSpace.{FreeSpace}
-use Rattle.card_state.specs.Spaces.{free_space}
+use Rattle.card_model.specs.declared.space.FreeSpace.{FreeSpace}
+use Rattle.card_model.specs.Spaces.{free_space}
 use Rattle.card_model.specs.Requests.{AreBytes}
-use Rattle.card_state.specs.Secrets.{HasFewTries}
-pub use Rattle.card_state.specs.FileTrees.{Body, transparent, linear, cyclic, Kind, dedicated, elementary, File, Path}
-pub use Rattle.card_state.specs.FileTrees.{Tree, master_file, parent, identifier, no_file, exists, file_at}
-pub use Rattle.card_state.specs.FileTrees.{is_dedicated, is_transparent, file_bytes, with_bytes, overwrite, short_of}
-pub use Rattle.card_state.specs.Secrets.{Pin}
+use Rattle.card_model.specs.Secrets.{HasFewTries}
+pub use Rattle.card_model.specs.FileTrees.{Body, transparent, linear, cyclic, Kind, dedicated, elementary, File, Path}
+pub use Rattle.card_model.specs.FileTrees.{Tree, master_file, parent, identifier, no_file, exists, file_at}
+pub use Rattle.card_model.specs.FileTrees.{is_dedicated, is_transparent, file_bytes, with_bytes, overwrite, short_of}
+pub use Rattle.card_model.specs.Secrets.{Pin}
 
 -- The card (ISO/IEC 7816-4, clause 7; ETSI TS 102 221, clause 8).
 

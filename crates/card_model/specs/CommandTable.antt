@@ -18,16 +18,16 @@ use Rattle.card_model.specs.declared.requests.RecordPlace.{RecordPlace}
 use Rattle.card_model.specs.declared.requests.RecordPlace.TheVariants.{CurrentRecord, Number}
 use Rattle.card_model.specs.declared.requests.RecordChoice.{RecordChoice}
 use Rattle.card_model.specs.declared.requests.RecordChoice.TheVariants.{Next, Previous, At}
-use Rattle.card_state.specs.declared.direction.Direction.{Direction}
-use Rattle.card_state.specs.declared.direction.Direction.TheVariants.{Forward, Backward}
+use Rattle.card_model.specs.declared.direction.Direction.{Direction}
+use Rattle.card_model.specs.declared.direction.Direction.TheVariants.{Forward, Backward}
 use Rattle.card_model.specs.declared.requests.LifeCycleChange.{LifeCycleChange}
 use Rattle.card_model.specs.declared.requests.LifeCycleChange.TheVariants.{Deactivate, Activate, TerminateDf}
 use Rattle.card_model.specs.declared.requests.LifeCycleChange.TheVariants.{TerminateEf}
 use Rattle.card_model.specs.declared.requests.RequirementChange.{RequirementChange}
 use Rattle.card_model.specs.declared.requests.RequirementChange.TheVariants.{Disable, Enable}
-use Rattle.card_state.specs.declared.status.Sw.{Sw}
-use Rattle.card_state.specs.declared.status.TheConstants.Sw.{WRONG_LENGTH, WRONG_PARAMETERS, UNKNOWN_INSTRUCTION}
-use Rattle.card_state.specs.declared.status.TheConstants.Sw.{UNKNOWN_CLASS}
+use Rattle.card_model.specs.declared.status.Sw.{Sw}
+use Rattle.card_model.specs.declared.status.TheConstants.Sw.{WRONG_LENGTH, WRONG_PARAMETERS, UNKNOWN_INSTRUCTION}
+use Rattle.card_model.specs.declared.status.TheConstants.Sw.{UNKNOWN_CLASS}
 use Rattle.card_model.specs.declared.requests.Subject.TheVariants as subject
 
 -- The body of a short command, after its four header bytes (ISO/IEC 7816-4, 5.2).

@@ -3,18 +3,18 @@ use Rattle.std.specs.Prelude.{◌==◌, ◌||◌, ℕ, List, [], ◌∷◌, ◌+
 use Rattle.std.specs.Prelude.{true, false, Result, Ok, Err}
 use Rattle.std.specs.FinMap.{insert, retain_keys}
 use Rattle.std.specs.List.{starts_with}
-use Rattle.card_state.specs.declared.access_mode.AccessBit.{AccessBit}
-use Rattle.card_state.specs.declared.access_mode.AccessBit.TheVariants.{CreateDf, CreateEf, DeleteChild, DeleteSelf}
-use Rattle.card_state.specs.declared.status.TheConstants.Sw.{DONE, CONDITIONS_NOT_SATISFIED, FILE_NOT_FOUND}
-use Rattle.card_state.specs.declared.status.TheConstants.Sw.{FILE_EXISTS, NAME_EXISTS, NO_ROOM, WRONG_DATA}
-use Rattle.card_state.specs.declared.life_cycle.LifeCycle.TheVariants.{Activated}
+use Rattle.card_model.specs.declared.access_mode.AccessBit.{AccessBit}
+use Rattle.card_model.specs.declared.access_mode.AccessBit.TheVariants.{CreateDf, CreateEf, DeleteChild, DeleteSelf}
+use Rattle.card_model.specs.declared.status.TheConstants.Sw.{DONE, CONDITIONS_NOT_SATISFIED, FILE_NOT_FOUND}
+use Rattle.card_model.specs.declared.status.TheConstants.Sw.{FILE_EXISTS, NAME_EXISTS, NO_ROOM, WRONG_DATA}
+use Rattle.card_model.specs.declared.life_cycle.LifeCycle.TheVariants.{Activated}
 use Rattle.card_model.specs.declared.fault.FcpFault.{FcpFault}
-use Rattle.card_state.specs.declared.fcp.Fcp.{Fcp}
-use Rattle.card_state.specs.declared.fcp.FileKind.{FileKind}
-use Rattle.card_state.specs.declared.fcp.FileKind.TheVariants.{Df, Transparent, Linear, Cyclic}
+use Rattle.card_model.specs.declared.fcp.Fcp.{Fcp}
+use Rattle.card_model.specs.declared.fcp.FileKind.{FileKind}
+use Rattle.card_model.specs.declared.fcp.FileKind.TheVariants.{Df, Transparent, Linear, Cyclic}
 use Rattle.card_model.specs.TemplateGrammar.{fcp_read}
-use Rattle.card_state.specs.FileControl.{name_bytes, short_of_kind}
-use Rattle.card_state.specs.NewFiles.{has_name, has_no_room, has_short_given, new_file, short_of_new}
+use Rattle.card_model.specs.FileControl.{name_bytes, short_of_kind}
+use Rattle.card_model.specs.NewFiles.{has_name, has_no_room, has_short_given, new_file, short_of_new}
 use Rattle.card_model.specs.declared.requests.Subject.{Subject}
 use Rattle.card_model.specs.Behaviours.{Behaviour, changes, Outcome, Refusal, Refusals, no_refusals, only_status}
 use Rattle.card_model.specs.Cards.{Card, Path, exists, parent}

@@ -2,16 +2,16 @@
 -- 7816-4, 5.1, 7.3.1, 7.4.10 and 9.3.3).
 use Rattle.std.specs.Prelude.{Bool, List, map, not, is_none, [], ◌∷◌, unwrap_or, ◌≡◌, ◌≤◌, ℕ, ◌==◌, nat_lt}
 use Rattle.std.specs.Prelude.{true, false, ◌&&◌, length, Option, Some, None}
-use Rattle.card_state.specs.declared.access_mode.AccessBit.{AccessBit}
-use Rattle.card_state.specs.declared.life_cycle.LifeCycleCommand.{LifeCycleCommand}
-use Rattle.card_state.specs.declared.status.TheConstants.Sw.{ACCESS_DENIED, CONDITIONS_NOT_SATISFIED, FILE_NOT_FOUND}
-use Rattle.card_state.specs.declared.status.TheConstants.Sw.{NO_CURRENT_EF, WRONG_STRUCTURE}
-use Rattle.card_state.specs.FileLives.{has_barred_above, is_allowed, is_barred, next_life}
+use Rattle.card_model.specs.declared.access_mode.AccessBit.{AccessBit}
+use Rattle.card_model.specs.declared.life_cycle.LifeCycleCommand.{LifeCycleCommand}
+use Rattle.card_model.specs.declared.status.TheConstants.Sw.{ACCESS_DENIED, CONDITIONS_NOT_SATISFIED, FILE_NOT_FOUND}
+use Rattle.card_model.specs.declared.status.TheConstants.Sw.{NO_CURRENT_EF, WRONG_STRUCTURE}
+use Rattle.card_model.specs.FileLives.{has_barred_above, is_allowed, is_barred, next_life}
 use Rattle.card_model.specs.Cards.{Card, Path, Kind, file_at, identifier, parent}
 use Rattle.card_model.specs.Behaviours.{Refusal, Refusals, no_refusals}
 use Rattle.card_model.specs.Sessions.{Session, marks_of, at_elementary_file}
-use Rattle.card_state.specs.declared.status.Sw.{Sw}
-use Rattle.card_state.specs.StatusWords.{length_status}
+use Rattle.card_model.specs.declared.status.Sw.{Sw}
+use Rattle.card_model.specs.StatusWords.{length_status}
 use Rattle.card_model.specs.declared.requests.Target.{Target}
 use Rattle.card_model.specs.declared.requests.Target.TheVariants.{Current, Short}
 use Rattle.card_model.specs.Reaching.{target_of}

@@ -1,20 +1,34 @@
--- The commands of the card.
+-- The card: files, access rules, life cycles, PINs, free space; and its commands.
+pub mod Access
 pub mod Behaviours
 pub mod BinaryCommands
 pub mod Cards
 pub mod CommandTable
 pub mod FileCommands
+pub mod FileControl
+pub mod FileLives
+pub mod FileTrees
 pub mod Guards
+pub mod LifeCycle
 pub mod LifeCycleCommands
 pub mod Listing
+pub mod NewFiles
 pub mod PinCommands
+pub mod Pins
 pub mod Reaching
 pub mod RecordCommands
+pub mod RecordLists
 pub mod Requests
+pub mod Rule
+pub mod Secrets
 pub mod SelectCommand
+pub mod Selectors
 pub mod Sessions
+pub mod Spaces
+pub mod StatusWords
 pub mod Steps
 pub mod TemplateGrammar
 pub mod Templates
 pub mod WellFormed
 pub mod laws
+pub use Rattle.card_model.specs.laws.Rules as RuleFacts

@@ -3,26 +3,26 @@
 use Rattle.std.specs.Prelude.{◌==◌, ℕ, Bool, true, false, not, if◌then◌else◌, List, [], ◌∷◌, Option, Some, is_none}
 use Rattle.std.specs.Prelude.{unwrap_or}
 use Rattle.std.specs.FinMap.{insert}
-use Rattle.card_state.specs.declared.access_mode.AccessBit.{AccessBit}
-use Rattle.card_state.specs.declared.life_cycle.LifeCycle.{LifeCycle}
-use Rattle.card_state.specs.declared.life_cycle.LifeCycleCommand.{LifeCycleCommand}
-use Rattle.card_state.specs.declared.status.Sw.{Sw}
-use Rattle.card_state.specs.declared.status.TheConstants.Sw.{DONE, FILE_NOT_FOUND, NO_CURRENT_EF, WRONG_STRUCTURE}
-use Rattle.card_state.specs.LifeCycle.{life_cycle_byte}
+use Rattle.card_model.specs.declared.access_mode.AccessBit.{AccessBit}
+use Rattle.card_model.specs.declared.life_cycle.LifeCycle.{LifeCycle}
+use Rattle.card_model.specs.declared.life_cycle.LifeCycleCommand.{LifeCycleCommand}
+use Rattle.card_model.specs.declared.status.Sw.{Sw}
+use Rattle.card_model.specs.declared.status.TheConstants.Sw.{DONE, FILE_NOT_FOUND, NO_CURRENT_EF, WRONG_STRUCTURE}
+use Rattle.card_model.specs.LifeCycle.{life_cycle_byte}
 use Rattle.card_model.specs.declared.requests.Subject.{Subject}
 use Rattle.card_model.specs.declared.requests.Subject.TheVariants.{Current, Identifier}
 use Rattle.card_model.specs.declared.requests.LifeCycleChange.{LifeCycleChange}
 use Rattle.card_model.specs.declared.requests.LifeCycleChange.TheVariants.{Activate, Deactivate, TerminateDf}
 use Rattle.card_model.specs.declared.requests.LifeCycleChange.TheVariants.{TerminateEf}
-use Rattle.card_state.specs.FileLives.{life_at, next_life, with_life}
+use Rattle.card_model.specs.FileLives.{life_at, next_life, with_life}
 use Rattle.card_model.specs.Behaviours.{Behaviour, changes, Outcome, Refusals, no_refusals, only_status}
 use Rattle.card_model.specs.Cards.{Card, Kind, Path, Tree, dedicated, elementary, file_at}
 use Rattle.card_model.specs.Guards.{denied, no_next_life}
 use Rattle.card_model.specs.Reaching.{current_elementary, subject_or}
 use Rattle.card_model.specs.SelectCommand.{selecting}
 use Rattle.card_model.specs.Sessions.{Session}
-use Rattle.card_state.specs.declared.access_mode.AccessBit.TheVariants as bit
-use Rattle.card_state.specs.declared.life_cycle.LifeCycleCommand.TheVariants as command
+use Rattle.card_model.specs.declared.access_mode.AccessBit.TheVariants as bit
+use Rattle.card_model.specs.declared.life_cycle.LifeCycleCommand.TheVariants as command
 
 -- The command's row in the table of life cycle states.
 abbrev pub command_of : LifeCycleChange → LifeCycleCommand

@@ -3,16 +3,16 @@
 use Rattle.std.specs.Prelude.{ℕ, ◌==◌, Bool, true, false, not, List, [], ◌∷◌, Option, option_map, Some, None}
 use Rattle.std.specs.FinSet.{insert, remove}
 use Rattle.std.specs.Option.{option_map_or}
-use Rattle.card_state.specs.declared.status.TheConstants.Sw.{CONDITIONS_NOT_SATISFIED, DONE, METHOD_BLOCKED}
-use Rattle.card_state.specs.declared.status.TheConstants.Sw.{REFERENCE_DATA_NOT_USABLE}
+use Rattle.card_model.specs.declared.status.TheConstants.Sw.{CONDITIONS_NOT_SATISFIED, DONE, METHOD_BLOCKED}
+use Rattle.card_model.specs.declared.status.TheConstants.Sw.{REFERENCE_DATA_NOT_USABLE}
 use Rattle.card_model.specs.declared.requests.RequirementChange.{RequirementChange}
 use Rattle.card_model.specs.declared.requests.RequirementChange.TheVariants.{Disable, Enable}
-use Rattle.card_state.specs.Secrets.{changed_pin, marked_pin, reset_pin, verified_pin}
+use Rattle.card_model.specs.Secrets.{changed_pin, marked_pin, reset_pin, verified_pin}
 use Rattle.card_model.specs.Behaviours.{attempt_commits, charged_card, is_right, settled_card, tries_of, Behaviour}
 use Rattle.card_model.specs.Behaviours.{Outcome, Refusal, Refusals, no_refusals, only_status}
 use Rattle.card_model.specs.Cards.{Card, Pin}
 use Rattle.card_model.specs.Sessions.{Session}
-pub use Rattle.card_state.specs.StatusWords.{tries_status}
+pub use Rattle.card_model.specs.StatusWords.{tries_status}
 pub use Rattle.card_model.specs.Behaviours.{Attempt, no_pin, pin_of, unblocking_of, value_of}
 
 -- The value of a disabled PIN only serves to enable it. A PIN that is enabled can't be enabled again.

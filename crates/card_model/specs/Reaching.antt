@@ -6,9 +6,9 @@ use Rattle.card_model.specs.declared.requests.Target.{Target}
 use Rattle.card_model.specs.declared.requests.Target.TheVariants.{Current, Short}
 use Rattle.card_model.specs.declared.requests.Subject.{Subject}
 use Rattle.card_model.specs.declared.requests.Subject.TheVariants as subject
-use Rattle.card_state.specs.FileTrees.{Path, Tree}
-use Rattle.card_state.specs.Selectors.{Selector, reached, selected, child_by_short}
-use Rattle.card_state.specs.Selectors as selector
+use Rattle.card_model.specs.FileTrees.{Path, Tree}
+use Rattle.card_model.specs.Selectors.{Selector, reached, selected, child_by_short}
+use Rattle.card_model.specs.Selectors as selector
 use Rattle.card_model.specs.Sessions.{Session}
 
 -- The selection of SELECT as a selector in the tree of files.

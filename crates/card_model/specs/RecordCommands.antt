@@ -2,18 +2,18 @@
 use Rattle.std.specs.Prelude.{◌+◌, ◌-◌, ◌==◌, ℕ, Bool, true, false, not, ◌&&◌, ◌||◌, nat_le, if◌then◌else◌, List, []}
 use Rattle.std.specs.Prelude.{◌∷◌, ◌++◌, length, slice_set, Option, None, Some, unwrap_or, ◌^◌, nat_lt}
 use Rattle.std.specs.FinMap.{insert}
-use Rattle.card_state.specs.declared.status.Sw.{Sw}
-use Rattle.card_state.specs.declared.status.TheConstants.Sw.{DONE, END_REACHED, RECORD_NOT_FOUND, NO_ROOM, WRONG_LENGTH}
-use Rattle.card_state.specs.declared.status.TheConstants.Sw.{MAXIMUM_REACHED}
-use Rattle.card_state.specs.declared.access_mode.AccessBit.TheVariants.{Append, Read, Update}
-use Rattle.card_state.specs.declared.direction.Direction.{Direction}
+use Rattle.card_model.specs.declared.status.Sw.{Sw}
+use Rattle.card_model.specs.declared.status.TheConstants.Sw.{DONE, END_REACHED, RECORD_NOT_FOUND, NO_ROOM, WRONG_LENGTH}
+use Rattle.card_model.specs.declared.status.TheConstants.Sw.{MAXIMUM_REACHED}
+use Rattle.card_model.specs.declared.access_mode.AccessBit.TheVariants.{Append, Read, Update}
+use Rattle.card_model.specs.declared.direction.Direction.{Direction}
 use Rattle.card_model.specs.declared.requests.Target.{Target}
 use Rattle.card_model.specs.declared.requests.Target.TheVariants.{Current, Short}
 use Rattle.card_model.specs.declared.requests.RecordPlace.{RecordPlace}
 use Rattle.card_model.specs.declared.requests.RecordPlace.TheVariants.{CurrentRecord, Number}
 use Rattle.card_model.specs.declared.requests.RecordChoice.{RecordChoice}
 use Rattle.card_model.specs.declared.requests.RecordChoice.TheVariants.{Next, Previous, At}
-use Rattle.card_state.specs.RecordLists.{front, has_record, record_of, records_found, spelled, raised_number}
+use Rattle.card_model.specs.RecordLists.{front, has_record, record_of, records_found, spelled, raised_number}
 use Rattle.card_model.specs.Behaviours.{Behaviour, changes, looks, Outcome, Refusal, Refusals, only_status}
 use Rattle.card_model.specs.Cards.{Card, Kind, Path, linear, cyclic, elementary, file_at}
 use Rattle.card_model.specs.Guards.{file_refusals, naming, target_kind, target_path, with_limits, given, length_refusal}

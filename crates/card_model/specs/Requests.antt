@@ -6,14 +6,14 @@ use Rattle.card_model.specs.declared.requests.Target.{Target}
 use Rattle.card_model.specs.declared.requests.Subject.{Subject}
 use Rattle.card_model.specs.declared.requests.RecordPlace.{RecordPlace}
 use Rattle.card_model.specs.declared.requests.RecordChoice.{RecordChoice}
-use Rattle.card_state.specs.declared.direction.Direction.{Direction}
+use Rattle.card_model.specs.declared.direction.Direction.{Direction}
 use Rattle.card_model.specs.declared.requests.LifeCycleChange.{LifeCycleChange}
 use Rattle.card_model.specs.declared.requests.RequirementChange.{RequirementChange}
 use Rattle.card_model.specs.declared.requests.RecordPlace.TheVariants.{CurrentRecord, Number}
 use Rattle.card_model.specs.declared.requests.RecordChoice.TheVariants.{Next, Previous, At}
 use Rattle.card_model.specs.declared.requests.Target.TheVariants.{Current, Short}
-use Rattle.card_state.specs.declared.status.Sw.{Sw}
-use Rattle.card_state.specs.Pins.{IsPinNumber}
+use Rattle.card_model.specs.declared.status.Sw.{Sw}
+use Rattle.card_model.specs.Pins.{IsPinNumber}
 
 -- Two-byte numbers.
 

@@ -1,11 +1,11 @@
 -- SELECT (ISO/IEC 7816-4, 11.2.2).
 use Rattle.std.specs.Prelude.{ℕ, List, [], ◌∷◌, Option, is_none, unwrap_or}
-use Rattle.card_state.specs.declared.status.Sw.{Sw}
-use Rattle.card_state.specs.declared.status.TheConstants.Sw.{DONE, SELECTED_DEACTIVATED, SELECTED_TERMINATED}
-use Rattle.card_state.specs.declared.status.TheConstants.Sw.{FILE_NOT_FOUND}
-use Rattle.card_state.specs.declared.life_cycle.LifeCycle.{LifeCycle}
-use Rattle.card_state.specs.declared.life_cycle.LifeCycle.TheVariants.{Creation, Initialisation, Deactivated, Activated}
-use Rattle.card_state.specs.declared.life_cycle.LifeCycle.TheVariants.{Terminated}
+use Rattle.card_model.specs.declared.status.Sw.{Sw}
+use Rattle.card_model.specs.declared.status.TheConstants.Sw.{DONE, SELECTED_DEACTIVATED, SELECTED_TERMINATED}
+use Rattle.card_model.specs.declared.status.TheConstants.Sw.{FILE_NOT_FOUND}
+use Rattle.card_model.specs.declared.life_cycle.LifeCycle.{LifeCycle}
+use Rattle.card_model.specs.declared.life_cycle.LifeCycle.TheVariants.{Creation, Initialisation, Deactivated, Activated}
+use Rattle.card_model.specs.declared.life_cycle.LifeCycle.TheVariants.{Terminated}
 use Rattle.card_model.specs.declared.requests.Returned.{Returned}
 use Rattle.card_model.specs.declared.requests.Returned.TheVariants.{Template, Nothing}
 use Rattle.card_model.specs.Requests.{Selection}

@@ -4,7 +4,7 @@ use Rattle.std.specs.Ordering.{nat_cmp}
 use Rattle.std.specs.Coded.{Coded, code_by, coded×, coded_ℕ, coded_list, coded_option}
 use Rattle.std.specs.FinSet.{FinSet, contains, empty, from_list, code}
 use Rattle.std.specs.List.{filter, range_with_len}
-use Rattle.card_state.specs.Pins.{has_pin}
+use Rattle.card_model.specs.Pins.{has_pin}
 use Rattle.card_model.specs.Cards.{Path}
 
 -- The current DF and, if there is one, the identifier of the current EF, a child of it. The record pointer, if it is

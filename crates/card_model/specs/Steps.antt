@@ -15,8 +15,8 @@ use Rattle.card_model.specs.PinCommands.{on_verify}
 use Rattle.card_model.specs.SelectCommand.{on_select}
 use Rattle.std.specs.Prelude.{List, ℕ, Result, Ok, Err, if◌then◌else◌, ◌≡◌, [], ◌∷◌, Contains, Option, Some, None, ◌-◌}
 use Rattle.std.specs.Prelude.{◌≢◌, Bool, true, false}
-use Rattle.card_state.specs.declared.status.Sw.{Sw}
-use Rattle.card_state.specs.declared.status.TheConstants.Sw.{CONDITIONS_NOT_SATISFIED}
+use Rattle.card_model.specs.declared.status.Sw.{Sw}
+use Rattle.card_model.specs.declared.status.TheConstants.Sw.{CONDITIONS_NOT_SATISFIED}
 use Rattle.card_model.specs.CommandTable.{asked}
 use Rattle.card_model.specs.Cards.{Card}
 use Rattle.card_model.specs.Sessions.{Session}

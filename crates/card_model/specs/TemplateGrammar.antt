@@ -5,21 +5,21 @@ use Rattle.std.specs.Prelude.{nat_le, if◌then◌else◌, [], Option, Some, Non
 use Rattle.std.specs.Prelude.{Err, find, count_by, option_map, zero, suc, take, drop}
 use Rattle.std.specs.List.{list_any}
 use Rattle.std.specs.Option.{unwrap_or, ok_or}
-use Rattle.card_state.specs.declared.life_cycle.LifeCycle.{LifeCycle}
-use Rattle.card_state.specs.Rule.{is_rule}
-use Rattle.card_state.specs.declared.fcp.ShortIdentifier.{ShortIdentifier}
-use Rattle.card_state.specs.declared.fcp.ShortIdentifier.TheVariants.{Absent, Empty, Given}
-use Rattle.card_state.specs.declared.fcp.Records.{Records}
+use Rattle.card_model.specs.declared.life_cycle.LifeCycle.{LifeCycle}
+use Rattle.card_model.specs.Rule.{is_rule}
+use Rattle.card_model.specs.declared.fcp.ShortIdentifier.{ShortIdentifier}
+use Rattle.card_model.specs.declared.fcp.ShortIdentifier.TheVariants.{Absent, Empty, Given}
+use Rattle.card_model.specs.declared.fcp.Records.{Records}
 use Rattle.card_model.specs.declared.descriptor.Structure.{Structure}
 use Rattle.card_model.specs.declared.descriptor.Structure.TheVariants.{Linear, Cyclic}
 use Rattle.card_model.specs.declared.descriptor.Descriptor.{Descriptor}
-use Rattle.card_state.specs.declared.fcp.Fcp.{Fcp}
-use Rattle.card_state.specs.declared.fcp.FileKind.{FileKind}
+use Rattle.card_model.specs.declared.fcp.Fcp.{Fcp}
+use Rattle.card_model.specs.declared.fcp.FileKind.{FileKind}
 use Rattle.card_model.specs.declared.fault.FcpFault.{FcpFault}
 use Rattle.card_model.specs.declared.fault.FcpFault.TheVariants.{Shape, Missing, Twice, Value}
-use Rattle.card_state.specs.declared.life_cycle.LifeCycle.TheVariants as life
+use Rattle.card_model.specs.declared.life_cycle.LifeCycle.TheVariants as life
 use Rattle.card_model.specs.declared.descriptor.Descriptor.TheVariants as descriptors
-use Rattle.card_state.specs.declared.fcp.FileKind.TheVariants as kinds
+use Rattle.card_model.specs.declared.fcp.FileKind.TheVariants as kinds
 
 -- Data objects (ISO/IEC 7816-4, 5.2 and 7.4.3).
 

@@ -1,16 +1,16 @@
 -- The template that SELECT returns: a file's control parameters and their one encoding (ISO/IEC 7816-4, 7.4.3).
 use Rattle.std.specs.Prelude.{ℕ, ◌≢◌, ◌*◌, ◌/◌, ◌%◌, ⊤, List, [], ◌∷◌, ◌++◌, length, Some, None, Option}
-use Rattle.card_state.specs.LifeCycle.{life_cycle_byte}
-use Rattle.card_state.specs.declared.fcp.Fcp.{Fcp}
-use Rattle.card_state.specs.declared.fcp.FileKind.{FileKind}
-use Rattle.card_state.specs.declared.fcp.FileKind.TheVariants.{Df, Transparent, Linear, Cyclic}
-use Rattle.card_state.specs.declared.fcp.ShortIdentifier.{ShortIdentifier}
-use Rattle.card_state.specs.declared.fcp.ShortIdentifier.TheVariants.{Absent, Given, Empty}
+use Rattle.card_model.specs.LifeCycle.{life_cycle_byte}
+use Rattle.card_model.specs.declared.fcp.Fcp.{Fcp}
+use Rattle.card_model.specs.declared.fcp.FileKind.{FileKind}
+use Rattle.card_model.specs.declared.fcp.FileKind.TheVariants.{Df, Transparent, Linear, Cyclic}
+use Rattle.card_model.specs.declared.fcp.ShortIdentifier.{ShortIdentifier}
+use Rattle.card_model.specs.declared.fcp.ShortIdentifier.TheVariants.{Absent, Given, Empty}
 use Rattle.card_model.specs.TemplateGrammar.{DataObject, objects_text}
-use Rattle.card_state.specs.FileControl.{IsInRange}
+use Rattle.card_model.specs.FileControl.{IsInRange}
 use Rattle.std.specs.FinMap.{get}
 use Rattle.std.specs.Option.{option_map_or}
-use Rattle.card_state.specs.declared.fcp.Records.{Records}
+use Rattle.card_model.specs.declared.fcp.Records.{Records}
 use Rattle.card_model.specs.Cards.{File, Kind, Path, Tree, transparent, linear, cyclic, dedicated, elementary}
 use Rattle.card_model.specs.Cards.{identifier}
 

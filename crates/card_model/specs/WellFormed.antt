@@ -2,11 +2,11 @@
 -- and short identifiers, and its PINs; and that the current files of a session are in its tree.
 use Rattle.std.specs.Prelude.{◌≡◌, ◌≤◌, ◌++◌, ◌∷◌, [], ◌&&◌, not, ℕ, List, length, All, Some, IfSome, IsTrue}
 use Rattle.std.specs.FinMap.{get}
-use Rattle.card_state.specs.Rule.{is_rule}
-use Rattle.card_state.specs.declared.pins.TheConstants.{PINS}
-use Rattle.card_state.specs.FileTrees.{Path, File, Tree, IsTree, dedicated, exists, file_at, is_dedicated, parent}
-use Rattle.card_state.specs.FileTrees.{short_of}
-use Rattle.card_state.specs.Secrets.{Pin}
+use Rattle.card_model.specs.Rule.{is_rule}
+use Rattle.card_model.specs.declared.pins.TheConstants.{PINS}
+use Rattle.card_model.specs.FileTrees.{Path, File, Tree, IsTree, dedicated, exists, file_at, is_dedicated, parent}
+use Rattle.card_model.specs.FileTrees.{short_of}
+use Rattle.card_model.specs.Secrets.{Pin}
 use Rattle.card_model.specs.Cards.{Card}
 use Rattle.card_model.specs.Sessions.{Session}
 

@@ -17,9 +17,9 @@ use Rattle.block_chain.specs.Chains.{free_chain, bytes_of}
 use Rattle.block_chain.specs.Layout.{AreLaid}
 use Rattle.block_chain.specs.laws.Words.{index-page_words}
 use Rattle.file_tree.specs.declared.entry.Entry.{Entry}
-use Rattle.card_state.specs.declared.space.FreeSpace.{FreeSpace}
+use Rattle.card_model.specs.declared.space.FreeSpace.{FreeSpace}
 use Rattle.file_tree.specs.Formats.{block_count}
-use Rattle.card_state.specs.Spaces.{free_space}
+use Rattle.card_model.specs.Spaces.{free_space}
 use Rattle.file_tree.specs.declared.layout.TheConstants.{MARK, MARK_WORD, OLD_MARK, PAGES_WORD, STATE_WORD}
 use Rattle.file_tree.specs.laws.Formats.{count_is, end_new, end_old}
 use Rattle.block_chain.specs.declared.layout.TheConstants.{FREE_HEAD_WORD, HEADER_PAGE}
@@ -31,9 +31,9 @@ use Rattle.file_tree.specs.laws.Paths.{path-zero}
 use Rattle.file_tree.specs.laws.Nodes.{Node, node-used, node-free}
 use Rattle.file_tree.specs.laws.Costs.{space_counted}
 use Rattle.file_tree.specs.laws.Contents.{content-some}
-use Rattle.card_state.specs.declared.pins.TheConstants.{PINS}
+use Rattle.card_model.specs.declared.pins.TheConstants.{PINS}
 use Rattle.pin_store.specs.Pages.{bytes_of_words, pin_at, pin_page, pin_word, unmarked_pins_of, ArePinPages, AreEnabled}
-use Rattle.card_state.specs.Secrets.{enabled_pin}
+use Rattle.card_model.specs.Secrets.{enabled_pin}
 use Rattle.pin_store.specs.laws.AllPins.{enabled_marks, enabled_unmarked}
 use Rattle.pin_store.specs.declared.layout.TheConstants.{PIN_MARK_WORD}
 use Rattle.card_start.specs.declared.memory_format.MemoryFormat.{MemoryFormat}

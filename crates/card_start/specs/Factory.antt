@@ -7,13 +7,13 @@ use Rattle.nvm_board.specs.declared.board.TheConstants.{PAGE_WORDS}
 use Rattle.nvm_board.specs.declared.board.DeviceErr.{DeviceErr}
 use Rattle.nvm_board.specs.Facts.{Answered, Facts, Steady, pages_of}
 use Rattle.undo_journal.specs.Spending.{WritesAtMost}
-use Rattle.card_state.specs.declared.life_cycle.LifeCycle.TheVariants.{Activated}
+use Rattle.card_model.specs.declared.life_cycle.LifeCycle.TheVariants.{Activated}
 use Rattle.block_chain.specs.declared.layout.TheConstants.{FIRST_BLOCK_PAGE}
 use Rattle.block_chain.specs.BlockWords.{page_words}
 use Rattle.file_tree.specs.declared.layout.TheConstants.{FIRST_ENTRY_PAGE}
-use Rattle.card_state.specs.declared.space.FreeSpace.{FreeSpace}
+use Rattle.card_model.specs.declared.space.FreeSpace.{FreeSpace}
 use Rattle.pin_store.specs.declared.layout.TheConstants.{FIRST_PIN_PAGE}
-use Rattle.card_state.specs.declared.pins.TheConstants.{PINS}
+use Rattle.card_model.specs.declared.pins.TheConstants.{PINS}
 use Rattle.block_chain.specs.declared.layout.TheConstants.{HEADER_PAGE}
 use Rattle.file_tree.specs.declared.layout.TheConstants.{MARK, OLD_END_PAGE, OLD_MARK}
 use Rattle.card_start.specs.declared.memory_format.MemoryFormat.{MemoryFormat}

@@ -1,6 +1,6 @@
 -- A powered card: the effect of each of its calls, and of power-on.
 use Rattle.std.specs.Prelude.{◌≡◌, ◌⊎◌, ℕ, true, List, []}
-use Rattle.card_state.specs.declared.status.TheConstants.Sw.{MEMORY_FAILURE}
+use Rattle.card_model.specs.declared.status.TheConstants.Sw.{MEMORY_FAILURE}
 use Rattle.nvm_board.specs.Facts.{Facts, Steady, GoesDark, Fails}
 use Rattle.undo_journal.specs.Undo.{IsSound, IsBadJournal}
 use Rattle.card_start.specs.declared.state.CardState.{CardState}

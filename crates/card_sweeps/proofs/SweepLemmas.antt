@@ -11,7 +11,7 @@ use Rattle.bench_turns.specs.declared.turn.Turn.{Turn}
 use Rattle.bench_turns.specs.declared.turn.Turn.TheVariants as turn
 use Rattle.bench_turns.specs.declared.turn.Item.{Item}
 use Rattle.bench_turns.specs.declared.turn.Item.TheVariants as item
-use Rattle.card_state.specs.declared.space.FreeSpace.{FreeSpace}
+use Rattle.card_model.specs.declared.space.FreeSpace.{FreeSpace}
 use Rattle.bench_turns.specs.BenchStates.{BenchState, IsWell, bench_facts, IsArmed}
 use Rattle.command_base.specs.Finding.{HasCard}
 use Rattle.bench_turns.specs.declared.turn_result.TurnResult.{TurnResult}

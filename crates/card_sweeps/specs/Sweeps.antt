@@ -1,7 +1,7 @@
 -- The runs of a sweep, and the finding of each.
 use Rattle.std.specs.Prelude.{◌≡◌, ◌⊎◌, ◌≤◌, ◌≢◌, ℕ, zero, suc, true, List, None, is_some}
 use Rattle.nvm_board.specs.Facts.{Facts}
-use Rattle.card_state.specs.declared.space.FreeSpace.{FreeSpace}
+use Rattle.card_model.specs.declared.space.FreeSpace.{FreeSpace}
 use Rattle.bench_turns.specs.declared.turn.Turn.{Turn}
 use Rattle.bench_turns.specs.declared.turn.Turn.TheVariants as turn
 use Rattle.bench_turns.specs.declared.turn.Item.{Item}

@@ -19,7 +19,7 @@ use crate::cut_masks::{mask_at, mask_count, words_to_try};
 use crate::sweepable::Sweepable;
 use crate::tally::{Sweep, Trace, blank_trace};
 use bench_turns::{Turn, TurnPlayer, TurnResult};
-use card_state::FreeSpace;
+use card_model::FreeSpace;
 use std::alloc::{AllocError, Global};
 use t1_link::BlockBytes;
 

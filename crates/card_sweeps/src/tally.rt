@@ -5,7 +5,7 @@ ghost use Rattle.std.specs.Prelude.{slice_get, slice_set, map, Contains};
 ghost use Rattle.card_sweeps.specs.Tallies.{Finding, finding, findings, times_seen, Adds, IsAt, CountsOne};
 
 use bench_turns::Item;
-use card_state::FreeSpace;
+use card_model::FreeSpace;
 use std::alloc::{AllocError, Global};
 
 /// The result of each of a list of turns.

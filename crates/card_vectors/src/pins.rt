@@ -2,7 +2,7 @@
 ghost use Rattle.undo_journal.specs.Memory.{IsReady};
 
 use crate::fixtures::formatted;
-use card_state::PinNumber;
+use card_model::PinNumber;
 use nvm_board::Board;
 use pin_store::{Outcome, Secret, are_pins, charge, settle};
 use simulated_boards::RamBoard;

@@ -1,11 +1,11 @@
 -- What the rule of a file allows in a session, by the marks of the PINs that the code keeps and reads.
 use Rattle.std.specs.Prelude.{map, not}
 use Rattle.std.proofs.Common.{◌≡◌, ℕ, List, length, sym, ◌∙◌, ap}
-use Rattle.card_state.specs.declared.access_mode.AccessBit.{AccessBit}
+use Rattle.card_model.specs.declared.access_mode.AccessBit.{AccessBit}
 use Rattle.file_tree.specs.declared.entry.Entry.{Entry}
-use Rattle.card_state.specs.FileTrees.{Tree}
+use Rattle.card_model.specs.FileTrees.{Tree}
 use Rattle.file_tree.specs.Entries.{is_allowed_by}
-use Rattle.card_state.specs.FileLives.{is_allowed}
+use Rattle.card_model.specs.FileLives.{is_allowed}
 use Rattle.file_tree.specs.Table.{table, entry_in, path_of, IsUsed}
 use Rattle.file_tree.specs.Trees.{tree_of}
 use Rattle.file_tree.specs.laws.Barring.{allowed_by_there}

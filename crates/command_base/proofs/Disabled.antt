@@ -6,9 +6,9 @@ use Rattle.std.proofs.Math.ListN.{length-set}
 use Rattle.std.proofs.lemmas.Bool.Decides.{eqb_tells}
 use Rattle.std.proofs.lemmas.List.{get_or-set_other, get_or-set_same}
 use Rattle.std.specs.List.{range_with_len, slice_index_or}
-use Rattle.card_state.specs.Pins.{no_pins, with_pin, IsPinNumber}
-use Rattle.card_state.specs.declared.pins.TheConstants.{PINS}
-use Rattle.card_state.specs.laws.DisabledPins.{none-marked}
+use Rattle.card_model.specs.Pins.{no_pins, with_pin, IsPinNumber}
+use Rattle.card_model.specs.declared.pins.TheConstants.{PINS}
+use Rattle.card_model.specs.laws.DisabledPins.{none-marked}
 use Rattle.pin_store.specs.Pages.{pin_at, pins_of}
 use Rattle.command_base.specs.Working.{disabled_in}
 use Rattle.command_base.specs.laws.Verified.{by_places}

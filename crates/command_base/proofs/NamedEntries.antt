@@ -5,9 +5,9 @@ use Rattle.std.proofs.lemmas.Bool.{cases_eq}
 use Rattle.nvm_board.specs.Facts.{IsMemory}
 use Rattle.card_model.specs.declared.requests.Target.{Target}
 use Rattle.file_tree.specs.declared.entry.Entry.{Entry}
-use Rattle.card_state.specs.FileTrees.{Kind, transparent, linear, cyclic, dedicated, elementary}
+use Rattle.card_model.specs.FileTrees.{Kind, transparent, linear, cyclic, dedicated, elementary}
 use Rattle.file_tree.specs.Entries.{file_of, entry_capacity, linear_records, cyclic_records, name_of}
-use Rattle.card_state.specs.FileLives.{is_barred}
+use Rattle.card_model.specs.FileLives.{is_barred}
 use Rattle.file_tree.specs.Table.{table, entry_in, path_of}
 use Rattle.file_tree.specs.Trees.{content, file_in}
 use Rattle.command_base.specs.declared.current.Current.{Current}

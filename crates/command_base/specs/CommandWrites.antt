@@ -1,6 +1,6 @@
 -- The most device writes of a command, by its request.
 use Rattle.std.specs.Prelude.{ℕ, ◌+◌, List, length, Option, Some, None, Result, Ok, Err}
-use Rattle.card_state.specs.declared.status.Sw.{Sw}
+use Rattle.card_model.specs.declared.status.Sw.{Sw}
 use Rattle.card_model.specs.CommandTable.{asked}
 use Rattle.card_model.specs.Requests.{Request, select, read_binary, update_binary, create_file, delete_file}
 use Rattle.card_model.specs.Requests.{read_record, update_record, append_record, search_record, increase}

@@ -1,7 +1,7 @@
 -- The card state after recovery, by the words written so far. A commit is the write of 0 to the gate. The charge of a
 -- PIN, and the reset of its tries by VERIFY, are writes of the word of tries.
 use Rattle.std.specs.Prelude.{◌≡◌, ◌⊎◌, ◌<◌, ℕ, List, [], ◌∷◌, slice_set, Contains, Result, Ok, Err, if◌then◌else◌}
-use Rattle.card_state.specs.declared.status.Sw.{Sw}
+use Rattle.card_model.specs.declared.status.Sw.{Sw}
 use Rattle.undo_journal.specs.declared.layout.TheConstants.{GATE}
 use Rattle.undo_journal.specs.Undo.{gate}
 use Rattle.card_model.specs.Requests.{Request}

@@ -1,11 +1,11 @@
 -- The comparisons of a request, and that each permanently uses up a try (ISO/IEC 7816-4, clause 11,
 -- basic security handling).
 use Rattle.std.specs.Prelude.{◌≡◌, ◌⊎◌, ◌<◌, ◌+◌, ◌-◌, ℕ, List, slice_set, Option, Some, None, Result, Ok, Err}
-use Rattle.card_state.specs.declared.status.Sw.{Sw}
+use Rattle.card_model.specs.declared.status.Sw.{Sw}
 use Rattle.nvm_board.specs.Facts.{Facts, RisesAt, raised}
 use Rattle.card_model.specs.Requests.{Request}
-use Rattle.card_state.specs.declared.pins.TheConstants.{PINS}
-use Rattle.card_state.specs.Secrets.{charged_pin, full_tries, kept, tries_left}
+use Rattle.card_model.specs.declared.pins.TheConstants.{PINS}
+use Rattle.card_model.specs.Secrets.{charged_pin, full_tries, kept, tries_left}
 use Rattle.card_model.specs.Behaviours.{Attempt, pin_of}
 use Rattle.card_model.specs.Cards.{Card, Pin}
 use Rattle.card_model.specs.Steps.{attempt_of}

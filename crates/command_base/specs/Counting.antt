@@ -1,6 +1,6 @@
 -- An answered guess was counted, and wrote to the device (ISO/IEC 7816-4, clause 11, basic security handling).
 use Rattle.std.specs.Prelude.{◌≡◌, ◌<◌, Bool, true, if◌then◌else◌, Option, Some, None, Result, Ok, Err}
-use Rattle.card_state.specs.declared.status.Sw.{Sw}
+use Rattle.card_model.specs.declared.status.Sw.{Sw}
 use Rattle.nvm_board.specs.Facts.{Facts, raised}
 use Rattle.card_model.specs.Requests.{Request}
 use Rattle.card_model.specs.Cards.{Card}

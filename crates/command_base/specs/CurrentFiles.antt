@@ -3,7 +3,7 @@
 use Rattle.std.specs.Prelude.{◌==◌, ℕ, Bool, true, false, if◌then◌else◌, Option, Some, None}
 use Rattle.card_model.specs.declared.requests.Target.{Target}
 use Rattle.card_model.specs.declared.requests.Target.TheVariants as target
-use Rattle.card_state.specs.Pins.{no_pins, with_pin, without_pin}
+use Rattle.card_model.specs.Pins.{no_pins, with_pin, without_pin}
 use Rattle.pin_store.specs.declared.errors.Outcome.{Outcome as AttemptEnd}
 use Rattle.pin_store.specs.declared.errors.Outcome.TheVariants.{Matched, Wrong}
 use Rattle.file_tree.specs.declared.entry.Entry.{Entry}

@@ -1,6 +1,6 @@
 -- Postconditions of calls that serve a request in place. No clause of the card's calls names this.
 use Rattle.std.specs.Prelude.{◌≡◌, ℕ, List, Result, OnOk}
-use Rattle.card_state.specs.declared.status.Sw.{Sw}
+use Rattle.card_model.specs.declared.status.Sw.{Sw}
 use Rattle.undo_journal.specs.declared.error.StoreErr.{StoreErr}
 use Rattle.undo_journal.specs.Memory.{Memory}
 use Rattle.card_model.specs.Requests.{Request}

@@ -1,8 +1,8 @@
 -- How the code checks the file that a command names. No clause of the card's calls names these definitions.
 use Rattle.std.specs.Prelude.{◌≡◌, ◌==◌, ℕ, Bool, not, if◌then◌else◌, ◌||◌, IsTrue, List, Option, Some, None}
 use Rattle.card_model.specs.declared.requests.Target.{Target}
-use Rattle.card_state.specs.declared.status.Sw.{Sw}
-use Rattle.card_state.specs.declared.status.TheConstants.Sw.{ACCESS_DENIED, CONDITIONS_NOT_SATISFIED, WRONG_STRUCTURE}
+use Rattle.card_model.specs.declared.status.Sw.{Sw}
+use Rattle.card_model.specs.declared.status.TheConstants.Sw.{ACCESS_DENIED, CONDITIONS_NOT_SATISFIED, WRONG_STRUCTURE}
 use Rattle.file_tree.specs.declared.entry.Entry.{Entry}
 use Rattle.file_tree.specs.declared.kinds.EntryKind.TheVariants as kinds
 use Rattle.file_tree.specs.Kinds.{kind_byte}

@@ -1,8 +1,8 @@
 -- How a command ends that stops early, and the postconditions of such ends.
 -- No clause of the card's calls names this.
 use Rattle.std.specs.Prelude.{◌≡◌, Option, Some, None, Result, Ok, Err}
-use Rattle.card_state.specs.declared.status.Sw.{Sw}
-use Rattle.card_state.specs.declared.status.TheConstants.Sw.{METHOD_BLOCKED}
+use Rattle.card_model.specs.declared.status.Sw.{Sw}
+use Rattle.card_model.specs.declared.status.TheConstants.Sw.{METHOD_BLOCKED}
 use Rattle.undo_journal.specs.declared.error.StoreErr.{StoreErr}
 use Rattle.undo_journal.specs.StoreCalls.{Reads}
 use Rattle.undo_journal.specs.Memory.{Memory}

@@ -8,12 +8,12 @@ use Rattle.file_tree.specs.Table.{table, entry_in, IsFileEntry}
 use Rattle.undo_journal.specs.Memory.{Memory, committed, IsReady}
 use Rattle.card_model.specs.declared.requests.Returned.{Returned}
 use Rattle.card_model.specs.declared.requests.Returned.TheVariants.{Template, Nothing}
-use Rattle.card_state.specs.declared.fcp.Fcp.{Fcp}
-use Rattle.card_state.specs.declared.fcp.FileKind.{FileKind}
-use Rattle.card_state.specs.declared.fcp.FileKind.TheVariants as kinds
-use Rattle.card_state.specs.declared.fcp.Records.{Records as RecordsTold}
-use Rattle.card_state.specs.declared.fcp.ShortIdentifier.{ShortIdentifier}
-use Rattle.card_state.specs.declared.fcp.ShortIdentifier.TheVariants as shorts
+use Rattle.card_model.specs.declared.fcp.Fcp.{Fcp}
+use Rattle.card_model.specs.declared.fcp.FileKind.{FileKind}
+use Rattle.card_model.specs.declared.fcp.FileKind.TheVariants as kinds
+use Rattle.card_model.specs.declared.fcp.Records.{Records as RecordsTold}
+use Rattle.card_model.specs.declared.fcp.ShortIdentifier.{ShortIdentifier}
+use Rattle.card_model.specs.declared.fcp.ShortIdentifier.TheVariants as shorts
 use Rattle.card_model.specs.Templates.{fcp_text}
 
 -- a used entry whose file has a template

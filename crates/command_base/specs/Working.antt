@@ -4,7 +4,7 @@ use Rattle.undo_journal.specs.Memory.{Memory, committed, IsReady}
 use Rattle.file_tree.specs.declared.entry.Entry.{Entry}
 use Rattle.file_tree.specs.declared.kinds.EntryKind.TheVariants.{Dedicated, Transparent}
 use Rattle.file_tree.specs.Kinds.{kind_byte}
-use Rattle.card_state.specs.declared.space.FreeSpace.{FreeSpace}
+use Rattle.card_model.specs.declared.space.FreeSpace.{FreeSpace}
 use Rattle.file_tree.specs.Table.{table, entry_in, path_of, IsChild, IsUsed}
 use Rattle.file_tree.specs.Indexes.{IsIndex}
 use Rattle.file_tree.specs.declared.index.Index.{Index}

@@ -8,7 +8,7 @@ ghost use Rattle.command_base.specs.Working.{card_in, disabled_in, session_in, t
 
 use crate::current::Current;
 use crate::target_file::TargetFile;
-use card_state::{AccessBit, PinNumber, PinSet};
+use card_model::{AccessBit, PinNumber, PinSet};
 use file_lookup::is_allowed_at;
 use pin_store::{Secret, is_enabled};
 use undo_journal::{Board, Store, StoreErr};

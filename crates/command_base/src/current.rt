@@ -4,7 +4,7 @@ ghost use Rattle.command_base.specs.CurrentFiles.{current_at, current_by, fresh_
 ghost use Rattle.command_base.specs.CurrentFiles.{pointer_from, pointing_from, tried_from, unverifies};
 
 use apdu_core::Target;
-use card_state::{PinNumber, PinSet};
+use card_model::{PinNumber, PinSet};
 use file_tree::{Entry, EntryHead, EntryNumber};
 use pin_store::Outcome;
 

@@ -4,7 +4,7 @@ ghost use Rattle.card_model.specs.Guards.{asks_less, given, right_length};
 
 use apdu_core::{Answer, Sw};
 use arrayvec::ArrayVec;
-use card_state::limits::MOST_ANSWER_DATA;
+use card_model::limits::MOST_ANSWER_DATA;
 
 /// The response data of a command, at most 256 bytes.
 pub type ResponseData = ArrayVec<u8, MOST_ANSWER_DATA>;

@@ -5,10 +5,10 @@ use Rattle.std.proofs.Common.{Some, None, refl, sym, ◌∙◌, ap, ap₂, subst
 use Rattle.std.specs.FinMap.{insert}
 use Rattle.nvm_board.specs.Facts.{IsMemory}
 use Rattle.nvm_board.specs.laws.Sizes.{memory_same}
-use Rattle.card_state.specs.declared.status.Sw.{Sw}
-use Rattle.card_state.specs.declared.status.TheConstants.Sw.{DONE}
-use Rattle.card_state.specs.declared.access_mode.AccessBit.{AccessBit}
-use Rattle.card_state.specs.declared.access_mode.AccessBit.TheVariants.{Read, Update}
+use Rattle.card_model.specs.declared.status.Sw.{Sw}
+use Rattle.card_model.specs.declared.status.TheConstants.Sw.{DONE}
+use Rattle.card_model.specs.declared.access_mode.AccessBit.{AccessBit}
+use Rattle.card_model.specs.declared.access_mode.AccessBit.TheVariants.{Read, Update}
 use Rattle.undo_journal.specs.declared.error.StoreErr.{StoreErr}
 use Rattle.undo_journal.specs.StoreCalls.{OnlyReads}
 use Rattle.undo_journal.specs.Commits.{CommitsByGate}
@@ -29,7 +29,7 @@ use Rattle.std.specs.Result.{IsErrAnd}
 use Rattle.command_base.specs.declared.stop.Stop.{Stop}
 use Rattle.command_base.specs.Stops.{reply, stop_of_body}
 use Rattle.file_tree.specs.declared.entry.Entry.{Entry}
-use Rattle.card_state.specs.FileTrees.{Kind, Tree, File, file_at, overwrite, with_bytes, file_bytes as bytes_in}
+use Rattle.card_model.specs.FileTrees.{Kind, Tree, File, file_at, overwrite, with_bytes, file_bytes as bytes_in}
 use Rattle.file_tree.specs.TreeChanges.{Rewrites}
 use Rattle.file_tree.specs.Entries.{free_entry}
 use Rattle.command_base.specs.laws.CardLaws.{card_space_is}

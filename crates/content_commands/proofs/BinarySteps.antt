@@ -1,8 +1,8 @@
 -- What READ BINARY and UPDATE BINARY do, on any card.
 use Rattle.std.proofs.Common.{◌≡◌, ℕ, List, [], ◌∷◌, drop, Some, None, ◌∙◌, ap}
-use Rattle.card_state.specs.declared.access_mode.AccessBit.TheVariants.{Read, Update}
-use Rattle.card_state.specs.declared.status.Sw.{Sw}
-use Rattle.card_state.specs.declared.status.TheConstants.Sw.{DONE}
+use Rattle.card_model.specs.declared.access_mode.AccessBit.TheVariants.{Read, Update}
+use Rattle.card_model.specs.declared.status.Sw.{Sw}
+use Rattle.card_model.specs.declared.status.TheConstants.Sw.{DONE}
 use Rattle.card_model.specs.declared.requests.Target.{Target}
 use Rattle.card_model.specs.Requests.{read_binary, update_binary}
 use Rattle.ef_contents.specs.Refusals.{overlong, past_end}

@@ -3,9 +3,9 @@ use Rattle.std.proofs.Common.{◌≡◌, ◌⊎◌, ◌≤◌, ◌+◌, ◌++◌
 use Rattle.std.proofs.Common.{None, Some, Result, Ok, refl, sym, ◌∙◌, ap, subst, arith}
 use Rattle.std.specs.Result.{IsErrAnd}
 use Rattle.nvm_board.specs.Facts.{IsMemory}
-use Rattle.card_state.specs.declared.access_mode.AccessBit.TheVariants.{Update}
-use Rattle.card_state.specs.declared.status.Sw.{Sw}
-use Rattle.card_state.specs.declared.status.TheConstants.Sw.{DONE}
+use Rattle.card_model.specs.declared.access_mode.AccessBit.TheVariants.{Update}
+use Rattle.card_model.specs.declared.status.Sw.{Sw}
+use Rattle.card_model.specs.declared.status.TheConstants.Sw.{DONE}
 use Rattle.undo_journal.specs.declared.error.StoreErr.{StoreErr}
 use Rattle.undo_journal.specs.StoreCalls.{Changes, OnlyReads, Reads}
 use Rattle.undo_journal.specs.Commits.{CommitsByGate}
@@ -19,8 +19,8 @@ use Rattle.ef_body.specs.declared.layout.TheConstants.{RECORD_WRITES}
 use Rattle.ef_body.specs.Bodies.{cyclic_body_records, IsCyclic}
 use Rattle.ef_body.specs.BodyChanges.{CyclicBecomes}
 use Rattle.ef_body.specs.RingCalls.{ReceivesSum}
-use Rattle.card_state.specs.RecordLists.{spelled, front, raised_number}
-use Rattle.card_state.specs.laws.Spelling.{length-spelled}
+use Rattle.card_model.specs.RecordLists.{spelled, front, raised_number}
+use Rattle.card_model.specs.laws.Spelling.{length-spelled}
 use Rattle.ef_contents.specs.Refusals.{unraised}
 use Rattle.command_base.specs.declared.current.Current.{Current}
 use Rattle.command_base.specs.declared.target_file.Need.{Need}

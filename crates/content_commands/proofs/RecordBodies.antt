@@ -9,7 +9,7 @@ use Rattle.block_chain.specs.BlockWords.{page_words}
 use Rattle.block_chain.specs.laws.Words.{index-page_words}
 use Rattle.block_chain.specs.Chains.{chain_bytes, chain_of}
 use Rattle.block_chain.specs.laws.Bytes.{leads_blocks, length-bytes_of}
-use Rattle.card_state.specs.RecordLists.{record_of}
+use Rattle.card_model.specs.RecordLists.{record_of}
 use Rattle.ef_body.specs.declared.cyclic.Cyclic.{Cyclic as Ring}
 use Rattle.ef_body.specs.declared.slot.RecordSlot.{RecordSlot}
 use Rattle.ef_body.specs.Bodies.{cyclic_body_records, number_told, start_told, IsCyclic}
@@ -17,7 +17,7 @@ use Rattle.ef_contents.specs.Records.{linear_order, newest_first}
 use Rattle.ef_body.specs.laws.Lists.{at-newest_first, in_order-ring, length-newest_first}
 use Rattle.ef_contents.specs.laws.Slots.{length-slot, slot-within}
 use Rattle.file_tree.specs.declared.entry.Entry.{Entry}
-use Rattle.card_state.specs.FileTrees.{Body, Kind, transparent, linear, cyclic, dedicated, elementary}
+use Rattle.card_model.specs.FileTrees.{Body, Kind, transparent, linear, cyclic, dedicated, elementary}
 use Rattle.file_tree.specs.Entries.{file_of, free_entry, entry_capacity, name_of}
 use Rattle.file_tree.specs.Entries.{linear_records as linear_of, cyclic_records as cyclic_of}
 use Rattle.file_tree.specs.Table.{table, entry_in, IsRecordBody, IsUsed}

@@ -20,7 +20,7 @@ use Rattle.ef_body.specs.Bodies.{cyclic_body_records, number_told, start_told, I
 use Rattle.ef_body.specs.BodyChanges.{OnlyBody}
 use Rattle.ef_body.specs.laws.Lists.{length-newest_first}
 use Rattle.file_tree.specs.declared.entry.Entry.{Entry}
-use Rattle.card_state.specs.FileTrees.{Kind, File, Tree, elementary, file_at}
+use Rattle.card_model.specs.FileTrees.{Kind, File, Tree, elementary, file_at}
 use Rattle.file_tree.specs.TreeChanges.{KeepsRest}
 use Rattle.file_tree.specs.Entries.{entry_capacity, extent_told, file_of, free_entry, high, low}
 use Rattle.card_model.specs.Cards.{card_space}

@@ -3,12 +3,12 @@ use Rattle.std.proofs.Common.{◌≡◌, ◌==◌, ◌&&◌, ℕ, Bool, true, fa
 use Rattle.std.proofs.Common.{None, Ok, if◌then◌else◌, refl, sym, ◌∙◌, ap, subst}
 use Rattle.std.specs.FinSet.{empty}
 use Rattle.nvm_board.specs.Facts.{IsMemory}
-use Rattle.card_state.specs.declared.access_mode.AccessBit.TheVariants.{Read}
-use Rattle.card_state.specs.declared.status.Sw.{Sw}
-use Rattle.card_state.specs.declared.status.TheConstants.Sw.{DONE, RECORD_NOT_FOUND}
+use Rattle.card_model.specs.declared.access_mode.AccessBit.TheVariants.{Read}
+use Rattle.card_model.specs.declared.status.Sw.{Sw}
+use Rattle.card_model.specs.declared.status.TheConstants.Sw.{DONE, RECORD_NOT_FOUND}
 use Rattle.card_model.specs.declared.requests.Target.{Target}
 use Rattle.card_model.specs.declared.requests.Target.TheVariants.{Current, Short}
-use Rattle.card_state.specs.declared.direction.Direction.{Direction}
+use Rattle.card_model.specs.declared.direction.Direction.{Direction}
 use Rattle.card_model.specs.declared.requests.RecordChoice.{RecordChoice}
 use Rattle.card_model.specs.declared.requests.RecordChoice.TheVariants.{Next, Previous, At}
 use Rattle.card_model.specs.declared.requests.RecordPlace.{RecordPlace}
@@ -21,7 +21,7 @@ use Rattle.command_base.specs.CurrentFiles.{pointer_from, pointing_from}
 use Rattle.ef_body.specs.declared.cyclic.Cyclic.{Cyclic as Ring}
 use Rattle.ef_body.specs.declared.slot.RecordSlot.{RecordSlot}
 use Rattle.ef_body.specs.Bodies.{cyclic_body_records, IsCyclic}
-use Rattle.card_state.specs.RecordLists.{has_record, record_of, records_found as found_in}
+use Rattle.card_model.specs.RecordLists.{has_record, record_of, records_found as found_in}
 use Rattle.ef_contents.specs.Refusals.{missing_record}
 use Rattle.file_tree.specs.Table.{table, path_of, IsUsed}
 use Rattle.file_tree.specs.Trees.{file_in}

@@ -3,13 +3,13 @@ use Rattle.std.proofs.Common.{◌≡◌, ◌||◌, ◌+◌, ◌^◌, ◌≤◌, 
 use Rattle.std.proofs.Common.{List, [], ◌∷◌, ◌++◌, length, Option, Some, None, if◌then◌else◌, refl, ◌∙◌, ap}
 use Rattle.std.proofs.lemmas.Bool.{ltb-false}
 use Rattle.nvm_board.specs.Facts.{IsMemory}
-use Rattle.card_state.specs.declared.access_mode.AccessBit.TheVariants.{Update}
-use Rattle.card_state.specs.declared.status.Sw.{Sw}
-use Rattle.card_state.specs.declared.status.TheConstants.Sw.{DONE, MAXIMUM_REACHED, RECORD_NOT_FOUND, WRONG_LENGTH}
+use Rattle.card_model.specs.declared.access_mode.AccessBit.TheVariants.{Update}
+use Rattle.card_model.specs.declared.status.Sw.{Sw}
+use Rattle.card_model.specs.declared.status.TheConstants.Sw.{DONE, MAXIMUM_REACHED, RECORD_NOT_FOUND, WRONG_LENGTH}
 use Rattle.card_model.specs.Requests.{increase}
 use Rattle.card_model.specs.declared.requests.Target.TheVariants as target
 use Rattle.ef_body.specs.Bodies.{cyclic_body_records}
-use Rattle.card_state.specs.RecordLists.{spelled, front, has_record, raised_number}
+use Rattle.card_model.specs.RecordLists.{spelled, front, has_record, raised_number}
 use Rattle.ef_contents.specs.Refusals.{unraised}
 use Rattle.file_tree.specs.Table.{table}
 use Rattle.command_base.specs.declared.current.Current.{Current}

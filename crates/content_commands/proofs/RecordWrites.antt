@@ -5,9 +5,9 @@ use Rattle.std.proofs.Common.{length, Option, Some, None, Result, Ok, if◌then�
 use Rattle.std.proofs.Common.{inl, inr, ⊎_elim}
 use Rattle.std.specs.Result.{IsErrAnd}
 use Rattle.nvm_board.specs.Facts.{IsMemory}
-use Rattle.card_state.specs.declared.access_mode.AccessBit.TheVariants.{Append, Update}
-use Rattle.card_state.specs.declared.status.Sw.{Sw}
-use Rattle.card_state.specs.declared.status.TheConstants.Sw.{DONE, NO_ROOM, RECORD_NOT_FOUND, WRONG_LENGTH}
+use Rattle.card_model.specs.declared.access_mode.AccessBit.TheVariants.{Append, Update}
+use Rattle.card_model.specs.declared.status.Sw.{Sw}
+use Rattle.card_model.specs.declared.status.TheConstants.Sw.{DONE, NO_ROOM, RECORD_NOT_FOUND, WRONG_LENGTH}
 use Rattle.undo_journal.specs.declared.error.StoreErr.{StoreErr}
 use Rattle.undo_journal.specs.StoreCalls.{Changes, OnlyReads}
 use Rattle.undo_journal.specs.Commits.{CommitsByGate}
@@ -19,7 +19,7 @@ use Rattle.card_model.specs.declared.requests.RecordChoice.{RecordChoice}
 use Rattle.card_model.specs.declared.requests.RecordChoice.TheVariants.{Next, Previous, At}
 use Rattle.ef_body.specs.declared.cyclic.Cyclic.{Cyclic as Ring}
 use Rattle.ef_body.specs.Bodies.{cyclic_body_records}
-use Rattle.card_state.specs.RecordLists.{has_record}
+use Rattle.card_model.specs.RecordLists.{has_record}
 use Rattle.ef_body.specs.declared.layout.TheConstants.{RECORD_WRITES}
 use Rattle.file_tree.specs.Table.{table, entry_in}
 use Rattle.command_base.specs.declared.current.Current.{Current}

@@ -2,9 +2,9 @@
 use Rattle.std.specs.Prelude.{◌≡◌, ◌⊎◌, ◌+◌, ◌*◌, ◌==◌, ◌&&◌, ℕ, Bool, true, false, not}
 use Rattle.std.specs.Prelude.{nat_le, if◌then◌else◌}
 use Rattle.std.specs.Prelude.{◌-◌, ◌++◌, ◌∷◌, slice_set, List, [], length, Option, None, Some, ◌≤◌}
-use Rattle.card_state.specs.declared.access_mode.AccessBit.TheVariants.{Update}
-use Rattle.card_state.specs.declared.status.Sw.{Sw}
-use Rattle.card_state.specs.declared.status.TheConstants.Sw.{NO_ROOM, RECORD_NOT_FOUND, WRONG_LENGTH}
+use Rattle.card_model.specs.declared.access_mode.AccessBit.TheVariants.{Update}
+use Rattle.card_model.specs.declared.status.Sw.{Sw}
+use Rattle.card_model.specs.declared.status.TheConstants.Sw.{NO_ROOM, RECORD_NOT_FOUND, WRONG_LENGTH}
 use Rattle.card_model.specs.declared.requests.Target.{Target}
 use Rattle.file_tree.specs.declared.entry.Entry.{Entry}
 use Rattle.file_tree.specs.Entries.{entry_capacity}
@@ -14,7 +14,7 @@ use Rattle.card_model.specs.declared.requests.RecordChoice.{RecordChoice}
 use Rattle.card_model.specs.declared.requests.RecordChoice.TheVariants.{Next, Previous, At}
 use Rattle.ef_body.specs.declared.cyclic.Cyclic.{Cyclic as Ring}
 use Rattle.ef_body.specs.BodyChanges.{CyclicBecomes, RecordsBecome}
-use Rattle.card_state.specs.RecordLists.{front}
+use Rattle.card_model.specs.RecordLists.{front}
 use Rattle.content_commands.specs.declared.record_file.RecordFile.{RecordFile}
 use Rattle.content_commands.specs.declared.record_file.Room.{Room}
 use Rattle.content_commands.specs.declared.record_file.Room.TheVariants as rooms

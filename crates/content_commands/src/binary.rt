@@ -9,8 +9,8 @@ ghost use Rattle.card_model.specs.BinaryCommands.{end_status};
 
 use apdu_core::{Answer, BinaryPlace, Sw};
 use block_chain::Chain;
-use card_state::AccessBit;
-use card_state::limits::MOST_ANSWER_DATA;
+use card_model::AccessBit;
+use card_model::limits::MOST_ANSWER_DATA;
 use command_base::{Current, Need, Stop, Structure, find_file};
 use ef_body::Transparent;
 use file_tree::Entry;

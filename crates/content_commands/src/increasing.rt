@@ -7,8 +7,8 @@ ghost use Rattle.command_base.specs.Working.{IsKept};
 
 use crate::records::find_records;
 use apdu_core::{Answer, Sw, Target};
-use card_state::AccessBit;
-use card_state::limits::MOST_ANSWER_DATA;
+use card_model::AccessBit;
+use card_model::limits::MOST_ANSWER_DATA;
 use command_base::{Current, Need, ResponseData, Stop, Structure, asks_less, give, right_length};
 use ef_body::Cyclic;
 use undo_journal::{Board, Store};

@@ -1,7 +1,7 @@
 //! Record files, and the checks of a command before it writes a record.
 ghost use Rattle.std.specs.Prelude.{◌≡◌, ◌≤◌, ◌⊎◌, ◌==◌, if◌then◌else◌, length, None, Some, IfOk};
 ghost use Rattle.std.specs.Result.{result_err};
-ghost use Rattle.card_state.specs.declared.status.TheConstants.Sw.{NO_ROOM};
+ghost use Rattle.card_model.specs.declared.status.TheConstants.Sw.{NO_ROOM};
 ghost use Rattle.undo_journal.specs.Memory.{committed};
 ghost use Rattle.ef_body.specs.declared.layout.TheConstants.{RECORD_WRITES};
 ghost use Rattle.ef_body.specs.Bodies.{cyclic_body_records};
@@ -19,7 +19,7 @@ ghost use Rattle.command_base.specs.TemplateParts.{IsToldEntry};
 
 use apdu_core::{RecordChoice, RecordPlace};
 use block_chain::Chain;
-use card_state::Sw;
+use card_model::Sw;
 use ef_body::{Cyclic, FreeSlot, RecordSlot};
 use file_tree::{Entry, EntryKind, EntryNumber, RECORDS_WORD, entry_address};
 use undo_journal::{Board, Store, StoreErr};

@@ -17,7 +17,7 @@ ghost use Rattle.card_model.specs.RecordCommands.{pointer_found, search_status};
 
 use crate::record_file::{RecordFile, pointer_after};
 use apdu_core::{Answer, RecordChoice, RecordPlace, Sw, Target};
-use card_state::{AccessBit, Direction};
+use card_model::{AccessBit, Direction};
 use command_base::{
     Current, Need, ResponseData, Stop, Structure, asks_less, find_file, give, right_length,
 };

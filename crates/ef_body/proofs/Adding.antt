@@ -9,8 +9,8 @@ use Rattle.std.proofs.Math.Nat.{pow-succ'}
 use Rattle.std.specs.Prelude.{◌≡◌, ◌<◌, ◌≤◌, ◌+◌, ◌-◌, ◌*◌, ◌/◌, ◌%◌, ◌^◌, ℕ, zero, suc, Bool, List, ◌∷◌, length, All}
 use Rattle.std.specs.List.{refill}
 use Rattle.std.specs.Prelude.{take, ◌++◌, drop, slice_index, slice_set, nat_lt, not, ◌==◌, if◌then◌else◌}
-use Rattle.card_state.specs.RecordLists.{number_of}
-use Rattle.card_state.specs.laws.Numbers.{number-cons, number-nil}
+use Rattle.card_model.specs.RecordLists.{number_of}
+use Rattle.card_model.specs.laws.Numbers.{number-cons, number-nil}
 
 -- a byte of a number, by its place from the least significant one
 abbrev pub digit_of : List ℕ → ℕ → ℕ

@@ -5,11 +5,11 @@ use Rattle.std.specs.Prelude.{slice_set, take, drop}
 use Rattle.nvm_board.specs.Facts.{IsMemory}
 use Rattle.block_chain.specs.Chains.{chain_of, chain_bytes, bytes_of}
 use Rattle.block_chain.specs.ChainChanges.{Overwrites}
-use Rattle.card_state.specs.FileTrees.{overwrite}
+use Rattle.card_model.specs.FileTrees.{overwrite}
 use Rattle.block_chain.specs.laws.Bytes.{leads_blocks, length-bytes_of}
 use Rattle.ef_body.specs.declared.cyclic.Cyclic.{Cyclic}
 use Rattle.ef_contents.specs.Records.{slot_record, newest_first}
-use Rattle.card_state.specs.RecordLists.{front, record_of}
+use Rattle.card_model.specs.RecordLists.{front, record_of}
 use Rattle.ef_body.specs.Bodies.{counts_word, number_told, start_told, cyclic_body_records}
 use Rattle.ef_body.specs.Bodies.{IsCyclic}
 use Rattle.ef_body.specs.BodyChanges.{CyclicBecomes, RecordsBecome, PutsRecord}

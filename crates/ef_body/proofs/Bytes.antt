@@ -8,11 +8,11 @@ use Rattle.std.specs.Prelude.{◌≡◌, ◌<◌, ◌≤◌, ◌+◌, ◌-◌, �
 use Rattle.std.specs.Prelude.{List, [], ◌∷◌, length}
 use Rattle.std.specs.Prelude.{take, drop, min}
 use Rattle.std.specs.Prelude.{Option, Some, None, IsTrue, if◌then◌else◌, nat_le, nat_lt}
-use Rattle.card_state.specs.declared.status.Sw.{Sw}
-use Rattle.card_state.specs.declared.status.TheConstants.Sw.{WRONG_OFFSET, NO_ROOM}
+use Rattle.card_model.specs.declared.status.Sw.{Sw}
+use Rattle.card_model.specs.declared.status.TheConstants.Sw.{WRONG_OFFSET, NO_ROOM}
 use Rattle.block_chain.specs.Chains.{chain_of, chain_bytes, bytes_of}
 use Rattle.block_chain.specs.ChainChanges.{Overwrites}
-use Rattle.card_state.specs.FileTrees.{overwrite}
+use Rattle.card_model.specs.FileTrees.{overwrite}
 use Rattle.block_chain.specs.ChainParts.{byte_over}
 use Rattle.block_chain.specs.laws.Bytes.{leads_blocks, length-bytes_of}
 use Rattle.block_chain.specs.laws.Overwriting.{index-overwrite, length-overwrite}

@@ -9,8 +9,8 @@ use Rattle.std.specs.Prelude.{◌≡◌, ◌<◌, ◌≤◌, ◌+◌, ℕ, Bool,
 use Rattle.std.specs.Prelude.{drop}
 use Rattle.std.specs.Prelude.{slice_index, nat_eq}
 use Rattle.std.specs.List.{filter, range_with_len, starts_with}
-use Rattle.card_state.specs.declared.direction.Direction.{Direction}
-use Rattle.card_state.specs.RecordLists.{stands_in, numbers_on, records_found, record_of}
+use Rattle.card_model.specs.declared.direction.Direction.{Direction}
+use Rattle.card_model.specs.RecordLists.{stands_in, numbers_on, records_found, record_of}
 use Rattle.block_chain.specs.ChainChanges.{AppendsSome}
 
 -- a text stands where it begins at some place

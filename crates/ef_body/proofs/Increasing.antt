@@ -6,8 +6,8 @@ use Rattle.std.specs.Prelude.{◌≡◌, ◌<◌, ◌≤◌, ◌+◌, ◌^◌, �
 use Rattle.std.specs.Prelude.{[], length, All, Option, Some, None, option_map, if◌then◌else◌, nat_le, min}
 use Rattle.std.specs.Prelude.{Result, Ok, Err, IsErrAnd}
 use Rattle.std.specs.Result.{result_err}
-use Rattle.card_state.specs.declared.status.Sw.{Sw}
-use Rattle.card_state.specs.declared.status.TheConstants.Sw.{RECORD_NOT_FOUND, MAXIMUM_REACHED}
+use Rattle.card_model.specs.declared.status.Sw.{Sw}
+use Rattle.card_model.specs.declared.status.TheConstants.Sw.{RECORD_NOT_FOUND, MAXIMUM_REACHED}
 use Rattle.undo_journal.specs.declared.error.StoreErr.{StoreErr}
 use Rattle.undo_journal.specs.laws.Exits.{ok_anyway}
 use Rattle.block_chain.specs.ChainChanges.{AppendsSome}
@@ -17,9 +17,9 @@ use Rattle.ef_body.specs.declared.cyclic.Cyclic.{Cyclic}
 use Rattle.ef_body.specs.Bodies.{cyclic_body_records}
 use Rattle.ef_body.specs.RingCalls.{ReceivesSum}
 use Rattle.ef_body.specs.BodyChanges.{CyclicBecomes, Increases}
-use Rattle.card_state.specs.RecordLists.{has_record, record_of, front, number_of, spelled, raised_number}
+use Rattle.card_model.specs.RecordLists.{has_record, record_of, front, number_of, spelled, raised_number}
 use Rattle.ef_contents.specs.Refusals.{missing_record, unraised, DecidesUnlessFailed}
-use Rattle.card_state.specs.laws.Numbers.{number-small, spelled-number}
+use Rattle.card_model.specs.laws.Numbers.{number-small, spelled-number}
 use Rattle.ef_contents.specs.laws.Refusing.{store_refuses, there}
 
 -- at most as many records as there is room for

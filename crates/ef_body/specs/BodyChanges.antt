@@ -9,9 +9,9 @@ use Rattle.block_chain.specs.Chains.{chain_of, chain_bytes}
 use Rattle.block_chain.specs.ChainChanges.{touched_words}
 use Rattle.chain_bytes.specs.Writes.{batch_count, run_count}
 use Rattle.block_chain.specs.declared.layout.TheConstants.{WORD_BYTES}
-use Rattle.card_state.specs.FileTrees.{overwrite}
+use Rattle.card_model.specs.FileTrees.{overwrite}
 use Rattle.ef_body.specs.declared.cyclic.Cyclic.{Cyclic}
-use Rattle.card_state.specs.RecordLists.{front, spelled, raised_number}
+use Rattle.card_model.specs.RecordLists.{front, spelled, raised_number}
 use Rattle.ef_body.specs.Bodies.{cyclic_body_records, start_told}
 
 -- Only the content words of these blocks and the word at this address may change.

@@ -1,12 +1,12 @@
 -- The postconditions of calls on a ring of slots: a lookup, and the sum of INCREASE.
 use Rattle.std.specs.Prelude.{◌≡◌, ◌⊎◌, ℕ, List, [], length, Result, IfOk, OnOk}
 use Rattle.std.specs.Result.{result_err}
-use Rattle.card_state.specs.declared.status.Sw.{Sw}
+use Rattle.card_model.specs.declared.status.Sw.{Sw}
 use Rattle.block_chain.specs.ChainChanges.{AppendsSome}
 use Rattle.ef_body.specs.declared.cyclic.Cyclic.{Cyclic}
 use Rattle.ef_contents.specs.declared.error.BodyErr.{BodyErr}
 use Rattle.ef_body.specs.declared.slot.RecordSlot.{RecordSlot}
-use Rattle.card_state.specs.RecordLists.{spelled, record_of, raised_number}
+use Rattle.card_model.specs.RecordLists.{spelled, record_of, raised_number}
 use Rattle.ef_contents.specs.Refusals.{missing_record, unraised, DecidesUnlessFailed, WhereRefused}
 
 -- The lookup of a record in a ring finds it, unless there is none.

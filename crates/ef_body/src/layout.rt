@@ -1,5 +1,5 @@
 //! Limits of records.
-use card_state::limits;
+use card_model::limits;
 
 /// The greatest record length in bytes, as a length.
 pub const MOST_RECORD_BYTES: usize = limits::MOST_RECORD_BYTES as usize;

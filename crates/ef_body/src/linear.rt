@@ -13,7 +13,7 @@ use crate::cyclic::Cyclic;
 use crate::record_body::RecordBody;
 use crate::slot::FreeSlot;
 use block_chain::Chain;
-use card_state::Sw;
+use card_model::Sw;
 use ef_contents::{BodyErr, from_store};
 use undo_journal::{Board, Store};
 

@@ -1,7 +1,7 @@
 //! Numbers as bytes, the most significant byte first.
 ghost use Rattle.std.specs.Prelude.{◌≡◌, ◌≤◌, ◌<◌, ◌+◌, ◌-◌, ◌^◌, length, slice_index, nat_lt, if◌then◌else◌};
 ghost use Rattle.std.specs.Prelude.{All};
-ghost use Rattle.card_state.specs.RecordLists.{number_of};
+ghost use Rattle.card_model.specs.RecordLists.{number_of};
 
 use arrayvec::ArrayVec;
 

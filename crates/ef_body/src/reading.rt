@@ -1,7 +1,7 @@
 //! Reading records.
 ghost use Rattle.std.specs.Prelude.{◌≤◌, OnOk};
 ghost use Rattle.undo_journal.specs.Memory.{committed};
-ghost use Rattle.card_state.specs.RecordLists.{record_of};
+ghost use Rattle.card_model.specs.RecordLists.{record_of};
 ghost use Rattle.ef_body.specs.Bodies.{cyclic_body_records};
 ghost use Rattle.ef_body.specs.StoredBodies.{HasRecords};
 ghost use Rattle.ef_contents.specs.BodyCalls.{ReadsInto};

@@ -2,7 +2,7 @@
 ghost use Rattle.std.specs.Prelude.{◌≡◌, ◌≤◌, ℕ, List, refl};
 ghost use Rattle.undo_journal.specs.Memory.{committed, IsReady};
 ghost use Rattle.ef_body.specs.declared.cyclic.Cyclic.{Cyclic};
-ghost use Rattle.card_state.specs.RecordLists.{record_of, records_found};
+ghost use Rattle.card_model.specs.RecordLists.{record_of, records_found};
 ghost use Rattle.ef_contents.specs.Refusals.{missing_record};
 ghost use Rattle.ef_body.specs.Bodies.{cyclic_body_records, IsCyclic};
 ghost use Rattle.ef_contents.specs.BodyCalls.{ReadsUnlessRefused};
@@ -11,7 +11,7 @@ ghost use Rattle.ef_body.specs.RingCalls.{FindsRecord};
 use crate::cyclic::Cyclic;
 use crate::slot::RecordSlot;
 use arrayvec::ArrayVec;
-use card_state::{Direction, Sw};
+use card_model::{Direction, Sw};
 use ef_contents::{BodyErr, from_store};
 use undo_journal::{Board, Store};
 

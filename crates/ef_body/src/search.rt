@@ -4,7 +4,7 @@ ghost use Rattle.std.specs.Prelude.{slice_index};
 ghost use Rattle.std.specs.List.{starts_with};
 ghost use Rattle.undo_journal.specs.Memory.{committed};
 ghost use Rattle.undo_journal.specs.StoreCalls.{Learns};
-ghost use Rattle.card_state.specs.RecordLists.{record_of, stands_in, numbers_on, records_found};
+ghost use Rattle.card_model.specs.RecordLists.{record_of, stands_in, numbers_on, records_found};
 ghost use Rattle.ef_body.specs.Bodies.{cyclic_body_records};
 ghost use Rattle.ef_body.specs.StoredBodies.{HasRecords};
 ghost use Rattle.ef_contents.specs.BodyCalls.{ReadsInto};
@@ -15,7 +15,7 @@ use crate::cyclic::Cyclic;
 use crate::layout::MOST_RECORD_BYTES;
 use crate::slot::RecordSlot;
 use arrayvec::ArrayVec;
-use card_state::Direction;
+use card_model::Direction;
 use memchr::memchr;
 use undo_journal::{Board, Store, StoreErr};
 

@@ -2,7 +2,7 @@
 ghost use Rattle.std.specs.Prelude.{◌≡◌, ◌≤◌, ◌<◌, ◌+◌, ◌↔◌, min, length, take, drop, IsTrue, OnOk};
 ghost use Rattle.undo_journal.specs.Memory.{committed};
 ghost use Rattle.undo_journal.specs.Spending.{transaction_writes, WritesAtMost};
-ghost use Rattle.card_state.specs.FileTrees.{overwrite};
+ghost use Rattle.card_model.specs.FileTrees.{overwrite};
 ghost use Rattle.block_chain.specs.ChainChanges.{touched_blocks, touched_words};
 ghost use Rattle.chain_bytes.specs.Writes.{put_writes};
 ghost use Rattle.ef_contents.specs.Refusals.{past_end, overlong};
@@ -12,7 +12,7 @@ ghost use Rattle.ef_contents.specs.BodyCalls.{CommitsUnlessRefused, ReadsUnlessR
 
 use arrayvec::ArrayVec;
 use block_chain::Chain;
-use card_state::Sw;
+use card_model::Sw;
 use chain_bytes::{put_bytes, read_bytes};
 use ef_contents::{BodyErr, from_store};
 use undo_journal::{Board, Store};

@@ -8,7 +8,7 @@ ghost use Rattle.undo_journal.specs.declared.layout.TheConstants.{GATE};
 ghost use Rattle.block_chain.specs.ChainChanges.{touched_blocks, touched_words};
 ghost use Rattle.chain_bytes.specs.Writes.{put_writes};
 ghost use Rattle.ef_body.specs.declared.layout.TheConstants.{RECORD_WRITES, UPDATE_WRITES};
-ghost use Rattle.card_state.specs.RecordLists.{front};
+ghost use Rattle.card_model.specs.RecordLists.{front};
 ghost use Rattle.ef_body.specs.Bodies.{counts_word, cyclic_body_records};
 ghost use Rattle.ef_body.specs.StoredBodies.{TakesRecord, TakesFront};
 ghost use Rattle.chain_bytes.specs.Updates.{TakesBytes};

@@ -1,7 +1,7 @@
 -- The postconditions of calls on bodies: for the buffer, the store and its committed words.
 use Rattle.std.specs.Prelude.{◌≡◌, ◌⊎◌, ℕ, Option, List, [], Result, OnOk}
 use Rattle.std.specs.Result.{result_err}
-use Rattle.card_state.specs.declared.status.Sw.{Sw}
+use Rattle.card_model.specs.declared.status.Sw.{Sw}
 use Rattle.undo_journal.specs.declared.error.StoreErr.{StoreErr}
 use Rattle.undo_journal.specs.StoreCalls.{Reads, Changes}
 use Rattle.undo_journal.specs.Commits.{CommitsByGate}

@@ -1,11 +1,11 @@
 -- The refusals of calls on bodies, and their relation to the result.
 use Rattle.std.specs.Prelude.{◌≡◌, Option, None, Some, ◌+◌, ◌^◌, ℕ, List, length, nat_le, nat_lt, if◌then◌else◌}
-use Rattle.card_state.specs.declared.status.Sw.{Sw}
+use Rattle.card_model.specs.declared.status.Sw.{Sw}
 use Rattle.undo_journal.specs.declared.error.StoreErr.{StoreErr}
 use Rattle.ef_contents.specs.declared.error.BodyErr.{BodyErr}
 use Rattle.ef_contents.specs.declared.error.BodyErr.TheVariants.{Refused, Store}
-use Rattle.card_state.specs.declared.status.TheConstants.Sw.{RECORD_NOT_FOUND, NO_ROOM, WRONG_OFFSET, MAXIMUM_REACHED}
-use Rattle.card_state.specs.RecordLists.{has_record, raised_number}
+use Rattle.card_model.specs.declared.status.TheConstants.Sw.{RECORD_NOT_FOUND, NO_ROOM, WRONG_OFFSET, MAXIMUM_REACHED}
+use Rattle.card_model.specs.RecordLists.{has_record, raised_number}
 
 -- The result is a refusal with this status word exactly if the refusal applies.
 abbrev pub Decides : Option Sw → Option BodyErr → Type 0

@@ -3,7 +3,7 @@ ghost use Rattle.std.specs.Prelude.{◌≡◌, option_map};
 ghost use Rattle.std.specs.Result.{result_err};
 ghost use Rattle.ef_contents.specs.declared.error.BodyErr.TheVariants.{Refused, Store};
 
-use card_state::Sw;
+use card_model::Sw;
 use undo_journal::StoreErr;
 
 /// The reason why a call on a body fails.

@@ -6,7 +6,7 @@ use Rattle.std.specs.Prelude.{MatchOption, ◌↔◌, if◌then◌else◌}
 use Rattle.std.proofs.lemmas.Bool.{cases_lt, lt-leb, le-leb, eqb-true, leb-true, and_parts}
 use Rattle.std.proofs.lemmas.Bool.Decides.{nat_tests}
 use Rattle.std.proofs.lemmas.List.{take-append-drop, length-append, length-take, length-drop}
-use Rattle.card_state.specs.declared.fcp.Fcp.{Fcp}
+use Rattle.card_model.specs.declared.fcp.Fcp.{Fcp}
 use Rattle.card_model.specs.declared.fault.FcpFault.{FcpFault}
 use Rattle.card_model.specs.declared.fault.FcpFault.TheVariants.{Shape}
 use Rattle.card_model.specs.TemplateGrammar.{DataObject, object_text, objects_text, IsTemplate, meaning, FcpReads}

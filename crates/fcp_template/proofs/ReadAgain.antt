@@ -6,18 +6,18 @@ use Rattle.std.proofs.lemmas.Bool.Decides.{nat_tests}
 use Rattle.std.proofs.lemmas.Grind.{common_steps}
 use Rattle.std.proofs.lemmas.List.{length-append}
 use Rattle.std.proofs.Math.Nat.{div-add-mod}
-use Rattle.card_state.specs.declared.life_cycle.LifeCycle.{LifeCycle}
-use Rattle.card_state.specs.declared.life_cycle.LifeCycle.TheVariants.{Creation, Initialisation, Deactivated, Activated}
-use Rattle.card_state.specs.declared.life_cycle.LifeCycle.TheVariants.{Terminated}
-use Rattle.card_state.specs.LifeCycle.{life_cycle_byte}
-use Rattle.card_state.specs.Rule.{is_rule}
-use Rattle.card_state.specs.laws.Rules.{length-rule}
-use Rattle.card_state.specs.declared.fcp.Fcp.{Fcp}
-use Rattle.card_state.specs.declared.fcp.FileKind.{FileKind}
-use Rattle.card_state.specs.declared.fcp.FileKind.TheVariants as kinds
-use Rattle.card_state.specs.declared.fcp.Records.{Records}
-use Rattle.card_state.specs.declared.fcp.ShortIdentifier.{ShortIdentifier}
-use Rattle.card_state.specs.declared.fcp.ShortIdentifier.TheVariants.{Absent, Empty, Given}
+use Rattle.card_model.specs.declared.life_cycle.LifeCycle.{LifeCycle}
+use Rattle.card_model.specs.declared.life_cycle.LifeCycle.TheVariants.{Creation, Initialisation, Deactivated, Activated}
+use Rattle.card_model.specs.declared.life_cycle.LifeCycle.TheVariants.{Terminated}
+use Rattle.card_model.specs.LifeCycle.{life_cycle_byte}
+use Rattle.card_model.specs.Rule.{is_rule}
+use Rattle.card_model.specs.laws.Rules.{length-rule}
+use Rattle.card_model.specs.declared.fcp.Fcp.{Fcp}
+use Rattle.card_model.specs.declared.fcp.FileKind.{FileKind}
+use Rattle.card_model.specs.declared.fcp.FileKind.TheVariants as kinds
+use Rattle.card_model.specs.declared.fcp.Records.{Records}
+use Rattle.card_model.specs.declared.fcp.ShortIdentifier.{ShortIdentifier}
+use Rattle.card_model.specs.declared.fcp.ShortIdentifier.TheVariants.{Absent, Empty, Given}
 use Rattle.card_model.specs.declared.descriptor.Structure.{Structure}
 use Rattle.card_model.specs.declared.descriptor.Structure.TheVariants.{Linear, Cyclic}
 use Rattle.card_model.specs.declared.descriptor.Descriptor.{Descriptor}
@@ -28,7 +28,7 @@ use Rattle.card_model.specs.TemplateGrammar.{number_read, size_of, records_read,
 use Rattle.card_model.specs.TemplateGrammar.{value_at, data_bytes, is_missing, is_twice, has_unknown, df_of}
 use Rattle.card_model.specs.TemplateGrammar.{transparent_of, structured, record_file_of, kind_read, fcp_of, meaning}
 use Rattle.card_model.specs.TemplateGrammar.{FcpReads}
-use Rattle.card_state.specs.FileControl.{IsShort, IsSize, IsRecords, IsKind}
+use Rattle.card_model.specs.FileControl.{IsShort, IsSize, IsRecords, IsKind}
 use Rattle.card_model.specs.Templates.{IsShortSaid, IsInFull, in_two_bytes, short_value, fcp_objects, fcp_text}
 
 -- ---- each field

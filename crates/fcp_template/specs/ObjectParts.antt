@@ -1,6 +1,6 @@
 -- The objects of a template, without its tag and its length. No public clause uses these definitions.
 use Rattle.std.specs.Prelude.{ℕ, ◌≡◌, ◌≤◌, ◌⊎◌, ◌∷◌, List, length, Result, Err}
-use Rattle.card_state.specs.declared.fcp.Fcp.{Fcp}
+use Rattle.card_model.specs.declared.fcp.Fcp.{Fcp}
 use Rattle.card_model.specs.declared.fault.FcpFault.{FcpFault}
 use Rattle.card_model.specs.declared.fault.FcpFault.TheVariants.{Shape}
 use Rattle.card_model.specs.TemplateGrammar.{DataObject, objects_text, meaning}

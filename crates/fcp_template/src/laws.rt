@@ -1,8 +1,8 @@
 //! Laws on templates of file control parameters.
 
 ghost use Rattle.std.specs.Prelude.{◌≡◌, ◌≢◌, ◌↔◌, ℕ, List, Result, Ok, IsPermutation};
-ghost use Rattle.card_state.specs.declared.life_cycle.LifeCycle.TheVariants.{Terminated};
-ghost use Rattle.card_state.specs.declared.fcp.Fcp.{Fcp};
+ghost use Rattle.card_model.specs.declared.life_cycle.LifeCycle.TheVariants.{Terminated};
+ghost use Rattle.card_model.specs.declared.fcp.Fcp.{Fcp};
 ghost use Rattle.card_model.specs.declared.fault.FcpFault.{FcpFault};
 ghost use Rattle.card_model.specs.TemplateGrammar.{FcpReads, DataObject, IsTemplate, fcp_read};
 ghost use Rattle.card_model.specs.Templates.{IsInFull, fcp_text};

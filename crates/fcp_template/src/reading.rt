@@ -4,7 +4,7 @@ ghost use Rattle.std.specs.Prelude.{◌≡◌, ◌≢◌, ◌≤◌, ◌%◌, �
 ghost use Rattle.std.specs.Prelude.{nat_le, not};
 ghost use Rattle.std.specs.Option.{option_copied};
 ghost use Rattle.card_model.specs.declared.fault.FcpFault.{FcpFault};
-ghost use Rattle.card_state.specs.declared.fcp.Fcp.{Fcp};
+ghost use Rattle.card_model.specs.declared.fcp.Fcp.{Fcp};
 ghost use Rattle.fcp_template.specs.ObjectParts.{BodyReads};
 ghost use Rattle.fcp_template.specs.TagParts.{tag_byte};
 ghost use Rattle.card_model.specs.TemplateGrammar.{is_tag, identifier_of, name_read, short_read, number_read, size_of};
@@ -14,16 +14,18 @@ ghost use Rattle.card_model.specs.TemplateGrammar.{data_bytes, is_df_descriptor,
 ghost use Rattle.card_model.specs.TemplateGrammar.{is_missing, is_twice, has_unknown, df_of, transparent_of};
 ghost use Rattle.card_model.specs.TemplateGrammar.{◌>>=◌ as and_then, record_file_of, kind_read, fcp_of, meaning};
 ghost use Rattle.card_model.specs.TemplateGrammar.{FcpReads, fcp_read};
-ghost use Rattle.card_state.specs.FileControl.{IsShort, IsSize, IsDfName, IsRecords, IsKind, IsCreatable};
-ghost use Rattle.card_state.specs.declared.life_cycle.LifeCycle.TheVariants.{Terminated};
+ghost use Rattle.card_model.specs.FileControl.{IsShort, IsSize, IsDfName, IsRecords, IsKind, IsCreatable};
+ghost use Rattle.card_model.specs.declared.life_cycle.LifeCycle.TheVariants.{Terminated};
 
 use crate::descriptor::{DF, SHAREABLE_DF, descriptor_of};
 use crate::object::{FEW_OBJECTS, MOST_OBJECTS, Object, body_of, split};
 use crate::tag::{Tag, is_tag};
-use card_model::{Descriptor, FcpFault, Structure};
-use card_state::identifiers::{CURRENT_FILE, MASTER_FILE, RESERVED};
-use card_state::limits::{MOST_BYTES, MOST_RECORD_BYTES, MOST_RECORDS, MOST_SHORT};
-use card_state::{Compact, DfName, Fcp, FileKind, LifeCycle, Records, ShortIdentifier};
+use card_model::identifiers::{CURRENT_FILE, MASTER_FILE, RESERVED};
+use card_model::limits::{MOST_BYTES, MOST_RECORD_BYTES, MOST_RECORDS, MOST_SHORT};
+use card_model::{
+    Compact, Descriptor, DfName, Fcp, FcpFault, FileKind, LifeCycle, Records, ShortIdentifier,
+    Structure,
+};
 
 /// Returns the file control parameters of a text.
 /// Its objects may have any order.

@@ -3,7 +3,7 @@
 ghost use Rattle.std.specs.Prelude.{◌≡◌, ◌+◌, ◌≤◌, [], ◌∷◌, ◌++◌, length};
 ghost use Rattle.fcp_template.specs.TagParts.{tag_byte};
 ghost use Rattle.card_model.specs.TemplateGrammar.{object_text, objects_text};
-ghost use Rattle.card_state.specs.FileControl.{IsKind, IsShort};
+ghost use Rattle.card_model.specs.FileControl.{IsKind, IsShort};
 ghost use Rattle.card_model.specs.Templates.{IsInFull, data_object, in_two_bytes, short_value, descriptor_value};
 ghost use Rattle.card_model.specs.Templates.{kind_objects, fcp_objects, fcp_text};
 
@@ -13,8 +13,8 @@ use crate::descriptor::{
 use crate::object::BODY_LIMIT;
 use crate::tag::{TEMPLATE, Tag};
 use arrayvec::ArrayVec;
-use card_state::limits::MOST_ANSWER_DATA;
-use card_state::{Fcp, FileKind, Records, ShortIdentifier};
+use card_model::limits::MOST_ANSWER_DATA;
+use card_model::{Fcp, FileKind, Records, ShortIdentifier};
 
 /// The bytes of a template's objects.
 type Body = ArrayVec<u8, BODY_LIMIT>;

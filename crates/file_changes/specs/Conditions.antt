@@ -4,8 +4,8 @@ use Rattle.undo_journal.specs.Memory.{Memory, committed, IsReady}
 use Rattle.block_chain.specs.declared.chain.FreeRun.{FreeRun}
 use Rattle.block_chain.specs.ChainChanges.{IsFirstFree}
 use Rattle.block_chain.specs.Chains.{HasFree, free_chain}
-use Rattle.card_state.specs.declared.space.FreeSpace.{FreeSpace}
-use Rattle.card_state.specs.Spaces.{free_space}
+use Rattle.card_model.specs.declared.space.FreeSpace.{FreeSpace}
+use Rattle.card_model.specs.Spaces.{free_space}
 use Rattle.file_tree.specs.declared.entry.Entry.{Entry}
 use Rattle.file_tree.specs.declared.index.Index.{Index}
 use Rattle.file_tree.specs.declared.kinds.EntryKind.TheVariants.{Free, Dedicated}
@@ -15,8 +15,8 @@ use Rattle.file_tree.specs.Indexes.{IsIndex}
 use Rattle.file_tree.specs.Table.{table, entry_in}
 use Rattle.file_tree.specs.Trees.{tree_of, TreeStands}
 use Rattle.file_lookup.specs.StoredFiles.{HasFile}
-use Rattle.card_state.specs.FileControl.{IsCreatable}
-use Rattle.card_state.specs.declared.fcp.Fcp.{Fcp}
+use Rattle.card_model.specs.FileControl.{IsCreatable}
+use Rattle.card_model.specs.declared.fcp.Fcp.{Fcp}
 
 -- The number of an entry, and the entry of a file for it.
 pub record IsNewEntry (e : ℕ) (entry : Entry) : Type 0 where

@@ -2,11 +2,11 @@
 use Rattle.std.specs.Prelude.{◌≡◌, ◌≢◌, ◌==◌, ◌⊎◌, ◌<◌, ◌≤◌, ◌+◌, ◌-◌, ◌*◌, ℕ, if◌then◌else◌, List, ◌++◌, length}
 use Rattle.std.specs.Prelude.{take, replicate, Option, None, Some}
 use Rattle.nvm_board.specs.declared.board.TheConstants.{PAGE_WORDS}
-use Rattle.card_state.specs.LifeCycle.{life_cycle_byte}
-use Rattle.card_state.specs.declared.fcp.Fcp.{Fcp}
-use Rattle.card_state.specs.declared.fcp.FileKind.{FileKind}
-use Rattle.card_state.specs.declared.fcp.FileKind.TheVariants as kinds
-use Rattle.card_state.specs.FileControl.{size_of_kind, name_bytes}
+use Rattle.card_model.specs.LifeCycle.{life_cycle_byte}
+use Rattle.card_model.specs.declared.fcp.Fcp.{Fcp}
+use Rattle.card_model.specs.declared.fcp.FileKind.{FileKind}
+use Rattle.card_model.specs.declared.fcp.FileKind.TheVariants as kinds
+use Rattle.card_model.specs.FileControl.{size_of_kind, name_bytes}
 use Rattle.block_chain.specs.declared.layout.TheConstants.{BLOCK_BYTES}
 use Rattle.block_chain.specs.declared.chain.Chain.{Chain}
 use Rattle.block_chain.specs.BlockWords.{word, page_words}
@@ -17,11 +17,11 @@ use Rattle.file_tree.specs.declared.layout.TheConstants.{FIRST_ENTRY_PAGE}
 use Rattle.file_tree.specs.declared.entry.Entry.{Entry}
 use Rattle.file_changes.specs.declared.placing.Place.{Place}
 use Rattle.file_changes.specs.declared.placing.Place.TheVariants.{At, Refused}
-use Rattle.card_state.specs.Spaces.{blocks_for}
+use Rattle.card_model.specs.Spaces.{blocks_for}
 use Rattle.file_tree.specs.Entries.{entry_of}
 use Rattle.file_tree.specs.Table.{table, entry_in, ancestor, path_of}
 use Rattle.file_tree.specs.Trees.{tree_of}
-use Rattle.card_state.specs.NewFiles.{blank}
+use Rattle.card_model.specs.NewFiles.{blank}
 use Rattle.file_changes.specs.Creations.{kind_number}
 use Rattle.file_changes.specs.CreationRefusals.{taken_refusal, place_refusal, creation_refusal}
 use Rattle.file_tree.specs.Kinds.{kind_byte}

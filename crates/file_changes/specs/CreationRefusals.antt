@@ -1,14 +1,14 @@
 -- The refusals of a new file in a DF, in their order (ISO/IEC 7816-9, CREATE FILE).
 use Rattle.std.specs.Prelude.{◌==◌, ℕ, if◌then◌else◌}
 use Rattle.std.specs.Prelude.{[], ◌∷◌, ◌++◌, length, Option, None, Some}
-use Rattle.card_state.specs.declared.status.Sw.{Sw}
-use Rattle.card_state.specs.declared.status.TheConstants.Sw.{FILE_EXISTS, NAME_EXISTS, WRONG_DATA, NO_ROOM}
-use Rattle.card_state.specs.declared.status.TheConstants.Sw.{CONDITIONS_NOT_SATISFIED}
-use Rattle.card_state.specs.declared.fcp.Fcp.{Fcp}
-use Rattle.card_state.specs.declared.fcp.FileKind.{FileKind}
-use Rattle.card_state.specs.FileControl.{short_of_kind, name_bytes}
-use Rattle.card_state.specs.FileTrees.{Path, Tree, exists}
-use Rattle.card_state.specs.NewFiles.{has_name, has_short_given, has_no_room}
+use Rattle.card_model.specs.declared.status.Sw.{Sw}
+use Rattle.card_model.specs.declared.status.TheConstants.Sw.{FILE_EXISTS, NAME_EXISTS, WRONG_DATA, NO_ROOM}
+use Rattle.card_model.specs.declared.status.TheConstants.Sw.{CONDITIONS_NOT_SATISFIED}
+use Rattle.card_model.specs.declared.fcp.Fcp.{Fcp}
+use Rattle.card_model.specs.declared.fcp.FileKind.{FileKind}
+use Rattle.card_model.specs.FileControl.{short_of_kind, name_bytes}
+use Rattle.card_model.specs.FileTrees.{Path, Tree, exists}
+use Rattle.card_model.specs.NewFiles.{has_name, has_short_given, has_no_room}
 
 -- The refusal by a name in use: a child has the identifier, a DF has the name, or a child has the given short
 -- identifier.

@@ -1,17 +1,17 @@
 -- The result of a creation, and its effect on the tree.
 use Rattle.std.specs.Prelude.{◌≡◌, ℕ, List, [], ◌∷◌, ◌++◌, None, Some}
-use Rattle.card_state.specs.declared.fcp.Fcp.{Fcp}
-use Rattle.card_state.specs.declared.fcp.FileKind.{FileKind}
-use Rattle.card_state.specs.declared.fcp.FileKind.TheVariants as kinds
+use Rattle.card_model.specs.declared.fcp.Fcp.{Fcp}
+use Rattle.card_model.specs.declared.fcp.FileKind.{FileKind}
+use Rattle.card_model.specs.declared.fcp.FileKind.TheVariants as kinds
 use Rattle.file_changes.specs.declared.creating.Creation.{Creation}
 use Rattle.file_changes.specs.declared.creating.Creation.TheVariants.{Created, Refused}
 use Rattle.file_tree.specs.Formats.{block_count}
-use Rattle.card_state.specs.Spaces.{free_space}
+use Rattle.card_model.specs.Spaces.{free_space}
 use Rattle.file_tree.specs.Table.{table, entry_in, path_of, IsUsed}
 use Rattle.file_tree.specs.Trees.{tree_of}
 use Rattle.file_tree.specs.TreeChanges.{Creates, with_freed}
 use Rattle.file_tree.specs.Indexes.{AddsEntry}
-use Rattle.card_state.specs.NewFiles.{new_file, short_of_new}
+use Rattle.card_model.specs.NewFiles.{new_file, short_of_new}
 use Rattle.file_changes.specs.CreationRefusals.{creation_refusal}
 use Rattle.file_tree.specs.Kinds.{kind_byte}
 use Rattle.file_tree.specs.declared.kinds.EntryKind.TheVariants as entry_kinds

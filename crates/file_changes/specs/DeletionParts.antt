@@ -10,7 +10,7 @@ use Rattle.block_chain.specs.Chains.{HasFree, AreApart}
 use Rattle.block_chain.specs.ChainChanges.{GivesBack}
 use Rattle.block_chain.specs.Layout.{chains_of}
 use Rattle.file_tree.specs.declared.layout.TheConstants.{FIRST_ENTRY_PAGE}
-use Rattle.card_state.specs.declared.limits.TheConstants.{ENTRIES}
+use Rattle.card_model.specs.declared.limits.TheConstants.{ENTRIES}
 use Rattle.file_tree.specs.declared.entry.Entry.{Entry}
 use Rattle.file_changes.specs.declared.deleting.Part.{Part}
 use Rattle.file_changes.specs.declared.deleting.Removal.{Removal}

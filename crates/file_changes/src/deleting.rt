@@ -12,7 +12,7 @@ ghost use Rattle.block_chain.specs.declared.layout.TheConstants.{MOST_BLOCKS};
 ghost use Rattle.block_chain.specs.Layout.{chains_of};
 ghost use Rattle.file_tree.specs.declared.layout.TheConstants.{DELETE_WRITES};
 ghost use Rattle.file_tree.specs.Formats.{block_count};
-ghost use Rattle.card_state.specs.Spaces.{free_space};
+ghost use Rattle.card_model.specs.Spaces.{free_space};
 ghost use Rattle.file_tree.specs.declared.entry.Entry.{Entry};
 ghost use Rattle.file_tree.specs.Table.{entry_in, table};
 ghost use Rattle.file_tree.specs.TableEnd.{IsTableEnd};

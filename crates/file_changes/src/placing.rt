@@ -3,14 +3,14 @@
 ghost use Rattle.std.specs.Prelude.{◌≡◌};
 ghost use Rattle.undo_journal.specs.Memory.{committed};
 ghost use Rattle.undo_journal.specs.StoreCalls.{Learns};
-ghost use Rattle.card_state.specs.Spaces.{free_space};
+ghost use Rattle.card_model.specs.Spaces.{free_space};
 ghost use Rattle.file_tree.specs.Formats.{block_count};
 ghost use Rattle.file_tree.specs.Trees.{tree_of};
 ghost use Rattle.file_lookup.specs.StoredFiles.{HasFile};
 ghost use Rattle.file_changes.specs.CreationParts.{TellsPlace};
 
 use crate::refusing::{first_free, is_deepest};
-use card_state::{Fcp, FreeSpace, Sw};
+use card_model::{Fcp, FreeSpace, Sw};
 use file_tree::{EntryNumber, blocks_for};
 use undo_journal::{Board, Store, StoreErr};
 

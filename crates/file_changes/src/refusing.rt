@@ -3,16 +3,16 @@
 ghost use Rattle.std.specs.Prelude.{◌≡◌, ◌≢◌, ◌↔◌, IsTrue, if◌then◌else◌, Some, None};
 ghost use Rattle.undo_journal.specs.Memory.{committed, IsReady};
 ghost use Rattle.undo_journal.specs.StoreCalls.{Learns};
-ghost use Rattle.card_state.specs.declared.status.TheConstants.Sw.{FILE_EXISTS, NAME_EXISTS, WRONG_DATA};
-ghost use Rattle.card_state.specs.FileControl.{IsShort, IsCreatable};
+ghost use Rattle.card_model.specs.declared.status.TheConstants.Sw.{FILE_EXISTS, NAME_EXISTS, WRONG_DATA};
+ghost use Rattle.card_model.specs.FileControl.{IsShort, IsCreatable};
 ghost use Rattle.file_tree.specs.Table.{ancestor, table, path_of};
 ghost use Rattle.file_tree.specs.Trees.{tree_of};
-ghost use Rattle.card_state.specs.NewFiles.{has_short_given};
+ghost use Rattle.card_model.specs.NewFiles.{has_short_given};
 ghost use Rattle.file_changes.specs.CreationRefusals.{taken_refusal};
 ghost use Rattle.file_lookup.specs.StoredFiles.{HasFile, HasIndexed};
 ghost use Rattle.file_changes.specs.CreationParts.{TellsFreeEntry};
 
-use card_state::{Fcp, ShortIdentifier, Sw};
+use card_model::{Fcp, ShortIdentifier, Sw};
 use file_lookup::{find_name, find_short, read_entry_head};
 use file_tree::{DEEPEST, ENTRIES_END, EntryNumber, Index};
 use undo_journal::{Board, Store, StoreErr};

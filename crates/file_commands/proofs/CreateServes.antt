@@ -4,9 +4,9 @@ use Rattle.std.proofs.Common.{◌≡◌, ◌⊎◌, ◌≤◌, ◌-◌, ℕ, Lis
 use Rattle.std.proofs.Common.{subst, arith, inr, true≢false}
 use Rattle.std.specs.Result.{IsErrAnd}
 use Rattle.nvm_board.specs.Facts.{IsMemory}
-use Rattle.card_state.specs.declared.status.Sw.{Sw}
-use Rattle.card_state.specs.declared.status.TheConstants.Sw.{DONE}
-use Rattle.card_state.specs.declared.fcp.Fcp.{Fcp}
+use Rattle.card_model.specs.declared.status.Sw.{Sw}
+use Rattle.card_model.specs.declared.status.TheConstants.Sw.{DONE}
+use Rattle.card_model.specs.declared.fcp.Fcp.{Fcp}
 use Rattle.undo_journal.specs.declared.error.StoreErr.{StoreErr}
 use Rattle.undo_journal.specs.StoreCalls.{Changes, OnlyReads}
 use Rattle.undo_journal.specs.Spending.{Advances}
@@ -18,7 +18,7 @@ use Rattle.undo_journal.specs.laws.Told.{changes_after}
 use Rattle.card_model.specs.Requests.{Request, create_file}
 use Rattle.file_changes.specs.declared.creating.Creation.{Creation}
 use Rattle.file_changes.specs.declared.creating.Creation.TheVariants.{Created, Refused}
-use Rattle.card_state.specs.declared.space.FreeSpace.{FreeSpace}
+use Rattle.card_model.specs.declared.space.FreeSpace.{FreeSpace}
 use Rattle.file_tree.specs.TreeChanges.{SameTree}
 use Rattle.file_changes.specs.Creations.{kind_number, CreatesNew, IsCreated, TellsCreation}
 use Rattle.file_changes.specs.CreationRefusals.{creation_refusal}

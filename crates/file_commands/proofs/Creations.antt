@@ -7,27 +7,27 @@ use Rattle.std.specs.Prelude.{cond}
 use Rattle.std.specs.Cmp.Lexicographic.{nat_list_cmp_total}
 use Rattle.std.specs.FinMap.{get, get-insert}
 use Rattle.nvm_board.specs.Facts.{IsMemory}
-use Rattle.card_state.specs.declared.access_mode.AccessBit.{AccessBit}
-use Rattle.card_state.specs.declared.status.Sw.{Sw}
-use Rattle.card_state.specs.declared.status.TheConstants.Sw.{DONE, WRONG_DATA}
+use Rattle.card_model.specs.declared.access_mode.AccessBit.{AccessBit}
+use Rattle.card_model.specs.declared.status.Sw.{Sw}
+use Rattle.card_model.specs.declared.status.TheConstants.Sw.{DONE, WRONG_DATA}
 use Rattle.card_model.specs.declared.fault.FcpFault.{FcpFault}
-use Rattle.card_state.specs.declared.fcp.Fcp.{Fcp}
+use Rattle.card_model.specs.declared.fcp.Fcp.{Fcp}
 use Rattle.card_model.specs.TemplateGrammar.{fcp_read}
 use Rattle.card_model.specs.Requests.{create_file}
-use Rattle.card_state.specs.declared.space.FreeSpace.{FreeSpace}
+use Rattle.card_model.specs.declared.space.FreeSpace.{FreeSpace}
 use Rattle.file_tree.specs.TreeChanges.{SameTree, with_freed}
 use Rattle.file_changes.specs.Creations.{CreatesNew, IsCreated}
 use Rattle.file_changes.specs.CreationRefusals.{creation_refusal}
-use Rattle.card_state.specs.NewFiles.{new_file, short_of_new}
+use Rattle.card_model.specs.NewFiles.{new_file, short_of_new}
 use Rattle.file_tree.specs.Formats.{block_count}
-use Rattle.card_state.specs.Spaces.{free_space}
+use Rattle.card_model.specs.Spaces.{free_space}
 use Rattle.card_model.specs.Cards.{card_space, Card, File, Kind, Path, Tree, dedicated, elementary}
 use Rattle.command_base.specs.laws.CardLaws.{card_count, card_space_is}
-use Rattle.card_state.specs.FileLives.{is_barred}
+use Rattle.card_model.specs.FileLives.{is_barred}
 use Rattle.file_tree.specs.Table.{table, entry_in, path_of}
 use Rattle.file_tree.specs.Trees.{tree_of, file_in}
 use Rattle.file_tree.specs.laws.Nodes.{get-used}
-use Rattle.card_state.specs.laws.Orders.{same_of_one}
+use Rattle.card_model.specs.laws.Orders.{same_of_one}
 use Rattle.command_base.specs.declared.current.Current.{Current as CurrentFiles}
 use Rattle.card_model.specs.FileCommands.{create_refusals, creation_bit, with_new}
 use Rattle.card_model.specs.Guards.{allowed}

@@ -7,20 +7,20 @@ use Rattle.std.proofs.lemmas.Bool.{ne_eqb}
 use Rattle.std.proofs.lemmas.List.{length-append}
 use Rattle.std.specs.List.{starts_with}
 use Rattle.nvm_board.specs.Facts.{IsMemory}
-use Rattle.card_state.specs.declared.status.Sw.{Sw}
-use Rattle.card_state.specs.declared.status.TheConstants.Sw.{DONE}
+use Rattle.card_model.specs.declared.status.Sw.{Sw}
+use Rattle.card_model.specs.declared.status.TheConstants.Sw.{DONE}
 use Rattle.card_model.specs.declared.requests.Subject.{Subject}
 use Rattle.card_model.specs.declared.requests.Subject.TheVariants as subjects
 use Rattle.card_model.specs.Requests.{delete_file}
 use Rattle.file_tree.specs.declared.entry.Entry.{Entry}
-use Rattle.card_state.specs.declared.space.FreeSpace.{FreeSpace}
+use Rattle.card_model.specs.declared.space.FreeSpace.{FreeSpace}
 use Rattle.file_tree.specs.TreeChanges.{Deletes, with_freed}
 use Rattle.file_tree.specs.Formats.{block_count}
-use Rattle.card_state.specs.Spaces.{free_space}
+use Rattle.card_model.specs.Spaces.{free_space}
 use Rattle.card_model.specs.Cards.{card_space, Card, Path, Tree, parent}
 use Rattle.command_base.specs.laws.CardLaws.{card_space_is}
-use Rattle.card_state.specs.FileLives.{has_barred_above, is_barred}
-use Rattle.card_state.specs.declared.access_mode.AccessBit.TheVariants.{DeleteChild, DeleteSelf}
+use Rattle.card_model.specs.FileLives.{has_barred_above, is_barred}
+use Rattle.card_model.specs.declared.access_mode.AccessBit.TheVariants.{DeleteChild, DeleteSelf}
 use Rattle.file_tree.specs.Table.{table, entry_in, path_of, IsUsed}
 use Rattle.file_tree.specs.Trees.{tree_of}
 use Rattle.file_tree.specs.laws.Paths.{parent_path, parent_used, path_of-child}

@@ -1,18 +1,18 @@
 -- What DELETE FILE and CREATE FILE do, on any card.
 use Rattle.std.proofs.Common.{◌≡◌, ◌==◌, ◌||◌, ℕ, Bool, true, false, not, List, [], ◌∷◌, ◌++◌, length, Option, Some}
 use Rattle.std.proofs.Common.{None, is_none, unwrap_or, Result, Ok, Err, if◌then◌else◌, ◌∙◌, ap, refl}
-use Rattle.card_state.specs.declared.status.Sw.{Sw}
-use Rattle.card_state.specs.declared.status.TheConstants.Sw.{ACCESS_DENIED, CONDITIONS_NOT_SATISFIED, DONE}
-use Rattle.card_state.specs.declared.status.TheConstants.Sw.{FILE_NOT_FOUND}
-use Rattle.card_state.specs.declared.status.TheConstants.Sw.{FILE_EXISTS, NAME_EXISTS, NO_ROOM, WRONG_DATA}
+use Rattle.card_model.specs.declared.status.Sw.{Sw}
+use Rattle.card_model.specs.declared.status.TheConstants.Sw.{ACCESS_DENIED, CONDITIONS_NOT_SATISFIED, DONE}
+use Rattle.card_model.specs.declared.status.TheConstants.Sw.{FILE_NOT_FOUND}
+use Rattle.card_model.specs.declared.status.TheConstants.Sw.{FILE_EXISTS, NAME_EXISTS, NO_ROOM, WRONG_DATA}
 use Rattle.card_model.specs.declared.fault.FcpFault.{FcpFault}
-use Rattle.card_state.specs.declared.fcp.Fcp.{Fcp}
+use Rattle.card_model.specs.declared.fcp.Fcp.{Fcp}
 use Rattle.card_model.specs.TemplateGrammar.{fcp_read}
-use Rattle.card_state.specs.FileControl.{name_bytes, short_of_kind}
+use Rattle.card_model.specs.FileControl.{name_bytes, short_of_kind}
 use Rattle.card_model.specs.declared.requests.Subject.{Subject}
 use Rattle.card_model.specs.Requests.{create_file, delete_file}
 use Rattle.file_changes.specs.CreationRefusals.{creation_refusal, first_reason}
-use Rattle.card_state.specs.NewFiles.{has_name, has_no_room, has_short_given}
+use Rattle.card_model.specs.NewFiles.{has_name, has_no_room, has_short_given}
 use Rattle.card_model.specs.Cards.{Card, Path, exists, parent}
 use Rattle.card_model.specs.FileCommands.{create_refusals, created_card, creation_bit, delete_refusals, deleted_card}
 use Rattle.card_model.specs.FileCommands.{new_outcome, place_refusals, tells_none, told_by, with_new, without}
@@ -23,8 +23,8 @@ use Rattle.card_model.specs.Steps.{commits, served, refusals_of, effect}
 use Rattle.command_base.specs.NamedFiles.{file_refusal}
 use Rattle.card_model.specs.laws.Guarding.{served-done, served-refused}
 use Rattle.card_model.specs.Guards.{allowed}
-use Rattle.card_state.specs.FileLives.{has_barred_above, is_barred}
-use Rattle.card_state.specs.declared.access_mode.AccessBit.TheVariants.{DeleteChild, DeleteSelf}
+use Rattle.card_model.specs.FileLives.{has_barred_above, is_barred}
+use Rattle.card_model.specs.declared.access_mode.AccessBit.TheVariants.{DeleteChild, DeleteSelf}
 
 module _ (c : Card) (s : Session) (subject : Subject) where
   -- the refusals by their tests: no file, the master file, and then what the file calls for

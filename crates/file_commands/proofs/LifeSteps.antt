@@ -9,20 +9,20 @@ use Rattle.std.specs.List.{count_by}
 use Rattle.std.specs.Result.{result_err}
 use Rattle.nvm_board.specs.Facts.{IsMemory}
 use Rattle.nvm_board.specs.laws.Sizes.{memory_same}
-use Rattle.card_state.specs.LifeCycle.{life_cycle_at, life_cycle_byte}
-use Rattle.card_state.specs.declared.life_cycle.LifeCycle.{LifeCycle}
-use Rattle.card_state.specs.declared.status.Sw.{Sw}
-use Rattle.card_state.specs.declared.status.TheConstants.Sw.{ACCESS_DENIED, CONDITIONS_NOT_SATISFIED, DONE}
-use Rattle.card_state.specs.declared.status.TheConstants.Sw.{WRONG_STRUCTURE}
+use Rattle.card_model.specs.LifeCycle.{life_cycle_at, life_cycle_byte}
+use Rattle.card_model.specs.declared.life_cycle.LifeCycle.{LifeCycle}
+use Rattle.card_model.specs.declared.status.Sw.{Sw}
+use Rattle.card_model.specs.declared.status.TheConstants.Sw.{ACCESS_DENIED, CONDITIONS_NOT_SATISFIED, DONE}
+use Rattle.card_model.specs.declared.status.TheConstants.Sw.{WRONG_STRUCTURE}
 use Rattle.card_model.specs.declared.requests.Subject.{Subject}
 use Rattle.card_model.specs.declared.requests.LifeCycleChange.{LifeCycleChange}
 use Rattle.card_model.specs.declared.requests.LifeCycleChange.TheVariants.{Activate, Deactivate, TerminateDf}
 use Rattle.card_model.specs.declared.requests.LifeCycleChange.TheVariants.{TerminateEf}
 use Rattle.card_model.specs.Requests.{Request, change_life_cycle}
 use Rattle.file_tree.specs.declared.entry.Entry.{Entry}
-use Rattle.card_state.specs.FileTrees.{Body, File, Tree}
+use Rattle.card_model.specs.FileTrees.{Body, File, Tree}
 use Rattle.file_tree.specs.Entries.{file_of, free_entry}
-use Rattle.card_state.specs.FileLives.{life_at, next_life}
+use Rattle.card_model.specs.FileLives.{life_at, next_life}
 use Rattle.file_tree.specs.States.{ChangesLife}
 use Rattle.card_model.specs.Cards.{card_space, Card, Path, dedicated, elementary, file_at}
 use Rattle.command_base.specs.laws.CardLaws.{card_space_is}

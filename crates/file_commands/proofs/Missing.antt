@@ -1,8 +1,8 @@
 -- A command that finds no file is refused for that, before anything else of it is looked at.
 use Rattle.std.proofs.Common.{◌≡◌, Bool, true, false, Option, Some, None, is_none, if◌then◌else◌, refl, sym}
 use Rattle.std.proofs.Common.{ap, true≢false}
-use Rattle.card_state.specs.declared.status.Sw.{Sw}
-use Rattle.card_state.specs.declared.status.TheConstants.Sw.{FILE_NOT_FOUND}
+use Rattle.card_model.specs.declared.status.Sw.{Sw}
+use Rattle.card_model.specs.declared.status.TheConstants.Sw.{FILE_NOT_FOUND}
 use Rattle.card_model.specs.declared.requests.Subject.{Subject}
 use Rattle.card_model.specs.declared.requests.LifeCycleChange.{LifeCycleChange}
 use Rattle.card_model.specs.Cards.{Card}

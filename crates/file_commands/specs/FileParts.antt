@@ -1,10 +1,10 @@
 -- The files that DELETE FILE may delete and CREATE FILE may create (ISO/IEC 7816-9).
 -- No clause of the card's calls names this.
 use Rattle.std.specs.Prelude.{◌≡◌, ◌<◌, ℕ, true, false, List, Ok, None, Some}
-use Rattle.card_state.specs.declared.fcp.Fcp.{Fcp}
+use Rattle.card_model.specs.declared.fcp.Fcp.{Fcp}
 use Rattle.card_model.specs.TemplateGrammar.{fcp_read}
-use Rattle.card_state.specs.FileControl.{IsCreatable}
-use Rattle.card_state.specs.FileLives.{is_barred}
+use Rattle.card_model.specs.FileControl.{IsCreatable}
+use Rattle.card_model.specs.FileLives.{is_barred}
 use Rattle.card_model.specs.declared.requests.Subject.{Subject}
 use Rattle.file_tree.specs.declared.entry.Entry.{Entry}
 use Rattle.file_tree.specs.Table.{table, entry_in, path_of, IsUsed}

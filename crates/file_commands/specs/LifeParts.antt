@@ -1,15 +1,15 @@
 -- Changes of a life cycle as the code computes them (ISO/IEC 7816-9). No clause of the card's calls names these.
 use Rattle.std.specs.Prelude.{◌≡◌, ◌==◌, ℕ, Bool, true, not, if◌then◌else◌, List, Option, Some, None, unwrap_or, Result}
 use Rattle.std.specs.Prelude.{Ok, Err}
-use Rattle.card_state.specs.declared.life_cycle.LifeCycle.{LifeCycle}
-use Rattle.card_state.specs.declared.status.Sw.{Sw}
-use Rattle.card_state.specs.declared.status.TheConstants.Sw.{ACCESS_DENIED, CONDITIONS_NOT_SATISFIED, WRONG_STRUCTURE}
+use Rattle.card_model.specs.declared.life_cycle.LifeCycle.{LifeCycle}
+use Rattle.card_model.specs.declared.status.Sw.{Sw}
+use Rattle.card_model.specs.declared.status.TheConstants.Sw.{ACCESS_DENIED, CONDITIONS_NOT_SATISFIED, WRONG_STRUCTURE}
 use Rattle.card_model.specs.declared.requests.Subject.{Subject}
 use Rattle.card_model.specs.declared.requests.LifeCycleChange.{LifeCycleChange}
 use Rattle.card_model.specs.declared.requests.LifeCycleChange.TheVariants.{Activate, Deactivate, TerminateDf}
 use Rattle.card_model.specs.declared.requests.LifeCycleChange.TheVariants.{TerminateEf}
 use Rattle.file_tree.specs.declared.entry.Entry.{Entry}
-use Rattle.card_state.specs.FileLives.{next_life}
+use Rattle.card_model.specs.FileLives.{next_life}
 use Rattle.file_tree.specs.Table.{table, entry_in, path_of, IsUsed}
 use Rattle.file_tree.specs.Trees.{tree_of}
 use Rattle.command_base.specs.declared.current.Current.{Current}

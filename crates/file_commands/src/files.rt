@@ -3,9 +3,9 @@ ghost use Rattle.std.specs.Prelude.{◌≡◌, ◌||◌, [], true, option_map, S
 ghost use Rattle.undo_journal.specs.StoreCalls.{Learns};
 ghost use Rattle.undo_journal.specs.Memory.{committed};
 ghost use Rattle.card_model.specs.Requests.{create_file as creation, delete_file as deletion};
-ghost use Rattle.card_state.specs.declared.access_mode.AccessBit.TheVariants.{DeleteChild, DeleteSelf};
+ghost use Rattle.card_model.specs.declared.access_mode.AccessBit.TheVariants.{DeleteChild, DeleteSelf};
 ghost use Rattle.file_tree.specs.Indexes.{IsIndex};
-ghost use Rattle.card_state.specs.FileLives.{is_barred as is_barred_in};
+ghost use Rattle.card_model.specs.FileLives.{is_barred as is_barred_in};
 ghost use Rattle.file_tree.specs.Table.{path_of, IsUsed};
 ghost use Rattle.file_commands.specs.FileParts.{IsDeletable, IsNewFile};
 ghost use Rattle.card_model.specs.FileCommands.{create_refusals, creation_bit, delete_refusals};
@@ -21,7 +21,7 @@ ghost use Rattle.command_base.specs.CurrentFiles.{current_by};
 ghost use Rattle.file_changes.specs.Creations.{kind_number};
 
 use apdu_core::{Subject, Sw};
-use card_state::{AccessBit, Fcp, FileKind};
+use card_model::{AccessBit, Fcp, FileKind};
 use command_base::{Current, Findings, Stop, TargetFile, allows};
 use fcp_template::parse;
 use file_changes::{Creation, create, delete};

@@ -14,7 +14,7 @@ ghost use Rattle.command_base.specs.Working.{card_in, session_in, table_in, IsIn
 
 use crate::files::find_subject;
 use apdu_core::{LifeCycleChange, Subject, Sw};
-use card_state::{AccessBit, LifeCycle, LifeCycleCommand};
+use card_model::{AccessBit, LifeCycle, LifeCycleCommand};
 use command_base::{Current, Stop, TargetFile, allows};
 use file_changes::{next_life_cycle, set_life_cycle, terminate_card};
 use file_lookup::read_entry;

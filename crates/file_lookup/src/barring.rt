@@ -3,7 +3,7 @@
 ghost use Rattle.std.specs.Prelude.{◌≡◌};
 ghost use Rattle.undo_journal.specs.Memory.{committed};
 ghost use Rattle.undo_journal.specs.StoreCalls.{Learns};
-ghost use Rattle.card_state.specs.FileLives.{bars, is_barred};
+ghost use Rattle.card_model.specs.FileLives.{bars, is_barred};
 ghost use Rattle.file_tree.specs.Table.{table, entry_in, path_of};
 ghost use Rattle.file_tree.specs.Trees.{tree_of};
 ghost use Rattle.file_tree.specs.Entries.{is_allowed_by};
@@ -11,7 +11,7 @@ ghost use Rattle.file_tree.specs.States.{barred_up};
 ghost use Rattle.file_lookup.specs.StoredFiles.{HasFile, HasStoredEntry};
 
 use crate::reading::read_entry_head;
-use card_state::{AccessBit, LifeCycle, PinSet, allows};
+use card_model::{AccessBit, LifeCycle, PinSet, allows};
 use file_tree::{DEEPEST, Entry, EntryNumber};
 use undo_journal::{Board, Store, StoreErr};
 

@@ -4,7 +4,7 @@ ghost use Rattle.std.specs.Prelude.{◌≡◌, ◌≢◌, ◌==◌, ◌≤◌, �
 ghost use Rattle.std.specs.Result.{result_err};
 ghost use Rattle.undo_journal.specs.Memory.{committed, IsReady};
 ghost use Rattle.undo_journal.specs.StoreCalls.{Learns, Reads};
-ghost use Rattle.card_state.specs.Selectors.{reached, child_by_short};
+ghost use Rattle.card_model.specs.Selectors.{reached, child_by_short};
 ghost use Rattle.file_tree.specs.Table.{IsChild, table, entry_in, path_of, IsUsed, IsTable};
 ghost use Rattle.file_tree.specs.Kinds.{kind_byte};
 ghost use Rattle.file_tree.specs.declared.kinds.EntryKind.TheVariants.{Free, Transparent};
@@ -14,7 +14,7 @@ ghost use Rattle.file_tree.specs.TreeParts.{TellsShort, TellsBeside, TellsAbove}
 ghost use Rattle.file_lookup.specs.StoredFiles.{HasFile, HasIndexed};
 
 use crate::reading::{read_entry, read_entry_head};
-use card_state::identifiers::MASTER_FILE;
+use card_model::identifiers::MASTER_FILE;
 use file_tree::{ENTRIES_END, EntryHead, EntryKind, EntryNumber, Index, Reached};
 use undo_journal::{Board, Store, StoreErr};
 

@@ -4,8 +4,8 @@ ghost use Rattle.std.specs.Prelude.{◌≡◌, ◌↔◌, ◌<◌, min, length, 
 ghost use Rattle.std.specs.Result.{result_err};
 ghost use Rattle.undo_journal.specs.Memory.{committed, IsReady};
 ghost use Rattle.undo_journal.specs.StoreCalls.{Learns, Reads};
-ghost use Rattle.card_state.specs.FileTrees.{Path};
-ghost use Rattle.card_state.specs.Selectors.{selected, the_parent, by_name, path_from_master, path_from_current};
+ghost use Rattle.card_model.specs.FileTrees.{Path};
+ghost use Rattle.card_model.specs.Selectors.{selected, the_parent, by_name, path_from_master, path_from_current};
 ghost use Rattle.file_tree.specs.Table.{table, path_of, IsUsed};
 ghost use Rattle.file_tree.specs.Trees.{tree_of, TreeStands};
 ghost use Rattle.file_tree.specs.Indexes.{IsIndex};
@@ -13,7 +13,7 @@ ghost use Rattle.file_tree.specs.Naming.{BearsName, BearsNameAt, TellsNamed};
 ghost use Rattle.file_lookup.specs.StoredFiles.{HasFile, HasTree, HasEntry};
 
 use crate::reading::{read_entry, read_entry_head};
-use card_state::limits::MOST_NAME_BYTES;
+use card_model::limits::MOST_NAME_BYTES;
 use file_tree::{ENTRIES_END, Entry, EntryHead, EntryKind, EntryNumber, Index, Reached};
 use undo_journal::{Board, Store, StoreErr};
 

@@ -3,17 +3,17 @@ use Rattle.std.specs.Prelude.{Bool, ℕ, ◌+◌, ◌*◌, ◌/◌, ◌%◌, ◌
 use Rattle.std.specs.Prelude.{replicate}
 use Rattle.std.specs.Prelude.{slice_index, slice_range, Option, None, Some, unwrap_or}
 use Rattle.std.specs.List.{flat_map, range_with_len}
-use Rattle.card_state.specs.LifeCycle.{life_cycle_at}
-use Rattle.card_state.specs.declared.life_cycle.LifeCycle.{LifeCycle}
-use Rattle.card_state.specs.declared.life_cycle.LifeCycle.TheVariants.{Activated}
-use Rattle.card_state.specs.declared.access_mode.AccessBit.{AccessBit}
-use Rattle.card_state.specs.Rule.{allows}
+use Rattle.card_model.specs.LifeCycle.{life_cycle_at}
+use Rattle.card_model.specs.declared.life_cycle.LifeCycle.{LifeCycle}
+use Rattle.card_model.specs.declared.life_cycle.LifeCycle.TheVariants.{Activated}
+use Rattle.card_model.specs.declared.access_mode.AccessBit.{AccessBit}
+use Rattle.card_model.specs.Rule.{allows}
 use Rattle.block_chain.specs.declared.chain.Extent.{Extent}
 use Rattle.block_chain.specs.BlockWords.{word_bytes}
 use Rattle.file_tree.specs.declared.entry.Entry.{Entry}
 use Rattle.file_tree.specs.declared.entry.EntryHead.{EntryHead}
-use Rattle.card_state.specs.FileTrees.{transparent, linear, cyclic, dedicated, elementary, Body, Kind, File}
-use Rattle.card_state.specs.Spaces.{blocks_for}
+use Rattle.card_model.specs.FileTrees.{transparent, linear, cyclic, dedicated, elementary, Body, Kind, File}
+use Rattle.card_model.specs.Spaces.{blocks_for}
 use Rattle.file_tree.specs.Kinds.{kind_byte}
 use Rattle.file_tree.specs.declared.kinds.EntryKind.TheVariants.{Dedicated, Transparent, Linear}
 

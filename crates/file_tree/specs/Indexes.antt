@@ -1,11 +1,11 @@
 -- The index of a tree: the entry of each file by its parent's entry and its identifier.
 use Rattle.std.specs.Prelude.{◌≡◌, ◌≢◌, ◌<◌, ℕ, if◌then◌else◌, List, [], ◌∷◌, ◌++◌, All, Contains, length, Option}
 use Rattle.std.specs.Prelude.{None, Some, Bool, true, false}
-use Rattle.card_state.specs.declared.limits.TheConstants.{ENTRIES}
+use Rattle.card_model.specs.declared.limits.TheConstants.{ENTRIES}
 use Rattle.file_tree.specs.declared.entry.Entry.{Entry}
 use Rattle.file_tree.specs.declared.steps.Place.{Place}
 use Rattle.file_tree.specs.declared.index.Index.{Index}
-use Rattle.card_state.specs.FileTrees.{Path, Tree, exists}
+use Rattle.card_model.specs.FileTrees.{Path, Tree, exists}
 use Rattle.file_tree.specs.Keys.{key_for, IsBefore}
 use Rattle.file_tree.specs.Table.{entry_in, HaveIdentifiers, IsUsed, IsChild}
 use Rattle.file_tree.specs.Kinds.{kind_byte}

@@ -1,17 +1,17 @@
 -- Changes of life cycle states in a memory (ISO/IEC 7816-9; ISO/IEC 7816-4, 7.4.10).
 use Rattle.std.specs.Prelude.{◌≡◌, ◌≢◌, ℕ, List, slice_set, ◌==◌, ◌||◌, zero, suc, Bool, false, if◌then◌else◌}
 use Rattle.std.specs.FinMap.{insert}
-use Rattle.card_state.specs.LifeCycle.{life_cycle_byte}
-use Rattle.card_state.specs.declared.life_cycle.LifeCycle.{LifeCycle}
+use Rattle.card_model.specs.LifeCycle.{life_cycle_byte}
+use Rattle.card_model.specs.declared.life_cycle.LifeCycle.{LifeCycle}
 use Rattle.nvm_board.specs.Facts.{address}
 use Rattle.block_chain.specs.declared.layout.TheConstants.{HEADER_PAGE}
 use Rattle.block_chain.specs.Chains.{free_chain}
 use Rattle.file_tree.specs.declared.layout.TheConstants.{STATE_WORD, CARD_TERMINATED}
-use Rattle.card_state.specs.FileTrees.{file_at}
+use Rattle.card_model.specs.FileTrees.{file_at}
 use Rattle.file_tree.specs.TreeChanges.{KeepsRest}
 use Rattle.file_tree.specs.Table.{table, entry_in, path_of}
 use Rattle.file_tree.specs.Trees.{tree_of, TreeStands}
-use Rattle.card_state.specs.FileLives.{with_life, bars}
+use Rattle.card_model.specs.FileLives.{with_life, bars}
 use Rattle.file_tree.specs.declared.entry.Entry.{Entry}
 use Rattle.file_tree.specs.Entries.{life_told}
 

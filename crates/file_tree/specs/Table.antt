@@ -2,12 +2,12 @@
 use Rattle.std.specs.Prelude.{◌≡◌, ◌≢◌, ◌⊎◌, ◌<◌, ◌≤◌, ◌*◌, ◌==◌, ℕ, zero, suc, if◌then◌else◌, List, [], ◌∷◌, ◌++◌}
 use Rattle.std.specs.Prelude.{map, length, slice_index_or, IsTrue, IsSome, All}
 use Rattle.std.specs.List.{range_with_len, filter_map, count_by}
-use Rattle.card_state.specs.LifeCycle.{life_cycle_at}
-use Rattle.card_state.specs.Rule.{is_rule}
+use Rattle.card_model.specs.LifeCycle.{life_cycle_at}
+use Rattle.card_model.specs.Rule.{is_rule}
 use Rattle.block_chain.specs.BlockWords.{page_words}
 use Rattle.block_chain.specs.declared.chain.Extent.{Extent}
 use Rattle.file_tree.specs.declared.entry.Entry.{Entry}
-use Rattle.card_state.specs.FileTrees.{Path, master_file}
+use Rattle.card_model.specs.FileTrees.{Path, master_file}
 use Rattle.file_tree.specs.Entries.{free_entry, entry_of, name_of, rule_of, entry_capacity, extent_of}
 use Rattle.file_tree.specs.Kinds.{kind_byte}
 use Rattle.file_tree.specs.declared.kinds.EntryKind.TheVariants.{Free, Dedicated, Transparent, Linear, Cyclic}

@@ -8,9 +8,9 @@ use Rattle.block_chain.specs.BlockWords.{word}
 use Rattle.block_chain.specs.Chains.{free_chain}
 use Rattle.block_chain.specs.ChainChanges.{KeepsBlocks}
 use Rattle.file_tree.specs.declared.layout.TheConstants.{FIRST_ENTRY_PAGE}
-use Rattle.card_state.specs.declared.limits.TheConstants.{ENTRIES}
-use Rattle.card_state.specs.declared.space.FreeSpace.{FreeSpace}
-use Rattle.card_state.specs.FileTrees.{File, file_at, file_bytes, with_bytes, overwrite}
+use Rattle.card_model.specs.declared.limits.TheConstants.{ENTRIES}
+use Rattle.card_model.specs.declared.space.FreeSpace.{FreeSpace}
+use Rattle.card_model.specs.FileTrees.{File, file_at, file_bytes, with_bytes, overwrite}
 use Rattle.file_tree.specs.Formats.{block_count, SameFormat}
 use Rattle.file_tree.specs.Table.{table, entry_in, path_of, IsUsed}
 use Rattle.file_tree.specs.Trees.{tree_of, TreeStands}

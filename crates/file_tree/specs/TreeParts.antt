@@ -2,7 +2,7 @@
 -- is that of `is_below_barred`, which only `file_changes` calls.
 use Rattle.std.specs.Prelude.{◌≡◌, ◌≢◌, ◌==◌, ◌⊎◌, ◌<◌, ◌&&◌, ℕ, not, if◌then◌else◌, List, length, Option, None, Some}
 use Rattle.file_tree.specs.declared.entry.Entry.{Entry}
-use Rattle.card_state.specs.FileTrees.{master_file}
+use Rattle.card_model.specs.FileTrees.{master_file}
 use Rattle.file_tree.specs.Entries.{byte_of, low, name_of}
 use Rattle.file_tree.specs.Table.{entry_in, IsUsed, IsBelowMaster, IsChild}
 use Rattle.file_tree.specs.Kinds.{kind_byte}

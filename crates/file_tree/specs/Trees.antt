@@ -6,10 +6,10 @@ use Rattle.std.specs.FinMap.{from_entries}
 use Rattle.block_chain.specs.Chains.{bytes_of}
 use Rattle.block_chain.specs.Layout.{AreLaid, blocks_of}
 use Rattle.file_tree.specs.declared.entry.Entry.{Entry}
-use Rattle.card_state.specs.declared.space.FreeSpace.{FreeSpace}
-use Rattle.card_state.specs.FileTrees.{Path, File, Tree}
+use Rattle.card_model.specs.declared.space.FreeSpace.{FreeSpace}
+use Rattle.card_model.specs.FileTrees.{Path, File, Tree}
 use Rattle.file_tree.specs.Formats.{block_count}
-use Rattle.card_state.specs.Spaces.{free_space}
+use Rattle.card_model.specs.Spaces.{free_space}
 use Rattle.file_tree.specs.Entries.{file_of, extent_of}
 use Rattle.file_tree.specs.Table.{table, entry_in, path_of, extents, IsTable}
 use Rattle.file_tree.specs.Kinds.{kind_byte}

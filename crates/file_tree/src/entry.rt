@@ -1,7 +1,7 @@
 //! File entries, as stored in their pages.
 
 ghost use Rattle.std.specs.Prelude.{◌≡◌, ◌≢◌, ◌↔◌, ◌<◌, ◌++◌, take, IfSome, IsNone, IsTrue};
-ghost use Rattle.card_state.specs.LifeCycle.{life_cycle_byte};
+ghost use Rattle.card_model.specs.LifeCycle.{life_cycle_byte};
 ghost use Rattle.block_chain.specs.BlockWords.{word_bytes};
 ghost use Rattle.file_tree.specs.Kinds.{kind_byte};
 ghost use Rattle.file_tree.specs.declared.kinds.EntryKind.TheVariants.{Free, Dedicated};
@@ -13,7 +13,7 @@ use crate::layout::{ENTRIES, ENTRY_WORDS, RECORDS_WORD};
 use crate::space::blocks_for;
 use arrayvec::ArrayVec;
 use block_chain::{Chain, Extent};
-use card_state::LifeCycle;
+use card_model::LifeCycle;
 
 /// A file entry: words 0 to 10 of its page. Any words are an entry; the rules on entries say which tables are a tree.
 #[derive(Clone, Copy, Default)]

@@ -1,7 +1,7 @@
 //! Laws of the index.
 
 ghost use Rattle.std.specs.Prelude.{◌≡◌, ℕ, List};
-ghost use Rattle.card_state.specs.declared.life_cycle.LifeCycle.{LifeCycle};
+ghost use Rattle.card_model.specs.declared.life_cycle.LifeCycle.{LifeCycle};
 ghost use Rattle.file_tree.specs.declared.entry.Entry.{Entry};
 ghost use Rattle.file_tree.specs.declared.index.Index.{Index};
 ghost use Rattle.file_tree.specs.Table.{table};

@@ -6,8 +6,8 @@ ghost use Rattle.file_tree.specs.declared.layout.TheConstants.{FIRST_ENTRY_PAGE}
 
 use crate::entry_number::EntryNumber;
 use block_chain::BLOCK_BYTES;
-pub use card_state::limits::ENTRIES;
-use card_state::limits::MOST_BYTES;
+pub use card_model::limits::ENTRIES;
+use card_model::limits::MOST_BYTES;
 use nvm_board::PAGE_WORDS;
 
 /// The page of entry 0, the MF's. Each entry has a page of its own.

@@ -13,7 +13,7 @@ mod parents;
 mod space;
 mod steps;
 
-pub use card_state::FreeSpace;
+pub use card_model::FreeSpace;
 pub use entry::{Entry, EntryHead, ExtentList, TABLE_ROOM, Table};
 pub use entry_number::EntryNumber;
 pub use index::{Index, Reached};

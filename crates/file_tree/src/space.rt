@@ -1,6 +1,6 @@
 //! Free space.
 ghost use Rattle.std.specs.Prelude.{◌≡◌};
-ghost use Rattle.card_state.specs.Spaces.{blocks_for};
+ghost use Rattle.card_model.specs.Spaces.{blocks_for};
 
 use block_chain::BLOCK_BYTES;
 

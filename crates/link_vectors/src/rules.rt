@@ -1,8 +1,8 @@
 //! Access rules in the compact format (ISO/IEC 7816-4), also in states of a file that no command meets.
 
-use card_state::AccessBit::{Activate, CreateDf, DeleteChild, DeleteSelf, Terminate};
-use card_state::LifeCycle::{Activated, Creation, Deactivated, Initialisation};
-use card_state::{AccessBit, AccessMode, Compact, LifeCycle, PinNumber, PinSet};
+use card_model::AccessBit::{Activate, CreateDf, DeleteChild, DeleteSelf, Terminate};
+use card_model::LifeCycle::{Activated, Creation, Deactivated, Initialisation};
+use card_model::{AccessBit, AccessMode, Compact, LifeCycle, PinNumber, PinSet};
 use std::test::Fail;
 
 fn set_of(pins: &[u8]) -> PinSet {

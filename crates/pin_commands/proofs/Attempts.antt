@@ -14,9 +14,9 @@ use Rattle.std.specs.Ordering.{nat_cmp}
 use Rattle.nvm_board.specs.Facts.{IsMemory}
 use Rattle.nvm_board.specs.laws.Sizes.{memory_same}
 use Rattle.nvm_board.specs.Facts.{raised}
-use Rattle.card_state.specs.declared.status.Sw.{Sw}
-use Rattle.card_state.specs.declared.status.TheConstants.Sw.{DONE, METHOD_BLOCKED}
-use Rattle.card_state.specs.Pins.{IsPinNumber, with_pin, without_pin}
+use Rattle.card_model.specs.declared.status.Sw.{Sw}
+use Rattle.card_model.specs.declared.status.TheConstants.Sw.{DONE, METHOD_BLOCKED}
+use Rattle.card_model.specs.Pins.{IsPinNumber, with_pin, without_pin}
 use Rattle.undo_journal.specs.declared.error.StoreErr.{StoreErr}
 use Rattle.undo_journal.specs.StoreCalls.{OnlyReads, Reads}
 use Rattle.undo_journal.specs.Commits.{CommitsByGate, StaysShut}
@@ -31,7 +31,7 @@ use Rattle.card_model.specs.Requests.{Request, change_reference_data, change_req
 use Rattle.pin_store.specs.declared.errors.Outcome.{Outcome as AttemptEnd}
 use Rattle.pin_store.specs.declared.errors.Outcome.TheVariants.{Matched, Wrong}
 use Rattle.pin_store.specs.Pages.{pin_at, ArePinPages, IsApart, IsMark, SetsPin}
-use Rattle.card_state.specs.Secrets.{charged_pin, kept, owner, tries_left, Pin}
+use Rattle.card_model.specs.Secrets.{charged_pin, kept, owner, tries_left, Pin}
 use Rattle.pin_store.specs.Trials.{pin_in, Charges, ComparesOnce, EndsByOutcome, IsWrong, KeepsPinLaw, SetsByMatch}
 use Rattle.pin_store.specs.laws.Tries.{charge_keeps_law, end_keeps_law, IsEnd}
 use Rattle.file_tree.specs.laws.Indexed.{places_same}

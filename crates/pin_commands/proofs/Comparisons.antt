@@ -1,7 +1,7 @@
 -- What a comparison costs, as a store tells it and as a card does.
 use Rattle.std.proofs.Common.{◌≡◌, ℕ, List, inl, inr, ⊎_elim}
 use Rattle.undo_journal.specs.Memory.{Memory}
-use Rattle.card_state.specs.Secrets.{tries_left}
+use Rattle.card_model.specs.Secrets.{tries_left}
 use Rattle.pin_store.specs.Trials.{pin_in, FillsByMatch, IsMatch, KeepsPinLaw, PaysForCounted as PaysInStore}
 use Rattle.command_base.specs.Comparing.{comparisons}
 use Rattle.command_base.specs.Comparing.{CostsATry, FillsTries, Matches, PaysForOne}

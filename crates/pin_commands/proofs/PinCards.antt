@@ -10,9 +10,9 @@ use Rattle.file_tree.specs.TreeChanges.{KeepsTree}
 use Rattle.file_tree.specs.Formats.{SameFormat}
 use Rattle.file_tree.specs.declared.layout.TheConstants.{MARK_WORD, PAGES_WORD}
 use Rattle.file_tree.specs.laws.Footprints.{tree_kept}
-use Rattle.card_state.specs.Pins.{IsPinNumber}
+use Rattle.card_model.specs.Pins.{IsPinNumber}
 use Rattle.pin_store.specs.Pages.{pin_at, pin_page, pins_of, ArePinPages, SetsPin}
-use Rattle.card_state.specs.declared.pins.TheConstants.{PINS}
+use Rattle.card_model.specs.declared.pins.TheConstants.{PINS}
 use Rattle.pin_store.specs.declared.layout.TheConstants.{PIN_WORDS}
 use Rattle.pin_store.specs.laws.AllPins.{marks_set, pins_set}
 use Rattle.card_model.specs.Cards.{Pin}

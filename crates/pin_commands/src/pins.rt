@@ -6,7 +6,7 @@ ghost use Rattle.undo_journal.specs.StoreCalls.{Learns};
 ghost use Rattle.undo_journal.specs.Memory.{committed, IsReady};
 ghost use Rattle.card_model.specs.Requests.{change_reference_data as changing, reset_retry_counter as resetting};
 ghost use Rattle.card_model.specs.Requests.{verify as verifying, change_requirement as requiring};
-ghost use Rattle.card_state.specs.Secrets.{Pin, tries_left};
+ghost use Rattle.card_model.specs.Secrets.{Pin, tries_left};
 ghost use Rattle.pin_store.specs.Trials.{pin_in, Charges, HasPins, TakesTry};
 ghost use Rattle.card_model.specs.Behaviours.{first_applying};
 ghost use Rattle.card_model.specs.PinCommands.{is_enabled_by, tries_status, unusable_by};
@@ -17,7 +17,7 @@ ghost use Rattle.command_base.specs.Working.{IsKept};
 ghost use Rattle.command_base.specs.CurrentFiles.{tried_from, unverifies};
 
 use apdu_core::{Replacement, RequirementChange, Sw};
-use card_state::PinNumber;
+use card_model::PinNumber;
 use command_base::{Current, Shown, Stop};
 use pin_store::{
     Charged, Outcome, Secret, change, charge, is_enabled, reset_counter, set_enabled, settle, tries,

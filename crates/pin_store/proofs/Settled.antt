@@ -11,7 +11,7 @@ use Rattle.undo_journal.specs.Memory.{Memory, IsIdle, IsReady, KeepsWords, Repor
 use Rattle.undo_journal.specs.laws.Memory.{reports_then}
 use Rattle.undo_journal.specs.Spending.{WritesAtMost}
 use Rattle.undo_journal.specs.Undo.{gate}
-use Rattle.card_state.specs.Secrets.{Pin, kept, owner, tries_left, with_tries}
+use Rattle.card_model.specs.Secrets.{Pin, kept, owner, tries_left, with_tries}
 use Rattle.pin_store.specs.Pages.{pin_at, ArePinPages, SetsPin}
 use Rattle.pin_store.specs.Trials.{pin_in, store_failure, Charges, Compared, ComparesOnce, EndsByOutcome}
 use Rattle.pin_store.specs.Trials.{IsMatch, IsWrong, SetsByMatch, trial_end_writes}

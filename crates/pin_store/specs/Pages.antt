@@ -4,9 +4,9 @@ use Rattle.std.specs.List.{range_with_len}
 use Rattle.std.specs.Int.{w32, to_be_bytes}
 use Rattle.nvm_board.specs.Facts.{address}
 use Rattle.pin_store.specs.declared.layout.TheConstants.{FIRST_PIN_PAGE, PIN_MARK_WORD, PIN_WORDS}
-use Rattle.card_state.specs.declared.pins.TheConstants.{PINS}
-use Rattle.card_state.specs.declared.limits.TheConstants.{TRIES, UNBLOCKING_TRIES}
-use Rattle.card_state.specs.Secrets.{Pin, enabled_pin}
+use Rattle.card_model.specs.declared.pins.TheConstants.{PINS}
+use Rattle.card_model.specs.declared.limits.TheConstants.{TRIES, UNBLOCKING_TRIES}
+use Rattle.card_model.specs.Secrets.{Pin, enabled_pin}
 
 -- The page of a PIN. PIN 1 has index 0.
 abbrev pub pin_page : ℕ → ℕ

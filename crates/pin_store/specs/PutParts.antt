@@ -7,7 +7,7 @@ use Rattle.undo_journal.specs.StoreCalls.{Changes, SetsIn}
 use Rattle.undo_journal.specs.Lent.{memory_of}
 use Rattle.undo_journal.specs.Memory.{Memory, CountsCommit, InRuns, committed, current}
 use Rattle.undo_journal.specs.Spending.{transaction_writes}
-use Rattle.card_state.specs.Secrets.{Pin, owner}
+use Rattle.card_model.specs.Secrets.{Pin, owner}
 use Rattle.pin_store.specs.Pages.{ArePinPages, SetsPin, pin_at}
 use Rattle.pin_store.specs.Trials.{pin_in}
 

@@ -3,7 +3,7 @@ use Rattle.std.specs.Prelude.{ℕ}
 use Rattle.undo_journal.specs.Spending.{transaction_writes}
 use Rattle.pin_store.specs.declared.putting.Renewal.{Renewal}
 use Rattle.pin_store.specs.declared.putting.Renewal.TheVariants.{Value, ValueAndTries, Mark}
-use Rattle.card_state.specs.Secrets.{Pin, changed_pin, marked_pin, reset_pin}
+use Rattle.card_model.specs.Secrets.{Pin, changed_pin, marked_pin, reset_pin}
 
 -- The PIN after the change.
 abbrev pub renewed_pin : Renewal → Pin → Pin

@@ -13,9 +13,9 @@ use Rattle.pin_store.specs.declared.errors.PinErr.{PinErr}
 use Rattle.pin_store.specs.declared.errors.PinErr.TheVariants as pin_err
 use Rattle.pin_store.specs.declared.errors.Outcome.{Outcome}
 use Rattle.pin_store.specs.declared.errors.Outcome.TheVariants.{Matched, Wrong}
-use Rattle.card_state.specs.Secrets.{Pin, owner, kept, tries_left, full_tries, charged_pin}
+use Rattle.card_model.specs.Secrets.{Pin, owner, kept, tries_left, full_tries, charged_pin}
 use Rattle.pin_store.specs.Pages.{pin_at, ArePinPages, IsApart, IsMark, SetsPin}
-use Rattle.card_state.specs.declared.pins.TheConstants.{PINS}
+use Rattle.card_model.specs.declared.pins.TheConstants.{PINS}
 
 -- The PIN of a secret in the committed words.
 abbrev pub pin_in : Memory → ℕ → Pin

@@ -5,7 +5,7 @@ ghost use Rattle.nvm_board.specs.declared.board.TheConstants.{SECRETS};
 ghost use Rattle.undo_journal.specs.StoreCalls.{Reads};
 ghost use Rattle.undo_journal.specs.Memory.{committed, IsReady};
 ghost use Rattle.pin_store.specs.declared.errors.PinErr.TheVariants.{Blocked};
-ghost use Rattle.card_state.specs.Secrets.{tries_left};
+ghost use Rattle.card_model.specs.Secrets.{tries_left};
 ghost use Rattle.pin_store.specs.Trials.{pin_in, store_failure, Charges, HasPins, TakesTry};
 
 use crate::errors::PinErr;

@@ -3,10 +3,10 @@ ghost use Rattle.std.specs.Prelude.{◌≡◌, ◌⊎◌, ◌<◌, ◌≤◌, �
 ghost use Rattle.undo_journal.specs.Memory.{Memory, committed};
 ghost use Rattle.undo_journal.specs.Spending.{WritesAtMost};
 ghost use Rattle.pin_store.specs.declared.layout.TheConstants.{FIRST_PIN_PAGE, PIN_MARK_WORD, PIN_WORDS};
-ghost use Rattle.card_state.specs.declared.pins.TheConstants.{PINS};
-ghost use Rattle.card_state.specs.declared.limits.TheConstants.{TRIES};
-ghost use Rattle.card_state.specs.declared.limits.TheConstants.{UNBLOCKING_TRIES};
-ghost use Rattle.card_state.specs.Secrets.{Pin, HasFewTries, changed_pin, marked_pin, reset_pin, verified_pin};
+ghost use Rattle.card_model.specs.declared.pins.TheConstants.{PINS};
+ghost use Rattle.card_model.specs.declared.limits.TheConstants.{TRIES};
+ghost use Rattle.card_model.specs.declared.limits.TheConstants.{UNBLOCKING_TRIES};
+ghost use Rattle.card_model.specs.Secrets.{Pin, HasFewTries, changed_pin, marked_pin, reset_pin, verified_pin};
 ghost use Rattle.pin_store.specs.Pages.{pins_of, unmarked_pins_of, AreEnabled, AreMarks, ArePinPages};
 ghost use Rattle.pin_store.specs.Pages.{KeepsPins, KeepsSecrets, SetsPin};
 ghost use Rattle.pin_store.specs.Trials.{pin_in, Charges, ComparesOnce, KeepsPinLaw, SetsByMatch};

@@ -1,7 +1,7 @@
 //! The place of the PINs in the memory, and their numbers of tries.
 
-pub use card_state::PINS;
-pub use card_state::limits::{TRIES, UNBLOCKING_TRIES};
+pub use card_model::PINS;
+pub use card_model::limits::{TRIES, UNBLOCKING_TRIES};
 
 /// The page of PIN 1. Those of the other PINs follow. A value has two words. The words after the mark are unused.
 pub const FIRST_PIN_PAGE: u16 = 65;

@@ -3,7 +3,7 @@ ghost use Rattle.std.specs.Prelude.{◌≡◌, ◌≤◌, if◌then◌else◌};
 ghost use Rattle.undo_journal.specs.Commits.{CommitsByGate, StaysShut};
 ghost use Rattle.undo_journal.specs.Lent.{memory_of};
 ghost use Rattle.undo_journal.specs.Memory.{IsReady};
-ghost use Rattle.card_state.specs.Secrets.{changed_pin, marked_pin, reset_pin, tries_left, verified_pin, with_tries};
+ghost use Rattle.card_model.specs.Secrets.{changed_pin, marked_pin, reset_pin, tries_left, verified_pin, with_tries};
 ghost use Rattle.pin_store.specs.PutParts.{PutsIts, SetsIts};
 ghost use Rattle.pin_store.specs.RenewalParts.{renewal_runs, renewal_sets, renewing_writes, renewed_pin};
 ghost use Rattle.pin_store.specs.Trials.{pin_in};

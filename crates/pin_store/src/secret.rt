@@ -2,15 +2,15 @@
 ghost use Rattle.std.specs.Prelude.{◌≡◌, ◌<◌, if◌then◌else◌};
 ghost use Rattle.nvm_board.specs.Facts.{address};
 ghost use Rattle.nvm_board.specs.declared.board.TheConstants.{PAGE_WORDS, SECRETS};
-ghost use Rattle.card_state.specs.Pins.{IsPinNumber};
-ghost use Rattle.card_state.specs.Secrets.{is_unblocking, owner, unblocking_of, value_of};
+ghost use Rattle.card_model.specs.Pins.{IsPinNumber};
+ghost use Rattle.card_model.specs.Secrets.{is_unblocking, owner, unblocking_of, value_of};
 ghost use Rattle.pin_store.specs.Pages.{pin_page};
 ghost use Rattle.pin_store.specs.declared.layout.TheConstants.{TRIES_WORD, UNBLOCKING_TRIES_WORD};
 ghost use Rattle.pin_store.specs.declared.layout.TheConstants.{UNBLOCKING_VALUE_WORD, VALUE_WORD};
 
 use crate::layout::{PINS, TRIES_WORD, UNBLOCKING_TRIES_WORD, UNBLOCKING_VALUE_WORD, VALUE_WORD};
 use crate::words::word_address;
-use card_state::PinNumber;
+use card_model::PinNumber;
 use std::marker::Model;
 
 /// A secret that a user presents: the value of a PIN, or its unblocking value.

@@ -4,8 +4,8 @@ ghost use Rattle.std.specs.Result.{result_err};
 ghost use Rattle.undo_journal.specs.StoreCalls.{Reads, Leaves};
 ghost use Rattle.undo_journal.specs.Commits.{CommitsByGate, StaysShut};
 ghost use Rattle.undo_journal.specs.Memory.{committed, IsReady};
-ghost use Rattle.card_state.specs.declared.pins.TheConstants.{PINS};
-ghost use Rattle.card_state.specs.Secrets.{changed_pin, kept, marked_pin, reset_pin, verified_pin};
+ghost use Rattle.card_model.specs.declared.pins.TheConstants.{PINS};
+ghost use Rattle.card_model.specs.Secrets.{changed_pin, kept, marked_pin, reset_pin, verified_pin};
 ghost use Rattle.pin_store.specs.RenewalParts.{renewing_writes, renewed_pin};
 ghost use Rattle.pin_store.specs.Trials.{pin_in, Compared, ComparesOnce, EndsTrial, HasPins};
 

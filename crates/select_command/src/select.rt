@@ -16,7 +16,7 @@ ghost use Rattle.card_model.specs.Guards.{IsGiven};
 use crate::templates::template_of;
 use apdu_core::{Answer, FilePath, Returned, Selector, Sw};
 use arrayvec::ArrayVec;
-use card_state::LifeCycle;
+use card_model::LifeCycle;
 use command_base::{Current, Stop, asks_less, give, right_length};
 use file_lookup::{
     find_name, find_parent, find_path, find_path_from_master, read_entry, read_entry_head, select,

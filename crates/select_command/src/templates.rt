@@ -4,7 +4,7 @@ ghost use Rattle.file_tree.specs.Table.{IsRecordBody};
 ghost use Rattle.command_base.specs.TemplateParts.{kind_in_entry, parameters_in, records_in_entry, short_in_entry};
 ghost use Rattle.command_base.specs.TemplateParts.{template_in, IsToldEntry};
 
-use card_state::{Compact, DfName, Fcp, FileKind, Records, ShortIdentifier};
+use card_model::{Compact, DfName, Fcp, FileKind, Records, ShortIdentifier};
 use command_base::ResponseData;
 use fcp_template::write;
 use file_tree::{Entry, EntryKind};

@@ -4,7 +4,7 @@ use Rattle.file_tree.specs.declared.entry.Entry.{Entry}
 use Rattle.tree_check.specs.declared.tree.Listing.{Listing}
 use Rattle.tree_check.specs.declared.tree.Survey.{Survey}
 use Rattle.file_tree.specs.Formats.{block_count}
-use Rattle.card_state.specs.Spaces.{free_space}
+use Rattle.card_model.specs.Spaces.{free_space}
 use Rattle.file_tree.specs.Table.{table, extents, free_entries, IsTable}
 use Rattle.file_tree.specs.Trees.{tree_of, TreeStands}
 use Rattle.file_tree.specs.Indexes.{IsBlankIndex, IsIndex}

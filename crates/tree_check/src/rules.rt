@@ -4,9 +4,9 @@ ghost use Rattle.std.specs.Prelude.{◌↔◌, IsTrue, All};
 ghost use Rattle.file_tree.specs.Table.{IsTransparentBody, IsRecordBody, HasShort, HasName, HasRule, HasBody};
 ghost use Rattle.file_tree.specs.Table.{IsFileEntry, IsEntry};
 
-use card_state::identifiers::{CURRENT_FILE, RESERVED};
-use card_state::limits::{MOST_BYTES, MOST_RECORD_BYTES, MOST_RECORDS, MOST_SHORT};
-use card_state::{Compact, LifeCycle};
+use card_model::identifiers::{CURRENT_FILE, RESERVED};
+use card_model::limits::{MOST_BYTES, MOST_RECORD_BYTES, MOST_RECORDS, MOST_SHORT};
+use card_model::{Compact, LifeCycle};
 use file_tree::{Entry, EntryKind};
 
 /// Returns true for the body of a transparent EF. It has 1 to 32,767 bytes and no records.

@@ -9,7 +9,7 @@ ghost use Rattle.tree_check.specs.SurveyParts.{CanBeIndexed};
 ghost use Rattle.tree_check.specs.SumParts.{next_sum, name_sum, short_sum, HaveOwnShorts, HaveOwnNames};
 
 use crate::rules::are_entries;
-use card_state::identifiers::MASTER_FILE;
+use card_model::identifiers::MASTER_FILE;
 use file_tree::{DEEPEST, Entry, EntryKind, EntryNumber, ExtentList};
 
 /// The number of sums of names and of short identifiers.

@@ -15,7 +15,7 @@ use crate::table::{count_free, is_table, list_extents};
 use crate::walk::lay;
 use arrayvec::ArrayVec;
 use block_chain::Extent;
-use card_state::FreeSpace;
+use card_model::FreeSpace;
 use file_lookup::{fill_table, find_end};
 use file_tree::{ENTRIES, Entry, ExtentList, Index, Table};
 use undo_journal::{Board, Store, StoreErr};

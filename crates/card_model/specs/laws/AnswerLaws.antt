@@ -4,8 +4,8 @@ use Rattle.std.specs.Prelude.{Option, Some, None, Result, Ok, Err, MatchResult}
 use Rattle.std.proofs.Common.{arith, refl, lit<}
 use Rattle.std.proofs.lemmas.List.{length-append}
 use Rattle.std.proofs.lemmas.List.Elements.{All-append}
-use Rattle.card_state.specs.declared.status.Sw.{Sw}
-use Rattle.card_state.specs.declared.status.TheConstants.Sw.{CONDITIONS_NOT_SATISFIED}
+use Rattle.card_model.specs.declared.status.Sw.{Sw}
+use Rattle.card_model.specs.declared.status.TheConstants.Sw.{CONDITIONS_NOT_SATISFIED}
 use Rattle.card_model.specs.CommandTable.{asked}
 use Rattle.card_model.specs.Requests.{IsOfBytes, AreBytes, IsStatusWord, Request}
 use Rattle.card_model.specs.laws.RowLaws.{asked-of_bytes}

@@ -5,7 +5,7 @@ use Rattle.std.proofs.Common.{arith, refl, sym, lit<, length-take, length-drop, 
 use Rattle.std.proofs.lemmas.Bool.{ltb-true, ltb-false, not-false}
 use Rattle.std.proofs.lemmas.List.{length-append}
 use Rattle.std.proofs.lemmas.List.Elements.{All-append, All-take, All-drop}
-use Rattle.card_state.specs.declared.status.TheConstants.Sw.{DONE, END_REACHED}
+use Rattle.card_model.specs.declared.status.TheConstants.Sw.{DONE, END_REACHED}
 use Rattle.card_model.specs.declared.requests.Target.{Target}
 use Rattle.card_model.specs.Requests.{AreBytes, read_binary, update_binary}
 use Rattle.card_model.specs.BinaryCommands.{binary_read, binary_updated, on_read_binary, on_update_binary}

@@ -3,12 +3,12 @@
 use Rattle.std.proofs.Common.{◌≡◌, Bool, true, false, not, List, [], ◌∷◌, Option, Some, None, is_none, unwrap_or}
 use Rattle.std.proofs.Common.{if◌then◌else◌, refl, ◌∙◌, ap}
 use Rattle.std.specs.FinMap.{get}
-use Rattle.card_state.specs.declared.access_mode.AccessBit.{AccessBit}
-use Rattle.card_state.specs.declared.status.Sw.{Sw}
-use Rattle.card_state.specs.declared.status.TheConstants.Sw.{ACCESS_DENIED, CONDITIONS_NOT_SATISFIED, WRONG_STRUCTURE}
+use Rattle.card_model.specs.declared.access_mode.AccessBit.{AccessBit}
+use Rattle.card_model.specs.declared.status.Sw.{Sw}
+use Rattle.card_model.specs.declared.status.TheConstants.Sw.{ACCESS_DENIED, CONDITIONS_NOT_SATISFIED, WRONG_STRUCTURE}
 use Rattle.card_model.specs.declared.requests.Target.{Target}
 use Rattle.card_model.specs.Requests.{Request}
-use Rattle.card_state.specs.FileLives.{is_barred}
+use Rattle.card_model.specs.FileLives.{is_barred}
 use Rattle.card_model.specs.Cards.{Card, File, Kind, Path, file_at, no_file}
 use Rattle.card_model.specs.Guards.{file_refusals, missing, target_kind, target_path, with_limits, allowed}
 use Rattle.card_model.specs.Behaviours.{Refusal, first_applying, refused, refused_by, unless_refused}

@@ -8,8 +8,8 @@ use Rattle.std.proofs.lemmas.List.{length-append}
 use Rattle.std.proofs.lemmas.List.Elements.{All-cons, All-append}
 use Rattle.card_model.specs.declared.requests.Target.TheVariants.{Current}
 use Rattle.card_model.specs.Requests.{AreBytes, increase}
-use Rattle.card_state.specs.RecordLists.{spelled, front, raised_number}
-use Rattle.card_state.specs.laws.Spelling.{length-spelled}
+use Rattle.card_model.specs.RecordLists.{spelled, front, raised_number}
+use Rattle.card_model.specs.laws.Spelling.{length-spelled}
 use Rattle.card_model.specs.Cards.{Card, IsProper, IsRecord}
 use Rattle.card_model.specs.RecordCommands.{increase_refusals, increased, increased_data, increased_kind, on_increase}
 use Rattle.card_model.specs.RecordCommands.{sum_record, is_cyclic, is_linear, record_length, records_of}

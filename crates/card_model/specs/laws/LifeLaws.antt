@@ -2,16 +2,16 @@
 use Rattle.std.specs.Prelude.{◌≡◌, ◌<◌, ◌==◌, true, [], ◌∷◌, None}
 use Rattle.std.proofs.Common.{arith, refl, lit<}
 use Rattle.std.proofs.lemmas.Bool.{not-false}
-use Rattle.card_state.specs.declared.access_mode.AccessBit.{AccessBit}
-use Rattle.card_state.specs.declared.life_cycle.LifeCycle.{LifeCycle}
-use Rattle.card_state.specs.declared.status.TheConstants.Sw.{DONE}
-use Rattle.card_state.specs.LifeCycle.{life_cycle_byte}
-use Rattle.card_state.specs.Rule.{allows}
+use Rattle.card_model.specs.declared.access_mode.AccessBit.{AccessBit}
+use Rattle.card_model.specs.declared.life_cycle.LifeCycle.{LifeCycle}
+use Rattle.card_model.specs.declared.status.TheConstants.Sw.{DONE}
+use Rattle.card_model.specs.LifeCycle.{life_cycle_byte}
+use Rattle.card_model.specs.Rule.{allows}
 use Rattle.card_model.specs.declared.requests.Subject.{Subject}
 use Rattle.card_model.specs.declared.requests.Subject.TheVariants as subjects
 use Rattle.card_model.specs.declared.requests.LifeCycleChange.{LifeCycleChange}
 use Rattle.card_model.specs.Requests.{IsStatusWord, change_life_cycle, terminate_card_usage}
-use Rattle.card_state.specs.FileLives.{life_at, with_life}
+use Rattle.card_model.specs.FileLives.{life_at, with_life}
 use Rattle.card_model.specs.Cards.{Card, File, Path, file_at, identifier, IsProper}
 use Rattle.card_model.specs.Guards.{allowed, disabled_of}
 use Rattle.card_model.specs.LifeCycleCommands.{card_terminated, change_bit, change_refusals, changed_life, changed_path}

@@ -3,13 +3,13 @@ use Rattle.std.specs.Prelude.{◌≡◌, ◌≤◌, ◌-◌, ◌++◌, ◌&&◌,
 use Rattle.std.specs.Prelude.{Option, Some, None, if◌then◌else◌}
 use Rattle.std.proofs.Common.{arith, refl, inl, inr, lit<}
 use Rattle.std.proofs.lemmas.List.Elements.{All-set}
-use Rattle.card_state.specs.declared.status.TheConstants.Sw.{DONE}
+use Rattle.card_model.specs.declared.status.TheConstants.Sw.{DONE}
 use Rattle.card_model.specs.Requests.{IsStatusWord, Request, verify, change_reference_data, reset_retry_counter}
 use Rattle.card_model.specs.Requests.{change_requirement}
 use Rattle.card_model.specs.declared.requests.RequirementChange.{RequirementChange}
 use Rattle.card_model.specs.declared.requests.RequirementChange.TheVariants.{Disable, Enable}
-use Rattle.card_state.specs.Secrets.{HasFewTries, charged_pin, is_unblocking, tries_left}
-use Rattle.card_state.specs.laws.FewTries.{changed_few, marked_few, reset_few, verified_few, with_few}
+use Rattle.card_model.specs.Secrets.{HasFewTries, charged_pin, is_unblocking, tries_left}
+use Rattle.card_model.specs.laws.FewTries.{changed_few, marked_few, reset_few, verified_few, with_few}
 use Rattle.card_model.specs.Cards.{Card, Pin, IsProper}
 use Rattle.card_model.specs.Behaviours.{Attempt, charged_card, is_right, no_pin, pin_of, settled_card, tries_of}
 use Rattle.card_model.specs.Behaviours.{with_pin_of, unblocking_of, value_of}

@@ -7,8 +7,8 @@ use Rattle.std.proofs.lemmas.List.Elements.{All-nil, All-head, All-tail}
 use Rattle.std.specs.Ordering.{nat_cmp, eq_by_cmp}
 use Rattle.std.specs.Cmp.Lexicographic.{slice_cmp, nat_list_cmp_total}
 use Rattle.std.specs.FinMap.{get, insert, get-insert}
-use Rattle.card_state.specs.declared.status.Sw.{Sw}
-use Rattle.card_state.specs.laws.Orders.{one_of_same}
+use Rattle.card_model.specs.declared.status.Sw.{Sw}
+use Rattle.card_model.specs.laws.Orders.{one_of_same}
 use Rattle.card_model.specs.Requests.{AreBytes, IsStatusWord}
 use Rattle.card_model.specs.Cards.{Card, File, Path, file_at, identifier, no_file, IsProper, IsProperFile}
 use Rattle.card_model.specs.Behaviours.{Outcome, Refusal, Refusals, Response, first_applying, in_order, only_status}

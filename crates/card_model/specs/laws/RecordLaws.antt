@@ -7,15 +7,15 @@ use Rattle.std.proofs.lemmas.Bool.{and_parts, eqb-true, leb-false, leb-true, not
 use Rattle.std.proofs.lemmas.List.{length-append}
 use Rattle.std.proofs.lemmas.List.Elements.{All-nil, All-cons, All-push, All-take, All-set}
 use Rattle.std.proofs.lemmas.List.Elements.{All-filter, All-from_get_or, All-weaker}
-use Rattle.card_state.specs.declared.direction.Direction.{Direction}
-use Rattle.card_state.specs.declared.direction.Direction.TheVariants.{Backward, Forward}
-use Rattle.card_state.specs.declared.status.TheConstants.Sw.{DONE}
+use Rattle.card_model.specs.declared.direction.Direction.{Direction}
+use Rattle.card_model.specs.declared.direction.Direction.TheVariants.{Backward, Forward}
+use Rattle.card_model.specs.declared.status.TheConstants.Sw.{DONE}
 use Rattle.card_model.specs.declared.requests.Target.{Target}
 use Rattle.card_model.specs.declared.requests.RecordPlace.{RecordPlace}
 use Rattle.card_model.specs.declared.requests.RecordChoice.{RecordChoice}
 use Rattle.card_model.specs.Requests.{AreBytes, IsStatusWord, read_record, update_record, append_record, search_record}
-use Rattle.card_state.specs.RecordLists.{front, has_record, record_of, records_found, numbers_on, stands_in}
-use Rattle.card_state.specs.laws.Finding.{filter-few, number_backward, number_forward, steps_few, steps_forward}
+use Rattle.card_model.specs.RecordLists.{front, has_record, record_of, records_found, numbers_on, stands_in}
+use Rattle.card_model.specs.laws.Finding.{filter-few, number_backward, number_forward, steps_few, steps_forward}
 use Rattle.card_model.specs.Cards.{Card, File, Kind, Path, transparent, linear, cyclic, dedicated, elementary, file_at}
 use Rattle.card_model.specs.Cards.{identifier, IsProper, IsProperKind, IsRecord}
 use Rattle.card_model.specs.Guards.{target_kind, target_path}

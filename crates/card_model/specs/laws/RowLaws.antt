@@ -2,8 +2,8 @@
 use Rattle.std.specs.Prelude.{◌≡◌, ◌==◌, ℕ, true, ◌&&◌, List, [], ◌∷◌, length}
 use Rattle.std.specs.Prelude.{Option, Some, None, is_some, Result, Ok, Err, MatchResult, IfOk, IfSome}
 use Rattle.std.proofs.Common.{lit<}
-use Rattle.card_state.specs.declared.status.Sw.{Sw}
-use Rattle.card_state.specs.declared.status.TheConstants.Sw.{WRONG_LENGTH, WRONG_PARAMETERS, UNKNOWN_CLASS}
+use Rattle.card_model.specs.declared.status.Sw.{Sw}
+use Rattle.card_model.specs.declared.status.TheConstants.Sw.{WRONG_LENGTH, WRONG_PARAMETERS, UNKNOWN_CLASS}
 use Rattle.card_model.specs.CommandTable.{SentBody, sent_body, Row, asked, asked_by_body, asked_by_row, command_table}
 use Rattle.card_model.specs.CommandTable.{is_class, row_of, select_rows, binary_rows, file_rows, record_rows}
 use Rattle.card_model.specs.CommandTable.{life_cycle_rows, pin_rows}

@@ -1,8 +1,8 @@
 -- What SELECT does, on any card.
 use Rattle.std.proofs.Common.{◌≡◌, ℕ, Bool, true, false, List, [], Option, Some, None, is_none, unwrap_or}
 use Rattle.std.proofs.Common.{if◌then◌else◌, ◌∙◌, ap}
-use Rattle.card_state.specs.declared.status.Sw.{Sw}
-use Rattle.card_state.specs.declared.status.TheConstants.Sw.{FILE_NOT_FOUND}
+use Rattle.card_model.specs.declared.status.Sw.{Sw}
+use Rattle.card_model.specs.declared.status.TheConstants.Sw.{FILE_NOT_FOUND}
 use Rattle.card_model.specs.declared.requests.Returned.{Returned}
 use Rattle.card_model.specs.Requests.{Selection, select}
 use Rattle.std.specs.FinMap.{get}

@@ -8,25 +8,25 @@ use Rattle.std.proofs.Math.Nat.{div-mul-le_self}
 use Rattle.std.proofs.lemmas.Bool.{leb-true}
 use Rattle.std.proofs.lemmas.List.{length-replicate}
 use Rattle.std.proofs.lemmas.List.Elements.{All-head, All-replicate, All-tail, All-take, All-drop}
-use Rattle.card_state.specs.declared.life_cycle.LifeCycle.{LifeCycle}
-use Rattle.card_state.specs.Rule.{is_rule}
-use Rattle.card_state.specs.laws.Rules.{length-rule}
+use Rattle.card_model.specs.declared.life_cycle.LifeCycle.{LifeCycle}
+use Rattle.card_model.specs.Rule.{is_rule}
+use Rattle.card_model.specs.laws.Rules.{length-rule}
 use Rattle.card_model.specs.declared.fault.FcpFault.{FcpFault}
 use Rattle.card_model.specs.declared.fault.FcpFault.TheVariants.{Missing, Twice, Value}
-use Rattle.card_state.specs.declared.fcp.Fcp.{Fcp}
-use Rattle.card_state.specs.declared.fcp.FileKind.{FileKind}
-use Rattle.card_state.specs.declared.fcp.FileKind.TheVariants.{Df, Transparent, Linear, Cyclic}
-use Rattle.card_state.specs.declared.fcp.Records.{Records}
-use Rattle.card_state.specs.declared.fcp.ShortIdentifier.{ShortIdentifier}
-use Rattle.card_state.specs.declared.fcp.ShortIdentifier.TheVariants.{Absent, Empty, Given}
+use Rattle.card_model.specs.declared.fcp.Fcp.{Fcp}
+use Rattle.card_model.specs.declared.fcp.FileKind.{FileKind}
+use Rattle.card_model.specs.declared.fcp.FileKind.TheVariants.{Df, Transparent, Linear, Cyclic}
+use Rattle.card_model.specs.declared.fcp.Records.{Records}
+use Rattle.card_model.specs.declared.fcp.ShortIdentifier.{ShortIdentifier}
+use Rattle.card_model.specs.declared.fcp.ShortIdentifier.TheVariants.{Absent, Empty, Given}
 use Rattle.card_model.specs.TemplateGrammar.{DataObject, fcp_read, meaning_of, objects_in, ◌>>=◌, data_bytes, df_of}
 use Rattle.card_model.specs.TemplateGrammar.{fcp_of, has, has_unknown, is_missing, is_twice, kind_read, meaning}
 use Rattle.card_model.specs.TemplateGrammar.{record_file_of, transparent_of, value_at, descriptor_of, identifier_of}
 use Rattle.card_model.specs.TemplateGrammar.{life_cycle_of, name_read, records_read, rule_read, plain_descriptor}
 use Rattle.card_model.specs.TemplateGrammar.{record_descriptor, short_read, size_of, structure_of}
-use Rattle.card_state.specs.FileTrees.{Path, Tree}
-use Rattle.card_state.specs.NewFiles.{blank, low_bits, new_file, new_kind, short_for, short_of_new}
-use Rattle.card_state.specs.Selectors.{child_by_short}
+use Rattle.card_model.specs.FileTrees.{Path, Tree}
+use Rattle.card_model.specs.NewFiles.{blank, low_bits, new_file, new_kind, short_for, short_of_new}
+use Rattle.card_model.specs.Selectors.{child_by_short}
 use Rattle.card_model.specs.Requests.{AreBytes}
 use Rattle.card_model.specs.Cards.{AreRecords, IsContent, IsProperFile, IsProperKind, IsProperName, IsProperShort}
 use Rattle.card_model.specs.Cards.{IsRecord}

@@ -1,6 +1,6 @@
 -- The commits of a request are those that words of their own make, and then those of which the gate is the word.
 use Rattle.std.specs.Prelude.{◌≡◌, ◌++◌, Option, None, Some, refl}
-use Rattle.card_state.specs.declared.status.Sw.{Sw}
+use Rattle.card_model.specs.declared.status.Sw.{Sw}
 use Rattle.card_model.specs.Requests.{Request}
 use Rattle.card_model.specs.Cards.{Card}
 use Rattle.card_model.specs.Steps.{attempt_of, commits, commits_served, commits_unless, refusals_of, alone_served}

@@ -7,8 +7,8 @@ use Rattle.nvm_board.specs.laws.Sizes.{pages_same}
 use Rattle.block_chain.specs.BlockWords.{word}
 use Rattle.block_chain.specs.declared.layout.TheConstants.{FIRST_BLOCK_PAGE, HEADER_PAGE, MOST_BLOCKS}
 use Rattle.file_tree.specs.Formats.{block_count, is_format_2, SameFormat}
-use Rattle.card_state.specs.Spaces.{free_space}
-use Rattle.card_state.specs.declared.space.FreeSpace.{FreeSpace}
+use Rattle.card_model.specs.Spaces.{free_space}
+use Rattle.card_model.specs.declared.space.FreeSpace.{FreeSpace}
 use Rattle.file_tree.specs.Trees.{tree_of, TreeStands}
 use Rattle.file_tree.specs.declared.layout.TheConstants.{MARK, MARK_WORD, STATE_WORD}
 use Rattle.file_tree.specs.laws.Formats.{count_same}

@@ -1,9 +1,9 @@
 -- Where nothing was compared.
 use Rattle.std.proofs.Common.{◌≡◌, ◌-◌, ℕ, List, slice_set, Option, Some, None, Result, Ok, Err, sym, ◌∙◌, ap, inl}
 use Rattle.std.proofs.lemmas.List.{set-get_or}
-use Rattle.card_state.specs.declared.status.Sw.{Sw}
+use Rattle.card_model.specs.declared.status.Sw.{Sw}
 use Rattle.card_model.specs.Requests.{Request}
-use Rattle.card_state.specs.Secrets.{tries_left}
+use Rattle.card_model.specs.Secrets.{tries_left}
 use Rattle.card_model.specs.Cards.{Card, Pin}
 use Rattle.card_model.specs.Steps.{attempt_of}
 use Rattle.command_base.specs.Comparing.{Comparisons, ComparesAsked, ComparesBy, ComparesNothing}

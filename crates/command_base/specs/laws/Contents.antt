@@ -7,13 +7,13 @@ use Rattle.std.specs.Option.{option_map_or}
 use Rattle.std.proofs.lemmas.List.{length-take-le, take_all}
 use Rattle.std.proofs.lemmas.Bool.{lt-ltb, le-ltb, ne_eqb, cases_lt, cases_eq}
 use Rattle.nvm_board.specs.Facts.{IsMemory}
-use Rattle.card_state.specs.declared.status.TheConstants.Sw.{DONE, END_REACHED}
+use Rattle.card_model.specs.declared.status.TheConstants.Sw.{DONE, END_REACHED}
 use Rattle.block_chain.specs.declared.chain.Extent.{Extent}
 use Rattle.block_chain.specs.Chains.{chain, bytes_of, IsChain}
 use Rattle.block_chain.specs.Layout.{blocks_of, IsExtent}
 use Rattle.block_chain.specs.laws.Extents.{laid_chains}
 use Rattle.file_tree.specs.declared.entry.Entry.{Entry}
-use Rattle.card_state.specs.FileTrees.{transparent, linear, cyclic, dedicated, elementary, is_transparent}
+use Rattle.card_model.specs.FileTrees.{transparent, linear, cyclic, dedicated, elementary, is_transparent}
 use Rattle.file_tree.specs.Entries.{file_of, extent_told, entry_capacity, linear_records, cyclic_records, name_of}
 use Rattle.file_tree.specs.Table.{table, entry_in, extents}
 use Rattle.file_tree.specs.Trees.{content, file_in}

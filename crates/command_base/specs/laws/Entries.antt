@@ -10,7 +10,7 @@ use Rattle.card_model.specs.declared.requests.Returned.TheVariants.{Template, No
 use Rattle.card_model.specs.Templates.{fcp_text, template_of}
 use Rattle.card_model.specs.Requests.{Selection, select}
 use Rattle.file_tree.specs.declared.entry.Entry.{Entry}
-use Rattle.card_state.specs.FileTrees.{Body, File, Tree, dedicated, elementary}
+use Rattle.card_model.specs.FileTrees.{Body, File, Tree, dedicated, elementary}
 use Rattle.file_tree.specs.Entries.{file_of, life_told}
 use Rattle.file_tree.specs.Table.{table, entry_in, path_of, IsUsed}
 use Rattle.file_tree.specs.Trees.{tree_of, file_in}

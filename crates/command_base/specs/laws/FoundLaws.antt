@@ -23,7 +23,7 @@ use Rattle.block_chain.specs.laws.Bytes.{leads_blocks, AreBlocks}
 use Rattle.block_chain.specs.laws.Words.{length-block_bytes, word_bytes-bytes}
 use Rattle.ef_contents.specs.laws.Slots.{length-slot, slot-within}
 use Rattle.file_tree.specs.declared.entry.Entry.{Entry}
-use Rattle.card_state.specs.FileTrees.{File, Path, dedicated, elementary, transparent, linear, cyclic, identifier}
+use Rattle.card_model.specs.FileTrees.{File, Path, dedicated, elementary, transparent, linear, cyclic, identifier}
 use Rattle.file_tree.specs.Entries.{free_entry, body_of, entry_capacity, cyclic_records, entry_of, entry_told}
 use Rattle.file_tree.specs.Entries.{extent_of}
 use Rattle.file_tree.specs.Entries.{extent_told, file_of, kind_of, linear_records, name_of, slot}
@@ -33,9 +33,9 @@ use Rattle.file_tree.specs.laws.Costs.{all_extents, extent_of-some}
 use Rattle.file_tree.specs.laws.Nodes.{entry_found, used_small}
 use Rattle.file_tree.specs.laws.Paths.{identifier_path}
 use Rattle.file_tree.specs.laws.Tables.{entry_in-table, entry_of-free, entry_of-used, length-table}
-use Rattle.card_state.specs.declared.pins.TheConstants.{PINS}
+use Rattle.card_model.specs.declared.pins.TheConstants.{PINS}
 use Rattle.pin_store.specs.Pages.{pin_at, pins_of, unmarked_pins_of, ArePinPages}
-use Rattle.card_state.specs.Secrets.{Pin, HasFewTries, enabled_pin}
+use Rattle.card_model.specs.Secrets.{Pin, HasFewTries, enabled_pin}
 use Rattle.file_tree.specs.Formats.{is_format_2}
 use Rattle.pin_store.specs.laws.PinPages.{few_tries}
 use Rattle.command_base.specs.Finding.{HasCard, found, words_found}

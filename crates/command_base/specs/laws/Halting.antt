@@ -1,7 +1,7 @@
 -- What stops a request that is served in place before anything is written.
 use Rattle.std.proofs.Common.{◌≡◌, ℕ, List, [], Result}
 use Rattle.std.specs.Result.{IsErrAnd}
-use Rattle.card_state.specs.declared.status.Sw.{Sw}
+use Rattle.card_model.specs.declared.status.Sw.{Sw}
 use Rattle.undo_journal.specs.StoreCalls.{Reads}
 use Rattle.undo_journal.specs.Memory.{Memory, committed}
 use Rattle.undo_journal.specs.laws.Exits.{ok_anyway}

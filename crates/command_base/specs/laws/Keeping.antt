@@ -8,7 +8,7 @@ use Rattle.file_tree.specs.Formats.{SameFormat}
 use Rattle.file_tree.specs.Trees.{tree_of, TreeStands}
 use Rattle.file_tree.specs.declared.layout.TheConstants.{MARK_WORD, PAGES_WORD, STATE_WORD}
 use Rattle.pin_store.specs.Pages.{pin_page, pin_word, KeepsPins}
-use Rattle.card_state.specs.declared.pins.TheConstants.{PINS}
+use Rattle.card_model.specs.declared.pins.TheConstants.{PINS}
 use Rattle.block_chain.specs.declared.layout.TheConstants.{HEADER_PAGE}
 use Rattle.command_base.specs.Standing.{card_of, IsCard}
 use Rattle.command_base.specs.laws.CardLaws.{card_after, card_stands}

@@ -3,7 +3,7 @@ use Rattle.std.specs.Prelude.{◌≡◌, ◌⊎◌, ℕ, List, [], ◌∷◌, Co
 use Rattle.std.specs.Prelude.{Option, Some, None, Result, Ok, Err}
 use Rattle.std.proofs.Common.{refl, inl, inr}
 use Rattle.std.proofs.lemmas.List.Elements.{All-cons, All-contains}
-use Rattle.card_state.specs.declared.status.Sw.{Sw}
+use Rattle.card_model.specs.declared.status.Sw.{Sw}
 use Rattle.card_model.specs.CommandTable.{asked}
 use Rattle.card_model.specs.Requests.{Request}
 use Rattle.card_model.specs.Cards.{Card}

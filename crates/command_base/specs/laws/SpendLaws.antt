@@ -1,7 +1,7 @@
 -- What commands cost at most.
 use Rattle.std.specs.Prelude.{◌≤◌, ◌+◌, ℕ, List, length, IfOk, Option, Some, None, Result, Ok, Err}
 use Rattle.std.proofs.Common.{arith}
-use Rattle.card_state.specs.declared.status.Sw.{Sw}
+use Rattle.card_model.specs.declared.status.Sw.{Sw}
 use Rattle.card_model.specs.CommandTable.{asked}
 use Rattle.card_model.specs.Requests.{Request, select, read_binary, update_binary, create_file, delete_file}
 use Rattle.card_model.specs.Requests.{read_record, update_record, append_record, search_record, increase}

@@ -1,7 +1,7 @@
 -- What stops a command, or a part of it, and is handed on.
 use Rattle.std.proofs.Common.{◌≡◌, Result, Ok, Err, OnOk, MatchResult, Option, Some, ℕ, refl, sym, ap, subst}
 use Rattle.std.specs.Result.{IsErrAnd}
-use Rattle.card_state.specs.declared.status.Sw.{Sw}
+use Rattle.card_model.specs.declared.status.Sw.{Sw}
 use Rattle.undo_journal.specs.declared.error.StoreErr.{StoreErr}
 use Rattle.undo_journal.specs.StoreCalls.{Changes, Reads}
 use Rattle.undo_journal.specs.Memory.{Memory}

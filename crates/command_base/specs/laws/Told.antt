@@ -5,11 +5,11 @@ use Rattle.std.proofs.Common.{refl, sym, ◌∙◌, ap, arith, inl, inr, ⊎_eli
 use Rattle.std.proofs.lemmas.Bool.{lt-leb, le-leb, ne_eqb, cases_eq}
 use Rattle.std.proofs.lemmas.List.FromFn.{length-map-range_with_len}
 use Rattle.nvm_board.specs.Facts.{IsMemory}
-use Rattle.card_state.specs.declared.fcp.FileKind.{FileKind}
-use Rattle.card_state.specs.declared.fcp.FileKind.TheVariants.{Df, Transparent, Linear, Cyclic}
-use Rattle.card_state.specs.declared.fcp.ShortIdentifier.TheVariants.{Empty, Given}
+use Rattle.card_model.specs.declared.fcp.FileKind.{FileKind}
+use Rattle.card_model.specs.declared.fcp.FileKind.TheVariants.{Df, Transparent, Linear, Cyclic}
+use Rattle.card_model.specs.declared.fcp.ShortIdentifier.TheVariants.{Empty, Given}
 use Rattle.file_tree.specs.declared.entry.Entry.{Entry}
-use Rattle.card_state.specs.FileTrees.{transparent, linear, cyclic, dedicated, elementary}
+use Rattle.card_model.specs.FileTrees.{transparent, linear, cyclic, dedicated, elementary}
 use Rattle.file_tree.specs.Entries.{file_of, free_entry, entry_capacity, cyclic_records, kind_of, linear_records}
 use Rattle.file_tree.specs.Entries.{life_told, name_of, rule_of, slot}
 use Rattle.file_tree.specs.Table.{table, entry_in, path_of, IsFileEntry, IsRecordBody, IsUsed}

@@ -9,7 +9,7 @@ use Rattle.std.specs.FinSet.{contains, empty, insert, remove}
 use Rattle.std.specs.FinSet.{contains-from_list_nat, contains-insert, contains-remove}
 use Rattle.std.specs.FinSet.{same_set, nat_cmp-IsAntisymmetric}
 use Rattle.std.specs.List.{filter, list_any, range_with_len, slice_index_or}
-use Rattle.card_state.specs.Pins.{has_pin, no_pins, with_pin, without_pin, IsPinNumber}
+use Rattle.card_model.specs.Pins.{has_pin, no_pins, with_pin, without_pin, IsPinNumber}
 use Rattle.file_tree.specs.declared.entry.Entry.{Entry}
 use Rattle.command_base.specs.laws.FoundLaws.{same-of}
 use Rattle.command_base.specs.declared.current.Current.{Current}

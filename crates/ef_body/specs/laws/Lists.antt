@@ -10,9 +10,9 @@ use Rattle.std.proofs.lemmas.Bool.Decides.{eqb_tells}
 use Rattle.std.specs.Prelude.{◌≡◌, ◌≢◌, ◌⊎◌, ◌<◌, ◌≤◌, ◌+◌, ◌-◌, ◌*◌, ◌%◌, ℕ, zero, suc, List, [], ◌∷◌, ◌++◌, length}
 use Rattle.std.specs.Prelude.{slice_index_or, slice_set}
 use Rattle.std.proofs.Math.Nat.{mod-lt, mod-eq-sub-mod}
-use Rattle.card_state.specs.FileTrees.{overwrite}
+use Rattle.card_model.specs.FileTrees.{overwrite}
 use Rattle.ef_contents.specs.Records.{slot_record, linear_order, newest_first}
-use Rattle.card_state.specs.RecordLists.{front}
+use Rattle.card_model.specs.RecordLists.{front}
 use Rattle.ef_contents.specs.laws.Slots.{slot-within, slot-put_same, slot-put_other, slot-here, slot-around}
 
 -- how many records, and each of them

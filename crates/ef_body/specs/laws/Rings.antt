@@ -4,7 +4,7 @@ use Rattle.std.specs.Prelude.{◌≡◌, ◌<◌, ◌≤◌, ℕ, List, length, 
 use Rattle.block_chain.specs.Chains.{chain_bytes}
 use Rattle.ef_body.specs.declared.cyclic.Cyclic.{Cyclic}
 use Rattle.ef_body.specs.declared.slot.RecordSlot.{RecordSlot}
-use Rattle.card_state.specs.RecordLists.{record_of}
+use Rattle.card_model.specs.RecordLists.{record_of}
 use Rattle.ef_contents.specs.Records.{newest_first}
 use Rattle.ef_body.specs.Bodies.{counts_word, number_told, start_told, cyclic_body_records, IsCyclic}
 use Rattle.ef_body.specs.laws.Lists.{length-newest_first}

@@ -4,12 +4,12 @@ use Rattle.std.proofs.lemmas.Bool.{le-leb}
 use Rattle.std.specs.Prelude.{◌≡◌, ◌≤◌, ◌↔◌, ◌&&◌, ℕ, Bool, true, false, List, length, IsTrue, Option, Some, None}
 use Rattle.std.specs.Prelude.{Result, Ok, Err, IsErrAnd, OnOk, option_map}
 use Rattle.std.specs.Result.{result_err}
-use Rattle.card_state.specs.declared.status.Sw.{Sw}
+use Rattle.card_model.specs.declared.status.Sw.{Sw}
 use Rattle.undo_journal.specs.declared.error.StoreErr.{StoreErr}
 use Rattle.undo_journal.specs.laws.Told.{told_is}
 use Rattle.ef_contents.specs.declared.error.BodyErr.{BodyErr}
 use Rattle.ef_contents.specs.declared.error.BodyErr.TheVariants.{Refused, Store}
-use Rattle.card_state.specs.RecordLists.{has_record}
+use Rattle.card_model.specs.RecordLists.{has_record}
 use Rattle.ef_contents.specs.Refusals.{why_failed, Decides, DecidesUnlessFailed, WhereRefused}
 
 -- what a test that gave false tells

@@ -6,7 +6,7 @@ use Rattle.std.proofs.lemmas.Grind.{same_number_lists}
 use Rattle.std.proofs.Math.Nat.{mul-le-mul_left, mod-eq-sub-mod}
 use Rattle.std.proofs.lemmas.Nat.{mod-mul-add}
 use Rattle.std.specs.Prelude.{◌≡◌, ◌≢◌, ◌⊎◌, ◌<◌, ◌≤◌, ◌+◌, ◌-◌, ◌*◌, ◌%◌, ℕ, List, length, slice_index, take, drop}
-use Rattle.card_state.specs.FileTrees.{overwrite}
+use Rattle.card_model.specs.FileTrees.{overwrite}
 use Rattle.block_chain.specs.laws.Overwriting.{index-overwrite, length-overwrite, byte_over-inside, byte_over-outside}
 use Rattle.ef_contents.specs.Records.{slot_record}
 

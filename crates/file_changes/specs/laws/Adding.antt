@@ -4,7 +4,7 @@ use Rattle.std.specs.Prelude.{length}
 use Rattle.std.proofs.Common.{refl, sym, ◌∙◌, ap, subst, arith, inl, inr}
 use Rattle.std.proofs.lemmas.Bool.Decides.{eqb_tells}
 use Rattle.file_tree.specs.declared.entry.Entry.{Entry}
-use Rattle.card_state.specs.FileTrees.{Path, master_file}
+use Rattle.card_model.specs.FileTrees.{Path, master_file}
 use Rattle.file_tree.specs.Entries.{free_entry, name_of}
 use Rattle.file_tree.specs.Table.{entry_in, ancestor, path_in, path_of, IsUsed, IsChild}
 use Rattle.file_tree.specs.Table.{IsEntry, IsFileEntry, IsMasterFile, IsTable}

@@ -5,21 +5,21 @@ use Rattle.std.specs.Prelude.{is_none, unwrap_or}
 use Rattle.std.proofs.Common.{refl, sym, ◌∙◌, ap, arith, inl, inr, true≢false}
 use Rattle.std.proofs.lemmas.Bool.Decides.{eqb_tells, leb_tells}
 use Rattle.std.proofs.lemmas.Option.{none-some}
-use Rattle.card_state.specs.declared.status.Sw.{Sw}
-use Rattle.card_state.specs.declared.status.TheConstants.Sw.{FILE_EXISTS, NAME_EXISTS, WRONG_DATA}
-use Rattle.card_state.specs.declared.fcp.Fcp.{Fcp}
-use Rattle.card_state.specs.declared.fcp.FileKind.{FileKind}
-use Rattle.card_state.specs.declared.fcp.FileKind.TheVariants as kinds
-use Rattle.card_state.specs.declared.fcp.ShortIdentifier.{ShortIdentifier}
-use Rattle.card_state.specs.declared.fcp.ShortIdentifier.TheVariants.{Absent, Empty, Given}
-use Rattle.card_state.specs.FileControl.{IsShort, IsKind, IsCreatable, name_bytes, short_of_kind}
+use Rattle.card_model.specs.declared.status.Sw.{Sw}
+use Rattle.card_model.specs.declared.status.TheConstants.Sw.{FILE_EXISTS, NAME_EXISTS, WRONG_DATA}
+use Rattle.card_model.specs.declared.fcp.Fcp.{Fcp}
+use Rattle.card_model.specs.declared.fcp.FileKind.{FileKind}
+use Rattle.card_model.specs.declared.fcp.FileKind.TheVariants as kinds
+use Rattle.card_model.specs.declared.fcp.ShortIdentifier.{ShortIdentifier}
+use Rattle.card_model.specs.declared.fcp.ShortIdentifier.TheVariants.{Absent, Empty, Given}
+use Rattle.card_model.specs.FileControl.{IsShort, IsKind, IsCreatable, name_bytes, short_of_kind}
 use Rattle.block_chain.specs.declared.chain.Chain.{Chain}
-use Rattle.card_state.specs.FileTrees.{Path, Tree, exists}
+use Rattle.card_model.specs.FileTrees.{Path, Tree, exists}
 use Rattle.file_tree.specs.Entries.{free_entry, name_of}
-use Rattle.card_state.specs.Selectors.{child_by_short}
+use Rattle.card_model.specs.Selectors.{child_by_short}
 use Rattle.file_tree.specs.Table.{table, entry_in, ancestor, path_of, IsUsed, IsTable}
 use Rattle.file_tree.specs.Trees.{tree_of}
-use Rattle.card_state.specs.NewFiles.{short_for, short_of_new, low_bits, has_name, has_short_given}
+use Rattle.card_model.specs.NewFiles.{short_for, short_of_new, low_bits, has_name, has_short_given}
 use Rattle.file_changes.specs.CreationRefusals.{taken_refusal}
 use Rattle.file_tree.specs.Naming.{BearsName}
 use Rattle.file_changes.specs.CreationParts.{entry_for, short_option}

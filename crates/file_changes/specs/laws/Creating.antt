@@ -25,7 +25,7 @@ use Rattle.block_chain.specs.laws.Bytes.{leads_blocks}
 use Rattle.block_chain.specs.laws.Relaying.{laid_taken, taken_bytes}
 use Rattle.file_tree.specs.declared.entry.Entry.{Entry}
 use Rattle.file_tree.specs.Entries.{entry_of, file_of, extent_of, extent_told}
-use Rattle.card_state.specs.Spaces.{blocks_for}
+use Rattle.card_model.specs.Spaces.{blocks_for}
 use Rattle.file_tree.specs.Table.{table, entry_in, path_of, extents, free_entries, IsUsed, IsTable}
 use Rattle.file_tree.specs.Trees.{content, tree_of, TreeStands, file_in}
 use Rattle.file_tree.specs.TreeChanges.{Creates}

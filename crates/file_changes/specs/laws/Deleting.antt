@@ -28,11 +28,11 @@ use Rattle.block_chain.specs.laws.Extents.{laid_has_free, laid_apart, laid_chain
 use Rattle.block_chain.specs.laws.Footprints.{page_words_same, laid_elsewhere}
 use Rattle.block_chain.specs.laws.Relaying.{given_free, given_bytes, given_laid}
 use Rattle.file_tree.specs.declared.entry.Entry.{Entry}
-use Rattle.card_state.specs.declared.space.FreeSpace.{FreeSpace}
+use Rattle.card_model.specs.declared.space.FreeSpace.{FreeSpace}
 use Rattle.file_tree.specs.declared.layout.TheConstants.{FIRST_ENTRY_PAGE}
-use Rattle.card_state.specs.declared.limits.TheConstants.{ENTRIES}
-use Rattle.card_state.specs.FileTrees.{Path, File}
-use Rattle.card_state.specs.Spaces.{free_space}
+use Rattle.card_model.specs.declared.limits.TheConstants.{ENTRIES}
+use Rattle.card_model.specs.FileTrees.{Path, File}
+use Rattle.card_model.specs.Spaces.{free_space}
 use Rattle.file_tree.specs.Entries.{free_entry, entry_of, file_of, name_of, extent_told}
 use Rattle.file_tree.specs.Table.{table, entry_in, ancestor, path_in, path_of, extents, free_entries, IsUsed, IsChild}
 use Rattle.file_tree.specs.Table.{IsEntry, IsMasterFile, IsTable}

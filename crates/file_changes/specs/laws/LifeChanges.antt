@@ -15,10 +15,10 @@ use Rattle.std.proofs.Common.{get_or-set_same, get_or-set_other, length-set}
 use Rattle.std.proofs.lemmas.Bool.{cases_lt}
 use Rattle.std.proofs.lemmas.Bool.Decides.{eqb_tells}
 use Rattle.nvm_board.specs.Facts.{address, IsMemory}
-use Rattle.card_state.specs.LifeCycle.{life_cycle_at, life_cycle_byte}
-use Rattle.card_state.specs.declared.life_cycle.LifeCycle.{LifeCycle}
-use Rattle.card_state.specs.declared.life_cycle.LifeCycle.TheVariants.{Creation, Initialisation, Deactivated, Activated}
-use Rattle.card_state.specs.declared.life_cycle.LifeCycle.TheVariants.{Terminated}
+use Rattle.card_model.specs.LifeCycle.{life_cycle_at, life_cycle_byte}
+use Rattle.card_model.specs.declared.life_cycle.LifeCycle.{LifeCycle}
+use Rattle.card_model.specs.declared.life_cycle.LifeCycle.TheVariants.{Creation, Initialisation, Deactivated, Activated}
+use Rattle.card_model.specs.declared.life_cycle.LifeCycle.TheVariants.{Terminated}
 use Rattle.block_chain.specs.declared.layout.TheConstants.{HEADER_PAGE, FREE_HEAD_WORD}
 use Rattle.block_chain.specs.declared.chain.Extent.{Extent}
 use Rattle.block_chain.specs.Chains.{bytes_of, free_chain}
@@ -28,10 +28,10 @@ use Rattle.block_chain.specs.laws.Footprints.{page_words_same, laid_elsewhere}
 use Rattle.block_chain.specs.laws.Words.{index-page_words}
 use Rattle.file_tree.specs.declared.entry.Entry.{Entry}
 use Rattle.file_tree.specs.declared.layout.TheConstants.{FIRST_ENTRY_PAGE}
-use Rattle.card_state.specs.FileTrees.{Path, File}
+use Rattle.card_model.specs.FileTrees.{Path, File}
 use Rattle.file_tree.specs.Entries.{free_entry, entry_told, entry_of, file_of, byte_of, low, extent_of}
 use Rattle.file_tree.specs.Entries.{entry_by, extent_told, name_of}
-use Rattle.card_state.specs.FileLives.{life_at, with_life}
+use Rattle.card_model.specs.FileLives.{life_at, with_life}
 use Rattle.file_tree.specs.States.{ChangesLife}
 use Rattle.file_tree.specs.Table.{table, entry_in, ancestor, path_in, path_of, extents, IsUsed, IsChild}
 use Rattle.file_tree.specs.Table.{IsEntry, IsTable}

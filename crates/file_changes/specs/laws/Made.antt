@@ -6,16 +6,16 @@ use Rattle.std.specs.Prelude.{◌≡◌, ◌≤◌, ◌+◌, ◌*◌, ℕ, List,
 use Rattle.std.specs.FinMap.{insert}
 use Rattle.std.proofs.Common.{refl, sym, ◌∙◌, ap, subst, arith, ⊎_elim}
 use Rattle.std.proofs.lemmas.List.{length-drop}
-use Rattle.card_state.specs.declared.status.Sw.{Sw}
-use Rattle.card_state.specs.declared.fcp.Fcp.{Fcp}
-use Rattle.card_state.specs.FileControl.{IsCreatable, size_of_kind}
+use Rattle.card_model.specs.declared.status.Sw.{Sw}
+use Rattle.card_model.specs.declared.fcp.Fcp.{Fcp}
+use Rattle.card_model.specs.FileControl.{IsCreatable, size_of_kind}
 use Rattle.block_chain.specs.declared.layout.TheConstants.{BLOCK_BYTES}
 use Rattle.block_chain.specs.declared.chain.Chain.{Chain}
 use Rattle.block_chain.specs.Chains.{free_chain, bytes_of}
 use Rattle.file_tree.specs.declared.entry.Entry.{Entry}
-use Rattle.card_state.specs.declared.space.FreeSpace.{FreeSpace}
-use Rattle.card_state.specs.FileTrees.{File}
-use Rattle.card_state.specs.Spaces.{blocks_for}
+use Rattle.card_model.specs.declared.space.FreeSpace.{FreeSpace}
+use Rattle.card_model.specs.FileTrees.{File}
+use Rattle.card_model.specs.Spaces.{blocks_for}
 use Rattle.file_tree.specs.Entries.{entry_of, file_of}
 use Rattle.file_tree.specs.declared.layout.TheConstants.{FIRST_ENTRY_PAGE}
 use Rattle.file_tree.specs.laws.Tables.{entry_in-table}
@@ -23,7 +23,7 @@ use Rattle.block_chain.specs.BlockWords.{page_words}
 use Rattle.file_tree.specs.Table.{table, entry_in, path_of, free_entries, IsUsed}
 use Rattle.file_tree.specs.Trees.{tree_of, TreeStands}
 use Rattle.file_tree.specs.TreeChanges.{SameTree, Creates, with_freed}
-use Rattle.card_state.specs.NewFiles.{blank, new_file, short_of_new}
+use Rattle.card_model.specs.NewFiles.{blank, new_file, short_of_new}
 use Rattle.file_changes.specs.CreationRefusals.{first_reason, taken_refusal, place_refusal}
 use Rattle.file_changes.specs.Creations.{kind_number, CreatesNew, IsCreated}
 use Rattle.file_changes.specs.CreationParts.{entry_for, no_chain, short_option, WritesEntry, IsPlaceFor}

@@ -9,25 +9,25 @@ use Rattle.std.proofs.lemmas.List.{take-replicate, drop-replicate}
 use Rattle.std.proofs.lemmas.Bool.Decides.{eqb_tells}
 use Rattle.std.proofs.Math.Seq.{take-append_seam}
 use Rattle.std.proofs.Math.Nat.{div-mul-le_self, div-add-mod, mod-eq_of_lt, mul_comm}
-use Rattle.card_state.specs.LifeCycle.{life_cycle_at, life_cycle_byte}
-use Rattle.card_state.specs.Rule.{is_rule}
-use Rattle.card_state.specs.RuleFacts.{length-rule}
-use Rattle.card_state.specs.declared.life_cycle.LifeCycle.{LifeCycle}
-use Rattle.card_state.specs.declared.life_cycle.LifeCycle.TheVariants.{Creation, Initialisation, Deactivated}
-use Rattle.card_state.specs.declared.life_cycle.LifeCycle.TheVariants.{Activated, Terminated}
-use Rattle.card_state.specs.declared.fcp.Fcp.{Fcp}
-use Rattle.card_state.specs.declared.fcp.FileKind.{FileKind}
-use Rattle.card_state.specs.declared.fcp.FileKind.TheVariants as kinds
-use Rattle.card_state.specs.declared.fcp.Records.{Records}
-use Rattle.card_state.specs.declared.fcp.ShortIdentifier.{ShortIdentifier}
-use Rattle.card_state.specs.FileControl.{IsRecords, IsKind, IsCreatable, size_of_kind}
+use Rattle.card_model.specs.LifeCycle.{life_cycle_at, life_cycle_byte}
+use Rattle.card_model.specs.Rule.{is_rule}
+use Rattle.card_model.specs.RuleFacts.{length-rule}
+use Rattle.card_model.specs.declared.life_cycle.LifeCycle.{LifeCycle}
+use Rattle.card_model.specs.declared.life_cycle.LifeCycle.TheVariants.{Creation, Initialisation, Deactivated}
+use Rattle.card_model.specs.declared.life_cycle.LifeCycle.TheVariants.{Activated, Terminated}
+use Rattle.card_model.specs.declared.fcp.Fcp.{Fcp}
+use Rattle.card_model.specs.declared.fcp.FileKind.{FileKind}
+use Rattle.card_model.specs.declared.fcp.FileKind.TheVariants as kinds
+use Rattle.card_model.specs.declared.fcp.Records.{Records}
+use Rattle.card_model.specs.declared.fcp.ShortIdentifier.{ShortIdentifier}
+use Rattle.card_model.specs.FileControl.{IsRecords, IsKind, IsCreatable, size_of_kind}
 use Rattle.block_chain.specs.declared.chain.Chain.{Chain}
 use Rattle.file_tree.specs.declared.entry.Entry.{Entry}
-use Rattle.card_state.specs.FileTrees.{transparent, linear, cyclic, dedicated, elementary}
+use Rattle.card_model.specs.FileTrees.{transparent, linear, cyclic, dedicated, elementary}
 use Rattle.file_tree.specs.Entries.{file_of, slot, linear_records, cyclic_records, entry_capacity}
-use Rattle.card_state.specs.Spaces.{blocks_for}
+use Rattle.card_model.specs.Spaces.{blocks_for}
 use Rattle.file_tree.specs.Table.{IsFileEntry, IsRecordBody, HasBody, HasName}
-use Rattle.card_state.specs.NewFiles.{blank, new_file, capacity}
+use Rattle.card_model.specs.NewFiles.{blank, new_file, capacity}
 use Rattle.file_changes.specs.CreationParts.{padded, entry_for, short_option}
 use Rattle.file_changes.specs.Creations.{kind_number}
 

@@ -11,7 +11,7 @@ use Rattle.block_chain.specs.declared.chain.Extent.{Extent}
 use Rattle.block_chain.specs.Layout.{AreSplit}
 use Rattle.block_chain.specs.laws.Extents.{split_none, split_given, split_kept}
 use Rattle.file_tree.specs.declared.entry.Entry.{Entry}
-use Rattle.card_state.specs.Spaces.{blocks_for}
+use Rattle.card_model.specs.Spaces.{blocks_for}
 use Rattle.file_tree.specs.Entries.{free_entry, extent_of, extent_told, entry_capacity}
 use Rattle.file_tree.specs.Table.{entry_in, extents, free_entries, IsEntry}
 use Rattle.file_changes.specs.DeletionParts.{is_gone, going, part_below}

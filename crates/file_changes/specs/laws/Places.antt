@@ -6,14 +6,14 @@ use Rattle.std.specs.Prelude.{List, length, None, Some}
 use Rattle.std.proofs.Common.{refl, sym, ◌∙◌, ap, arith, inl, inr, true≢false}
 use Rattle.std.proofs.lemmas.Bool.Decides.{eqb_tells}
 use Rattle.std.proofs.lemmas.Bool.{lt-ltb, le-ltb}
-use Rattle.card_state.specs.declared.status.TheConstants.Sw.{NO_ROOM, CONDITIONS_NOT_SATISFIED}
-use Rattle.card_state.specs.declared.fcp.FileKind.{FileKind}
-use Rattle.card_state.specs.FileControl.{size_of_kind}
+use Rattle.card_model.specs.declared.status.TheConstants.Sw.{NO_ROOM, CONDITIONS_NOT_SATISFIED}
+use Rattle.card_model.specs.declared.fcp.FileKind.{FileKind}
+use Rattle.card_model.specs.FileControl.{size_of_kind}
 use Rattle.block_chain.specs.Chains.{free_chain}
-use Rattle.card_state.specs.declared.space.FreeSpace.{FreeSpace}
+use Rattle.card_model.specs.declared.space.FreeSpace.{FreeSpace}
 use Rattle.file_changes.specs.declared.placing.Place.TheVariants.{At}
-use Rattle.card_state.specs.FileTrees.{Path, Tree}
-use Rattle.card_state.specs.Spaces.{blocks_for, free_space}
+use Rattle.card_model.specs.FileTrees.{Path, Tree}
+use Rattle.card_model.specs.Spaces.{blocks_for, free_space}
 use Rattle.file_tree.specs.Table.{table, ancestor, path_of, free_entries, IsUsed}
 use Rattle.file_tree.specs.Trees.{tree_of, TreeStands}
 use Rattle.file_changes.specs.CreationRefusals.{place_refusal}

@@ -13,7 +13,7 @@ use Rattle.block_chain.specs.Chains.{free_chain}
 use Rattle.block_chain.specs.Layout.{laid_out, chains_of, IsExtent, AreSplit}
 use Rattle.file_tree.specs.declared.entry.Entry.{Entry}
 use Rattle.file_changes.specs.declared.deleting.Removal.{Removal}
-use Rattle.card_state.specs.Spaces.{free_space}
+use Rattle.card_model.specs.Spaces.{free_space}
 use Rattle.file_tree.specs.Entries.{free_entry}
 use Rattle.file_tree.specs.Table.{table, entry_in, extents, IsUsed}
 use Rattle.file_tree.specs.Trees.{tree_of, TreeStands}

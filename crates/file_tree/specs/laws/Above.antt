@@ -8,7 +8,7 @@ use Rattle.file_tree.specs.declared.entry.Entry.{Entry}
 use Rattle.file_tree.specs.declared.steps.Key.{Key}
 use Rattle.file_tree.specs.declared.steps.Place.{Place}
 use Rattle.file_tree.specs.declared.index.Index.{Index}
-use Rattle.card_state.specs.FileTrees.{master_file}
+use Rattle.card_model.specs.FileTrees.{master_file}
 use Rattle.file_tree.specs.Table.{entry_in, IsUsed, IsTable}
 use Rattle.file_tree.specs.Indexes.{place_of, IsPlace, IsIndex, TellsChild}
 use Rattle.file_tree.specs.IndexParts.{parent_by}

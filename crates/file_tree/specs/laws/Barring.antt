@@ -8,12 +8,12 @@ use Rattle.std.proofs.lemmas.List.{length-append, take-append-le}
 use Rattle.std.proofs.lemmas.List.Folds.{list_any-append}
 use Rattle.std.proofs.lemmas.List.FromFn.{map-range_with_len_more}
 use Rattle.std.proofs.Math.Seq.{take-append_seam}
-use Rattle.card_state.specs.Rule.{allows}
-use Rattle.card_state.specs.declared.access_mode.AccessBit.{AccessBit}
+use Rattle.card_model.specs.Rule.{allows}
+use Rattle.card_model.specs.declared.access_mode.AccessBit.{AccessBit}
 use Rattle.file_tree.specs.declared.entry.Entry.{Entry}
-use Rattle.card_state.specs.FileTrees.{Path, File, Tree, file_at}
+use Rattle.card_model.specs.FileTrees.{Path, File, Tree, file_at}
 use Rattle.file_tree.specs.Entries.{file_of, is_allowed_by, life_told, rule_of}
-use Rattle.card_state.specs.FileLives.{bars, above, life_at, has_barred_above, is_allowed}
+use Rattle.card_model.specs.FileLives.{bars, above, life_at, has_barred_above, is_allowed}
 use Rattle.file_tree.specs.Table.{table, entry_in, ancestor, path_of, IsUsed, IsTable}
 use Rattle.file_tree.specs.Trees.{content, tree_of}
 use Rattle.file_tree.specs.States.{barred_up}

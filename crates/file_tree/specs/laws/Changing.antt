@@ -6,11 +6,11 @@ use Rattle.std.proofs.Common.{refl, sym, ◌∙◌, ap, subst, inl, inr}
 use Rattle.std.proofs.lemmas.Bool.Decides.{eqb_tells}
 use Rattle.std.proofs.lemmas.Option.{none-some}
 use Rattle.file_tree.specs.declared.entry.Entry.{Entry}
-use Rattle.card_state.specs.FileTrees.{Path, File, Tree}
+use Rattle.card_model.specs.FileTrees.{Path, File, Tree}
 use Rattle.file_tree.specs.Table.{table, path_of, IsUsed, IsTable}
 use Rattle.file_tree.specs.Trees.{tree_of, file_in}
 use Rattle.file_tree.specs.laws.Paths.{one_path}
-use Rattle.card_state.specs.laws.Orders.{same_path, one_of_same, same_of_one}
+use Rattle.card_model.specs.laws.Orders.{same_path, one_of_same, same_of_one}
 use Rattle.file_tree.specs.laws.Nodes.{get-used, entry_found}
 
 -- an entry that has a path

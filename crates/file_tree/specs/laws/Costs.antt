@@ -21,8 +21,8 @@ use Rattle.block_chain.specs.Chains.{bytes_of, free_chain}
 use Rattle.block_chain.specs.Layout.{IsExtent, blocks_of, laid_out}
 use Rattle.block_chain.specs.laws.Bytes.{length-bytes_of, leads_blocks}
 use Rattle.file_tree.specs.declared.entry.Entry.{Entry}
-use Rattle.card_state.specs.FileTrees.{Path, File, transparent, linear, cyclic, dedicated, elementary}
-use Rattle.card_state.specs.Spaces.{blocks_for, cost, cost_of, free_space}
+use Rattle.card_model.specs.FileTrees.{Path, File, transparent, linear, cyclic, dedicated, elementary}
+use Rattle.card_model.specs.Spaces.{blocks_for, cost, cost_of, free_space}
 use Rattle.file_tree.specs.Entries.{free_entry, entry_of, file_of, entry_capacity, extent_told, extent_of}
 use Rattle.file_tree.specs.Entries.{linear_records, cyclic_records}
 use Rattle.file_tree.specs.Table.{table, entry_in, extents, free_entries, HasBody, IsTable}

@@ -7,9 +7,9 @@ use Rattle.std.proofs.Common.{refl, sym, ◌∙◌, ap, ap₂, subst, arith, inl
 use Rattle.std.proofs.lemmas.Bool.Decides.{eqb_tells}
 use Rattle.std.proofs.lemmas.List.{nil_from_length}
 use Rattle.file_tree.specs.declared.entry.Entry.{Entry}
-use Rattle.card_state.specs.FileTrees.{Path, File, master_file, parent, identifier, no_file, exists, file_at}
-use Rattle.card_state.specs.FileTrees.{is_dedicated}
-use Rattle.card_state.specs.Selectors.{Candidate, first_reached, reached}
+use Rattle.card_model.specs.FileTrees.{Path, File, master_file, parent, identifier, no_file, exists, file_at}
+use Rattle.card_model.specs.FileTrees.{is_dedicated}
+use Rattle.card_model.specs.Selectors.{Candidate, first_reached, reached}
 use Rattle.file_tree.specs.Table.{table, entry_in, path_of, IsUsed, IsChild, HaveIdentifiers, IsTable}
 use Rattle.file_tree.specs.Trees.{content, tree_of}
 use Rattle.file_tree.specs.Indexes.{TellsChild}

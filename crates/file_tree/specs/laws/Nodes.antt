@@ -10,13 +10,13 @@ use Rattle.std.proofs.lemmas.Bool.{cases_lt}
 use Rattle.std.proofs.lemmas.Bool.Decides.{eqb_tells}
 use Rattle.std.proofs.lemmas.Option.{none-some, same_Some}
 use Rattle.file_tree.specs.declared.entry.Entry.{Entry}
-use Rattle.card_state.specs.FileTrees.{dedicated, elementary, Body, Path, File, no_file, exists, file_at, is_dedicated}
+use Rattle.card_model.specs.FileTrees.{dedicated, elementary, Body, Path, File, no_file, exists, file_at, is_dedicated}
 use Rattle.file_tree.specs.Entries.{file_of}
 use Rattle.file_tree.specs.Table.{table, entry_in, path_of, IsUsed, IsTable}
 use Rattle.file_tree.specs.Trees.{node, tree_of, file_in}
 use Rattle.file_tree.specs.laws.Tables.{length-table, entry_past}
 use Rattle.file_tree.specs.laws.Paths.{one_path}
-use Rattle.card_state.specs.laws.Orders.{same_path, one_of_same, same_of_one}
+use Rattle.card_model.specs.laws.Orders.{same_path, one_of_same, same_of_one}
 
 -- a file by its path
 abbrev pub Node : Type 0

@@ -5,8 +5,8 @@ use Rattle.std.proofs.Common.{refl, sym, ◌∙◌, ap, arith, inl, inr}
 use Rattle.std.proofs.lemmas.List.{length-append}
 use Rattle.std.proofs.lemmas.Bool.Decides.{eqb_tells}
 use Rattle.file_tree.specs.declared.entry.Entry.{Entry}
-use Rattle.card_state.specs.FileTrees.{Path, parent, identifier}
-use Rattle.card_state.specs.laws.PathEnds.{parent-push, identifier-push}
+use Rattle.card_model.specs.FileTrees.{Path, parent, identifier}
+use Rattle.card_model.specs.laws.PathEnds.{parent-push, identifier-push}
 use Rattle.file_tree.specs.Table.{entry_in, ancestor, path_in, path_of, IsUsed, IsChild, IsTable}
 use Rattle.file_tree.specs.laws.Levels.{ancestor-step}
 

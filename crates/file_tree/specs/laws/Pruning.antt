@@ -9,7 +9,7 @@ use Rattle.std.proofs.lemmas.Bool.{not-true}
 use Rattle.file_tree.specs.declared.entry.Entry.{Entry}
 use Rattle.file_tree.specs.declared.steps.Place.{Place}
 use Rattle.file_tree.specs.declared.index.Index.{Index}
-use Rattle.card_state.specs.FileTrees.{Path, File, Tree}
+use Rattle.card_model.specs.FileTrees.{Path, File, Tree}
 use Rattle.file_tree.specs.Keys.{key_for, IsBefore}
 use Rattle.file_tree.specs.Table.{table, entry_in, path_of, IsUsed}
 use Rattle.file_tree.specs.Trees.{tree_of, TreeStands, file_in}

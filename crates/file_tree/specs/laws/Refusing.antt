@@ -9,18 +9,18 @@ use Rattle.std.proofs.lemmas.Bool.Decides.{eqb_tells}
 use Rattle.block_chain.specs.BlockWords.{page_words}
 use Rattle.file_tree.specs.declared.entry.Entry.{Entry}
 use Rattle.file_tree.specs.declared.entry.EntryHead.{EntryHead}
-use Rattle.card_state.specs.FileTrees.{Path, File, Body, dedicated, elementary, exists}
+use Rattle.card_model.specs.FileTrees.{Path, File, Body, dedicated, elementary, exists}
 use Rattle.file_tree.specs.Entries.{head_of, free_entry, entry_told, entry_of, file_of, name_of}
 use Rattle.file_tree.specs.Table.{table, entry_in, ancestor, path_in, path_of, IsUsed, IsTable}
 use Rattle.file_tree.specs.Trees.{content, node, tree_of, file_in}
-use Rattle.card_state.specs.Selectors.{is_named}
-use Rattle.card_state.specs.NewFiles.{has_name}
+use Rattle.card_model.specs.Selectors.{is_named}
+use Rattle.card_model.specs.NewFiles.{has_name}
 use Rattle.file_tree.specs.Indexes.{TellsChild}
 use Rattle.file_tree.specs.Naming.{BearsNameAt, TellsNamed}
 use Rattle.file_tree.specs.laws.Tables.{length-table, entry_in-table}
 use Rattle.file_tree.specs.laws.Paths.{path-zero, path-below, path-enough, child_of_path, path_of_child}
 use Rattle.file_tree.specs.laws.Nodes.{Node, used_small, node_tells}
-use Rattle.card_state.specs.laws.Orders.{same_path, one_of_same, same_of_one}
+use Rattle.card_model.specs.laws.Orders.{same_path, one_of_same, same_of_one}
 use Rattle.file_tree.specs.laws.Nodes.{get-used, exists-used, exists-none}
 use Rattle.file_tree.specs.laws.Shorts.{entries_each, nodes_each, find_none, find_one}
 

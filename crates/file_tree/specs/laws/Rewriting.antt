@@ -10,14 +10,14 @@ use Rattle.std.proofs.Common.{refl, sym, ◌∙◌, ap, ap₂, subst, arith, inl
 use Rattle.std.proofs.lemmas.Bool.{cases_lt}
 use Rattle.std.specs.FinMap.{insert}
 use Rattle.nvm_board.specs.declared.board.TheConstants.{PAGE_WORDS}
-use Rattle.card_state.specs.LifeCycle.{life_cycle_at}
-use Rattle.card_state.specs.declared.life_cycle.LifeCycle.TheVariants.{Activated}
+use Rattle.card_model.specs.LifeCycle.{life_cycle_at}
+use Rattle.card_model.specs.declared.life_cycle.LifeCycle.TheVariants.{Activated}
 use Rattle.block_chain.specs.declared.chain.Extent.{Extent}
 use Rattle.block_chain.specs.Counts.{count, IsNotIn}
 use Rattle.block_chain.specs.BlockWords.{word}
 use Rattle.block_chain.specs.Chains.{free_chain, bytes_of}
 use Rattle.block_chain.specs.ChainChanges.{OnlyContent}
-use Rattle.card_state.specs.FileTrees.{overwrite, transparent, linear, cyclic, dedicated, elementary, File}
+use Rattle.card_model.specs.FileTrees.{overwrite, transparent, linear, cyclic, dedicated, elementary, File}
 use Rattle.block_chain.specs.Layout.{blocks_of, laid_out, IsExtent, AreLaid}
 use Rattle.block_chain.specs.laws.Counts.{count-append, count-split}
 use Rattle.block_chain.specs.laws.Bytes.{AreBlocks, leads_blocks, blocks_take}

@@ -7,12 +7,12 @@ use Rattle.std.proofs.lemmas.Bool.{and_parts}
 use Rattle.std.proofs.lemmas.Bool.Decides.{eqb_tells}
 use Rattle.std.proofs.lemmas.List.{append_assoc, append-nil}
 use Rattle.file_tree.specs.declared.entry.Entry.{Entry}
-use Rattle.card_state.specs.FileTrees.{Path, Tree, IsTree, master_file, parent, identifier, exists, file_at}
-use Rattle.card_state.specs.FileTrees.{is_dedicated}
+use Rattle.card_model.specs.FileTrees.{Path, Tree, IsTree, master_file, parent, identifier, exists, file_at}
+use Rattle.card_model.specs.FileTrees.{is_dedicated}
 use Rattle.file_tree.specs.Entries.{free_entry}
-use Rattle.card_state.specs.Selectors.{Candidate, first_reached, is_named, selected, the_parent, by_name}
-use Rattle.card_state.specs.Selectors.{path_from_master, path_from_current, IsReserved}
-use Rattle.card_state.specs.laws.PathEnds.{parent-push, identifier-push}
+use Rattle.card_model.specs.Selectors.{Candidate, first_reached, is_named, selected, the_parent, by_name}
+use Rattle.card_model.specs.Selectors.{path_from_master, path_from_current, IsReserved}
+use Rattle.card_model.specs.laws.PathEnds.{parent-push, identifier-push}
 use Rattle.file_tree.specs.Table.{table, entry_in, path_of, IsUsed, IsTable}
 use Rattle.file_tree.specs.Trees.{tree_of, TreeStands}
 use Rattle.file_tree.specs.Indexes.{TellsChild}

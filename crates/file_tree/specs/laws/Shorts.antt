@@ -16,15 +16,15 @@ use Rattle.std.proofs.lemmas.Bool.Decides.{eqb_tells}
 use Rattle.std.proofs.lemmas.Option.{none-some, same_Some}
 use Rattle.std.proofs.lemmas.List.{nil_from_length}
 use Rattle.file_tree.specs.declared.entry.Entry.{Entry}
-use Rattle.card_state.specs.FileTrees.{Path, File, Body, dedicated, elementary, parent, short_of}
-use Rattle.card_state.specs.Selectors.{is_child, has_short, child_by_short}
+use Rattle.card_model.specs.FileTrees.{Path, File, Body, dedicated, elementary, parent, short_of}
+use Rattle.card_model.specs.Selectors.{is_child, has_short, child_by_short}
 use Rattle.file_tree.specs.Entries.{free_entry, file_of}
 use Rattle.file_tree.specs.Table.{table, entry_in, path_of, IsUsed, IsChild, HasShort, IsTable}
 use Rattle.file_tree.specs.Trees.{content, node, tree_of, file_in}
 use Rattle.file_tree.specs.laws.Tables.{length-table}
 use Rattle.file_tree.specs.laws.Paths.{path-zero, path_of-empty, parent_path, one_path, parent_used}
 use Rattle.file_tree.specs.laws.Nodes.{Node, find_path, used_small}
-use Rattle.card_state.specs.laws.Orders.{same_path, one_of_same, same_of_one}
+use Rattle.card_model.specs.laws.Orders.{same_path, one_of_same, same_of_one}
 use Rattle.file_tree.specs.laws.Nodes.{node_tells, get-used}
 use Rattle.file_tree.specs.TreeParts.{TellsShort}
 use Rattle.file_tree.specs.laws.Costs.{no_entries}

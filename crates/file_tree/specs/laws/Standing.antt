@@ -4,7 +4,7 @@ use Rattle.std.specs.Prelude.{Option, None, Some, is_some, IsTrue}
 use Rattle.std.specs.FinMap.{get}
 use Rattle.std.proofs.Common.{refl, sym, ◌∙◌, ap, ap₂, arith, inl, inr, true≢false}
 use Rattle.std.proofs.lemmas.Bool.Decides.{eqb_tells}
-use Rattle.card_state.specs.FileTrees.{Path, File, parent, exists, file_at, is_dedicated, IsTree}
+use Rattle.card_model.specs.FileTrees.{Path, File, parent, exists, file_at, is_dedicated, IsTree}
 use Rattle.file_tree.specs.Table.{table, entry_in, path_of, IsUsed, IsTable}
 use Rattle.file_tree.specs.Trees.{content, tree_of, TreeStands}
 use Rattle.file_tree.specs.laws.Paths.{path-zero, master_used, parent_path}

@@ -5,7 +5,7 @@ use Rattle.std.specs.List.{starts_with}
 use Rattle.std.proofs.Common.{refl, sym, ◌∙◌, ap, ap₂, arith, inl, inr, true≢false}
 use Rattle.std.proofs.lemmas.Bool.Decides.{eqb_tells}
 use Rattle.file_tree.specs.declared.entry.Entry.{Entry}
-use Rattle.card_state.specs.FileTrees.{Path}
+use Rattle.card_model.specs.FileTrees.{Path}
 use Rattle.file_tree.specs.Table.{entry_in, ancestor, path_in, path_of, IsUsed, IsTable}
 use Rattle.file_tree.specs.Subtrees.{leads, leads_up}
 use Rattle.file_tree.specs.laws.Levels.{ancestor-more}

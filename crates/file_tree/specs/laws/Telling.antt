@@ -7,7 +7,7 @@ use Rattle.block_chain.specs.declared.chain.Extent.{Extent}
 use Rattle.block_chain.specs.Chains.{free_chain}
 use Rattle.block_chain.specs.Layout.{AreLaid, TellsFreeBlocks}
 use Rattle.file_tree.specs.declared.entry.Entry.{Entry}
-use Rattle.card_state.specs.declared.space.FreeSpace.{FreeSpace}
+use Rattle.card_model.specs.declared.space.FreeSpace.{FreeSpace}
 use Rattle.file_tree.specs.Table.{table, extents, free_entries, IsTable}
 use Rattle.file_tree.specs.Trees.{TreeStands, TellsSpace}
 use Rattle.file_tree.specs.laws.Costs.{space_counted}

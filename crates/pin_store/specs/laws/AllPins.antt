@@ -6,18 +6,18 @@ use Rattle.std.proofs.Common.{◌≡◌, ◌≢◌, ◌⊎◌, ◌<◌, ◌≤�
 use Rattle.std.proofs.Common.{refl, sym, ◌∙◌, ap, ap₂, subst, inl, inr, arith}
 use Rattle.std.proofs.lemmas.Bool.{cases_order}
 use Rattle.nvm_board.specs.Facts.{address}
-use Rattle.card_state.specs.declared.pins.TheConstants.{PINS}
+use Rattle.card_model.specs.declared.pins.TheConstants.{PINS}
 use Rattle.pin_store.specs.declared.layout.TheConstants.{PIN_MARK_WORD, PIN_WORDS}
-use Rattle.card_state.specs.declared.limits.TheConstants.{TRIES, UNBLOCKING_TRIES}
+use Rattle.card_model.specs.declared.limits.TheConstants.{TRIES, UNBLOCKING_TRIES}
 use Rattle.pin_store.specs.declared.putting.Renewal.{Renewal}
 use Rattle.pin_store.specs.declared.putting.Renewal.TheVariants.{Value, ValueAndTries, Mark}
-use Rattle.card_state.specs.Secrets.{Pin, HasFewTries, owner}
-use Rattle.card_state.specs.Secrets.{tries_left, verified_pin, enabled_pin, with_tries}
+use Rattle.card_model.specs.Secrets.{Pin, HasFewTries, owner}
+use Rattle.card_model.specs.Secrets.{tries_left, verified_pin, enabled_pin, with_tries}
 use Rattle.pin_store.specs.RenewalParts.{renewed_pin}
 use Rattle.pin_store.specs.Pages.{pin_page, pin_at, pins_of, unmarked_pins_of, IsPinPage, ArePinPages, AreEnabled}
 use Rattle.pin_store.specs.Pages.{AreMarks, IsMark, KeepsPins, KeepsSecrets, SetsPin}
 use Rattle.pin_store.specs.laws.PinPages.{pin_same, secrets_same, marked_enabled, few_tries, page_of_few}
-use Rattle.card_state.specs.laws.FewTries.{with_few, verified_few, changed_few, reset_few, marked_few}
+use Rattle.card_model.specs.laws.FewTries.{with_few, verified_few, changed_few, reset_few, marked_few}
 
 -- the same PINs at successive places
 pins-same : (old new : ℕ → Pin) (a n : ℕ) → ((j : ℕ) → a ≤ j → j < a + n → new j ≡ old j)

@@ -7,11 +7,11 @@ use Rattle.std.proofs.Math.ListN.{length-set}
 use Rattle.nvm_board.specs.Facts.{address, IsMemory}
 use Rattle.nvm_board.specs.Torn.{written}
 use Rattle.undo_journal.specs.laws.Torn.{length-written, written-elsewhere, written-inside}
-use Rattle.card_state.specs.declared.pins.TheConstants.{PINS}
+use Rattle.card_model.specs.declared.pins.TheConstants.{PINS}
 use Rattle.pin_store.specs.declared.layout.TheConstants.{PIN_MARK_WORD, PIN_WORDS}
-use Rattle.card_state.specs.declared.limits.TheConstants.{TRIES, UNBLOCKING_TRIES}
-use Rattle.card_state.specs.Secrets.{HasFewTries, owner, is_unblocking, kept, tries_left, with_tries, changed_pin}
-use Rattle.card_state.specs.Secrets.{reset_pin, verified_pin, enabled_pin, marked_pin}
+use Rattle.card_model.specs.declared.limits.TheConstants.{TRIES, UNBLOCKING_TRIES}
+use Rattle.card_model.specs.Secrets.{HasFewTries, owner, is_unblocking, kept, tries_left, with_tries, changed_pin}
+use Rattle.card_model.specs.Secrets.{reset_pin, verified_pin, enabled_pin, marked_pin}
 use Rattle.pin_store.specs.Pages.{pin_page, pin_word, bytes_of_words, pin_at, IsPinPage}
 use Rattle.pin_store.specs.Pages.{IsApart, IsMark, SetsPin}
 

@@ -5,10 +5,10 @@ use Rattle.std.proofs.Common.{subst, inl, inr, arith}
 use Rattle.nvm_board.specs.Facts.{raised}
 use Rattle.undo_journal.specs.Memory.{Memory, committed}
 use Rattle.undo_journal.specs.Spending.{WritesAtMost}
-use Rattle.card_state.specs.declared.pins.TheConstants.{PINS}
-use Rattle.card_state.specs.declared.limits.TheConstants.{TRIES, UNBLOCKING_TRIES}
-use Rattle.card_state.specs.Secrets.{Pin, is_unblocking, owner, kept, tries_left, full_tries, charged_pin, verified_pin}
-use Rattle.card_state.specs.Secrets.{changed_pin, marked_pin, reset_pin}
+use Rattle.card_model.specs.declared.pins.TheConstants.{PINS}
+use Rattle.card_model.specs.declared.limits.TheConstants.{TRIES, UNBLOCKING_TRIES}
+use Rattle.card_model.specs.Secrets.{Pin, is_unblocking, owner, kept, tries_left, full_tries, charged_pin, verified_pin}
+use Rattle.card_model.specs.Secrets.{changed_pin, marked_pin, reset_pin}
 use Rattle.pin_store.specs.Pages.{pin_at, IsMark}
 use Rattle.pin_store.specs.Trials.{pin_in, Charges, ComparesOnce, IsMatch, SetsByMatch, FillsByMatch}
 use Rattle.pin_store.specs.Trials.{KeepsPinLaw}

@@ -1,6 +1,6 @@
 -- Each command is served as the function that carries it out says of the request that the command is.
 use Rattle.std.proofs.Common.{◌≡◌, ℕ, List, [], Result, refl, sym, subst}
-use Rattle.card_state.specs.declared.status.Sw.{Sw}
+use Rattle.card_model.specs.declared.status.Sw.{Sw}
 use Rattle.undo_journal.specs.declared.error.StoreErr.{StoreErr}
 use Rattle.undo_journal.specs.Memory.{Memory}
 use Rattle.apdu_core.specs.declared.commands.Command.{Command}

@@ -1,9 +1,9 @@
 use Rattle.std.proofs.Common.{◌∙◌, ◌==◌, List, ℕ, Ok, Err, ap, sym, subst, Result}
 use Rattle.std.proofs.lemmas.Bool.{ne_eqb}
 use Rattle.undo_journal.specs.Memory.{committed}
-use Rattle.card_state.specs.declared.status.Sw.{Sw}
+use Rattle.card_model.specs.declared.status.Sw.{Sw}
 use Rattle.undo_journal.specs.declared.error.StoreErr.{StoreErr}
-use Rattle.card_state.specs.declared.status.TheConstants.Sw.{CONDITIONS_NOT_SATISFIED}
+use Rattle.card_model.specs.declared.status.TheConstants.Sw.{CONDITIONS_NOT_SATISFIED}
 use Rattle.apdu_core.specs.ParsedCommands.{request_of}
 use Rattle.command_base.specs.Served.{ExecutesBytes}
 use Rattle.card_core.proofs.Carrying.{carried, failed-reading, in-use-is, serves-after, use-ended, refused-by-form}

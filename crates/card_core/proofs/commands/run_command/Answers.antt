@@ -1,5 +1,5 @@
 use Rattle.std.proofs.Common.{◌≡◌, OnOk, Result, sym, subst}
-use Rattle.card_state.specs.declared.status.Sw.{Sw}
+use Rattle.card_model.specs.declared.status.Sw.{Sw}
 use Rattle.undo_journal.specs.declared.error.StoreErr.{StoreErr}
 use Rattle.command_base.specs.Served.{ExecutesBytes}
 use Rattle.file_tree.specs.Indexes.{IsIndex}

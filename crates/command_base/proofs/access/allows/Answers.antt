@@ -2,7 +2,7 @@ use Rattle.std.proofs.Common.{List, Bool, sym, ◌∙◌, ap}
 use Rattle.undo_journal.specs.Memory.{committed}
 use Rattle.undo_journal.specs.laws.Exits.{none_ok}
 use Rattle.undo_journal.specs.laws.Told.{reads_handed, reads_none}
-use Rattle.card_state.specs.laws.DisabledPins.{allows-anyhow}
+use Rattle.card_model.specs.laws.DisabledPins.{allows-anyhow}
 use Rattle.file_tree.specs.Entries.{is_allowed_by, life_told, rule_of}
 use Rattle.command_base.specs.Working.{disabled_in}
 use Rattle.command_base.proofs.Allowing.{allowed-by-entry}

@@ -2,9 +2,9 @@ use Rattle.std.proofs.Common.{◌≡◌, ◌<◌, ◌+◌, ◌-◌, ℕ, Bool, L
 use Rattle.undo_journal.specs.Memory.{committed}
 use Rattle.undo_journal.specs.laws.Calls.{reads_same, reads_then}
 use Rattle.undo_journal.specs.laws.Told.{reads_handed, reads_on, reads_so_far}
-use Rattle.card_state.specs.Pins.{with_pin}
+use Rattle.card_model.specs.Pins.{with_pin}
 use Rattle.pin_store.specs.Pages.{pin_at}
-use Rattle.card_state.specs.Secrets.{owner}
+use Rattle.card_model.specs.Secrets.{owner}
 use Rattle.command_base.proofs.Disabled.{TellsMarks, all-told, index-next, next_index, none-told, one-disabled}
 use Rattle.command_base.proofs.Disabled.{one-enabled}
 use Rattle.command_base.proofs.access.disabled_pins.Goals.{then-not-branch, else-not-branch}

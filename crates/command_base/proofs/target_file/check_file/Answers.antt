@@ -1,8 +1,8 @@
 use Rattle.std.proofs.Common.{◌≡◌, List, ℕ, sym, ◌∙◌, ap, rules}
 use Rattle.undo_journal.specs.Memory.{committed}
 use Rattle.undo_journal.specs.laws.Told.{reads_on}
-use Rattle.card_state.specs.FileTrees.{Tree}
-use Rattle.card_state.specs.FileLives.{is_barred}
+use Rattle.card_model.specs.FileTrees.{Tree}
+use Rattle.card_model.specs.FileLives.{is_barred}
 use Rattle.file_tree.specs.Table.{table, path_of}
 use Rattle.card_model.specs.Guards.{allowed}
 use Rattle.command_base.specs.Standing.{card_of}

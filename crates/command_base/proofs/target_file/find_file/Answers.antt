@@ -1,13 +1,13 @@
 use Rattle.std.proofs.Common.{◌≡◌, ℕ, List, Option, Some, None, IfSome, option_map, sym, ◌∙◌, ap, subst}
 use Rattle.std.proofs.Common.{if◌then◌else◌, rules}
 use Rattle.std.specs.Option.{is_none}
-use Rattle.card_state.specs.declared.status.Sw.{Sw}
+use Rattle.card_model.specs.declared.status.Sw.{Sw}
 use Rattle.card_model.specs.Guards.{file_refusals, missing, allowed}
 use Rattle.card_model.specs.Behaviours.{refused_by}
 use Rattle.undo_journal.specs.Memory.{committed}
 use Rattle.undo_journal.specs.laws.Calls.{reads_then}
 use Rattle.file_tree.specs.declared.entry.Entry.{Entry}
-use Rattle.card_state.specs.FileLives.{is_barred}
+use Rattle.card_model.specs.FileLives.{is_barred}
 use Rattle.file_tree.specs.Table.{table, entry_in, path_of}
 use Rattle.file_tree.specs.laws.Nodes.{used_small}
 use Rattle.command_base.specs.Standing.{card_of}

@@ -1,8 +1,8 @@
 use Rattle.std.proofs.Common.{◌≡◌, ◌≤◌, ℕ, List, Option, Some, None, IfSome, option_map, sym, ◌∙◌, ap, rules}
 use Rattle.undo_journal.specs.Memory.{committed}
 use Rattle.card_model.specs.declared.requests.Target.{Target}
-use Rattle.card_state.specs.FileTrees.{Tree}
-use Rattle.card_state.specs.Selectors.{child_by_short}
+use Rattle.card_model.specs.FileTrees.{Tree}
+use Rattle.card_model.specs.Selectors.{child_by_short}
 use Rattle.file_tree.specs.declared.entry.Entry.{Entry}
 use Rattle.file_tree.specs.Table.{table, entry_in, path_of, IsChild}
 use Rattle.file_tree.specs.Trees.{tree_of}

@@ -3,7 +3,7 @@ use Rattle.undo_journal.specs.Memory.{committed}
 use Rattle.undo_journal.specs.laws.Calls.{reads_then}
 use Rattle.undo_journal.specs.laws.Told.{reads_on}
 use Rattle.card_model.specs.Requests.{read_binary}
-use Rattle.card_state.specs.declared.access_mode.AccessBit.TheVariants.{Read}
+use Rattle.card_model.specs.declared.access_mode.AccessBit.TheVariants.{Read}
 use Rattle.ef_body.specs.TransparentBodies.{transparent_bytes}
 use Rattle.command_base.specs.declared.current.Current.{Current}
 use Rattle.command_base.specs.Stops.{stop_of_body}

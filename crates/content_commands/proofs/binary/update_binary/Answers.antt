@@ -1,6 +1,6 @@
 use Rattle.std.proofs.Common.{◌≡◌, [], Ok, refl, sym, ◌∙◌, ap, subst}
-use Rattle.card_state.specs.declared.access_mode.AccessBit.TheVariants.{Update}
-use Rattle.card_state.specs.declared.status.TheConstants.Sw.{DONE}
+use Rattle.card_model.specs.declared.access_mode.AccessBit.TheVariants.{Update}
+use Rattle.card_model.specs.declared.status.TheConstants.Sw.{DONE}
 use Rattle.undo_journal.specs.Memory.{Memory, committed}
 use Rattle.card_model.specs.Requests.{update_binary}
 use Rattle.command_base.specs.declared.current.Current.{Current}

@@ -1,5 +1,5 @@
 use Rattle.std.proofs.Common.{◌≤◌, lit<, ℕ, List, Err, Ok, Some, refl, sym, ◌∙◌, ap, subst, arith}
-use Rattle.card_state.specs.declared.status.TheConstants.Sw.{DONE, WRONG_LENGTH}
+use Rattle.card_model.specs.declared.status.TheConstants.Sw.{DONE, WRONG_LENGTH}
 use Rattle.undo_journal.specs.Memory.{committed}
 use Rattle.undo_journal.specs.laws.Told.{reads_on}
 use Rattle.card_model.specs.Requests.{increase}

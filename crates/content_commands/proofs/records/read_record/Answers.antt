@@ -1,18 +1,18 @@
 use Rattle.std.proofs.Common.{◌≡◌, ◌≤◌, lit<, ℕ, List, [], length, length-take, refl, sym, not, ◌==◌, ◌&&◌, ◌∙◌, ap}
 use Rattle.std.proofs.Common.{subst, arith}
-use Rattle.card_state.specs.declared.status.TheConstants.Sw.{DONE}
+use Rattle.card_model.specs.declared.status.TheConstants.Sw.{DONE}
 use Rattle.undo_journal.specs.Memory.{committed}
 use Rattle.undo_journal.specs.laws.Calls.{reads_then}
 use Rattle.undo_journal.specs.laws.Told.{reads_on}
 use Rattle.nvm_board.specs.Facts.{IsMemory}
 use Rattle.block_chain.specs.ChainChanges.{AppendsSome}
-use Rattle.card_state.specs.declared.status.Sw.{Sw}
-use Rattle.card_state.specs.StatusWords.{length_status}
+use Rattle.card_model.specs.declared.status.Sw.{Sw}
+use Rattle.card_model.specs.StatusWords.{length_status}
 use Rattle.card_model.specs.declared.requests.RecordChoice.{RecordChoice}
 use Rattle.card_model.specs.declared.requests.Target.{Target}
 use Rattle.card_model.specs.Requests.{read_record}
 use Rattle.ef_body.specs.Bodies.{cyclic_body_records}
-use Rattle.card_state.specs.RecordLists.{record_of}
+use Rattle.card_model.specs.RecordLists.{record_of}
 use Rattle.command_base.specs.declared.current.Current.{Current}
 use Rattle.command_base.specs.declared.stop.Stop.TheVariants.{Refused}
 use Rattle.command_base.specs.Standing.{IsCard}

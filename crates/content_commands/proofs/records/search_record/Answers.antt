@@ -5,7 +5,7 @@ use Rattle.undo_journal.specs.laws.Told.{reads_on}
 use Rattle.card_model.specs.declared.requests.RecordChoice.TheVariants.{At}
 use Rattle.card_model.specs.Requests.{search_record}
 use Rattle.ef_body.specs.Bodies.{cyclic_body_records}
-use Rattle.card_state.specs.RecordLists.{records_found as found_in}
+use Rattle.card_model.specs.RecordLists.{records_found as found_in}
 use Rattle.command_base.specs.declared.current.Current.{Current}
 use Rattle.command_base.specs.declared.stop.Stop.TheVariants.{Refused}
 use Rattle.card_model.specs.Guards.{asks_less, given, right_length}

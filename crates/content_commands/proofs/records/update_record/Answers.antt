@@ -1,5 +1,5 @@
 use Rattle.std.proofs.Common.{[], Ok, refl, sym, ◌∙◌, ap, subst, if◌then◌else◌, Some, Option, ℕ}
-use Rattle.card_state.specs.declared.status.TheConstants.Sw.{DONE}
+use Rattle.card_model.specs.declared.status.TheConstants.Sw.{DONE}
 use Rattle.undo_journal.specs.Memory.{committed}
 use Rattle.card_model.specs.Requests.{update_record}
 use Rattle.command_base.specs.declared.current.Current.{Current}

@@ -1,5 +1,5 @@
 use Rattle.std.proofs.Common.{sym, arith}
-use Rattle.card_state.specs.laws.Finding.{steps_forward, steps_backward, number_forward, number_backward}
+use Rattle.card_model.specs.laws.Finding.{steps_forward, steps_backward, number_forward, number_backward}
 use Rattle.ef_body.proofs.search.number_at.Goals as goal
 
 pub overflow_add-result : goal.overflow_add-result

@@ -1,7 +1,7 @@
 use Rattle.std.proofs.Common.{lit<, ◌∙◌, ap}
 use Rattle.undo_journal.specs.laws.Exits.{none_ok}
 use Rattle.undo_journal.specs.laws.Told.{reads_handed}
-use Rattle.card_state.specs.RecordLists.{stands_in}
+use Rattle.card_model.specs.RecordLists.{stands_in}
 use Rattle.ef_body.proofs.search.record_holds.Goals as goal
 
 pub read_from-requires : goal.read_from-requires

@@ -1,5 +1,5 @@
 use Rattle.std.proofs.Common.{sym}
-use Rattle.card_state.specs.laws.Finding.{steps_forward, steps_backward}
+use Rattle.card_model.specs.laws.Finding.{steps_forward, steps_backward}
 use Rattle.ef_body.proofs.search.steps_of.Goals as goal
 
 pub returns-in-Forward : goal.returns-in-Forward

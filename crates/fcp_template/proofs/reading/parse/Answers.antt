@@ -1,5 +1,5 @@
 use Rattle.std.proofs.Common.{ℕ, ◌≡◌, ◌≤◌, ◌∷◌, List, length, ap, subst, sym, ◌∙◌, Result, Err, inl, inr, refl}
-use Rattle.card_state.specs.declared.fcp.Fcp.{Fcp}
+use Rattle.card_model.specs.declared.fcp.Fcp.{Fcp}
 use Rattle.card_model.specs.declared.fault.FcpFault.{FcpFault}
 use Rattle.card_model.specs.declared.fault.FcpFault.TheVariants.{Shape}
 use Rattle.card_model.specs.TemplateGrammar.{DataObject, objects_text, meaning, FcpReads, IsTemplate}

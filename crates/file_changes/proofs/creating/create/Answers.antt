@@ -9,18 +9,18 @@ use Rattle.std.proofs.lemmas.Option.{none-some}
 use Rattle.file_tree.specs.TreeChanges.{SameTree}
 use Rattle.undo_journal.specs.Memory.{Memory, committed, IsReady}
 use Rattle.file_changes.specs.Adding.{AddsByGate}
-use Rattle.card_state.specs.declared.fcp.Fcp.{Fcp}
-use Rattle.card_state.specs.FileControl.{IsCreatable, size_of_kind}
+use Rattle.card_model.specs.declared.fcp.Fcp.{Fcp}
+use Rattle.card_model.specs.FileControl.{IsCreatable, size_of_kind}
 use Rattle.block_chain.specs.Chains.{free_chain}
 use Rattle.block_chain.specs.ChainChanges.{OnlyContent}
 use Rattle.file_tree.specs.declared.entry.Entry.{Entry}
 use Rattle.file_changes.specs.declared.placing.Place.{Place}
 use Rattle.file_changes.specs.declared.placing.Place.TheVariants.{At}
-use Rattle.card_state.specs.Spaces.{blocks_for}
+use Rattle.card_model.specs.Spaces.{blocks_for}
 use Rattle.file_tree.specs.Table.{table, entry_in, path_of}
 use Rattle.file_tree.specs.Trees.{tree_of, TreeStands}
 use Rattle.file_changes.specs.Creations.{IsCreated}
-use Rattle.card_state.specs.NewFiles.{short_of_new}
+use Rattle.card_model.specs.NewFiles.{short_of_new}
 use Rattle.file_changes.specs.CreationRefusals.{first_reason, creation_refusal}
 use Rattle.file_changes.specs.CreationParts.{entry_for, no_chain, short_option, FindsPlace, FillsAndAdds}
 use Rattle.file_changes.specs.laws.NewEntries.{size_most, some_kind}

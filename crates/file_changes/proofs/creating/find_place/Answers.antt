@@ -1,12 +1,12 @@
 use Rattle.file_tree.specs.Formats.{block_count}
 use Rattle.std.proofs.Common.{◌≡◌, Option, None, ◌∙◌, ap}
 use Rattle.undo_journal.specs.Memory.{committed}
-use Rattle.card_state.specs.declared.status.Sw.{Sw}
-use Rattle.card_state.specs.declared.fcp.Fcp.{Fcp}
+use Rattle.card_model.specs.declared.status.Sw.{Sw}
+use Rattle.card_model.specs.declared.fcp.Fcp.{Fcp}
 use Rattle.file_changes.specs.declared.placing.Place.{Place}
 use Rattle.file_changes.specs.declared.placing.Place.TheVariants.{At, Refused}
 use Rattle.file_changes.specs.CreationRefusals.{taken_refusal, place_refusal, first_reason}
-use Rattle.card_state.specs.Spaces.{free_space}
+use Rattle.card_model.specs.Spaces.{free_space}
 use Rattle.file_tree.specs.Table.{path_of}
 use Rattle.file_tree.specs.Trees.{tree_of}
 use Rattle.std.proofs.lemmas.Result.{IfOk-weaker}

@@ -2,11 +2,11 @@ use Rattle.std.proofs.Common.{◌≡◌, ◌≢◌, ◌&&◌, ℕ, Bool, true, f
 use Rattle.std.proofs.Common.{is_none, option_map, if◌then◌else◌, refl, sym, ◌∙◌, ap, arith, inl, inr, true≢false}
 use Rattle.std.proofs.lemmas.Bool.Decides.{leb_tells}
 use Rattle.undo_journal.specs.Memory.{committed}
-use Rattle.card_state.specs.FileTrees.{Path}
-use Rattle.card_state.specs.Selectors.{child_by_short}
+use Rattle.card_model.specs.FileTrees.{Path}
+use Rattle.card_model.specs.Selectors.{child_by_short}
 use Rattle.file_tree.specs.Table.{table, path_of}
 use Rattle.file_tree.specs.Trees.{tree_of}
-use Rattle.card_state.specs.NewFiles.{low_bits}
+use Rattle.card_model.specs.NewFiles.{low_bits}
 use Rattle.file_changes.specs.CreationParts.{short_option}
 use Rattle.file_changes.specs.laws.NewEntries.{some_option}
 use Rattle.undo_journal.specs.laws.Exits.{none_ok}

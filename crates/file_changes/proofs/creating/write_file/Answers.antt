@@ -12,7 +12,7 @@ use Rattle.block_chain.specs.laws.Extents.{laid_has_free}
 use Rattle.block_chain.specs.laws.Footprints.{first_free_kept}
 use Rattle.file_tree.specs.declared.entry.Entry.{Entry}
 use Rattle.file_tree.specs.declared.layout.TheConstants.{CREATE_WRITES}
-use Rattle.card_state.specs.NewFiles.{blank}
+use Rattle.card_model.specs.NewFiles.{blank}
 use Rattle.file_tree.specs.Table.{table, extents}
 use Rattle.file_changes.specs.CreationParts.{AddsFile, FillsAndAdds}
 use Rattle.file_tree.specs.laws.Rewriting.{filled}

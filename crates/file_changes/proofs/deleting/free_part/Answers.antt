@@ -1,4 +1,4 @@
-use Rattle.card_state.specs.declared.limits.TheConstants.{ENTRIES}
+use Rattle.card_model.specs.declared.limits.TheConstants.{ENTRIES}
 use Rattle.std.proofs.Common.{rules, ◌≡◌, ◌≢◌, ◌+◌, ℕ, false, List, slice_index_or, slice_set}
 use Rattle.std.proofs.Common.{sym, ◌∙◌, ap, subst, arith}
 use Rattle.nvm_board.specs.Facts.{address}

@@ -1,8 +1,8 @@
 use Rattle.undo_journal.specs.laws.Exits.{none_ok}
 use Rattle.std.proofs.Common.{None, Bool, if◌then◌else◌, sym, ◌∙◌, ap, ap₂}
 use Rattle.undo_journal.specs.Memory.{committed}
-use Rattle.card_state.specs.LifeCycle.{state_after}
-use Rattle.card_state.specs.declared.life_cycle.LifeCycle.{LifeCycle}
+use Rattle.card_model.specs.LifeCycle.{state_after}
+use Rattle.card_model.specs.declared.life_cycle.LifeCycle.{LifeCycle}
 use Rattle.file_tree.specs.declared.entry.Entry.{Entry}
 use Rattle.file_tree.specs.Entries.{life_told}
 use Rattle.file_tree.specs.laws.Barring.{barred_told, life_told_there}

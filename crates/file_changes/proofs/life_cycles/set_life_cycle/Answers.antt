@@ -4,12 +4,12 @@ use Rattle.std.proofs.Common.{◌≡◌, ◌⊎◌, ◌+◌, arith, ℕ, List, s
 use Rattle.std.proofs.Common.{⊎_elim, true≢false}
 use Rattle.nvm_board.specs.Facts.{address, IsMemory}
 use Rattle.undo_journal.specs.Memory.{committed}
-use Rattle.card_state.specs.LifeCycle.{life_cycle_byte}
-use Rattle.card_state.specs.declared.life_cycle.LifeCycle.{LifeCycle}
+use Rattle.card_model.specs.LifeCycle.{life_cycle_byte}
+use Rattle.card_model.specs.declared.life_cycle.LifeCycle.{LifeCycle}
 use Rattle.file_tree.specs.declared.entry.Entry.{Entry}
 use Rattle.file_tree.specs.declared.layout.TheConstants.{FIRST_ENTRY_PAGE}
 use Rattle.file_tree.specs.States.{ChangesLife}
-use Rattle.card_state.specs.FileLives.{life_at}
+use Rattle.card_model.specs.FileLives.{life_at}
 use Rattle.file_tree.specs.Table.{table, entry_in, path_of, IsUsed}
 use Rattle.file_tree.specs.Trees.{tree_of, TreeStands}
 use Rattle.file_tree.specs.TreeParts.{TellsLife}

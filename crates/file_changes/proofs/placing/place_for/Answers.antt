@@ -5,13 +5,13 @@ use Rattle.std.proofs.Common.{arith, true≢false, inl, inr, refl}
 use Rattle.std.proofs.lemmas.Bool.Decides.{eqb_tells}
 use Rattle.undo_journal.specs.Memory.{committed}
 use Rattle.file_tree.specs.declared.entry.Entry.{Entry}
-use Rattle.card_state.specs.Spaces.{blocks_for}
+use Rattle.card_model.specs.Spaces.{blocks_for}
 use Rattle.file_tree.specs.Table.{table, ancestor}
 use Rattle.file_changes.specs.CreationParts.{TellsFreeEntry}
 use Rattle.file_changes.specs.laws.Places.{place_deepest, place_none, place_small, place_there}
 use Rattle.block_chain.specs.Chains.{free_chain}
-use Rattle.card_state.specs.Spaces.{free_space}
-use Rattle.card_state.specs.declared.space.FreeSpace.{FreeSpace}
+use Rattle.card_model.specs.Spaces.{free_space}
+use Rattle.card_model.specs.declared.space.FreeSpace.{FreeSpace}
 use Rattle.file_tree.specs.Trees.{tree_of, TreeStands}
 use Rattle.file_tree.specs.laws.Costs.{space_counted}
 use Rattle.nvm_board.specs.Facts.{IsMemory}

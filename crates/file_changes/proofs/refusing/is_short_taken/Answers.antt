@@ -1,9 +1,9 @@
 use Rattle.std.proofs.Common.{◌≡◌, ℕ, Option, None, Some, is_some, option_map, refl, sym, ◌∙◌, ap, subst}
 use Rattle.undo_journal.specs.Memory.{committed}
-use Rattle.card_state.specs.declared.fcp.ShortIdentifier.{ShortIdentifier}
-use Rattle.card_state.specs.FileControl.{IsShort}
-use Rattle.card_state.specs.FileTrees.{Path}
-use Rattle.card_state.specs.NewFiles.{has_short_given}
+use Rattle.card_model.specs.declared.fcp.ShortIdentifier.{ShortIdentifier}
+use Rattle.card_model.specs.FileControl.{IsShort}
+use Rattle.card_model.specs.FileTrees.{Path}
+use Rattle.card_model.specs.NewFiles.{has_short_given}
 use Rattle.file_tree.specs.Table.{table, path_of}
 use Rattle.file_tree.specs.Trees.{tree_of}
 use Rattle.undo_journal.specs.laws.Exits.{none_ok}

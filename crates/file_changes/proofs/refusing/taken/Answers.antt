@@ -1,13 +1,13 @@
 use Rattle.undo_journal.specs.laws.Exits.{none_ok}
 use Rattle.std.proofs.Common.{◌≡◌, Bool, List, ℕ, [], ◌∷◌, ◌++◌, Option, is_some, refl, sym, ◌∙◌, ap, subst}
 use Rattle.undo_journal.specs.Memory.{committed}
-use Rattle.card_state.specs.FileControl.{name_bytes, short_of_kind, IsShort}
-use Rattle.card_state.specs.declared.fcp.ShortIdentifier.{ShortIdentifier}
+use Rattle.card_model.specs.FileControl.{name_bytes, short_of_kind, IsShort}
+use Rattle.card_model.specs.declared.fcp.ShortIdentifier.{ShortIdentifier}
 use Rattle.file_tree.specs.declared.entry.Entry.{Entry}
-use Rattle.card_state.specs.FileTrees.{exists}
+use Rattle.card_model.specs.FileTrees.{exists}
 use Rattle.file_tree.specs.Table.{table, path_of, IsTable}
 use Rattle.file_tree.specs.Trees.{tree_of}
-use Rattle.card_state.specs.NewFiles.{has_name, has_short_given}
+use Rattle.card_model.specs.NewFiles.{has_name, has_short_given}
 use Rattle.file_tree.specs.Naming.{TellsNamed}
 use Rattle.file_tree.specs.laws.Refusing.{child_told, name_told}
 use Rattle.file_changes.specs.laws.Allowed.{taken_is, creatable_short}

@@ -1,9 +1,9 @@
 use Rattle.std.proofs.Common.{◌≡◌, ◌||◌, ℕ, Bool, List, true, sym, ◌∙◌, ap, subst}
 use Rattle.undo_journal.specs.Memory.{committed}
 use Rattle.undo_journal.specs.laws.Calls.{reads_then}
-use Rattle.card_state.specs.declared.access_mode.AccessBit.TheVariants.{DeleteChild, DeleteSelf}
-use Rattle.card_state.specs.FileTrees.{Tree}
-use Rattle.card_state.specs.FileLives.{is_barred}
+use Rattle.card_model.specs.declared.access_mode.AccessBit.TheVariants.{DeleteChild, DeleteSelf}
+use Rattle.card_model.specs.FileTrees.{Tree}
+use Rattle.card_model.specs.FileLives.{is_barred}
 use Rattle.file_tree.specs.Table.{table, path_of, IsUsed}
 use Rattle.file_tree.specs.Trees.{tree_of}
 use Rattle.file_tree.specs.laws.Nodes.{used_small}

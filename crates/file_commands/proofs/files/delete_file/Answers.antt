@@ -3,13 +3,13 @@ use Rattle.undo_journal.specs.declared.error.StoreErr.{StoreErr}
 use Rattle.undo_journal.specs.Memory.{committed}
 use Rattle.undo_journal.specs.laws.Memory.{reports_then}
 use Rattle.undo_journal.specs.laws.Exits.{ok_anyway}
-use Rattle.card_state.specs.declared.status.Sw.{Sw}
-use Rattle.card_state.specs.declared.status.TheConstants.Sw.{DONE}
+use Rattle.card_model.specs.declared.status.Sw.{Sw}
+use Rattle.card_model.specs.declared.status.TheConstants.Sw.{DONE}
 use Rattle.card_model.specs.Requests.{delete_file}
 use Rattle.file_tree.specs.declared.entry.Entry.{Entry}
 use Rattle.command_base.specs.Served.{Executes}
 use Rattle.command_base.specs.Working.{card_in, session_in}
-use Rattle.card_state.specs.declared.space.FreeSpace.{FreeSpace}
+use Rattle.card_model.specs.declared.space.FreeSpace.{FreeSpace}
 use Rattle.command_base.specs.laws.CardLaws.{few_free}
 use Rattle.file_commands.proofs.Deletions.{any-deleting, any-stands, deleted-space, done-current, done-step}
 use Rattle.file_commands.proofs.FileSteps.{delete-refused}

@@ -2,8 +2,8 @@ use Rattle.std.proofs.Common.{◌≡◌, ℕ, Option, option_map, sym, ◌∙◌
 use Rattle.undo_journal.specs.Memory.{committed}
 use Rattle.undo_journal.specs.laws.Told.{reads_none}
 use Rattle.card_model.specs.declared.requests.Subject.{Subject}
-use Rattle.card_state.specs.FileTrees.{Tree}
-use Rattle.card_state.specs.Selectors.{reached}
+use Rattle.card_model.specs.FileTrees.{Tree}
+use Rattle.card_model.specs.Selectors.{reached}
 use Rattle.file_tree.specs.Table.{table, path_of}
 use Rattle.file_tree.specs.Trees.{tree_of}
 use Rattle.card_model.specs.Reaching.{subject_or}

@@ -1,5 +1,5 @@
 use Rattle.std.proofs.Common.{[], Ok, refl, sym, subst}
-use Rattle.card_state.specs.declared.status.TheConstants.Sw.{DONE}
+use Rattle.card_model.specs.declared.status.TheConstants.Sw.{DONE}
 use Rattle.card_model.specs.Requests.{change_life_cycle}
 use Rattle.command_base.specs.declared.current.Current.{Current}
 use Rattle.command_base.specs.Served.{Executes}

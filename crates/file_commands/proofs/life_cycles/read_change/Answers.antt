@@ -3,7 +3,7 @@ use Rattle.undo_journal.specs.laws.Calls.{reads_then}
 use Rattle.file_tree.specs.laws.Nodes.{used_small}
 use Rattle.std.proofs.Common.{◌≡◌, sym, ◌∙◌}
 use Rattle.command_base.specs.laws.Readings.{entry_still, file_kept, kept_still, used_still}
-use Rattle.card_state.specs.FileLives.{next_life}
+use Rattle.card_model.specs.FileLives.{next_life}
 use Rattle.file_tree.specs.Table.{table, entry_in, path_of}
 use Rattle.file_tree.specs.Trees.{tree_of}
 use Rattle.file_commands.specs.LifeParts.{changed_by}

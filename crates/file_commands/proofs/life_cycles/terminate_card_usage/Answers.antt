@@ -1,6 +1,6 @@
 use Rattle.std.proofs.Common.{◌≡◌, ◌≤◌, ℕ, true, false, List, [], sym, ◌∙◌, ap, arith}
-use Rattle.card_state.specs.declared.status.TheConstants.Sw.{ACCESS_DENIED}
-use Rattle.card_state.specs.declared.access_mode.AccessBit.TheVariants.{Terminate}
+use Rattle.card_model.specs.declared.status.TheConstants.Sw.{ACCESS_DENIED}
+use Rattle.card_model.specs.declared.access_mode.AccessBit.TheVariants.{Terminate}
 use Rattle.undo_journal.specs.Memory.{committed}
 use Rattle.undo_journal.specs.laws.Calls.{reads_then}
 use Rattle.undo_journal.specs.laws.Told.{reads_on}

@@ -1,5 +1,5 @@
 use Rattle.std.proofs.Common.{◌∙◌}
-use Rattle.card_state.specs.Rule.{allows}
+use Rattle.card_model.specs.Rule.{allows}
 use Rattle.file_lookup.proofs.barring.is_allowed_at.Goals as goal
 
 pub returns : goal.returns

@@ -6,7 +6,7 @@ use Rattle.undo_journal.specs.laws.Calls.{reads_then}
 use Rattle.file_tree.specs.declared.entry.Entry.{Entry}
 use Rattle.file_tree.specs.declared.entry.EntryHead.{EntryHead}
 use Rattle.file_tree.specs.Entries.{head_of, life_told, state_told}
-use Rattle.card_state.specs.FileLives.{bars}
+use Rattle.card_model.specs.FileLives.{bars}
 use Rattle.file_tree.specs.Table.{table, entry_in, IsUsed, IsTable}
 use Rattle.file_tree.specs.States.{barred_up}
 use Rattle.file_tree.specs.laws.Barring.{barred_up-master, barred_up-none, barred_up-step}

@@ -1,6 +1,6 @@
 use Rattle.std.proofs.Common.{◌≤◌, ◌<◌, ◌+◌, ◌∷◌, ℕ, List, length, drop, slice_index, refl, subst, arith}
 use Rattle.std.proofs.lemmas.List.{drop_more, drop_all}
-use Rattle.card_state.specs.FileTrees.{Path}
+use Rattle.card_model.specs.FileTrees.{Path}
 use Rattle.file_tree.specs.Table.{table, IsUsed}
 use Rattle.file_tree.specs.laws.Selecting.{IsOnWay, way_goes_on, way_ends, way_is_lost}
 use Rattle.file_lookup.proofs.naming.find_path.Goals as goal

@@ -1,5 +1,5 @@
 use Rattle.std.proofs.Common.{◌≡◌, ℕ, List, sym, ◌∙◌, ap, subst}
-use Rattle.card_state.specs.Selectors.{selected, path_from_current}
+use Rattle.card_model.specs.Selectors.{selected, path_from_current}
 use Rattle.file_tree.specs.Table.{table, path_of, IsUsed, IsTable}
 use Rattle.file_tree.specs.Trees.{tree_of}
 use Rattle.file_tree.specs.laws.Paths.{master_used}

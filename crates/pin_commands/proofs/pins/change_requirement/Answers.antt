@@ -1,6 +1,6 @@
 use Rattle.std.proofs.Common.{◌≡◌, ◌⊎◌, ◌<◌, ◌-◌, Bool, refl, subst, arith}
 use Rattle.undo_journal.specs.Memory.{committed}
-use Rattle.card_state.specs.Secrets.{marked_pin}
+use Rattle.card_model.specs.Secrets.{marked_pin}
 use Rattle.pin_store.specs.Trials.{pin_in, EndsByOutcome, SetsByMatch}
 use Rattle.pin_store.specs.laws.Tries.{marked_ends}
 use Rattle.card_model.specs.PinCommands.{is_enabled_by}

@@ -6,8 +6,8 @@ use Rattle.undo_journal.specs.StoreCalls.{Changes, UnlessFailed}
 use Rattle.undo_journal.specs.Memory.{Memory, committed, IsReady}
 use Rattle.undo_journal.specs.Undo.{gate}
 use Rattle.undo_journal.specs.laws.Told.{changes_after, reads_change}
-use Rattle.card_state.specs.Secrets.{charged_pin, owner, tries_left}
-use Rattle.card_state.specs.declared.status.Sw.{Sw}
+use Rattle.card_model.specs.Secrets.{charged_pin, owner, tries_left}
+use Rattle.card_model.specs.declared.status.Sw.{Sw}
 use Rattle.pin_store.specs.Pages.{pin_at, ArePinPages, SetsPin}
 use Rattle.pin_store.specs.Trials.{store_failure, Charges}
 use Rattle.pin_store.specs.declared.errors.PinErr.{PinErr}

@@ -2,7 +2,7 @@ use Rattle.std.specs.Prelude.{◌==◌}
 use Rattle.std.proofs.Common.{ℕ, List, slice_index, sym, ◌∙◌, ap}
 use Rattle.undo_journal.specs.Memory.{committed, current}
 use Rattle.pin_store.specs.declared.layout.TheConstants.{PIN_MARK_WORD}
-use Rattle.card_state.specs.Secrets.{owner}
+use Rattle.card_model.specs.Secrets.{owner}
 use Rattle.pin_store.specs.Pages.{pin_word}
 use Rattle.pin_store.specs.laws.PinPages.{enabled_at}
 use Rattle.pin_store.proofs.charging.is_enabled.Goals as goal

@@ -2,7 +2,7 @@ use Rattle.std.proofs.Common.{ℕ, List, slice_index, sym, ◌∙◌, ap}
 use Rattle.std.specs.Prelude.{if◌then◌else◌}
 use Rattle.nvm_board.specs.Facts.{address}
 use Rattle.undo_journal.specs.Memory.{committed, current}
-use Rattle.card_state.specs.Secrets.{owner, is_unblocking}
+use Rattle.card_model.specs.Secrets.{owner, is_unblocking}
 use Rattle.pin_store.specs.Pages.{pin_page, pin_word}
 use Rattle.pin_store.specs.laws.PinPages.{tries_at}
 use Rattle.pin_store.proofs.charging.tries.Goals as goal

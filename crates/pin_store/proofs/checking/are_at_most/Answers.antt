@@ -4,7 +4,7 @@ use Rattle.undo_journal.specs.StoreCalls.{OnlyReads}
 use Rattle.undo_journal.specs.Memory.{Memory, committed, current}
 use Rattle.undo_journal.specs.laws.Calls.{reads_same, reads_then}
 use Rattle.undo_journal.specs.laws.Told.{reads_handed, reads_on, reads_so_far}
-use Rattle.card_state.specs.declared.pins.TheConstants.{PINS}
+use Rattle.card_model.specs.declared.pins.TheConstants.{PINS}
 use Rattle.pin_store.specs.Pages.{pin_page, pin_word}
 use Rattle.pin_store.proofs.checking.are_at_most.Goals as goal
 

@@ -2,7 +2,7 @@ use Rattle.std.proofs.Common.{◌≡◌, ℕ, List, subst, sym, ◌∙◌, true�
 use Rattle.std.proofs.lemmas.Result.{IfOk-weaker}
 use Rattle.undo_journal.specs.Memory.{committed}
 use Rattle.undo_journal.specs.laws.Told.{reads_on}
-use Rattle.card_state.specs.declared.limits.TheConstants.{TRIES, UNBLOCKING_TRIES}
+use Rattle.card_model.specs.declared.limits.TheConstants.{TRIES, UNBLOCKING_TRIES}
 use Rattle.pin_store.specs.Pages.{AreAtMost, ArePinPages}
 use Rattle.pin_store.proofs.checking.are_pins.Goals as goal
 

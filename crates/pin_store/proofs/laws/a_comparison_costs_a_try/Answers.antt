@@ -1,4 +1,4 @@
-use Rattle.card_state.specs.Secrets.{changed_pin, marked_pin, reset_pin, verified_pin}
+use Rattle.card_model.specs.Secrets.{changed_pin, marked_pin, reset_pin, verified_pin}
 use Rattle.pin_store.specs.Trials.{pin_in}
 use Rattle.pin_store.specs.laws.Tries.{charge_keeps_law, end_keeps_law, verified_ends, changed_ends}
 use Rattle.pin_store.specs.laws.Tries.{marked_ends, reset_ends}

@@ -3,7 +3,7 @@ use Rattle.std.proofs.Common.{◌≡◌, ℕ, List, slice_set, sym, ◌∙◌, a
 use Rattle.std.proofs.Math.Logic.{⊎_map}
 use Rattle.nvm_board.specs.Facts.{address}
 use Rattle.undo_journal.specs.Memory.{committed}
-use Rattle.card_state.specs.Secrets.{is_unblocking, owner, with_tries}
+use Rattle.card_model.specs.Secrets.{is_unblocking, owner, with_tries}
 use Rattle.pin_store.specs.Pages.{pin_page, pin_at, SetsPin}
 use Rattle.pin_store.specs.laws.AllPins.{left_pages}
 use Rattle.pin_store.specs.laws.PinPages.{sets_tries}

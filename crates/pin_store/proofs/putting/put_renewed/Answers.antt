@@ -2,7 +2,7 @@ use Rattle.std.proofs.Common.{sym, ◌∙◌, subst, arith}
 use Rattle.undo_journal.specs.Lent.{memory_of}
 use Rattle.undo_journal.specs.Memory.{Memory, IsOpen}
 use Rattle.undo_journal.specs.laws.Endings.{ends, ends_answered, ends_by_gate, ends_counted, ends_done}
-use Rattle.card_state.specs.Secrets.{owner}
+use Rattle.card_model.specs.Secrets.{owner}
 use Rattle.pin_store.specs.RenewalParts.{renewal_runs, renewal_sets, renewing_writes, renewed_pin}
 use Rattle.pin_store.specs.Pages.{pin_at, SetsPin}
 use Rattle.pin_store.specs.laws.AllPins.{renewed_pages}

@@ -2,9 +2,9 @@ use Rattle.std.proofs.Common.{◌≡◌, ◌<◌, ℕ, List, slice_set, sym, ◌
 use Rattle.std.proofs.Math.Logic.{⊎_map}
 use Rattle.nvm_board.specs.Facts.{address}
 use Rattle.undo_journal.specs.Memory.{committed}
-use Rattle.card_state.specs.declared.pins.TheConstants.{PINS}
-use Rattle.card_state.specs.declared.limits.TheConstants.{TRIES}
-use Rattle.card_state.specs.Secrets.{owner, verified_pin}
+use Rattle.card_model.specs.declared.pins.TheConstants.{PINS}
+use Rattle.card_model.specs.declared.limits.TheConstants.{TRIES}
+use Rattle.card_model.specs.Secrets.{owner, verified_pin}
 use Rattle.pin_store.specs.Pages.{pin_page, pin_at, SetsPin}
 use Rattle.pin_store.specs.laws.AllPins.{verified_pages}
 use Rattle.pin_store.specs.laws.PinPages.{sets_verified}

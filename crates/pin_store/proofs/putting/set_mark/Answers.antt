@@ -4,10 +4,10 @@ use Rattle.nvm_board.specs.Facts.{address}
 use Rattle.nvm_board.specs.Torn.{written}
 use Rattle.undo_journal.specs.Lent.{memory_of}
 use Rattle.undo_journal.specs.Memory.{current}
-use Rattle.card_state.specs.declared.pins.TheConstants.{PINS}
+use Rattle.card_model.specs.declared.pins.TheConstants.{PINS}
 use Rattle.pin_store.specs.declared.layout.TheConstants.{PIN_MARK_WORD}
-use Rattle.card_state.specs.declared.limits.TheConstants.{TRIES}
-use Rattle.card_state.specs.Secrets.{owner, marked_pin}
+use Rattle.card_model.specs.declared.limits.TheConstants.{TRIES}
+use Rattle.card_model.specs.Secrets.{owner, marked_pin}
 use Rattle.pin_store.specs.Pages.{pin_page, pin_at, SetsPin}
 use Rattle.pin_store.specs.laws.PinPages.{sets_mark}
 use Rattle.undo_journal.specs.laws.Calls.{runs_in_page, runs_then, runs_weaker}

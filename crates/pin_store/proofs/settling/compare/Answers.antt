@@ -3,7 +3,7 @@ use Rattle.std.specs.Prelude.{if◌then◌else◌}
 use Rattle.nvm_board.specs.Facts.{raised}
 use Rattle.undo_journal.specs.laws.Calls.{reads_then}
 use Rattle.pin_store.specs.declared.errors.Outcome.{Outcome}
-use Rattle.card_state.specs.Secrets.{kept, owner}
+use Rattle.card_model.specs.Secrets.{kept, owner}
 use Rattle.pin_store.specs.Pages.{pin_at}
 use Rattle.pin_store.specs.Trials.{pin_in, Compared}
 use Rattle.pin_store.proofs.Settled.{compare_ends, compared_by, compares_after, compares_none, rises_if}

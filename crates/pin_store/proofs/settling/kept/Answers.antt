@@ -1,7 +1,7 @@
 use Rattle.std.specs.Prelude.{if◌then◌else◌}
 use Rattle.std.proofs.Common.{◌≡◌, ◌+◌, ℕ, slice_index, sym, ◌∙◌, ap}
 use Rattle.undo_journal.specs.Memory.{committed, current}
-use Rattle.card_state.specs.Secrets.{owner, is_unblocking}
+use Rattle.card_model.specs.Secrets.{owner, is_unblocking}
 use Rattle.pin_store.specs.Pages.{pin_word, bytes_of_words}
 use Rattle.pin_store.specs.laws.PinPages.{kept_at}
 use Rattle.undo_journal.specs.laws.Told.{reads_handed, reads_on}

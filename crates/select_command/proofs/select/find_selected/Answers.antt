@@ -3,8 +3,8 @@ use Rattle.undo_journal.specs.Memory.{committed}
 use Rattle.apdu_core.specs.declared.select.Selector.{Selector}
 use Rattle.apdu_core.specs.ParsedCommands.{selection_of}
 use Rattle.card_model.specs.Requests.{path_from_master as whole_path, path_from_current as path_below}
-use Rattle.card_state.specs.FileTrees.{Path, Tree}
-use Rattle.card_state.specs.Selectors.{by_name, path_from_current, path_from_master, reached, selected, the_parent}
+use Rattle.card_model.specs.FileTrees.{Path, Tree}
+use Rattle.card_model.specs.Selectors.{by_name, path_from_current, path_from_master, reached, selected, the_parent}
 use Rattle.file_tree.specs.Table.{path_of}
 use Rattle.file_tree.specs.Trees.{tree_of}
 use Rattle.std.proofs.lemmas.Result.{IfOk-weaker}

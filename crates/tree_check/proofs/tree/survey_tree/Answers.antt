@@ -4,7 +4,7 @@ use Rattle.undo_journal.specs.laws.Exits.{none_ok}
 use Rattle.undo_journal.specs.laws.Told.{reads_handed, reads_on}
 use Rattle.file_tree.specs.declared.entry.Entry.{Entry}
 use Rattle.tree_check.specs.declared.tree.Listing.{Listing}
-use Rattle.card_state.specs.declared.space.FreeSpace.{FreeSpace}
+use Rattle.card_model.specs.declared.space.FreeSpace.{FreeSpace}
 use Rattle.tree_check.specs.Surveys.{TellsListing}
 use Rattle.file_tree.specs.Table.{table, extents, free_entries, IsTable}
 use Rattle.file_tree.specs.Trees.{TellsSpace}

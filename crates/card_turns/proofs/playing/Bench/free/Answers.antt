@@ -1,5 +1,5 @@
 use Rattle.std.proofs.Common.{Some, ap, refl, subst}
-use Rattle.card_state.specs.declared.space.FreeSpace.{FreeSpace}
+use Rattle.card_model.specs.declared.space.FreeSpace.{FreeSpace}
 use Rattle.bench_turns.specs.BenchStates.{BenchState, TellsFree}
 use Rattle.card_turns.proofs.playing.Bench.free.Goals as goal
 

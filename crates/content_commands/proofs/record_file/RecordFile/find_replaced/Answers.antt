@@ -1,7 +1,7 @@
 use Rattle.std.proofs.Common.{[], ◌==◌, ◌&&◌, None, Some, not, nat_le, length, if◌then◌else◌, replicate, sym, ◌∙◌, ap}
 use Rattle.std.proofs.lemmas.List.{length-replicate}
 use Rattle.std.specs.Result.{result_err}
-use Rattle.card_state.specs.declared.status.TheConstants.Sw.{RECORD_NOT_FOUND}
+use Rattle.card_model.specs.declared.status.TheConstants.Sw.{RECORD_NOT_FOUND}
 use Rattle.content_commands.specs.RecordParts.{has_in}
 use Rattle.content_commands.proofs.RecordBodies.{has-slot}
 use Rattle.content_commands.proofs.RecordSteps.{gone-status}

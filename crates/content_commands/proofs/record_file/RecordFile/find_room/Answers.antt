@@ -1,6 +1,6 @@
 use Rattle.std.proofs.Common.{◌&&◌, Bool, None, Some, not, nat_le, if◌then◌else◌, sym, ◌∙◌, ap}
 use Rattle.std.specs.Result.{result_err}
-use Rattle.card_state.specs.declared.status.TheConstants.Sw.{NO_ROOM}
+use Rattle.card_model.specs.declared.status.TheConstants.Sw.{NO_ROOM}
 use Rattle.command_base.specs.laws.Stopping.{err-is}
 use Rattle.content_commands.proofs.record_file.RecordFile.find_room.Goals as goal
 

@@ -1,6 +1,6 @@
 use Rattle.std.proofs.Common.{◌==◌, true, length, sym, ◌∙◌, ap}
 use Rattle.std.specs.Result.{result_err}
-use Rattle.card_state.specs.declared.status.TheConstants.Sw.{NO_ROOM}
+use Rattle.card_model.specs.declared.status.TheConstants.Sw.{NO_ROOM}
 use Rattle.content_commands.specs.RecordParts.{is_full_in}
 use Rattle.content_commands.proofs.RecordWrites.{record_verdict, verdict-first, verdict-free}
 use Rattle.command_base.specs.laws.Stopping.{err-is}

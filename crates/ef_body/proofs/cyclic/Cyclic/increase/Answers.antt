@@ -6,13 +6,13 @@ use Rattle.undo_journal.specs.laws.Told.{changes_after}
 use Rattle.ef_body.specs.declared.layout.TheConstants.{RECORD_WRITES}
 use Rattle.ef_body.specs.declared.cyclic.Cyclic.{Cyclic}
 use Rattle.ef_body.specs.Bodies.{cyclic_body_records}
-use Rattle.card_state.specs.RecordLists.{raised_number}
+use Rattle.card_model.specs.RecordLists.{raised_number}
 use Rattle.std.proofs.Math.Logic.{⊎_map}
 use Rattle.std.proofs.lemmas.Result.{on_ok_weaker}
 use Rattle.undo_journal.specs.Commits.{TurnsGate}
 use Rattle.ef_body.proofs.Increasing.{handed_sum, increases, stored_sum}
 use Rattle.ef_contents.specs.laws.Refusing.{store_done, store_told}
-use Rattle.card_state.specs.laws.Spelling.{length-spelled}
+use Rattle.card_model.specs.laws.Spelling.{length-spelled}
 use Rattle.ef_body.proofs.cyclic.Cyclic.increase.Goals as goal
 
 pub returns-clause-store : goal.returns-clause-store

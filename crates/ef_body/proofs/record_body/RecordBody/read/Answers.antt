@@ -1,6 +1,6 @@
 use Rattle.std.proofs.Common.{rules, ◌∙◌, ℕ, List, ap, subst}
 use Rattle.undo_journal.specs.Memory.{committed}
-use Rattle.card_state.specs.RecordLists.{record_of}
+use Rattle.card_model.specs.RecordLists.{record_of}
 use Rattle.ef_contents.specs.BodyCalls.{ReadsInto}
 use Rattle.ef_body.specs.laws.Rings.{length-records}
 use Rattle.ef_body.specs.laws.Rings.{received_record}

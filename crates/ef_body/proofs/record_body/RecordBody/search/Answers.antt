@@ -3,7 +3,7 @@ use Rattle.undo_journal.specs.Memory.{committed}
 use Rattle.ef_body.specs.declared.cyclic.Cyclic.{Cyclic}
 use Rattle.ef_body.specs.Bodies.{cyclic_body_records}
 use Rattle.ef_contents.specs.BodyCalls.{ReadsInto}
-use Rattle.card_state.specs.RecordLists.{records_found}
+use Rattle.card_model.specs.RecordLists.{records_found}
 use Rattle.ef_body.specs.laws.Rings.{length-records}
 use Rattle.ef_contents.specs.laws.Calling.{refused_reads, store_reads}
 use Rattle.ef_body.proofs.record_body.RecordBody.search.Goals as goal

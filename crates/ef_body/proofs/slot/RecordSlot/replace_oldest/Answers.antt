@@ -4,7 +4,7 @@ use Rattle.ef_body.specs.declared.layout.TheConstants.{RECORD_WRITES}
 use Rattle.ef_body.specs.Bodies.{cyclic_body_records}
 use Rattle.ef_contents.specs.BodyCalls.{Commits}
 use Rattle.ef_body.specs.BodyChanges.{CyclicBecomes}
-use Rattle.card_state.specs.RecordLists.{front}
+use Rattle.card_model.specs.RecordLists.{front}
 use Rattle.ef_body.specs.laws.Rings.{length-cyclic}
 use Rattle.ef_body.proofs.slot.RecordSlot.replace_oldest.Goals as goal
 

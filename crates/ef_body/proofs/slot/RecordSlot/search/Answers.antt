@@ -5,13 +5,13 @@ use Rattle.std.specs.List.{filter}
 use Rattle.undo_journal.specs.Memory.{committed}
 use Rattle.undo_journal.specs.laws.Calls.{reads_same, reads_then}
 use Rattle.undo_journal.specs.laws.Told.{reads_on, reads_handed, reads_so_far}
-use Rattle.card_state.specs.RecordLists.{record_of, stands_in, numbers_on}
+use Rattle.card_model.specs.RecordLists.{record_of, stands_in, numbers_on}
 use Rattle.ef_body.specs.Bodies.{cyclic_body_records, IsCyclic}
 use Rattle.ef_body.specs.ReadParts.{IsBlockOf}
 use Rattle.ef_body.specs.laws.Rings.{length-cyclic}
 use Rattle.ef_body.proofs.Resting.{first_is, has_blocks}
 use Rattle.ef_body.proofs.Finding.{byte_number, found_some, filter-next, room_more, step_within}
-use Rattle.card_state.specs.laws.Finding.{steps_few, filter-few}
+use Rattle.card_model.specs.laws.Finding.{steps_few, filter-few}
 use Rattle.ef_body.proofs.slot.RecordSlot.search.Goals as goal
 
 pub loop-step-init : goal.loop-step-init

@@ -2,7 +2,7 @@ use Rattle.std.proofs.Common.{◌≡◌, ℕ, take}
 use Rattle.std.specs.List.{filter}
 use Rattle.undo_journal.specs.Memory.{committed, IsReady}
 use Rattle.undo_journal.specs.StoreCalls.{OnlyReads}
-use Rattle.card_state.specs.RecordLists.{record_of, stands_in, numbers_on}
+use Rattle.card_model.specs.RecordLists.{record_of, stands_in, numbers_on}
 use Rattle.ef_body.specs.Bodies.{cyclic_body_records}
 use Rattle.ef_body.specs.ReadParts.{IsBlockOf}
 use Rattle.ef_body.proofs.slot.RecordSlot.search.Given as goal

@@ -1,6 +1,6 @@
 use Rattle.std.proofs.Common.{rules, ℕ, List, arith, refl, subst}
 use Rattle.std.proofs.lemmas.Result.{on_ok_weaker}
-use Rattle.card_state.specs.declared.status.TheConstants.Sw.{WRONG_OFFSET}
+use Rattle.card_model.specs.declared.status.TheConstants.Sw.{WRONG_OFFSET}
 use Rattle.undo_journal.specs.Memory.{committed}
 use Rattle.ef_body.specs.TransparentBodies.{transparent_bytes}
 use Rattle.ef_contents.specs.BodyCalls.{ReadsInto}

@@ -1,5 +1,5 @@
 use Rattle.std.proofs.Common.{length, arith, refl}
-use Rattle.card_state.specs.declared.status.TheConstants.Sw.{NO_ROOM, WRONG_OFFSET}
+use Rattle.card_model.specs.declared.status.TheConstants.Sw.{NO_ROOM, WRONG_OFFSET}
 use Rattle.undo_journal.specs.Memory.{committed}
 use Rattle.undo_journal.specs.laws.Calls.{within_more}
 use Rattle.undo_journal.specs.Spending.{transaction_writes}

@@ -1,5 +1,0 @@
-use Rattle.std.proofs.Common.{rules}
-use Rattle.card_state.proofs.access_mode.AccessBit.number.Goals as goal
-
-pub returns-in-CreateEf : goal.returns-in-CreateEf
-returns-in-CreateEf c = search rules

@@ -1,5 +1,0 @@
-use Rattle.std.proofs.Common.{rules}
-use Rattle.card_state.proofs.access_mode.AccessMode.set_down_to.Goals as goal
-
-pub returns : goal.returns
-returns c = search rules

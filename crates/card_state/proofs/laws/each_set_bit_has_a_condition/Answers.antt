@@ -1,5 +1,0 @@
-use Rattle.card_state.proofs.Places.{condition-set}
-use Rattle.card_state.proofs.laws.each_set_bit_has_a_condition.Goals as goal
-
-pub returns : goal.returns
-returns c = condition-set

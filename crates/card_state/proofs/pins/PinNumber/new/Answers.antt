@@ -1,5 +1,0 @@
-use Rattle.std.proofs.Common.{rules}
-use Rattle.card_state.proofs.pins.PinNumber.new.Goals as goal
-
-pub returns-else-contains-clause-valid : goal.returns-else-contains-clause-valid
-returns-else-contains-clause-valid c = search rules
