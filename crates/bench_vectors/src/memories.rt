@@ -5,7 +5,7 @@ use card_turns::Bench;
 use card_vectors::fixtures::formatted;
 use simulated_boards::CutBoard;
 use std::test::Fail;
-use store_vectors::fixtures::with_words;
+use store_tests::fixtures::with_words;
 
 // Two counting pairs for the first word of the file, which was written since. The first of them has the original word.
 const SET_TWICE: &[(u16, u32)] = &[

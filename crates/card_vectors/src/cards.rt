@@ -7,7 +7,7 @@ use nvm_board::{Armed, Board, DeviceErr, Socket};
 use simulated_boards::{CutBoard, RamBoard};
 use std::alloc::Global;
 use std::test::Fail;
-use store_vectors::fixtures::with_words;
+use store_tests::fixtures::with_words;
 
 // Words that `format_old` writes on a board of 1,030 pages: the mark, the ignored words of the header and of PIN 1, the
 // end of the free chain, and the first word past the blocks.

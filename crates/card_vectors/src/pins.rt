@@ -7,7 +7,7 @@ use nvm_board::Board;
 use pin_store::{Outcome, Secret, are_pins, charge, settle};
 use simulated_boards::RamBoard;
 use std::test::Fail;
-use store_vectors::fixtures::opened;
+use store_tests::fixtures::opened;
 use undo_journal::{Store, StoreErr};
 
 // The value of each of the factory's PINs.

@@ -9,7 +9,7 @@ use simulated_boards::CutBoard;
 use std::alloc::Global;
 use std::process::Abort;
 use std::test::Fail;
-use store_vectors::fixtures::with_words;
+use store_tests::fixtures::with_words;
 
 // The files in addition to the factory's: a named directory with a transparent file of three blocks, a linear file and
 // a directory, which is in the last entry; and a deactivated cyclic file.

@@ -7,7 +7,7 @@ use nvm_board::Armed;
 use simulated_boards::CutBoard;
 use std::alloc::Global;
 use std::test::Fail;
-use store_vectors::fixtures::with_words;
+use store_tests::fixtures::with_words;
 
 /// Returns the factory image in format 2, on this many pages.
 fn new_board(alloc: Global, pages: u16) -> Result<CutBoard, Fail> {
