@@ -5,7 +5,7 @@ use crate::replies::is_reply;
 use bench_turns::{Item, Turn};
 use card_turns::Bench;
 use card_vectors::fixtures::formatted;
-use link_vectors::fixtures::framed;
+use link_tests::fixtures::framed;
 use simulated_boards::FaultBoard;
 use std::alloc::Global;
 use std::process::Abort;

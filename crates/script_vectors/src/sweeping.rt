@@ -8,7 +8,7 @@ use card_bench::{Item, Turn};
 use card_sweeps::{Seen, Sweep, sweep};
 use card_turns::Bench;
 use card_vectors::fixtures::formatted;
-use link_vectors::fixtures::framed;
+use link_tests::fixtures::framed;
 use simulated_boards::CutBoard;
 use std::alloc::{AllocError, Global};
 use std::process::Abort;
