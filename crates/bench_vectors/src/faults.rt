@@ -3,8 +3,8 @@
 
 use crate::replies::is_reply;
 use bench_turns::{Item, Turn};
+use card_tests::fixtures::formatted;
 use card_turns::Bench;
-use card_vectors::fixtures::formatted;
 use link_tests::fixtures::framed;
 use simulated_boards::FaultBoard;
 use std::alloc::Global;

@@ -1,8 +1,8 @@
 //! Power-on undoes a journal.
 
 use bench_turns::{Item, Turn};
+use card_tests::fixtures::formatted;
 use card_turns::Bench;
-use card_vectors::fixtures::formatted;
 use simulated_boards::CutBoard;
 use std::test::Fail;
 use store_tests::fixtures::with_words;

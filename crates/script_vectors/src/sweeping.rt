@@ -6,8 +6,8 @@ ghost use Rattle.simulated_boards.specs.Cut.{cut_facts};
 
 use card_bench::{Item, Turn};
 use card_sweeps::{Seen, Sweep, sweep};
+use card_tests::fixtures::formatted;
 use card_turns::Bench;
-use card_vectors::fixtures::formatted;
 use link_tests::fixtures::framed;
 use simulated_boards::CutBoard;
 use std::alloc::{AllocError, Global};

@@ -1,5 +1,5 @@
 //! The store: the words after a cut at each write, of a change and of the recovery after it; and errors.
-//! `card_vectors` tests which journals are bad.
+//! `card_tests` tests which journals are bad.
 ghost use Rattle.std.specs.Prelude.{◌≤◌, OnOk};
 ghost use Rattle.undo_journal.specs.Memory.{IsReady};
 ghost use Rattle.undo_journal.specs.Lent.{memory_of};

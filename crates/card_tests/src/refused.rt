@@ -1,8 +1,8 @@
 //! Why power-on fails on a memory that is no card. It then writes no word.
 
+use crate::fixtures::{formatted, formatted_old};
 use card_core::Card;
 use card_start::StartFault;
-use card_vectors::fixtures::{formatted, formatted_old};
 use nvm_board::Armed;
 use simulated_boards::CutBoard;
 use std::alloc::Global;
