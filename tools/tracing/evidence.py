@@ -72,7 +72,7 @@ def sources() -> dict[Clause, set[str]]:
     """Of each cited clause the items of sources below the citation; of a file's head the file."""
     found: dict[Clause, set[str]] = defaultdict(set)
     for path in files("crates/*/src/**/*.rt"):
-        if "_vectors" not in str(path):
+        if "_tests" not in str(path):
             for block, clauses in cited_in(path):
                 item = "" if block.is_head else "".join(f": {word}" for word in words_below(path, block))
                 for clause in clauses:
@@ -154,7 +154,7 @@ def promises() -> list[Promise]:
     """The clauses of all public calls that another crate can make."""
     tool, found = reading(), []
     crates = (path.name for path in CRATES.iterdir() if (path / "src").is_dir())
-    for crate in sorted(name for name in crates if "_vectors" not in name):
+    for crate in sorted(name for name in crates if "_tests" not in name):
         names, modules = tool.exported(crate)
         for path in sorted((CRATES / crate / "src").rglob("*.rt")):
             scope = tool.Scope().read(tool.source_of(path))
@@ -294,7 +294,7 @@ def evidence(clause: Clause, key: str | None = None, alike: tuple[Clause, ...] =
     it = Evidence(within(definitions(has_heads=not key), clauses), within(sources(), clauses))
     it.definitions |= of_command(key) if key else set()
     it.promises = promised(it.definitions, it.sources)
-    shown, tests = cited_by("rows/*.rows", "examples/*.script"), cited_by("crates/*_vectors/src/**/*.rt")
+    shown, tests = cited_by("rows/*.rows", "examples/*.script"), cited_by("crates/*_tests/src/**/*.rt")
     it.scripts = (senders()[key] if key else set()) | within(shown, clauses)
     it.tests = within(tests, clauses)
     if not it.scripts and not it.tests:

@@ -1,4 +1,4 @@
-//! The receipt of a PIN's charge. The rows test the commands on PINs, and `script_vectors` power loss in them.
+//! The receipt of a PIN's charge. The rows test the commands on PINs, and `bench_tests` power loss in them.
 ghost use Rattle.undo_journal.specs.Memory.{IsReady};
 
 use crate::fixtures::formatted;
