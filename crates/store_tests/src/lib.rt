@@ -1,7 +1,10 @@
-//! Tests of the board and the store, with words worked out by hand, after a cut at each write.
+//! Tests of boards and of the store, with words worked out by hand, after a cut at each write; and of the board on a
+//! flash that leaves garbage.
 //! The fixtures are public, for the tests of the layers above.
 #![tactic(auto)]
 
+#[cfg(test)]
+mod arrays;
 #[cfg(test)]
 mod batches;
 #[cfg(test)]
@@ -11,3 +14,6 @@ mod endings;
 pub mod fixtures;
 #[cfg(test)]
 mod journal;
+mod sim_flash;
+
+pub use sim_flash::SimFlash;

@@ -4,7 +4,7 @@ ghost use Rattle.nvm_board.specs.Facts.{AreWords};
 ghost use Rattle.flash_board.specs.FlashBlocks.{block_start, block_size};
 ghost use Rattle.flash_board.specs.FlashCalls.{SameElsewhere, IsThere, AreFilled};
 ghost use Rattle.flash_board.specs.declared.flash.TheConstants.{BLOCKS, FLASH_WORDS};
-ghost use Rattle.flash_vectors.specs.SimCuts.{cuts_set};
+ghost use Rattle.store_tests.specs.SimCuts.{cuts_set};
 
 use flash_board::{BLANK, FLASH_WORDS, Flash, FlashSocket};
 use nvm_board::DeviceErr;
@@ -132,7 +132,7 @@ fn size(block: u8) -> usize
 }
 
 impl SimFlash {
-    ghost use Rattle.flash_vectors.specs.SimStates.{sim_state};
+    ghost use Rattle.store_tests.specs.SimStates.{sim_state};
 
     /// Returns a blank flash, which leaves garbage by this seed.
     pub fn new(alloc: Global, seed: u64) -> Result<SimFlash, AllocError>
@@ -188,7 +188,7 @@ impl SimFlash {
 }
 
 impl Flash for SimFlash {
-    ghost use Rattle.flash_vectors.specs.SimStates.{sim_state};
+    ghost use Rattle.store_tests.specs.SimStates.{sim_state};
 
     ghost state = { sim_state };
 

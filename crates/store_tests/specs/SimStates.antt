@@ -1,7 +1,7 @@
 -- The state of a simulated flash.
 use Rattle.flash_board.specs.FlashCalls.{FlashState}
-use Rattle.flash_vectors.specs.SimCuts.{cuts_set}
-use Rattle.flash_vectors.specs.declared.sim_flash.SimFlash.{SimFlash}
+use Rattle.store_tests.specs.SimCuts.{cuts_set}
+use Rattle.store_tests.specs.declared.sim_flash.SimFlash.{SimFlash}
 
 abbrev pub sim_state : SimFlash → FlashState
 sim_state f = record {
