@@ -1,7 +1,7 @@
 -- The exit status that reports that there is no board to sweep.
 use Rattle.std.specs.Prelude.{ℕ}
-use Rattle.card_files.specs.declared.swept_board.BoardFault.{BoardFault}
-use Rattle.card_files.specs.declared.swept_board.BoardFault.TheVariants as board
+use Rattle.card_files.specs.declared.swept_file.BoardFault.{BoardFault}
+use Rattle.card_files.specs.declared.swept_file.BoardFault.TheVariants as board
 
 -- the exit status if there is no board
 abbrev pub board_status_of : BoardFault → ℕ

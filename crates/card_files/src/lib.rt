@@ -5,9 +5,9 @@ mod kept_file;
 mod opening;
 mod options;
 mod page_count;
-mod swept_board;
+mod swept_file;
 
 pub use kept_file::CardBoard;
 pub use opening::{CardFault, NoBoard, board_of};
 pub use options::{Asked, CardOptions, read_words};
-pub use swept_board::{BoardFault, swept_board};
+pub use swept_file::{BoardFault, swept_board};
