@@ -1,4 +1,4 @@
-// Why a line is none of the language, in the words of tools/bad-line.
+// Why a line is none of the language, in the words of tools/bench/bad-line.
 
 import { lineFor } from "./names.js";
 import { LONGEST_LINE } from "./script.js";

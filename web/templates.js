@@ -1,4 +1,4 @@
-// Templates of CREATE FILE and SELECT (docs/CARD.md), in the words of tools/explaining/templates.py.
+// Templates of CREATE FILE and SELECT (docs/CARD.md), in the words of tools/soffitfennel_tools/explaining/templates.py.
 
 import { hex } from "./card.js";
 import { STATES } from "./memory.js";

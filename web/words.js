@@ -1,5 +1,5 @@
 // What a command asks, what its answer says, and why it was refused: the words of tools/words, by facts of the
-// command's bytes, of the session, and of the card that the memory held before it. As tools/explain says it.
+// command's bytes, of the session, and of the card that the memory held before it. As tools/bench/explain says it.
 
 import { hex, unhex } from "./card.js";
 import { STATES } from "./memory.js";

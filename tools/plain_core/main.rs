@@ -1,7 +1,7 @@
 //! A plain card core: the card and its bench in good Rust, without a contract or a proof.
 //!
-//! `tools/cost` compares the cost of the bench with it, so it has all duties of the card: a power-on that checks the
-//! whole memory, life cycles, access rules, commits that a power loss can't tear, a PIN's tries, both ends of the
+//! `tools/dev/cost` compares the cost of the bench with it, so it has all duties of the card: a power-on that checks
+//! the whole memory, life cycles, access rules, commits that a power loss can't tear, a PIN's tries, both ends of the
 //! link, and the script's limits. It makes the device writes that the card makes, in the same order, so that a power
 //! loss leaves the same memory. It needs a compiler and nothing else: `rustc -O main.rs`.
 mod board;

@@ -1,1 +1,0 @@
-"""The parts of tools/explain: the bytes of a command, templates, the card's files as a log shows them, and reasons."""

@@ -1,1 +1,0 @@
-"""The browsers that tools/test-page drives, and what it compares."""

@@ -1,0 +1,24 @@
+"""The programs of the repository: the bench, and the one that sweeps."""
+from __future__ import annotations
+
+import os
+import subprocess
+import sys
+from functools import cache
+from pathlib import Path
+
+
+@cache
+def program(*options: str, given: str | None = None) -> str:
+    """The path that tools/program prints: of the given program, or of the repository's, which is built if there is
+    none. If it fails, it says why, and the tool ends as for a bad command line.
+
+    Later processes don't learn that it is the given one: a wrapper would take itself for it."""
+    named = "SWEEP_PROGRAM" if "--sweep" in options else "BENCH_PROGRAM"
+    environment = {**os.environ, **({named: given} if given else {})}
+    words: list[str | Path] = [Path(__file__).resolve().parent.parent / "program", *options]
+    done = subprocess.run(words, stdout=subprocess.PIPE, text=True, check=False, env=environment)
+    if done.returncode:
+        sys.exit(2)
+    os.environ.pop(named, None)
+    return done.stdout.strip()

@@ -1,0 +1,1 @@
+"""The browsers that tools/tests/test-page drives, and what it compares."""
