@@ -275,6 +275,16 @@ SINGLE = [
     Kind("ACTIVATE FILE, no change", ["on", ACTIVATABLE], apdu("00440000")),
 ]
 
+# commands whose device writes alone stand in docs/COST.md
+CHANGEABLE = create("82024121", "83026F01", "8800", "8002000A", "8A0105", "8C063B0000000000")
+DEACTIVATE = apdu("00040000")
+WRITING = [
+    once("VERIFY, a wrong value", ["on"], apdu("00200001", "30303030FFFFFFFF")),
+    once("DISABLE VERIFICATION REQUIREMENT", ["on"], apdu("00260001", "31323334FFFFFFFF")),
+    once("DEACTIVATE FILE", ["on", CHANGEABLE], DEACTIVATE),
+    once("TERMINATE EF", ["on", CHANGEABLE], apdu("00E80000")),
+]
+
 # kinds whose counts stand in sentences of docs/COST.md alone
 ONE_SUM = power_on("62 DFs whose names have one sum", ["on", *make_named(62, 31)])
 
