@@ -14,7 +14,7 @@ ghost use Rattle.file_tree.specs.IndexParts.{TellsPut, parent_by, is_outside};
 use crate::entry::Entry;
 use crate::entry_number::EntryNumber;
 use crate::parents::is_within;
-use crate::steps::{Key, Place, Steps, is_behind, search};
+use crate::steps::{Key, Place};
 use arrayvec::ArrayVec;
 
 /// The result of a lookup: the entry's number, or `None`.
@@ -29,7 +29,7 @@ type PlaceList = ArrayVec<Place, MOST_PLACES>;
 /// The places of all files but the MF, by ascending keys.
 #[derive(Drop)]
 pub struct Index {
-    places: PlaceList,
+    pub(crate) places: PlaceList,
 }
 
 /// Returns the parent of an entry's file, for the MF its own.
@@ -107,22 +107,6 @@ impl Index {
         true
     }
 
-    /// Returns the child of a DF by identifier, with the comparisons made. The child is an entry number, or `None`.
-    pub fn find(&self, parent: EntryNumber, identifier: u16) -> (Reached, Steps)
-        ensures found { (m : List ℕ) → IsIndex (table m) self.now → TellsChild (table m) parent identifier result.0 }
-        ensures path { (m : List ℕ) → TreeStands m → IsUsed (table m) parent → IsIndex (table m) self.now
-            → option_map (path_of (table m)) result.0
-            ≡ child_by_identifier (tree_of m) (path_of (table m) parent) identifier }
-        ensures steps { result.1 ≤ 6 }
-    {
-        let places = self.places.as_slice();
-        let (found, steps) = search(places, &Key::new(parent, identifier));
-        match found {
-            Ok(at) => (Some(places[at].entry), steps),
-            Err(_) => (None, steps),
-        }
-    }
-
     /// Returns the entry of a DF's child by identifier, if any.
     pub fn child(&self, parent: EntryNumber, identifier: u16) -> Reached
         ensures { (m : List ℕ) → IsIndex (table m) self.now → TellsChild (table m) parent identifier result }
@@ -137,26 +121,6 @@ impl Index {
             → result ≡ (entry_in (table m) entry).parent }
     {
         parent_of(self.places.as_slice(), entry)
-    }
-
-    /// Inserts a place in order, unless its key is in use. It returns true if it did. Most files are created by
-    /// ascending identifiers, so it tries the end first.
-    fn put(&mut self, place: Place) -> bool
-        requires { length self.old.places.items < 63 }
-        ensures { AreSorted self.old.places.items → TellsPut self.old.places.items place self.new.places.items result }
-    {
-        if is_behind(self.places.as_slice(), &place.key) {
-            self.places.push(place);
-            return true;
-        }
-        let (found, _) = search(self.places.as_slice(), &place.key);
-        match found {
-            Ok(_) => false,
-            Err(at) => {
-                self.places.insert(at, place);
-                true
-            }
-        }
     }
 
     /// Adds a created file. It has this entry, and this identifier below its parent.

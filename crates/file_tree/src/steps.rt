@@ -1,14 +1,17 @@
-//! The places of the index by ascending keys, their search, and the count of key comparisons. Keys are compared here
-//! alone, and each comparison is counted.
+//! Places by ascending keys, their search, and the count of key comparisons. Keys are compared here alone. Other files
+//! reach a comparison only through `Index::find`, which tells the count, and `Index::put`, which keeps the order.
 
-ghost use Rattle.std.specs.Prelude.{◌≡◌, ◌<◌, ◌≤◌, ◌+◌, ◌↔◌, All, IsTrue, length};
+ghost use Rattle.std.specs.Prelude.{◌≡◌, ◌<◌, ◌≤◌, ◌+◌, ◌↔◌, ℕ, List, All, IsTrue, length, option_map};
 ghost use Rattle.std.specs.List.Sorted.{IsSearchInRange};
 ghost use Rattle.std.specs.Ordering.{MatchOrdering};
 ghost use Rattle.file_tree.specs.Keys.{key_for, IsBefore};
-ghost use Rattle.file_tree.specs.Indexes.{AreSorted};
-ghost use Rattle.file_tree.specs.IndexParts.{TellsSearch};
+ghost use Rattle.file_tree.specs.Table.{table, path_of, IsUsed};
+ghost use Rattle.file_tree.specs.Trees.{tree_of, TreeStands};
+ghost use Rattle.file_tree.specs.Indexes.{AreSorted, IsIndex, TellsChild, child_by_identifier};
+ghost use Rattle.file_tree.specs.IndexParts.{TellsPut, TellsSearch};
 
 use crate::entry_number::EntryNumber;
+use crate::index::{Index, Reached};
 use std::cmp::Ordering;
 use std::marker::Model;
 
@@ -93,7 +96,7 @@ impl Steps {
 
 /// Searches a key among places in ascending order, by bisection. It returns the index of the key, or else the one
 /// where it belongs, and the comparisons made.
-pub(crate) fn search(places: &[Place], key: &Key) -> (Result<usize, usize>, Steps)
+fn search(places: &[Place], key: &Key) -> (Result<usize, usize>, Steps)
     requires few { length places.now ≤ 63 }
     ensures within { IsSearchInRange result.0 (length places.now) }
     ensures found { AreSorted places.now → TellsSearch places.now key.now result.0 }
@@ -114,7 +117,7 @@ pub(crate) fn search(places: &[Place], key: &Key) -> (Result<usize, usize>, Step
 }
 
 /// Returns true if a key is greater than those of all places.
-pub(crate) fn is_behind(places: &[Place], key: &Key) -> bool
+fn is_behind(places: &[Place], key: &Key) -> bool
     ensures { AreSorted places.now → (IsTrue result ↔ All (λ place. IsBefore place.key key.now) places.now) }
 {
     let end = places.len();
@@ -125,5 +128,43 @@ pub(crate) fn is_behind(places: &[Place], key: &Key) -> bool
     match steps.compare(&places[end - 1].key, key) {
         Ordering::Less => true,
         Ordering::Equal | Ordering::Greater => false,
+    }
+}
+
+impl Index {
+    /// Returns the child of a DF by identifier, with the comparisons made. The child is an entry number, or `None`.
+    pub fn find(&self, parent: EntryNumber, identifier: u16) -> (Reached, Steps)
+        ensures found { (m : List ℕ) → IsIndex (table m) self.now → TellsChild (table m) parent identifier result.0 }
+        ensures path { (m : List ℕ) → TreeStands m → IsUsed (table m) parent → IsIndex (table m) self.now
+            → option_map (path_of (table m)) result.0
+            ≡ child_by_identifier (tree_of m) (path_of (table m) parent) identifier }
+        ensures steps { result.1 ≤ 6 }
+    {
+        let places = self.places.as_slice();
+        let (found, steps) = search(places, &Key::new(parent, identifier));
+        match found {
+            Ok(at) => (Some(places[at].entry), steps),
+            Err(_) => (None, steps),
+        }
+    }
+
+    /// Inserts a place in order, unless its key is in use. It returns true if it did. Most files are created by
+    /// ascending identifiers, so it tries the end first.
+    pub(crate) fn put(&mut self, place: Place) -> bool
+        requires { length self.old.places.items < 63 }
+        ensures { AreSorted self.old.places.items → TellsPut self.old.places.items place self.new.places.items result }
+    {
+        if is_behind(self.places.as_slice(), &place.key) {
+            self.places.push(place);
+            return true;
+        }
+        let (found, _) = search(self.places.as_slice(), &place.key);
+        match found {
+            Ok(_) => false,
+            Err(at) => {
+                self.places.insert(at, place);
+                true
+            }
+        }
     }
 }
