@@ -54,6 +54,21 @@ impl Batch {
             waiting: ArrayVec::new(),
         }
     }
+
+    /// Returns a second batch with the same sets.
+    pub(crate) fn twin(&self) -> Batch
+        ensures used { result.used ≡ self.now.used }
+        ensures waiting { result.waiting.items ≡ self.now.waiting.items }
+    {
+        let mut waiting = Sets::new();
+        waiting
+            .try_extend_from_slice(self.waiting.as_slice())
+            .unwrap();
+        Batch {
+            used: self.used,
+            waiting,
+        }
+    }
 }
 
 /// Returns the waiting word for an address, if there is one.

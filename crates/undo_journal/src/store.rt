@@ -230,6 +230,18 @@ impl<B: Board> Store<B> {
         noted(&mut self.failed, answer)
     }
 
+    /// Returns a second store in the same state, on a board that differs in its log at most.
+    pub fn twin(&self, board: B) -> Store<B>
+        requires { B.facts board ≡ record self.now.facts { log = (B.facts board).log } }
+        ensures { result ≡ record self.now { facts = B.facts board } }
+    {
+        Store {
+            board,
+            failed: self.failed,
+            batch: self.batch.twin(),
+        }
+    }
+
     /// Returns the board as it is.
     pub fn into_board(self) -> B
         ensures { B.facts result ≡ self.facts }
