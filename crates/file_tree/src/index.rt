@@ -85,6 +85,17 @@ impl Index {
         }
     }
 
+    /// Returns a second index of the same files.
+    pub fn twin(&self) -> Index
+        ensures { result ≡ self.now }
+    {
+        let mut places = PlaceList::new();
+        places
+            .try_extend_from_slice(self.places.as_slice())
+            .unwrap();
+        Index { places }
+    }
+
     /// Fills an empty index from a table of entries, in place, since it is long.
     /// It returns false if two children of one DF have the same identifier.
     pub fn fill(&mut self, entries: &[Entry]) -> bool
