@@ -76,6 +76,24 @@ impl CardEnd {
         }
     }
 
+    /// Returns a second end in the same state.
+    pub fn twin(&self) -> CardEnd
+        ensures { result ≡ self.now }
+    {
+        let mut command = ArrayVec::new();
+        command
+            .try_extend_from_slice(self.command.as_slice())
+            .unwrap();
+        CardEnd {
+            expected: self.expected,
+            ifsd: self.ifsd,
+            has_sent: self.has_sent,
+            answer: self.answer.twin(),
+            command,
+            waits: self.waits,
+        }
+    }
+
     /// Returns true if a command waits for its answer.
     pub fn waiting(&self) -> bool
         ensures { IsTrue result ↔ IsSome self.now.waiting }

@@ -51,6 +51,20 @@ impl Outgoing {
         }
     }
 
+    /// Returns a second buffer in the same state.
+    pub(crate) fn twin(&self) -> Outgoing
+        ensures { result ≡ self.now }
+    {
+        let mut bytes = ArrayVec::new();
+        bytes.try_extend_from_slice(self.bytes.as_slice()).unwrap();
+        Outgoing {
+            number: self.number,
+            bytes,
+            start: self.start,
+            end: self.end,
+        }
+    }
+
     /// Loads new bytes to send. The sequence number continues.
     pub(crate) fn load(&mut self, bytes: &[u8])
         requires { length bytes.now ≤ LONGEST_COMMAND }

@@ -99,6 +99,24 @@ impl ReaderEnd {
         }
     }
 
+    /// Returns a second end in the same state.
+    pub fn twin(&self) -> ReaderEnd
+        ensures { result ≡ self.now }
+    {
+        let mut answer = ArrayVec::new();
+        answer
+            .try_extend_from_slice(self.answer.as_slice())
+            .unwrap();
+        ReaderEnd {
+            expected: self.expected,
+            tries: self.tries,
+            resynchs: self.resynchs,
+            command: self.command.twin(),
+            answer,
+            phase: self.phase,
+        }
+    }
+
     /// Returns true while a command is in progress.
     /// That is after `Send`, until `Done`, `Unknown` or `Failed`.
     pub fn busy(&self) -> bool
