@@ -3,7 +3,7 @@ ghost use Rattle.std.specs.Prelude.{◌≡◌, ◌≢◌, ◌⊎◌, ◌↔◌, 
 ghost use Rattle.std.specs.Prelude.{IfErr, OnErr, OnOk};
 ghost use Rattle.std.specs.Io.KnownBytes.{Appends};
 ghost use Rattle.bench_lines.specs.declared.order.TheConstants.{COMMAND_LIMIT};
-ghost use Rattle.bench_turns.specs.BenchStates.{IsOn, bench_facts, off};
+ghost use Rattle.bench_turns.specs.BenchStates.{IsOn, bench_facts, off, with_facts};
 ghost use Rattle.card_model.specs.Requests.{HasBetween};
 ghost use Rattle.card_bench.specs.DeskStates.{print_of, printed_at};
 ghost use Rattle.bench_lines.specs.OrderViews.{order_with};
@@ -18,7 +18,7 @@ use crate::line::Line;
 use crate::line_result::LineResult;
 use crate::reader_turns::{Blocks, Ending};
 use bench_lines::{Order, PrintedText, RunFault};
-use bench_turns::{Turn, TurnPlayer};
+use bench_turns::{Turn, TurnPlayer, Twinned};
 use simulated_boards::Followed;
 use std::io::Write;
 use std::marker::Model;
@@ -125,6 +125,29 @@ impl<P: TurnPlayer> Desk<P> {
                 .try_extend_from_slice(&self.ends.blocks.toward_reader)
                 .unwrap(),
             _ => {}
+        }
+    }
+}
+
+impl<P: Twinned> Desk<P> {
+    /// Returns a second desk in the same state, on a board that differs in its log at most.
+    pub fn twin(&self, board: P::Board) -> Desk<P>
+        requires { P.Board.facts board
+            ≡ record (bench_facts self.now.desk.bench) { log = (P.Board.facts board).log } }
+        ensures { result.desk
+            ≡ record self.now.desk { bench = with_facts self.now.desk.bench (P.Board.facts board) } }
+    {
+        Desk {
+            ends: Ends {
+                bench: self.ends.bench.twin(board),
+                reader: self.ends.reader.twin(),
+                line: self.ends.line,
+                blocks: Blocks {
+                    toward_card: BlockBytes::new(),
+                    toward_reader: BlockBytes::new(),
+                },
+            },
+            in_step: self.in_step,
         }
     }
 }

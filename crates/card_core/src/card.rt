@@ -205,6 +205,22 @@ impl<B: Board> Card<B> {
         self.parts.store.board()
     }
 
+    /// Returns a second card in the same state, on a board that differs in its log at most.
+    pub fn twin(&self, board: B) -> Card<B>
+        requires { B.facts board ≡ record self.now.facts { log = (B.facts board).log } }
+        ensures { result ≡ record self.now { facts = B.facts board } }
+    {
+        Card {
+            parts: CardParts {
+                store: self.parts.store.twin(board),
+                current: self.parts.current,
+                free: self.parts.free,
+                index: self.parts.index.twin(),
+            },
+            state: self.state,
+        }
+    }
+
     /// The board by itself, as it is.
     pub fn into_board(self) -> B
         ensures { B.facts result ≡ self.facts }

@@ -2,13 +2,14 @@
 ghost use Rattle.std.specs.Prelude.{◌≡◌, ◌≤◌, ◌↔◌, ℕ, List, length, true, IsTrue};
 ghost use Rattle.nvm_board.specs.Aims.{due_of};
 ghost use Rattle.bench_turns.specs.BenchStates.{off, bench_facts, BenchHasCard, IsOn, IsWell, TellsFree, IsArmed};
+ghost use Rattle.bench_turns.specs.BenchStates.{with_facts};
 ghost use Rattle.card_turns.specs.BenchViews.{power_state, IsPowerKept};
 ghost use Rattle.bench_turns.specs.Guessing.{GuessesFew};
 ghost use Rattle.bench_turns.specs.Plays.{Plays, PlaysBlock, BringsNoFault, IsGood, TellsItem};
 ghost use Rattle.bench_turns.specs.Turns.{CountsLosses, GoodTurn, Runs, darks};
 
 use crate::powered::Powered;
-use bench_turns::{Item, Turn, TurnPlayer, TurnResult};
+use bench_turns::{Item, Turn, TurnPlayer, TurnResult, Twinned};
 use card_core::FreeSpace;
 use card_start::StartFault;
 use core::mem::replace_with;
@@ -171,6 +172,19 @@ impl<B: Socket> Bench<B> {
         }
     }
 
+    /// Returns a second bench in the same state, on a board that differs in its log at most.
+    pub fn twin(&self, board: B) -> Bench<B>
+        requires { B.facts board ≡ record (bench_facts self.now) { log = (B.facts board).log } }
+        ensures { result ≡ with_facts self.now (B.facts board) }
+    {
+        Bench {
+            power: match &self.power {
+                Power::Off(_) => Power::Off(board),
+                Power::On(powered) => Power::On(powered.twin(board)),
+            },
+        }
+    }
+
     /// The board, power off.
     pub fn into_board(self) -> B
         ensures { B.facts result ≡ record (bench_facts self) { dark = true } }
@@ -274,6 +288,12 @@ impl<B: Armed + Faultless> TurnPlayer for Bench<B> {
 
     fn into_board(self) -> B {
         Bench::into_board(self)
+    }
+}
+
+impl<B: Armed + Faultless> Twinned for Bench<B> {
+    fn twin(&self, board: B) -> Bench<B> {
+        Bench::twin(self, board)
     }
 }
 

@@ -150,6 +150,18 @@ impl<B: Board> Powered<B> {
         self.card.board()
     }
 
+    /// Returns a second card in the same state behind a second end, on a board that differs in its log at most.
+    pub fn twin(&self, board: B) -> Powered<B>
+        requires { B.facts board ≡ record self.now.card.facts { log = (B.facts board).log } }
+        ensures { result ≡ record self.now { card = record self.now.card { facts = B.facts board } } }
+    {
+        Powered {
+            card: self.card.twin(board),
+            link: self.link.twin(),
+            answer: Answer::new(),
+        }
+    }
+
     /// The board by itself, as it is.
     pub fn into_board(self) -> B
         ensures { B.facts result ≡ self.card.facts }
