@@ -115,6 +115,9 @@ impl Follower for KeptFile {
     ghost behind = { λ f. f.behind };
 
     fn take(&mut self, at: usize, words: &[u32]) -> bool {
+        if self.behind {
+            return false;
+        }
         let took = self.is_as_left()
             && self.write(at, words)
             && self.stamp_again()

@@ -1,5 +1,5 @@
 //! Followers of the words of a board.
-ghost use Rattle.std.specs.Prelude.{◌≡◌, ◌≤◌, ◌+◌, ◌*◌, Bool, true, not, Option, None, IsTrue, is_some, length};
+ghost use Rattle.std.specs.Prelude.{◌≡◌, ◌≤◌, ◌<◌, ◌+◌, ◌*◌, ◌%◌, Bool, true, not, Option, None, IsTrue, is_some, length};
 ghost use Rattle.nvm_board.specs.declared.board.TheConstants.{MOST_PAGES, PAGE_WORDS};
 ghost use Rattle.nvm_board.specs.History.{Log, and_run};
 
@@ -11,12 +11,14 @@ pub trait Follower {
     /// True if it didn't get all words of the last write.
     ghost behind: { Self → Bool };
 
-    /// Takes the words of one device write, at most 16, from an address on.
-    /// Returns false if it didn't get them all: then it gets nothing more. A follower with a log gets them all.
+    /// Takes the words of one device write, 1 to 16 of one page, from an address on.
+    /// Returns false if it didn't get them all: then it takes nothing more. A follower with a log gets them all.
     fn take(&mut self, at: usize, words: &[u32]) -> bool
-        requires size { length words.now ≤ PAGE_WORDS }
+        requires some { 0 < length words.now }
+        requires page { at % PAGE_WORDS + length words.now ≤ PAGE_WORDS }
         requires within { at + length words.now ≤ PAGE_WORDS * MOST_PAGES }
         ensures logs { log self.new ≡ and_run (log self.old) (record { at = at; words = words.now }) }
         ensures keeps_up { is_some (log self.new) ≡ true → IsTrue result }
-        ensures told { result ≡ not (behind self.new) };
+        ensures told { result ≡ not (behind self.new) }
+        ensures never { behind self.old ≡ true → self.new ≡ self.old };
 }

@@ -1,5 +1,5 @@
 //! A board in working memory, and a follower that has its words too.
-ghost use Rattle.std.specs.Prelude.{◌≡◌, ◌+◌, ◌≤◌, length};
+ghost use Rattle.std.specs.Prelude.{◌≡◌, ◌+◌, ◌%◌, ◌≤◌, ◌<◌, length};
 ghost use Rattle.simulated_boards.specs.Cut.{cut_facts};
 ghost use Rattle.nvm_board.specs.declared.board.TheConstants.{PAGE_WORDS};
 
@@ -94,7 +94,8 @@ impl<F: Follower> KeptBoard<F> {
 
     /// Hands the words of a write to the follower.
     fn hand_on(&mut self, at: usize, size: usize)
-        requires size { size ≤ PAGE_WORDS }
+        requires some { 0 < size }
+        requires page { at % PAGE_WORDS + size ≤ PAGE_WORDS }
         requires within { at + size ≤ length (cut_facts self.old.cut).words }
         ensures cut { self.new.cut ≡ self.old.cut }
         ensures handed { HandsOn F.log F.behind (run_in (kept_words self.old) at size)
