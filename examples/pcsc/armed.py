@@ -1,6 +1,7 @@
 # A client arms a power cut, a lost and a garbled block in the reader Soffitfennel, by SCardControl. Its DEVICENAME ends
 # with :faults. The update that is cut is taken back, and a fault of the line changes no answer.
 import time
+from typing import Any
 
 from smartcard.Exceptions import CardConnectionException, NoCardException
 from smartcard.scard import SCARD_CTL_CODE
@@ -10,7 +11,7 @@ from smartcard.util import toBytes, toHexString
 CUT, LOSE, GARBLE = (SCARD_CTL_CODE(code) for code in (1, 2, 3))
 
 
-def ask(card, command):
+def ask(card: Any, command: str) -> None:
     try:
         data, sw1, sw2 = card.transmit(toBytes(command))
         print(command, "->", toHexString(data), "%02X%02X" % (sw1, sw2))
@@ -18,7 +19,7 @@ def ask(card, command):
         print(command, "->", type(error).__name__)
 
 
-def insert():
+def insert() -> Any:
     for _ in range(20):
         try:
             card = next(it for it in readers() if "Soffitfennel" in str(it)).createConnection()

@@ -2,17 +2,18 @@
 # file asks for PIN 1: to verify it makes two device writes, so that the third one of the update is the fifth.
 # Run over: tools/pcsc --cut 5 0001
 import time
+from typing import Any
 from smartcard.Exceptions import CardConnectionException, NoCardException
 from smartcard.System import readers
 from smartcard.util import toBytes, toHexString
 
 
-def ask(card, command):
+def ask(card: Any, command: str) -> None:
     data, sw1, sw2 = card.transmit(toBytes(command))
     print(command, "->", toHexString(data), "%02X%02X" % (sw1, sw2))
 
 
-def insert():
+def insert() -> Any:
     for _ in range(20):
         try:
             card = readers()[0].createConnection()

@@ -109,7 +109,7 @@ class Service:
             raise
         return self
 
-    def __exit__(self, *_) -> None:
+    def __exit__(self, *_: object) -> None:
         self.process.terminate()
         self.process.wait()
         self.readers.cleanup()
@@ -132,7 +132,7 @@ class Card:
             raise
         return self
 
-    def __exit__(self, *_) -> None:
+    def __exit__(self, *_: object) -> None:
         self.bridge.terminate()
         self.bridge.wait()
         try:

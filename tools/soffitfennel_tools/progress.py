@@ -21,7 +21,7 @@ class Progress:
             self.ticks.start()
         return self
 
-    def __exit__(self, *_) -> None:
+    def __exit__(self, *_: object) -> None:
         self.ended.set()
         if self.is_seen:
             self.ticks.join()

@@ -83,7 +83,8 @@ def of_bytes(order: str, given: str) -> str | None:
         return f"a status is not part of the order; in a test it stands on the line below: = < *{given.split(' ')[1]}"
     if " " in given and DIGITS.fullmatch(given.replace(" ", "")):
         return "a space stands among the digits: they are one word"
-    rest = given[DIGITS.match(given).end() :]
+    digits = DIGITS.match(given)
+    rest = given[digits.end() :] if digits else given
     if rest.lstrip(" ").startswith(OTHER_COMMENTS):
         return BEHIND_A_COMMAND
     if rest.startswith(" "):

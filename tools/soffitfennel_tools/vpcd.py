@@ -8,6 +8,7 @@ import socket
 import subprocess
 import sys
 from pathlib import Path
+from typing import Any
 
 BRIDGE = Path(__file__).resolve().parent.parent / "pcsc"
 POWER_OFF, POWER_ON, RESET, ANSWER_TO_RESET = b"\0", b"\1", b"\2", b"\4"
@@ -15,9 +16,11 @@ POWER_OFF, POWER_ON, RESET, ANSWER_TO_RESET = b"\0", b"\1", b"\2", b"\4"
 PATIENCE = 20
 
 
-def start(*words: object, **more: object) -> subprocess.Popen:
+def start(*words: object, **more: Any) -> subprocess.Popen[str]:
     """A bridge with these words on its command line, and its standard error to be read."""
-    return subprocess.Popen([sys.executable, BRIDGE, *map(str, words)], stderr=subprocess.PIPE, text=True, **more)
+    command = [sys.executable, str(BRIDGE), *map(str, words)]
+    bridge: subprocess.Popen[str] = subprocess.Popen(command, stderr=subprocess.PIPE, text=True, **more)
+    return bridge
 
 
 class Reader:
@@ -27,11 +30,17 @@ class Reader:
         self.listener = socket.create_server(("127.0.0.1", 0))
         self.listener.settimeout(PATIENCE)
         self.port = self.listener.getsockname()[1]
-        self.card = None
+        self.connection: socket.socket | None = None
+
+    @property
+    def card(self) -> socket.socket:
+        """The connection to a card that was put in."""
+        assert self.connection
+        return self.connection
 
     def wait(self) -> None:
         """Waits until a card is put in."""
-        self.card, _ = self.listener.accept()
+        self.connection, _ = self.listener.accept()
         self.card.settimeout(PATIENCE)
 
     def send(self, message: bytes) -> None:
@@ -69,6 +78,6 @@ class Reader:
 
     def close(self) -> None:
         """Ends the reader: a card is no longer served."""
-        if self.card:
-            self.card.close()
+        if self.connection:
+            self.connection.close()
         self.listener.close()

@@ -23,6 +23,10 @@ class Exchange:
     bench: str | None
 
 
+# what gets a whole run
+Keep = Callable[[list[Exchange]], None]
+
+
 @dataclass
 class Difference:
     """A line that the cards answer differently, and the shortest script that shows it."""
@@ -82,9 +86,10 @@ class Pair:
                 self.exchange(line)
         return [self.exchange(line) for line in lines]
 
-    def differences(self, lines: list[str], most: int, keep: Callable | None = None) -> list[Difference]:
+    def differences(self, lines: list[str], most: int, keep: Keep | None = None) -> list[Difference]:
         """The differences of a script, each kind once, with the shortest script for it; `keep` gets the whole run."""
-        clean, found = cleaning(lines), {}
+        clean = cleaning(lines)
+        found: dict[tuple[str, str, str], Difference] = {}
         whole = self.run(lines, clean)
         if keep:
             keep(whole)

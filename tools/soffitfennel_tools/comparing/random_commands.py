@@ -58,7 +58,8 @@ class Commands:
         kind = file.kind if file else "DF"
         misfits = MISFITS[kind] if self.chance.random() < 0.8 else ()
         often = {name: weight for name, weight in self.often.items() if name not in misfits}
-        return getattr(self, self.chance.choices(list(often), list(often.values()))[0])()
+        made: str = getattr(self, self.chance.choices(list(often), list(often.values()))[0])()
+        return made
 
     def bytes(self, count: int) -> str:
         """So many random bytes, of few values, so that a search finds some."""
@@ -107,12 +108,14 @@ class Commands:
 
     def read_binary(self) -> str:
         """READ BINARY."""
-        size = self.current().size if self.current() else 10
+        current = self.current()
+        size = current.size if current else 10
         return f"00B0{self.place(size)}{self.chance.choice((0, 1, self.near(min(size, 255)))):02X}"
 
     def update_binary(self) -> str:
         """UPDATE BINARY."""
-        size = self.current().size if self.current() else 10
+        current = self.current()
+        size = current.size if current else 10
         return self.with_data(f"00D6{self.place(size)}", self.bytes(self.chance.randrange(1, min(size, 40) + 2)))
 
     def record(self) -> tuple[str, int]:

@@ -3,6 +3,7 @@ from __future__ import annotations
 
 import subprocess
 import time
+from importlib import import_module
 from types import ModuleType
 from typing import Protocol
 
@@ -40,7 +41,7 @@ class Program:
 
     def __init__(self, program: str, preparation: list[str]):
         self.program, self.preparation = program, preparation
-        self.process = None
+        self.process: subprocess.Popen[bytes] | None = None
         self.renew()
 
     def renew(self) -> None:
@@ -55,6 +56,7 @@ class Program:
 
     def line(self, line: str) -> str | None:
         """What a line prints."""
+        assert self.process and self.process.stdin and self.process.stdout
         try:
             self.process.stdin.write(line.encode("latin-1") + b"\n")
             self.process.stdin.flush()
@@ -69,7 +71,7 @@ class Program:
 
     def close(self) -> None:
         """Ends the program."""
-        if self.process:
+        if self.process and self.process.stdin and self.process.stdout:
             try:
                 self.process.stdin.close()
             except BrokenPipeError:
@@ -81,7 +83,7 @@ class Program:
 def scard() -> ModuleType:
     """Debian's module for PC/SC."""
     try:
-        from smartcard import scard as module
+        module = import_module("smartcard.scard")
     except ImportError:
         why = "this python3 has no pyscard: apt-get install python3-pyscard, and /usr/bin/python3 tools/compare .."
         raise Trouble(why) from None

@@ -42,7 +42,7 @@ def text(x: float, y: float, words: str, more: str = "") -> str:
 def nice(most: int) -> int:
     """The least number of one digit and zeros that is not below another one."""
     step = 10 ** (len(str(most)) - 1)
-    return -(-most // step) * step
+    return int(-(-most // step) * step)
 
 
 class Panel:

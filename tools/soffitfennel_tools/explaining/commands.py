@@ -16,9 +16,11 @@ class Command:
         self.given = given
         self.p1, self.p2 = (given[2], given[3]) if len(given) >= 4 else (0, 0)
         self.key = given[:2].hex().upper()
-        self.data, self.expected = b"", None
+        self.data = b""
+        self.expected: int | None = None
         # the length byte Lc and how many bytes follow it, where the command has one
-        self.lc, self.rest = None, 0
+        self.lc: int | None = None
+        self.rest = 0
         self.fault = "header" if len(given) < 4 else None
         self.read_body(given[4:])
 

@@ -55,7 +55,11 @@ def holds(clause: str, facts: dict[str, Fact]) -> bool:
         wanted = facts.get(other) if not other[0].isdigit() else int(other, 0)
     if value is None or wanted is None:
         return False
-    return {"=": value == wanted, "<": value < wanted, ">": value > wanted}[relation]
+    if relation == "=":
+        return value == wanted
+    if not (isinstance(value, int) and isinstance(wanted, int)):
+        raise ValueError(f"words/why.table: {clause!r} compares what has no order")
+    return value < wanted if relation == "<" else value > wanted
 
 
 def is_met(condition: str, facts: dict[str, Fact]) -> bool:
@@ -178,7 +182,7 @@ class Case:
         parent = self.files.seen.get(path[:-1]) if path else None
         return {
             "allows": file.allows(bit), "action": action, "allows_words": f"{action} {file.allows(bit)}",
-            "parent_allows": parent and parent.allows(1),
+            "parent_allows": parent.allows(1) if parent else None,
         }  # fmt: skip
 
     def of_new(self) -> dict[str, Fact]:

@@ -41,7 +41,9 @@ class Twin:
 
     def __init__(self, program: list[str]):
         # (a copy need not outlive a power cut of the machine)
-        self.program, self.lines, self.spent = [it for it in program if it != "--sync"], [], 0
+        self.program = [it for it in program if it != "--sync"]
+        self.lines: list[str] = []
+        self.spent = 0.0
         self.image = image_given(program)
 
     def took(self, line: str) -> None:
@@ -62,7 +64,7 @@ class Twin:
             return []
         return ran.stdout.decode("latin-1").splitlines()[-len(questions) :] if ran.returncode == 0 else []
 
-    def run(self, text: bytes, seconds: int | None = None) -> subprocess.CompletedProcess:
+    def run(self, text: bytes, seconds: int | None = None) -> subprocess.CompletedProcess[bytes]:
         """A run of the program, on a copy of the card where it is one in a file."""
         with TemporaryDirectory() as room:
             copy = FilePath(room) / "card"

@@ -2,8 +2,9 @@
 from __future__ import annotations
 
 import secrets
-from collections.abc import Iterator
+from collections.abc import Callable, Iterator
 from dataclasses import dataclass, field
+from typing import TypeVar
 
 from ..card_image import layout
 from ..card_image.rules import MOST_CAPACITY, MOST_NAME, MOST_RECORD, MOST_SHORT, MOST_SIZE, MOST_STEPS
@@ -11,6 +12,7 @@ from ..card_image.rules import MOST_TRIES, MOST_UNBLOCKING
 
 from .rule_text import rule_of
 
+R = TypeVar("R")
 STATES = {"creation": 1, "initialisation": 3, "deactivated": 4, "activated": 5, "terminated": 0x0C}
 KINDS = {"df": layout.DIRECTORY, "transparent": layout.TRANSPARENT, "linear": layout.LINEAR, "cyclic": layout.CYCLIC}
 MF = "3F00"
@@ -222,7 +224,7 @@ class Draft:
                 )
 
 
-def with_line(line: int, call, *words):
+def with_line(line: int, call: Callable[..., R], *words: object) -> R:
     """What a call gives; its complaint gets this line, unless it names one."""
     try:
         return call(*words)
@@ -230,7 +232,7 @@ def with_line(line: int, call, *words):
         raise Wrong(str(why), getattr(why, "line", 0) or line) from None
 
 
-def one_of(known: dict, word: str, what: str):
+def one_of(known: dict[str, R], word: str, what: str) -> R:
     """The value of a word that is known."""
     if word.lower() not in known:
         raise Wrong(f"{what} '{word}' is none of: {', '.join(known)}")

@@ -15,7 +15,7 @@ OF_FILE |= {"capacity", "records", "content"}
 OF_PIN = {"number", "is_enabled", "tries", "unblocking_tries", "value", "unblocking_value"}
 
 
-class Located(dict):
+class Located(dict[str, Any]):
     """An object of JSON, and the line on which it begins."""
 
     line = 0
@@ -74,7 +74,7 @@ def known(given: Any, names: set[str], what: str) -> None:
             raise Wrong(f"{what} has no '{name}'")
 
 
-def take(given: dict, name: str, kind: type, default: Any = None) -> Any:
+def take(given: dict[str, Any], name: str, kind: type, default: Any = None) -> Any:
     """A value of its type; the default where there is none."""
     value = given.get(name)
     if value is None and default is not None:

@@ -6,10 +6,9 @@ import sys
 from collections import Counter
 from collections.abc import Iterator
 from dataclasses import dataclass, field
-from importlib.machinery import SourceFileLoader
-from importlib.util import module_from_spec, spec_from_loader
 from pathlib import Path
 
+from ..commands import command as tool
 from .card import BadCard
 from .faults import FAULTS
 
@@ -52,11 +51,7 @@ class OwnReader:
 
     def __init__(self, card: BadCard):
         self.card, self.counts = card, False
-        loader = SourceFileLoader("serial_tool", str(TOOL.with_name("serial")))
-        spec = spec_from_loader("serial_tool", loader)
-        assert spec
-        self.tool = module_from_spec(spec)
-        loader.exec_module(self.tool)
+        self.tool = tool("serial")
         self.end = None
 
     def send(self, block: bytes) -> tuple[bytes | None, int]:

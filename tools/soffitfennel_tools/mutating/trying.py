@@ -5,7 +5,7 @@ import os
 import re
 import shutil
 import subprocess
-from collections.abc import Iterator
+from collections.abc import Callable, Iterator
 from dataclasses import dataclass
 from pathlib import Path
 
@@ -13,6 +13,8 @@ from .batches import batches_of
 from .edits import Edit, merged
 
 PARTS = ("src", "specs", "proofs")
+# how the files of these parts are copied; what a build replaces, and never changes, is linked
+COPIES: dict[str, Callable[[str, str], object]] = dict.fromkeys(PARTS, shutil.copy2)
 # an error, with the goal that it is about, or a note that a goal is not proved, or that the search for it gave up
 SEARCHED = "what antt said of a `search` in the proof that rattle made: "
 ERROR = re.compile(
@@ -63,14 +65,13 @@ def copy_crate(top: Path, room: Path, name: str) -> None:
         for part in (*PARTS, "out/rlib"):
             source = top / "crates" / crate / part
             if source.is_dir():
-                copy = shutil.copy2 if part in PARTS else link
-                shutil.copytree(source, room / "crates" / crate / part, copy_function=copy)
+                shutil.copytree(source, room / "crates" / crate / part, copy_function=COPIES.get(part, link))
 
 
 def run(folder: Path, *words: str) -> str:
     """What a command of the toolchain prints, run in a folder."""
-    how = {"text": True, "stdout": subprocess.PIPE, "stderr": subprocess.STDOUT}
-    return subprocess.run(["rt", *words], cwd=folder, check=False, **how).stdout
+    out, err = subprocess.PIPE, subprocess.STDOUT
+    return subprocess.run(["rt", *words], cwd=folder, check=False, text=True, stdout=out, stderr=err).stdout
 
 
 def link(one: str, other: str) -> str:
@@ -78,13 +79,13 @@ def link(one: str, other: str) -> str:
     try:
         os.link(one, other)
     except OSError:
-        return shutil.copy2(one, other)
+        shutil.copy2(one, other)
     return other
 
 
 def link_proof(one: str, other: str) -> str:
     """Links what was proved, which a check replaces and never changes, and copies all else."""
-    return link(one, other) if one.endswith(".oantt") else shutil.copy2(one, other)
+    return link(one, other) if one.endswith(".oantt") else str(shutil.copy2(one, other))
 
 
 class Crate:

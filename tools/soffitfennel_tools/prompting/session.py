@@ -16,7 +16,7 @@ from .names import NAMES, Unclear, line_for
 try:
     import readline
 except ImportError:  # (a python without it has a prompt without history)
-    readline = None
+    readline = None  # type: ignore[assignment]
 
 VERSION = Path(__file__).resolve().parent.parent.parent / "words" / "version"
 # where the words begin, behind an answer that is no longer
@@ -57,6 +57,8 @@ class Session:
         self.process = subprocess.Popen(
             program, stdin=subprocess.PIPE, stdout=subprocess.PIPE, stderr=subprocess.DEVNULL, start_new_session=True
         )
+        assert self.process.stdin and self.process.stdout
+        self.input, self.output = self.process.stdin, self.process.stdout
         self.is_on = False
         self.files = {"3F00": None}
 
@@ -64,11 +66,11 @@ class Session:
         """Sends a line of the script language; what it prints, if it prints anything."""
         order = line.partition(" ")[0]
         try:
-            self.process.stdin.write(f"{line}\n".encode("latin-1"))
-            self.process.stdin.flush()
+            self.input.write(f"{line}\n".encode("latin-1"))
+            self.input.flush()
             self.log.took(line)
             answer = (
-                self.process.stdout.readline().decode("latin-1").rstrip("\n") if order in ORDERS_THAT_PRINT else None
+                self.output.readline().decode("latin-1").rstrip("\n") if order in ORDERS_THAT_PRINT else None
             )
         except BrokenPipeError:
             answer = ""
@@ -89,7 +91,7 @@ class Session:
     def end(self) -> None:
         """Lets the program end."""
         try:
-            self.process.stdin.close()
+            self.input.close()
         except BrokenPipeError:
             pass
         self.process.wait()
@@ -147,8 +149,8 @@ def answer_to(session: Session, text: str) -> list[str]:
     """The lines that are shown for a line that was typed."""
     try:
         line = line_for(plain(text)) or plain(text)
-    except Unclear as why:
-        return [f"bench: {why}"]
+    except Unclear as unclear:
+        return [f"bench: {unclear}"]
     if why := fault(line.encode("utf-8"), 2, True):
         near = difflib.get_close_matches(text.partition(" ")[0].lower(), NAMES, 1, 0.75)
         return [f"bench: {why}" + (f"; is {near[0]} meant?" if near else "")]

@@ -46,7 +46,7 @@ class Session:
 
     def writes(self) -> int:
         """How many device writes its processes have made."""
-        return struct.unpack("=II", self.counters.read_bytes())[0]
+        return int(struct.unpack("=II", self.counters.read_bytes())[0])
 
     def has_cut(self) -> bool:
         """Whether the power cut has come."""
@@ -129,7 +129,7 @@ def environment(settings: Settings, cards: list[str], counters: Path, library: P
 
 def run(command: list[str], session: Session) -> int:
     """The exit status of a program, as a shell tells it."""
-    started: list[subprocess.Popen] = []
+    started: list[subprocess.Popen[bytes]] = []
 
     def pass_on(number: int, _: object) -> None:
         """A signal that would end the tool ends the program, and the tool with it."""

@@ -6,12 +6,16 @@ from collections.abc import Callable, Sequence
 from hashlib import sha256
 from multiprocessing.pool import ThreadPool
 from pathlib import Path
-from typing import TextIO
+from typing import Any, TextIO, TypeVar
 
 from ..progress import Progress
 from ..script_lines import fault
 
 COMMAND, PROBE = "# command", "# probe"
+T = TypeVar("T")
+R = TypeVar("R")
+# a part of a sweep: what it is of, and its report
+Part = dict[str, Any]
 # what the parts of one sweep have in common
 OF_SWEEP = ("script", "card", "parts")
 
@@ -33,7 +37,8 @@ def ran(script: str, *words: str, has_parts: bool = True) -> list[str]:
         return done.stdout.splitlines()
     said = (done.stderr.splitlines() or [f"the program ended with status {done.returncode}"])[-1]
     bad = re.fullmatch(r"error line (\d+)(: it is no line of a script)?", said)
-    why = [fault(script.split("\n")[int(bad[1]) - 1].encode("latin-1"), int(bad[1]), True)] if bad else []
+    found = fault(script.split("\n")[int(bad[1]) - 1].encode("latin-1"), int(bad[1]), True) if bad else None
+    why = [found] if found else []
     if not has_parts:
         raise Refused(": ".join([said, *why]))
     # a comment that was meant to begin a part of the script
@@ -44,9 +49,9 @@ def ran(script: str, *words: str, has_parts: bool = True) -> list[str]:
     raise Refused(": ".join([said, *why]))
 
 
-def side_by_side(jobs: int, what: str, work: Callable, tasks: Sequence) -> list:
+def side_by_side(jobs: int, what: str, work: Callable[[T], R], tasks: Sequence[T]) -> list[R]:
     """The results of tasks, in order; `jobs` tasks run at a time. A terminal shows the progress."""
-    results: list = []
+    results: list[R] = []
     with ThreadPool(jobs) as pool, Progress("sweep", f"0 of {len(tasks)} {what}") as progress:
         for it in pool.imap(work, tasks):
             results.append(it)
@@ -54,7 +59,7 @@ def side_by_side(jobs: int, what: str, work: Callable, tasks: Sequence) -> list:
     return results
 
 
-def sweep_part(sweeper: str, script: str, depth: int | None, card: str | None, part: str) -> dict:
+def sweep_part(sweeper: str, script: str, depth: int | None, card: str | None, part: str) -> Part:
     """Part I/N of a sweep of the factory card, or of copies of the card in a file: what it is of, and its report."""
     whole = script if depth is None else script.removesuffix("\n") + f"\n# depth {depth}"
     lines = ran(whole, sweeper, *(["--card", card] if card else []), part)
@@ -64,7 +69,7 @@ def sweep_part(sweeper: str, script: str, depth: int | None, card: str | None, p
     return {"script": whole, "card": summed, "parts": of, "part": number, "lines": [json.loads(it) for it in lines]}
 
 
-def read_part(file: TextIO) -> dict:
+def read_part(file: TextIO) -> Part:
     """The part in a file, with the file's name, whether it is whole, and the numbers that its sweep's parts have."""
     try:
         it = json.load(file)
@@ -74,7 +79,7 @@ def read_part(file: TextIO) -> dict:
         raise Refused(f"{file.name} is not part of a sweep, or is cut short ({why})") from None
 
 
-def read_parts(files: list[TextIO]) -> list[dict]:
+def read_parts(files: list[TextIO]) -> list[Part]:
     """The parts in files. They are of one sweep and whole, and none is missing or comes twice."""
     parts = [read_part(it) for it in files]
     first = parts[0]

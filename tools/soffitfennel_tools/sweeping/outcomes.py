@@ -4,6 +4,7 @@ from collections import Counter, defaultdict
 from collections.abc import Iterable, Sequence
 from itertools import groupby
 from os.path import commonprefix
+from typing import Any
 
 from .engine import PROBE
 from ..card_words import read_table
@@ -20,7 +21,7 @@ Found = tuple[str, ...]  # the free space, and the answer of each line of the pr
 class Sweep:
     """A command, its device writes, and what each cut of them left."""
 
-    def __init__(self, parts: list[dict]):
+    def __init__(self, parts: list[dict[str, Any]]):
         script, lines = parts[0]["script"].replace("\r\n", "\n"), [line for part in parts for line in part["lines"]]
         orders = [it for it in script.split("\n") if it == PROBE or it and it[0] != "#" and it != "free"]
         self.looks = ["free", *orders[orders.index(PROBE) + 1 :]]
@@ -33,7 +34,7 @@ class Sweep:
         self.cells: defaultdict[tuple[int, int], Counter[Found]] = defaultdict(Counter)
         for it in sorted((it for it in lines if "mask" in it), key=lambda it: (it["write"], it["number"])):
             self.cells[it["write"], it["mask"]][tuple(it["found"])] += it["runs"]
-        self.outcomes = sum(self.cells.values(), Counter())
+        self.outcomes: Counter[Found] = sum(self.cells.values(), Counter())
         self.runs = self.outcomes.total()
         self.first = {it: cut for cut, runs in reversed(self.cells.items()) for it in runs}
         self.letters = {it: chr(ord("A") + at) if at < 26 else f"A{at}" for at, it in enumerate(self.outcomes)}

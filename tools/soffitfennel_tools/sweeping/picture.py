@@ -1,8 +1,10 @@
 """The picture of a sweep: a column for each device write, a row for each mask, coloured by outcome."""
 from xml.sax.saxutils import escape
 
-from .outcomes import AFTER, BEFORE, UNCHANGED, Sweep, count, ranges
+from ..explaining.templates import count
 from ..svg import rect, text
+
+from .outcomes import AFTER, BEFORE, UNCHANGED, Sweep, ranges
 
 # The palette of Okabe and Ito, which the colour-blind can tell apart.
 CARD_COLOURS = {BEFORE: "#0072b2", UNCHANGED: "#0072b2", AFTER: "#e69f00"}
@@ -27,7 +29,8 @@ class Picture:
         self.rows = ["none new", "all new", *(f"word {it + 1} new" for it in range(words) if words > 1)]
         self.sweep, self.height, self.column = sweep, ROW * len(self.rows), max(6, min(28, 900 / len(sweep.writes)))
         others = iter(OTHER_COLOURS)
-        self.colours = {it: CARD_COLOURS.get(sweep.meaning(it)) or next(others, "#888888") for it in sweep.outcomes}
+        self.colours = {it: CARD_COLOURS.get(sweep.meaning(it), "") or str(next(others, "#888888"))
+                        for it in sweep.outcomes}
 
     def column_drawn(self, number: int, kind: str) -> list[str]:
         """A write: its number and kind, a cell for each mask divided by outcomes, and the mark of a commit."""

@@ -93,8 +93,8 @@ class Script:
         line = Line(number, text, self.cases[-1])
         if self.status_at and line.is_order():
             self.refuse(number, text, f"it stands behind the exit status, line {self.status_at}")
-        elif CASE.fullmatch(text):
-            self.cases.append(Case(self.path, number, CASE.fullmatch(text)[1]))
+        elif found := CASE.fullmatch(text):
+            self.cases.append(Case(self.path, number, found[1]))
         elif NEARLY_A_CASE.match(text):
             self.refuse(number, text, "a case begins with '# case NAME'")
         self.lines.append(line)
@@ -105,8 +105,8 @@ class Script:
         above = next(filter(Line.is_order, reversed(self.lines)), None)
         if self.status_at:
             self.refuse(number, MARK + text, f"it stands behind the exit status, line {self.status_at}")
-        elif STATUS.fullmatch(text):
-            self.status, self.status_at = int(STATUS.fullmatch(text)[1]), number
+        elif found := STATUS.fullmatch(text):
+            self.status, self.status_at = int(found[1]), number
             self.cases[-1].compared += 1
         elif above is None or above.case is not self.cases[-1]:
             self.refuse(number, MARK + text, "no line of the script stands above it in its case")

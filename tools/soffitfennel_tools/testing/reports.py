@@ -122,7 +122,7 @@ def junit(files: list[list[Case]]) -> str:
         suite.attrib.update(failures=str(failed(file)), errors="0", skipped="0")
         for case in file:
             names = {"classname": file_name(case), "name": name_of(case) or file_name(case)}
-            entry = ElementTree.SubElement(suite, "testcase", **names, file=case.path, line=str(case.line))
+            entry = ElementTree.SubElement(suite, "testcase", {**names, "file": case.path, "line": str(case.line)})
             if case.differences:
                 failure = ElementTree.SubElement(
                     entry, "failure", type="difference", message=summary(case.differences[0])

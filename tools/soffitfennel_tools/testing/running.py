@@ -66,14 +66,14 @@ class Run:
         """Compares how the run ended; a case that was not run has one difference for it."""
         script = self.script
         is_before = self.end is not None and self.end[0] < len(self.scripts) - 1
-        if is_before or self.end and self.status != script.status:
+        if self.end and (is_before or self.status != script.status):
             self.refuse_line(*self.end)
         elif self.status != script.status:
             wanted, came = f"status {script.status}", f"status {self.status}"
             said = Difference(script.status_at or script.last(), "(the end)", wanted, came)
             script.cases[-1].differences.append(said)
         for line in self.orders(False):
-            if line.wanted is not None and not line.case.differences:
+            if self.end and line.wanted is not None and not line.case.differences:
                 at, number = self.end
                 reason = f"not run: the run ended at line {number} of {self.scripts[at].path}"
                 line.differs(Difference(line.number, line.text, reason=reason))

@@ -81,7 +81,8 @@ def blocks_of(lines: list[str]) -> list[Block]:
         while at < len(lines) and COMMENT.match(lines[at]):
             at += 1
         if at > begun:
-            text = " ".join(COMMENT.match(line)[2].strip() for line in lines[begun:at])
+            comments = filter(None, map(COMMENT.match, lines[begun:at]))
+            text = " ".join(it[2].strip() for it in comments)
             found.append(Block(text, begun, at, begun == 0 or lines[begun].lstrip().startswith("//!")))
         else:
             at += 1

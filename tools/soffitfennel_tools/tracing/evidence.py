@@ -6,9 +6,12 @@ from collections import defaultdict
 from dataclasses import dataclass, field
 from functools import lru_cache
 from pathlib import Path
+from typing import TypeVar
 
 from .citations import Clause, cited_in, lines_of, words_below
 from .contracts import TOP, reading
+
+T = TypeVar("T")
 
 CRATES = TOP / "crates"
 MODEL = CRATES / "card_model" / "specs"
@@ -176,7 +179,7 @@ def rests_on(text: str, scope: object) -> tuple[frozenset[Word], frozenset[Type]
                 found.add(inner)
                 todo.append(inner)
     definitions_found = frozenset(it for it in found if isinstance(it[0], Path))
-    return definitions_found, frozenset(found - definitions_found)
+    return definitions_found, frozenset(it for it in found if not isinstance(it[0], Path))
 
 
 def named_in(text: str, scope: object, here: object) -> tuple[set[Word], set[Type]]:
@@ -271,12 +274,13 @@ def is_doc_of(lines: list[str], end: int, begun: int) -> bool:
     return all(line.strip().startswith("#[") for line in lines[end:begun])
 
 
-def within(found: dict[Clause, set], clauses: tuple[Clause, ...]) -> set:
+def within(found: dict[Clause, set[T]], clauses: tuple[Clause, ...]) -> set[T]:
     """What cites one of the clauses or a part of it."""
-    return set().union(*(things for cited, things in found.items() if any(cited.is_in(clause) for clause in clauses)))
+    cited_there = (things for cited, things in found.items() if any(cited.is_in(clause) for clause in clauses))
+    return set[T]().union(*cited_there)
 
 
-def above(found: dict[Clause, set], clause: Clause) -> set[str]:
+def above(found: dict[Clause, set[T]], clause: Clause) -> set[str]:
     """What cites the nearest clause above it, each with that clause in brackets."""
     parts = clause.number.split(".") if clause.number[:1].isdigit() else [clause.number]
     for count in range(len(parts) - 1, -1, -1):

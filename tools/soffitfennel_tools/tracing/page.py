@@ -44,7 +44,7 @@ def entries() -> list[Entry]:
         if standard and row and row[1] != "clause" and not row[1].startswith("---"):
             key = KEY.search(row[2])
             title = KEY.sub("", row[2]).strip(" ,")
-            found.append(Entry(number, Clause(standard, row[1]), title, key and key[1], row[3], row[4]))
+            found.append(Entry(number, Clause(standard, row[1]), title, key[1] if key else None, row[3], row[4]))
     return found
 
 

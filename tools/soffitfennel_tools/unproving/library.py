@@ -94,16 +94,23 @@ def empty(crate: Path, room: Path) -> Path:
 
 def as_library(text: str, proved: str, crate: Path) -> str:
     """The module of that program as the library's, with the functions for C of the proved one."""
-    made = {NAME.search(it[0])[1]: it[0] for it in FUNCTION.finditer(proved)}
+    made = {name_in(it[0]): it[0] for it in FUNCTION.finditer(proved)}
     for_c = "\n".join(made[name] for name, _, _ in exports(crate))
     text = FUNCTION.sub(lambda it: "" if it[0].startswith("define i32 @main(") else it[0], text)
     at = text.index("\ndeclare ") + 1
     return only_read(f"{text[:at]}{for_c}\n{text[at:]}")
 
 
+def name_in(function: str) -> str:
+    """The first name in a function's text, which is its own."""
+    found = NAME.search(function)
+    assert found
+    return found[1]
+
+
 def only_read(text: str) -> str:
     """The module with what its visible functions read, numbered anew."""
-    functions = {NAME.search(it[0])[1]: it[0] for it in FUNCTION.finditer(text)}
+    functions = {name_in(it[0]): it[0] for it in FUNCTION.finditer(text)}
     bodies = functions | {it[1]: it[0] for it in STATIC.finditer(text)}
     waiting, read = [name for name, it in functions.items() if not it.startswith("define internal ")], set()
     while waiting:
@@ -111,7 +118,7 @@ def only_read(text: str) -> str:
         if name not in read:
             read.add(name)
             waiting += NAME.findall(bodies.get(name, ""))
-    text = FUNCTION.sub(lambda it: it[0] if NAME.search(it[0])[1] in read else "", text)
+    text = FUNCTION.sub(lambda it: it[0] if name_in(it[0]) in read else "", text)
     text = STATIC.sub(lambda it: it[0] if it[1] in read else "", text)
     numbers = {it[1]: f"@static.{at}" for at, it in enumerate(STATIC.finditer(text))}
     return re.sub(r"@(static\.\d+)\b", lambda it: numbers[it[1]], text)

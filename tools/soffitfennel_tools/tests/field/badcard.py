@@ -3,13 +3,13 @@ from __future__ import annotations
 
 import json
 import sys
-from pathlib import Path
+from typing import Any
 
 from ...misbehaving.faults import FAULTS, Moment
 
-from .room import Room
+from .room import TOP, Room
 
-CARELESS = Path(__file__).resolve().parent / "programs" / "careless.py"
+CARELESS = TOP / "tools" / "tests" / "field_programs" / "careless.py"
 # the answer 9000 in an I-block of number 0, to a VERIFY query in one of number 1 (ISO/IEC 7816-3, 11.3)
 MOMENT = Moment(bytes.fromhex("0040040020000165"), bytes.fromhex("000002900092"), b"last", b"first")
 SPOILED = {
@@ -61,11 +61,12 @@ class Blocks(Room):
 class Sweeps(Room):
     """What readers make of it."""
 
-    def swept(self, *words: object, status: int = 0) -> list[dict]:
+    def swept(self, *words: object, status: int = 0) -> list[dict[str, Any]]:
         """Each run."""
         came = self.run_tool("badcard", "--sweep", "--json", *words)
         self.assertEqual((came.returncode, came.stderr), (status, ""), came.stdout[-500:])
-        return json.loads(came.stdout)
+        reports: list[dict[str, Any]] = json.loads(came.stdout)
+        return reports
 
     def test_our_own_end_takes_no_fault_that_it_can_tell(self) -> None:
         runs = self.swept()
@@ -87,13 +88,14 @@ class Sweeps(Room):
         self.assertEqual(self.careless("crash", "nak"), {"nak": "a crash"})
 
     def test_wrong_words(self) -> None:
-        for words in (
+        several: list[list[str]] = [
             [],
             ["--fault", "x@1"],
             ["--fault", "lrc"],
             ["--json", "--fault", "lrc@1"],
             ["--sweep", "--", "no-such"],
-        ):
+        ]
+        for words in several:
             came = self.run_tool("badcard", *words)
             self.assertEqual((came.returncode, came.stdout), (2, ""), words)
             self.assertIn("error: " if words[-1:] != ["no-such"] else "there is no program", came.stderr)

@@ -20,7 +20,7 @@ class Room(unittest.TestCase):
         self.room = Path(tempfile.mkdtemp(prefix="field-"))
         self.addCleanup(shutil.rmtree, self.room, ignore_errors=True)
 
-    def run_tool(self, name: str, *words: object, stdin: str = "", **env: str) -> subprocess.CompletedProcess:
+    def run_tool(self, name: str, *words: object, stdin: str = "", **env: str) -> subprocess.CompletedProcess[str]:
         """Runs a tool, which ends in time."""
         command = [str(TOP / "tools" / name), *(str(it) for it in words)]
         return run(command, stdin=stdin, **env)
@@ -60,7 +60,7 @@ class Room(unittest.TestCase):
         self.assertEqual(dict(zip(expected, came)), {command: f"< {it}" for command, it in expected.items()})
 
 
-def run(command: list[str], stdin: str = "", **env: str) -> subprocess.CompletedProcess:
+def run(command: list[str], stdin: str = "", **env: str) -> subprocess.CompletedProcess[str]:
     """Runs a command at the top of the repository."""
     given = {**os.environ, **env}
     return subprocess.run(

@@ -9,11 +9,14 @@ import shutil
 import stat
 import subprocess
 import unittest
+from collections.abc import Callable
 from pathlib import Path
+from typing import Any, TypeVar
 
 from .room import CARDS, TOP, Room, run
 
-PROGRAMS = Path(__file__).resolve().parent / "programs"
+T = TypeVar("T", bound=Callable[..., Any])
+PROGRAMS = TOP / "tools" / "tests" / "field_programs"
 DEBIAN_PYTHON = "/usr/bin/python3"
 SCDAEMON = Path("/usr/lib/gnupg/scdaemon")
 # (a mount of its own, so that a service that runs already is let alone)
@@ -56,7 +59,7 @@ def has(name: str) -> bool:
     return shutil.which(name) is not None
 
 
-def needs(name: str, package: str = ""):
+def needs(name: str, package: str = "") -> Callable[[T], T]:
     """Skips a test where a program isn't there."""
     return unittest.skipUnless(has(name), f"{package or name} isn't installed")
 
@@ -78,7 +81,7 @@ class Session(Room):
     def setUpClass(cls) -> None:
         run([str(TOP / "tools" / "with-card"), "--fresh", "--", "true"])
 
-    def with_card(self, *words: object, stdin: str = "") -> subprocess.CompletedProcess:
+    def with_card(self, *words: object, stdin: str = "") -> subprocess.CompletedProcess[str]:
         """Runs a program with a card."""
         return self.run_tool("with-card", *words, stdin=stdin)
 
@@ -291,7 +294,8 @@ class Views(Session):
 
     @needs_pyscard
     def test_uicc(self) -> None:
-        for place, options in enumerate(([], ["--uicc"])):
+        several: list[list[object]] = [[], ["--uicc"]]
+        for place, options in enumerate(several):
             card = self.image("uicc") if not place else self.room / "uicc.image"
             came = self.send([*options, card], *MODEM)[1:]
             for command, answer, wanted in zip(MODEM, came, (it[place] for it in MODEM.values())):
@@ -329,7 +333,8 @@ class Views(Session):
             "00A40000023F0000": ("6A86", "6F*9000"),
         }
         old |= {"00A40200022FE200": ("6A86", "6F*9000"), "00A40204022FE200": ("6A86", "62*9000")}
-        for place, options in enumerate(([], ["--translate"])):
+        several: list[list[object]] = [[], ["--translate"]]
+        for place, options in enumerate(several):
             card = self.image("uicc") if not place else self.room / "uicc.image"
             for command, wanted in old.items():
                 answer = self.send([*options, card], command)[1]

@@ -158,7 +158,7 @@ class Chromium:
 
     def found(self, selector: str) -> str:
         """The name of an element."""
-        return self.call("/element", {"using": "css selector", "value": selector})[ELEMENT]
+        return str(self.call("/element", {"using": "css selector", "value": selector})[ELEMENT])
 
     def keys(self, selector: str, text: str) -> None:
         self.call(f"/element/{self.found(selector)}/value", {"text": text})
@@ -193,7 +193,8 @@ class Chromium:
 
     def tree(self) -> list[dict[str, Any]]:
         """The accessibility tree."""
-        return self.devtools("Accessibility.getFullAXTree")["nodes"]
+        nodes: list[dict[str, Any]] = self.devtools("Accessibility.getFullAXTree")["nodes"]
+        return nodes
 
     def dark(self, is_dark: bool) -> None:
         """Sets the visitor's colours."""
@@ -284,7 +285,7 @@ class Firefox:
 
     def found(self, selector: str) -> str:
         """The name of an element."""
-        return self.call("WebDriver:FindElement", {"using": "css selector", "value": selector})[ELEMENT]
+        return str(self.call("WebDriver:FindElement", {"using": "css selector", "value": selector})[ELEMENT])
 
     def keys(self, selector: str, text: str) -> None:
         self.call("WebDriver:ElementSendKeys", {"id": self.found(selector), "text": text})
@@ -297,11 +298,13 @@ class Firefox:
 
     def messages(self) -> list[str]:
         """What the console has of pages since the last call."""
-        return self.inside(MESSAGES)
+        messages: list[str] = self.inside(MESSAGES)
+        return messages
 
     def requests(self) -> list[str]:
         """The addresses that any page asked for by HTTP since the last call."""
-        return self.inside("return globalThis.asked.splice(0);")
+        asked: list[str] = self.inside("return globalThis.asked.splice(0);")
+        return asked
 
     def size(self, width: int, height: int) -> None:
         self.call("WebDriver:SetWindowRect", {"width": width, "height": height})

@@ -41,7 +41,7 @@ class Visitor:
 
     def text(self, selector: str) -> str:
         """The text of an element."""
-        return self.browser.run("return document.querySelector(arguments[0]).textContent", selector)
+        return str(self.browser.run("return document.querySelector(arguments[0]).textContent", selector))
 
     def until(self, holds: str, what: str) -> None:
         """Waits until an expression of the page holds; counts it."""
@@ -68,13 +68,14 @@ class Visitor:
 
     def printed(self) -> list[str]:
         """What the lines print."""
-        return self.browser.run(
+        shown: list[str] = self.browser.run(
             "return soffitfennel.state.run.rows.map((it) => it.printed).filter((it) => it !== null)"
         )
+        return shown
 
     def value(self) -> str:
         """The script."""
-        return self.browser.run("return document.querySelector('#text').value")
+        return str(self.browser.run("return document.querySelector('#text').value"))
 
     def step_to(self, number: int) -> None:
         """Shows the memory after a write."""

@@ -11,20 +11,22 @@ from operator import xor
 
 mode, words = sys.argv[1], sys.argv[sys.argv.index("--") + 1 :]
 card = subprocess.Popen(words, stdin=subprocess.PIPE, stdout=subprocess.PIPE, text=True, bufsize=1)
+assert card.stdin and card.stdout
+lines_out, lines_in = card.stdin, card.stdout
 
 
-def ask(line):
-    card.stdin.write(f"{line}\n")
-    card.stdin.flush()
-    return card.stdout.readline().rstrip("\n")
+def ask(line: str) -> str:
+    lines_out.write(f"{line}\n")
+    lines_out.flush()
+    return lines_in.readline().rstrip("\n")
 
 
-def send(number, field, more):
+def send(number: int, field: bytes, more: bool) -> bytes:
     block = bytes([0, number << 6 | more << 5, len(field)]) + field
     return bytes.fromhex(ask(f"block {(block + bytes([reduce(xor, block)])).hex()}")[2:])
 
 
-def command(data):
+def command(data: bytes) -> bytes:
     global number
     while len(data) > 254:
         send(number, data[:254], True)

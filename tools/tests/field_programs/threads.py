@@ -1,19 +1,21 @@
 """Threads that share a card by transactions: each selects a file of its own and reads it, and answers never mix."""
+from __future__ import annotations
+
 import threading
 
 import smartcard.scard as pc
 
 READER, ROUNDS = "Soffitfennel 00 00", 200
 FILES = {"2FE2": "98940400000000000010", "2F05": "656E6465", "2F00": "61244F10", "2F08": "0000000000"}
-wrong = []
+wrong: list[tuple[str, tuple[str, str]]] = []
 
 
-def send(card, text):
+def send(card: int, text: str) -> str:
     code, answer = pc.SCardTransmit(card, pc.SCARD_PCI_T1, list(bytes.fromhex(text)))
     return bytes(answer).hex().upper() if code == 0 else hex(code & 0xFFFFFFFF)
 
 
-def work(identifier, wanted):
+def work(identifier: str, wanted: str) -> None:
     for number in range(ROUNDS):
         context = pc.SCardEstablishContext(pc.SCARD_SCOPE_USER)[1]
         code, card, _ = pc.SCardConnect(context, READER, pc.SCARD_SHARE_SHARED, pc.SCARD_PROTOCOL_T1)

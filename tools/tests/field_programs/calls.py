@@ -2,8 +2,12 @@
 
 States of readers are shown without their counters of events.
 """
+from __future__ import annotations
+
 import threading
 import time
+from collections.abc import Callable
+from typing import Any
 
 import smartcard.scard as pc
 
@@ -18,41 +22,41 @@ IN_USE, ALONE = PRESENT | pc.SCARD_STATE_INUSE, PRESENT | pc.SCARD_STATE_EXCLUSI
 SELECT, READ = "00A4000C022FE2", "00B000000A"
 
 
-def show(what, result):
+def show(what: str, result: Any) -> None:
     """Prints a call's code, and what else it gives."""
     code, *rest = result if isinstance(result, (list, tuple)) else [result]
     print(what, NAMES.get(code & 0xFFFFFFFF, hex(code)), *rest, flush=True)
 
 
-def code_of(what, result):
+def code_of(what: str, result: Any) -> None:
     """Prints a call's code alone."""
     show(what, result[:1])
 
 
-def states(what, context, wait, *known):
+def states(what: str, context: int, wait: int, *known: tuple[str, int]) -> None:
     code, *rows = pc.SCardGetStatusChange(context, wait, list(known))
     show(what, [code, [(name, hex(state & 0xFFFF), len(atr)) for name, state, atr in (rows[0] if rows else [])]])
 
 
-def connect(what, context, share=SHARED, protocols=T1):
+def connect(what: str, context: int, share: int = SHARED, protocols: int = T1) -> int:
     code, card, active = pc.SCardConnect(context, READER, share, protocols)
     show(what, [code, active])
-    return card
+    return int(card)
 
 
-def status(what, card):
+def status(what: str, card: int) -> None:
     code, *rest = pc.SCardStatus(card)
     show(what, [code, rest[0], hex(rest[1] & 0xFFFF), rest[2], bytes(rest[3]).hex()] if code == 0 else [code])
 
 
-def send(what, card, text, form=pc.SCARD_PCI_T1):
+def send(what: str, card: int, text: str, form: Any = pc.SCARD_PCI_T1) -> None:
     code, *rest = pc.SCardTransmit(card, form, list(bytes.fromhex(text)))
     show(what, [code, bytes(rest[0]).hex()] if code == 0 else [code])
 
 
-def outside(what, owner, call):
+def outside(what: str, owner: int, call: Callable[[], Any]) -> None:
     """A call of another connection while a transaction of depth 2 is open: whether it waits for its end."""
-    found = []
+    found: list[Any] = []
     thread = threading.Thread(target=lambda: found.append(call()))
     thread.start()
     thread.join(0.5)
@@ -66,7 +70,7 @@ def outside(what, owner, call):
     code_of(what, found[0])
 
 
-def names_and_states(first):
+def names_and_states(first: int) -> None:
     """Names of readers, and what is known of a card that nobody has connected to."""
     show("groups", pc.SCardListReaderGroups(first))
     show("readers", pc.SCardListReaders(first, []))
@@ -81,7 +85,7 @@ def names_and_states(first):
     states("notification and reader", first, 10, (NOTIFICATION, UNAWARE), (READER, PRESENT))
 
 
-def wrong_connections(first):
+def wrong_connections(first: int) -> None:
     """Connections that are refused."""
     code_of("connect elsewhere", pc.SCardConnect(first, "No such reader", SHARED, T1))
     code_of("connect without protocol", pc.SCardConnect(first, READER, SHARED, 0))
@@ -90,7 +94,7 @@ def wrong_connections(first):
     code_of("connect to nothing", pc.SCardConnect(77, READER, SHARED, T1))
 
 
-def commands(first, second):
+def commands(first: int, second: int) -> tuple[int, int]:
     """Commands of one connection; it and another one."""
     card = connect("connect", first, SHARED, T0 | T1)
     status("status", card)
@@ -106,7 +110,7 @@ def commands(first, second):
     return card, connect("second", second)
 
 
-def transactions(card, other, second):
+def transactions(card: int, other: int, second: int) -> None:
     """Transactions: what other connections may do meanwhile."""
     show("begin", pc.SCardBeginTransaction(card))
     show("begin again", pc.SCardBeginTransaction(card))
@@ -118,7 +122,7 @@ def transactions(card, other, second):
     outside("attribute from outside", card, lambda: pc.SCardGetAttrib(other, pc.SCARD_ATTR_ATR_STRING))
     outside("reconnect from outside", card, lambda: pc.SCardReconnect(other, SHARED, T1, LEAVE))
 
-    def join():
+    def join() -> Any:
         found = pc.SCardConnect(second, READER, SHARED, T1)
         pc.SCardDisconnect(found[1], LEAVE)
         return found
@@ -131,9 +135,9 @@ def transactions(card, other, second):
     show("end thrice", pc.SCardEndTransaction(card, LEAVE))
 
 
-def waiting(card, other):
+def waiting(card: int, other: int) -> None:
     """A transaction that waits for another one's end, and one that ends with a reset."""
-    found = []
+    found: list[Any] = []
     show("begin", pc.SCardBeginTransaction(card))
     begun = time.monotonic()
     thread = threading.Thread(target=lambda: found.extend((pc.SCardBeginTransaction(other), time.monotonic())))
@@ -151,11 +155,11 @@ def waiting(card, other):
     send("who reset", other, SELECT)
 
 
-def exclusive(first, second, card, other):
+def exclusive(first: int, second: int, card: int, other: int) -> int:
     """A connection that becomes exclusive, and shared again. (pcscd lets nobody else connect until it has ended.)"""
     code_of("reconnect badly", pc.SCardReconnect(card, SHARED, T1, 9))
     code_of("reconnect T=0", pc.SCardReconnect(card, SHARED, T0, LEAVE))
-    found = []
+    found: list[Any] = []
     thread = threading.Thread(target=lambda: found.append(pc.SCardReconnect(card, EXCLUSIVE, T1, LEAVE)))
     thread.start()
     thread.join(0.4)
@@ -176,7 +180,7 @@ def exclusive(first, second, card, other):
     return connect("connect", first)
 
 
-def attributes(card):
+def attributes(card: int) -> None:
     """Attributes and controls."""
     for name in ("ATR_STRING", "VENDOR_NAME", "DEVICE_FRIENDLY_NAME_A", "DEVICE_SYSTEM_NAME_A", "MAXINPUT"):
         code, *rest = pc.SCardGetAttrib(card, getattr(pc, f"SCARD_ATTR_{name}"))
@@ -186,7 +190,7 @@ def attributes(card):
     code_of("unknown control", pc.SCardControl(card, pc.SCARD_CTL_CODE(99), [1]))
 
 
-def timeouts(first):
+def timeouts(first: int) -> None:
     """A wait that ends by time, and one that is cancelled."""
     began = time.monotonic()
     states("timeout", first, 300, (READER, IN_USE))
@@ -198,7 +202,7 @@ def timeouts(first):
     show("cancel nothing", pc.SCardCancel(77))
 
 
-def ends(first, second, card):
+def ends(first: int, second: int, card: int) -> None:
     """Ends of connections, and ways to connect."""
     other = pc.SCardConnect(second, READER, SHARED, T1)[1]
     show("disconnect with reset", pc.SCardDisconnect(other, RESET))
@@ -218,7 +222,7 @@ def ends(first, second, card):
     states("free again", first, 0, (READER, ALONE))
 
 
-def faults(first, second):
+def faults(first: int, second: int) -> int:
     """A power cut, by which the card is gone for two seconds, and blocks that are lost and garbled."""
     card = connect("once more", first)
     send("select", card, SELECT)
@@ -242,7 +246,7 @@ def faults(first, second):
     return card
 
 
-def main():
+def main() -> None:
     first = pc.SCardEstablishContext(pc.SCARD_SCOPE_SYSTEM)[1]
     second = pc.SCardEstablishContext(pc.SCARD_SCOPE_USER)[1]
     # (a service that has just started looks for its readers)
