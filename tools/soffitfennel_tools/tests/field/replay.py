@@ -93,7 +93,7 @@ class Forms(Room):
         for name in EXAMPLES:
             trace, out = self.room / f"{name}.pcap", self.room / f"{name}.test"
             script = TOP / "examples" / f"{name}.script"
-            self.tool("pcap", "--quiet", "--atr", trace, script)
+            self.tool("bench/pcap", "--quiet", "--atr", trace, script)
             came = self.run_tool("replay", trace, out)
             self.assertEqual(came.returncode, 0, came.stderr)
             shown = self.tool("../bench", "-q", "--test", out)
@@ -101,7 +101,7 @@ class Forms(Room):
             self.assertIn(f"test: {commands} lines compared\ntest: 1 passed, 0 failed", shown, name)
 
     def test_other_link_types(self) -> None:
-        self.tool("pcap", "--quiet", self.room / "it.pcap", TOP / "examples" / "first.script")
+        self.tool("bench/pcap", "--quiet", self.room / "it.pcap", TOP / "examples" / "first.script")
         raw = (self.room / "it.pcap").read_bytes()
         wanted = self.run_tool("replay", self.room / "it.pcap").stdout
         for link, skipped in ((1, 14), (113, 16), (276, 20)):
@@ -119,7 +119,7 @@ class Broken(Room):
     """What is no trace is told, and no test is written."""
 
     def test_broken_traces(self) -> None:
-        self.tool("pcap", "--quiet", self.room / "it.pcap", TOP / "examples" / "first.script")
+        self.tool("bench/pcap", "--quiet", self.room / "it.pcap", TOP / "examples" / "first.script")
         raw = (self.room / "it.pcap").read_bytes()
         wrong = {b"": "no command with an answer is found", b"hello\n": "no command with an answer is found"}
         wrong |= {
