@@ -1,4 +1,5 @@
-# How a tool in bash answers --help, and refuses a word that it doesn't take, as argparse does for the tools in Python:
+# How a tool in bash answers --help and --version, and refuses a word that it doesn't take, as argparse does for the
+# tools in Python:
 #
 #   . "$top/tools/bench/manners.bash"
 #   manners '[NAME ...]' "$@"
@@ -44,6 +45,11 @@ show_help() {
   exit 0
 }
 
+show_version() {
+  echo "$(basename "$0") (Soffitfennel) $(<"$(dirname "${BASH_SOURCE[0]}")/words/version")"
+  exit 0
+}
+
 refuse_words() {
   echo "$(tool_name): error: unrecognized arguments: ${*:2}" >&2
   exit 2
@@ -52,6 +58,7 @@ refuse_words() {
 manners() {
   case ${2-} in
     -h | --help) show_help "$1" ;;
+    --version) show_version ;;
     -*) refuse_words "$@" ;;
   esac
   if [ $# -gt 1 ] && [ -z "$1" ]; then refuse_words "$@"; fi

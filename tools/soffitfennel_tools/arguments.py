@@ -9,6 +9,8 @@ from typing import Any, NoReturn
 
 # the exit status of a bad command line, of each tool and of ./bench
 BAD_COMMAND_LINE = 2
+TOOLS = Path(__file__).resolve().parent
+WORDS = TOOLS / "words"
 
 
 class Folded(HelpFormatter):
@@ -24,16 +26,41 @@ def folded(text: str, width: int) -> str:
     return textwrap.fill(" ".join(text.split()), width, subsequent_indent="  " * text.startswith("- "))
 
 
+def version() -> str:
+    """The version of this tree: a release's, or that of the next one with -dev behind it."""
+    return (WORDS / "version").read_text(encoding="utf-8").strip()
+
+
+def commands() -> list[str]:
+    """The users' commands, which an installation has as soffitfennel-NAME."""
+    lines = (WORDS / "commands.table").read_text(encoding="utf-8").splitlines()
+    return [it for it in lines if it and not it.startswith("#")]
+
+
+def as_installed(text: str) -> str:
+    """A text with the names that commands have in an installation, which has its programs beside the tools."""
+    if not (TOOLS.parent / "programs").is_dir():
+        return text
+    return re.sub(rf"\btools/({'|'.join(commands())})\b", r"soffitfennel-\1", text.replace("./bench", "soffitfennel"))
+
+
 class Parser(ArgumentParser):
     """A command line of which a fault is told in one line; the usage comes with --help."""
 
     def __init__(self, *words: Any, **named: Any) -> None:
         named["formatter_class"] = Folded
         super().__init__(*words, **named)
+        if " " not in self.prog:
+            told = f"{self.prog.rpartition('/')[2]} (Soffitfennel) {version()}"
+            self.add_argument("--version", action="version", version=told, help="print the version")
+
+    def format_help(self) -> str:
+        """The help, with the names that commands have here."""
+        return as_installed(super().format_help())
 
     def error(self, message: str) -> NoReturn:
         """Ends the tool."""
-        print(f"{self.prog}: error: {message}", file=sys.stderr)
+        print(as_installed(f"{self.prog}: error: {message}"), file=sys.stderr)
         sys.exit(BAD_COMMAND_LINE)
 
 
