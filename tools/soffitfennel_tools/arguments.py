@@ -50,6 +50,7 @@ class Parser(ArgumentParser):
     def __init__(self, *words: Any, **named: Any) -> None:
         named["formatter_class"] = Folded
         super().__init__(*words, **named)
+        self.prog = as_installed(self.prog)
         if " " not in self.prog:
             told = f"{self.prog.rpartition('/')[2]} (Soffitfennel) {version()}"
             self.add_argument("--version", action="version", version=told, help="print the version")
@@ -60,7 +61,7 @@ class Parser(ArgumentParser):
 
     def error(self, message: str) -> NoReturn:
         """Ends the tool."""
-        print(as_installed(f"{self.prog}: error: {message}"), file=sys.stderr)
+        print(f"{self.prog}: error: {as_installed(message)}", file=sys.stderr)
         sys.exit(BAD_COMMAND_LINE)
 
 
