@@ -11,6 +11,7 @@ from pathlib import Path
 
 TOP = Path(__file__).resolve().parent.parent.parent.parent
 SOURCES = TOP / "reader" / "pcsclite"
+INSTALLED = TOP / "programs"
 NAME = "libpcsclite.so.1"
 MOST_KEPT = 4
 PACKAGES = "apt-get install gcc libc6-dev make libpcsclite-dev"
@@ -75,7 +76,9 @@ def run(*words: object) -> None:
 
 
 def built() -> Path:
-    """The folder with the library; it is built where there is none."""
+    """The folder with the library; it is built where there is none. An installation has it."""
+    if (INSTALLED / NAME).is_file():
+        return INSTALLED
     filled, parts = library()
     sources = sorted(it for it in SOURCES.iterdir() if it.suffix in (".c", ".h", ".map") or it.name == "Makefile")
     kept = folder()
