@@ -10,6 +10,7 @@ import re
 import tarfile
 import time
 import zipfile
+from collections.abc import Callable
 from pathlib import Path
 
 from .layout import copy
@@ -38,15 +39,14 @@ def members(folder: Path) -> list[Path]:
 
 def tar(folder: Path, top: str, epoch: int) -> bytes:
     """A compressed tar archive of a folder, whose members are below `top`."""
-    packed = io.BytesIO()
-    with gzip.GzipFile("", "wb", 9, packed, epoch) as squeezed:
-        with tarfile.open(fileobj=squeezed, mode="w", format=tarfile.GNU_FORMAT) as archive:
-            for path in members(folder):
-                archive.add(path, f"{top}/{path.relative_to(folder)}", recursive=False, filter=plain(epoch))
-    return packed.getvalue()
+    held = io.BytesIO()
+    with tarfile.open(fileobj=held, mode="w", format=tarfile.GNU_FORMAT) as archive:
+        for path in members(folder):
+            archive.add(path, f"{top}/{path.relative_to(folder)}", recursive=False, filter=plain(epoch))
+    return gzip.compress(held.getvalue(), 9, mtime=epoch)
 
 
-def plain(epoch: int):  # type: ignore[no-untyped-def]
+def plain(epoch: int) -> Callable[[tarfile.TarInfo], tarfile.TarInfo]:
     """What makes a member the same on each machine."""
 
     def change(it: tarfile.TarInfo) -> tarfile.TarInfo:
@@ -88,7 +88,8 @@ def wheel(label: str, library: Path, epoch: int) -> tuple[str, bytes]:
     for it in ("LICENSE-APACHE", "LICENSE-MIT"):
         held[f"{about}/{it}"] = (TOP / it).read_bytes()
     record = f"{about}/RECORD"
-    held[record] = "".join(f"{it},{digest(data)},{len(data)}\n" for it, data in held.items()).encode() + f"{record},,\n".encode()
+    lines = [f"{it},{digest(data)},{len(data)}\n" for it, data in held.items()]
+    held[record] = "".join([*lines, f"{record},,\n"]).encode()
     return name, zipped(held, epoch)
 
 

@@ -68,7 +68,7 @@ def proved(name: str) -> Path:
     option, begin = PROVED[name]
     ran = subprocess.run([tool("program"), *filter(None, [option, "--is-proved"])], check=False, env=unset())
     if ran.returncode:
-        raise Refused(f"{name} isn't proved and built here; {hint(option)} does it, or --unproved makes one that says so")
+        raise Refused(f"{name} isn't proved and built here; {hint(option)} does it, and --unproved does without")
     made = Path(run(tool("program"), option, "--quiet"))
     same = subprocess.run([tool("proved-sum"), "--same", made], capture_output=True, text=True, check=False)
     if same.returncode:

@@ -43,10 +43,11 @@ def zsh_option(option: Option) -> list[str]:
 
 def zsh(commands: list[Command]) -> str:
     """The file for zsh."""
-    made = [f"#compdef {' '.join(it.name for it in commands)}", "# Completion for zsh: options, else files.", "case $service in"]
+    made = [f"#compdef {' '.join(it.name for it in commands)}", "# Completion for zsh: options, else files."]
+    made.append("case $service in")
     for it in commands:
-        words = [word for option in it.options for word in zsh_option(option)]
-        made += [f"  {it.name})", "    _arguments \\", *(f"      {word} \\" for word in words), "      '*:file:_files' ;;"]
+        words = [f"      {word} \\" for option in it.options for word in zsh_option(option)]
+        made += [f"  {it.name})", "    _arguments \\", *words, "      '*:file:_files' ;;"]
     return "\n".join([*made, "esac"]) + "\n"
 
 

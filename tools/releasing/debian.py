@@ -118,7 +118,7 @@ def add_papers(root: Path, package: Package, version: str, epoch: int) -> None:
     mit = "\n".join(f" {it}" if it.strip() else " ." for it in text.splitlines())
     write(documents / "copyright", COPYRIGHT.format(mit=mit))
     date = time.strftime("%a, %d %b %Y %H:%M:%S +0000", time.gmtime(epoch))
-    entry = f"soffitfennel ({version}) unstable; urgency=medium\n\n  * A release by its makers; changelog.gz has what is new.\n"
+    entry = f"soffitfennel ({version}) unstable; urgency=medium\n\n  * A release by its makers.\n"
     write(documents / "changelog.Debian", f"{entry}\n -- {maker()}  {date}\n")
     write(documents / "changelog", (TOP / "CHANGELOG.md").read_text(encoding="utf-8"))
     for it in [documents / "changelog.Debian", documents / "changelog", *root.glob("usr/share/man/man1/*.1")]:

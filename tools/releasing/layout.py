@@ -15,10 +15,11 @@ NAME = "soffitfennel"
 ABOUT = "runs scripts against a smart card whose memory can lose power at any write"
 # what only a clone has a use for: it builds, proves, measures or tests the tree
 DEVELOPERS = (
-    "test-*", "*_testing", "tests", "dev", "coprocess", "vpcd.py", "pcscd.py", "release", "releasing", "library", "library_programs", "page",
-    "paging", "narrowing", "unproved", "unproving", "prove", "proved-sum", "cost", "costing", "more-edits", "mutating",
-    "layers", "house", "floors.py", "reading", "trace", "tracing", "man", "mistakes*", "examples", "pages",
-    "sweep-pages", "pcsc-rate", "explain.rows", "checked", "cost.table", "crate.seconds",
+    "test-*", "*_testing", "tests", "dev", "coprocess", "vpcd.py", "pcscd.py", "release", "releasing", "library",
+    "library_programs", "page", "paging", "narrowing", "unproved", "unproving", "prove", "proved-sum", "cost",
+    "costing", "more-edits", "mutating", "layers", "house", "floors.py", "reading", "trace", "tracing", "man",
+    "mistakes*", "examples", "pages", "sweep-pages", "pcsc-rate", "explain.rows", "checked", "cost.table",
+    "crate.seconds",
 )
 # what tools/with-card gives OpenSC
 OPENSC = "examples/cards/opensc.conf"
