@@ -233,23 +233,6 @@ def fault(line: bytes, number: int, has_line_feed: bool) -> str | None:
     return of_byte(line) or of_spaces(text) or of_words(text)
 
 
-class PendingCut:
-    """The cut of a script that has not fired yet, if there is one: the number of its line, or 0."""
-
-    def __init__(self) -> None:
-        self.line = 0
-
-    def took(self, number: int, line: str) -> None:
-        """Takes a line of the script; a cut replaces the one before it."""
-        if line.startswith("cut "):
-            self.line = number
-
-    def printed(self, answer: str) -> None:
-        """Takes what a line printed; a cut that fires leaves the card without power."""
-        if answer == "dark":
-            self.line = 0
-
-
 def lines_of(stream: BinaryIO) -> Iterator[tuple[int, bytes, bool]]:
     """The lines of a script as they come: their number, at most MOST_KEPT of their bytes, and whether a line feed
     ended them. A longer line is given at once, and the rest of it is passed over."""

@@ -39,6 +39,8 @@ class Case:
     name: str = ""
     compared: int = 0
     differences: list[Difference] = field(default_factory=list)
+    # the faults that never fired: they change no result
+    notes: list[str] = field(default_factory=list)
 
 
 @dataclass

@@ -83,6 +83,7 @@ def text(cases: list[Case], has_passed: bool) -> str:
             lines += [f"  {line}" for line in details(it)]
         if has_passed and not case.differences:
             lines.append(f"{green}ok{plain}   {case.path}, line {case.line}{name}")
+        lines += [f"note {printable(it)}" for it in case.notes]
     bad, compared = failed(cases), sum(it.compared for it in cases)
     lines.append(f"test: {compared} line{'s' * (compared != 1)} compared")
     lines.append(f"{red if bad else green}test: {len(cases) - bad} passed, {bad} failed{plain}")
@@ -104,6 +105,7 @@ def tap(cases: list[Case]) -> str:
                     for at, (key, value) in enumerate(parts(it))
                 ]
             lines.append("  ...")
+        lines += [f"# note: {printable(it)}" for it in case.notes]
     return "\n".join(lines) + "\n"
 
 
@@ -130,6 +132,8 @@ def junit(files: list[list[Case]]) -> str:
                 failure.text = "\n".join(
                     "\n  ".join([f"line {it.line}{title(it)}", *details(it)]) for it in case.differences
                 )
+            if case.notes:
+                ElementTree.SubElement(entry, "system-out").text = "\n".join(map(printable, case.notes))
     ElementTree.indent(root)
     return '<?xml version="1.0" encoding="UTF-8"?>\n' + ElementTree.tostring(root, encoding="unicode") + "\n"
 
@@ -144,6 +148,7 @@ def as_json(cases: list[Case]) -> str:
             "passed": not case.differences,
             "compared": case.compared,
             "differences": [dict(parts(it)) for it in case.differences],
+            **({"notes": [printable(it) for it in case.notes]} if case.notes else {}),
         }
         for case in cases
     ]

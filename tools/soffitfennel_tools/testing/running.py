@@ -8,6 +8,7 @@ from fnmatch import fnmatchcase
 
 from ..card_words import Log
 from ..explaining.twin import Twin
+from ..pending import Pending
 from ..script_lines import fault
 
 from .hints import hint
@@ -54,6 +55,7 @@ class Run:
         self.compare_count()
         self.compare_end()
         self.explain()
+        self.note_unfired()
 
     def compare_count(self) -> None:
         """Notes what the program prints behind its last answer."""
@@ -96,6 +98,24 @@ class Run:
                 words = words_for(log, line.text, came)
                 if line.difference:
                     line.difference.words = words
+
+    def note_unfired(self) -> None:
+        """Notes the faults that never fired, since what they were for was not tested."""
+        pending, lines = Pending(), []
+        for line, came in self.answers():
+            lines.append(line)
+            pending.took(len(lines), line.text)
+            pending.printed(line.text, came or "")
+        for it in pending.unfired(self.end is None):
+            line = lines[it.line - 1]
+            # (a case that compares nothing is not reported)
+            case = line.case if line.case in self.script.cases and line.case.compared else self.script.cases[-1]
+            case.notes.append(f"{place(line)}: the {it.order} {it.words(place(lines[it.by - 1]))}")
+
+
+def place(line: Line) -> str:
+    """Where a line is."""
+    return f"{line.case.path}, line {line.number}"
 
 
 def words_for(log: Log, order: str, answer: str) -> str | None:
