@@ -22,6 +22,7 @@
 #include <stdlib.h>
 #include <string.h>
 #include <sys/file.h>
+#include <sys/resource.h>
 #include <sys/stat.h>
 #include <time.h>
 #include <unistd.h>
@@ -125,13 +126,27 @@ static char *folder_of(const char *path)
     return folder;
 }
 
+/* Whether the process may write a file up to this size. (Beyond it the system ends the whole service by a signal, which
+ * is not the driver's to ignore.) */
+static bool may_reach(size_t size)
+{
+    struct rlimit limit;
+
+    if (getrlimit(RLIMIT_FSIZE, &limit) != 0 || size <= limit.rlim_cur)
+        return true;
+    errno = EFBIG;
+    return false;
+}
+
 /* Writes all bytes to a new file, down to the disk, and closes it. */
 static bool fill_file(int file, const void *bytes, size_t size)
 {
     size_t written = 0;
     ssize_t now = 0;
 
-    while (written < size && (now = write(file, (const char *)bytes + written, size - written)) > 0)
+    if (!may_reach(size))
+        now = -1;
+    while (now >= 0 && written < size && (now = write(file, (const char *)bytes + written, size - written)) > 0)
         written += (size_t)now;
     bool is_written = written == size && fsync(file) == 0;
     int error = errno;
@@ -360,7 +375,7 @@ int64_t soffitfennel_store(int32_t device, const void *bytes, size_t size, int64
 
     slot->has_written = true;
     errno = 0;
-    if (pwrite(slot->file, bytes, size, offset) == (ssize_t)size)
+    if (may_reach((size_t)offset + size) && pwrite(slot->file, bytes, size, offset) == (ssize_t)size)
         return (int64_t)size;
     take_out(slot, errno != 0 ? strerror(errno) : "the file took a part of a write");
     return -1;

@@ -2,6 +2,7 @@
 from __future__ import annotations
 
 import os
+import signal
 import subprocess
 import sys
 from functools import cache
@@ -22,3 +23,8 @@ def program(*options: str, given: str | None = None) -> str:
         sys.exit(2)
     os.environ.pop(named, None)
     return done.stdout.strip()
+
+
+def past_file_limits() -> None:
+    """For a process that is being started: a write past a limit of the file's size fails, and no signal ends it."""
+    signal.signal(signal.SIGXFSZ, signal.SIG_IGN)

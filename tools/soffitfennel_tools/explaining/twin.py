@@ -10,6 +10,7 @@ from tempfile import TemporaryDirectory
 
 from ..card_image.image import Image, Unreadable, read_image
 from ..card_image.tree import read
+from ..programs import past_file_limits
 
 from .files import Files, Path
 from .templates import Template
@@ -72,7 +73,9 @@ class Twin:
                 copy.write_bytes(self.image.data())
             pairs = zip(["", *self.program], self.program)
             words = [str(copy) if before == "--card" else word for before, word in pairs]
-            return subprocess.run(words, input=text, capture_output=True, timeout=seconds, check=False)
+            return subprocess.run(
+                words, input=text, capture_output=True, timeout=seconds, check=False, preexec_fn=past_file_limits
+            )
 
     def begin(self, files: Files) -> None:
         """The files of a card in a file, in place of the factory's."""

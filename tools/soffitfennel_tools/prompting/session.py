@@ -9,6 +9,7 @@ import sys
 from pathlib import Path
 
 from ..card_words import Log
+from ..programs import past_file_limits
 from ..script_lines import ORDERS, ORDERS_THAT_PRINT, fault
 
 from .names import NAMES, Unclear, line_for
@@ -55,7 +56,12 @@ class Session:
         self.log = Log(program)
         # (in a session of its own, so that Ctrl-C at the prompt doesn't end it)
         self.process = subprocess.Popen(
-            program, stdin=subprocess.PIPE, stdout=subprocess.PIPE, stderr=subprocess.DEVNULL, start_new_session=True
+            program,
+            stdin=subprocess.PIPE,
+            stdout=subprocess.PIPE,
+            stderr=subprocess.DEVNULL,
+            start_new_session=True,
+            preexec_fn=past_file_limits,
         )
         assert self.process.stdin and self.process.stdout
         self.input, self.output = self.process.stdin, self.process.stdout

@@ -15,6 +15,7 @@ from pathlib import Path
 
 from ..card_image.image import Unreadable, read_image
 from ..card_image.tree import read
+from ..programs import past_file_limits
 
 from .building import NAME, TOP, Refused, built
 
@@ -140,7 +141,8 @@ def run(command: list[str], session: Session) -> int:
     for number in (signal.SIGTERM, signal.SIGHUP):
         signal.signal(number, pass_on)
     try:
-        process = subprocess.Popen(command, env=session.environment)
+        # (a card that its file doesn't take is gone for the program, which goes on)
+        process = subprocess.Popen(command, env=session.environment, preexec_fn=past_file_limits)
         started.append(process)
     except FileNotFoundError:
         raise Refused(f"there is no program {command[0]}") from None

@@ -463,7 +463,6 @@ int main(int argc, char **argv)
     if (argc != 3)
         return 2;
     load(argv[1]);
-    signal(SIGXFSZ, SIG_IGN);
     char *path = path_of(argv[2], "card"), *options = path_of(argv[2], "card:sync:faults");
     same(create(0, options), IFD_SUCCESS, "the reader begins");
     says("a new card is made, with the factory card's PINs");

@@ -194,6 +194,12 @@ def of_a_limit(checks: Checks, bench: Bench) -> None:
                          preexec_fn=lambda: resource.setrlimit(resource.RLIMIT_FSIZE, limit))
     checks.compare("a limit of size: status and output", (UNKEPT, [ATR]), (ran.returncode, ran.stdout.splitlines()))
     checks.compare("a limit of size: words", True, UNKEPT_WORDS in ran.stderr)
+    bench.image.write_bytes(data_of(factory()))
+    ran = subprocess.run([words[0], "--explain", *words[1:]], input=f"on\n{WRONG_PIN}\n", capture_output=True,
+                         text=True, preexec_fn=lambda: resource.setrlimit(resource.RLIMIT_FSIZE, limit))
+    shown = [it.split("  # ")[0].rstrip() for it in ran.stdout.splitlines()]
+    checks.compare("a limit of size, with words: status and output", (UNKEPT, [ATR]), (ran.returncode, shown))
+    checks.compare("a limit of size, with words: words", True, UNKEPT_WORDS in ran.stderr)
 
 
 def overwrite(image: Path) -> None:

@@ -6,6 +6,7 @@ import os
 import random
 import re
 import shutil
+import signal
 import stat
 import subprocess
 import unittest
@@ -104,6 +105,16 @@ class Session(Room):
             if line.startswith("  content ") and path[-4:] in ("4545", "4546"):
                 found[path] = found.get(path, "") + line.split(" ", 3)[3]
         return [bytes.fromhex(found[it]) for it in sorted(found)]
+
+
+class Signals(Session):
+    """What a program with a card gets of signals."""
+
+    def test_a_limit_of_size_ends_no_program(self) -> None:
+        shown = self.output(self.image("purse"), "--", "grep", "SigIgn", "/proc/self/status")
+        ignored = int(shown.split()[1], 16)
+        self.assertTrue(ignored >> (signal.SIGXFSZ - 1) & 1, shown)
+        self.assertFalse(ignored >> (signal.SIGPIPE - 1) & 1, shown)
 
 
 class Programs(Session):
