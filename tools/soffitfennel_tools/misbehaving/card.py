@@ -5,6 +5,7 @@ import subprocess
 import sys
 from collections.abc import Iterable
 
+from ..outputs import show
 from .faults import FAULTS, Moment
 
 # a reader's own requests are answered as they are: the begin of a session, not an answer
@@ -76,7 +77,7 @@ class BadCard:
         for line in lines:
             printed = self.answer(line.rstrip("\n"))
             if printed is not None:
-                print(printed, flush=True)
+                show("badcard", f"{printed}\n")
 
     def end(self) -> None:
         """Ends the program."""
