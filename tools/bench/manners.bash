@@ -46,7 +46,7 @@ show_help() {
 }
 
 show_version() {
-  echo "$(basename "$0") (Soffitfennel) $(<"$(dirname "${BASH_SOURCE[0]}")/words/version")"
+  echo "$(basename "$0") (Soffitfennel) $(<"$(dirname "${BASH_SOURCE[0]}")/../words/version")"
   exit 0
 }
 

@@ -9,7 +9,7 @@ from typing import Any, NoReturn
 
 # the exit status of a bad command line, of each tool and of ./bench
 BAD_COMMAND_LINE = 2
-TOOLS = Path(__file__).resolve().parent
+TOOLS = Path(__file__).resolve().parents[1]
 WORDS = TOOLS / "words"
 
 

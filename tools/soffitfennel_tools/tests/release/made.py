@@ -11,7 +11,7 @@ import tarfile
 import unittest
 import zipfile
 
-from releasing import debian, papers
+from ...releasing import debian, papers
 
 from .common import ICCID, TOP, clean, one, releases, room_of, run
 

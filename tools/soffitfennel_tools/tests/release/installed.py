@@ -9,8 +9,8 @@ import tempfile
 import unittest
 from pathlib import Path
 
-from releasing import layout
-from releasing.tree import version
+from ...releasing import layout
+from ...releasing.tree import version
 
 from .common import FIRST, ICCID, PLAIN_PATH, TOP, clean, one, releases, room_of, run
 

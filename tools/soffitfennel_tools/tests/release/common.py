@@ -8,7 +8,7 @@ import unittest
 from functools import cache
 from pathlib import Path
 
-TOP = Path(__file__).resolve().parent.parent.parent
+TOP = Path(__file__).resolve().parents[4]
 RELEASE = TOP / "tools" / "release"
 # READ BINARY of the factory card's ICCID, by docs/CARD.md
 ICCID = "981032547698103254769000"

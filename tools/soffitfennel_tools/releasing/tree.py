@@ -6,7 +6,7 @@ import re
 import subprocess
 from pathlib import Path
 
-TOP = Path(__file__).resolve().parent.parent.parent
+TOP = Path(__file__).resolve().parents[3]
 MADE = {"out", "target", "__pycache__"}
 VERSION = re.compile(r"\d+\.\d+\.\d+(-dev)?")
 

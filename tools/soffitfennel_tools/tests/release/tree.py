@@ -8,8 +8,8 @@ import sys
 import unittest
 from pathlib import Path
 
-from releasing import building, commands, completion, layout, manuals
-from releasing.tree import Refused, version
+from ...releasing import building, commands, completion, layout, manuals
+from ...releasing.tree import Refused, version
 
 from .common import RELEASE, TOP, room_of, run
 
