@@ -14,7 +14,6 @@ use Rattle.block_chain.specs.ChainChanges.{OnlyContent}
 use Rattle.block_chain.specs.Counts.{count, IsNotIn}
 use Rattle.block_chain.specs.Layout.{blocks_of}
 use Rattle.block_chain.specs.laws.Bytes.{blocks_same, AreBlocks, leads_blocks}
-use Rattle.block_chain.specs.laws.Footprints.{not_among}
 use Rattle.ef_body.specs.declared.cyclic.Cyclic.{Cyclic as Ring}
 use Rattle.ef_body.specs.Bodies.{cyclic_body_records, number_told, start_told, IsCyclic}
 use Rattle.ef_body.specs.BodyChanges.{OnlyBody}
@@ -32,7 +31,9 @@ use Rattle.file_tree.specs.laws.Indexed.{places_but}
 use Rattle.file_tree.specs.laws.Changing.{tree_inserted}
 use Rattle.file_tree.specs.laws.Costs.{entry_extent, space_counted}
 use Rattle.file_tree.specs.laws.Nodes.{file_at_entry, used_small}
+use Rattle.file_tree.specs.Formats.{block_count}
 use Rattle.file_tree.specs.laws.Rewriting.{content_file, content_free, content_stands, content_table, entries_apart}
+use Rattle.file_tree.specs.laws.Rewriting.{file_inside, none_outside}
 use Rattle.file_tree.specs.laws.Tables.{length-table}
 use Rattle.command_base.specs.declared.current.Current.{Current}
 use Rattle.card_model.specs.RecordCommands.{with_records, with_records_at}
@@ -195,9 +196,9 @@ module _ (m after : List ℕ) (e : ℕ) (sized : IsMemory m) (words : IsCard m) 
   rest : KeepsRest m after
   rest = record {
     size = only.size;
-    words = λ page place small outside low head. only.others page place small
-        (inr (not_among m page (λ block. let from = block.0 in let z : ⊥ = omega (arith, from, low) in z) ps
-        blocks-before)) (λ is. let lt = few in outside (omega (arith, is, small), omega (arith, is, small, lt)));
+    words = λ page place small outside block head. only.others page place small
+        (inr (none_outside (block_count m) ps (file_inside m e words.tree few high_kind) page block))
+        (λ is. let lt = few in outside (omega (arith, is, small), omega (arith, is, small, lt)));
   }
 
   pub card-stands : IsCard after

@@ -3,10 +3,11 @@ use Rattle.std.specs.Prelude.{◌≡◌, ◌≢◌, ◌⊎◌, ◌<◌, ◌≤�
 use Rattle.std.specs.List.{starts_with}
 use Rattle.std.specs.FinMap.{insert, retain_keys}
 use Rattle.nvm_board.specs.declared.board.TheConstants.{PAGE_WORDS}
-use Rattle.block_chain.specs.declared.layout.TheConstants.{HEADER_PAGE, FREE_HEAD_WORD, FIRST_BLOCK_PAGE}
+use Rattle.block_chain.specs.declared.layout.TheConstants.{HEADER_PAGE, FREE_HEAD_WORD}
 use Rattle.block_chain.specs.BlockWords.{word}
 use Rattle.block_chain.specs.Chains.{free_chain}
 use Rattle.block_chain.specs.ChainChanges.{KeepsBlocks}
+use Rattle.block_chain.specs.Layout.{IsOf}
 use Rattle.file_tree.specs.declared.layout.TheConstants.{FIRST_ENTRY_PAGE}
 use Rattle.card_model.specs.declared.limits.TheConstants.{ENTRIES}
 use Rattle.card_model.specs.declared.space.FreeSpace.{FreeSpace}
@@ -19,10 +20,11 @@ use Rattle.file_tree.specs.Trees.{tree_of, TreeStands}
 abbrev pub IsEntryPage : ℕ → Type 0
 IsEntryPage page = (FIRST_ENTRY_PAGE ≤ page) × (page < FIRST_ENTRY_PAGE + ENTRIES)
 
--- Every word before the blocks is unchanged, but for file entries and the header's word for the first free block.
+-- Every word outside file entries and the card's blocks is unchanged, but for the header's word for the first free
+-- block. So are those behind the last page of the card.
 pub record KeepsRest (m after : List ℕ) : Type 0 where
   pub size : length after ≡ length m
-  pub words : (page place : ℕ) → place < PAGE_WORDS → (IsEntryPage page → ⊥) → page < FIRST_BLOCK_PAGE
+  pub words : (page place : ℕ) → place < PAGE_WORDS → (IsEntryPage page → ⊥) → (IsOf (block_count m) page → ⊥)
       → (page ≢ HEADER_PAGE) ⊎ (place ≢ FREE_HEAD_WORD) → word after page place ≡ word m page place
 
 -- The words that the tree depends on are unchanged: those of file entries and blocks, and the header's words for the

@@ -18,7 +18,7 @@ module _ (m after : List ℕ) (sized : IsMemory m) (rest : KeepsRest m after) wh
   header-kept : (place : ℕ) → place < 16 → place ≢ 1 → word after HEADER_PAGE place ≡ word m HEADER_PAGE place
   header-kept place small other =
       rest.words HEADER_PAGE place small (λ (is : IsEntryPage HEADER_PAGE). let low = is.0 in let z : ⊥ = omega
-      (arith, low) in z) (lit< tt) (inr other)
+      (arith, low) in z) (λ block. let low = block.0 in let z : ⊥ = omega (arith, low) in z) (inr other)
 
   format-kept : SameFormat m after
   format-kept = record {
@@ -33,7 +33,8 @@ module _ (m after : List ℕ) (sized : IsMemory m) (rest : KeepsRest m after) wh
   pin-kept pin place lt small =
       rest.words (pin_page pin) place small (λ (is : IsEntryPage (pin_page pin)). let high = is.1 in let z : ⊥ = omega
       (arith, high) in z)
-      (omega (arith, lt)) (inl (λ is. let z : ⊥ = omega (arith, is) in z))
+      (λ block. let low = block.0 in let z : ⊥ = omega (arith, low, lt) in z)
+      (inl (λ is. let z : ⊥ = omega (arith, is) in z))
 
   pins-kept : KeepsPins m after
   pins-kept = record { words = λ pin place lt few. pin-kept pin place lt (omega (arith, few)) }

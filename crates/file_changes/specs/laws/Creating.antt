@@ -13,15 +13,14 @@ use Rattle.std.proofs.lemmas.Bool.{cases_lt}
 use Rattle.std.proofs.lemmas.Bool.Decides.{eqb_tells}
 use Rattle.std.proofs.lemmas.List.Elements.{filter_map-append}
 use Rattle.nvm_board.specs.declared.board.TheConstants.{PAGE_WORDS}
-use Rattle.block_chain.specs.declared.layout.TheConstants.{HEADER_PAGE, FREE_HEAD_WORD, FIRST_BLOCK_PAGE}
+use Rattle.block_chain.specs.declared.layout.TheConstants.{HEADER_PAGE, FREE_HEAD_WORD}
 use Rattle.block_chain.specs.declared.chain.Extent.{Extent}
 use Rattle.block_chain.specs.BlockWords.{word, page_words}
 use Rattle.block_chain.specs.Chains.{bytes_of, free_chain}
 use Rattle.block_chain.specs.ChainChanges.{KeepsBlocks, Takes}
-use Rattle.block_chain.specs.Layout.{blocks_of, laid_out, AreLaid, SameBytes}
+use Rattle.block_chain.specs.Layout.{blocks_of, laid_out, IsOf, AreLaid, SameBytes}
 use Rattle.block_chain.specs.laws.Extents.{all_around, all_right}
-use Rattle.block_chain.specs.laws.Footprints.{page_words_same, not_among, laid_elsewhere}
-use Rattle.block_chain.specs.laws.Bytes.{leads_blocks}
+use Rattle.block_chain.specs.laws.Footprints.{page_words_same, laid_elsewhere}
 use Rattle.block_chain.specs.laws.Relaying.{laid_taken, taken_bytes}
 use Rattle.file_tree.specs.declared.entry.Entry.{Entry}
 use Rattle.file_tree.specs.Entries.{entry_of, file_of, extent_of, extent_told}
@@ -35,6 +34,7 @@ use Rattle.file_tree.specs.laws.Nodes.{used_small}
 use Rattle.file_tree.specs.laws.Costs.{extent_of-none, extent_of-some, all_extents}
 use Rattle.file_tree.specs.laws.Contents.{content-none, content-some}
 use Rattle.file_tree.specs.laws.Changing.{tree_inserted}
+use Rattle.file_tree.specs.laws.Rewriting.{free_inside, none_outside}
 use Rattle.file_changes.specs.laws.Deleting.{on_page}
 use Rattle.file_changes.specs.laws.Parting.{one_less_free}
 use Rattle.file_changes.specs.laws.Adding.{MayStand, rules_hold, used_now, used_before, new_used, path_stays, new_path}
@@ -91,7 +91,7 @@ all_here P xs ys o e is all =
 -- The blocks are laid out for one entry more, of which the words are written then.
 module _ (m mid after : List ℕ) (e df : ℕ) (x : Entry) (sized : IsMemory m) (stands : TreeStands m) (few : e < 64)
     (free : (entry_in (table m) e).kind ≡ 0) (may : MayStand (table m) df x) (size : length mid ≡ length m)
-    (words : (page place : ℕ) → place < PAGE_WORDS → page < FIRST_BLOCK_PAGE
+    (words : (page place : ℕ) → place < PAGE_WORDS → (IsOf (block_count m) page → ⊥)
     → (page ≢ HEADER_PAGE) ⊎ (place ≢ FREE_HEAD_WORD)
     → word mid page place ≡ word m page place)
     (laid : AreLaid (block_count m) mid (before m e ++ cons_option (extent_of x) (behind m e)))
@@ -99,7 +99,7 @@ module _ (m mid after : List ℕ) (e df : ℕ) (x : Entry) (sized : IsMemory m) 
   header : (place : ℕ) → place < PAGE_WORDS → place ≢ FREE_HEAD_WORD
       → word after HEADER_PAGE place ≡ word m HEADER_PAGE place
   header place small other = writes.others HEADER_PAGE place small (λ is. let z : ⊥ = omega (arith, is) in z)
-      ∙ words HEADER_PAGE place small (omega arith) (inr other)
+      ∙ words HEADER_PAGE place small (λ block. let low = block.0 in let z : ⊥ = omega (arith, low) in z) (inr other)
 
   same_format : SameFormat m after
   same_format = record {
@@ -120,7 +120,8 @@ module _ (m mid after : List ℕ) (e df : ℕ) (x : Entry) (sized : IsMemory m) 
       page_words_same mid after page (omega (arith, sized, size, below)) writes.size
       (λ place small. writes.others page place small differs)
       ∙ page_words_same m mid page (omega (arith, sized, below)) size (λ place small. words page place small
-      (omega (arith, below)) (inl (λ is. let z : ⊥ = omega (arith, is, from) in z)))
+      (λ block. let low = block.0 in let z : ⊥ = omega (arith, low, below) in z)
+      (inl (λ is. let z : ⊥ = omega (arith, is, from) in z)))
 
   here : entry_in (table after) e ≡ x
   here = entry_in-table after e few ∙ writes.entry
@@ -363,11 +364,10 @@ module _ (m mid after : List ℕ) (e df n : ℕ) (x : Entry) (sized : IsMemory m
       subst family
       (sym (extents_around m e few ∙ ap (λ (o : Option Extent). before m e ++ cons_option o (behind m e)) none)) had.0
 
-  ef_words : (page place : ℕ) → place < PAGE_WORDS → page < FIRST_BLOCK_PAGE
+  ef_words : (page place : ℕ) → place < PAGE_WORDS → (IsOf (block_count m) page → ⊥)
       → (page ≢ HEADER_PAGE) ⊎ (place ≢ FREE_HEAD_WORD) → word mid page place ≡ word m page place
   ef_words page place small outside header = takes.only.others page place small
-      (inr (not_among mid page (λ block. let low = block.0 in let z : ⊥ = omega (arith, low, outside) in z)
-      (take n (free_chain m)) (leads_blocks mid _ 0 (take n (free_chain m)) takes.taken.leads))) header
+      (inr (none_outside (block_count m) (take n (free_chain m)) (free_inside m n stands) page outside)) header
 
   pub ef_created : Creates m df x.identifier (file_of x (bytes_of m (take n (free_chain m)))) after
   ef_created =

@@ -15,15 +15,16 @@ use Rattle.std.proofs.lemmas.List.{length-append}
 use Rattle.std.proofs.Math.ListN.{length-set}
 use Rattle.nvm_board.specs.Facts.{address, IsMemory}
 use Rattle.nvm_board.specs.declared.board.TheConstants.{PAGE_WORDS}
-use Rattle.block_chain.specs.declared.layout.TheConstants.{HEADER_PAGE, FREE_HEAD_WORD, FIRST_BLOCK_PAGE}
+use Rattle.block_chain.specs.declared.layout.TheConstants.{HEADER_PAGE, FREE_HEAD_WORD}
 use Rattle.block_chain.specs.declared.chain.Extent.{Extent}
 use Rattle.block_chain.specs.Counts.{count}
 use Rattle.block_chain.specs.BlockWords.{word, page_words}
-use Rattle.block_chain.specs.Chains.{bytes_of, free_chain, laid, HasFree, AreApart}
+use Rattle.block_chain.specs.Chains.{bytes_of, free_chain, HasFree, AreApart}
 use Rattle.block_chain.specs.ChainChanges.{GivesBack, KeepsBlocks}
-use Rattle.block_chain.specs.Layout.{blocks_of, laid_out, chains_of, IsExtent, AreLaid, AreSplit, SameBytes}
+use Rattle.block_chain.specs.Layout.{blocks_of, laid_out, chains_of, IsExtent, IsOf, AreLaid, AreSplit, SameBytes}
 use Rattle.block_chain.specs.laws.Words.{index-page_words, word-set_same, word-set_other}
-use Rattle.block_chain.specs.laws.Laying.{laid_count}
+use Rattle.block_chain.specs.laws.Counts.{count-append}
+use Rattle.block_chain.specs.laws.Laying.{laid_of}
 use Rattle.block_chain.specs.laws.Extents.{laid_has_free, laid_apart, laid_chains_of}
 use Rattle.block_chain.specs.laws.Footprints.{page_words_same, laid_elsewhere}
 use Rattle.block_chain.specs.laws.Relaying.{given_free, given_bytes, given_laid}
@@ -42,6 +43,7 @@ use Rattle.file_tree.specs.Subtrees.{leads_up}
 use Rattle.file_changes.specs.DeletionParts.{is_gone, going, part_below, FreesUpTo, FreesEntries}
 use Rattle.file_tree.specs.laws.Tables.{length-table, entry_in-table, entry_of-free, entry_past, entry_within}
 use Rattle.file_tree.specs.laws.Tables.{index-mapped, table-same}
+use Rattle.file_tree.specs.laws.Rewriting.{none_outside}
 use Rattle.file_tree.specs.laws.Paths.{parent_used}
 use Rattle.file_tree.specs.laws.Nodes.{used_small, get-used, entry_found}
 use Rattle.file_tree.specs.laws.Costs.{space_counted, laid_blocks, all_extents, extent_of-some}
@@ -308,22 +310,25 @@ module _ (m mid : List ℕ) (top : ℕ) (sized : IsMemory m) (stands : TreeStand
 
   -- Then the blocks are given back.
   module _ (after : List ℕ) (back : GivesBack mid (chains_of (extents part)) after) where
-    -- pages that are no blocks keep their words, but the header its free chain's
-    given_word : (page place : ℕ) → place < PAGE_WORDS → page < FIRST_BLOCK_PAGE
+    -- blocks that are given back are blocks of the card
+    given_inside : (q : ℕ) → 1 ≤ count q (laid_out mid (extents part)) → IsOf (block_count m) q
+    given_inside q some =
+        let both = count-append q (free_chain mid) (laid_out mid (extents (table m))) in
+        let split = mid_split.blocks q in
+        laid_of (block_count m) mid (extents (table m)) mid_laid.0 q (omega (arith, both, split, some))
+
+    -- pages that are no blocks of the card keep their words, but the header its free chain's
+    given_word : (page place : ℕ) → place < PAGE_WORDS → (IsOf (block_count m) page → ⊥)
         → (page ≢ HEADER_PAGE) ⊎ (place ≢ FREE_HEAD_WORD) → word after page place ≡ word mid page place
     given_word page place small outside header = back.only.others page place small
-        (inr (let same = ap (count page) (laid_chains_of mid (extents part)) in
-        ⊎_elim
-        (λ (some : 0 < count page (laid_out mid (extents part))).
-        absurd (let block = laid_count mid page (extents part) part_extents (omega (arith, some)) in
-        let low = block.0 in omega (arith, low, outside))) (λ (none : count page (laid_out mid (extents part)) ≤ 0).
-        let z : count page (laid mid (chains_of (extents part))) ≡ 0 = omega (arith, same, none) in z)
-        (cases_lt 0 (count page (laid_out mid (extents part)))))) header
+        (inr (ap (count page) (laid_chains_of mid (extents part))
+        ∙ none_outside (block_count m) (laid_out mid (extents part)) given_inside page outside)) header
 
     pub after_table : table after ≡ table mid
     after_table = table-same mid after (λ page from below.
         page_words_same mid after page (let size = freed.size in omega (arith, sized, size, below)) back.only.size
-        (λ place small. given_word page place small (omega (arith, below))
+        (λ place small. given_word page place small
+        (λ block. let low = block.0 in let z : ⊥ = omega (arith, low, below) in z)
         (inl (λ is. let z : ⊥ = omega (arith, is, from) in z))))
 
     after_laid : AreLaid (block_count m) after (extents (table mid))
@@ -333,7 +338,8 @@ module _ (m mid : List ℕ) (top : ℕ) (sized : IsMemory m) (stands : TreeStand
 
     after_header : (place : ℕ) → place < PAGE_WORDS → place ≢ FREE_HEAD_WORD
         → word after HEADER_PAGE place ≡ word m HEADER_PAGE place
-    after_header place small other = given_word HEADER_PAGE place small (omega arith) (inr other)
+    after_header place small other = given_word HEADER_PAGE place small
+        (λ block. let low = block.0 in let z : ⊥ = omega (arith, low) in z) (inr other)
         ∙ mid_header place small
 
     after_format : SameFormat m after

@@ -12,6 +12,7 @@ use Rattle.card_model.specs.FileControl.{IsCreatable, size_of_kind}
 use Rattle.block_chain.specs.declared.layout.TheConstants.{BLOCK_BYTES}
 use Rattle.block_chain.specs.declared.chain.Chain.{Chain}
 use Rattle.block_chain.specs.Chains.{free_chain, bytes_of}
+use Rattle.block_chain.specs.Layout.{IsOf}
 use Rattle.file_tree.specs.declared.entry.Entry.{Entry}
 use Rattle.card_model.specs.declared.space.FreeSpace.{FreeSpace}
 use Rattle.card_model.specs.FileTrees.{File}
@@ -29,7 +30,8 @@ use Rattle.file_changes.specs.Creations.{kind_number, CreatesNew, IsCreated}
 use Rattle.file_changes.specs.CreationParts.{entry_for, no_chain, short_option, WritesEntry, IsPlaceFor}
 use Rattle.file_changes.specs.CreationParts.{TakesAndWrites, FillsAndAdds}
 use Rattle.file_tree.specs.laws.Costs.{space_counted}
-use Rattle.file_tree.specs.laws.Rewriting.{filled}
+use Rattle.file_tree.specs.laws.Formats.{count_same}
+use Rattle.file_tree.specs.laws.Rewriting.{filled, rest_format}
 use Rattle.file_changes.specs.laws.Adding.{MayStand}
 use Rattle.file_changes.specs.laws.NewEntries.{new_dedicated, new_by_kind, kind_blocks, some_kind}
 use Rattle.file_changes.specs.laws.Creating.{df_created, df_path, df_free, df_entries, ef_created, ef_path, ef_free}
@@ -46,9 +48,14 @@ creates_after m mid after df identifier file same creates = record {
   rest = record {
     size = creates.rest.size ∙ same.rest.size;
     words = λ page place small entry block header.
-        creates.rest.words page place small entry block header ∙ same.rest.words page place small entry block header;
+        creates.rest.words page place small entry (λ is. block (as_before page is)) header
+        ∙ same.rest.words page place small entry block header;
   };
 }
+  where
+    as_before : (page : ℕ) → IsOf (block_count mid) page → IsOf (block_count m) page
+    as_before page is = let family : ℕ → Type 0 = λ n. IsOf n page in
+        subst family (count_same m mid (rest_format m mid same.rest)) is
 
 module _ (m after : List ℕ) (df n e : ℕ) (fcp : Fcp) (sized : IsMemory m) (stands : TreeStands m)
     (dedicated : (entry_in (table m) df).kind ≡ 1) (is : IsCreatable fcp)

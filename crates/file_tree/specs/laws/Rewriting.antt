@@ -1,5 +1,5 @@
 -- What writing bytes of blocks makes of the tree: bytes of one file, and of free blocks.
-use Rattle.block_chain.specs.declared.layout.TheConstants.{HEADER_PAGE, FIRST_BLOCK_PAGE}
+use Rattle.block_chain.specs.declared.layout.TheConstants.{FREE_HEAD_WORD, HEADER_PAGE, FIRST_BLOCK_PAGE}
 use Rattle.file_tree.specs.declared.layout.TheConstants.{MARK_WORD, PAGES_WORD}
 use Rattle.file_tree.specs.laws.Formats.{laid_as}
 use Rattle.file_tree.specs.Formats.{block_count, SameFormat}
@@ -18,9 +18,10 @@ use Rattle.block_chain.specs.BlockWords.{word}
 use Rattle.block_chain.specs.Chains.{free_chain, bytes_of}
 use Rattle.block_chain.specs.ChainChanges.{OnlyContent}
 use Rattle.card_model.specs.FileTrees.{overwrite, transparent, linear, cyclic, dedicated, elementary, File}
-use Rattle.block_chain.specs.Layout.{blocks_of, laid_out, IsExtent, AreLaid}
+use Rattle.block_chain.specs.Layout.{blocks_of, laid_out, IsExtent, IsOf, AreLaid}
 use Rattle.block_chain.specs.laws.Counts.{count-append, count-split}
 use Rattle.block_chain.specs.laws.Bytes.{AreBlocks, leads_blocks, blocks_take}
+use Rattle.block_chain.specs.laws.Laying.{laid_of}
 use Rattle.block_chain.specs.laws.Footprints.{page_words_same, not_among, no_header, laid_kept}
 use Rattle.block_chain.specs.laws.Footprints.{extent_kept, extent_bytes}
 use Rattle.file_tree.specs.declared.entry.Entry.{Entry}
@@ -65,6 +66,43 @@ file_overwritten x before after bytes offset is becomes =
     }) becomes
     ∙ sym (ap (λ (file : File). with_overwritten file offset bytes) (file_of-transparent x before is))
 
+-- The header names the same format where only files change.
+pub rest_format : (m after : List ℕ) → KeepsRest m after → SameFormat m after
+rest_format m after rest = record {
+  mark = header MARK_WORD (omega arith) (omega arith);
+  pages = header PAGES_WORD (omega arith) (omega arith);
+}
+  where
+    header : (place : ℕ) → place < PAGE_WORDS → place ≢ FREE_HEAD_WORD
+        → word after HEADER_PAGE place ≡ word m HEADER_PAGE place
+    header place small other = rest.words HEADER_PAGE place small
+        (λ entry. let low = entry.0 in let z : ⊥ = omega (arith, low) in z)
+        (λ block. let low = block.0 in let z : ⊥ = omega (arith, low) in z) (inr other)
+
+-- Blocks of a card are none of the other pages.
+pub none_outside : (n : ℕ) (ps : List ℕ) → ((q : ℕ) → 1 ≤ count q ps → IsOf n q) → (page : ℕ) → (IsOf n page → ⊥)
+    → IsNotIn page ps
+none_outside n ps inside page outside = ⊎_elim
+    (λ (some : 0 < count page ps). absurd (outside (inside page (omega (arith, some)))))
+    (λ (none : count page ps ≤ 0). let z : count page ps ≡ 0 = omega (arith, none) in z) (cases_lt 0 (count page ps))
+
+-- The first free blocks are blocks of the card.
+pub free_inside : (m : List ℕ) (n : ℕ) → TreeStands m → (q : ℕ) → 1 ≤ count q (take n (free_chain m))
+    → IsOf (block_count m) q
+free_inside m n stands q some =
+    let parts = count-append q (free_chain m) (laid_out m (extents (table m))) in
+    let split = count-split q n (free_chain m) in
+    laid_of (block_count m) m (extents (table m)) stands.blocks q (omega (arith, parts, split, some))
+
+-- The blocks of a file are blocks of the card.
+pub file_inside : (m : List ℕ) (e : ℕ) → TreeStands m → e < 64 → 2 ≤ (entry_in (table m) e).kind → (q : ℕ)
+    → 1 ≤ count q (blocks_of m (extent_told (entry_in (table m) e))) → IsOf (block_count m) q
+file_inside m e stands e_in high q some =
+    let own = ap (count q) (named-some m (entry_in (table m) e) high) in
+    let among = count_named m q (table m) e (let long = length-table m in omega (arith, long, e_in)) in
+    let parts = count-append q (free_chain m) (laid_out m (extents (table m))) in
+    laid_of (block_count m) m (extents (table m)) stands.blocks q (omega (arith, own, among, parts, some))
+
 -- Words of blocks that hold bytes change: entries stay, and so does all that is no block.
 module _ (m after ps : List ℕ) (sized : IsMemory m) (blocks : AreBlocks m ps) (only : OnlyContent m ps after) where
   other_page : (page place : ℕ) → place < PAGE_WORDS → page < FIRST_BLOCK_PAGE
@@ -83,10 +121,11 @@ module _ (m after ps : List ℕ) (sized : IsMemory m) (blocks : AreBlocks m ps) 
     pages = other_page HEADER_PAGE PAGES_WORD (omega arith) (omega arith);
   }
 
-  pub content_rest : KeepsRest m after
-  content_rest = record {
+  pub content_rest : ((q : ℕ) → 1 ≤ count q ps → IsOf (block_count m) q) → KeepsRest m after
+  content_rest inside = record {
     size = only.size;
-    words = λ page place small entry block header. other_page page place small block;
+    words = λ page place small entry outside header. only.others page place small
+        (inr (none_outside (block_count m) ps inside page outside));
   }
 
   pub content_stands : TreeStands m → TreeStands after
@@ -179,7 +218,7 @@ rewritten m after e offset bytes sized stands used is only becomes =
           (sym (file_at_entry m stands.entries e p used refl)));
       stands = stands_after;
       free = content_free m after ps sized blocks only stands;
-      rest = content_rest m after ps sized blocks only;
+      rest = content_rest m after ps sized blocks only (file_inside m e stands e_in high);
       table = same;
     }
 
@@ -203,6 +242,6 @@ filled m after n sized stands only =
           omega (arith, own, among, most, parts, split, some)));
       stands = content_stands m after ps sized blocks only stands;
       free = content_free m after ps sized blocks only stands;
-      rest = content_rest m after ps sized blocks only;
+      rest = content_rest m after ps sized blocks only (free_inside m n stands);
       table = same;
     }
