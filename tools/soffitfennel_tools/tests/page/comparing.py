@@ -19,6 +19,7 @@ from ...card_image.tree import File, read
 from ...explaining.templates import Template, fault as template_fault
 from ...prompting.names import NAMES, Unclear, line_for
 from ...script_lines import ORDERS_THAT_PRINT, fault
+from ..checks import Checks
 
 TOP = Path(__file__).resolve().parent.parent.parent.parent.parent
 # scripts whose cards are compared, and what cuts them short
@@ -32,19 +33,8 @@ PAGES = 1024
 Ask = Callable[[str, Any], Any]
 
 
-class Tally:
-    """What passed, and what did not."""
-
-    def __init__(self) -> None:
-        self.passed = self.failed = 0
-
-    def same(self, came: object, wanted: object, what: str) -> None:
-        """Compares, and reports what differs."""
-        if came == wanted:
-            self.passed += 1
-        else:
-            self.failed += 1
-            print(f"FAIL {what}\n  wanted: {str(wanted)[:400]}\n  came:   {str(came)[:400]}", flush=True)
+class Tally(Checks):
+    """The checks of a page."""
 
     def true(self, holds: bool, what: str) -> None:
         """Counts a thing that must hold."""
