@@ -13,14 +13,23 @@ from functools import lru_cache
 from pathlib import Path
 from typing import BinaryIO, TextIO
 
+
+def read_orders(path: Path) -> tuple[dict[str, str], tuple[str, ...]]:
+    """The operands of each order of a script, and the orders that print."""
+    lines = [it.strip() for it in path.read_text(encoding="utf-8").splitlines()]
+    rows = [re.split(r"  +", it) for it in lines if it and it[0] != "#"]
+    return {order: of.replace("-", "") for order, of, _ in rows}, tuple(it[0] for it in rows if it[2] == "prints")
+
+
 # what other programs call an order, and how the bench says it
 OTHER_WORDS = Path(__file__).resolve().parent.parent / "words" / "orders.table"
 LONGEST_LINE = 1024
 # of a line that is longer no more than this need be kept: it is a bad line, whatever follows
 MOST_KEPT = LONGEST_LINE + 2
 MOST_BYTES = {"apdu": 261, "block": 300}
-ORDERS = ("on", "off", "free", "apdu", "block", "cut", "lose", "garble")
-ORDERS_THAT_PRINT = ("on", "free", "apdu", "block")
+# each order with its operands, and those that print a line
+OPERANDS, ORDERS_THAT_PRINT = read_orders(Path(__file__).resolve().parent.parent / "words" / "lines.table")
+ORDERS = tuple(OPERANDS)
 # how comments begin in other languages
 OTHER_COMMENTS = ("//", "/*", "--", ";", "%", "!", "'")
 BEHIND_A_COMMAND = "a comment stands behind a command: a comment is a line of its own that begins with #"
@@ -178,9 +187,9 @@ def of_words(text: str) -> str | None:
         return of_no_order(text, order)
     if order in MOST_BYTES:
         return of_bytes(order, text[len(order) + 1 :])
-    if order == "cut":
+    if OPERANDS[order] == "K M":
         return of_cut(words)
-    if order in ("lose", "garble"):
+    if OPERANDS[order] == "N":
         return of_number(words[0]) if len(words) == 1 else f"{order} takes one number"
     return f"{order} takes no further words" if words else None
 

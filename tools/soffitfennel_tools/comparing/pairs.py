@@ -6,12 +6,13 @@ from dataclasses import dataclass
 
 from ..explaining.commands import Command
 from ..explaining.templates import Template
+from ..script_lines import ORDERS as ALL_ORDERS
 
 from .sides import Side
 
+# the orders that a reader has too, and those that the bench alone has
 ORDERS = ("on", "off", "apdu")
-# the orders of the bench that no reader has
-ONLY_BENCH = ("block", "cut", "lose", "garble", "free")
+ONLY_BENCH = tuple(it for it in ALL_ORDERS if it not in ORDERS)
 
 
 @dataclass

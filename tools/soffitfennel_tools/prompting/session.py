@@ -10,7 +10,7 @@ from pathlib import Path
 
 from ..card_words import Log
 from ..programs import past_file_limits
-from ..script_lines import ORDERS, ORDERS_THAT_PRINT, fault
+from ..script_lines import OPERANDS, ORDERS, ORDERS_THAT_PRINT, fault
 
 from .names import NAMES, Unclear, line_for
 
@@ -32,7 +32,7 @@ FURTHER_WORDS = {
     "terminate": ("file", "directory", "card"),
 }
 HELP = """Lines of a script (./bench --help):
-  on, off, free, apdu HEX, block HEX, cut K M, lose N, garble N
+  {lines}
 Names for commands, each with the line that it stands for:
 {names}
 FILE    an identifier of four digits, a path from the master file (7F10/6F3A), name HEX, or .. for the parent
@@ -133,7 +133,8 @@ class Completer:
 
 def help_text() -> str:
     """The lines that the prompt takes."""
-    return HELP.format(names="\n".join(f"  {f'{name} {it.usage}':<24}{it.about}" for name, it in NAMES.items()))
+    lines = ", ".join(f"{it} {of.replace('H', 'HEX')}".rstrip() for it, of in OPERANDS.items())
+    return HELP.format(lines=lines, names="\n".join(f"  {f'{name} {it.usage}':<24}{it.about}" for name, it in NAMES.items()))
 
 
 def greet() -> None:
