@@ -7,11 +7,9 @@ import shutil
 import subprocess
 import sys
 import tempfile
-from importlib.machinery import SourceFileLoader
-from importlib.util import module_from_spec, spec_from_loader
 from pathlib import Path
-from types import ModuleType
 
+from ..commands import command
 from ..unproving.kit import Failed, Kit, Strange, link_all, write_program
 from ..unproving.library import as_library, as_program, empty
 
@@ -53,19 +51,9 @@ exec "{compiler}" "$@"
 """
 
 
-def tool(name: str) -> ModuleType:
-    """A tool that ./bench starts, as a module."""
-    loader = SourceFileLoader(name, str(TOP / "tools" / "bench" / name))
-    spec = spec_from_loader(name, loader)
-    assert spec
-    made = module_from_spec(spec)
-    loader.exec_module(made)
-    return made
-
-
 def unproved_text(room: Path) -> str:
     """The module of the library without a proof."""
-    kit, modules = Kit(room), tool("unproved").modules
+    kit, modules = Kit(room), command("bench/unproved").modules
     text, proved = modules(kit, as_program(CRATE, kit.room), empty(CRATE, kit.room))
     return as_library(text, proved, CRATE)
 

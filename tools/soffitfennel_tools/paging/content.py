@@ -9,7 +9,8 @@ import re
 import subprocess
 from pathlib import Path
 
-from ..narrowing.building import CRATE, TOP, tool
+from ..commands import command
+from ..narrowing.building import CRATE, TOP
 
 STORED = TOP / "web" / "card.sum"
 # the examples that come first: those with a command to cut
@@ -49,7 +50,7 @@ def words() -> bytes:
 
 def sources() -> str:
     """The sum of all sources that the module is compiled from."""
-    return str(tool("proved-sum").sources(CRATE.name))
+    return str(command("dev/proved-sum").sources(CRATE.name))
 
 
 def kit() -> str:
