@@ -6,6 +6,7 @@ from typing import Any
 from ..explaining.templates import count as counted
 
 from . import layout
+from .known import known
 from .rollback import Step, steps
 from .rule_words import allowed, rule_line
 from .tree import Card, File, Pin, Reading
@@ -14,7 +15,7 @@ from .tree import Card, File, Pin, Reading
 LINE_BYTES = 32
 
 
-def text(reading: Reading, has_secrets: bool, has_content: bool) -> Iterator[str]:
+def text(reading: Reading, has_secrets: bool, has_content: bool, has_names: bool = False) -> Iterator[str]:
     """The lines that show a card, or why there is none."""
     card, image = reading.card, reading.image
     yield f"memory   {counted(image.pages, 'page')}" + (f", format {card.format}" if card else "")
@@ -27,7 +28,7 @@ def text(reading: Reading, has_secrets: bool, has_content: bool) -> Iterator[str
     free = f"{len(card.free_chain):,} of {counted(card.blocks, 'block')}"
     yield f"free     {free}, {card.free_entries} of {layout.ENTRIES} entries"
     yield ""
-    yield from tree_lines(card, card.files[0], "", "", has_content)
+    yield from tree_lines(card, card.files[0], "", "", has_content, has_names)
     yield ""
     yield from pin_lines(card.pins, has_secrets)
 
@@ -61,17 +62,28 @@ def broken_lines(reading: Reading) -> Iterator[str]:
         yield f"rule {it.rule}   {it.place}: {it.why}"
 
 
-def tree_lines(card: Card, file: File, first: str, further: str, has_content: bool) -> Iterator[str]:
+def tree_lines(
+    card: Card, file: File, first: str, further: str, has_content: bool, has_names: bool
+) -> Iterator[str]:
     """A file and all below it; `first` is before its own line, `further` before the others."""
     yield f"{first}{file_line(file)}"
     children = card.children(file)
     inner = further + ("|   " if children else "    ")
     yield f"{inner}{rule_line(file.entry.rule, file.is_directory)}{rule_note(file)}"
+    if has_names:
+        yield from (f"{inner}{it}" for it in name_lines(card, file))
     if has_content:
         yield from (f"{inner}{it}" for it in content_lines(file))
     for child in children:
         own, below = ("`-- ", "    ") if child is children[-1] else ("|-- ", "|   ")
-        yield from tree_lines(card, child, further + own, further + below, has_content)
+        yield from tree_lines(card, child, further + own, further + below, has_content, has_names)
+
+
+def name_lines(card: Card, file: File) -> Iterator[str]:
+    """A well-known file's name, and its content in words."""
+    found = known(card, file)
+    if found:
+        yield from (f"{found.name}: {it}" for it in found.words or ["nothing was written"])
 
 
 def rule_note(file: File) -> str:
@@ -127,7 +139,7 @@ def pin_lines(pins: list[Pin], has_secrets: bool) -> Iterator[str]:
         yield f"{name:<13}{line}"
 
 
-def values(reading: Reading, has_secrets: bool) -> dict[str, Any]:
+def values(reading: Reading, has_secrets: bool, has_names: bool = False) -> dict[str, Any]:
     """All that is read, for JSON."""
     card, image = reading.card, reading.image
     journal: dict[str, Any] = {"pairs": image.gate}
@@ -142,7 +154,7 @@ def values(reading: Reading, has_secrets: bool) -> dict[str, Any]:
     if card:
         found |= {"format": card.format, "is_terminated": card.is_terminated, "blocks": card.blocks}
         found["free"] = {"blocks": len(card.free_chain), "entries": card.free_entries}
-        found["files"] = [file_values(it) for it in card.files]
+        found["files"] = [file_values(it) | (known_values(card, it) if has_names else {}) for it in card.files]
         found["pins"] = [pin_values(it, has_secrets) for it in card.pins]
     return found
 
@@ -167,6 +179,12 @@ def file_values(file: File) -> dict[str, Any]:
         found |= {"record_length": file.record_length, "capacity": file.capacity}
         return found | {"records": [it.hex().upper() for it in file.records]}
     return found | {"content": file.body.hex().upper()}
+
+
+def known_values(card: Card, file: File) -> dict[str, Any]:
+    """A well-known file for JSON; nothing for another one."""
+    found = known(card, file)
+    return {"known": {"name": found.name, "source": found.source, "words": found.words}} if found else {}
 
 
 def pin_values(pin: Pin, has_secrets: bool) -> dict[str, Any]:
