@@ -54,6 +54,16 @@
     };
   },
 
+  // Whether one sees where the focus is: an outline, of the thing or of its label, or a stroke of a cell.
+  isFocusSeen() {
+    const it = document.activeElement;
+    const isOutlined = (of) => of && getComputedStyle(of).outlineStyle !== "none" &&
+      parseFloat(getComputedStyle(of).outlineWidth) >= 1;
+    const isStroked = (of) => getComputedStyle(of).stroke !== "none" && parseFloat(getComputedStyle(of).strokeWidth) >= 1;
+    if (it instanceof SVGElement) return [...it.querySelectorAll("rect")].every(isStroked);
+    return Boolean(isOutlined(it) || isOutlined(it.nextElementSibling));
+  },
+
   // The thing that has the focus.
   focus() {
     const it = document.activeElement;

@@ -1,11 +1,11 @@
-"""A list of what WCAG 2.1 AA asks of a page, as far as a program can see it, in Chromium."""
+"""A list of what WCAG 2.1 AA asks of a page, as far as a program can see it."""
 
 from __future__ import annotations
 
 from pathlib import Path
 from typing import Any
 
-from .browsers import Chromium
+from .browsers import Browser
 from .comparing import Tally
 from .visitor import Visitor
 
@@ -13,6 +13,8 @@ TAB = "\ue004"
 SCRIPT = Path(__file__).with_suffix(".js").read_text(encoding="utf-8").split("\n", 1)[1]
 # roles that need a name
 NAMED = ("button", "checkbox", "combobox", "textbox", "slider", "link", "image", "region", "heading")
+# those that the page has in each browser
+LEAST = {"button", "checkbox", "combobox", "textbox", "slider", "link", "region", "heading"}
 # the smallest contrast of text, and of the edge of a thing that one uses
 OF_TEXT, OF_EDGES = 4.5, 3
 NARROW, ZOOMED = 390, 320
@@ -42,61 +44,67 @@ REACHED = (
 )
 
 
-def ask(browser: Chromium, what: str, *given: object) -> Any:
+def ask(browser: Browser, what: str, *given: object) -> Any:
     """What the page's script sees."""
     return browser.run(f"return {SCRIPT.strip()}[arguments[0]](...arguments[1])", what, given)
 
 
-def names(browser: Chromium, tally: Tally) -> None:
+def names(browser: Browser, tally: Tally) -> None:
     """Everything that a screen reader comes to has a name."""
-    nodes = [it for it in browser.tree() if not it.get("ignored") and it.get("role", {}).get("value") in NAMED]
-    nameless = [it["role"]["value"] for it in nodes if not it.get("name", {}).get("value", "").strip()]
-    tally.same(nameless, [], f"each of {len(nodes)} things has a name")
-    tally.true(len(nodes) > 60, f"the tree of names: {len(nodes)}")
+    things = [it for it in browser.things() if it[0] in NAMED]
+    nameless = [role for role, name in things if not name.strip()]
+    tally.same(nameless, [], f"{browser.name}: each of {len(things)} things has a name")
+    tally.true(len(things) > 60, f"{browser.name}: the tree of names: {len(things)}")
+    tally.same(LEAST - {role for role, _ in things}, set(), f"{browser.name}: the roles")
 
 
-def form(browser: Chromium, tally: Tally) -> None:
+def form(browser: Browser, tally: Tally) -> None:
     """Language, title, headings, landmarks, references, scrolling by keys."""
     came = ask(browser, "form")
     for name, it in WANTED_FORM.items():
-        tally.same(came[name], it, f"the form of the page: {name}")
-    tally.same(came["headings"], "H1" + 5 * " H2", "the headings")
+        tally.same(came[name], it, f"{browser.name}: the form of the page: {name}")
+    tally.same(came["headings"], "H1" + 5 * " H2", f"{browser.name}: the headings")
 
 
-def contrast(browser: Chromium, tally: Tally) -> None:
+def contrast(browser: Browser, tally: Tally) -> None:
     """Text and edges against what is behind them, in light and dark."""
     for is_dark in (False, True):
         browser.dark(is_dark)
+        came = browser.run("return matchMedia('(prefers-color-scheme: dark)').matches")
+        tally.same(came, is_dark, f"{browser.name}: the visitor's colours")
         came = ask(browser, "contrast", OF_TEXT, OF_EDGES)
-        tally.same(came, [], f"contrast {'in the dark' if is_dark else 'in the light'}")
+        tally.same(came, [], f"{browser.name}: contrast {'in the dark' if is_dark else 'in the light'}")
     browser.dark(False)
 
 
-def widths(browser: Chromium, tally: Tally) -> None:
+def widths(browser: Browser, tally: Tally) -> None:
     """The page fits narrow screens, and a zoom of 400 %."""
     for width in (NARROW, ZOOMED):
         browser.size(width, 800)
         came = browser.run("return document.documentElement.scrollWidth")
-        tally.true(came <= width, f"a width of {width} pixels: the page has {came}")
+        tally.true(came <= width, f"{browser.name}: a width of {width} pixels: the page has {came}")
     browser.size(1400, 1000)
 
 
-def keys(browser: Chromium, tally: Tally) -> None:
+def keys(browser: Browser, tally: Tally) -> None:
     """Tab goes to each thing, and out again."""
     browser.run("document.querySelector('a').focus()")
-    reached = []
+    reached, unseen = [], []
     for _ in range(MOST_TABS):
         browser.send(TAB)
         reached.append(ask(browser, "focus"))
         if not reached[-1]:
             break
+        if not ask(browser, "isFocusSeen"):
+            unseen.append(reached[-1])
+    tally.same(unseen, [], f"{browser.name}: the focus is seen on each thing")
     for it in REACHED:
-        tally.true(it in reached, f"Tab reaches {it}, among {reached}")
-    tally.true(any("," in it for it in reached), f"Tab reaches a cell of the grid, among {reached}")
-    tally.true(len(reached) < MOST_TABS, "Tab leaves the page")
+        tally.true(it in reached, f"{browser.name}: Tab reaches {it}, among {reached}")
+    tally.true(any("," in it for it in reached), f"{browser.name}: Tab reaches a cell of the grid, among {reached}")
+    tally.true(len(reached) < MOST_TABS, f"{browser.name}: Tab leaves the page")
 
 
-def check(visitor: Visitor, browser: Chromium, tally: Tally) -> None:
+def check(visitor: Visitor, browser: Browser, tally: Tally) -> None:
     """The whole list, with a cut shown and each detail open."""
     visitor.come()
     visitor.until("soffitfennel.state.found", "the first example")

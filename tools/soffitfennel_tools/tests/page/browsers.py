@@ -18,6 +18,10 @@ from pathlib import Path
 from typing import Any, Protocol
 
 SIZE = (1400, 1000)
+# the window of Firefox that stands for a narrower one, by its zoom
+WIDE = 1280
+# what may have a role that needs a name
+NAMED = "a, button, input, select, textarea, summary, h1, h2, h3, canvas, section, [role]"
 SECONDS = 120
 # (a proxy of the environment isn't asked for this machine)
 OPENER = urllib.request.build_opener(urllib.request.ProxyHandler({}))
@@ -89,6 +93,15 @@ class Browser(Protocol):
         ...
 
     def size(self, width: int, height: int) -> None:
+        ...
+
+    def send(self, key: str) -> None:
+        ...
+
+    def things(self) -> list[tuple[str, str]]:
+        ...
+
+    def dark(self, is_dark: bool) -> None:
         ...
 
     def quit(self) -> None:
@@ -191,10 +204,10 @@ class Chromium:
             "Emulation.setDeviceMetricsOverride", width=width, height=height, deviceScaleFactor=1, mobile=False
         )
 
-    def tree(self) -> list[dict[str, Any]]:
-        """The accessibility tree."""
-        nodes: list[dict[str, Any]] = self.devtools("Accessibility.getFullAXTree")["nodes"]
-        return nodes
+    def things(self) -> list[tuple[str, str]]:
+        """The role and the name of each thing that a screen reader comes to."""
+        nodes = [it for it in self.devtools("Accessibility.getFullAXTree")["nodes"] if not it.get("ignored")]
+        return [(it.get("role", {}).get("value", ""), it.get("name", {}).get("value", "")) for it in nodes]
 
     def dark(self, is_dark: bool) -> None:
         """Sets the visitor's colours."""
@@ -307,7 +320,27 @@ class Firefox:
         return asked
 
     def size(self, width: int, height: int) -> None:
-        self.call("WebDriver:SetWindowRect", {"width": width, "height": height})
+        """(A window of Firefox has some width at least, so a narrow one is a wide one that is zoomed.)"""
+        zoom = max(1, WIDE / width)
+        self.inside(f"Services.wm.getMostRecentWindow('navigator:browser').gBrowser.selectedBrowser.fullZoom = {zoom}")
+        self.call("WebDriver:SetWindowRect", {"width": round(width * zoom), "height": height})
+
+    def send(self, key: str) -> None:
+        """A key, to whatever has the focus."""
+        steps = [{"type": "keyDown", "value": key}, {"type": "keyUp", "value": key}]
+        self.call("WebDriver:PerformActions", {"actions": [{"type": "key", "id": "keys", "actions": steps}]})
+
+    def things(self) -> list[tuple[str, str]]:
+        """The role and the name of each thing that a screen reader comes to."""
+        asked = {"using": "css selector", "value": NAMED}
+        found = [{"id": it[ELEMENT]} for it in self.call("WebDriver:FindElements", asked)]
+        shown = [it for it in found if self.call("WebDriver:IsElementDisplayed", it)]
+        ask = ("WebDriver:GetComputedRole", "WebDriver:GetComputedLabel")
+        return [(self.call(ask[0], it), self.call(ask[1], it)) for it in shown]
+
+    def dark(self, is_dark: bool) -> None:
+        """Sets the visitor's colours."""
+        self.inside(f"Services.prefs.setIntPref('layout.css.prefers-color-scheme.content-override', {int(not is_dark)})")
 
     def quit(self) -> None:
         try:

@@ -5,6 +5,7 @@ import base64
 import time
 import zlib
 from collections.abc import Callable
+from typing import Any
 
 from .browsers import Browser
 from .comparing import Tally
@@ -20,6 +21,29 @@ const given = new DataTransfer();
 given.items.add(new File([bytes], name));
 document.dispatchEvent(new DragEvent("drop", { dataTransfer: given, cancelable: true }));
 """
+
+
+# what the picture shows: cells by write, runs by card, the colours of each card, legend, marks, sum
+DRAWN = """
+const all = (selector) => [...document.querySelectorAll(selector)], cells = new Map(), runs = {}, colours = {};
+for (const it of all(".cell")) {
+  const write = Number(it.dataset.cell.split(",")[0]);
+  cells.set(write, (cells.get(write) ?? 0) + 1);
+  const told = it.getAttribute("aria-label").split("the card is found ")[1].split("; ");
+  const fills = [...it.querySelectorAll("rect")].map((rect) => rect.getAttribute("fill"));
+  told.forEach((words, at) => {
+    const [, card, many] = words.match(/^(.*) \\(([\\d,]+) runs?\\)$/);
+    runs[card] = (runs[card] ?? 0) + Number(many.replaceAll(",", ""));
+    if (told.length === 1) colours[card] = [...new Set([...(colours[card] ?? []), ...fills])];
+  });
+}
+return {
+  cells: [...cells], runs, colours, legend: all("#legend li").map((it) => it.textContent),
+  turns: all("#grid .turn").length, tally: document.querySelector("#tally").textContent,
+};
+"""
+# the colours of cards, as tools/sweep --picture has them
+CARDS = {"as before the command": "#0072b2", "as after the command": "#e69f00"}
 
 
 def fragment(script: str) -> str:
@@ -139,6 +163,29 @@ class Visitor:
         self.until("document.querySelector('#text').value.includes('cut 3 0005')", "ticked words cut there")
         self.browser.run("document.querySelector('#uncut').click()")
         self.until("!document.querySelector('#text').value.includes('cut ')", "the cut goes away")
+
+    def every_cut(self, script: str, wanted: dict[str, Any]) -> None:
+        """The button tries every cut of a command with many writes, and draws what tools/sweep finds."""
+        before, command = script.split("# command\n")
+        self.script(before + command.split("# probe")[0])
+        self.until(f"document.querySelector('#tally').textContent === '{len(wanted['writes'])} memory writes.'", "waits")
+        self.same(self.browser.run(DRAWN)["cells"], [], "no cell is drawn before the button")
+        self.browser.run("soffitfennel.state.found = null")
+        self.browser.click("#all")
+        self.until("soffitfennel.state.found && document.querySelector('#legend li')", "the button tries every cut")
+        drawn = self.browser.run(DRAWN)
+        places = [[at, len({0, (1 << words) - 1, *(1 << it for it in range(words))})] for at, (words, _) in
+                  enumerate(wanted["writes"], 1)]
+        self.same(drawn["cells"], places, "a cell for each write and mask")
+        self.same(drawn["runs"], {card: many for many, card in wanted["outcomes"]}, "the runs of all cells, by the card found")
+        self.same(drawn["colours"], {it: [CARDS[it]] for it in drawn["runs"]}, "the colours of the cells")
+        legend = [f"{card}: {many:,} run{'s' * (many != 1)}" for many, card in wanted["outcomes"]]
+        commits = ", ".join(map(str, wanted["commits"]))
+        self.same(drawn["legend"], [*legend, *([f"▼ the commit: write {commits}"] if commits else [])], "the legend")
+        self.same(drawn["turns"], len(wanted["commits"]), "a mark for each commit")
+        self.same(drawn["tally"].split(" tried")[0], f"{wanted['runs']:,} ways to lose power", "says how many")
+        self.choose(0)
+        self.until("soffitfennel.state.found && document.querySelector('#all').hidden", "few writes need no button")
 
     def moves(self) -> None:
         """Alt and arrows, the memory by keys, playing, pasting."""
