@@ -2,6 +2,7 @@
 from __future__ import annotations
 
 import fcntl
+import hashlib
 import os
 import random
 import re
@@ -9,8 +10,11 @@ import shutil
 import signal
 import stat
 import subprocess
+import tempfile
 import unittest
 from collections.abc import Callable
+from functools import reduce
+from operator import xor
 from pathlib import Path
 from typing import Any, TypeVar
 
@@ -176,6 +180,37 @@ class Programs(Session):
         self.assertIn("S SERIALNO 0102030405060708", shown)
         self.assertEqual(shown.count("S CERTINFO"), 2)
         self.assertIn("S APPTYPE p15", shown)
+
+    @unittest.skipUnless(SCDAEMON.exists(), "scdaemon isn't installed")
+    @needs("gpgsm")
+    @needs("openssl")
+    def test_gpgsm_learns_the_certificates(self) -> None:
+        # (a short path, for the sockets of the agent that it starts)
+        home = Path(tempfile.mkdtemp(prefix="gpgsm-", dir="/tmp"))
+        self.addCleanup(shutil.rmtree, home, ignore_errors=True)
+        self.addCleanup(run, ["gpgconf", "--homedir", str(home), "--kill", "all"])
+        (home / "scdaemon.conf").write_text("disable-ccid\npcsc-driver libpcsclite.so.1\n", encoding="ascii")
+        gpgsm = ["gpgsm", "--homedir", str(home), "--batch"]
+        self.output(self.image("identity"), "--", *gpgsm, "--learn-card")
+        shown = run([*gpgsm, "--with-colons", "--list-keys"]).stdout
+        told = {line.split(":")[9].replace(":", "").upper() for line in shown.splitlines() if line.startswith("fpr:")}
+        sums = {hashlib.sha1(it).hexdigest().upper() for it in self.certificates()}
+        self.assertEqual(told, sums)
+
+    @needs("geldkarte", "libchipcard-tools")
+    def test_geldkarte_reads_a_purse(self) -> None:
+        card = self.room / "geldkarte.image"
+        self.tool("issue", PROGRAMS / "geldkarte.card", card)
+        # (it knows a purse by these bytes)
+        reset = bytes.fromhex("EF00FF8131FE456563") + b"soffitfennel."
+        atr = f"3B{reset.hex()}{reduce(xor, reset):02x}".upper()
+        words = ("--translate", "--atr", atr, card, "--", "env", f"HOME={self.room}", "geldkarte")
+        for what, wanted in (
+            ("loaded", "Card is loaded with  12.34 EUR"),
+            ("maxload", "Card can be loaded with 200.00 EUR"),
+            ("maxxfer", "Card can transfer up to  20.00 EUR"),
+        ):
+            self.assertIn(wanted, self.output(*words, what))
 
     @needs("scriptor", "pcsc-tools")
     def test_scriptor(self) -> None:
