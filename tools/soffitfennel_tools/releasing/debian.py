@@ -78,7 +78,7 @@ PACKAGES = (
         " scripts and tests, keeps its memory in a file, and loses power at chosen\n"
         " writes. Tools sweep commands by cuts, issue cards, and give PC/SC programs a\n"
         " card.",
-        r".*", ("python3 (>= 3.9)",), {"Suggests": "soffitfennel-pcsc, vsmartcard-vpcd, python3-pyscard, rustc"},
+        r".*", ("python3 (>= 3.11)",), {"Suggests": "soffitfennel-pcsc, vsmartcard-vpcd, python3-pyscard, rustc"},
         {"unstripped-binary-or-object": PROVED_BYTES, "hardening-no-fortify-functions": PROVED_BYTES,
          "package-contains-documentation-outside-usr-share-doc": "card.html is the card as a program for browsers"},
     ),
@@ -166,10 +166,11 @@ def add_control(root: Path, package: Package, version: str) -> None:
 
 
 def date_all(root: Path, epoch: int) -> None:
-    """Gives all files and folders one time, and folders the mode of everybody's."""
+    """Gives all files and folders one time, and the modes that they have for everybody; whatever this user's are."""
     for it in [root, *members(root)]:
-        if it.is_dir() and not it.is_symlink():
-            it.chmod(0o700 if it.relative_to(root) == CARDS else 0o755)
+        if not it.is_symlink():
+            is_open = it.is_dir() or bool(it.stat().st_mode & 0o100)
+            it.chmod(0o700 if it.relative_to(root) == CARDS else 0o755 if is_open else 0o644)
         os.utime(it, (epoch, epoch), follow_symlinks=False)
 
 

@@ -9,9 +9,8 @@ import tempfile
 import unittest
 from pathlib import Path
 
-from ...releasing import layout
+from ...arguments import commands
 from ...releasing.tree import version
-
 from .common import FIRST, ICCID, PLAIN_PATH, TOP, clean, one, releases, room_of, run
 
 # the packages of a root that a new user has: README's, a compiler, pip and the reader's service
@@ -60,18 +59,18 @@ class Prefix(unittest.TestCase):
         self.assertEqual(came, "True\n")
 
     def test_names(self) -> None:
-        for name in ["soffitfennel", *(f"soffitfennel-{it}" for it in layout.commands())]:
+        for name in ["soffitfennel", *(f"soffitfennel-{it}" for it in commands())]:
             text = self.run_here(name, "--help")
             self.assertTrue(text.startswith(f"usage: {name} "), text[:80])
-            self.assertNotRegex(text, rf"\./bench|tools/({'|'.join(layout.commands())})\b")
+            self.assertNotRegex(text, rf"\./bench|tools/({'|'.join(commands())})\b")
             self.assertIn(f"(Soffitfennel) {version()}\n", self.run_here(name, "--version"))
             self.assertTrue((self.room / "share/man/man1" / f"{name}.1").is_file())
 
     def test_what_is_said_of_the_proof(self) -> None:
-        state = "program: proved\n" if releases()[2] else "program: not proved"
+        state = "program: proved\n" if releases().is_proved else "program: not proved"
         self.assertIn(state, self.run_here("soffitfennel", "-V"))
         came = run("soffitfennel", text="off\n", env=clean(f"{self.room}/bin:{PLAIN_PATH}"))
-        self.assertEqual(came.stderr != "", not releases()[2], came.stderr)
+        self.assertEqual(came.stderr != "", not releases().is_proved, came.stderr)
 
     def test_program_in_c(self) -> None:
         if not shutil.which("pkg-config"):
@@ -128,7 +127,7 @@ class CleanRoot(unittest.TestCase):
             made = run("mmdebstrap", *words, "bookworm", cls.root)
         if made.returncode:
             raise unittest.SkipTest(f"Debian's packages can't be had here: {made.stderr.strip().splitlines()[-1]}")
-        for path in [*releases()[0].iterdir(), TOP / "examples/c/card.c", TOP / "bindings/python/card.py"]:
+        for path in [*releases().first.iterdir(), TOP / "examples/c/card.c", TOP / "bindings/python/card.py"]:
             shutil.copy(path, cls.root / "tmp")
 
     def in_root(self, line: str) -> subprocess.CompletedProcess[str]:
@@ -174,7 +173,7 @@ class CleanRoot(unittest.TestCase):
         """The sums of the release, and of the installed program beside the PROOF file."""
         self.says("sha256sum --check --quiet SHA256SUMS", "")
         self.says("grep -c \"^$(sha256sum /usr/lib/soffitfennel/programs/bench_cli)\\$\" PROOF-*", "1\n")
-        state = "program: proved" if releases()[2] else "program: not proved: its release says so"
+        state = "program: proved" if releases().is_proved else "program: not proved: its release says so"
         self.says("soffitfennel --version | sed -n 3p", f"{state}\n")
 
     def check_driver_and_removal(self) -> None:

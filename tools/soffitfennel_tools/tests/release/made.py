@@ -12,7 +12,6 @@ import unittest
 import zipfile
 
 from ...releasing import debian, papers
-
 from .common import ICCID, TOP, clean, one, releases, room_of, run
 
 # what is in every release, with V in place of the version
@@ -26,26 +25,26 @@ class Files(unittest.TestCase):
     """The files of a release."""
 
     def test_equal_bytes(self) -> None:
-        first, second, _, _ = releases()
+        first, second, *_ = releases()
         names = sorted(it.name for it in first.iterdir())
         self.assertEqual(names, sorted(it.name for it in second.iterdir()))
         for name in names:
             self.assertEqual((first / name).read_bytes(), (second / name).read_bytes(), name)
 
     def test_names(self) -> None:
-        found = {it.name for it in releases()[0].iterdir()}
+        found = {it.name for it in releases().first.iterdir()}
         self.assertEqual({re.sub(r"-py3.*\.whl", ".whl", re.sub(VERSION, "V", it)) for it in found}, NAMES)
-        if not releases()[2]:
+        if not releases().is_proved:
             for it in found - {"SHA256SUMS"}:
                 self.assertIn("unproved", it)
 
     def test_sums(self) -> None:
-        out = releases()[0]
+        out = releases().first
         came = run("sh", "-c", 'cd "$0" && sha256sum --strict --check --quiet SHA256SUMS && wc -l <SHA256SUMS', out)
         self.assertEqual((came.returncode, came.stdout.strip()), (0, str(len(NAMES) - 1)), came.stderr)
 
     def test_proof(self) -> None:
-        text, is_proved = one("PROOF-*.txt").read_text(encoding="utf-8"), releases()[2]
+        text, is_proved = one("PROOF-*.txt").read_text(encoding="utf-8"), releases().is_proved
         self.assertEqual("NOTHING IN IT IS PROVED" in text, not is_proved)
         self.assertEqual("Theorems" in text, is_proved)
         with tarfile.open(one("*.tar.gz")) as archive:
@@ -92,7 +91,7 @@ class Files(unittest.TestCase):
         self.assertFalse([it for it in names if it.startswith(("test-", "release", "prove")) or "_testing" in it])
 
     def test_no_names_of_this_machine(self) -> None:
-        for path in releases()[0].iterdir():
+        for path in releases().first.iterdir():
             self.assertNotIn(str(TOP).encode(), path.read_bytes(), path.name)
 
 
@@ -102,7 +101,7 @@ class Packages(unittest.TestCase):
     def test_lintian(self) -> None:
         if not shutil.which("lintian"):
             self.skipTest("lintian isn't installed")
-        came = run("lintian", "--allow-root", "--fail-on", "error,warning", *sorted(releases()[0].glob("*.deb")))
+        came = run("lintian", "--allow-root", "--fail-on", "error,warning", *sorted(releases().first.glob("*.deb")))
         self.assertEqual((came.returncode, came.stdout), (0, ""))
 
     def test_versions(self) -> None:

@@ -8,9 +8,9 @@ import sys
 import unittest
 from pathlib import Path
 
-from ...releasing import building, commands, completion, layout, manuals
+from ...arguments import commands as names_of_commands
+from ...releasing import building, commands, completion, manuals
 from ...releasing.tree import Refused, version
-
 from .common import RELEASE, TOP, room_of, run
 
 NUMBER = r"(\d+\.\d+\.\d+)"
@@ -60,7 +60,8 @@ class Helps(unittest.TestCase):
 
     @classmethod
     def setUpClass(cls) -> None:
-        paths = {"soffitfennel": TOP / "bench"} | {f"soffitfennel-{it}": TOP / "tools" / it for it in layout.commands()}
+        paths = {f"soffitfennel-{it}": TOP / "tools" / it for it in names_of_commands()}
+        paths["soffitfennel"] = TOP / "bench"
         cls.texts = {name: commands.help_of(path, name) for name, path in paths.items()}
         cls.told = [commands.read(name, text) for name, text in cls.texts.items()]
 
@@ -93,7 +94,7 @@ class Helps(unittest.TestCase):
 
     def test_fish(self) -> None:
         self.check_shell("fish", "".join(map(completion.fish, self.told)))
-        ran = run("fish", "--no-config", "-c", f"{completion.fish(self.told[0])}\ncomplete -C 'soffitfennel --ex'")
+        ran = run("fish", "--no-config", "-c", f"{completion.fish(self.told[-1])}\ncomplete -C 'soffitfennel --ex'")
         self.assertTrue(ran.stdout.startswith("--explain\tputs a few words"), ran.stdout + ran.stderr)
 
     def check_shell(self, shell: str, text: str) -> None:
