@@ -11,7 +11,8 @@ all:
 	tools/library
 	tools/page
 
-install: library/out/libsoffitfennel.a
+install:
+	tools/library
 	tools/release --install '$(DESTDIR)$(PREFIX)'
 	$(MAKE) -C library install $(LIBRARY_ARGS)
 
@@ -21,8 +22,5 @@ uninstall:
 
 release:
 	tools/release '$(OUT)'
-
-library/out/libsoffitfennel.a:
-	tools/library
 
 .PHONY: all install uninstall release

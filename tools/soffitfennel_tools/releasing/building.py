@@ -112,17 +112,24 @@ def driver(library: Path, room: Path) -> tuple[Path, Path]:
     return reader, reader / "pcsclite" / "out" / "libpcsclite.so.1"
 
 
-def build(room: Path, is_proved: bool) -> Built:
-    """All parts; of a release that isn't said to be unproved, only where they are what was proved."""
-    if is_proved:
-        check_tree()
-        programs = [proved(name) for name in PROVED]
-    else:
-        programs = [Path(run(tool("program"), it, "--unproved", "--quiet")) for it in ("", "--sweep")]
+def current(*words: str) -> list[Path]:
+    """The two programs that tools/program takes."""
+    return [Path(run(tool("program"), it, *words, "--quiet")) for it in ("", "--sweep")]
+
+
+def build(room: Path, programs: list[Path]) -> Built:
+    """All parts, with these two programs."""
     library, page = room / "library", room / "page"
     run(tool("library"), library)
     run(tool("page"), page)
-    if is_proved:
-        check_page(page)
     reader, pcsclite = driver(library, room / "reading")
     return Built(programs[0], programs[1], library, page, reader, pcsclite)
+
+
+def build_proved(room: Path) -> Built:
+    """All parts, if programs, library and page are what was proved."""
+    check_tree()
+    programs = [proved(name) for name in PROVED]
+    built = build(room, programs)
+    check_page(built.page)
+    return built

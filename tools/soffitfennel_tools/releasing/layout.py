@@ -6,6 +6,7 @@ import os
 import shutil
 from pathlib import Path
 
+from ..arguments import commands
 from . import completion, manuals
 from .building import Built
 from .commands import Command, help_of, read
@@ -15,23 +16,15 @@ NAME = "soffitfennel"
 ABOUT = "runs scripts against a smart card whose memory can lose power at any write"
 # what only a clone has a use for: it builds, proves, measures or tests the tree
 DEVELOPERS = (
-    "test-*", "*_testing", "tests", "dev", "coprocess", "vpcd.py", "pcscd.py", "release", "releasing", "library",
-    "library_programs", "page", "paging", "narrowing", "unproved", "unproving", "prove", "proved-sum", "cost",
-    "costing", "more-edits", "mutating", "layers", "house", "floors.py", "reading", "trace", "tracing", "man",
-    "mistakes*", "examples", "pages", "sweep-pages", "pcsc-rate", "explain.rows", "checked", "cost.table",
-    "crate.seconds",
+    "tests", "dev", "release", "releasing", "library", "page", "paging", "narrowing", "unproved", "unproving", "prove",
+    "checked", "costing", "mutating", "floors.py", "reading", "trace", "tracing", "pcscd.py", "vpcd.py",
+    "cost.table", "crate.seconds", "README.md", "mypy.ini",
 )
 # what tools/with-card gives OpenSC
 OPENSC = "examples/cards/opensc.conf"
 DOCUMENTS = ("README.md", "CHANGELOG.md", "SECURITY.md", "LICENSE-APACHE", "LICENSE-MIT", "docs", "examples")
 BASH, ZSH = "share/bash-completion/completions", "share/zsh/site-functions"
 FISH = "share/fish/vendor_completions.d"
-
-
-def commands() -> list[str]:
-    """The users' commands of tools/."""
-    lines = words("commands.table").read_text(encoding="utf-8").splitlines()
-    return [it for it in lines if it and not it.startswith("#")]
 
 
 def copy(source: Path, to: Path) -> None:

@@ -6,6 +6,8 @@ import re
 import subprocess
 from pathlib import Path
 
+from .. import arguments
+
 TOP = Path(__file__).resolve().parents[3]
 MADE = {"out", "target", "__pycache__"}
 VERSION = re.compile(r"\d+\.\d+\.\d+(-dev)?")
@@ -32,7 +34,7 @@ def words(name: str) -> Path:
 
 def version() -> str:
     """The version: a release's number, or that of the next release with -dev behind it."""
-    found = words("version").read_text(encoding="utf-8").strip()
+    found = arguments.version()
     if not VERSION.fullmatch(found):
         raise Refused(f"the version {found} is no number of a release")
     return found
