@@ -1,4 +1,4 @@
-"""Rewrites the text of an LLVM module of x86-64 for WebAssembly of 32 bits, and keeps the layout of its memory.
+"""Rewrites the text of an LLVM module of x86-64 for a processor of 32 bits, and keeps the layout of its memory.
 
 A pointer in memory stays 8 bytes: its address, then four bytes of zero. In a register it is a pointer of 32 bits.
 usize stays 64 bits. A line that has none of the forms below stops the rewriting."""
@@ -11,6 +11,15 @@ from dataclasses import dataclass, field
 
 TRIPLE = "wasm32-unknown-unknown"
 LAYOUT = "e-m:e-p:32:32-p10:8:8-p20:8:8-i64:64-i128:128-n32:64-S128-ni:1:10:20"
+ARM = "e-m:e-p:32:32-Fi8-i64:64-v128:64:128-a:0:32-n32-S64"
+# the triple and the layout of data of each processor
+TARGETS = {
+    "wasm32": (TRIPLE, LAYOUT),
+    "thumbv6m": ("thumbv6m-none-unknown-eabi", ARM),
+    "thumbv7m": ("thumbv7m-none-unknown-eabi", ARM),
+    "thumbv7em": ("thumbv7em-none-unknown-eabi", ARM),
+    "riscv32": ("riscv32-unknown-none-elf", "e-m:e-p:32:32-i64:64-n32-S128"),
+}
 # the first offset that 32 bits with a sign can't hold
 TOO_FAR = 2**31
 
@@ -131,9 +140,10 @@ def widen(text: str) -> str:
 
 @dataclass
 class Rewriting:
-    """One module. `imports` are the functions that the page gives it, by their names in the module."""
+    """One module. `imports` are the functions of C or of the page, by their names in the module."""
 
     imports: dict[str, str] = field(default_factory=dict)
+    target: str = "wasm32"
     counts: Counter[str] = field(default_factory=Counter)
     fresh: int = 0
 
@@ -168,9 +178,9 @@ class Rewriting:
     def outside(self, line: str) -> list[str]:
         """What stands for a line outside of functions."""
         if line.startswith("target datalayout"):
-            return [f'target datalayout = "{LAYOUT}"']
+            return [f'target datalayout = "{TARGETS[self.target][1]}"']
         if line.startswith("target triple"):
-            return [f'target triple = "{TRIPLE}"']
+            return [f'target triple = "{TARGETS[self.target][0]}"']
         if line.startswith("define "):
             return [self.head(line)]
         if line.startswith("@"):

@@ -1,0 +1,1 @@
+"""The card on chips of 32 bits: the rewritten module of a port, its bounds, and what compares it."""

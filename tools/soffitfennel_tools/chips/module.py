@@ -1,0 +1,127 @@
+"""The module of LLVM of a port (tools/port): out of a proof, or without one."""
+from __future__ import annotations
+
+import os
+import re
+import shutil
+import subprocess
+import sys
+from collections.abc import Callable, Iterator
+from contextlib import contextmanager
+from pathlib import Path
+
+from ..narrowing.building import KEEPER, kit_folder, run, tool
+from ..unproving.kit import Failed, Kit, Strange, link_all, write_program
+from ..unproving.library import EXPORT, as_library
+
+# the crate with C functions, and the one with the functions that C calls
+BOARD, CARD = "device_board", "card_device"
+TARGET = "x86_64-unknown-linux-gnu"
+ALLOWED = "RT_ALLOW_C"
+# what a proved library's functions for C need of the crates below it
+EMPTY = """//! The functions that C sees. They do nothing.
+#![tactic(auto)]
+/// A device.
+#[derive(Drop)]
+#[repr(C)]
+pub struct Device {
+    at: *mut u8,
+}
+"""
+EMPTY_EXPORT = '#[unsafe(no_mangle)]\npub extern "C" fn {}(_device: Device, _most: u32) -> u32 {{\n    0\n}}\n'
+# a program that calls each function that C sees; it has no device, so that it needs nothing that the library doesn't
+MAIN = """
+fn no_device() -> Option<Device> {{
+    None
+}}
+
+fn main(_rt: HostRuntime) {{
+{calls}}}
+"""
+CALL = "    if let Some(device) = no_device() {{\n        {}(device, 0u32);\n    }}\n"
+
+
+def exports(crate: Path) -> list[str]:
+    """The functions that C calls."""
+    found = EXPORT.findall((crate / "src/lib.rt").read_text(encoding="utf-8"))
+    for name, words, result in found:
+        if not re.fullmatch(r"\w+: Device, \w+: u32", words) or result != " -> u32":
+            raise Strange(f"{name} has other parameters than a device and a number: tools/chip can't build it")
+    return [name for name, _, _ in found]
+
+
+def as_program(crate: Path, room: Path) -> Path:
+    """A copy of the crates in which the library is a program."""
+    top = room / "program"
+    for part in ("src", "c"):
+        for source in crate.parent.glob(f"*/{part}"):
+            shutil.copytree(source, top / "crates" / source.parent.name / part)
+    listed = (crate.parent.parent / "crates.txt").read_text(encoding="utf-8")
+    (top / "crates.txt").write_text(listed.replace(f"{crate.name} staticlib:", f"{crate.name}:"), encoding="utf-8")
+    library, program = (top / "crates" / crate.name / "src" / it for it in ("lib.rt", "main.rt"))
+    calls = "".join(CALL.format(name) for name in exports(crate))
+    program.write_text(library.read_text(encoding="utf-8") + MAIN.format(calls=calls), encoding="utf-8")
+    library.unlink()
+    return program.parent.parent
+
+
+def empty(crate: Path, room: Path) -> Path:
+    """A library with the same functions for C, which do nothing."""
+    made = room / "empty" / "crates" / crate.name
+    (made / "src").mkdir(parents=True)
+    (room / "empty/crates.txt").write_text(f"{crate.name} staticlib:\n", encoding="utf-8")
+    text = EMPTY + "".join(EMPTY_EXPORT.format(name) for name in exports(crate))
+    (made / "src/lib.rt").write_text(text, encoding="utf-8")
+    return made
+
+
+@contextmanager
+def allowing_c() -> Iterator[None]:
+    """Lets the toolchain take the one crate with functions of C."""
+    before = os.environ.get(ALLOWED)
+    os.environ[ALLOWED] = BOARD
+    try:
+        yield
+    finally:
+        if before is None:
+            del os.environ[ALLOWED]
+        else:
+            os.environ[ALLOWED] = before
+
+
+def unproved_text(port: Path, room: Path) -> str:
+    """The module without a proof."""
+    crate = port / "crates" / CARD
+    with allowing_c():
+        kit, modules = Kit(room), tool("unproved").modules
+        text, proved = modules(kit, as_program(crate, kit.room), empty(crate, kit.room))
+    return as_library(text, proved, crate)
+
+
+def proved_text(port: Path, room: Path) -> str:
+    """The module as the toolchain compiles it behind the proof of the port."""
+    kit = kit_folder()
+    kept, copy, compiler = room / "proved.bc", room / "kit", kit / "toolchain/bin/clang"
+    link_all(kit, copy, {"bin", "toolchain"})
+    link_all(kit / "toolchain", copy / "toolchain", {"bin"})
+    link_all(kit / "toolchain/bin", copy / "toolchain/bin", {"clang"})
+    link_all(kit / "bin", copy / "bin", {"rt", "rtlib.py"})
+    for name in ("rt", "rtlib.py"):
+        shutil.copy(kit / "bin" / name, copy / "bin" / name)
+    write_program(copy / "toolchain/bin/clang", KEEPER.format(kept=kept, compiler=compiler))
+    environment = {**os.environ, ALLOWED: BOARD, "PATH": f"{copy / 'bin'}:{os.environ['PATH']}"}
+    crate = port / "crates" / CARD
+    # (an archive that is there is taken as it is, and nothing is compiled)
+    (crate / f"out/lib{CARD}.a").unlink(missing_ok=True)
+    ran = subprocess.run([copy / "bin/rt", "lib", "--jobs", "1"], cwd=crate, env=environment, stdout=sys.stderr, check=False)
+    if ran.returncode:
+        raise Failed(f"{crate} isn't proved")
+    if not kept.is_file():
+        raise Strange("it proved the library and compiled no module")
+    text = room / "proved.ll"
+    of_module = ["-x", "ir", kept, "-S", "-emit-llvm", "-O0", "-Xclang", "-disable-llvm-passes", "-o", text]
+    run(compiler, f"--target={TARGET}", "--no-default-config", *of_module)
+    return text.read_text(encoding="utf-8")
+
+
+TEXTS: dict[bool, Callable[[Path, Path], str]] = {False: unproved_text, True: proved_text}

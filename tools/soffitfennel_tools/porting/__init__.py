@@ -1,0 +1,1 @@
+"""Writes an integrator's own repository: the card over a device of his."""

@@ -1,0 +1,86 @@
+"""The files of a port: copies of the crates below the card, the two crates of the device, and C to begin with."""
+from __future__ import annotations
+
+import shutil
+import tempfile
+from pathlib import Path
+
+from ..unproving.kit import Failed
+
+TOP = Path(__file__).resolve().parent.parent.parent.parent
+FILES, EXAMPLE = Path(__file__).with_name("files"), TOP / "examples" / "chip"
+# the endings of files that the toolchain reads only within a port
+SUFFIX = ".in"
+PARTS = ("src", "specs", "proofs")
+LICENSES = ("LICENSE-APACHE", "LICENSE-MIT")
+# the crates of the device, and the crates of ours that each uses
+OWN = {
+    "device_board": "nvm_board",
+    "card_device staticlib": "nvm_board device_board t1_link card_start card_core card_turns",
+}
+
+
+def uses() -> dict[str, list[str]]:
+    """Each crate of ours, with those that it uses."""
+    found = {}
+    for line in (TOP / "crates.txt").read_text(encoding="utf-8").splitlines():
+        name, colon, below = line.partition(":")
+        if colon and not line.startswith("#"):
+            found[name.split()[0]] = below.split()
+    return found
+
+
+def needed() -> list[str]:
+    """The crates of ours below those of the device, lowest first."""
+    known, found = uses(), dict[str, None]()
+
+    def visit(name: str) -> None:
+        if name in known and name not in found:
+            for below in known[name]:
+                visit(below)
+            found[name] = None
+
+    for names in OWN.values():
+        for name in names.split():
+            visit(name)
+    return list(found)
+
+
+def crates_text(names: list[str]) -> str:
+    """The list of the crates."""
+    known = uses()
+    lines = [f"{name}: {' '.join(known[name])}".rstrip() for name in names]
+    return "\n".join([*lines, *(f"{name}: {below}" for name, below in OWN.items()), ""])
+
+
+def fill(folder: Path) -> None:
+    """Puts the files of a port into an empty folder."""
+    names = needed()
+    for name in names:
+        for part in PARTS:
+            if (TOP / "crates" / name / part).is_dir():
+                shutil.copytree(TOP / "crates" / name / part, folder / "crates" / name / part)
+    (folder / "crates.txt").write_text(crates_text(names), encoding="utf-8")
+    for path in sorted(it for it in FILES.rglob("*") if it.is_file()):
+        place = folder / path.relative_to(FILES)
+        place.parent.mkdir(parents=True, exist_ok=True)
+        shutil.copyfile(path, place.with_name(place.name.removesuffix(SUFFIX)))
+    device = folder / "device"
+    device.mkdir()
+    for path in sorted(it for it in EXAMPLE.iterdir() if it.is_file()):
+        shutil.copyfile(path, device / path.name)
+    for name in LICENSES:
+        shutil.copyfile(TOP / name, folder / name)
+
+
+def write_port(folder: Path) -> None:
+    """Writes a port as a new folder, whole or not at all."""
+    if folder.is_symlink() or folder.exists():
+        raise Failed(f"{folder} is there already: give a new folder")
+    if not folder.parent.is_dir():
+        raise Failed(f"there is no folder {folder.parent}")
+    with tempfile.TemporaryDirectory(prefix=f".{folder.name}-", dir=folder.parent) as name:
+        made = Path(name) / "port"
+        made.mkdir()
+        fill(made)
+        made.rename(folder)

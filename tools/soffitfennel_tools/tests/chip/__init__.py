@@ -1,0 +1,1 @@
+"""Tests of the card on chips of 32 bits."""
