@@ -4,3 +4,6 @@ pub mod Commanding
 pub mod FoundFiles
 pub mod Refusing
 pub mod Failing
+pub mod FormedTrees
+pub mod FormedSteps
+pub mod FormedSessions

@@ -19,7 +19,7 @@ ghost use Rattle.command_base.specs.Finding.{Finds, HasCard, found};
 ghost use Rattle.card_model.specs.Behaviours.{answer_bytes};
 ghost use Rattle.command_base.specs.Standing.{StandsFor};
 ghost use Rattle.card_core.specs.Refused.{IsSuccess, LeavesAll, ShowsWrong};
-ghost use Rattle.card_model.specs.WellFormed.{IsWellFormed};
+ghost use Rattle.card_model.specs.WellFormed.{HasCurrentFiles, IsWellFormed};
 ghost use Rattle.card_model.specs.CommandTable.{asked};
 ghost use Rattle.card_model.specs.Sessions.{Session};
 ghost use Rattle.card_model.specs.Steps.{IsStage, commits_served, carried_out, alone_served, gated_served};
@@ -51,6 +51,14 @@ pub fn found_is_well_formed()
 pub fn step_keeps_proper()
     ensures { (c : Card) (s : Session) (command : List ℕ) → IsProper c → AreBytes command
         → IsProper (carried_out c s command).card }
+{}
+
+/// A command keeps a well-formed card well formed, and the current files of its session in its tree.
+pub fn step_keeps_well_formed()
+    ensures card { (c : Card) (s : Session) (command : List ℕ) → IsWellFormed c → HasCurrentFiles c.tree s
+        → IsWellFormed (carried_out c s command).card }
+    ensures files { (c : Card) (s : Session) (command : List ℕ) → IsWellFormed c → HasCurrentFiles c.tree s
+        → HasCurrentFiles (carried_out c s command).card.tree (carried_out c s command).session }
 {}
 
 /// A command that answers another status than 9000 and the warnings 6282, 6283 and 6285 leaves card and session as
