@@ -1,2 +1,4 @@
--- Lemmas of the command line.
+-- Lemmas of the command line, of the words of an image, and of what is refused.
+pub mod Images
+mod Refused
 mod Words

@@ -1,18 +1,15 @@
 //! A file with the words of a board.
 ghost use Rattle.std.specs.Prelude.{◌≡◌, ◌≤◌, ◌↔◌, ◌+◌, ◌*◌, false, length, IsTrue};
+ghost use Rattle.card_files.specs.ImageParts.{bytes_in_file};
+ghost use Rattle.card_files.specs.declared.image_words.TheConstants.{WORD_BYTES};
 ghost use Rattle.nvm_board.specs.declared.board.TheConstants.{MOST_PAGES, PAGE_WORDS};
 
-use nvm_board::PAGE_WORDS;
+use crate::image_words::{PAGE_BYTES, WORD_BYTES};
+use arrayvec::ArrayVec;
 use simulated_boards::{Follower, KeptBoard};
 use std::fs::File;
 use std::io;
 use std::os::unix::fs::{FileExt, MetadataExt};
-
-/// The bytes of a word.
-const WORD_BYTES: usize = 4;
-
-/// The bytes of a page.
-pub const PAGE_BYTES: usize = WORD_BYTES * PAGE_WORDS as usize;
 
 /// What shows that a file is as it was left: its size, the number of its names, and when it was last written.
 #[derive(Clone, Copy)]
@@ -90,9 +87,8 @@ impl KeptFile {
         requires within { at + length words.now ≤ PAGE_WORDS * MOST_PAGES }
     {
         let bytes = bytes_of(words);
-        let size = WORD_BYTES * words.len();
-        let wrote = self.file.write_at(&bytes[..size], (WORD_BYTES * at) as u64);
-        matches!(wrote, Ok(count) if count == size)
+        let wrote = self.file.write_at(&bytes, offset_of(at));
+        matches!(wrote, Ok(count) if count == bytes.len())
     }
 
     /// Keeps the stamp after a write, and returns true if the file is still there.
@@ -127,17 +123,25 @@ impl Follower for KeptFile {
     }
 }
 
-/// Returns the bytes of words, the most significant byte of each first.
-fn bytes_of(words: &[u32]) -> [u8; PAGE_BYTES]
-    requires { length words.now ≤ PAGE_WORDS }
+/// Returns the offset of a word's first byte in the image.
+fn offset_of(at: usize) -> u64
+    requires { at ≤ PAGE_WORDS * MOST_PAGES }
+    ensures { result ≡ WORD_BYTES * at }
 {
-    let mut bytes = [0; PAGE_BYTES];
+    (WORD_BYTES * at) as u64
+}
+
+/// Returns the bytes of words in the image, the most significant of each word first.
+fn bytes_of(words: &[u32]) -> ArrayVec<u8, PAGE_BYTES>
+    requires { length words.now ≤ PAGE_WORDS }
+    ensures bytes { result.items ≡ bytes_in_file words.now }
+    ensures size { length result.items ≡ WORD_BYTES * length words.now }
+{
+    let mut bytes = ArrayVec::new();
     for i in 0..words.len() {
-        let [a, b, c, d] = words[i].to_be_bytes();
-        bytes[WORD_BYTES * i] = a;
-        bytes[WORD_BYTES * i + 1] = b;
-        bytes[WORD_BYTES * i + 2] = c;
-        bytes[WORD_BYTES * i + 3] = d;
+        bytes
+            .try_extend_from_slice(&words[i].to_be_bytes())
+            .unwrap();
     }
     bytes
 }

@@ -1,10 +1,12 @@
 //! The card in a file: the command line that names it, its board for a script, and its board for a sweep.
 #![tactic(auto)]
 
+mod image_words;
 mod kept_file;
 mod opening;
 mod options;
 mod page_count;
+mod reading;
 mod swept_file;
 
 pub use kept_file::CardBoard;

@@ -1,19 +1,20 @@
 //! Returns the board that the command line asks for: opens the file of a card, or makes one with the factory card.
-ghost use Rattle.std.specs.Prelude.{◌≡◌, None, Some, IfOk, false};
+ghost use Rattle.std.specs.Prelude.{◌≡◌, None, Some, IfErr, IfOk, false};
 ghost use Rattle.card_boards.specs.FactoryBoards.{IsFactoryBoard};
 ghost use Rattle.card_files.specs.AskedBoards.{IsBoardOf, facts_of, syncs};
 ghost use Rattle.card_files.specs.CommandLines.{new_card_pages, pages_number};
+ghost use Rattle.card_files.specs.FileRefusals.{HasPagesOf, IsRefusedAs};
 ghost use Rattle.command_base.specs.Finding.{HasCard};
 ghost use Rattle.simulated_boards.specs.Kept.{kept_words};
 
-use crate::kept_file::{CardBoard, KeptFile, PAGE_BYTES, Stamp};
+use crate::kept_file::{CardBoard, KeptFile, Stamp};
 use crate::options::{Asked, CardOptions};
-use card_boards::{NoCard, factory_board, factory_board_of, image_board};
-use nvm_board::{LEAST_PAGES, MOST_PAGES};
-use simulated_boards::{CutBoard, KeptBoard};
+use crate::reading::card_in;
+use card_boards::{factory_board, factory_board_of};
+use simulated_boards::KeptBoard;
 use std::alloc::Global;
 use std::fs::{self, File, OpenOptions, TryLockError};
-use std::io::{self, ErrorKind, Read, Write};
+use std::io::{self, ErrorKind, Write};
 use std::os::unix::fs::OpenOptionsExt;
 use std::random::RandomSource;
 use thiserror::Error;
@@ -61,6 +62,7 @@ pub fn board_of(rt: &HostRuntime, asked: Asked) -> Result<CardBoard, NoBoard>
     ensures card { IfOk result (λ board. HasCard (kept_words board)) }
     ensures board { IfOk result (IsBoardOf asked) }
     ensures uncut { IfOk result (λ board. (facts_of board).pending ≡ None) }
+    ensures refused { IfErr result (IsRefusedAs asked) }
 {
     match asked {
         Asked::Factory => match factory_board(rt.alloc()) {
@@ -79,6 +81,7 @@ pub fn board_of(rt: &HostRuntime, asked: Asked) -> Result<CardBoard, NoBoard>
 fn open_card(rt: &HostRuntime, options: &CardOptions) -> Result<CardBoard, CardFault>
     ensures card { IfOk result (λ board. HasCard (kept_words board)) }
     ensures kept { IfOk result (λ board. syncs board ≡ Some options.now.sync) }
+    ensures pages { IfOk result (λ board. HasPagesOf options.now (kept_words board)) }
     ensures uncut { IfOk result (λ board. (facts_of board).pending ≡ None) }
 {
     let path = options.path.as_str();
@@ -93,21 +96,14 @@ fn open_card(rt: &HostRuntime, options: &CardOptions) -> Result<CardBoard, CardF
 fn read_card(alloc: Global, mut file: File, options: &CardOptions) -> Result<CardBoard, CardFault>
     ensures card { IfOk result (λ board. HasCard (kept_words board)) }
     ensures kept { IfOk result (λ board. syncs board ≡ Some options.now.sync) }
+    ensures pages { IfOk result (λ board. HasPagesOf options.now (kept_words board)) }
     ensures uncut { IfOk result (λ board. (facts_of board).pending ≡ None) }
 {
     lock(&file)?;
     let (size, stamp) = size_of(&file)?;
-    check_size(size, options)?;
-    let words = words_in(alloc, &mut file, size)?;
-    match image_board(alloc, words) {
-        Ok(board) => {
-            let file = KeptFile::new(file, stamp, options.sync);
-            Ok(KeptBoard::new(board, Some(file)))
-        }
-        Err(NoCard::Memory) => Err(CardFault::Memory),
-        Err(NoCard::Size) => Err(CardFault::Size(size)),
-        Err(NoCard::Start(_)) => Err(CardFault::NoCard),
-    }
+    let board = card_in(alloc, &mut file, size, options)?;
+    let file = KeptFile::new(file, stamp, options.sync);
+    Ok(KeptBoard::new(board, Some(file)))
 }
 
 /// Returns the size of a regular file in bytes, and its stamp.
@@ -126,6 +122,7 @@ fn make_card(rt: &HostRuntime, options: &CardOptions) -> Result<CardBoard, CardF
     ensures factory { IfOk result (λ board. IsFactoryBoard (new_card_pages (pages_number options.now.pages))
         (facts_of board)) }
     ensures kept { IfOk result (λ board. syncs board ≡ Some options.now.sync) }
+    ensures pages { IfOk result (λ board. HasPagesOf options.now (kept_words board)) }
 {
     let pages = options.new_pages();
     let Ok(board) = factory_board_of(rt.alloc(), pages) else {
@@ -222,35 +219,4 @@ fn lock(file: &File) -> Result<(), CardFault> {
         Err(TryLockError::WouldBlock) => Err(CardFault::InUse),
         Err(TryLockError::Error(error)) => Err(CardFault::Lock(error)),
     }
-}
-
-/// Refuses a size that no memory has, or that differs from the options.
-fn check_size(size: u64, options: &CardOptions) -> Result<(), CardFault> {
-    let pages = size / PAGE_BYTES as u64;
-    if size % PAGE_BYTES as u64 != 0
-        || pages < u64::from(LEAST_PAGES)
-        || u64::from(MOST_PAGES) < pages
-    {
-        return Err(CardFault::Size(size));
-    }
-    match &options.pages {
-        Some(wanted) if u64::from(wanted.number()) != pages => Err(CardFault::OtherPages(pages)),
-        _ => Ok(()),
-    }
-}
-
-/// Returns the words in the file, the most significant byte of each first.
-fn words_in(alloc: Global, file: &mut File, size: u64) -> Result<Vec<u32>, CardFault> {
-    let mut bytes = Vec::new(alloc);
-    if let Err(error) = file.take(size).read_to_end(&mut bytes) {
-        return Err(CardFault::Read(error));
-    }
-    let mut words = Vec::new(alloc);
-    for word in bytes.chunks_exact(4) {
-        let [a, b, c, d] = *word else { continue };
-        if words.push(u32::from_be_bytes([a, b, c, d])).is_err() {
-            return Err(CardFault::Memory);
-        }
-    }
-    Ok(words)
 }

@@ -1,24 +1,17 @@
 //! The board that is swept: with the factory card, or with the card in a file.
-ghost use Rattle.std.specs.Prelude.{◌≡◌, ◌≢◌, None, IfOk};
+ghost use Rattle.std.specs.Prelude.{◌≡◌, ◌≢◌, None, IfErr, IfOk};
 ghost use Rattle.nvm_board.specs.declared.board.TheConstants.{LEAST_PAGES};
 ghost use Rattle.simulated_boards.specs.Cut.{cut_facts};
 ghost use Rattle.simulated_boards.specs.Given.{board_with};
 ghost use Rattle.command_base.specs.Finding.{HasCard};
 ghost use Rattle.card_boards.specs.FactoryBoards.{IsFactoryBoard};
 
-use card_boards::{NoCard, factory_board, image_board};
-use nvm_board::{MOST_PAGES, PAGE_WORDS};
+use crate::reading::board_in;
+use card_boards::factory_board;
 use simulated_boards::CutBoard;
-use std::alloc::{AllocError, Global};
 use std::fs::{self, File, TryLockError};
-use std::io::{self, ErrorKind, Read};
+use std::io;
 use thiserror::Error;
-
-/// The bytes of a page.
-const PAGE_BYTES: usize = 4 * PAGE_WORDS as usize;
-
-/// The most bytes of a memory.
-const MOST_BYTES: usize = PAGE_BYTES * MOST_PAGES as usize;
 
 /// Why there is no board to sweep.
 #[derive(Debug, Drop, Error)]
@@ -39,12 +32,6 @@ pub enum BoardFault {
     NoCard,
     #[error("there is too little memory")]
     Memory,
-}
-
-impl From<AllocError> for BoardFault {
-    fn from(_: AllocError) -> BoardFault {
-        BoardFault::Memory
-    }
 }
 
 impl BoardFault {
@@ -78,9 +65,13 @@ pub fn swept_board(rt: &HostRuntime, path: Option<&str>) -> Result<CutBoard, Boa
     ensures factory { IfOk result (λ board. path.entry ≡ None → IsFactoryBoard LEAST_PAGES (cut_facts board)) }
     ensures file { IfOk result (λ board. path.entry ≢ None
         → cut_facts board ≡ board_with (cut_facts board).words) }
+    ensures none { IfErr result (λ fault. path.entry ≡ None → fault ≡ BoardFault.Memory) }
 {
     match path {
-        None => Ok(factory_board(rt.alloc())?),
+        None => match factory_board(rt.alloc()) {
+            Ok(factory) => Ok(factory),
+            Err(_) => Err(BoardFault::Memory),
+        },
         Some(path) => read_board(rt, path),
     }
 }
@@ -105,33 +96,5 @@ fn read_board(rt: &HostRuntime, path: &str) -> Result<CutBoard, BoardFault>
         Err(TryLockError::WouldBlock) => return Err(BoardFault::InUse),
         Err(TryLockError::Error(error)) => return Err(BoardFault::Lock(error)),
     }
-    let words = words_in(rt.alloc(), &mut file)?;
-    match image_board(rt.alloc(), words) {
-        Ok(board) => Ok(board),
-        Err(NoCard::Memory) => Err(BoardFault::Memory),
-        Err(NoCard::Size) => Err(BoardFault::Size),
-        Err(NoCard::Start(_)) => Err(BoardFault::NoCard),
-    }
-}
-
-/// Returns the words in a file, the most significant byte of each first.
-fn words_in(alloc: Global, file: &mut File) -> Result<Vec<u32>, BoardFault> {
-    let mut bytes = Vec::new(alloc);
-    // One byte more shows that the file is too long.
-    match file.take(MOST_BYTES as u64 + 1).read_to_end(&mut bytes) {
-        Ok(_) => {}
-        Err(error) if error.kind() == ErrorKind::OutOfMemory => return Err(BoardFault::Memory),
-        Err(error) => return Err(BoardFault::Read(error)),
-    }
-    if bytes.len() % PAGE_BYTES != 0 {
-        return Err(BoardFault::Size);
-    }
-    let mut words = Vec::new(alloc);
-    for word in bytes.chunks_exact(4) {
-        let [a, b, c, d] = *word else { continue };
-        if words.push(u32::from_be_bytes([a, b, c, d])).is_err() {
-            return Err(BoardFault::Memory);
-        }
-    }
-    Ok(words)
+    board_in(rt.alloc(), &mut file)
 }
