@@ -38,9 +38,11 @@ fn status_at_end(rt: &impl Eprint, ended: &Result<(), RunFault>) -> u8
 }
 
 /// Reports on standard error why a file is not taken as a card's, and returns the exit status.
-fn refuse(rt: &impl Eprint, fault: &CardFault) -> ExitCode {
+fn refuse(rt: &impl Eprint, fault: &CardFault) -> u8
+    ensures { result ≡ 6 }
+{
     let _ = rt.eprintln(format_args!("error card: {fault}"));
-    ExitCode::from(NO_CARD)
+    NO_CARD
 }
 
 /// Returns what the command line asks for. A word that is not UTF-8 is no option.
@@ -78,6 +80,6 @@ fn run_asked(rt: &HostRuntime) -> Result<Result<(), RunFault>, CardFault> {
 fn main(rt: HostRuntime) -> ExitCode {
     match run_asked(&rt) {
         Ok(ran) => ExitCode::from(status_at_end(&rt, &ran)),
-        Err(fault) => refuse(&rt, &fault),
+        Err(fault) => ExitCode::from(refuse(&rt, &fault)),
     }
 }
