@@ -1,7 +1,7 @@
 -- Why the bytes of a reader are refused.
 use Rattle.std.specs.Prelude.{◌≢◌, ◌%◌, ◌/◌, IfErr, IfSome, Err, Result}
 use Rattle.std.proofs.Common.{◌≡◌, ◌≤◌, ◌<◌, ◌*◌, ℕ, List, [], ◌∷◌, Option, None, Some, length, take}
-use Rattle.std.proofs.Common.{ap, arith, refl, sym, subst, take_all, length-take, ⊎_elim, ◌∙◌}
+use Rattle.std.proofs.Common.{ap, arith, refl, subst, take_all, length-take, ⊎_elim, ◌∙◌}
 use Rattle.std.proofs.lemmas.Bool.{cases_lt}
 use Rattle.nvm_board.specs.Facts.{AreWords, IsMemory, pages_of}
 use Rattle.card_boards.specs.declared.image.NoCard.{NoCard}

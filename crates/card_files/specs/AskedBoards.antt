@@ -1,5 +1,6 @@
 -- The board that a command line asks for.
 use Rattle.std.specs.Prelude.{◌≡◌, Bool, Option, None, Some, option_map, if◌then◌else◌}
+use Rattle.std.specs.declared.fs.File.{File}
 use Rattle.nvm_board.specs.declared.board.TheConstants.{LEAST_PAGES}
 use Rattle.nvm_board.specs.Facts.{Facts}
 use Rattle.card_boards.specs.FactoryBoards.{IsFactoryBoard}
@@ -17,6 +18,10 @@ facts_of board = kept_facts (λ file. None) board
 -- whether each write waits until the disk has it, if a file follows the board and gets the next write
 abbrev pub syncs : KeptBoard KeptFile → Option Bool
 syncs board = if board.follows then option_map (λ file. file.sync) board.follower else None
+
+-- the file that follows a board, if one does
+abbrev pub followed_file : KeptBoard KeptFile → Option File
+followed_file board = option_map (λ file. file.file) board.follower
 
 -- Without `--card` it is a new board of 1,024 pages with the factory card, and no file follows it. A file follows the
 -- board of a card in a file, gets its next write, and waits for the disk as the options ask. The board has the pages

@@ -1,7 +1,7 @@
 -- The bytes of a memory in an image.
-use Rattle.std.specs.Prelude.{◌≡◌, ◌≤◌, ◌/◌, ◌%◌, ◌*◌, ℕ, List, flat_map, take, Option, IfSome}
+use Rattle.std.specs.Prelude.{◌≡◌, ◌≤◌, ◌/◌, ◌%◌, ℕ, List, flat_map, take, Option, IfSome}
 use Rattle.std.specs.Int.{w32, to_be_bytes}
-use Rattle.nvm_board.specs.declared.board.TheConstants.{LEAST_PAGES, MOST_PAGES, PAGE_WORDS}
+use Rattle.nvm_board.specs.declared.board.TheConstants.{LEAST_PAGES, MOST_PAGES}
 use Rattle.card_files.specs.declared.image_words.TheConstants.{PAGE_BYTES}
 
 -- the bytes of words in a file: the most significant of each first

@@ -66,7 +66,9 @@ impl KeptFile {
     /// Returns the follower of a file that has the words already, and was left as the stamp says.
     /// With `sync` each write waits until the disk has it.
     pub fn new(file: File, stamp: Stamp, sync: bool) -> KeptFile
-        ensures { (result.sync ≡ sync) × (result.behind ≡ false) }
+        ensures file { result.file ≡ file }
+        ensures sync { result.sync ≡ sync }
+        ensures up { result.behind ≡ false }
     {
         KeptFile {
             file,

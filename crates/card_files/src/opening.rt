@@ -1,7 +1,7 @@
 //! Returns the board that the command line asks for: opens the file of a card, or makes one with the factory card.
 ghost use Rattle.std.specs.Prelude.{◌≡◌, None, Some, IfErr, IfOk, false};
 ghost use Rattle.card_boards.specs.FactoryBoards.{IsFactoryBoard};
-ghost use Rattle.card_files.specs.AskedBoards.{IsBoardOf, facts_of, syncs};
+ghost use Rattle.card_files.specs.AskedBoards.{IsBoardOf, facts_of, followed_file, syncs};
 ghost use Rattle.card_files.specs.CommandLines.{new_card_pages, pages_number};
 ghost use Rattle.card_files.specs.FileRefusals.{HasPagesOf, IsRefusedAs};
 ghost use Rattle.command_base.specs.Finding.{HasCard};
@@ -93,7 +93,8 @@ fn open_card(rt: &HostRuntime, options: &CardOptions) -> Result<CardBoard, CardF
 }
 
 /// Returns the card in an open file.
-fn read_card(alloc: Global, mut file: File, options: &CardOptions) -> Result<CardBoard, CardFault>
+fn read_card(alloc: Global, file: File, options: &CardOptions) -> Result<CardBoard, CardFault>
+    ensures file { IfOk result (λ board. followed_file board ≡ Some file) }
     ensures card { IfOk result (λ board. HasCard (kept_words board)) }
     ensures kept { IfOk result (λ board. syncs board ≡ Some options.now.sync) }
     ensures pages { IfOk result (λ board. HasPagesOf options.now (kept_words board)) }
@@ -101,7 +102,7 @@ fn read_card(alloc: Global, mut file: File, options: &CardOptions) -> Result<Car
 {
     lock(&file)?;
     let (size, stamp) = size_of(&file)?;
-    let board = card_in(alloc, &mut file, size, options)?;
+    let board = card_in(alloc, &mut &file, size, options)?;
     let file = KeptFile::new(file, stamp, options.sync);
     Ok(KeptBoard::new(board, Some(file)))
 }
