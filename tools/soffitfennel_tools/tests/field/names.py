@@ -143,9 +143,13 @@ class Names(Hostile):
             self.assertEqual(came, wanted, (form, content))
 
     def test_bad_contents(self) -> None:
+        taken = []
         for form, content in BAD:
-            with self.subTest(form=form, content=content), self.assertRaises((ValueError, IndexError)):
-                list(getattr(forms, form)(bytes.fromhex(content)))
+            try:
+                taken.append((form, content, list(getattr(forms, form)(bytes.fromhex(content)))))
+            except (ValueError, IndexError):
+                continue
+        self.assertEqual(taken, [])
 
     def test_any_content_is_told(self) -> None:
         chance = random.Random(7816)
