@@ -1,4 +1,4 @@
-"""The forms of well-known files' contents, in words. A content that hasn't the form raises Strange or a ValueError."""
+"""The forms of well-known files' contents, in words. A content that hasn't the form raises a ValueError."""
 
 from __future__ import annotations
 

@@ -89,7 +89,7 @@ def known(card: Card, file: File) -> Known | None:
     word, name, source = row
     try:
         return Known(name, source, list(in_words(file, table().form(word))))
-    except (ValueError, IndexError):
+    except ValueError:
         return Known(name, source, [f"its content hasn't the form of {source}"]) if exact else None
 
 

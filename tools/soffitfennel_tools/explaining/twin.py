@@ -10,6 +10,7 @@ from tempfile import TemporaryDirectory
 
 from ..card_image.image import Image, Unreadable, read_image
 from ..card_image.tree import read
+from ..outputs import write
 from ..programs import past_file_limits
 
 from .files import Files, Path
@@ -70,7 +71,7 @@ class Twin:
         with TemporaryDirectory() as room:
             copy = FilePath(room) / "card"
             if self.image:
-                copy.write_bytes(self.image.data())
+                write(copy, self.image.data())
             pairs = zip(["", *self.program], self.program)
             words = [str(copy) if before == "--card" else word for before, word in pairs]
             return subprocess.run(

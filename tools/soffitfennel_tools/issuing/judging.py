@@ -42,8 +42,16 @@ def power_on(image: Image) -> tuple[int, list[str], str]:
     path = program("--quiet")
     with tempfile.TemporaryDirectory(prefix="issue-") as room:
         copy = Path(room) / "card"
-        with open(os.open(copy, os.O_WRONLY | os.O_CREAT | os.O_EXCL, 0o600), "wb") as it:
-            it.write(image.data())
+        write_copy(copy, image)
         words = [path, "--card", str(copy)]
         ran = subprocess.run(words, input="on\nfree\n", text=True, capture_output=True, check=False)
     return ran.returncode, ran.stdout.splitlines(), ran.stderr
+
+
+def write_copy(copy: Path, image: Image) -> None:
+    """Writes the image for the program, private as the card's own file."""
+    try:
+        with open(os.open(copy, os.O_WRONLY | os.O_CREAT | os.O_EXCL, 0o600), "wb") as it:
+            it.write(image.data())
+    except OSError as why:
+        raise Refused(f"{copy}, which the card's program is to check, can't be written: {why.strerror}") from None

@@ -200,6 +200,13 @@ def of_a_limit(checks: Checks, bench: Bench) -> None:
     shown = [it.split("  # ")[0].rstrip() for it in ran.stdout.splitlines()]
     checks.compare("a limit of size, with words: status and output", (UNKEPT, [ATR]), (ran.returncode, shown))
     checks.compare("a limit of size, with words: words", True, UNKEPT_WORDS in ran.stderr)
+    test = bench.image.with_name("limit.test")
+    test.write_text(f"on\n{WRONG_PIN}\n", encoding="ascii")
+    ran = subprocess.run([words[0], "--test", *words[1:], test], capture_output=True, text=True,
+                         preexec_fn=lambda: resource.setrlimit(resource.RLIMIT_FSIZE, limit))
+    test.unlink()
+    said = ran.stderr.endswith("/card can't be written: File too large\n") and ran.stderr.count("\n")
+    checks.compare("a limit of size, in a test: status and lines", (4, 1), (ran.returncode, said))
 
 
 def overwrite(image: Path) -> None:
