@@ -65,7 +65,7 @@ PACKAGES = (
         r"usr/include/.*|usr/lib/[^/]*/(libsoffitfennel\.(a|so)|pkgconfig/.*)", (f"{RUNTIME} (= {{version}})",),
     ),
     Package(
-        "soffitfennel-pcsc", "utils", "smart card in a file, behind a PC/SC reader",
+        "libifd-soffitfennel", "utils", "smart card in a file, behind a PC/SC reader",
         "A reader driver for pcscd. Its card is in the file\n"
         " /var/lib/soffitfennel/card.image, which stays when the package goes.",
         r"usr/lib/pcsc/.*|etc/.*|var/.*", ("pcscd",),
@@ -78,7 +78,7 @@ PACKAGES = (
         " scripts and tests, keeps its memory in a file, and loses power at chosen\n"
         " writes. Tools sweep commands by cuts, issue cards, and give PC/SC programs a\n"
         " card.",
-        r".*", ("python3 (>= 3.11)",), {"Suggests": "soffitfennel-pcsc, vsmartcard-vpcd, python3-pyscard, rustc"},
+        r".*", ("python3 (>= 3.11)",), {"Suggests": "libifd-soffitfennel, vsmartcard-vpcd, python3-pyscard, rustc"},
         {"unstripped-binary-or-object": PROVED_BYTES, "hardening-no-fortify-functions": PROVED_BYTES,
          "package-contains-documentation-outside-usr-share-doc": "card.html is the card as a program for browsers"},
     ),

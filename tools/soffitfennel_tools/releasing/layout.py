@@ -90,7 +90,8 @@ def complete(prefix: Path, told: list[Command]) -> None:
 
 
 def install(prefix: Path, built: Built) -> None:
-    """Puts commands, page and documents below a prefix."""
+    """Puts commands, page and documents below a prefix, in place of those of another version."""
+    uninstall(prefix)
     install_programs(prefix / "lib" / NAME, built)
     describe(prefix, link_commands(prefix))
     copy(built.page / "card.html", prefix / "share" / NAME / "card.html")

@@ -181,7 +181,7 @@ class CleanRoot(unittest.TestCase):
         self.says("stat -c %a /var/lib/soffitfennel", "700\n")
         self.says("sed -n 's/^LIBPATH //p' /etc/reader.conf.d/soffitfennel | xargs stat -c %F", "regular file\n")
         self.says("cp my.card /var/lib/soffitfennel/card.image; sha256sum <my.card >before", "")
-        came = self.in_root("apt-get purge --yes soffitfennel soffitfennel-pcsc libsoffitfennel1 libsoffitfennel-dev")
+        came = self.in_root("apt-get purge --yes soffitfennel libifd-soffitfennel libsoffitfennel1 libsoffitfennel-dev")
         self.assertEqual(came.returncode, 0, came.stderr)
         self.says("sha256sum </var/lib/soffitfennel/card.image | cmp - before", "")
         self.says("find / -xdev -name '*soffitfennel*' -path '/usr/*' ! -path '*-packages/*'", "")

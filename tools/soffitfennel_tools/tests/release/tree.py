@@ -9,7 +9,7 @@ import unittest
 from pathlib import Path
 
 from ...arguments import commands as names_of_commands
-from ...releasing import building, commands, completion, manuals
+from ...releasing import building, commands, completion, layout, manuals
 from ...releasing.tree import Refused, version
 from .common import RELEASE, TOP, room_of, run
 
@@ -115,6 +115,25 @@ class Helps(unittest.TestCase):
             self.assertEqual(heads[:3], ["NAME", "SYNOPSIS", "DESCRIPTION"], it.name)
             self.assertEqual(len(heads), len(set(heads)), it.name)
             self.assertNotRegex(page, r"(?m)^'", it.name)
+
+
+class Layout(unittest.TestCase):
+    """What is installed."""
+
+    def test_every_command(self) -> None:
+        found = {it.name for it in (TOP / "tools").iterdir() if it.is_file() and os.access(it, os.X_OK)}
+        # (the wrapper and the tools start it; a user does not)
+        self.assertEqual(found - set(layout.DEVELOPERS) - {"program"}, set(names_of_commands()))
+
+    def test_an_older_version_goes(self) -> None:
+        prefix = room_of(self)
+        old = [prefix / it for it in ("lib/soffitfennel/tools/old", "share/doc/soffitfennel/OLD", "bin/soffitfennel")]
+        others = [prefix / it for it in ("lib/other", "bin/other", "share/doc/other/README")]
+        for it in old + others:
+            it.parent.mkdir(parents=True, exist_ok=True)
+            it.write_text("x", encoding="utf-8")
+        layout.uninstall(prefix)
+        self.assertEqual([it.exists() for it in old + others], [False] * 3 + [True] * 3)
 
 
 class Refusals(unittest.TestCase):
