@@ -18,7 +18,7 @@ ABOUT = "runs scripts against a smart card whose memory can lose power at any wr
 DEVELOPERS = (
     "tests", "dev", "release", "releasing", "library", "page", "paging", "narrowing", "unproved", "unproving", "prove",
     "checked", "costing", "mutating", "floors.py", "reading", "trace", "tracing", "pcscd.py", "vpcd.py",
-    "cost.table", "crate.seconds", "README.md", "mypy.ini",
+    "cost.table", "crate.seconds", "README.md", "mypy.ini", "chip", "chips", "port", "porting",
 )
 # what tools/with-card gives OpenSC
 OPENSC = "examples/cards/opensc.conf"

@@ -114,8 +114,8 @@ class CleanRoot(unittest.TestCase):
     @classmethod
     def setUpClass(cls) -> None:
         releases()
-        if os.geteuid() or not shutil.which("mmdebstrap"):
-            raise unittest.SkipTest("a clean root takes root and Debian's mmdebstrap")
+        if os.geteuid() or not shutil.which("mmdebstrap") or run("unshare", "--mount", "true").returncode:
+            raise unittest.SkipTest("a clean root takes root, mounts of its own, and Debian's mmdebstrap")
         place = tempfile.TemporaryDirectory(prefix="test-release-root-")
         cls.addClassCleanup(place.cleanup)
         cls.root = Path(place.name) / "root"
