@@ -27,6 +27,7 @@ WORDS = (
     "-inline-threshold=5",
     *OF_KIT,
 )
+SOURCE = "card.ll"
 STARTS = ("card_serve", "card_serve_commands")
 
 
@@ -74,17 +75,26 @@ def rewritten(text: str, target: Target) -> str:
     return re.sub(r"^(attributes #\d+ = \{)", r'\1 "no-jump-tables"="true"', made, flags=re.M)
 
 
-def compiled(text: str, target: Target, room: Path) -> tuple[Path, dict[str, Bound]]:
-    """The object of a module that is rewritten, and the bounds of its stack."""
-    clang = kit_folder() / "toolchain/bin/clang"
-    source, made, assembly = room / "card.ll", room / f"{CARD}.o", room / "card.s"
-    source.write_text(text, encoding="utf-8")
-    words = [*target.clang, *WORDS, "-x", "ir", source, "-Os"]
-    run(clang, *words, "-c", "-o", made)
+def compiler(target: Target, room: Path, *words: object) -> None:
+    """Compiles the module in a folder for a processor."""
+    run(kit_folder() / "toolchain/bin/clang", *target.clang, *WORDS, "-x", "ir", room / SOURCE, "-Os", *words)
+
+
+def compiled(text: str, target: Target, room: Path) -> Path:
+    """The object of a module that is rewritten."""
+    made = room / f"{CARD}.o"
+    (room / SOURCE).write_text(text, encoding="utf-8")
+    compiler(target, room, "-c", "-o", made)
+    return made
+
+
+def bounds(target: Target, room: Path) -> dict[str, Bound]:
+    """The bounds of the stack of a module that is compiled, but for the processor of this machine."""
     if target.architecture is None:
-        return made, {}
-    run(clang, *words, "-S", "-fstack-usage", "-o", assembly)
-    return made, {it: read(assembly, assembly.with_suffix(".su"), it) for it in STARTS}
+        return {}
+    assembly = room / "card.s"
+    compiler(target, room, "-S", "-fstack-usage", "-o", assembly)
+    return {it: read(assembly, assembly.with_suffix(".su"), it) for it in STARTS}
 
 
 def build(port: Path, target: Target, out: Path, is_proved: bool, room: Path) -> Built:
@@ -92,7 +102,7 @@ def build(port: Path, target: Target, out: Path, is_proved: bool, room: Path) ->
     header = (port / "device" / HEADER).read_text(encoding="utf-8")
     text = text_of(port, is_proved, room)
     compare(header, text)
-    made, bounds = compiled(rewritten(text, target), target, room)
+    made = compiled(rewritten(text, target), target, room)
     library = room / LIBRARY
     run(kit_folder() / "toolchain/bin/llvm-ar", "rcsD", library, made)
     out.mkdir(parents=True, exist_ok=True)
@@ -100,4 +110,4 @@ def build(port: Path, target: Target, out: Path, is_proved: bool, room: Path) ->
         fresh = out / f".{path.name}.{os.getpid()}"
         shutil.copyfile(path, fresh)
         fresh.replace(out / path.name)
-    return Built(out / LIBRARY, bounds)
+    return Built(out / LIBRARY, bounds(target, room))
