@@ -7,7 +7,7 @@ use Rattle.bench_lines.specs.declared.reading.LineEnd.TheVariants.{EndOfScript}
 use Rattle.card_sweeps.specs.declared.fault.LineError.{LineError}
 use Rattle.card_sweeps.specs.declared.fault.LineError.TheVariants.{NoLine}
 use Rattle.card_sweeps.specs.declared.fault.SweepFault.{SweepFault}
-use Rattle.card_sweeps.specs.declared.fault.SweepFault.TheVariants.{BadLine, Read, Write, Memory}
+use Rattle.card_sweeps.specs.declared.fault.SweepFault.TheVariants.{BadLine, Read, Write, Memory, Differs}
 use Rattle.card_sweeps.specs.Asking.{Asked, ReadsLines, ReadsWithin, missing_at_end, take_line}
 
 -- The next line was read. No script has it there, for this reason.
@@ -67,3 +67,4 @@ ReadingStopsBy (BadLine number error) old new = StopsAtLine number error old new
 ReadingStopsBy Read old new = StopsInLine old new
 ReadingStopsBy Write old new = ⊥
 ReadingStopsBy Memory old new = Unit {0}
+ReadingStopsBy Differs old new = ⊥

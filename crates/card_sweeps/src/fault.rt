@@ -71,6 +71,9 @@ pub enum SweepFault {
     /// There is too little memory.
     #[error("there is too little memory")]
     Memory,
+    /// Two runs of the same turns left different memories, so the board is not deterministic.
+    #[error("two runs of the command left different memories")]
+    Differs,
 }
 
 impl From<AllocError> for SweepFault {
@@ -88,7 +91,7 @@ impl SweepFault {
     ghost use Rattle.std.specs.Prelude.{◌≡◌};
     ghost use Rattle.card_sweeps.specs.ExitStatuses.{exit_status_of};
 
-    /// Returns the exit status that reports it: 2 to 5.
+    /// Returns the exit status that reports it: 2 to 5, or 8.
     pub fn status(&self) -> u8
         ensures { result ≡ exit_status_of self.now }
     {
@@ -97,6 +100,7 @@ impl SweepFault {
             SweepFault::Read => 3,
             SweepFault::Write => 4,
             SweepFault::Memory => 5,
+            SweepFault::Differs => 8,
         }
     }
 }

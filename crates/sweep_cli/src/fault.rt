@@ -33,7 +33,7 @@ impl ProgramFault {
     ghost use Rattle.std.specs.Prelude.{◌≡◌};
     ghost use Rattle.sweep_cli.specs.ProgramStatuses.{program_status_of};
 
-    /// Returns the exit status that reports it: 1 to 6.
+    /// Returns the exit status that reports it: 1 to 6, or 8.
     pub fn status(&self) -> u8
         ensures { result ≡ program_status_of self.now }
     {

@@ -52,3 +52,10 @@ pub four-parts : (old one two three four : List ℕ)
     → (((old ++ one) ++ two) ++ three) ++ four ≡ old ++ (((one ++ two) ++ three) ++ four)
 four-parts old one two three four =
     ap (λ (l : List ℕ). l ++ four) (three-parts old one two three) ∙ append_assoc old ((one ++ two) ++ three) four
+
+-- five texts, one after the other
+pub five-parts : (old one two three four five : List ℕ)
+    → ((((old ++ one) ++ two) ++ three) ++ four) ++ five ≡ old ++ ((((one ++ two) ++ three) ++ four) ++ five)
+five-parts old one two three four five =
+    ap (λ (l : List ℕ). l ++ five) (four-parts old one two three four)
+    ∙ append_assoc old (((one ++ two) ++ three) ++ four) five

@@ -3,20 +3,24 @@ use Rattle.std.specs.Prelude.{◌≡◌, ℕ, List, Option, Result, Ok, Err, IfE
 use Rattle.std.proofs.Common.{sym, subst}
 use Rattle.nvm_board.specs.Facts.{Facts}
 use Rattle.card_sweeps.specs.declared.fault.SweepFault.{SweepFault}
-use Rattle.card_sweeps.specs.declared.fault.SweepFault.TheVariants.{BadLine, Read, Write, Memory}
+use Rattle.card_sweeps.specs.declared.fault.SweepFault.TheVariants.{BadLine, Read, Write, Memory, Differs}
 use Rattle.card_sweeps.specs.declared.parts.SweepPart.{SweepPart}
 use Rattle.card_sweeps.specs.SweepEndings.{ReadingStopsBy}
-use Rattle.sweep_reports.specs.ReportEndings.{SweepStopsBy}
+use Rattle.sweep_reports.specs.declared.stop.Stop.{Stop}
+use Rattle.sweep_reports.specs.declared.stop.Stop.TheVariants as stop
+use Rattle.sweep_reports.specs.ReportEndings.{ReadsScript, SweepStopsBy, fault_of}
 
--- too little memory, while the report is made
-pub memory-ends : {T B : Type 0} (facts : B → Facts) (torn : B → ℕ) (r : Result T SweepFault) (board : Facts)
+-- the report is not made
+pub stop-ends : {T B : Type 0} (facts : B → Facts) (torn : B → ℕ) (r : Result T SweepFault) (why : Stop) (board : Facts)
     (part : SweepPart)
-    (script left old new : Option (List ℕ))
-    → IsErrAnd r (λ fault. fault ≡ Memory) → IfErr r (λ fault. SweepStopsBy facts torn board part fault script left
-    old new)
-memory-ends facts torn (Ok t) board part script left old new is = tt
-memory-ends facts torn (Err e) board part script left old new is =
+    (script left old new : Option (List ℕ)) → ReadsScript script left
+    → IsErrAnd r (λ fault. fault ≡ fault_of why) → IfErr r (λ fault. SweepStopsBy facts torn board part fault script
+    left old new)
+stop-ends facts torn (Ok t) why board part script left old new read is = tt
+stop-ends facts torn (Err e) stop.Memory board part script left old new read is =
     subst (λ (f : SweepFault). SweepStopsBy facts torn board part f script left old new) (sym is) tt
+stop-ends facts torn (Err e) stop.Differs board part script left old new read is =
+    subst (λ (f : SweepFault). SweepStopsBy facts torn board part f script left old new) (sym is) read
 
 -- a fault of the reading ends the program's work
 reading-ends : {B : Type 0} (facts : B → Facts) (torn : B → ℕ) (board : Facts) (part : SweepPart)
@@ -26,6 +30,7 @@ reading-ends facts torn board part (BadLine number error) script left old new st
 reading-ends facts torn board part Read script left old new stops = stops
 reading-ends facts torn board part Write script left old new stops = absurd stops
 reading-ends facts torn board part Memory script left old new stops = tt
+reading-ends facts torn board part Differs script left old new stops = absurd stops
 
 -- the same, passed on
 pub reading-passed : {T B : Type 0} (facts : B → Facts) (torn : B → ℕ) (r : Result T SweepFault) (fault : SweepFault)

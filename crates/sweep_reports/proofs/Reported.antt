@@ -1,20 +1,21 @@
 -- What is printed of a sweep, put together from its parts.
-use Rattle.std.specs.Prelude.{◌≡◌, ◌⊎◌, ◌+◌, ◌-◌, ◌^◌, ℕ, suc, List, [], ◌∷◌, ◌++◌, codes, take, drop}
+use Rattle.std.specs.Prelude.{◌≡◌, ◌⊎◌, ◌+◌, ◌-◌, ◌^◌, ℕ, suc, List, [], ◌∷◌, ◌++◌, codes, length, take, drop}
 use Rattle.std.proofs.Common.{refl, sym, ◌∙◌, ap, subst, arith, append-nil}
 use Rattle.nvm_board.specs.Facts.{Facts}
 use Rattle.bench_turns.specs.declared.turn.Item.{Item}
 use Rattle.bench_turns.specs.declared.turn.Turn.{Turn}
-use Rattle.card_sweeps.specs.Masks.{mask_of}
+use Rattle.card_sweeps.specs.Masks.{mask_count_of, mask_of}
 use Rattle.card_sweeps.specs.Sweeps.{CutsCommand}
 use Rattle.card_sweeps.specs.PartTexts.{IsOfPart}
 use Rattle.sweep_reports.specs.declared.device_writes.DeviceWrite.{DeviceWrite}
-use Rattle.sweep_reports.specs.DeviceWrites.{kinds_text, write_text}
-use Rattle.sweep_reports.specs.ReportParts.{AddsText}
+use Rattle.sweep_reports.specs.DeviceWrites.{IsWriteKind, kinds_text, write_text}
+use Rattle.sweep_reports.specs.ReportParts.{AddsText, AreRest}
 use Rattle.sweep_reports.specs.Printing.{cut_head, last_item, look_text, looks_text, total_text}
-use Rattle.sweep_reports.specs.Reporting.{AreKindsOrNone, AreResults, AreWrites, HasSections, IsCutOrNone}
-use Rattle.sweep_reports.specs.Reporting.{IsDeviceWrite, IsFound, IsUnmadeWrite, IsWrite, LacksWrite, Sweeping}
-use Rattle.sweep_reports.specs.Reporting.{TextsInTurn, WritesInTurn}
-use Rattle.sweep_reports.proofs.Put.{four-parts, three-parts}
+use Rattle.sweep_reports.specs.Reporting.{AreResults, AreWrites, HasSections, IsCutOrNone, IsFound, IsWrite, Sweeping}
+use Rattle.sweep_reports.specs.Reporting.{IsMade, LacksWrite, TextsInTurn, WritesInTurn}
+use Rattle.sweep_reports.specs.declared.device_writes.WriteKind.{WriteKind}
+use Rattle.sweep_reports.specs.WrittenRuns.{IsMasked, WrittenRun}
+use Rattle.sweep_reports.proofs.Put.{five-parts, puts-both, three-parts}
 
 -- the same results, whose lines begin with a head that is said otherwise
 pub results-under : (looks head other : List ℕ) (depth : ℕ) (probe : List Turn) (board : Facts) (text : List ℕ)
@@ -23,10 +24,10 @@ results-under looks head other depth probe board text same results =
     subst (λ (h : List ℕ). AreResults looks h depth probe board text) same results
 
 -- a cut that is none of the part
-pub none-put : {B : Type 0} {facts : B → Facts} {torn : B → ℕ} (sweeping : Sweeping facts torn) (write words i : ℕ)
-    (old : List ℕ) → (IsOfPart sweeping.part write i → ⊥)
-    → AddsText (IsCutOrNone sweeping write words i) old old
-none-put sweeping write words i old other = record {
+pub none-put : {B : Type 0} {facts : B → Facts} {torn : B → ℕ} (sweeping : Sweeping facts torn) (write : ℕ)
+    (run : WrittenRun) (i : ℕ) (old : List ℕ) → (IsOfPart sweeping.part write i → ⊥)
+    → AddsText (IsCutOrNone sweeping write run i) old old
+none-put sweeping write run i old other = record {
   more = [];
   holds = record { own = λ is. absurd (other is); other = λ _. refl };
   all = sym (append-nil old);
@@ -34,17 +35,18 @@ none-put sweeping write words i old other = record {
 
 -- the cut with this mask
 pub cut-put : {B : Type 0} {facts : B → Facts} {torn : B → ℕ} (sweeping : Sweeping facts torn)
-    (write words i mask : ℕ) (left : Facts) (old new : List ℕ)
-    → mask ≡ mask_of words i → IsOfPart sweeping.part write i
+    (write : ℕ) (run : WrittenRun) (i mask : ℕ) (left : Facts) (old new : List ℕ)
+    → mask ≡ mask_of run.words i → IsOfPart sweeping.part write i → IsMasked run i left.words
     → CutsCommand write mask sweeping.board sweeping.prepare sweeping.command left
     → AddsText (AreResults sweeping.looks (cut_head write i mask) sweeping.depth sweeping.probe left) old new
-    → AddsText (IsCutOrNone sweeping write words i) old new
-cut-put sweeping write words i mask left old new same own cut results = record {
+    → AddsText (IsCutOrNone sweeping write run i) old new
+cut-put sweeping write run i mask left old new same own masked cut results = record {
   more = results.more;
   holds = record {
     own = λ _. record {
       left = left;
       cut = subst (λ (m : ℕ). CutsCommand write m sweeping.board sweeping.prepare sweeping.command left) same cut;
+      masked = masked;
       results = subst
           (λ (m : ℕ). AreResults sweeping.looks (cut_head write i m) sweeping.depth sweeping.probe left results.more)
           same
@@ -55,87 +57,122 @@ cut-put sweeping write words i mask left old new same own cut results = record {
   all = results.all;
 }
 
--- a write that the command doesn't make, as the first mask shows
-pub unmade-put : {B : Type 0} {facts : B → Facts} {torn : B → ℕ} (sweeping : Sweeping facts torn) (write : ℕ)
-    (old : List ℕ)
-    → LacksWrite sweeping write
-    → AddsText (IsUnmadeWrite sweeping write) old old
-unfolding TextsInTurn
-unmade-put sweeping write old unmade = record {
-  more = [];
-  holds = record {
-    words = 1;
-    masks = 0;
-    few = omega arith;
-    has_words = λ some. absurd (omega (arith, some));
-    each = refl;
-    unmade = unmade;
-  };
-  all = sym (append-nil old);
-}
+-- what a cut leaves, said of the same memories
+pub masked-same : (at words i : ℕ) (before new left after now : List ℕ) → new ≡ after → left ≡ now
+    → IsMasked (record { at = at; words = words; before = before; after = new }) i left
+    → IsMasked (record { at = at; words = words; before = before; after = after }) i now
+masked-same at words i before new left after now one two is =
+    subst (λ (m : List ℕ). IsMasked (record { at = at; words = words; before = before; after = m }) i now) one
+    (subst (λ (m : List ℕ). IsMasked (record { at = at; words = words; before = before; after = new }) i m) two is)
 
--- all writes, up to the first that the command doesn't make
-pub writes-put : {B : Type 0} {facts : B → Facts} {torn : B → ℕ} (sweeping : Sweeping facts torn) (writes : ℕ)
-    (old each last new : List ℕ)
-    → AddsText (TextsInTurn (λ n. IsWrite sweeping (n + 1)) writes) old each
-    → AddsText (λ t. IsUnmadeWrite sweeping (writes + 1) t ⊎ ((writes ≡ 2 ^ 32 - 1) × (t ≡ []))) each last
-    → new ≡ last ++ total_text writes sweeping.depth → AddsText (AreWrites sweeping) old new
-writes-put sweeping writes old each last new some end text = record {
-  more = some.more ++ end.more ++ total_text writes sweeping.depth;
-  holds = record {
-    writes = writes;
-    each = some.more;
-    last = end.more;
-    are_writes = some.holds;
-    done = end.holds;
-    text_is = refl;
-  };
-  all = text ∙ ap (λ (l : List ℕ). l ++ total_text writes sweeping.depth)
-      (end.all ∙ ap (λ (l : List ℕ). l ++ end.more) some.all)
-      ∙ three-parts old some.more end.more (total_text writes sweeping.depth);
-}
+-- a device write, its kind, and its cuts
+pub write-put : {B : Type 0} {facts : B → Facts} {torn : B → ℕ} (sweeping : Sweeping facts torn) (write at words : ℕ)
+    (kind : WriteKind) (before after given first next old new : List ℕ)
+    → given ≡ before → first ≡ before → next ≡ after
+    → IsMade sweeping write (record { at = at; words = words; before = given; after = after })
+    → IsWriteKind words first next kind
+    → AddsText (TextsInTurn
+    (IsCutOrNone sweeping write (record { at = at; words = words; before = given; after = after }))
+    (mask_count_of words)) old new
+    → AddsText (IsWrite sweeping write before after (record { words = words; kind = kind })) old new
+write-put sweeping write at words kind before after given first next old new same one two made is_kind texts =
+    let kind_is : IsWriteKind words before after kind =
+    subst (λ (m : List ℕ). IsWriteKind words m after kind) one
+    (subst (λ (m : List ℕ). IsWriteKind words first m kind) two is_kind) in
+    record {
+      more = texts.more;
+      holds = record {
+        at = at;
+        made = subst
+            (λ (m : List ℕ). IsMade sweeping write (record { at = at; words = words; before = m; after = after }))
+            same made;
+        each = subst
+            (λ (m : List ℕ). TextsInTurn
+            (IsCutOrNone sweeping write (record { at = at; words = words; before = m; after = after }))
+            (mask_count_of words) texts.more)
+            same texts.holds;
+        kind_is = kind_is;
+      };
+      all = texts.all;
+    }
 
 -- no device write yet
 pub writes-none : {B : Type 0} {facts : B → Facts} {torn : B → ℕ} (sweeping : Sweeping facts torn)
-    (all : List DeviceWrite) → all ≡ [] → WritesInTurn sweeping 0 all
+    (first : List ℕ) (all : List DeviceWrite) (old : List ℕ) → all ≡ []
+    → AddsText (WritesInTurn sweeping first 0 first all) old old
 unfolding WritesInTurn
-writes-none sweeping all is = is
+writes-none sweeping first all old is = record { more = []; holds = (refl, is, refl); all = sym (append-nil old) }
 
 -- one device write more
 pub writes-next : {B : Type 0} {facts : B → Facts} {torn : B → ℕ} (sweeping : Sweeping facts torn) (n : ℕ)
-    (before all : List DeviceWrite) (it : DeviceWrite)
-    → WritesInTurn sweeping n before → IsDeviceWrite sweeping (n + 1) it → all ≡ before ++ it ∷ []
-    → WritesInTurn sweeping (n + 1) all
+    (first between now : List ℕ) (earlier all : List DeviceWrite) (it : DeviceWrite) (old mid new : List ℕ)
+    → AddsText (WritesInTurn sweeping first n between earlier) old mid
+    → AddsText (IsWrite sweeping (n + 1) between now it) mid new → all ≡ earlier ++ it ∷ []
+    → AddsText (WritesInTurn sweeping first (n + 1) now all) old new
 unfolding WritesInTurn
-writes-next sweeping n before all it some next pushed =
-    let more : WritesInTurn sweeping (suc n) all = (before, it, some, next, pushed) in
+writes-next sweeping n first between now earlier all it old mid new some next pushed =
+    let more : AddsText (WritesInTurn sweeping first (suc n) now all) old new =
+    puts-both (WritesInTurn sweeping first n between earlier) (IsWrite sweeping (n + 1) between now it)
+    (WritesInTurn sweeping first (suc n) now all) old mid new
+    (λ one two writes last. (between, earlier, it, one, two, writes, last, pushed, refl)) some next in
     let same : suc n ≡ n + 1 = omega arith in
-    subst (λ (m : ℕ). WritesInTurn sweeping m all) same more
+    subst (λ (m : ℕ). AddsText (WritesInTurn sweeping first m now all) old new) same more
+
+-- all device writes, up to the first that the command doesn't make
+pub writes-end : {B : Type 0} {facts : B → Facts} {torn : B → ℕ} (sweeping : Sweeping facts torn) (n : ℕ)
+    (first now last : List ℕ) (all : List DeviceWrite) (old mid new : List ℕ)
+    → AddsText (WritesInTurn sweeping first n now all) old mid → length all ≡ n
+    → (LacksWrite sweeping (n + 1) × (now ≡ last)) ⊎ (n ≡ 2 ^ 32 - 1) → new ≡ mid
+    → AddsText (AreWrites sweeping first last all) old new
+writes-end sweeping n first now last all old mid new some counted done same = record {
+  more = some.more;
+  holds = record {
+    now = now;
+    each = subst (λ (m : ℕ). WritesInTurn sweeping first m now all some.more) (sym counted) some.holds;
+    done = subst (λ (m : ℕ). (LacksWrite sweeping (m + 1) × (now ≡ last)) ⊎ (m ≡ 2 ^ 32 - 1)) (sym counted) done;
+  };
+  all = same ∙ some.all;
+}
 
 -- the sections of a report, one after the other
 pub sections-put : {B : Type 0} {facts : B → Facts} {torn : B → ℕ} (sweeping : Sweeping facts torn)
-    (whole : List Turn) (old one two three new : List ℕ)
-    → AddsText (IsFound sweeping (codes "before") sweeping.prepare) old one
-    → AddsText (IsFound sweeping (codes "after") whole) one two → AddsText (AreKindsOrNone sweeping) two three
-    → AddsText (AreWrites sweeping) three new → AddsText (HasSections sweeping whole) old new
-sections-put sweeping whole old one two three new before after kinds cuts = record {
-  more = before.more ++ after.more ++ kinds.more ++ cuts.more;
-  holds = record {
-    before = before.more;
-    after = after.more;
-    kinds = kinds.more;
-    cuts = cuts.more;
-    is_before = before.holds;
-    is_after = after.holds;
-    are_kinds = kinds.holds;
-    are_cuts = cuts.holds;
-    text_is = refl;
-  };
-  all = cuts.all ∙ ap (λ (l : List ℕ). l ++ cuts.more)
-      (kinds.all ∙ ap (λ (l : List ℕ). l ++ kinds.more)
-      (after.all ∙ ap (λ (l : List ℕ). l ++ after.more) before.all))
-      ∙ four-parts old before.more after.more kinds.more cuts.more;
-}
+    (whole : List Turn) (prepared ended : Facts) (all shown : List DeviceWrite)
+    (last none cuts given old one two new : List ℕ)
+    → AddsText (IsFound sweeping (codes "before") sweeping.prepare prepared) old one
+    → AddsText (IsFound sweeping (codes "after") whole ended) one two
+    → last ≡ ended.words → none ≡ [] → shown ≡ all → given ≡ cuts
+    → AddsText (AreWrites sweeping prepared.words last all) none cuts
+    → AddsText (AreRest sweeping shown given) two new → AddsText (HasSections sweeping whole) old new
+sections-put sweeping whole prepared ended all shown last none cuts given old one two new before after ends empty are_all
+    is_given writes shown_rest = let rest : AddsText (AreRest sweeping all cuts) two new =
+    subst (λ (l : List ℕ). AddsText (AreRest sweeping all l) two new) is_given
+    (subst (λ (l : List DeviceWrite). AddsText (AreRest sweeping l given) two new) are_all shown_rest) in record {
+      more = before.more ++ after.more ++ rest.holds.kinds ++ writes.more ++ total_text (length all) sweeping.depth;
+      holds = record {
+        prepared = prepared;
+        ended = ended;
+        all = all;
+        before = before.more;
+        after = after.more;
+        kinds = rest.holds.kinds;
+        cuts = writes.more;
+        is_before = before.holds;
+        is_after = after.holds;
+        are_kinds = rest.holds.are_kinds;
+        are_cuts = subst (λ (m : List ℕ). AreWrites sweeping prepared.words m all writes.more) ends writes.holds;
+        text_is = refl;
+      };
+      all =
+          let total = total_text (length all) sweeping.depth in
+          let are : cuts ≡ writes.more = writes.all ∙ ap (λ (l : List ℕ). l ++ writes.more) empty in
+          let more : rest.more ≡ rest.holds.kinds ++ writes.more ++ total =
+          rest.holds.text_is ∙ ap (λ (l : List ℕ). rest.holds.kinds ++ l ++ total) are in
+          rest.all
+          ∙ ap (λ (l : List ℕ). l ++ rest.more) (after.all ∙ ap (λ (l : List ℕ). l ++ after.more) before.all)
+          ∙ ap (λ (l : List ℕ). old ++ before.more ++ after.more ++ l) more
+          ∙ sym (three-parts (old ++ before.more ++ after.more) rest.holds.kinds writes.more total)
+          ∙ five-parts old before.more after.more rest.holds.kinds writes.more total;
+    }
 
 -- the sections of a report that begins with them
 pub sections-first : {B : Type 0} {facts : B → Facts} {torn : B → ℕ} (sweeping : Sweeping facts torn)

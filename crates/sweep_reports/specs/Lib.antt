@@ -3,3 +3,4 @@ pub mod DeviceWrites
 pub mod Reporting
 pub mod ReportEndings
 pub mod ReportParts
+pub mod WrittenRuns

@@ -1,8 +1,12 @@
 -- What the parts of the program append to the report. No public clause names these.
-use Rattle.std.specs.Prelude.{◌≡◌, ℕ, Bool, true, false, List, ◌++◌}
+use Rattle.std.specs.Prelude.{◌≡◌, ℕ, List, ◌++◌, length}
 use Rattle.nvm_board.specs.Facts.{Facts}
 use Rattle.sweep_reports.specs.declared.plan.Plan.{Plan}
-use Rattle.sweep_reports.specs.Reporting.{Sweeping, IsCutOrNone, LacksWrite}
+use Rattle.sweep_reports.specs.declared.made_write.MadeWrite.{MadeWrite}
+use Rattle.sweep_reports.specs.Reporting.{AreKindsOrNone, Sweeping}
+use Rattle.sweep_reports.specs.Printing.{total_text}
+use Rattle.sweep_reports.specs.declared.device_writes.DeviceWrite.{DeviceWrite}
+use Rattle.sweep_reports.specs.WrittenRuns.{WrittenRun}
 
 -- the sweep of a plan
 abbrev pub sweeping_of : {B : Type 0} (facts : B → Facts) (torn : B → ℕ) → Plan B → Sweeping facts torn
@@ -22,10 +26,18 @@ pub record AddsText (Is : List ℕ → Type 0) (old new : List ℕ) : Type 0 whe
   pub holds : Is more
   pub all : new ≡ old ++ more
 
--- A mask after the first: its cut was appended if it is of the part. If it doesn't happen, the command doesn't make
--- the write, and nothing was appended.
-abbrev pub AddsMaskText : {B : Type 0} {facts : B → Facts} {torn : B → ℕ} → Sweeping facts torn → ℕ → ℕ → ℕ → Bool →
-    List ℕ → List ℕ → Type 0
-AddsMaskText sweeping write words i true old new = AddsText (IsCutOrNone sweeping write words i) old new
-AddsMaskText sweeping write words i false old new =
-    LacksWrite sweeping write × (new ≡ old)
+-- the device write of a cut command, from the memory before it
+abbrev pub run_of : {B : Type 0} (facts : B → Facts) → List ℕ → MadeWrite B → WrittenRun
+run_of facts before made = record {
+  at = made.at;
+  words = made.words;
+  before = before;
+  after = (facts made.after).words;
+}
+
+-- the end of the report: the kinds of the device writes, the text of the cuts, and the number of writes
+pub record AreRest {B : Type 0} {facts : B → Facts} {torn : B → ℕ} (sweeping : Sweeping facts torn)
+    (all : List DeviceWrite) (cuts : List ℕ) (text : List ℕ) : Type 0 where
+  pub kinds : List ℕ
+  pub are_kinds : AreKindsOrNone sweeping all kinds
+  pub text_is : text ≡ kinds ++ cuts ++ total_text (length all) sweeping.depth

@@ -1,6 +1,6 @@
 -- The report of a sweep, and its parts.
-use Rattle.std.specs.Prelude.{◌≡◌, ◌⊎◌, ◌≤◌, ◌<◌, ◌+◌, ◌-◌, ◌^◌, ℕ, zero, suc, Bool, true, false, List, [], ◌∷◌}
-use Rattle.std.specs.Prelude.{◌++◌, All, codes, Option}
+use Rattle.std.specs.Prelude.{◌≡◌, ◌⊎◌, ◌≤◌, ◌+◌, ◌-◌, ◌^◌, ℕ, zero, suc, List, [], ◌∷◌}
+use Rattle.std.specs.Prelude.{◌++◌, All, codes, length, Option}
 use Rattle.std.specs.Io.KnownBytes.{Appends}
 use Rattle.nvm_board.specs.Facts.{Facts}
 use Rattle.bench_turns.specs.declared.turn.Turn.{Turn}
@@ -17,6 +17,7 @@ use Rattle.card_sweeps.specs.declared.steps.Step.TheVariants.{Block}
 use Rattle.card_sweeps.specs.Asking.{IsRead, asked_of}
 use Rattle.card_sweeps.specs.PartTexts.{IsFirstPart, IsOfPart}
 use Rattle.sweep_reports.specs.DeviceWrites.{IsWriteKind, kinds_text}
+use Rattle.sweep_reports.specs.WrittenRuns.{IsMasked, WrittenRun}
 use Rattle.sweep_reports.specs.Printing.{cut_head, results_text, stage_head, total_text}
 use Rattle.card_sweeps.specs.Turning.{AreTurns}
 
@@ -44,17 +45,19 @@ pub record AreResults (looks head : List ℕ) (depth : ℕ) (probe : List Turn) 
     pub all : CountsToFull (AreAllBehind depth probe board) (AreFirstBehind depth probe board) runs seen
     pub text_is : text ≡ results_text looks head seen
 
--- a cut at this device write of `words` words, with mask number i, counted from 0
+-- A cut at this device write, with mask number i, counted from 0. It leaves the words of that mask new.
 pub record IsCutText {B : Type 0} {facts : B → Facts} {torn : B → ℕ} (sweeping : Sweeping facts torn)
-    (write words i : ℕ) (text : List ℕ) : Type 0 where
+    (write : ℕ) (run : WrittenRun) (i : ℕ) (text : List ℕ) : Type 0 where
   pub left : Facts
-  pub cut : CutsCommand write (mask_of words i) sweeping.board sweeping.prepare sweeping.command left
-  pub results : AreResults sweeping.looks (cut_head write i (mask_of words i)) sweeping.depth sweeping.probe left text
+  pub cut : CutsCommand write (mask_of run.words i) sweeping.board sweeping.prepare sweeping.command left
+  pub masked : IsMasked run i left.words
+  pub results : AreResults sweeping.looks (cut_head write i (mask_of run.words i)) sweeping.depth sweeping.probe left
+      text
 
 -- A cut is printed if it is of the part.
 pub record IsCutOrNone {B : Type 0} {facts : B → Facts} {torn : B → ℕ} (sweeping : Sweeping facts torn)
-    (write words i : ℕ) (text : List ℕ) : Type 0 where
-  pub own : IsOfPart sweeping.part write i → IsCutText sweeping write words i text
+    (write : ℕ) (run : WrittenRun) (i : ℕ) (text : List ℕ) : Type 0 where
+  pub own : IsOfPart sweeping.part write i → IsCutText sweeping write run i text
   pub other : (IsOfPart sweeping.part write i → ⊥) → text ≡ []
 
 -- the concatenation of `n` texts, in order
@@ -63,110 +66,82 @@ TextsInTurn IsText zero text = text ≡ []
 TextsInTurn IsText (suc n) text =
     (before last : List ℕ) × TextsInTurn IsText n before × IsText n last × (text ≡ before ++ last)
 
--- The torn write has this many words, as the board after the cut with the first mask reports.
-pub record HasWords {B : Type 0} {facts : B → Facts} {torn : B → ℕ} (sweeping : Sweeping facts torn)
-    (write words : ℕ) : Type 0 where
-  pub left : B
-  pub cut : CutsCommand write 0 sweeping.board sweeping.prepare sweeping.command (facts left)
-  pub told : words ≡ words_tried (torn left)
-
 -- The command doesn't make this device write, so no cut at it happens (IsUnmade).
 abbrev pub LacksWrite : {B : Type 0} {facts : B → Facts} {torn : B → ℕ} → Sweeping facts torn → ℕ → Type 0
 LacksWrite sweeping write = IsUnmade write sweeping.board sweeping.prepare sweeping.command
 
--- each cut of a device write, with each mask for its number of words
+-- The command makes this device write. Cuts with the first mask and the second leave the memories before and after it.
+-- The board after the first one reports the number of words.
+pub record IsMade {B : Type 0} {facts : B → Facts} {torn : B → ℕ} (sweeping : Sweeping facts torn) (write : ℕ)
+    (run : WrittenRun) : Type 0 where
+  pub none : B
+  pub cut : CutsCommand write 0 sweeping.board sweeping.prepare sweeping.command (facts none)
+  pub words_are : run.words ≡ words_tried (torn none)
+  pub none_new : IsMasked run 0 (facts none).words
+  pub all : Facts
+  pub whole : CutsCommand write (mask_of run.words 1) sweeping.board sweeping.prepare sweeping.command all
+  pub after_is : run.after ≡ all.words
+  pub all_new : IsMasked run 1 run.after
+  pub inside : run.at + run.words ≤ length run.before
+
+-- A device write between these memories: its kind, and each cut of it, with each mask for its number of words.
 pub record IsWrite {B : Type 0} {facts : B → Facts} {torn : B → ℕ} (sweeping : Sweeping facts torn) (write : ℕ)
-    (text : List ℕ) : Type 0 where
-  pub words : ℕ
-  pub has_words : HasWords sweeping write words
-  pub each : TextsInTurn (IsCutOrNone sweeping write words) (mask_count_of words) text
+    (before after : List ℕ) (it : DeviceWrite) (text : List ℕ) : Type 0 where
+  pub at : ℕ
+  pub made : IsMade sweeping write (record { at = at; words = it.words; before = before; after = after })
+  pub each : TextsInTurn
+      (IsCutOrNone sweeping write (record { at = at; words = it.words; before = before; after = after }))
+      (mask_count_of it.words) text
+  pub kind_is : IsWriteKind it.words before after it.kind
 
--- The command doesn't make this write. A cut with one of the masks shows this, and no further mask is tried.
-pub record IsUnmadeWrite {B : Type 0} {facts : B → Facts} {torn : B → ℕ} (sweeping : Sweeping facts torn) (write : ℕ)
-    (text : List ℕ) : Type 0 where
-  pub words : ℕ
-  pub masks : ℕ
-  pub few : masks < mask_count_of words
-  pub has_words : 1 ≤ masks → HasWords sweeping write words
-  pub each : TextsInTurn (IsCutOrNone sweeping write words) masks text
-  pub unmade : LacksWrite sweeping write
+-- The first `n` device writes, in order. The first one begins with the memory `first`. Each other one begins with the
+-- memory that the one before it left. The last one leaves the memory `now`.
+unfoldable pub WritesInTurn : {B : Type 0} {facts : B → Facts} {torn : B → ℕ} → Sweeping facts torn → List ℕ → ℕ
+    → List ℕ → List DeviceWrite → List ℕ → Type 0
+WritesInTurn sweeping first zero now all text = (now ≡ first) × (all ≡ []) × (text ≡ [])
+WritesInTurn sweeping first (suc n) now all text = (between : List ℕ) × (earlier : List DeviceWrite)
+    × (it : DeviceWrite) × (before last : List ℕ) × WritesInTurn sweeping first n between earlier before
+    × IsWrite sweeping (n + 1) between now it last × (all ≡ earlier ++ it ∷ []) × (text ≡ before ++ last)
 
--- the cuts of a write, made by the command or not
-abbrev pub IsWriteIf : {B : Type 0} {facts : B → Facts} {torn : B → ℕ} → Sweeping facts torn → ℕ → Bool → List ℕ →
-    Type 0
-IsWriteIf sweeping write true text = IsWrite sweeping write text
-IsWriteIf sweeping write false text = IsUnmadeWrite sweeping write text
+-- All device writes of the command, from the memory `first` to the memory `last`: the command makes no other one, or
+-- there are 4,294,967,295 of them.
+pub record AreWrites {B : Type 0} {facts : B → Facts} {torn : B → ℕ} (sweeping : Sweeping facts torn)
+    (first last : List ℕ) (all : List DeviceWrite) (text : List ℕ) : Type 0 where
+  pub now : List ℕ
+  pub each : WritesInTurn sweeping first (length all) now all text
+  pub done : (LacksWrite sweeping (length all + 1) × (now ≡ last)) ⊎ (length all ≡ 2 ^ 32 - 1)
 
--- each device write, up to the first that the command doesn't make, and the number of them
-pub record AreWrites {B : Type 0} {facts : B → Facts} {torn : B → ℕ} (sweeping : Sweeping facts torn) (text : List ℕ)
-    : Type 0 where
-  pub writes : ℕ
-  pub each : List ℕ
-  pub last : List ℕ
-  pub are_writes : TextsInTurn (λ n. IsWrite sweeping (n + 1)) writes each
-  pub done : IsUnmadeWrite sweeping (writes + 1) last ⊎ ((writes ≡ 2 ^ 32 - 1) × (last ≡ []))
-  pub text_is : text ≡ each ++ last ++ total_text writes sweeping.depth
-
--- A device write: the number of words that the board reports after the cut with the first mask, and what the write does
--- to the memory. Cuts with the first mask and the second leave the memories before and after it. (No clause says which
--- words of the write a mask makes new.)
-pub record IsDeviceWrite {B : Type 0} {facts : B → Facts} {torn : B → ℕ} (sweeping : Sweeping facts torn) (write : ℕ)
-    (it : DeviceWrite) : Type 0 where
-  pub before : B
-  pub cut : CutsCommand write 0 sweeping.board sweeping.prepare sweeping.command (facts before)
-  pub words_are : it.words ≡ words_tried (torn before)
-  pub after : B
-  pub whole : CutsCommand write (mask_of it.words 1) sweeping.board sweeping.prepare sweeping.command (facts after)
-  pub kind_is : IsWriteKind it.words (facts before).words (facts after).words it.kind
-
--- the first `n` device writes, in order
-unfoldable pub WritesInTurn : {B : Type 0} {facts : B → Facts} {torn : B → ℕ} → Sweeping facts torn → ℕ → List
-    DeviceWrite → Type 0
-WritesInTurn sweeping zero all = all ≡ []
-WritesInTurn sweeping (suc n) all = (before : List DeviceWrite) × (it : DeviceWrite) × WritesInTurn sweeping n before
-    × IsDeviceWrite sweeping (n + 1) it × (all ≡ before ++ it ∷ [])
-
--- all device writes of the command
-pub record AreDeviceWrites {B : Type 0} {facts : B → Facts} {torn : B → ℕ} (sweeping : Sweeping facts torn)
-    (all : List DeviceWrite) : Type 0 where
-  pub writes : ℕ
-  pub each : WritesInTurn sweeping writes all
-  pub done : LacksWrite sweeping (writes + 1) ⊎ (writes ≡ 2 ^ 32 - 1)
-
--- the kinds of the device writes
-pub record AreKinds {B : Type 0} {facts : B → Facts} {torn : B → ℕ} (sweeping : Sweeping facts torn) (text : List ℕ)
-    : Type 0 where
-  pub all : List DeviceWrite
-  pub are : AreDeviceWrites sweeping all
-  pub text_is : text ≡ kinds_text 1 all
-
--- Only the first part has the kinds.
+-- Only the first part has the kinds of the device writes.
 pub record AreKindsOrNone {B : Type 0} {facts : B → Facts} {torn : B → ℕ} (sweeping : Sweeping facts torn)
-    (text : List ℕ) : Type 0 where
-  pub first : IsFirstPart sweeping.part → AreKinds sweeping text
+    (all : List DeviceWrite) (text : List ℕ) : Type 0 where
+  pub first : IsFirstPart sweeping.part → text ≡ kinds_text 1 all
   pub later : (IsFirstPart sweeping.part → ⊥) → text ≡ []
 
--- The items of these turns, and the result of a power-on and the probe after them. The sweep sets no cut for them. A
+-- The items of these turns, the board that they leave, and the result of a power-on and the probe on it. The sweep sets no cut for them. A
 -- cut that was pending on the board may come in them; on the board of the sweep program none is pending (swept_board).
 pub record IsFound {B : Type 0} {facts : B → Facts} {torn : B → ℕ} (sweeping : Sweeping facts torn) (stage : List ℕ)
-    (turns : List Turn) (text : List ℕ) : Type 0 where
+    (turns : List Turn) (left : Facts) (text : List ℕ) : Type 0 where
   pub trace : List Item
-  pub left : Facts
   pub played : PlaysOn sweeping.board turns trace left
   pub results : AreResults sweeping.looks (stage_head stage trace) 0 sweeping.probe left text
 
--- What is found without the command, what is found after it, the kinds of its writes, and each cut of it.
+-- What is found without the command, what is found after it, the kinds of its writes, each cut of it, and the number of
+-- writes. The first write begins with the memory of the prepared board. The last one leaves the memory that the whole
+-- command leaves.
 pub record HasSections {B : Type 0} {facts : B → Facts} {torn : B → ℕ} (sweeping : Sweeping facts torn)
     (whole : List Turn) (text : List ℕ) : Type 0 where
+  pub prepared : Facts
+  pub ended : Facts
+  pub all : List DeviceWrite
   pub before : List ℕ
   pub after : List ℕ
   pub kinds : List ℕ
   pub cuts : List ℕ
-  pub is_before : IsFound sweeping (codes "before") sweeping.prepare before
-  pub is_after : IsFound sweeping (codes "after") whole after
-  pub are_kinds : AreKindsOrNone sweeping kinds
-  pub are_cuts : AreWrites sweeping cuts
-  pub text_is : text ≡ before ++ after ++ kinds ++ cuts
+  pub is_before : IsFound sweeping (codes "before") sweeping.prepare prepared before
+  pub is_after : IsFound sweeping (codes "after") whole ended after
+  pub are_kinds : AreKindsOrNone sweeping all kinds
+  pub are_cuts : AreWrites sweeping prepared.words ended.words all cuts
+  pub text_is : text ≡ before ++ after ++ kinds ++ cuts ++ total_text (length all) sweeping.depth
 
 -- the report of a sweep on a board
 pub record IsReport {B : Type 0} (facts : B → Facts) (torn : B → ℕ) (board : Facts) (script : SweepScript)

@@ -102,7 +102,7 @@ fn is_in_journal(at: usize) -> bool
 }
 
 /// Returns the lowest address at which two memories differ.
-fn first_change(left: &[u32], right: &[u32]) -> Option<usize>
+pub(crate) fn first_change(left: &[u32], right: &[u32]) -> Option<usize>
     ensures { IsFirstChange left.now right.now result }
 {
     for at in 0..left.len().min(right.len()) {

@@ -193,7 +193,7 @@ pub fn push_results(
 pub fn push_total(
     alloc: Global,
     text: &mut String,
-    writes: u32,
+    writes: usize,
     depth: u8,
 ) -> Result<(), AllocError>
     ensures { OnOk result (string_bytes text.new ≡ string_bytes text.old ++ total_text writes depth) }

@@ -1,16 +1,19 @@
 //! The plan of a sweep, and the parts of its report.
-ghost use Rattle.std.specs.Prelude.{◌≡◌, ◌≤◌, ◌<◌, ◌/◌, ◌-◌, ℕ, OnOk, IfOk, IfSome, IfNone, string_bytes};
+ghost use Rattle.std.specs.Prelude.{◌≡◌, ◌≤◌, ◌<◌, ◌+◌, length, OnOk, IfOk, IfSome, IfNone, string_bytes};
 ghost use Rattle.command_base.specs.Finding.{HasCard};
 ghost use Rattle.card_sweeps.specs.Masks.{mask_count_of};
 ghost use Rattle.card_sweeps.specs.Sweeps.{CutsCommand};
 ghost use Rattle.sweep_reports.specs.Printing.{cut_head};
-ghost use Rattle.sweep_reports.specs.ReportParts.{AddsText, AddsMaskText, sweeping_of};
-ghost use Rattle.sweep_reports.specs.Reporting.{AreDeviceWrites, AreKindsOrNone, AreResults, AreWrites, IsCutOrNone};
-ghost use Rattle.sweep_reports.specs.Reporting.{IsDeviceWrite, IsFound, IsWriteIf, LacksWrite};
+ghost use Rattle.sweep_reports.specs.ReportParts.{AddsText, run_of, sweeping_of};
+ghost use Rattle.sweep_reports.specs.Reporting.{AreKindsOrNone, AreResults, AreWrites, IsCutOrNone, IsFound, IsMade};
+ghost use Rattle.sweep_reports.specs.Reporting.{LacksWrite, TextsInTurn};
 
-use crate::device_writes::{DeviceWrite, WriteKind, push_kinds};
-use crate::lines::{cut_head, push_results, push_total, stage_head};
+use crate::device_writes::{DeviceWrite, WriteKind, first_change, push_kinds};
+use crate::lines::{cut_head, push_results, stage_head};
+use crate::made_write::MadeWrite;
 use crate::readable_board::ReadableBoard;
+use crate::stop::Stop;
+use crate::written_runs::{is_masked, is_same, is_write};
 use bench_turns::{Turn, TurnPlayer};
 use card_sweeps::{
     SweepPart, Sweepable, cut_at, mask_at, mask_count, play_copy, sweep_behind, words_to_try,
@@ -48,7 +51,7 @@ where
     push_results(plan.alloc, text, plan.looks, head, &found.seen)
 }
 
-/// Appends the result of the probe after turns on a copy of the board.
+/// Appends the result of the probe after turns on a copy of the board. Returns that copy as the turns left it.
 ///
 /// # Errors
 /// There is too little memory.
@@ -57,16 +60,17 @@ pub fn push_stage<P: TurnPlayer + Drop>(
     stage: &str,
     turns: &[Turn<'_>],
     text: &mut String,
-) -> Result<(), AllocError>
+) -> Result<P::Board, Stop>
 where
     P::Board: ReadableBoard + Drop,
-    ensures { OnOk result (HasCard (P.Board.facts plan.now.board.now).words
-        → AddsText (IsFound (sweeping_of P.Board.facts P.Board.torn plan.now) stage.now turns.now)
+    ensures { IfOk result (λ left. HasCard (P.Board.facts plan.now.board.now).words
+        → AddsText (IsFound (sweeping_of P.Board.facts P.Board.torn plan.now) stage.now turns.now (P.Board.facts left))
         (string_bytes text.old) (string_bytes text.new)) }
 {
     let (trace, left) = play_copy::<P>(plan.alloc, plan.board, turns)?;
     let head = stage_head(plan.alloc, stage, &trace)?;
-    push_behind::<P>(plan, &left, 0, &head, text)
+    push_behind::<P>(plan, &left, 0, &head, text)?;
+    Ok(left)
 }
 
 /// Appends the results of a cut that left this board.
@@ -89,187 +93,209 @@ where
     push_behind::<P>(plan, left, plan.depth, &head, text)
 }
 
-/// Appends the cut of a device write with the first mask, if it is of the part.
-/// That cut left the board `left`.
-fn push_first<P: TurnPlayer + Drop>(
-    plan: &Plan<'_, P::Board>,
-    write: u32,
-    left: &P::Board,
-    text: &mut String,
-) -> Result<(), AllocError>
-where
-    P::Board: ReadableBoard + Drop,
-    ensures { OnOk result (CutsCommand write 0 (P.Board.facts plan.now.board.now) plan.now.prepare.now
-        plan.now.command.now (P.Board.facts left.now) → (words : ℕ)
-        → AddsText (IsCutOrNone (sweeping_of P.Board.facts P.Board.torn plan.now) write words 0)
-        (string_bytes text.old) (string_bytes text.new)) }
-{
-    if !plan.part.has(write, 0) {
-        return Ok(());
-    }
-    push_cut::<P>(plan, write, 0, 0, left, text)
-}
-
-/// Appends the cut of a device write with mask `i`, if it is of the part.
-/// Returns false if that cut doesn't happen.
-fn push_mask<P: TurnPlayer + Drop>(
+/// Returns the address of the first word of a device write of `words` words, between these memories. A cut that makes
+/// one word new shows it. The caller compares the memories that all cuts leave.
+fn first_address<P: TurnPlayer + Drop>(
     plan: &Plan<'_, P::Board>,
     write: u32,
     words: u8,
-    i: u8,
-    text: &mut String,
-) -> Result<bool, AllocError>
+    before: &[u32],
+    after: &[u32],
+) -> Result<usize, Stop>
 where
     P::Board: ReadableBoard + Drop,
     requires write { 1 ≤ write }
     requires words { words ≤ 16 }
-    requires later { 1 ≤ i }
-    requires place { i < mask_count_of words }
-    ensures { IfOk result (λ came. HasCard (P.Board.facts plan.now.board.now).words
-        → AddsMaskText (sweeping_of P.Board.facts P.Board.torn plan.now) write words i came
-        (string_bytes text.old) (string_bytes text.new)) }
 {
-    if !plan.part.has(write, i) {
-        return Ok(true);
+    let Some(changed) = first_change(before, after) else {
+        return Ok(0);
+    };
+    if words < 2 {
+        return Ok(changed);
     }
-    let mask = mask_at(words, i);
-    let Some(left) = cut_at::<P>(
+    for i in 0..words {
+        let left = made_cut::<P>(plan, write, mask_at(words, i + 2))?;
+        if left.words().get(changed) != before.get(changed) {
+            return Ok(changed.saturating_sub(usize::from(i)));
+        }
+    }
+    Err(Stop::Differs)
+}
+
+/// Returns the board after a cut at a device write that the command makes.
+fn made_cut<P: TurnPlayer + Drop>(
+    plan: &Plan<'_, P::Board>,
+    write: u32,
+    mask: u16,
+) -> Result<P::Board, Stop>
+where
+    P::Board: ReadableBoard + Drop,
+    requires { 1 ≤ write }
+    ensures { IfOk result (λ left. HasCard (P.Board.facts plan.now.board.now).words
+        → CutsCommand write mask (P.Board.facts plan.now.board.now) plan.now.prepare.now plan.now.command.now
+        (P.Board.facts left)) }
+{
+    match cut_at::<P>(
         plan.alloc,
         plan.board,
         plan.prepare,
         plan.command,
         write,
         mask,
-    )?
-    else {
-        return Ok(false);
-    };
-    push_cut::<P>(plan, write, i, mask, &left, text)?;
-    Ok(true)
+    )? {
+        Some(left) => Ok(left),
+        None => Err(Stop::Differs),
+    }
 }
 
-/// Appends the cuts of a device write that are of the part.
-/// Returns true if the command makes that write.
-fn push_write<P: TurnPlayer + Drop>(
+/// Returns this device write of the command, which begins with the memory `before`.
+/// Returns `None` if the command makes fewer writes.
+fn made_write<P: TurnPlayer + Drop>(
     plan: &Plan<'_, P::Board>,
     write: u32,
-    text: &mut String,
-) -> Result<bool, AllocError>
+    before: &[u32],
+) -> Result<Option<MadeWrite<P::Board>>, Stop>
 where
     P::Board: ReadableBoard + Drop,
     requires { 1 ≤ write }
-    ensures { IfOk result (λ made. HasCard (P.Board.facts plan.now.board.now).words
-        → AddsText (IsWriteIf (sweeping_of P.Board.facts P.Board.torn plan.now) write made)
-        (string_bytes text.old) (string_bytes text.new)) }
+    ensures words { IfOk result (λ made. IfSome made (λ it. it.words ≤ 16)) }
+    ensures inside { IfOk result (λ made. IfSome made (λ it. it.at + it.words ≤ length before.now)) }
+    ensures made { IfOk result (λ made. IfSome made (λ it. HasCard (P.Board.facts plan.now.board.now).words
+        → IsMade (sweeping_of P.Board.facts P.Board.torn plan.now) write (run_of P.Board.facts before.now it))) }
+    ensures unmade { IfOk result (λ made. IfNone made (HasCard (P.Board.facts plan.now.board.now).words
+        → LacksWrite (sweeping_of P.Board.facts P.Board.torn plan.now) write)) }
 {
-    let Some(left) = cut_at::<P>(plan.alloc, plan.board, plan.prepare, plan.command, write, 0)?
+    let Some(none) = cut_at::<P>(plan.alloc, plan.board, plan.prepare, plan.command, write, 0)?
     else {
-        return Ok(false);
+        return Ok(None);
     };
-    let words = words_to_try(left.torn_words());
-    push_first::<P>(plan, write, &left, text)?;
-    for i in 1..mask_count(words) {
-        if !push_mask::<P>(plan, write, words, i, text)? {
-            return Ok(false);
-        }
+    let words = words_to_try(none.torn_words());
+    let after = made_cut::<P>(plan, write, mask_at(words, 1))?;
+    let at = first_address::<P>(plan, write, words, before, after.words())?;
+    if !is_write(at, words, before, none.words(), after.words()) {
+        return Err(Stop::Differs);
     }
-    Ok(true)
+    Ok(Some(MadeWrite { after, words, at }))
 }
 
-/// Appends the cuts of the part, and the number of device writes.
-///
-/// # Errors
-/// There is too little memory.
-pub fn push_writes<P: TurnPlayer + Drop>(
-    plan: &Plan<'_, P::Board>,
-    progress: &impl Eprint,
-    text: &mut String,
-) -> Result<(), AllocError>
-where
-    P::Board: ReadableBoard + Drop,
-    ensures { OnOk result (HasCard (P.Board.facts plan.now.board.now).words
-        → AddsText (AreWrites (sweeping_of P.Board.facts P.Board.torn plan.now))
-        (string_bytes text.old) (string_bytes text.new)) }
-{
-    for writes in 0..u32::MAX {
-        // The progress is for people: the sweep continues even if standard error fails.
-        let _ = progress.eprintln(format_args!("write {}", writes + 1));
-        if !push_write::<P>(plan, writes + 1, text)? {
-            return push_total(plan.alloc, text, writes, plan.depth);
-        }
-    }
-    push_total(plan.alloc, text, u32::MAX, plan.depth)
-}
-
-/// Returns this device write of the command. Returns `None` if the command makes fewer writes.
-fn device_write<P: TurnPlayer + Drop>(
+/// Appends the cut of a device write with mask number `i`, if it is of the part.
+fn push_mask<P: TurnPlayer + Drop>(
     plan: &Plan<'_, P::Board>,
     write: u32,
-) -> Result<Option<DeviceWrite>, AllocError>
+    before: &[u32],
+    made: &MadeWrite<P::Board>,
+    i: u8,
+    text: &mut String,
+) -> Result<(), Stop>
+where
+    P::Board: ReadableBoard + Drop,
+    requires write { 1 ≤ write }
+    requires words { made.now.words ≤ 16 }
+    requires inside { made.now.at + made.now.words ≤ length before.now }
+    requires place { i < mask_count_of made.now.words }
+    ensures { OnOk result (HasCard (P.Board.facts plan.now.board.now).words
+        → AddsText (IsCutOrNone (sweeping_of P.Board.facts P.Board.torn plan.now) write
+        (run_of P.Board.facts before.now made.now) i)
+        (string_bytes text.old) (string_bytes text.new)) }
+{
+    if !plan.part.has(write, i) {
+        return Ok(());
+    }
+    let mask = mask_at(made.words, i);
+    let left = made_cut::<P>(plan, write, mask)?;
+    let after = made.after.words();
+    if !is_masked(made.at, made.words, i, before, after, left.words()) {
+        return Err(Stop::Differs);
+    }
+    push_cut::<P>(plan, write, i, mask, &left, text)?;
+    Ok(())
+}
+
+/// Appends the cuts of a device write that are of the part, and returns the write.
+/// Returns `None` if the command makes fewer writes.
+fn push_write<P: TurnPlayer + Drop>(
+    plan: &Plan<'_, P::Board>,
+    write: u32,
+    before: &[u32],
+    text: &mut String,
+) -> Result<Option<MadeWrite<P::Board>>, Stop>
 where
     P::Board: ReadableBoard + Drop,
     requires { 1 ≤ write }
     ensures made { IfOk result (λ made. IfSome made (λ it. HasCard (P.Board.facts plan.now.board.now).words
-        → IsDeviceWrite (sweeping_of P.Board.facts P.Board.torn plan.now) write it)) }
+        → IsMade (sweeping_of P.Board.facts P.Board.torn plan.now) write (run_of P.Board.facts before.now it))) }
+    ensures text { IfOk result (λ made. IfSome made (λ it. HasCard (P.Board.facts plan.now.board.now).words
+        → AddsText (TextsInTurn (IsCutOrNone (sweeping_of P.Board.facts P.Board.torn plan.now) write
+        (run_of P.Board.facts before.now it)) (mask_count_of it.words))
+        (string_bytes text.old) (string_bytes text.new))) }
     ensures unmade { IfOk result (λ made. IfNone made (HasCard (P.Board.facts plan.now.board.now).words
         → LacksWrite (sweeping_of P.Board.facts P.Board.torn plan.now) write)) }
+    ensures same { IfOk result (λ made. IfNone made (string_bytes text.new ≡ string_bytes text.old)) }
 {
-    let Some(unwritten) = cut_at::<P>(plan.alloc, plan.board, plan.prepare, plan.command, write, 0)?
-    else {
+    let Some(made) = made_write::<P>(plan, write, before)? else {
         return Ok(None);
     };
-    let words = words_to_try(unwritten.torn_words());
-    let Some(written) = cut_at::<P>(
-        plan.alloc,
-        plan.board,
-        plan.prepare,
-        plan.command,
-        write,
-        mask_at(words, 1),
-    )?
-    else {
-        return Ok(None);
-    };
-    let kind = WriteKind::of(words, unwritten.words(), written.words());
-    Ok(Some(DeviceWrite { words, kind }))
+    for i in 0..mask_count(made.words) {
+        push_mask::<P>(plan, write, before, &made, i, text)?;
+    }
+    Ok(Some(made))
 }
 
-/// Returns the device writes of the command.
-fn device_writes<P: TurnPlayer + Drop>(
+/// Appends the cuts of the part, and returns the device writes of the command. They begin with the memory of `prepared`,
+/// and the last one leaves the memory `ended`.
+///
+/// # Errors
+/// There is too little memory, or a memory is another than the runs before show.
+pub fn push_writes<P: TurnPlayer + Drop>(
     plan: &Plan<'_, P::Board>,
-) -> Result<Vec<DeviceWrite>, AllocError>
+    prepared: P::Board,
+    ended: &[u32],
+    progress: &impl Eprint,
+    text: &mut String,
+) -> Result<Vec<DeviceWrite>, Stop>
 where
     P::Board: ReadableBoard + Drop,
-    ensures { IfOk result (λ made. HasCard (P.Board.facts plan.now.board.now).words
-        → AreDeviceWrites (sweeping_of P.Board.facts P.Board.torn plan.now) made.items) }
+    ensures { IfOk result (λ all. HasCard (P.Board.facts plan.now.board.now).words
+        → AddsText (AreWrites (sweeping_of P.Board.facts P.Board.torn plan.now) (P.Board.facts prepared).words
+        ended.now all.items) (string_bytes text.old) (string_bytes text.new)) }
 {
-    let mut made = Vec::new(plan.alloc);
+    let mut all = Vec::new(plan.alloc);
+    let mut before = prepared;
     for writes in 0..u32::MAX {
-        let Some(write) = device_write::<P>(plan, writes + 1)? else {
-            return Ok(made);
+        // The progress is for people: the sweep continues even if standard error fails.
+        let _ = progress.eprintln(format_args!("write {}", writes + 1));
+        let memory = before.words();
+        let Some(made) = push_write::<P>(plan, writes + 1, memory, text)? else {
+            return if is_same(memory, ended) {
+                Ok(all)
+            } else {
+                Err(Stop::Differs)
+            };
         };
-        made.push(write)?;
+        let kind = WriteKind::of(made.words, memory, made.after.words());
+        all.push(DeviceWrite {
+            words: made.words,
+            kind,
+        })?;
+        before = made.after;
     }
-    Ok(made)
+    Ok(all)
 }
 
 /// Appends the kinds of the device writes, if this is the first part.
 ///
 /// # Errors
 /// There is too little memory.
-pub fn push_first_part<P: TurnPlayer + Drop>(
-    plan: &Plan<'_, P::Board>,
+pub fn push_first_part<B: ReadableBoard>(
+    plan: &Plan<'_, B>,
+    all: &[DeviceWrite],
     text: &mut String,
 ) -> Result<(), AllocError>
-where
-    P::Board: ReadableBoard + Drop,
-    ensures { OnOk result (HasCard (P.Board.facts plan.now.board.now).words
-        → AddsText (AreKindsOrNone (sweeping_of P.Board.facts P.Board.torn plan.now))
+    ensures { OnOk result (AddsText (AreKindsOrNone (sweeping_of B.facts B.torn plan.now) all.now)
         (string_bytes text.old) (string_bytes text.new)) }
 {
     if !plan.part.is_first() {
         return Ok(());
     }
-    let made = device_writes::<P>(plan)?;
-    push_kinds(plan.alloc, text, &made)
+    push_kinds(plan.alloc, text, all)
 }

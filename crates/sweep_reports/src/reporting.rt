@@ -1,13 +1,16 @@
 //! The report of a sweep.
 ghost use Rattle.std.specs.Prelude.{◌≡◌, ◌≢◌, ◌++◌, ◌∷◌, [], OnOk, IfOk, IfErr, string_bytes};
 ghost use Rattle.command_base.specs.Finding.{HasCard};
-ghost use Rattle.sweep_reports.specs.ReportParts.{AddsText, sweeping_of};
+ghost use Rattle.sweep_reports.specs.ReportParts.{AddsText, AreRest, sweeping_of};
 ghost use Rattle.sweep_reports.specs.Reporting.{HasSections, IsReport, WritesReport};
 ghost use Rattle.sweep_reports.specs.ReportEndings.{SweepStopsBy};
 ghost use Rattle.card_sweeps.specs.Turning.{AreTurns};
 
+use crate::device_writes::DeviceWrite;
+use crate::lines::push_total;
 use crate::plan::{Plan, push_first_part, push_stage, push_writes};
 use crate::readable_board::ReadableBoard;
+use crate::stop::Stop;
 use bench_lines::write_line;
 use bench_turns::{Turn, TurnPlayer};
 use card_sweeps::{Step, SweepFault, SweepPart, SweepScript, read_script, turns_of};
@@ -52,23 +55,40 @@ fn script_turns(alloc: Global, script: &SweepScript) -> Result<ScriptTurns<'_>, 
     })
 }
 
+/// Appends the kinds of the device writes, the text of the cuts, and the number of writes.
+fn push_rest<B: ReadableBoard>(
+    plan: &Plan<'_, B>,
+    all: &[DeviceWrite],
+    cuts: &str,
+    text: &mut String,
+) -> Result<(), AllocError>
+    ensures { OnOk result (AddsText (AreRest (sweeping_of B.facts B.torn plan.now) all.now cuts.now)
+        (string_bytes text.old) (string_bytes text.new)) }
+{
+    push_first_part(plan, all, text)?;
+    text.push_str(cuts)?;
+    push_total(plan.alloc, text, all.len(), plan.depth)
+}
+
 /// Appends what is found without the command and after it, and the cuts of the part.
 fn push_sections<P: TurnPlayer + Drop>(
     plan: &Plan<'_, P::Board>,
     whole: &[Turn<'_>],
     progress: &impl Eprint,
     text: &mut String,
-) -> Result<(), AllocError>
+) -> Result<(), Stop>
 where
     P::Board: ReadableBoard + Drop,
     ensures { OnOk result (HasCard (P.Board.facts plan.now.board.now).words
         → AddsText (HasSections (sweeping_of P.Board.facts P.Board.torn plan.now) whole.now)
         (string_bytes text.old) (string_bytes text.new)) }
 {
-    push_stage::<P>(plan, "before", plan.prepare, text)?;
-    push_stage::<P>(plan, "after", whole, text)?;
-    push_first_part::<P>(plan, text)?;
-    push_writes::<P>(plan, progress, text)
+    let prepared = push_stage::<P>(plan, "before", plan.prepare, text)?;
+    let ended = push_stage::<P>(plan, "after", whole, text)?;
+    let mut cuts = String::new(plan.alloc);
+    let all = push_writes::<P>(plan, prepared, ended.words(), progress, &mut cuts)?;
+    push_rest(plan, &all, &cuts, text)?;
+    Ok(())
 }
 
 /// Returns the report of a sweep.
@@ -78,7 +98,7 @@ fn swept<P: TurnPlayer + Drop>(
     script: &SweepScript,
     part: SweepPart,
     progress: &impl Eprint,
-) -> Result<String, AllocError>
+) -> Result<String, Stop>
 where
     P::Board: ReadableBoard + Drop,
     requires { HasCard (P.Board.facts board.now).words }
@@ -104,7 +124,7 @@ where
 /// Reads a sweep script, sweeps on copies of the board, and then writes the report.
 ///
 /// # Errors
-/// `BadLine`, `Read` and `Memory` before anything is written, `Write` if the writer fails, or takes nothing.
+/// `BadLine`, `Read`, `Memory` and `Differs` before anything is written, `Write` if the writer fails, or takes nothing.
 pub fn report<P: TurnPlayer + Drop, R: BufRead, W: Write>(
     alloc: Global,
     board: &P::Board,

@@ -1,6 +1,6 @@
 use Rattle.std.proofs.Common.{List, rules, string_bytes, subst, take, ℕ}
 use Rattle.std.specs.Io.KnownBytes.{Appends}
-use Rattle.sweep_reports.proofs.ReportStopped.{memory-ends, reading-passed}
+use Rattle.sweep_reports.proofs.ReportStopped.{stop-ends, reading-passed}
 use Rattle.sweep_reports.proofs.reporting.report.Goals as goal
 
 pub returns-in-Ok-clause-told : goal.returns-in-Ok-clause-told
@@ -18,7 +18,8 @@ returns-in_err-script-clause-stopped g c =
 
 pub returns-in_err-text-clause-stopped : goal.returns-in_err-text-clause-stopped
 returns-in_err-text-clause-stopped g c =
-    memory-ends _ _ c.from_residual-in_err-text.result _ _ _ _ _ _ c.from_residual-in_err-text.ensures.1
+    stop-ends _ _ c.from_residual-in_err-text.result _ _ _ _ _ _ _ (c.in_ok-script.script, c.in_ok-script.ensures.read)
+    c.from_residual-in_err-text.ensures.1
 
 pub returns-clause-stopped : goal.returns-clause-stopped
 returns-clause-stopped g c =

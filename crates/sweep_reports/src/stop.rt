@@ -1,0 +1,48 @@
+//! Why a report is not made.
+use card_sweeps::SweepFault;
+use std::alloc::{AllocError, AllocFailed};
+
+/// Why a report is not made.
+#[derive(Clone, Copy)]
+pub enum Stop {
+    /// There is too little memory.
+    Memory,
+    /// Two runs of the same turns left different memories.
+    Differs,
+}
+
+impl From<AllocError> for Stop {
+    ghost use Rattle.std.specs.Prelude.{◌≡◌};
+    ghost use Rattle.sweep_reports.specs.declared.stop.Stop.TheVariants.{Memory};
+
+    ghost from_gives = { λ _ stop. stop ≡ Memory };
+
+    fn from(_: AllocError) -> Stop {
+        Stop::Memory
+    }
+}
+
+impl<T: Drop> From<AllocFailed<T>> for Stop {
+    ghost use Rattle.std.specs.Prelude.{◌≡◌};
+    ghost use Rattle.sweep_reports.specs.declared.stop.Stop.TheVariants.{Memory};
+
+    ghost from_gives = { λ _ stop. stop ≡ Memory };
+
+    fn from(_: AllocFailed<T>) -> Stop {
+        Stop::Memory
+    }
+}
+
+impl From<Stop> for SweepFault {
+    ghost use Rattle.std.specs.Prelude.{◌≡◌};
+    ghost use Rattle.sweep_reports.specs.ReportEndings.{fault_of};
+
+    ghost from_gives = { λ stop fault. fault ≡ fault_of stop };
+
+    fn from(stop: Stop) -> SweepFault {
+        match stop {
+            Stop::Memory => SweepFault::Memory,
+            Stop::Differs => SweepFault::Differs,
+        }
+    }
+}

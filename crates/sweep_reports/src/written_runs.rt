@@ -1,0 +1,56 @@
+//! Compares the memory that a cut leaves with those before and after the device write.
+ghost use Rattle.std.specs.Prelude.{◌≡◌, ◌≤◌, ◌+◌, length, IsTrue};
+ghost use Rattle.sweep_reports.specs.WrittenRuns.{IsMasked, IsNewWithin, WrittenRun};
+
+/// Returns true if `left` is `after` from address `first` up to before `end`, and `before` at all others.
+fn is_new_within(first: usize, end: usize, before: &[u32], after: &[u32], left: &[u32]) -> bool
+    ensures { IsTrue result → IsNewWithin first end before.now after.now left.now }
+{
+    if left.len() != before.len() || after.len() != before.len() {
+        return false;
+    }
+    for at in 0..left.len() {
+        let is_new = first <= at && at < end;
+        if left[at] != (if is_new { after[at] } else { before[at] }) {
+            return false;
+        }
+    }
+    true
+}
+
+/// Returns true if `left` is what a cut with mask number `i` has to leave of a write of `words` words at `at`.
+pub fn is_masked(at: usize, words: u8, i: u8, before: &[u32], after: &[u32], left: &[u32]) -> bool
+    requires inside { at + words ≤ length before.now }
+    requires single { i ≤ words + 1 }
+    ensures { IsTrue result → IsMasked (record { at = at; words = words; before = before.now; after = after.now }) i
+        left.now }
+{
+    let (first, end) = match i {
+        0 => (at, at),
+        1 => (at, at + usize::from(words)),
+        _ => (at + usize::from(i - 2), at + usize::from(i - 2) + 1),
+    };
+    is_new_within(first, end, before, after, left)
+}
+
+/// Returns true if `none` and `all` are what cuts with the first two masks have to leave of such a write, and it lies
+/// in the memory.
+pub fn is_write(at: usize, words: u8, before: &[u32], none: &[u32], all: &[u32]) -> bool
+    ensures inside { IsTrue result → at + words ≤ length before.now }
+    ensures none { IsTrue result → IsMasked
+        (record { at = at; words = words; before = before.now; after = all.now }) 0 none.now }
+    ensures all { IsTrue result → IsMasked
+        (record { at = at; words = words; before = before.now; after = all.now }) 1 all.now }
+{
+    at <= before.len()
+        && usize::from(words) <= before.len() - at
+        && is_masked(at, words, 0, before, all, none)
+        && is_masked(at, words, 1, before, all, all)
+}
+
+/// Returns true if two memories are the same.
+pub fn is_same(left: &[u32], right: &[u32]) -> bool
+    ensures { IsTrue result → left.now ≡ right.now }
+{
+    left == right
+}
