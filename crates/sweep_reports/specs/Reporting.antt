@@ -117,8 +117,9 @@ pub record AreKindsOrNone {B : Type 0} {facts : B → Facts} {torn : B → ℕ} 
   pub first : IsFirstPart sweeping.part → text ≡ kinds_text 1 all
   pub later : (IsFirstPart sweeping.part → ⊥) → text ≡ []
 
--- The items of these turns, the board that they leave, and the result of a power-on and the probe on it. The sweep sets no cut for them. A
--- cut that was pending on the board may come in them; on the board of the sweep program none is pending (swept_board).
+-- The items of these turns, the board that they leave, and the result of a power-on and the probe on it. The sweep sets
+-- no cut for them. A cut that was pending on the board may come in them; on the board of the sweep program none is
+-- pending (swept_board).
 pub record IsFound {B : Type 0} {facts : B → Facts} {torn : B → ℕ} (sweeping : Sweeping facts torn) (stage : List ℕ)
     (turns : List Turn) (left : Facts) (text : List ℕ) : Type 0 where
   pub trace : List Item
