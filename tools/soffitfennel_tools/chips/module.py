@@ -10,7 +10,8 @@ from collections.abc import Callable, Iterator
 from contextlib import contextmanager
 from pathlib import Path
 
-from ..narrowing.building import KEEPER, kit_folder, run, tool
+from ..commands import command
+from ..narrowing.building import KEEPER, kit_folder, run
 from ..unproving.kit import Failed, Kit, Strange, link_all, write_program
 from ..unproving.library import EXPORT, as_library
 
@@ -93,7 +94,7 @@ def unproved_text(port: Path, room: Path) -> str:
     """The module without a proof."""
     crate = port / "crates" / CARD
     with allowing_c():
-        kit, modules = Kit(room), tool("unproved").modules
+        kit, modules = Kit(room), command("bench/unproved").modules
         text, proved = modules(kit, as_program(crate, kit.room), empty(crate, kit.room))
     return as_library(text, proved, crate)
 
