@@ -196,10 +196,15 @@ class Visitor:
         self.browser.keys("#pages", RIGHT + RIGHT)
         self.same(self.text("#pointed").startswith("word "), True, "the memory's words by keys")
         self.choose(0)
+        self.browser.run("document.querySelectorAll('#answers li')[4].click()")
+        # (on a busy machine a write may be shown for less time than a question takes)
         self.browser.run(
-            "document.querySelectorAll('#answers li')[4].click(); document.querySelector('#play').click()"
+            """const shown = (window.played = []), step = document.querySelector("#step");
+            const look = () => shown.push(Number(step.value));
+            new MutationObserver(look).observe(document.querySelector("#step-now"), { childList: true });
+            document.querySelector("#play").click()"""
         )
-        self.until("document.querySelector('#step').value === '2'", "plays the writes")
+        self.until("played.includes(2)", "plays the writes")
         self.browser.run(
             """const given = new DataTransfer(); given.setData("text", "00 A4 00 0C 02 2F E2\\n00B0000000");
             const it = document.querySelector("#text"); it.value = "";
