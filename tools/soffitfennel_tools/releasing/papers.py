@@ -35,7 +35,7 @@ How to prove it again
 ---------------------
 In a clone at the commit above, with the kit above on the path, on Linux with 4.5 GB of memory for each job:
    ./bench --prove; tools/program --sweep --prove; tools/library --prove; tools/page --prove
-   tools/proved-sum --check
+   tools/dev/proved-sum --check
    tools/release OUT
 The files in OUT have the sums in SHA256SUMS. Programs and the page depend on the kit alone. The parts in C (library,
 reader driver) depend on the compiler too: {compiler}.

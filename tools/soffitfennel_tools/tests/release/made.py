@@ -55,6 +55,12 @@ class Files(unittest.TestCase):
                 wanted = f"{hashlib.sha256(file.read()).hexdigest()}  /usr/lib/soffitfennel/programs/{name}\n"
                 self.assertIn(wanted, text)
 
+    def test_commands_of_proof(self) -> None:
+        named = re.findall(r"(?:tools|web)/[\w./-]+\b|\./bench", papers.CHECK)
+        self.assertGreater(len(named), 4)
+        for path in named:
+            self.assertTrue((TOP / path).exists(), path)
+
     def test_theorems(self) -> None:
         text = papers.theorems()
         self.assertIn("\n- Headline. A card is found at entry", text)
