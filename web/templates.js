@@ -26,7 +26,7 @@ export const action = (kind, bit) => (kind === "DF" ? OF_DF : OF_EF)[7 - bit];
 function condition(it) {
   if (it === 0x00 || it === 0xff) return it ? "never" : "always";
   const isKnown = [1, 9].includes(it >> 4) && (it & 0xf) >= 1 && (it & 0xf) <= 8;
-  return isKnown ? `asks for PIN ${it & 0xf}` : `${byte(it)}, which is no condition`;
+  return isKnown ? `asks for PIN ${it & 0xf}` : `${byte(it)}, which is not a condition`;
 }
 
 // The condition of a bit of a rule, 7 to 1, in words.
@@ -135,7 +135,7 @@ function descriptor(value) {
   const kind = KINDS[value[0]];
   if (!kind) {
     const given = hex(value.subarray(0, 1)) || "no byte";
-    return `tag 82: ${given} is no kind of file; 78 is a DF, 41 transparent, 42 linear, 46 cyclic`;
+    return `tag 82: ${given} is not a kind of file; 78 is a DF, 41 transparent, 42 linear, 46 cyclic`;
   }
   const has = `tag 82 has ${count(value.length, "byte")}`;
   if (kind === "DF" || kind === "transparent") {
@@ -152,10 +152,10 @@ function byTag(it, tag, value) {
   if (tag === 0x84 && !isDf) return "tag 84: an EF has no name";
   if (tag === 0x88 && isDf) return "tag 88: a DF has no short identifier";
   if (tag === 0x88 && value.length && (given & 7 || given >> 3 < 1 || given >> 3 > 30)) {
-    return `tag 88: ${byte(given)} is no short identifier 1 to 30 in bits 8 to 4 with bits 3 to 1 clear`;
+    return `tag 88: ${byte(given)} is not a short identifier 1 to 30 in bits 8 to 4 with bits 3 to 1 clear`;
   }
   if (tag === 0x8a && !CREATED.includes(given)) {
-    return `tag 8A: ${byte(given)} is no state of a new file; 05 is activated`;
+    return `tag 8A: ${byte(given)} is not a state of a new file; 05 is activated`;
   }
   if (tag === 0x80 && !isDf) return sizeFault(it, given);
   return tag === 0x8c ? ruleFault(value) : null;
@@ -164,7 +164,7 @@ function byTag(it, tag, value) {
 function sizeFault(it, size) {
   if (size < 1 || size > MOST_BYTES) return `tag 80: the size ${thousands(size)} isn't 1 to ${thousands(MOST_BYTES)}`;
   if (it.kind === "transparent" || !it.length) return null;
-  if (size % it.length) return `tag 80: the size ${size} is no multiple of the record length ${it.length}`;
+  if (size % it.length) return `tag 80: the size ${size} is not a multiple of the record length ${it.length}`;
   if (size / it.length > 254) return `tag 80: ${size / it.length} records are more than 254`;
   return it.records > it.capacity ? `tag 82: ${it.records} records don't fit: the size holds ${it.capacity}` : null;
 }
@@ -175,7 +175,7 @@ function ruleFault(rule) {
   if (rule.length - 1 !== wanted) {
     return `tag 8C: ${byte(rule[0])} has ${count(wanted, "bit")} set, and ${follow(rule.length - 1, "condition")}`;
   }
-  const bad = [...rule.subarray(1)].find((it) => condition(it).includes("no condition"));
+  const bad = [...rule.subarray(1)].find((it) => condition(it).includes("not a condition"));
   if (bad === undefined) return null;
-  return `tag 8C: ${byte(bad)} is no condition; 00 is always, FF never, 11 to 18 PIN 1 to 8`;
+  return `tag 8C: ${byte(bad)} is not a condition; 00 is always, FF never, 11 to 18 PIN 1 to 8`;
 }

@@ -183,7 +183,7 @@ def names(memory: Memory) -> Breaks:
         if entry.name_length > (MOST_NAME if is_directory else 0):
             yield entry.place(1), f"a name of {entry.name_length} bytes of {'a DF' if is_directory else 'an EF'}"
         if not is_rule(entry.rule) or len(entry.rule) != entry.byte(1, 3):
-            yield entry.place(2), f"{entry.rule.hex().upper()} is no access rule of {entry.byte(1, 3)} bytes"
+            yield entry.place(2), f"{entry.rule.hex().upper()} is not an access rule of {entry.byte(1, 3)} bytes"
     yield from twins(memory)
 
 

@@ -44,7 +44,7 @@ def holds(clause: str, facts: dict[str, Fact]) -> bool:
     """Whether one clause of a condition holds."""
     match = CLAUSE.fullmatch(clause)
     if not match:
-        raise ValueError(f"words/why.table: {clause!r} is no clause")
+        raise ValueError(f"words/why.table: {clause!r} is not a clause")
     negated, name, relation, other = match.groups()
     value = facts.get(name)
     if not relation:

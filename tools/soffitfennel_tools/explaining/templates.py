@@ -40,7 +40,7 @@ def tagged(template: bytes) -> list[tuple[int, bytes]]:
 
 
 def meaning(byte: int) -> str | None:
-    """A condition byte of a rule: always, never, or the PIN that it asks for; None where it is no condition."""
+    """A condition byte of a rule: always, never, or the PIN that it asks for; None where it is not a condition."""
     if byte in (0x00, 0xFF):
         return "always" if byte == 0 else "never"
     is_known = byte >> 4 in (1, 9) and 1 <= byte & 0xF <= 8
@@ -51,7 +51,7 @@ def condition(byte: int) -> str:
     """A condition byte of a rule in words."""
     words = meaning(byte)
     if words is None:
-        return f"{byte:02X}, which is no condition"
+        return f"{byte:02X}, which is not a condition"
     return f"asks for {words}" if words.startswith("PIN") else words
 
 
@@ -189,7 +189,7 @@ def descriptor(value: bytes) -> str | None:
     kind = KINDS.get((value or b"\0")[0])
     if not kind:
         came = value[:1].hex().upper() or "no byte"
-        return f"tag 82: {came} is no kind of file; 78 is a DF, 41 transparent, 42 linear, 46 cyclic"
+        return f"tag 82: {came} is not a kind of file; 78 is a DF, 41 transparent, 42 linear, 46 cyclic"
     if kind in ("DF", "transparent"):
         return None if len(value) in (1, 2) else f"tag 82 has {count(len(value), 'byte')}: for this kind it has 1 or 2"
     if len(value) not in (4, 5):
@@ -208,9 +208,9 @@ def by_tag(template: Template, tag: int, value: bytes) -> str | None:
     if tag == 0x88 and is_df:
         return "tag 88: a DF has no short identifier"
     if tag == 0x88 and value and (number & 7 or not 1 <= number >> 3 <= 30):
-        return f"tag 88: {number:02X} is no short identifier 1 to 30 in bits 8 to 4 with bits 3 to 1 clear"
+        return f"tag 88: {number:02X} is not a short identifier 1 to 30 in bits 8 to 4 with bits 3 to 1 clear"
     if tag == 0x8A and number not in CREATED:
-        return f"tag 8A: {number:02X} is no state of a new file; 05 is activated"
+        return f"tag 8A: {number:02X} is not a state of a new file; 05 is activated"
     return size_fault(template, number) if tag == 0x80 and not is_df else rule_fault(value) if tag == 0x8C else None
 
 
@@ -222,7 +222,7 @@ def size_fault(template: Template, size: int) -> str | None:
     if template.kind == "transparent" or not length:
         return None
     if size % length:
-        return f"tag 80: the size {size} is no multiple of the record length {length}"
+        return f"tag 80: the size {size} is not a multiple of the record length {length}"
     if not 1 <= size // length <= 254:
         return f"tag 80: {size // length} records are more than 254"
     if template.records > template.capacity:
@@ -239,7 +239,7 @@ def rule_fault(rule: bytes) -> str | None:
         return f"tag 8C: {rule[0]:02X} has {count(wanted, 'bit')} set, and {follow(len(rule) - 1, 'condition')}"
     for byte in rule[1:]:
         if byte not in (0x00, 0xFF) and not condition(byte).startswith("asks"):
-            return f"tag 8C: {byte:02X} is no condition; 00 is always, FF never, 11 to 18 PIN 1 to 8"
+            return f"tag 8C: {byte:02X} is not a condition; 00 is always, FF never, 11 to 18 PIN 1 to 8"
     return None
 
 

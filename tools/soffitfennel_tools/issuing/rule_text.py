@@ -11,7 +11,7 @@ def rule_of(text: str, is_directory: bool) -> bytes:
     if text and set(text) <= set("0123456789abcdefABCDEF") and len(text) % 2 == 0:
         rule = bytes.fromhex(text)
         if not is_rule(rule):
-            raise ValueError(f"{text} is no access rule: a mode byte, and a condition for each of its bits")
+            raise ValueError(f"{text} is not an access rule: a mode byte, and a condition for each of its bits")
         return rule
     names = OF_DF if is_directory else OF_EF
     found: dict[str, int] = {}

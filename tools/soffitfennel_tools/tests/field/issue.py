@@ -42,7 +42,7 @@ WRONG = {
     ("create EF", "make EF"): "line 3: 'make EF' is none of delete, terminate",
     ("create EF: PIN 8", "create EF: PIN 9"): "line 3: 'create EF: PIN 9' is no part of a rule",
     ("create EF: PIN 8", "create EF: PIN 8; create EF: never"): "line 3: 'create EF' has two conditions",
-    ("create EF: PIN 8", "0612"): "line 3: 0612 is no access rule",
+    ("create EF: PIN 8", "0612"): "line 3: 0612 is not an access rule",
     ("3F00/2FE2 transparent 10", "3F00/2FE2 transparent 32768"): "line 4: the size of a transparent EF is a number",
     ("3F00/2FE2 transparent 10", "3F00/7F10/2FE2 transparent 10"): "line 4: no DF 3F00/7F10 is described above",
     ("3F00/2FE2 transparent 10", "3F00/2FE transparent 10"): "line 4: a path is 3F00 and the identifiers below it",
@@ -178,7 +178,7 @@ class Closed(Room):
             self.assertIn(why, self.refused("issue", "--from", card, "--set", text, self.room / "out"))
         settings = self.file("\nmf.rule=7F\n", "settings")
         said = self.refused("issue", "--from", card, "--settings", settings, self.room / "out")
-        self.assertIn("settings, line 2: 7F is no access rule", said)
+        self.assertIn("settings, line 2: 7F is not an access rule", said)
 
 
 class WrongLines(Room):
