@@ -57,8 +57,10 @@ static uint32_t take(uint8_t *given, uint32_t room)
 static void tell_use(void)
 {
     uint32_t stack = board_stack();
-    const uint8_t use[] = {0, 0, 0, 0, (uint8_t)(stack >> 24), (uint8_t)(stack >> 16), (uint8_t)(stack >> 8), (uint8_t)stack};
+    uint8_t use[8] = {0};
 
+    for (int i = 0; i < 4; i++)
+        use[4 + i] = (uint8_t)(stack >> (24 - 8 * i));
     tell(DONE, use, sizeof use);
 }
 

@@ -114,8 +114,8 @@ def proved_text(port: Path, room: Path) -> str:
     crate = port / "crates" / CARD
     # (an archive that is there is taken as it is, and nothing is compiled)
     (crate / f"out/lib{CARD}.a").unlink(missing_ok=True)
-    ran = subprocess.run([copy / "bin/rt", "lib", "--jobs", "1"], cwd=crate, env=environment, stdout=sys.stderr, check=False)
-    if ran.returncode:
+    words = [str(copy / "bin/rt"), "lib", "--jobs", "1"]
+    if subprocess.run(words, cwd=crate, env=environment, stdout=sys.stderr, check=False).returncode:
         raise Failed(f"{crate} isn't proved")
     if not kept.is_file():
         raise Strange("it proved the library and compiled no module")

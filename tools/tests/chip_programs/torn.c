@@ -1,4 +1,4 @@
-/* The device of examples/chip with cuts: an order sets a write to be torn, and another one reports a sum of all words. */
+/* The device of examples/chip with cuts: an order tears a later write, and another one reports a sum of all words. */
 #define device_write write_whole
 #include "device.c"
 #undef device_write

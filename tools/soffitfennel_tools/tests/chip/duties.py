@@ -1,4 +1,4 @@
-"""The program that tries a device's duties: it passes the example's device, and names the duty that a broken one breaks."""
+"""The program that tries a device's duties: it passes the example's device, and names what a broken one breaks."""
 from __future__ import annotations
 
 import os
@@ -18,34 +18,34 @@ MEMORY = "16M"
 # where the words of the device lie in the board's memory, and one of them that is changed
 WORDS_AT, CHANGED = 0x200000, 5000 * 4
 PATIENCE = 60.0
+LOST = "if (!has_power)\n        return DEVICE_LOST;\n    "
+STORE, PUT = "for (size_t i = 0; i < (size_t)count", "words[(size_t)page * PAGE_WORDS"
+BIT = "device_compare: a difference of one bit is one"
 # what is changed in the example's device, and the duty that is then broken
 BROKEN = (
     ("return PAGES;", "return 100;", "device_pages: 1024 to 4096 pages"),
-    ("return PAGES;", "static uint16_t more; return (uint16_t)(PAGES - (more++ > 9));", "device_pages: always the same number"),
+    ("return PAGES;", "static int more; return (uint16_t)(PAGES - (more++ > 9));", "device_pages: always the same"),
     ("*word = words[at];", "*word = words[at ^ 1];", "device_read: each word"),
     ("*word = words[at];", "*word = words[at & 0xFFF];", "device_read: each word"),
     ("*word = words[at];", "*word = words[at]; words[at] ^= at == 77;", "device_read: a read changes no word"),
     ("PAGE_WORDS + first + i] = from[i]", "PAGE_WORDS + i] = from[i]", "1 to 16 words from any word"),
-    ("i < (size_t)count; i++)\n        words", "i + 1 < (size_t)count; i++)\n        words", "1 to 16 words from any word"),
+    (STORE, "for (size_t i = 0; i + 1 < (size_t)count", "1 to 16 words from any word"),
     ("] = from[i];", "] &= from[i];", "each bit goes up and down"),
-    ("return DEVICE_DONE;\n}\n\n/* Each byte", "words[(page + 1) % PAGES * PAGE_WORDS] = 0; return DEVICE_DONE;\n}\n\n/* Each byte",
-     "the words of other pages stay"),
-    ("from[i];\n    return", "from[i];\n    words[(size_t)page * PAGE_WORDS] = 0;\n    return", "the other words of the page stay"),
-    ("from[i];\n    return DEVICE_DONE", "from[i];\n    return page == 9 ? DEVICE_LOST : DEVICE_DONE", "done while there is power"),
-    ("i < SECRET_BYTES", "i < SECRET_BYTES - 1", "a difference of one bit is one"),
-    ("differs |= kept[i] ^ shown[i]", "differs |= (kept[i] ^ shown[i]) & 0x7F", "a difference of one bit is one"),
+    (STORE, "words[(page + 1) % PAGES * PAGE_WORDS] = 0;\n    " + STORE, "the words of other pages stay"),
+    ("from[i];\n    return", f"from[i];\n    {PUT}] = 0;\n    return", "the other words of the page stay"),
+    (STORE, "if (page == 9)\n        return DEVICE_LOST;\n    " + STORE, "done while there is power"),
+    ("i < SECRET_BYTES", "i < SECRET_BYTES - 1", BIT),
+    ("differs |= kept[i] ^ shown[i]", "differs |= (kept[i] ^ shown[i]) & 0x7F", BIT),
     ("*equal = differs == 0", "*equal = differs != 0", "equal bytes are equal"),
-    ("*equal = differs == 0", "*equal = true", "a difference of one bit is one"),
+    ("*equal = differs == 0", "*equal = true", BIT),
     ("*equal = differs == 0;", "*equal = differs == 0; words[99]++;", "device_compare: no word changes"),
     ("has_power = true;\n    return true", "has_power = true;\n    return false", "device_light: true"),
     ("has_power = true;", "has_power = true; words[3] = 0;", "device_light: words stay"),
     ("has_power = false;", "has_power = false; words[9] = 0;", "device_power_off: words stay"),
     ("has_power = false;", "", "device_read: DEVICE_LOST while power is off"),
-    ("if (!has_power)\n        return DEVICE_LOST;\n    for (size_t i = 0; i < (size_t)count", "for (size_t i = 0; i < (size_t)count",
-     "device_write: DEVICE_LOST while power is off"),
-    ("if (!has_power)\n        return DEVICE_LOST;\n    for (size_t i = 0; i < SECRET", "for (size_t i = 0; i < SECRET",
-     "device_compare: DEVICE_LOST while power is off"),
-)  # fmt: skip
+    (LOST + STORE, STORE, "device_write: DEVICE_LOST while power is off"),
+    (LOST + "for (size_t i = 0; i < SECRET", "for (size_t i = 0; i < SECRET", "device_compare: DEVICE_LOST while"),
+)
 
 
 def by_host(room: Room, device: Path, *words: str) -> str:
@@ -98,7 +98,8 @@ def compare_reset(room: Room) -> None:
     out, memory = room.folder / "duties-chip", room.folder / "duties.memory"
     out.mkdir()
     run("make", "-s", "-C", EXAMPLE, f"CHIP={CHIP.name}", f"LIBRARY={out}", "duties")
-    for what, wanted in (("the first run", "no run before"), ("behind a reset", ""), ("a lost word", "words stay without power")):
+    runs = (("the first run", "no run before"), ("behind a reset", ""), ("a lost word", "words stay without power"))
+    for what, wanted in runs:
         if what == "a lost word":
             with memory.open("r+b") as file:
                 file.seek(WORDS_AT + CHANGED)

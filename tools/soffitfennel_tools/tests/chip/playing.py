@@ -7,30 +7,15 @@ import select
 import subprocess
 from collections.abc import Iterator
 from contextlib import contextmanager
-from importlib.machinery import SourceFileLoader
-from importlib.util import module_from_spec, spec_from_loader
 from pathlib import Path
-from types import ModuleType
 from typing import Any, Protocol
 
 from ...chips.targets import Target
-from ...narrowing.building import TOP
+from ...commands import command
 
 CUT, SUM = 5, 6
 DARK = 2
-
-
-def tool(name: str) -> ModuleType:
-    """A tool as a module."""
-    loader = SourceFileLoader(name, str(TOP / "tools" / name))
-    spec = spec_from_loader(name, loader)
-    assert spec
-    made = module_from_spec(spec)
-    loader.exec_module(made)
-    return made
-
-
-serial: Any = tool("serial")
+serial: Any = command("serial")
 
 
 class Port(Protocol):
@@ -92,6 +77,9 @@ class Line(serial.Line):  # type: ignore[misc]
 
 class Script(serial.Script):  # type: ignore[misc]
     """A script that runs on a card, with cuts."""
+
+    reader: Any
+    has_power: bool
 
     def __init__(self, port: Port):
         super().__init__(port)

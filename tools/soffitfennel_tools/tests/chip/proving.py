@@ -4,6 +4,7 @@ from __future__ import annotations
 import os
 import shutil
 import subprocess
+from pathlib import Path
 
 from ...chips.module import ALLOWED, BOARD
 from ...narrowing.building import TOP
@@ -18,12 +19,15 @@ def compare(room: Room) -> None:
     built, crate = TOP / "crates" / BELOW / "out", room.port / "crates" / BOARD
     if built.is_dir():
         shutil.copytree(built, room.port / "crates" / BELOW / "out")
-    environment = {**os.environ, ALLOWED: BOARD}
-    ran = subprocess.run(
-        ["rt", "check", "--jobs", "1"], cwd=crate, env=environment, capture_output=True, text=True, check=False
-    )
+    refused = checked(crate, {key: it for key, it in os.environ.items() if key != ALLOWED})
+    room.checks.check(refused.returncode != 0, f"without {ALLOWED} the board is refused", refused.stdout)
+    ran = checked(crate, {**os.environ, ALLOWED: BOARD})
     last = (ran.stdout.splitlines() or [""])[-1]
-    room.checks.check(ran.returncode == 0 and last.startswith(WANTED), "the board of a port is proved", ran.stdout + ran.stderr)
-    environment.pop(ALLOWED)
-    ran = subprocess.run(["rt", "check", "--jobs", "1"], cwd=crate, env=environment, capture_output=True, text=True, check=False)
-    room.checks.check(ran.returncode != 0, "without RT_ALLOW_C it is refused", ran.stdout)
+    is_so = ran.returncode == 0 and last.startswith(WANTED)
+    room.checks.check(is_so, "the board of a port is proved", ran.stdout + ran.stderr)
+
+
+def checked(crate: Path, environment: dict[str, str]) -> subprocess.CompletedProcess[str]:
+    """A check of a crate."""
+    words = ["rt", "check", "--jobs", "1"]
+    return subprocess.run(words, cwd=crate, env=environment, capture_output=True, text=True, check=False)

@@ -38,7 +38,8 @@ def random_script(room: Room, seed: int, lines: int) -> list[str]:
     try:
         for line in Commands(seed, True).script(lines, bench):
             if chance.random() < 0.1:
-                script.append(chance.choice([f"cut {chance.randrange(1, 9)} {chance.randrange(1 << 16):04X}", "lose 1", "garble 2"]))
+                cut = f"cut {chance.randrange(1, 9)} {chance.randrange(1 << 16):04X}"
+                script.append(chance.choice([cut, "lose 1", "garble 2"]))
             script.append(line)
             if chance.random() < 0.05:
                 script.append("on")
