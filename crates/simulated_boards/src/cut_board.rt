@@ -101,6 +101,13 @@ impl CutBoard {
         self.arm.is_some()
     }
 
+    /// Returns the cut that is to come, if there is one.
+    pub fn arm_pending(&self) -> Option<Arm>
+        ensures { result ≡ (cut_facts self.now).pending }
+    {
+        self.arm
+    }
+
     /// Takes back the cut that is set, if there is one.
     pub fn disarm(&mut self)
         ensures facts { cut_facts self.new ≡ record (cut_facts self.old) { due = 0; pending = None } }

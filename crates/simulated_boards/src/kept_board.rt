@@ -6,7 +6,8 @@ ghost use Rattle.nvm_board.specs.declared.board.TheConstants.{PAGE_WORDS};
 use crate::cut_board::CutBoard;
 use crate::followed::Followed;
 use crate::follower::Follower;
-use nvm_board::{Armed, Board, DeviceErr, Faultless, PAGE_WORDS, Socket, WornOut};
+use nvm_board::{Arm, Armed, Board, DeviceErr, Faultless, PAGE_WORDS, Socket, WornOut};
+use std::alloc::{AllocError, Global};
 
 /// A board in working memory that can be cut, and its follower, if it has one. The board hands the words of each device
 /// write to its follower, once, in order, as the write left them, also if it was torn. A follower that fails changes
@@ -19,7 +20,7 @@ pub struct KeptBoard<F: Follower> {
 }
 
 impl<F: Follower> KeptBoard<F> {
-    ghost use Rattle.std.specs.Prelude.{true, false, is_some, None};
+    ghost use Rattle.std.specs.Prelude.{true, false, is_some, IfOk, None};
     ghost use Rattle.nvm_board.specs.BoardCalls.{FitsPage, Writes};
     ghost use Rattle.nvm_board.specs.Facts.{address};
     ghost use Rattle.nvm_board.specs.History.{and_run, run_in};
@@ -38,6 +39,16 @@ impl<F: Follower> KeptBoard<F> {
             follower,
             follows: true,
         }
+    }
+
+    /// Returns a second board in the same state, which nothing follows.
+    ///
+    /// # Errors
+    /// There is too little memory for the words.
+    pub fn unfollowed_twin(&self, alloc: Global) -> Result<CutBoard, AllocError>
+        ensures { IfOk result (λ twin. cut_facts twin ≡ record (kept_facts F.log self.now) { log = None }) }
+    {
+        self.cut.copy(alloc)
     }
 
     /// The words, with power on or off.
@@ -59,6 +70,13 @@ impl<F: Follower> KeptBoard<F> {
         ensures { result ≡ is_some (kept_facts F.log self.now).pending }
     {
         self.cut.pending()
+    }
+
+    /// Returns the cut that is to come, if there is one.
+    pub fn arm_pending(&self) -> Option<Arm>
+        ensures { result ≡ (kept_facts F.log self.now).pending }
+    {
+        self.cut.arm_pending()
     }
 
     /// Takes back the cut that is set, if there is one.
