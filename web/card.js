@@ -55,7 +55,7 @@ export class Card {
     return new Uint8Array(this.buffer, at, count);
   }
 
-  // The module calls this with each write of a card that has a device, before it goes on.
+  // The module calls this with each write of a card that has a device, before a call returns.
   store(device, at, size, offset) {
     const bytes = new DataView(this.buffer, at, Number(size));
     const words = Array.from({ length: Number(size) / 4 }, (_, it) => bytes.getUint32(4 * it));

@@ -1,7 +1,7 @@
 /* A card that is kept in a file: kept FILE. Each run adds 1 to the first byte of the ICCID, and prints both.
  *
  * FILE is made with the factory card if it isn't there: whole or not at all, and readable for its owner alone, since it
- * holds PINs. The disk has each device write before the card goes on. One program at a time uses the file.
+ * holds PINs. The disk has each device write before the call returns. One program at a time uses the file.
  */
 #include "soffitfennel.h"
 

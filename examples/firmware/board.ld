@@ -8,7 +8,7 @@ SECTIONS
     .rodata : { *(.rodata .rodata.*) }
     .data : { *(.data .data.*) }
     .bss : { *(.bss .bss.*) *(COMMON) }
-    .heap (NOLOAD) : ALIGN(16) { heap_begin = .; . += 0x90000; heap_end = .; }
+    .heap (NOLOAD) : ALIGN(16) { heap_begin = .; . += 0x120000; heap_end = .; }
     .stack (NOLOAD) : ALIGN(16) { stack_begin = .; . += 0x10000; stack_end = .; }
     kept_begin = 0x40200000;
     /DISCARD/ : { *(.comment) *(.note .note.*) *(.eh_frame .eh_frame_hdr) }

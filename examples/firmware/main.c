@@ -25,7 +25,8 @@ extern uint32_t kept_begin[];
 enum { KEPT = 1, WORDS = PAGES * SOFFITFENNEL_PAGE_WORDS };
 
 extern uint8_t heap_begin[], heap_end[], stack_begin[], stack_end[];
-static uint8_t *heap_free = heap_begin;
+static uint8_t *heap_free = heap_begin, *heap_kept = heap_begin, *heap_most = heap_begin;
+static size_t pieces, pieces_kept;
 static uint8_t sent[MOST + 1], reply[SOFFITFENNEL_ROOM];
 
 /* What a try to get memory gives. The pointer is never null. */
@@ -57,13 +58,17 @@ void *memset(void *to, int byte, size_t size)
     return to;
 }
 
-/* The heap only grows: the card that is made is never ended. */
+void rattle_dealloc(void *memory);
+
+/* The heap grows. The card that is made is never ended; what a call asks for besides, a second card, it gives back. */
 struct tried rattle_alloc(size_t size, size_t align)
 {
     size_t whole = ((size != 0 ? size : align) + ALIGNMENT - 1) / ALIGNMENT * ALIGNMENT;
     struct tried result = {whole <= (size_t)(heap_end - heap_free), heap_free};
 
     heap_free += result.is_done ? whole : 0;
+    heap_most = heap_free > heap_most ? heap_free : heap_most;
+    pieces += result.is_done;
     return result;
 }
 
@@ -71,14 +76,29 @@ struct tried rattle_realloc(uint8_t *memory, size_t kept, size_t size, size_t al
 {
     struct tried result = rattle_alloc(size, align);
 
-    if (result.is_done)
+    if (result.is_done) {
         memcpy(result.memory, memory, kept);
+        rattle_dealloc(memory);
+    }
     return result;
 }
 
+/* When a call gave back all its pieces, they are overwritten, since they held PINs, and the heap ends where it did. */
 void rattle_dealloc(void *memory)
 {
     (void)memory;
+    pieces--;
+    if (pieces == pieces_kept) {
+        memset(heap_kept, 0, (size_t)(heap_free - heap_kept));
+        heap_free = heap_kept;
+    }
+}
+
+/* Keeps what was asked for up to now: the card. */
+static void keep_heap(void)
+{
+    heap_kept = heap_free;
+    pieces_kept = pieces;
 }
 
 /* Stores a device write of the card. The barrier waits until the memory has each word. */
@@ -116,9 +136,10 @@ static int32_t make_card(soffitfennel_card **card)
         if (outcome != SOFFITFENNEL_DONE)
             return outcome;
         soffitfennel_free(card);
-        heap_free = heap_begin;
     }
-    return soffitfennel_attach(card, kept_begin, WORDS, KEPT);
+    int32_t outcome = soffitfennel_attach(card, kept_begin, WORDS, KEPT);
+    keep_heap();
+    return outcome;
 }
 
 static uint8_t receive(void)
@@ -149,7 +170,7 @@ static size_t tell_use(void)
 
     while (*deepest == PAINT)
         deepest++;
-    return put(put(0, (uint32_t)(heap_free - heap_begin), 4), (uint32_t)(stack_end - deepest), 4);
+    return put(put(0, (uint32_t)(heap_most - heap_begin), 4), (uint32_t)(stack_end - deepest), 4);
 }
 
 static int32_t obey(soffitfennel_card **card, uint8_t order, size_t count, size_t *size)

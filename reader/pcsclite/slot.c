@@ -33,7 +33,7 @@ static bool complain(const char *path, const char *why)
     return false;
 }
 
-/* The library's store: each device write is in the file before the card goes on, and is counted. */
+/* The library's store: each device write is in the file before the call returns, and is counted. */
 int64_t soffitfennel_store(int32_t device, const void *bytes, size_t size, int64_t offset)
 {
     struct stat told;

@@ -198,7 +198,7 @@ class Card:
     def attach(cls, file: File, *, sync: bool = False) -> Card:
         """The card whose image is in a file (a path, or a descriptor that is open for writing), with power off.
 
-        The file gets each device write before the card goes on. The card has a descriptor of its own, and a lock on the
+        The file gets each device write before the call returns. The card has a descriptor of its own, and a lock on the
         file, until it is closed. With sync the disk has each write before the next one; else a loss of power of the
         machine can leave no card in the file."""
         card = cls.__new__(cls)

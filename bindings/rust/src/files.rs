@@ -22,7 +22,7 @@ impl From<Error> for io::Error {
 
 impl Card {
     /// Makes the card whose image is in a file that is open for reading and writing, with power off. The file gets each
-    /// device write before the card goes on. The card owns the file, and holds a lock on it.
+    /// device write before the call returns. The card owns the file, and holds a lock on it.
     ///
     /// Open the file with `O_DSYNC`, so that the disk has each write before the next one. Else a loss of power of the
     /// machine can leave no card in it.

@@ -1,2 +1,4 @@
+pub mod ChargeLaws
 pub mod ImageLaws
+pub mod LogLaws
 pub mod OrderLaws

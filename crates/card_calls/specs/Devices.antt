@@ -1,30 +1,59 @@
--- A board that a device follows.
-use Rattle.std.specs.Prelude.{ℕ, List, Bool, true, false, [], Option, None, Some, flat_map}
+-- A board whose device writes go to a device: the writes, their bytes in the image, and those that the device lacks.
+use Rattle.std.specs.Prelude.{◌≡◌, ◌≢◌, ◌+◌, ◌-◌, ◌%◌, ◌^◌, ◌<◌, ℕ, List, Bool, true, false, [], Option, None, Some}
+use Rattle.std.specs.Prelude.{flat_map, length, map, slice_get, take}
 use Rattle.std.specs.Int.{w32, to_be_bytes}
 use Rattle.nvm_board.specs.Facts.{Facts}
-use Rattle.nvm_board.specs.History.{Log}
+use Rattle.nvm_board.specs.History.{Log, Run}
 use Rattle.simulated_boards.specs.declared.kept_board.KeptBoard.{KeptBoard}
-use Rattle.simulated_boards.specs.Handed.{is_behind}
 use Rattle.simulated_boards.specs.Kept.{kept_facts}
-use Rattle.card_calls.specs.declared.device.Device.{Device}
+use Rattle.card_calls.specs.declared.write.Write.{Write}
+use Rattle.card_calls.specs.declared.write_log.Next.{Next}
+use Rattle.card_calls.specs.declared.write_log.Next.TheVariants as next
+use Rattle.card_calls.specs.declared.write_log.TheConstants.{LOG_WRITES}
+use Rattle.card_calls.specs.declared.write_log.WriteLog.{WriteLog}
+
+-- the words of a write, from its address on
+abbrev pub run_of : Write → Run
+run_of w = record { at = w.at; words = take w.size w.words }
 
 -- the bytes of words in an image: the most significant of each first
 abbrev pub image_bytes : List ℕ → List ℕ
 image_bytes words = flat_map (to_be_bytes w32) words
 
--- the log of a device: a number of writes, and none of them
-abbrev pub device_log : Device → Option Log
-device_log device = Some (record { runs = []; room = 0; count = device.writes })
+-- what contracts know of a log
+abbrev pub shown_log : WriteLog → Option Log
+shown_log log = Some (record { runs = map run_of log.writes.items; room = log.writes.capacity; count = log.count })
+
+-- an empty log with so much room
+abbrev pub logs_none : ℕ → Option Log
+logs_none room = Some (record { runs = []; room = room; count = 0 })
 
 -- the log that a card begins with, if it has a device
 abbrev pub begun_log : Bool → Option Log
-begun_log true = Some (record { runs = []; room = 0; count = 0 })
+begun_log true = logs_none LOG_WRITES
 begun_log false = None
 
--- the facts of a board, with the log of its device
-abbrev pub device_facts : KeptBoard Device → Facts
-device_facts board = kept_facts device_log board
+-- the facts of a board, with its log
+abbrev pub device_facts : KeptBoard WriteLog → Facts
+device_facts board = kept_facts shown_log board
 
--- true if a board has a device, and that didn't take a write
-abbrev pub is_left_behind : KeptBoard Device → Bool
-is_left_behind board = is_behind (λ device. device.behind) board.follower
+-- the number of writes between two counts, modulo 2^64
+abbrev pub fresh_count : ℕ → ℕ → ℕ
+fresh_count old new = (new + (2 ^ 64 - old)) % 2 ^ 64
+
+-- a device that has so many of all writes has them all; without a log there are none
+abbrev pub AllStored : Option Log → ℕ → Type 0
+AllStored None stored = Unit
+AllStored (Some log) stored = fresh_count stored log.count ≡ 0
+
+-- The first write that a device lacks, of a log: none, or this one, or one that the log has no more.
+abbrev pub NextIn : Log → ℕ → Next → Type 0
+NextIn log stored next.Nothing = fresh_count stored log.count ≡ 0
+NextIn log stored (next.Write w) = (fresh_count stored log.count ≢ 0)
+    × (slice_get log.runs (length log.runs - fresh_count stored log.count) ≡ Some (run_of w))
+NextIn log stored next.Lost = length log.runs < fresh_count stored log.count
+
+-- the same, where there may be no log: then there is no write
+abbrev pub TellsNext : Option Log → ℕ → Next → Type 0
+TellsNext None stored answer = answer ≡ next.Nothing
+TellsNext (Some log) stored answer = NextIn log stored answer

@@ -21,9 +21,7 @@ use Rattle.bench_lines.specs.Printouts.{prints_bytes}
 use Rattle.bench_lines.specs.Printouts.{prints_free}
 use Rattle.card_boards.specs.FactoryBoards.{IsFactoryBoard}
 use Rattle.card_calls.specs.SessionStates.{SessionState, begun_at}
-use Rattle.simulated_boards.specs.declared.kept_board.KeptBoard.{KeptBoard}
-use Rattle.card_calls.specs.Devices.{device_facts, is_left_behind}
-use Rattle.card_calls.specs.declared.device.Device.{Device}
+use Rattle.card_calls.specs.Devices.{AllStored}
 use Rattle.card_calls.specs.declared.outcome.Outcome.{Outcome}
 use Rattle.card_calls.specs.declared.outcome.Outcome.TheVariants as outcome
 use Rattle.card_calls.specs.declared.outcome.Told.{Told}
@@ -66,36 +64,30 @@ is_on (on powered) = true
 
 -- An order runs, and has an output. The memory has a card state after it, the board had no fault, and the guess law
 -- holds. The board made device writes, in order: put into the words before the order, they make the words after it.
--- The log of the card's device, if it has one, counts them.
+-- The log of a card with a device has them.
 pub record IsPerformed (order : Order) (was now : SessionState) (prints : Print) : Type 0 where
   pub performs : Performs order was.desk now.desk prints
   pub good : IsGood now.desk.bench
   pub guesses : GuessesFew was.desk.bench now.desk.bench
   pub made : WritesRuns (session_facts was) (session_facts now)
 
--- A board with these facts has a device that took all its writes, or none; or the device is behind.
-pub record IsKeptBy (now : SessionState) : Type 0 where
-  pub board : KeptBoard Device
-  pub facts : device_facts board ≡ session_facts now
-  pub behind : is_left_behind board ≡ now.behind
+-- No order runs and nothing changes: the device didn't take a write, or lacks one of an earlier order.
+pub record IsHeldBack (was now : SessionState) : Type 0 where
+  pub why : (was.behind ≡ true) ⊎ ¬ AllStored (session_facts was).log was.stored
+  pub same : now ≡ was
 
--- The device didn't take a write: one of this order, which has run, or one of an earlier order, and then nothing is
--- done.
-pub record FellBehind (order : Order) (was now : SessionState) : Type 0 where
-  pub behind : now.behind ≡ true
-  pub how : ((was.behind ≡ true) × (now ≡ was))
-      ⊎ ((was.behind ≡ false) × IsKeptBy now × ((prints : Print) × IsPerformed order was now prints))
-
--- the device took all writes, of this order and of those before it
+-- The device had all writes before the order. Those of the order are in the log.
 pub record KeepsUp (was now : SessionState) : Type 0 where
   pub was_up : was.behind ≡ false
+  pub all_stored : AllStored (session_facts was).log was.stored
   pub up : now.behind ≡ false
-  pub kept : IsKeptBy now
+  pub stored : now.stored ≡ was.stored
+  pub device : now.device ≡ was.device
 
--- the result of an order is the output, and the device took its writes; or the device is behind
+-- the result of an order is the output, if the device had all earlier writes
 abbrev pub TellsResult : Order → SessionState → SessionState → Result Told Outcome → Type 0
 TellsResult order was now (Ok told) = IsPerformed order was now (told_print told) × KeepsUp was now
-TellsResult order was now (Err why) = (why ≡ outcome.Unstored) × FellBehind order was now
+TellsResult order was now (Err why) = (why ≡ outcome.Unstored) × IsHeldBack was now
 
 -- An order to a card. Without a card nothing is done.
 abbrev pub AnswersOrder : Order → Option SessionState → Option SessionState → Result Told Outcome → Type 0
@@ -111,7 +103,7 @@ CallRuns order (Some was) None result Holds Fails = ⊥
 CallRuns order (Some was) (Some now) result Holds Fails =
     ((prints : Print) × IsPerformed order was now prints × (result ≡ print_outcome prints) × Holds prints
     × KeepsUp was now)
-    ⊎ (Fails × (result ≡ outcome.Unstored) × FellBehind order was now)
+    ⊎ (Fails × (result ≡ outcome.Unstored) × IsHeldBack was now)
 
 -- The buffer begins with these bytes, and their number is returned. The rest of the buffer is unchanged.
 pub record CopiesOut (bytes old new : List ℕ) (size : ℕ) : Type 0 where
@@ -177,13 +169,13 @@ abbrev pub FitsCall : Order → List ℕ → Type 0
 FitsCall order out = IsOrderSized order × (ROOM ≤ length out)
 
 -- the first state of a card of these words, which may have a device
-abbrev pub inserted : List ℕ → Bool → SessionState
-inserted words attached = begun_at (board_with words) attached
+abbrev pub inserted : List ℕ → Option ℤ → SessionState
+inserted words device = begun_at (board_with words) device
 
 -- a handle has the factory card in the first state on a new board of so many pages, without a device
 pub record IsFactoryFresh (pages : ℕ) (now : Option SessionState) : Type 0 where
   pub board : Facts
-  pub begun : now ≡ Some (begun_at board false)
+  pub begun : now ≡ Some (begun_at board None)
   pub factory : IsFactoryBoard pages board
 
 -- why a number of pages is refused: there is too little memory, or no memory has it
@@ -230,6 +222,8 @@ abbrev pub cleared : SessionState → SessionState
 cleared s = record {
   desk = desk_of (record (session_facts s) { due = 0; pending = None });
   behind = s.behind;
+  stored = s.stored;
+  device = s.device;
 }
 
 -- a call that takes back all that is to come, and switches power off

@@ -2,11 +2,21 @@
 #![tactic(auto)]
 
 mod boards;
+mod charge;
+mod copied;
 mod device;
 mod outcome;
 mod sizes;
+mod write;
+mod write_log;
 
 pub use boards::{board_of, check_words, factory_of};
-pub use device::{Device, DeviceBoard, followed, has_device, is_behind};
+pub use charge::{ALL_WORDS, cuts_next, first_write, may_compare};
+pub use copied::copy_write;
+pub use device::{
+    DeviceBoard, TWIN_WRITES, followed, has_device, is_stored, next_write, twin_board, unfollowed,
+};
 pub use outcome::{Outcome, Told, bit, copy};
 pub use sizes::{ROOM, block_fits, command_fits, order_fits};
+pub use write::{WRITE_BYTES, Write};
+pub use write_log::{LOG_WRITES, Next, WriteLog};

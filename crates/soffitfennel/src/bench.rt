@@ -3,7 +3,7 @@ ghost use Rattle.card_calls.specs.ScriptCalls.{EndsScript};
 
 use bench_lines::RunFault;
 use card_bench::{factory_board, run_on};
-use card_calls::{DeviceBoard, followed};
+use card_calls::{DeviceBoard, unfollowed};
 use card_turns::Bench;
 use std::alloc::Global;
 
@@ -19,7 +19,7 @@ pub fn printed(alloc: Global, script: &[u8]) -> (Vec<u8>, Option<RunFault>)
         return (text, Some(RunFault::Memory));
     };
     // (a board that other calls use too, so that its code stands once in the library)
-    match run_on::<Bench<DeviceBoard>, _, _>(followed(alloc, board, None), &mut reader, &mut text) {
+    match run_on::<Bench<DeviceBoard>, _, _>(unfollowed(board), &mut reader, &mut text) {
         Ok(()) => (text, None),
         Err(fault) => (text, Some(fault)),
     }

@@ -4,11 +4,12 @@
 #![tactic(auto)]
 
 mod bench;
+mod device_writes;
 mod handle;
 mod held;
 mod session;
 
-ghost use Rattle.std.specs.Prelude.{◌≡◌, ◌≢◌, None, Some, pos, [], is_some, true, false};
+ghost use Rattle.std.specs.Prelude.{◌≡◌, ◌≢◌, ◌≤◌, ◌<◌, length, None, Some, pos, []};
 ghost use Rattle.bench_lines.specs.Orders.{IsOrderSized, On, Off, Apdu, Block, Cut, Lose, Garble};
 ghost use Rattle.bench_lines.specs.OrderViews.{order_with};
 ghost use Rattle.command_base.specs.Finding.{HasCard};
@@ -18,15 +19,19 @@ ghost use Rattle.card_calls.specs.SessionStates.{begun_at};
 ghost use Rattle.card_calls.specs.Telling.{AnswersOrder, ChecksWords, ClearsFaults, CopiesNothing, FitsCall};
 ghost use Rattle.card_calls.specs.Telling.{IsFactoryFresh, RefusesCall, RefusesPages, RefusesWords};
 ghost use Rattle.card_calls.specs.Telling.{ReturnsSpace, ReturnsState, Tells};
+ghost use Rattle.card_calls.specs.WriteCalls.{FallsBehind, ReturnsDevice, ReturnsFirst, ReturnsNext};
+ghost use Rattle.card_calls.specs.declared.sizes.TheConstants.{ROOM};
 ghost use Rattle.card_calls.specs.Telling.{TellsBytes, TellsWords, inserted, outcome_number, refusal_of};
 
 use crate::bench::printed;
+use crate::device_writes::{fall_behind, first, read_device, take};
 use crate::handle::Handle;
 use crate::session::Session;
 use bench_lines::RunFault;
 use card_bench::Order;
 use card_calls::{
-    Outcome, Told, block_fits, board_of, check_words, command_fits, copy, factory_of, order_fits,
+    Outcome, ROOM, Told, block_fits, board_of, check_words, command_fits, copy, copy_write,
+    factory_of, order_fits,
 };
 use core::mem::{replace, replace_with};
 use simulated_boards::CutBoard;
@@ -138,7 +143,7 @@ fn clear_card(card: Handle, alloc: Global) -> (Handle, Outcome)
 }
 
 /// Ends the card of a handle, and puts another one in its place.
-fn exchange_card(card: Handle, session: Box<Session>) -> (Handle, ())
+pub(crate) fn exchange_card(card: Handle, session: Box<Session>) -> (Handle, ())
     ensures { result.0.value ≡ Some session.value }
 {
     drop(card.into_session());
@@ -174,10 +179,13 @@ fn refuse(alloc: Global, card: &mut Handle) -> i32
 /// Puts a card on a board behind a handle, if there is memory for it.
 fn put(alloc: Global, card: &mut Handle, board: CutBoard, device: Option<i32>) -> Outcome
     requires { HasCard (cut_facts board).words }
-    ensures done { result ≡ Outcome.Done → card.new.value ≡ Some (begun_at (cut_facts board) (is_some device)) }
+    ensures done { result ≡ Outcome.Done → card.new.value ≡ Some (begun_at (cut_facts board) device) }
     ensures undone { result ≢ Outcome.Done → (result ≡ Outcome.Memory) × (card.new.value ≡ card.old.value) }
 {
-    match Box::new(alloc, Session::new(alloc, board, device)) {
+    let Ok(session) = Session::new(alloc, board, device) else {
+        return Outcome::Memory;
+    };
+    match Box::new(alloc, session) {
         Ok(made) => {
             replace_with(card, made, exchange_card);
             Outcome::Done
@@ -188,7 +196,7 @@ fn put(alloc: Global, card: &mut Handle, board: CutBoard, device: Option<i32>) -
 
 /// Makes the card whose memory has these words, with power off, in place of the handle's card.
 fn insert(alloc: Global, card: &mut Handle, words: &[u32], device: Option<i32>) -> i32
-    ensures done { result ≡ pos 0 → card.new.value ≡ Some (inserted words.now (is_some device)) }
+    ensures done { result ≡ pos 0 → card.new.value ≡ Some (inserted words.now device) }
     ensures undone { result ≢ pos 0 → (card.new.value ≡ card.old.value) × RefusesWords words.now result }
 {
     match board_of(alloc, words) {
@@ -212,14 +220,14 @@ pub extern "C" fn soffitfennel_factory(alloc: Global, card: &mut Handle, pages: 
 /// Makes the card whose memory has these words, with power off, in place of the handle's card. Nothing keeps it.
 #[unsafe(no_mangle)]
 pub extern "C" fn soffitfennel_insert(alloc: Global, card: &mut Handle, words: &[u32]) -> i32
-    ensures done { result ≡ pos 0 → card.new.value ≡ Some (inserted words.now false) }
+    ensures done { result ≡ pos 0 → card.new.value ≡ Some (inserted words.now None) }
     ensures undone { result ≢ pos 0 → (card.new.value ≡ card.old.value) × RefusesWords words.now result }
 {
     insert(alloc, card, words, None)
 }
 
 /// Makes the card whose memory has these words, with power off, in place of the handle's card. The device of this
-/// number has the words already, and gets each device write before the card goes on.
+/// number has the words already.
 #[unsafe(no_mangle)]
 pub extern "C" fn soffitfennel_attach(
     alloc: Global,
@@ -227,15 +235,15 @@ pub extern "C" fn soffitfennel_attach(
     words: &[u32],
     device: i32,
 ) -> i32
-    ensures done { result ≡ pos 0 → card.new.value ≡ Some (inserted words.now true) }
+    ensures done { result ≡ pos 0 → card.new.value ≡ Some (inserted words.now (Some device)) }
     ensures undone { result ≢ pos 0 → (card.new.value ≡ card.old.value) × RefusesWords words.now result }
 {
     insert(alloc, card, words, Some(device))
 }
 
-/// Switches power on, after power off if it is on.
+/// Switches power on, after power off if it is on. A caller stores the writes before it tells the outcome.
 #[unsafe(no_mangle)]
-pub extern "C" fn soffitfennel_power_on(alloc: Global, card: &mut Handle) -> i32
+pub extern "C" fn soffitfennelcore_power_on(alloc: Global, card: &mut Handle) -> i32
     ensures { Tells On card.old.value card.new.value result }
 {
     run_order(alloc, card, Order::On)
@@ -249,9 +257,10 @@ pub extern "C" fn soffitfennel_power_off(alloc: Global, card: &mut Handle) -> i3
     run_order(alloc, card, Order::Off)
 }
 
-/// Sends a command through both ends of the link.
+/// Sends a command through both ends of the link. A caller stores the command's first write before this call, and the
+/// others before it hands the answer out.
 #[unsafe(no_mangle)]
-pub extern "C" fn soffitfennel_command(
+pub extern "C" fn soffitfennelcore_command(
     alloc: Global,
     card: &mut Handle,
     command: &[u8],
@@ -270,9 +279,10 @@ pub extern "C" fn soffitfennel_command(
     exchange(alloc, card, Order::Apdu, command, answer, size)
 }
 
-/// Sends a block of T=1 to the card's end of the link.
+/// Sends a block of T=1 to the card's end of the link. A caller stores the block's first write before this call, and the
+/// others before it hands the reply out.
 #[unsafe(no_mangle)]
-pub extern "C" fn soffitfennel_block(
+pub extern "C" fn soffitfennelcore_block(
     alloc: Global,
     card: &mut Handle,
     block: &[u8],
@@ -289,6 +299,93 @@ pub extern "C" fn soffitfennel_block(
         return refuse(alloc, card);
     }
     exchange(alloc, card, Order::Block, block, reply, size)
+}
+
+/// Copies the first device write of a command out, if it can compare a PIN.
+#[unsafe(no_mangle)]
+pub extern "C" fn soffitfennelcore_first_of_command(
+    alloc: Global,
+    card: &mut Handle,
+    command: &[u8],
+    out: &mut [u8],
+    offset: &mut usize,
+    size: &mut usize,
+) -> i32
+    ensures same { card.new.value ≡ card.old.value }
+    ensures fits { FitsCall (Apdu command.now) out.old
+        → ReturnsFirst (Apdu command.now) card.old.value out.old out.new offset.new size.new result }
+    ensures unfit { ¬ FitsCall (Apdu command.now) out.old → RefusesCall card.old.value card.new.value result
+        × CopiesNothing out.old out.new size.new }
+{
+    if !command_fits(command, out) {
+        *size = 0;
+        return refuse(alloc, card);
+    }
+    first(alloc, card, Order::Apdu, command, out, offset, size)
+}
+
+/// Copies the first device write of a block's command out, if the block ends one.
+#[unsafe(no_mangle)]
+pub extern "C" fn soffitfennelcore_first_of_block(
+    alloc: Global,
+    card: &mut Handle,
+    block: &[u8],
+    out: &mut [u8],
+    offset: &mut usize,
+    size: &mut usize,
+) -> i32
+    ensures same { card.new.value ≡ card.old.value }
+    ensures fits { FitsCall (Block block.now) out.old
+        → ReturnsFirst (Block block.now) card.old.value out.old out.new offset.new size.new result }
+    ensures unfit { ¬ FitsCall (Block block.now) out.old → RefusesCall card.old.value card.new.value result
+        × CopiesNothing out.old out.new size.new }
+{
+    if !block_fits(block, out) {
+        *size = 0;
+        return refuse(alloc, card);
+    }
+    first(alloc, card, Order::Block, block, out, offset, size)
+}
+
+/// Copies the next write that the device lacks out. From then on it counts as stored.
+#[unsafe(no_mangle)]
+pub extern "C" fn soffitfennelcore_next_write(
+    alloc: Global,
+    card: &mut Handle,
+    out: &mut [u8],
+    offset: &mut usize,
+    size: &mut usize,
+) -> i32
+    ensures fits { ROOM ≤ length out.old
+        → ReturnsNext card.old.value card.new.value out.old out.new offset.new size.new result }
+    ensures unfit { length out.old < ROOM → RefusesCall card.old.value card.new.value result
+        × CopiesNothing out.old out.new size.new }
+{
+    if out.len() < ROOM {
+        *size = 0;
+        return refuse(alloc, card);
+    }
+    let told = replace_with(card, alloc, take);
+    copy_write(told, out, offset, size)
+}
+
+/// Notes that the device didn't take a write. No further order runs.
+#[unsafe(no_mangle)]
+pub extern "C" fn soffitfennelcore_fall_behind(alloc: Global, card: &mut Handle) -> i32
+    ensures { FallsBehind card.old.value card.new.value result }
+{
+    replace_with(card, alloc, fall_behind).number()
+}
+
+/// Returns the number of the card's device.
+#[unsafe(no_mangle)]
+pub extern "C" fn soffitfennelcore_device(alloc: Global, card: &mut Handle, device: &mut i32) -> i32
+    ensures same { card.new.value ≡ card.old.value }
+    ensures returns { ReturnsDevice card.old.value device.new result }
+{
+    let (outcome, number) = replace_with(card, alloc, read_device);
+    *device = number;
+    outcome.number()
 }
 
 /// Sets a power cut for a later device write.

@@ -1,21 +1,25 @@
 //! A card at its desk.
-ghost use Rattle.std.specs.Prelude.{◌≡◌, None, is_some};
+ghost use Rattle.std.specs.Prelude.{◌≡◌, None, IfOk, IfSome, IsTrue, true};
 ghost use Rattle.bench_lines.specs.Orders.{IsOrderSized};
 ghost use Rattle.bench_lines.specs.OrderViews.{order_with};
 ghost use Rattle.bench_turns.specs.BenchStates.{bench_facts};
 ghost use Rattle.command_base.specs.Finding.{HasCard};
 ghost use Rattle.card_bench.specs.Prints.{desk_of};
 ghost use Rattle.simulated_boards.specs.Cut.{cut_facts};
+ghost use Rattle.card_calls.specs.Charges.{HasNoCharge, TakesNext, TellsFirst};
 ghost use Rattle.card_calls.specs.SessionStates.{begun_at};
 ghost use Rattle.card_calls.specs.Telling.{CopiesWords, TellsResult, cleared, outcome_number, state_bits};
 
 use card_bench::{Desk, Order};
-use card_calls::{DeviceBoard, Outcome, Told, bit, followed, has_device, is_behind};
+use card_calls::{
+    ALL_WORDS, DeviceBoard, Next, Outcome, Told, Write, bit, cuts_next, first_write, followed,
+    has_device, is_stored, may_compare, next_write, twin_board, unfollowed,
+};
 use card_turns::Bench;
 use core::mem::replace_with;
 use nvm_board::has_no_fault;
 use simulated_boards::CutBoard;
-use std::alloc::Global;
+use std::alloc::{AllocError, Global};
 use std::marker::Model;
 use t1_link::AnswerBytes;
 
@@ -25,6 +29,10 @@ pub struct Session {
     desk: Desk<Bench<DeviceBoard>>,
     /// True if the card's device didn't take a write.
     behind: bool,
+    /// The writes that the device has of all that the board made, modulo 2^64.
+    stored: u64,
+    /// The number of the device.
+    device: Option<i32>,
 }
 
 impl Model for Session {
@@ -40,45 +48,132 @@ impl Model for Session {
     ghost view = { λ s. record {
       desk = s.desk.desk;
       behind = s.behind;
+      stored = s.stored;
+      device = s.device;
     } };
 
     ghost invariant = { λ s. IsGood s.desk.desk.bench };
 }
 
 impl Session {
-    /// Returns a session with this board, with power off. The device of this number has the board's words already, and
-    /// gets each of its writes.
-    pub fn new(alloc: Global, board: CutBoard, device: Option<i32>) -> Session
-        requires { HasCard (cut_facts board).words }
-        ensures { result ≡ begun_at (cut_facts board) (is_some device) }
-    {
-        let board = followed(alloc, board, device);
-        has_no_fault(&board);
-        Session {
-            desk: Desk::new(board),
-            behind: false,
-        }
-    }
-
-    /// Runs an order, and returns its result.
+    /// Returns a session with this board, with power off. The device of this number has the board's words already.
     ///
     /// # Errors
-    /// `Unstored` if the card's device didn't take a write of this order, or of an earlier one. Then no order runs.
+    /// There is too little memory for the log of a device.
+    pub fn new(alloc: Global, board: CutBoard, device: Option<i32>) -> Result<Session, AllocError>
+        requires { HasCard (cut_facts board).words }
+        ensures { IfOk result (λ session. session ≡ begun_at (cut_facts board) device) }
+    {
+        let board = match device {
+            Some(_) => followed(alloc, board)?,
+            None => unfollowed(board),
+        };
+        has_no_fault(&board);
+        Ok(Session {
+            desk: Desk::new(board),
+            behind: false,
+            stored: 0,
+            device,
+        })
+    }
+
+    /// Runs an order, and returns its result. The writes of a card with a device are then to be stored, before anybody
+    /// sees the result.
+    ///
+    /// # Errors
+    /// `Unstored` if the card's device didn't take a write, or lacks one of an earlier order. Then no order runs.
     pub fn perform(&mut self, order: Order, given: &[u8]) -> Result<Told, Outcome>
         requires { IsOrderSized (order_with order given.now) }
         ensures { TellsResult (order_with order given.now) self.old self.new result }
     {
-        if self.behind {
+        if self.behind || !is_stored(self.desk.board(), self.stored) {
             return Err(Outcome::Unstored);
         }
         let came = self.desk.perform(order, given);
-        if is_behind(self.desk.board()) {
-            self.behind = true;
-            return Err(Outcome::Unstored);
-        }
         let mut bytes = AnswerBytes::new();
         self.desk.copy_bytes(came, &mut bytes);
         Ok(Told { came, bytes })
+    }
+
+    /// Returns the first device write of an order that can compare a PIN: the charge, which its device has before the
+    /// order runs. A second card, which loses power in that write, tells it.
+    ///
+    /// # Errors
+    /// `Memory`: there is too little for the second card.
+    pub fn first_write(
+        &self,
+        alloc: Global,
+        order: Order,
+        given: &[u8],
+    ) -> Result<Option<Write>, Outcome>
+        requires { IsOrderSized (order_with order given.now) }
+        ensures { TellsFirst (order_with order given.now) self.now result }
+    {
+        if !self.has_charge(order, given) {
+            return Ok(None);
+        }
+        let Ok(board) = twin_board(alloc, self.desk.board()) else {
+            return Err(Outcome::Memory);
+        };
+        let mut second = self.desk.twin(board);
+        let cut = Order::Cut {
+            number: 1,
+            mask: ALL_WORDS,
+        };
+        second.perform(cut, &[]);
+        second.perform(order, given);
+        first_write(second.board())
+    }
+
+    /// Returns false if an order has no charge.
+    fn has_charge(&self, order: Order, given: &[u8]) -> bool
+        ensures { ¬ IsTrue result → HasNoCharge (order_with order given.now) self.now }
+    {
+        let board = self.desk.board();
+        may_compare(order, given)
+            && has_device(board)
+            && !self.behind
+            && !cuts_next(board.arm_pending())
+    }
+
+    /// Returns the next write that the device lacks. From then on it counts as stored.
+    ///
+    /// # Errors
+    /// `Unstored` if the device didn't take a write, or the log has lost this one.
+    pub fn take_write(&mut self) -> Result<Option<Write>, Outcome>
+        ensures { TakesNext self.old self.new result }
+    {
+        if self.behind {
+            return Err(Outcome::Unstored);
+        }
+        match next_write(self.desk.board(), self.stored) {
+            Next::Nothing => Ok(None),
+            Next::Write(write) => {
+                self.stored = self.stored.wrapping_add(1);
+                Ok(Some(write))
+            }
+            Next::Lost => {
+                self.fall_behind();
+                Err(Outcome::Unstored)
+            }
+        }
+    }
+
+    /// Takes note that the device didn't take a write.
+    pub fn fall_behind(&mut self)
+        ensures { self.new ≡ record self.old { behind = true } }
+    {
+        self.behind = true;
+    }
+
+    /// Returns the number of the device, or 0.
+    pub fn device(&self) -> i32
+        ensures { IfSome self.now.device (λ of. result ≡ of) }
+    {
+        match self.device {
+            Some(device) => device,
+            None => 0,
+        }
     }
 
     /// Returns what the card is in, as a number.

@@ -18,7 +18,12 @@ from .rewriting import Rewriting
 TOP = Path(__file__).resolve().parent.parent.parent.parent
 CRATE = TOP / "crates" / "soffitfennel"
 ARCHIVE = CRATE / "out" / f"lib{CRATE.name}.a"
-HEAP = Path(__file__).with_name("heap.c")
+HEAP = Path(__file__).resolve().parent / "heap.c"
+# the calls that store device writes; size_t has 64 bits there, as the proved code's usize
+WRITES = TOP / "library" / "writes.c"
+OF_WRITES = (f"-I{TOP / 'include'}", f"-I{HEAP.parent / 'include'}")
+# what the page sees of it
+WRITTEN = tuple(f"soffitfennel_{it}" for it in ("power_on", "command", "block"))
 TARGET = "wasm32-unknown-unknown"
 WORDS = (
     f"--target={TARGET}",
@@ -118,15 +123,17 @@ def exports(text: str) -> list[str]:
 
 def compiled(text: str, room: Path) -> bytes:
     """The module of WebAssembly of a module of LLVM for x86-64."""
-    bin_, made, heap, out = kit_folder() / "toolchain/bin", room / "card.o", room / "heap.o", room / "card.wasm"
-    source, linker = room / "card.ll", room / "wasm-ld"
+    bin_, made, out = kit_folder() / "toolchain/bin", room / "card.o", room / "card.wasm"
+    source, linker, heap, writes = (room / it for it in ("card.ll", "wasm-ld", "heap.o", "writes.o"))
+    of_c = ["-O2", "-ffreestanding", "-Wall", "-Wextra", "-Werror"]
     source.write_text(Rewriting().module(text), encoding="utf-8")
     run(bin_ / "clang", *WORDS, *OF_KIT, "-x", "ir", source, "-c", "-Os", "-o", made)
-    run(bin_ / "clang", *WORDS, "-O2", "-ffreestanding", "-Wall", "-Wextra", "-Werror", "-c", HEAP, "-o", heap)
+    run(bin_ / "clang", *WORDS, *of_c, "-c", HEAP, "-o", heap)
+    run(bin_ / "clang", *WORDS, *of_c, *OF_WRITES, "-c", WRITES, "-o", writes)
     linker.symlink_to(bin_ / "ld.lld")
     words = ["--no-entry", "--gc-sections", "--strip-all", "--stack-first", "-z", f"stack-size={STACK_BYTES}"]
-    words += ["--export=__global_base", "-o", str(out)]
-    run(linker, *words, *(f"--export={it}" for it in exports(text)), made, heap)
+    words += ["--export=__global_base", "--import-undefined", "-o", str(out)]
+    run(linker, *words, *(f"--export={it}" for it in [*exports(text), *WRITTEN]), made, writes, heap)
     return out.read_bytes()
 
 

@@ -1,31 +1,6 @@
-/* The heap of the module. A block that is given back waits in a list for the next request of its size. The heap is also
- * the door by which a device write leaves, as in library/door.c. */
+/* The heap of the module. A block that is given back waits in a list for the next request of its size. */
 typedef __SIZE_TYPE__ size_t;
 typedef __UINT8_TYPE__ uint8_t;
-typedef __UINT32_TYPE__ uint32_t;
-typedef __INT32_TYPE__ int32_t;
-typedef __UINT64_TYPE__ uint64_t;
-typedef __INT64_TYPE__ int64_t;
-
-/* A device write on its way, and what comes back: both as the proved code has them. */
-struct request {
-    int64_t offset;
-    uint32_t size;
-    int32_t device;
-    uint8_t bytes[64];
-};
-struct reply {
-    uint64_t none[13];
-};
-enum { DOOR_ALIGN = 8 };
-
-static struct request request;
-static struct reply reply;
-static _Bool is_stored;
-
-/* The page's function. */
-__attribute__((import_module("env"), import_name("soffitfennel_store")))
-int64_t soffitfennel_store(int32_t device, const void *bytes, uint64_t size, int64_t offset);
 
 /* stands before each block; 16 bytes, so that a block is aligned */
 struct head {
@@ -88,10 +63,6 @@ static void *get(size_t count)
 
 void *heap_get(size_t size, size_t align)
 {
-    if (size == sizeof request && align == DOOR_ALIGN)
-        return &request;
-    if (size == sizeof reply && align == DOOR_ALIGN)
-        return is_stored ? &reply : (void *)0;
     return get(size ? size : align);
 }
 
@@ -107,16 +78,6 @@ void *heap_more(void *memory, size_t kept, size_t size, size_t align)
 
 void heap_put(void *memory)
 {
-    if (memory == &request) {
-        uint64_t size = request.size;
-        is_stored = soffitfennel_store(request.device, request.bytes, size, request.offset) == (int64_t)size;
-        __builtin_memset(&request, 0, sizeof request);
-        return;
-    }
-    if (memory == &reply) {
-        is_stored = 0;
-        return;
-    }
     struct head *it = (struct head *)memory - 1;
     it->next = given_back;
     given_back = it;

@@ -2,7 +2,8 @@
  *
  * The secrets in a card's memory are marked as undefined, so memcheck counts an error where a branch depends on one.
  * The device asks for that count at each write. As long as the image has all tries, it is 0. A device that loses power
- * at the charge sees no error at all; one that refuses a write gets no other, and the command no answer. The number of
+ * at the charge, or refuses it, sees no error at all; one that refuses a write gets no other, and the command no answer,
+ * nor has the buffer a byte of one. The number of
  * errors of a wrong value is the same whatever byte differs first, so no branch is on a byte. The last line has the
  * number of commands.
  */
@@ -80,9 +81,13 @@ int64_t soffitfennel_store(int32_t device, const void *bytes, size_t size, int64
         longjmp(out, 1);
     if (seen.made >= seen.at && seen.plan == REFUSE)
         return -1;
-    for (size_t i = 0; i < size; i += 4)
-        image[((size_t)offset + i) / 4] = (uint32_t)from[i] << 24 | (uint32_t)from[i + 1] << 16
-            | (uint32_t)from[i + 2] << 8 | from[i + 3];
+    bool is_new = false;
+    for (size_t i = 0; i < size; i += 4) {
+        uint32_t *word = &image[((size_t)offset + i) / 4], old = *word;
+        *word = (uint32_t)from[i] << 24 | (uint32_t)from[i + 1] << 16 | (uint32_t)from[i + 2] << 8 | from[i + 3];
+        is_new = is_new || *word != old;
+    }
+    must(is_new, "a write is stored twice");
     seen.is_paid = seen.is_paid || pin()[TRIES] < seen.tries || pin()[TRIES + 1] < seen.retries;
     return (int64_t)size;
 }
@@ -115,8 +120,7 @@ static int32_t run(const uint32_t *begin, const uint8_t *command, size_t count, 
     bool is_left = setjmp(out) != 0;
     int32_t outcome = is_left ? -1 : soffitfennel_command(&card, command, count, answer, SOFFITFENNEL_ROOM, size);
     seen.errors = VALGRIND_COUNT_ERRORS - seen.before;
-    /* (behind a refused charge the card compares, and gives no answer: the header tells such a device to leave) */
-    must(seen.plan == REFUSE || seen.errors == 0 || seen.is_paid, "a secret was looked at without a stored charge");
+    must(seen.errors == 0 || seen.is_paid, "a secret was looked at without a stored charge");
     return outcome;
 }
 
@@ -137,8 +141,14 @@ static unsigned look_at(const uint32_t *begin, const uint8_t *command, size_t co
         must(run(begin, command, count, answer, &size) == -1, "the device is not left");
         must(at > 1 || seen.errors == 0, "a secret was looked at before the first store");
         seen.plan = REFUSE, seen.at = at;
+        memset(answer, 0xA5, sizeof answer);
         int32_t outcome = run(begin, command, count, answer, &size);
         must(outcome == SOFFITFENNEL_UNSTORED && size == 0, "a refused write is answered");
+        must(at > 1 || seen.errors == 0, "a secret was looked at though its charge was refused");
+        for (size_t i = 0; i < sizeof answer; i++)
+            must(answer[i] == 0xA5, "a refused write leaves a part of the answer");
+        must(soffitfennel_command(&card, command, count, answer, SOFFITFENNEL_ROOM, &size) == SOFFITFENNEL_UNSTORED,
+             "a card whose write was refused runs on");
         must(seen.made == at, "a device that refused a write gets another one");
     }
     return errors;

@@ -1,6 +1,7 @@
 /* The library's heap and its device, and what it does without memory: memory. Each piece of memory that is freed is all
  * zeros then. Where the allocator fails at its call 1, 2, .., a maker returns MEMORY, changes nothing, and leaves no
- * memory behind; no call of a card asks for memory. */
+ * memory behind. Of the calls of a card only those ask for memory that can compare a PIN, on a card with a device: without
+ * memory the card is as it was, and its device has nothing. */
 #include "soffitfennel.h"
 
 #include <errno.h>
@@ -57,13 +58,18 @@ void __wrap_free(void *memory)
 
 /* A system that takes three bytes at a time, is interrupted before each, and takes nothing behind the end. */
 static uint8_t disk[SOFFITFENNEL_WRITE];
+static long stored;
 
 ssize_t __wrap_pwrite(int file, const void *bytes, size_t size, off_t offset)
 {
     static bool is_interrupted;
     size_t taken = size < 3 ? size : 3;
 
-    must(file == 9 && offset >= 0, "a wrong file or place");
+    must((file == 9 || file == 10) && offset >= 0, "a wrong file or place");
+    if (file == 10) {
+        stored++;
+        return (ssize_t)size;
+    }
     errno = EINTR;
     is_interrupted = !is_interrupted;
     if (is_interrupted)
@@ -166,6 +172,36 @@ static void test_running(void)
     must(asked == before, "a call of a card asks for memory");
 }
 
+static const uint8_t verify[] = {0x00, 0x20, 0x00, 0x01, 8, '9', '9', '9', '9', 0xFF, 0xFF, 0xFF, 0xFF};
+static size_t answered;
+
+static int32_t present(soffitfennel_card **made)
+{
+    uint8_t answer[SOFFITFENNEL_ROOM];
+
+    return soffitfennel_command(made, verify, sizeof verify, answer, sizeof answer, &answered);
+}
+
+/* A VERIFY on a card with a device, where the copy of the card gets no memory. */
+static void test_charge(void)
+{
+    static uint32_t before[SOFFITFENNEL_MOST_WORDS], after[SOFFITFENNEL_MOST_WORDS];
+    long pieces, failures = 0;
+    size_t size;
+
+    must(soffitfennel_attach(&card, words, SOFFITFENNEL_MOST_WORDS, 10) == SOFFITFENNEL_DONE, "no card with a device");
+    must(soffitfennel_power_on(&card) == SOFFITFENNEL_DONE, "no power");
+    soffitfennel_words(&card, before, SOFFITFENNEL_MOST_WORDS, &size);
+    pieces = live;
+    for (fails_at = asked + 1; present(&card) != SOFFITFENNEL_DONE; fails_at = asked + 1 + ++failures) {
+        must(answered == 0 && live == pieces && stored == 0, "a VERIFY without memory does something");
+        soffitfennel_words(&card, after, SOFFITFENNEL_MOST_WORDS, &size);
+        must(memcmp(before, after, sizeof before) == 0, "a VERIFY without memory changes the card");
+    }
+    must(failures > 0 && answered == 2 && stored > 0 && live == pieces, "a VERIFY asks for no memory");
+    fails_at = 0;
+}
+
 /* A buffer of 0 bytes may be null. */
 static void test_null(void)
 {
@@ -195,6 +231,7 @@ int main(void)
     test_want(insert, "a card that is not inserted changes something");
     test_want(attach, "a card that is not attached changes something");
     test_want(check, "words that are not checked change something");
+    test_charge();
     soffitfennel_free(&card);
     must(live == 0, "memory is left at the end");
     printf("memory: %ld pieces\n", asked);

@@ -1,7 +1,8 @@
 /* Runs VERIFY with a right value and with wrong ones, instruction by instruction: steps. Up to the first store all run
  * the same instructions, and all wrong values the same to the end, whatever byte differs first. So the time before the
- * charge is stored tells nothing of the PIN, and the time behind it only whether it was right. x86-64 alone. The status
- * is 77 where the system lets no program be traced. */
+ * charge is stored tells nothing of the PIN, and the time behind it only whether it was right. If the device refuses the
+ * charge, all values run the same instructions to the end. x86-64 alone. The status is 77 where the system lets no
+ * program be traced. */
 #include "soffitfennel.h"
 
 #include <signal.h>
@@ -24,12 +25,13 @@ struct trace {
 
 static struct trace first, second;
 static soffitfennel_card *card;
+static bool refuses;
 
 /* (it writes nothing: each child has the same card) */
 int64_t soffitfennel_store(int32_t device, const void *bytes, size_t size, int64_t offset)
 {
     (void)device, (void)bytes, (void)offset;
-    return (int64_t)size;
+    return refuses ? -1 : (int64_t)size;
 }
 
 static void verify(const char *value)
@@ -41,7 +43,8 @@ static void verify(const char *value)
     if (ptrace(PTRACE_TRACEME, 0, NULL, NULL) != 0)
         _exit(UNTRACED);
     raise(SIGSTOP);
-    _exit(soffitfennel_command(&card, command, sizeof command, answer, sizeof answer, &size) != SOFFITFENNEL_DONE);
+    int32_t outcome = soffitfennel_command(&card, command, sizeof command, answer, sizeof answer, &size);
+    _exit(outcome != (refuses ? SOFFITFENNEL_UNSTORED : SOFFITFENNEL_DONE));
 }
 
 /* The instructions of a VERIFY with a value. */
@@ -88,8 +91,11 @@ int main(void)
         "1234\xFE\xFF\xFF\xFF", "1234\xFF\xFF\xFF\xFE", "98765432",
     };
     static uint32_t words[SOFFITFENNEL_WORDS];
+    static char line[BUFSIZ];
     size_t size;
 
+    /* (each child has the same heap: what is printed asks for nothing) */
+    setvbuf(stdout, line, _IOFBF, sizeof line);
     if (soffitfennel_factory(&card, SOFFITFENNEL_PAGES) != SOFFITFENNEL_DONE
         || soffitfennel_words(&card, words, SOFFITFENNEL_WORDS, &size) != SOFFITFENNEL_DONE
         || soffitfennel_attach(&card, words, size, DEVICE) != SOFFITFENNEL_DONE
@@ -105,5 +111,10 @@ int main(void)
         if (common() != first.count || first.count != second.count)
             is_good = !printf("steps: wrong value %zu runs other instructions from %zu on\n", i, common());
     }
+    refuses = true;
+    trace("1234\xFF\xFF\xFF\xFF", &first);
+    trace(wrong[0], &second);
+    if (common() != first.count || first.count != second.count)
+        is_good = !printf("steps: behind a refused charge, values run other instructions from %zu on\n", common());
     return !is_good;
 }

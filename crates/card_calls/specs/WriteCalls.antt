@@ -1,0 +1,47 @@
+-- Calls that hand device writes out.
+use Rattle.std.specs.Prelude.{◌≡◌, ◌*◌, ℕ, ℤ, List, Option, None, Some, Result, Ok, Err, IfSome, true}
+use Rattle.bench_lines.specs.Orders.{Order}
+use Rattle.card_calls.specs.Charges.{TakesNext, TellsFirst}
+use Rattle.card_calls.specs.Devices.{image_bytes, run_of}
+use Rattle.card_calls.specs.SessionStates.{SessionState}
+use Rattle.card_calls.specs.Telling.{CopiesNothing, CopiesOut, outcome_number}
+use Rattle.card_calls.specs.declared.outcome.Outcome.{Outcome}
+use Rattle.card_calls.specs.declared.outcome.Outcome.TheVariants as outcome
+use Rattle.card_calls.specs.declared.write.Write.{Write}
+use Rattle.card_calls.specs.declared.write.TheConstants.{WORD_BYTES}
+
+-- A device write is copied out: its bytes in the image, and the offset of the first. Without one the size is 0.
+abbrev pub CopiesWrite : Result (Option Write) Outcome → List ℕ → List ℕ → ℕ → ℕ → ℤ → Type 0
+CopiesWrite (Ok None) old new offset size number = (number ≡ outcome_number outcome.Done) × CopiesNothing old new size
+CopiesWrite (Ok (Some w)) old new offset size number = (number ≡ outcome_number outcome.Done)
+    × CopiesOut (image_bytes (run_of w).words) old new size × (offset ≡ WORD_BYTES * (run_of w).at)
+CopiesWrite (Err why) old new offset size number = (number ≡ outcome_number why) × CopiesNothing old new size
+
+-- a call that hands the first write of an order out, and changes nothing of the card
+abbrev pub ReturnsFirst : Order → Option SessionState → List ℕ → List ℕ → ℕ → ℕ → ℤ → Type 0
+ReturnsFirst order None old new offset size number = (number ≡ outcome_number outcome.Absent)
+    × CopiesNothing old new size
+ReturnsFirst order (Some was) old new offset size number = (told : Result (Option Write) Outcome)
+    × TellsFirst order was told × CopiesWrite told old new offset size number
+
+-- the next write of a card, if there is one
+abbrev pub TakesFrom : Option SessionState → Option SessionState → Result (Option Write) Outcome → Type 0
+TakesFrom None now told = (now ≡ None) × (told ≡ Err outcome.Absent)
+TakesFrom (Some was) None told = ⊥
+TakesFrom (Some was) (Some now) told = TakesNext was now told
+
+-- a call that hands the next write out
+abbrev pub ReturnsNext : Option SessionState → Option SessionState → List ℕ → List ℕ → ℕ → ℕ → ℤ → Type 0
+ReturnsNext was now old new offset size number = (told : Result (Option Write) Outcome) × TakesFrom was now told
+    × CopiesWrite told old new offset size number
+
+-- a call that tells that the device didn't take a write
+abbrev pub FallsBehind : Option SessionState → Option SessionState → ℤ → Type 0
+FallsBehind None now number = (number ≡ outcome_number outcome.Absent) × (now ≡ None)
+FallsBehind (Some was) now number = (number ≡ outcome_number outcome.Done) × (now ≡ Some (record was { behind = true }))
+
+-- a call that returns the number of the device
+abbrev pub ReturnsDevice : Option SessionState → ℤ → ℤ → Type 0
+ReturnsDevice None device number = number ≡ outcome_number outcome.Absent
+ReturnsDevice (Some now) device number = (number ≡ outcome_number outcome.Done)
+    × IfSome now.device (λ of. device ≡ of)

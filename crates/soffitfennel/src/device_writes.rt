@@ -1,0 +1,81 @@
+//! The device writes of a card, for the functions in C that store them: the first of an order before it runs, and all
+//! others before its result is told.
+ghost use Rattle.std.specs.Prelude.{◌≡◌};
+ghost use Rattle.bench_lines.specs.OrderViews.{order_with};
+ghost use Rattle.card_calls.specs.Telling.{FitsCall, outcome_number};
+ghost use Rattle.card_calls.specs.WriteCalls.{FallsBehind, ReturnsDevice, ReturnsFirst, TakesFrom};
+
+use crate::exchange_card;
+use crate::handle::Handle;
+use card_bench::Order;
+use card_calls::{Outcome, Write, copy_write};
+use core::mem::{replace, replace_with};
+use std::alloc::Global;
+
+/// Copies the first write of an order out. The card stays as it is.
+pub(crate) fn first(
+    alloc: Global,
+    card: &mut Handle,
+    order: Order,
+    given: &[u8],
+    out: &mut [u8],
+    offset: &mut usize,
+    size: &mut usize,
+) -> i32
+    requires { FitsCall (order_with order given.now) out.old }
+    ensures same { card.new.value ≡ card.old.value }
+    ensures first { ReturnsFirst (order_with order given.now) card.old.value out.old out.new offset.new size.new
+        result }
+{
+    match replace(card, Handle::empty(alloc)).into_session() {
+        Some(session) => {
+            let told = session.first_write(alloc, order, given);
+            replace_with(card, session, exchange_card);
+            copy_write(told, out, offset, size)
+        }
+        None => {
+            *size = 0;
+            Outcome::Absent.number()
+        }
+    }
+}
+
+/// Takes the next write from the log of a handle's card.
+pub(crate) fn take(card: Handle, alloc: Global) -> (Handle, Result<Option<Write>, Outcome>)
+    ensures { TakesFrom card.value result.0.value result.1 }
+{
+    match card.into_session() {
+        Some(mut session) => {
+            let told = session.take_write();
+            (Handle::of(session), told)
+        }
+        None => (Handle::empty(alloc), Err(Outcome::Absent)),
+    }
+}
+
+/// Notes for a handle's card that its device didn't take a write.
+pub(crate) fn fall_behind(card: Handle, alloc: Global) -> (Handle, Outcome)
+    ensures { FallsBehind card.value result.0.value (outcome_number result.1) }
+{
+    match card.into_session() {
+        Some(mut session) => {
+            session.fall_behind();
+            (Handle::of(session), Outcome::Done)
+        }
+        None => (Handle::empty(alloc), Outcome::Absent),
+    }
+}
+
+/// Returns the number of a handle's device.
+pub(crate) fn read_device(card: Handle, alloc: Global) -> (Handle, (Outcome, i32))
+    ensures same { result.0.value ≡ card.value }
+    ensures returns { ReturnsDevice card.value result.1.1 (outcome_number result.1.0) }
+{
+    match card.into_session() {
+        Some(session) => {
+            let device = session.device();
+            (Handle::of(session), (Outcome::Done, device))
+        }
+        None => (Handle::empty(alloc), (Outcome::Absent, 0)),
+    }
+}
