@@ -27,8 +27,8 @@ pub record AddsText (Is : List ℕ → Type 0) (old new : List ℕ) : Type 0 whe
   pub all : new ≡ old ++ more
 
 -- the device write of a cut command, from the memory before it
-abbrev pub run_of : {B : Type 0} (facts : B → Facts) → List ℕ → MadeWrite B → WrittenRun
-run_of facts before made = record {
+abbrev pub made_run : {B : Type 0} (facts : B → Facts) → List ℕ → MadeWrite B → WrittenRun
+made_run facts before made = record {
   at = made.at;
   words = made.words;
   before = before;

@@ -4,7 +4,7 @@ ghost use Rattle.command_base.specs.Finding.{HasCard};
 ghost use Rattle.card_sweeps.specs.Masks.{mask_count_of};
 ghost use Rattle.card_sweeps.specs.Sweeps.{CutsCommand};
 ghost use Rattle.sweep_reports.specs.Printing.{cut_head};
-ghost use Rattle.sweep_reports.specs.ReportParts.{AddsText, run_of, sweeping_of};
+ghost use Rattle.sweep_reports.specs.ReportParts.{AddsText, made_run, sweeping_of};
 ghost use Rattle.sweep_reports.specs.Reporting.{AreKindsOrNone, AreResults, AreWrites, IsCutOrNone, IsFound, IsMade};
 ghost use Rattle.sweep_reports.specs.Reporting.{LacksWrite, TextsInTurn};
 
@@ -161,7 +161,7 @@ where
     ensures words { IfOk result (λ made. IfSome made (λ it. it.words ≤ 16)) }
     ensures inside { IfOk result (λ made. IfSome made (λ it. it.at + it.words ≤ length before.now)) }
     ensures made { IfOk result (λ made. IfSome made (λ it. HasCard (P.Board.facts plan.now.board.now).words
-        → IsMade (sweeping_of P.Board.facts P.Board.torn plan.now) write (run_of P.Board.facts before.now it))) }
+        → IsMade (sweeping_of P.Board.facts P.Board.torn plan.now) write (made_run P.Board.facts before.now it))) }
     ensures unmade { IfOk result (λ made. IfNone made (HasCard (P.Board.facts plan.now.board.now).words
         → LacksWrite (sweeping_of P.Board.facts P.Board.torn plan.now) write)) }
 {
@@ -195,7 +195,7 @@ where
     requires place { i < mask_count_of made.now.words }
     ensures { OnOk result (HasCard (P.Board.facts plan.now.board.now).words
         → AddsText (IsCutOrNone (sweeping_of P.Board.facts P.Board.torn plan.now) write
-        (run_of P.Board.facts before.now made.now) i)
+        (made_run P.Board.facts before.now made.now) i)
         (string_bytes text.old) (string_bytes text.new)) }
 {
     if !plan.part.has(write, i) {
@@ -223,10 +223,10 @@ where
     P::Board: ReadableBoard + Drop,
     requires { 1 ≤ write }
     ensures made { IfOk result (λ made. IfSome made (λ it. HasCard (P.Board.facts plan.now.board.now).words
-        → IsMade (sweeping_of P.Board.facts P.Board.torn plan.now) write (run_of P.Board.facts before.now it))) }
+        → IsMade (sweeping_of P.Board.facts P.Board.torn plan.now) write (made_run P.Board.facts before.now it))) }
     ensures text { IfOk result (λ made. IfSome made (λ it. HasCard (P.Board.facts plan.now.board.now).words
         → AddsText (TextsInTurn (IsCutOrNone (sweeping_of P.Board.facts P.Board.torn plan.now) write
-        (run_of P.Board.facts before.now it)) (mask_count_of it.words))
+        (made_run P.Board.facts before.now it)) (mask_count_of it.words))
         (string_bytes text.old) (string_bytes text.new))) }
     ensures unmade { IfOk result (λ made. IfNone made (HasCard (P.Board.facts plan.now.board.now).words
         → LacksWrite (sweeping_of P.Board.facts P.Board.torn plan.now) write)) }

@@ -1,6 +1,6 @@
 use Rattle.std.proofs.Common.{◌∙◌, sym, true≢false}
 use Rattle.card_sweeps.proofs.CompleteSweeps.{mask-is}
-use Rattle.sweep_reports.specs.ReportParts.{run_of, sweeping_of}
+use Rattle.sweep_reports.specs.ReportParts.{made_run, sweeping_of}
 use Rattle.sweep_reports.proofs.Reported.{cut-put, masked-same, none-put}
 use Rattle.sweep_reports.proofs.plan.push_mask.Goals as goal
 
@@ -9,7 +9,7 @@ returns g c = λ card.
     let cut = c.in_ok-left.ensures card in
     let told = c.mask_at-mask.ensures in
     cut-put (sweeping_of g.P.Board.Board.facts g.P.Board.Sweepable.torn c.args.plan.now) c.args.write
-    (run_of g.P.Board.Board.facts c.args.before.now c.args.made.now)
+    (made_run g.P.Board.Board.facts c.args.before.now c.args.made.now)
     c.args.i _ (g.P.Board.Board.facts c.in_ok-left.left) _ _
     (mask-is c.args.made.now.words c.args.i _ told.none told.all told.single)
     (c.has.ensures.0 c.if-not-has.false)
