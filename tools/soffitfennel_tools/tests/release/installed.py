@@ -75,7 +75,7 @@ class Prefix(unittest.TestCase):
     def test_program_in_c(self) -> None:
         if not shutil.which("pkg-config"):
             self.skipTest("pkg-config isn't installed")
-        words = ["pkg-config", "--define-prefix", "--cflags", "--libs", "soffitfennel"]
+        words = ["pkg-config", "--cflags", "--libs", "soffitfennel"]
         found = run(*words, env={**os.environ, "PKG_CONFIG_PATH": str(self.room / "lib/pkgconfig")})
         self.assertEqual(found.returncode, 0, found.stderr)
         made = room_of(self) / "card"
