@@ -241,8 +241,8 @@ where
     Ok(Some(made))
 }
 
-/// Appends the cuts of the part, and returns the device writes of the command. They begin with the memory of `prepared`,
-/// and the last one leaves the memory `ended`.
+/// Appends the cuts of the part, and returns the device writes of the command. They begin with the memory of
+/// `prepared`, and the last one leaves the memory `ended`.
 ///
 /// # Errors
 /// There is too little memory, or a memory is another than the runs before show.
