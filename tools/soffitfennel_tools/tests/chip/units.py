@@ -115,12 +115,15 @@ def compare_port(room: Room) -> None:
 
 def compare_mistakes(room: Room) -> None:
     """tools/chip says in one line what is wrong."""
+    short = room.folder / "short.card"
+    short.write_bytes(bytes(64 * 1023))
     cases: tuple[tuple[list[object], str], ...] = (
         (["z80"], "invalid choice"),
         (["cortex-m4", "--prove"], "--prove proves a port"),
         (["cortex-m4", "--port", room.folder], "isn't a port: it has no crates.txt"),
         (["cortex-m4", "--port", room.port, "--card", room.port / "crates.txt"], "is no memory image"),
         (["cortex-m4", "--port", room.port, "--card", room.folder / "none"], "none: No such file"),
+        (["cortex-m4", "--port", room.port, "--card", short], "is no memory image"),
         (["cortex-m4", "--port", room.port, "--card", "/dev/zero"], "is no memory image"),
     )
     for words, why in cases:
