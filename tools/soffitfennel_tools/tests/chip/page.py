@@ -4,6 +4,7 @@ from __future__ import annotations
 import re
 import subprocess
 import tempfile
+from math import ceil
 from pathlib import Path
 
 from ...chips.building import bounds, compiled, rewritten
@@ -13,8 +14,8 @@ from ...narrowing.building import TOP
 from .building import Room
 
 PAGE = TOP / "docs" / "CHIP.md"
-# a number on the page is at most this part more than what is measured, so that a small change needs no new page
-MORE, STEP = 1.03, 100
+# a stored number is a little more than what is measured, so that a small change needs no new page, and never far more
+STORED, MORE, STEP = 1.01, 1.03, 100
 ROW = re.compile(r"^\| `([\w-]+)` \| ([\d,]+) \| ([\d,]+) \| ([\d,]+) \|$", re.M)
 MOST_WORDS = 600
 WRITES = re.compile(r"at most (\d+) device writes\s+\(`COMMAND_WRITES`\)")
@@ -82,7 +83,7 @@ def compare(room: Room, is_stored: bool) -> None:
     for name in chips:
         sizes = measured(room, name)
         if is_stored:
-            told = " | ".join(f"{-(-it // STEP) * STEP:,}" for it in sizes)
+            told = " | ".join(f"{ceil(it * STORED / STEP) * STEP:,}" for it in sizes)
             text = text.replace(rows[name][0], f"| `{name}` | {told} |")
             continue
         shown = [int(it.replace(",", "")) for it in rows[name].groups()[1:]]
