@@ -21,12 +21,14 @@ pub memory_of_image : (words : List ℕ) (size : ℕ) → 4 * length words ≡ s
     → IsMemory words × (pages_of words ≡ size / PAGE_BYTES)
 memory_of_image words size bytes image =
     let whole = image.whole in let least = image.least in let most = image.most in
-    let pages : pages_of words ≡ size / PAGE_BYTES = omega (arith, bytes, whole) in
-    (record {
-      whole = omega (arith, bytes, whole);
-      least = omega (arith, pages, least);
-      most = omega (arith, pages, most);
-    }, pages)
+    let pages : pages_of words ≡ size / PAGE_BYTES = omega (arith, bytes, whole) in (
+      record {
+        whole = omega (arith, bytes, whole);
+        least = omega (arith, pages, least);
+        most = omega (arith, pages, most);
+      },
+      pages,
+    )
 
 -- a memory has an image of so many bytes
 pub image_of_memory : (words : List ℕ) → IsMemory words → length (bytes_in_file words) ≤ 262144
@@ -40,11 +42,11 @@ pub is_shorter : (known : Option (List ℕ)) (size : ℕ) (words : List ℕ) →
 is_shorter None size words are image none = tt
 is_shorter (Some bytes) size words are image none = ⊎_elim (λ (fewer : length bytes < size). fewer)
     (λ enough.
-      let taken = length-take size bytes in
-      let same : length (bytes_in_file words) ≡ length (take size bytes) = ap length are in
-      let image_length = length-image words in
-      let all : 4 * length words ≡ size = omega (arith, enough, taken, same, image_length) in
-      absurd (none (memory_of_image words size all image)))
+    let taken = length-take size bytes in
+    let same : length (bytes_in_file words) ≡ length (take size bytes) = ap length are in
+    let image_length = length-image words in
+    let all : 4 * length words ≡ size = omega (arith, enough, taken, same, image_length) in
+    absurd (none (memory_of_image words size all image)))
     (cases_lt (length bytes) size)
 
 -- a refusal is for a reason that is so

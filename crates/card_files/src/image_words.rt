@@ -27,11 +27,7 @@ pub enum WordsFault {
 }
 
 /// Returns the words in the next bytes of a reader, at most `size`, the most significant byte of each first.
-pub fn words_in<R: Read>(
-    alloc: Global,
-    reader: &mut R,
-    size: u64,
-) -> Result<Vec<u32>, WordsFault>
+pub fn words_in<R: Read>(alloc: Global, reader: &mut R, size: u64) -> Result<Vec<u32>, WordsFault>
     ensures fit { IfOk result (λ words. AreWords words.items) }
     ensures words { IfOk result (λ words. AreWordsIn (R.remaining reader.old) size words.items) }
     ensures parts { result ≡ Err WordsFault.Parts → IfSome (R.remaining reader.old)

@@ -7,6 +7,6 @@ returns-in-Some-clause-refused c = (
   record { whole = omega arith; least = omega arith; most = omega arith },
   refl,
   λ asked.
-    let same = asked c.in-Some.wanted.number (ap pages_number c.in-Some.is) in
-    absurd (omega (arith, same)),
+      let same = asked c.in-Some.wanted.number (ap pages_number c.in-Some.is) in
+      absurd (omega (arith, same)),
 )
