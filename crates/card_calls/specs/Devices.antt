@@ -2,7 +2,8 @@
 use Rattle.std.specs.Prelude.{◌≡◌, ◌≢◌, ◌+◌, ◌-◌, ◌%◌, ◌^◌, ◌<◌, ℕ, List, Bool, true, false, [], Option, None, Some}
 use Rattle.std.specs.Prelude.{flat_map, length, map, slice_get, take}
 use Rattle.std.specs.Int.{w32, to_be_bytes}
-use Rattle.nvm_board.specs.Facts.{Facts}
+use Rattle.nvm_board.specs.Facts.{Facts, pages_of}
+use Rattle.nvm_board.specs.declared.board.TheConstants.{LEAST_PAGES}
 use Rattle.nvm_board.specs.History.{Log, Run}
 use Rattle.simulated_boards.specs.declared.kept_board.KeptBoard.{KeptBoard}
 use Rattle.simulated_boards.specs.Kept.{kept_facts}
@@ -28,10 +29,14 @@ shown_log log = Some (record { runs = map run_of log.writes.items; room = log.wr
 abbrev pub logs_none : ℕ → Option Log
 logs_none room = Some (record { runs = []; room = room; count = 0 })
 
+-- the writes that the log of a board with these words has room for: one more for each page more than the least
+abbrev pub log_room : List ℕ → ℕ
+log_room words = LOG_WRITES + (pages_of words - LEAST_PAGES)
+
 -- the log that a card begins with, if it has a device
-abbrev pub begun_log : Bool → Option Log
-begun_log true = logs_none LOG_WRITES
-begun_log false = None
+abbrev pub begun_log : Bool → List ℕ → Option Log
+begun_log true words = logs_none (log_room words)
+begun_log false words = None
 
 -- the facts of a board, with its log
 abbrev pub device_facts : KeptBoard WriteLog → Facts

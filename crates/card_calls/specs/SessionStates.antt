@@ -17,7 +17,7 @@ pub record SessionState : Type 0 where
 -- line. The device has all words, and its log is empty.
 abbrev pub begun_at : Facts → Option ℤ → SessionState
 begun_at facts device = record {
-  desk = desk_of (record facts { log = begun_log (is_some device) });
+  desk = desk_of (record facts { log = begun_log (is_some device) facts.words });
   behind = false;
   stored = 0;
   device = device;

@@ -1,10 +1,11 @@
 //! A board whose device writes the caller stores on a device, by a log of them.
-ghost use Rattle.std.specs.Prelude.{◌≡◌, ◌↔◌, Bool, IfOk, IsTrue, is_some};
+ghost use Rattle.std.specs.Prelude.{◌≡◌, ◌↔◌, Bool, IfOk, IsTrue, None, is_some};
 ghost use Rattle.simulated_boards.specs.Cut.{cut_facts};
-ghost use Rattle.card_calls.specs.Devices.{AllStored, TellsNext, begun_log, device_facts, logs_none};
+ghost use Rattle.card_calls.specs.Devices.{AllStored, TellsNext, begun_log, device_facts, log_room, logs_none};
 ghost use Rattle.card_calls.specs.declared.device.TheConstants.{TWIN_WRITES};
 
 use crate::write_log::{LOG_WRITES, Next, WriteLog};
+use nvm_board::{LEAST_PAGES, PAGE_WORDS};
 use simulated_boards::{CutBoard, Followed, KeptBoard};
 use std::alloc::{AllocError, Global};
 
@@ -16,7 +17,7 @@ pub type DeviceBoard = KeptBoard<WriteLog>;
 
 /// Returns a board that nothing follows.
 pub fn unfollowed(cut: CutBoard) -> DeviceBoard
-    ensures { device_facts result ≡ record (cut_facts cut) { log = begun_log Bool.false } }
+    ensures { device_facts result ≡ record (cut_facts cut) { log = None } }
 {
     KeptBoard::new(cut, None)
 }
@@ -26,10 +27,19 @@ pub fn unfollowed(cut: CutBoard) -> DeviceBoard
 /// # Errors
 /// There is too little memory for the log.
 pub fn followed(alloc: Global, cut: CutBoard) -> Result<DeviceBoard, AllocError>
-    ensures { IfOk result (λ board. device_facts board ≡ record (cut_facts cut) { log = begun_log Bool.true }) }
+    ensures { IfOk result (λ board. device_facts board
+        ≡ record (cut_facts cut) { log = begun_log Bool.true (cut_facts cut).words }) }
 {
-    let log = WriteLog::new(alloc, LOG_WRITES)?;
+    let log = WriteLog::new(alloc, room_of(&cut))?;
     Ok(KeptBoard::new(cut, Some(log)))
+}
+
+/// Returns the writes that the log of a board has room for.
+fn room_of(cut: &CutBoard) -> usize
+    ensures { result ≡ log_room (cut_facts cut.now).words }
+{
+    let pages = cut.words().len() / usize::from(PAGE_WORDS);
+    LOG_WRITES + pages.saturating_sub(usize::from(LEAST_PAGES))
 }
 
 /// Returns a second board in the same state, with an empty log.
