@@ -18,7 +18,8 @@ from .running import by_bench, one
 
 CHIP = TARGETS["riscv32"]
 # scripts that reach each part of the card
-SCRIPTS = ("form_of_select.rows", "create.script", "records_ring.script", "pin_under_cuts.script", "delete_tree.script")
+SCRIPTS = ("form_of_select.rows", "create.script", "records_ring.script", "pin_under_cuts.script", "delete_tree.script",
+           "rules_and_names_of_new_files.rows")
 
 
 @dataclass
