@@ -21,7 +21,7 @@ use Rattle.bench_turns.specs.CardBlocks.{Powered, BlockChangesNothing, BlockComp
 use Rattle.bench_turns.specs.CardBlocks.{BlockIsCut, IsBlockStage, Replies}
 use Rattle.bench_turns.specs.Guessing.{GuessesFew}
 use Rattle.bench_turns.specs.Plays.{BringsNoFault, Plays, PlaysAll, PlaysBlock}
-use Rattle.bench_turns.specs.Turns.{CountsLosses, GoodTurn, Runs, Spends, Wears, dark_of, darks}
+use Rattle.bench_turns.specs.Turns.{CountsLosses, GoodTurn, IsTrace, Runs, Spends, Wears, dark_of, darks}
 use Rattle.bench_turns.proofs.FewGuesses.{pays-nothing, pays-on}
 use Rattle.bench_turns.proofs.GuessesPaid.{ArePaid, paid-few}
 use Rattle.bench_turns.proofs.Wearing.{aims-off, wears-shown, wears-writing}
@@ -36,6 +36,15 @@ run_more old between new [] (i ∷ trace) turn item run one = absurd run
 run_more old between new (t ∷ turns) [] turn item run one = absurd run
 run_more old between new (t ∷ turns) (i ∷ trace) turn item run one =
     (run.0, run.1, run_more run.0 between new turns trace turn item run.2 one)
+
+-- a run of turns, without what they count
+pub traced : (old : BenchState) (turns : List Turn) (trace : List Item) (new : BenchState) → Runs old turns trace new
+    → IsTrace old turns trace new
+unfolding Runs IsTrace
+traced old [] [] new run = run
+traced old [] (item ∷ items) new run = run
+traced old (turn ∷ turns) [] new run = run
+traced old (turn ∷ turns) (item ∷ items) new run = (run.0, run.1.one, traced run.0 turns items new run.2)
 
 darks_more : (trace : List Item) (item : Item) → darks (trace ++ item ∷ []) ≡ darks trace + dark_of item
 unfolding darks

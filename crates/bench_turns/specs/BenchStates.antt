@@ -60,6 +60,11 @@ abbrev pub IsWell : BenchState → Type 0
 IsWell (off facts) = Unit {0}
 IsWell (on powered) = powered.card.state ≡ Working
 
+-- no fault between these two states, nor earlier since power-on
+pub record BringsNoFault (old new : BenchState) : Type 0 where
+  pub faults : (bench_facts new).faults ≡ (bench_facts old).faults
+  pub well : IsWell old
+
 -- The reported free space: none with power off. With power on it is that of the card state after recovery, as long as
 -- the memory hasn't failed.
 abbrev pub TellsFree : BenchState → Option FreeSpace → Type 0

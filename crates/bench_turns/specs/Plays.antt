@@ -9,12 +9,8 @@ use Rattle.bench_turns.specs.declared.turn_result.TurnResult.{TurnResult}
 use Rattle.bench_turns.specs.declared.turn_result.TurnResult.TheVariants as turned
 use Rattle.bench_turns.specs.BenchStates.{BenchState, bench_facts, BenchHasCard, IsWell}
 use Rattle.bench_turns.specs.Guessing.{GuessesFew}
+pub use Rattle.bench_turns.specs.BenchStates.{BringsNoFault}
 use Rattle.bench_turns.specs.Turns.{CountsLosses, OneTurn, Runs, Spends, TakesBlock, Wears, dark_of, darks, turn_writes}
-
--- no fault between these two states, nor earlier since power-on
-pub record BringsNoFault (old new : BenchState) : Type 0 where
-  pub faults : (bench_facts new).faults ≡ (bench_facts old).faults
-  pub well : IsWell old
 
 -- A bench with a card state after recovery, and without any fault. A power cut is due if one is set.
 pub record IsGood (b : BenchState) : Type 0 where

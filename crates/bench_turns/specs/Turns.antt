@@ -180,6 +180,14 @@ Runs old (turn ∷ turns) [] new = ⊥
 Runs old (turn ∷ turns) (item ∷ items) new =
     (between : BenchState) × GoodTurn old turn item between × Runs between turns items new
 
+-- What the card does in several turns, in order, with the result of each. `Runs` also says what each of them counts.
+unfoldable pub IsTrace : BenchState → List Turn → List Item → BenchState → Type 0
+IsTrace old [] [] new = new ≡ old
+IsTrace old [] (item ∷ items) new = ⊥
+IsTrace old (turn ∷ turns) [] new = ⊥
+IsTrace old (turn ∷ turns) (item ∷ items) new =
+    (between : BenchState) × OneTurn old turn item between × IsTrace between turns items new
+
 -- the most steps of a counter in these turns, each by the memory before it
 unfoldable pub run_steps : (old : BenchState) (turns : List Turn) (trace : List Item) (new : BenchState)
     → Runs old turns trace new → ℕ

@@ -6,7 +6,7 @@ ghost use Rattle.bench_turns.specs.BenchStates.{with_facts};
 ghost use Rattle.card_turns.specs.BenchViews.{power_state, IsPowerKept};
 ghost use Rattle.bench_turns.specs.Guessing.{GuessesFew};
 ghost use Rattle.bench_turns.specs.Plays.{Plays, PlaysBlock, BringsNoFault, IsGood, TellsItem};
-ghost use Rattle.bench_turns.specs.Turns.{CountsLosses, GoodTurn, Runs, darks};
+ghost use Rattle.bench_turns.specs.Turns.{CountsLosses, GoodTurn, IsTrace, Runs, darks};
 
 use crate::powered::Powered;
 use bench_turns::{Item, Turn, TurnPlayer, TurnResult, Twinned};
@@ -74,8 +74,11 @@ impl<B: Socket> Bench<B> {
 
         // The headline. The memory has a card state after recovery, and the device reports no fault in the run, nor
         // since the power-on before it. Then the trace is the tree machine's, from that card state to the one after.
-        ensures well { BringsNoFault self.old self.new → IsWell self.new }
-        ensures runs { BenchHasCard self.old → BringsNoFault self.old self.new
+        ensures runs { BringsNoFault self.old self.new
+            → IsWell self.new × (BenchHasCard self.old → IsTrace self.old turns.now trace.new self.new) }
+
+        // Each turn of it also keeps to its counts, to the guess law and to the board's log.
+        ensures costs { BenchHasCard self.old → BringsNoFault self.old self.new
             → Runs self.old turns.now trace.new self.new }
     {
         for i in 0..turns.len() {

@@ -6,7 +6,7 @@ use Rattle.bench_turns.specs.declared.turn.Turn.TheVariants.{On}
 use Rattle.bench_turns.specs.declared.turn.Item.{Item}
 use Rattle.bench_turns.specs.BenchStates.{bench_facts}
 use Rattle.bench_turns.specs.Turns.{CountsLosses, Runs, darks}
-use Rattle.bench_turns.proofs.PlayedTurns.{plays_none, plays_more}
+use Rattle.bench_turns.proofs.PlayedTurns.{plays_none, plays_more, traced}
 use Rattle.card_turns.proofs.playing.Bench.play.Goals as goal
 
 pub loop-i-init : goal.loop-i-init
@@ -29,9 +29,6 @@ returns-clause-has_card g c = c.loop-i.invariant.so_far.has_card
 pub returns-clause-guesses : goal.returns-clause-guesses
 returns-clause-guesses g c = c.loop-i.invariant.so_far.guesses
 
-pub returns-clause-well : goal.returns-clause-well
-returns-clause-well g c = c.loop-i.invariant.so_far.well
-
 pub returns-clause-counts : goal.returns-clause-counts
 returns-clause-counts g c =
     let all = take_all c.loop-i.i c.loop-i.trace
@@ -39,8 +36,8 @@ returns-clause-counts g c =
     subst (λ (t : List Item). CountsLosses (darks t) (bench_facts c.args.self.now) (bench_facts c.loop-i.self)) all
     c.loop-i.invariant.so_far.counts
 
-pub returns-clause-runs : goal.returns-clause-runs
-returns-clause-runs g c =
+pub returns-clause-costs : goal.returns-clause-costs
+returns-clause-costs g c =
     let all = take_all c.loop-i.i c.loop-i.trace
     (omega (arith, c.requires, c.loop-i.auto.trace, c.loop-i-test.false)) in
     let turns = take_all c.loop-i.i c.args.turns.now c.loop-i-test.false in
@@ -48,3 +45,9 @@ returns-clause-runs g c =
     λ has good. subst (λ (t : List Item). Runs c.args.self.now c.args.turns.now t c.loop-i.self) all
     (subst (λ (u : List Turn). Runs c.args.self.now u so_far c.loop-i.self) turns
     (c.loop-i.invariant.so_far.runs has good))
+
+pub returns-clause-runs : goal.returns-clause-runs
+returns-clause-runs g c = λ good. (
+  c.loop-i.invariant.so_far.well good,
+  λ has. traced c.args.self.now c.args.turns.now c.loop-i.trace c.loop-i.self (returns-clause-costs g c has good),
+)
