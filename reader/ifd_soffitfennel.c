@@ -280,7 +280,9 @@ RESPONSECODE IFDHCreateChannelByName(DWORD Lun, LPSTR DeviceName)
     slot->has_faults = slot->has_power = slot->has_written = slot->is_broken = false;
     for (bool is_more = true; is_more;) {
         bool is_sync = cut_option(slot->path, ":sync"), is_faults = cut_option(slot->path, ":faults");
-        sync |= is_sync, slot->has_faults |= is_faults, is_more = is_sync || is_faults;
+        /* (pcscd takes a name without a colon only if the file is there) */
+        bool is_none = cut_option(slot->path, ":");
+        sync |= is_sync, slot->has_faults |= is_faults, is_more = is_sync || is_faults || is_none;
     }
     slot->lun = Lun, slot->gone_until = 0;
     slot->is_used = open_card(slot, sync);

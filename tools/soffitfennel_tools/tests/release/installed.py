@@ -13,8 +13,14 @@ from ...arguments import commands
 from ...releasing.tree import version
 from .common import FIRST, ICCID, PLAIN_PATH, TOP, clean, one, releases, room_of, run
 
-# the packages of a root that a new user has: README's, a compiler, pip and the reader's service
-ROOT_PACKAGES = "python3,python3-pip,gcc,libc6-dev,pkg-config,pcscd,man-db,bash-completion"
+# the packages of a root that a new user has: README's, a compiler, pip, the reader's service, and a client of it
+ROOT_PACKAGES = "python3,python3-pip,gcc,libc6-dev,pkg-config,pcscd,opensc,man-db,bash-completion"
+# a client of the service that Debian starts, with the reader that the driver's package configures
+SERVICE = """mkdir -p /run/pcscd; pcscd --foreground >/tmp/pcscd.log 2>&1 & service=$!
+for i in $(seq 100); do [ -S /run/pcscd/pcscd.comm ] && break; sleep 0.1; done
+sleep 0.5; opensc-tool --reader 0 --atr; opensc-tool --reader 0 --send-apdu 00:A4:00:0C:02:2F:E2 | grep Received
+kill $service; wait $service 2>/dev/null; true"""
+SERVED = "3b:80:81:31:fe:45:8b\nReceived (SW1=0x90, SW2=0x00)\n"
 CUT = "on\ncut 1 0001\napdu 002000010830303030FFFFFFFF\non\napdu 00200001\n"
 AFTER_CUT = "atr 3B808131FE458B\ndark\natr 3B808131FE458B\n< 63C2\n"
 
@@ -177,9 +183,11 @@ class CleanRoot(unittest.TestCase):
         self.says("soffitfennel --version | sed -n 3p", f"{state}\n")
 
     def check_driver_and_removal(self) -> None:
-        """The driver is where pcscd looks, and cards stay when the packages go."""
+        """The service has the driver's reader, whose card is a private file. Cards stay when the packages go."""
         self.says("stat -c %a /var/lib/soffitfennel", "700\n")
         self.says("sed -n 's/^LIBPATH //p' /etc/reader.conf.d/soffitfennel | xargs stat -c %F", "regular file\n")
+        self.says(SERVICE, SERVED)
+        self.says("stat -c '%a %s' /var/lib/soffitfennel/card.image", "600 65536\n")
         self.says("cp my.card /var/lib/soffitfennel/card.image; sha256sum <my.card >before", "")
         came = self.in_root("apt-get purge --yes soffitfennel libifd-soffitfennel libsoffitfennel1 libsoffitfennel-dev")
         self.assertEqual(came.returncode, 0, came.stderr)
