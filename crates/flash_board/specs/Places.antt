@@ -23,7 +23,8 @@ pub record IsLog (m : List ℕ) (p : Place) : Type 0 where
 
 -- A flash with the words of its board in place of its own.
 abbrev pub state_of : FlashState → FlashState
-state_of s = record { words = words_of s.words; dark = s.dark; due = s.due; faults = s.faults; operations = s.operations }
+state_of s =
+    record { words = words_of s.words; dark = s.dark; due = s.due; faults = s.faults; operations = s.operations }
 
 -- Why a flash is not taken: it has no log, and nothing changed; power was lost; or it failed. No word changed.
 abbrev pub OpenStopsBy : OpenFault → FlashState → FlashState → Type 0

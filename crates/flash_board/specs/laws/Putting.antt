@@ -76,7 +76,8 @@ module _ (m after : List ℕ) (base s : ℕ) (elsewhere : SameElsewhere m (slot_
     none_kept n p k lt none = word_kept n p k lt (holds_none after base s p none)
 
   -- the record that was put is that of its page
-  module _ (words : List ℕ) (n page : ℕ) (size : length words ≡ 18) (below : s < n) (names : slice_index words 16 ≡ page)
+  module _ (words : List ℕ) (n page : ℕ) (size : length words ≡ 18) (below : s < n)
+      (names : slice_index words 16 ≡ page)
       (behind : (t : ℕ) → s < t → t < n → is_marked m (slot_of base t + 18) ≡ false)
       (put : IsPut after (slot_of base s) words) where
     named : slice_index after (slot_of base s + 16) ≡ page

@@ -77,7 +77,8 @@ returns-clause-index g c =
     let mid = (g.F.Flash.state c.fill.new.flash).words in
     let after = (g.F.Flash.state c.close.new.flash).words in
     let same : SameArea mid after 0 =
-    record { each = λ k low high. let x : k < 51204 = omega (arith, high) in c.close.ensures.elsewhere.same k (inl x) } in
+    record { each = λ k low high. let x : k < 51204 = omega (arith, high) in
+        c.close.ensures.elsewhere.same k (inl x) } in
     record { each = λ p lt. c.in_ok-next.ensures.index.each p lt ∙ sym (area_found mid after 0 same p) }
 
 pub returns-clause-free : goal.returns-clause-free
@@ -85,7 +86,8 @@ returns-clause-free g c =
     let mid = (g.F.Flash.state c.fill.new.flash).words in
     let after = (g.F.Flash.state c.close.new.flash).words in
     let same : SameArea mid after 0 =
-    record { each = λ k low high. let x : k < 51204 = omega (arith, high) in c.close.ensures.elsewhere.same k (inl x) } in
+    record { each = λ k low high. let x : k < 51204 = omega (arith, high) in
+        c.close.ensures.elsewhere.same k (inl x) } in
     area_free mid after 0 same c.in_ok-next.next c.in_ok-next.ensures.free
 
 pub close-requires-clause-opened : goal.close-requires-clause-opened

@@ -78,7 +78,8 @@ returns-clause-index g c =
     let mid = (g.F.Flash.state c.fill.new.flash).words in
     let after = (g.F.Flash.state c.close.new.flash).words in
     let same : SameArea mid after 25602 =
-    record { each = λ k low high. let x : 25600 + 2 ≤ k = omega (arith, low) in c.close.ensures.elsewhere.same k (inr x) } in
+    record { each = λ k low high. let x : 25600 + 2 ≤ k = omega (arith, low) in
+        c.close.ensures.elsewhere.same k (inr x) } in
     record { each = λ p lt. c.in_ok-next.ensures.index.each p lt ∙ sym (area_found mid after 25602 same p) }
 
 pub returns-clause-free : goal.returns-clause-free
@@ -86,7 +87,8 @@ returns-clause-free g c =
     let mid = (g.F.Flash.state c.fill.new.flash).words in
     let after = (g.F.Flash.state c.close.new.flash).words in
     let same : SameArea mid after 25602 =
-    record { each = λ k low high. let x : 25600 + 2 ≤ k = omega (arith, low) in c.close.ensures.elsewhere.same k (inr x) } in
+    record { each = λ k low high. let x : 25600 + 2 ≤ k = omega (arith, low) in
+        c.close.ensures.elsewhere.same k (inr x) } in
     area_free mid after 25602 same c.in_ok-next.next c.in_ok-next.ensures.free
 
 pub close-requires-clause-opened : goal.close-requires-clause-opened

@@ -42,7 +42,8 @@ unfolding IsLostRightly
 returns-then-self-3 g c = record {
   done = search rules;
   torn =
-      whole_torn c.args.self.now.log.words c.args.words.now c.write-ended.new.self.words (address c.args.page c.args.first)
+      whole_torn c.args.self.now.log.words c.args.words.now c.write-ended.new.self.words
+          (address c.args.page c.args.first)
       c.write-ended.ensures.whole;
   light = search rules;
   worn = search rules;
@@ -59,7 +60,8 @@ unfolding IsLostRightly
 returns-in-Ok g c = record {
   done = search rules;
   torn =
-      whole_torn c.args.self.now.log.words c.args.words.now c.write-ended.new.self.words (address c.args.page c.args.first)
+      whole_torn c.args.self.now.log.words c.args.words.now c.write-ended.new.self.words
+          (address c.args.page c.args.first)
       c.write-ended.ensures.whole;
   light = search rules;
   worn = search rules;
@@ -76,7 +78,8 @@ unfolding IsLostRightly
 returns-in-Err-PowerLost g c = record {
   done = search rules;
   torn =
-      whole_torn c.args.self.now.log.words c.args.words.now c.write-ended.new.self.words (address c.args.page c.args.first)
+      whole_torn c.args.self.now.log.words c.args.words.now c.write-ended.new.self.words
+          (address c.args.page c.args.first)
       c.write-ended.ensures.whole;
   light = search rules;
   worn = search rules;
@@ -93,7 +96,8 @@ unfolding IsLostRightly
 returns-else-self-3 g c = record {
   done = search rules;
   torn =
-      whole_torn c.args.self.now.log.words c.args.words.now c.write-ended.new.self.words (address c.args.page c.args.first)
+      whole_torn c.args.self.now.log.words c.args.words.now c.write-ended.new.self.words
+          (address c.args.page c.args.first)
       c.write-ended.ensures.whole;
   light = search rules;
   worn = search rules;

@@ -12,5 +12,6 @@ invariant_of-result c =
     let fits : BLANK < 2 ^ 32 = omega arith in
     record {
       sized = ap (λ (l : List ℕ). length l) same ∙ length-replicate {A = ℕ} FLASH_WORDS BLANK;
-      words_fit = subst (λ (l : List ℕ). AreWords l) (sym same) (All-replicate (λ w. w < 2 ^ 32) FLASH_WORDS BLANK fits);
+      words_fit = subst (λ (l : List ℕ). AreWords l) (sym same)
+          (All-replicate (λ w. w < 2 ^ 32) FLASH_WORDS BLANK fits);
     }
