@@ -1,8 +1,23 @@
 """The checks of a test: counted, and reported where one fails."""
 from __future__ import annotations
 
+from argparse import ArgumentParser
+from collections.abc import Callable, Iterable
+from typing import Any, TypeVar
+
+Part = TypeVar("Part", bound=Callable[..., Any])
 # how much of a value is shown
 MOST = 2000
+
+
+def add_words(parser: ArgumentParser) -> None:
+    """Lets a test take the names of its parts."""
+    parser.add_argument("words", nargs="*", metavar="WORD", help="only the tests whose names have the word")
+
+
+def named(parts: Iterable[Part], words: list[str]) -> list[Part]:
+    """The parts whose names have one of these words; all where there are no words."""
+    return [it for it in parts if not words or any(word in it.__name__ for word in words)]
 
 
 class Checks:
