@@ -37,6 +37,9 @@ STARTS_OF = (
     ({GATE: 1, PAIRS: 16384}, BAD_JOURNAL),
     ({GATE: 0, PAIRS: 16384}, STARTS),
     ({GATE: 2, PAIRS: 2049, PAIRS + 1: 0x98103254, PAIRS + 2: 2049, PAIRS + 3: 0, 2049: 7}, STARTS),
+    # two pairs of one address: the first one has the word before the transaction
+    ({0: 7, GATE: 2, PAIRS: 0, PAIRS + 1: 0x54534332, PAIRS + 2: 0, PAIRS + 3: 9}, STARTS),
+    ({0: 7, GATE: 2, PAIRS: 0, PAIRS + 1: 9, PAIRS + 2: 0, PAIRS + 3: 0x54534332}, DAMAGED),
 )
 # words changed, and the place of the first break that the reader names
 PLACES = (
