@@ -17,6 +17,8 @@ import urllib.request
 from pathlib import Path
 from typing import Any, Protocol
 
+from ...programs import dies_with_parent
+
 SIZE = (1400, 1000)
 # the window of Firefox that stands for a narrower one, by its zoom
 WIDE = 1280
@@ -119,7 +121,11 @@ class Chromium:
             raise Missing("chromium and chromium-driver")
         self.room = tempfile.TemporaryDirectory(prefix="page-test-")
         self.process = subprocess.Popen(
-            [driver, "--port=0"], stdout=subprocess.PIPE, stderr=subprocess.DEVNULL, text=True
+            [driver, "--port=0"],
+            stdout=subprocess.PIPE,
+            stderr=subprocess.DEVNULL,
+            text=True,
+            preexec_fn=dies_with_parent,
         )
         assert self.process.stdout
         said = (re.search(r"successfully on port ([0-9]+)", line) for line in self.process.stdout)
@@ -141,6 +147,8 @@ class Chromium:
             "--disable-background-networking",
             f"--user-data-dir={self.room.name}/profile",
             "--force-color-profile=srgb",
+            # (the browser ends with the driver, whose pipe closes)
+            "--remote-debugging-pipe",
         ]
         # (its own sandbox needs a user that isn't root)
         words += ["--no-sandbox", "--disable-dev-shm-usage"] if os.geteuid() == 0 else []
@@ -243,7 +251,9 @@ class Firefox:
         # (its sandbox wants namespaces that a container may not have)
         environment = {**os.environ, "HOME": self.room.name, "MOZ_DISABLE_CONTENT_SANDBOX": "1"}
         quiet = subprocess.DEVNULL
-        self.process = subprocess.Popen(words, env=environment, stdin=quiet, stdout=quiet, stderr=quiet)
+        self.process = subprocess.Popen(
+            words, env=environment, stdin=quiet, stdout=quiet, stderr=quiet, preexec_fn=dies_with_parent
+        )
         self.line = self.connected(profile / "MarionetteActivePort")
         self.read()
         self.call("WebDriver:NewSession", {})
