@@ -56,6 +56,25 @@ int link(const char *from, const char *to)
     return (int)syscall(SYS_linkat, AT_FDCWD, from, AT_FDCWD, to, 0);
 }
 
+/* The folders that the driver brought to the disk. */
+static int synced_folders;
+
+int fsync(int file)
+{
+    struct stat it;
+
+    synced_folders += fstat(file, &it) == 0 && S_ISDIR(it.st_mode);
+    return (int)syscall(SYS_fsync, file);
+}
+
+/* The driver's write: the disk may take a part of it. */
+static bool takes_a_part;
+
+ssize_t pwrite(int file, const void *bytes, size_t size, off_t offset)
+{
+    return syscall(SYS_pwrite64, file, bytes, takes_a_part ? size / 2 : size, offset);
+}
+
 /* The driver said this, in words, and nothing that says nothing. */
 static void says(const char *what)
 {
@@ -208,7 +227,7 @@ static void torn_session(char *path)
     ask(0, "00A4000C022FE2", IFD_SUCCESS, "9000");
     ask(0, "002000010831323334FFFFFFFF", IFD_SUCCESS, "9000");
     ask(0, "00D600000411223344", IFD_SUCCESS, "9000");
-    arm(0, 1, "000000030001", IFD_SUCCESS);
+    arm(0, 1, "000000030001", IFD_SUCCESS); /* (the update's first write is the third one) */
     ask(0, "00D6000004AABBCCDD", IFD_ICC_NOT_PRESENT, "");
     same(presence(0), IFD_ICC_NOT_PRESENT, "a card that lost power is out");
     wait_for_card(0);
@@ -248,6 +267,16 @@ static void cleared_faults(void)
     start(0, IFD_SUCCESS);
     ask(0, "002000010831323334FFFFFFFF", IFD_SUCCESS, "9000");
     ask(0, "00A4000C022FE2", IFD_SUCCESS, "9000");
+}
+
+/* A charge of which no word is new: no try is gone. */
+static void empty_cut(void)
+{
+    arm(0, 1, "000000010000", IFD_SUCCESS);
+    ask(0, "002000010839323334FFFFFFFF", IFD_ICC_NOT_PRESENT, "");
+    wait_for_card(0);
+    start(0, IFD_SUCCESS);
+    ask(0, "00200001", IFD_SUCCESS, "63C3");
 }
 
 static void sizes(void)
@@ -359,11 +388,13 @@ static bool has_sync(const char *path)
 static void lost_files(const char *folder, char *names[])
 {
     char *other = path_of(folder, "other"), *link_to = path_of(folder, "link_to");
+    struct stat before;
 
     copy(names[0], other);
     must(unlink(names[1]) == 0, "unlink");
     is_out(1, "the file is gone");
-    must(truncate(names[2], 0) == 0, "truncate");
+    must(stat(names[2], &before) == 0 && truncate(names[2], 0) == 0, "truncate");
+    must(utimensat(AT_FDCWD, names[2], (struct timespec[]){before.st_atim, before.st_mtim}, 0) == 0, "utimensat");
     is_out(2, "another program wrote the file");
     same(end(1), IFD_SUCCESS, "the reader ends");
     same(end(2), IFD_SUCCESS, "the reader ends");
@@ -455,6 +486,9 @@ static void readers(const char *folder, char *path)
     same(create(3, names[3]), IFD_SUCCESS, "a file that failed has a card");
     says("");
     start(3, IFD_SUCCESS);
+    takes_a_part = true;
+    is_out(3, "the file took a part of a write");
+    takes_a_part = false;
     same(end(3), IFD_SUCCESS, "the reader ends");
 }
 
@@ -467,10 +501,12 @@ int main(int argc, char **argv)
     same(create(0, options), IFD_SUCCESS, "the reader begins");
     says("a new card is made, with the factory card's PINs");
     same(files_in(argv[2]), 1, "one file is made");
+    same(synced_folders, 1, "the disk has the new card's name");
     same(presence(0), IFD_ICC_PRESENT, "the card is there");
     torn_session(options);
     faults_of_the_line();
     cleared_faults();
+    empty_cut();
     sizes();
     says("");
     readers(argv[2], path);
