@@ -130,6 +130,7 @@ fn faults_are_taken_back() -> Result<(), Error> {
     card.transmit(&VERIFY, &mut answer)?;
     card.cut(1, 0)?;
     card.lose(1)?;
+    assert!(!card.state()?.has_garbling && card.state()?.has_loss);
     card.garble(1)?;
     let state = card.state()?;
     assert!(state.has_power && !state.has_device && state.has_cut && state.has_loss && state.has_garbling);
@@ -147,6 +148,7 @@ fn faults_are_taken_back() -> Result<(), Error> {
 fn a_memory_has_1024_to_4096_pages() -> Result<(), Error> {
     let mut words = vec![0; MOST_WORDS];
     assert_eq!(Card::factory_of(MOST_PAGES)?.words(&mut words)?.len(), MOST_WORDS);
+    assert_eq!(Card::factory()?.words(&mut words)?.len(), WORDS);
     for pages in [0, 1_023, 4_097, usize::MAX] {
         assert_eq!(Card::factory_of(pages).err(), Some(Error::Size));
     }
