@@ -1,6 +1,7 @@
 """tools/load and tools/export: cards there and back, rules of EF.ARR, and what has no place."""
 from __future__ import annotations
 
+import fcntl
 import stat
 
 from .room import Room
@@ -153,3 +154,6 @@ class Loads(Room):
         self.load(arr())
         self.tool("issue", self.room / "out.card", self.room / "image")
         self.assertIn("has a file 3F00/2F06", self.refused("export", self.room / "image", "-"))
+        with open(self.room / "image", "rb") as it:
+            fcntl.flock(it, fcntl.LOCK_EX)
+            self.assertIn("in use", self.refused("export", self.room / "image", "-"))

@@ -162,9 +162,10 @@ class Closed(Room):
 
     def test_no_secret_on_a_command_line(self) -> None:
         card = self.image("purse")
-        said = self.refused("issue", "--from", card, "--set", 'pin1.value="9999"', self.room / "out")
-        self.assertIn("every user of this machine sees a command line", said)
-        self.assertNotIn("9999", said)
+        for key in ("value", "puk"):
+            said = self.refused("issue", "--from", card, "--set", f'pin1.{key}="9999"', self.room / "out")
+            self.assertIn("every user of this machine sees a command line", said)
+            self.assertNotIn("9999", said)
 
     def test_wrong_changes(self) -> None:
         card = self.image("purse")
