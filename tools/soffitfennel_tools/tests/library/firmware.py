@@ -21,6 +21,8 @@ SELECT = "apdu 00A4000C022FE2"
 SESSION = f"on\n{SELECT}\napdu 002000010831323334FFFFFFFF\n"
 LOOK = f"on\n{SELECT}\napdu 00B0000004\napdu 00200001\n"
 UPDATES = 4000
+# the first number, whose bytes differ
+NUMBER = 0x01020304
 # a right value, and wrong ones in the first and the last byte
 VALUES = ("31323334FFFFFFFF", "39323334FFFFFFFF", "31323334FFFFFFFE")
 TRACED = re.compile(rb"\[[0-9a-f]{16}/([0-9a-f]{16})/")
@@ -96,8 +98,8 @@ def scripts_without_cuts() -> list[Path]:
 def keep_card(tests: Tests, image: Path) -> None:
     """The emulator is killed while the card is updated: an answered update is there, and no try is back."""
     chance, memory, script = random.Random(7), tests.room / "board.memory", tests.room / "kept.script"
-    serial, number, updates = [SERIAL, "--image", image, "--memory", memory], 0, 0
-    script.write_text(SESSION + updated(0), encoding="ascii")
+    serial, number, updates = [SERIAL, "--image", image, "--memory", memory], NUMBER, 0
+    script.write_text(SESSION + updated(number), encoding="ascii")
     tests.run("a board keeps its card", *serial, script)
     for kill in range(tests.sizes.firmware_kills):
         script.write_text(SESSION + "".join(updated(number + it) for it in range(1, UPDATES)), encoding="ascii")

@@ -100,7 +100,8 @@ def test_kept_mistakes(tests: Tests) -> None:
     tests.refuses("a file that may not grow", "", *words, program, room / "half")
     tests.run("a card is made in a file", program, room / "card")
     card = room / "card"
-    tests.refuses("a file of two programs", "another program uses it", "flock", "-x", card, program, card)
+    for lock in ("-x", "-s"):
+        tests.refuses(f"a file with a lock {lock}", "another program uses it", "flock", lock, card, program, card)
     left = sorted(it.name for it in room.iterdir())
     wanted = ["blank", "card", "empty", "large", "link", "odd", "pipe", "short"]
     tests.holds(left == wanted, "files that are left", str(left))
