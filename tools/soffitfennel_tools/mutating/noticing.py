@@ -153,5 +153,5 @@ def try_tests(top: Path, mutants: list[Mutant], jobs: int) -> Iterator[Verdict]:
             copy_tree(top, Path(room) / str(number))
             copies.put(Path(room) / str(number))
         tried = [pool.submit(try_test, copies, test, those, environment) for test, those in tests.items()]
-        for it in as_completed(tried):
-            yield from it.result()
+        for done in as_completed(tried):
+            yield from done.result()
