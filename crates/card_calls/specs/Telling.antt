@@ -38,6 +38,10 @@ outcome_number outcome.Memory = pos 5
 outcome_number outcome.NoCard = pos 6
 outcome_number outcome.Unstored = pos 7
 outcome_number outcome.Absent = pos 8
+outcome_number outcome.Send = pos 9
+outcome_number outcome.Resynched = pos 10
+outcome_number outcome.BadAnswer = pos 11
+outcome_number outcome.OutOfTurn = pos 12
 
 -- the outcome of an output
 abbrev pub print_outcome : Print → Outcome

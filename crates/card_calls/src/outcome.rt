@@ -30,6 +30,15 @@ pub enum Outcome {
     Unstored,
     /// The handle is null.
     Absent,
+    /// A reader's end has a block to send.
+    Send,
+    /// A reader's end resynchronised the link. It is unknown whether the command ran.
+    Resynched,
+    /// The answer that a reader's end received has a wrong length.
+    BadAnswer,
+    /// A reader's end has a command in progress, where it must have none, or none where it must have one. Nothing was
+    /// done.
+    OutOfTurn,
 }
 
 impl Outcome {
@@ -47,6 +56,10 @@ impl Outcome {
             Outcome::NoCard => 6,
             Outcome::Unstored => 7,
             Outcome::Absent => 8,
+            Outcome::Send => 9,
+            Outcome::Resynched => 10,
+            Outcome::BadAnswer => 11,
+            Outcome::OutOfTurn => 12,
         }
     }
 }
