@@ -1,0 +1,2 @@
+pub mod CopiedParts
+pub mod ReaderCalls
