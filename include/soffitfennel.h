@@ -35,10 +35,11 @@
  *       return 0;
  *   }
  *
- * A card is one pointer. The caller keeps it, and passes its address. It is null before a maker makes a card, and
- * after soffitfennel_free. With a null pointer the other functions do nothing, and return ABSENT, whatever else they
- * get. A buffer of 0 bytes or words may be null. Every other pointer must not be null: the address of the card's
- * pointer, and each pointer to a number that a call returns.
+ * A card is one pointer. The caller keeps it, and passes its address. It is null before a maker makes a card, and after
+ * soffitfennel_free. With a null pointer the other functions do nothing, and return ABSENT, whatever else they get. A
+ * reader is another such pointer, with soffitfennel_reader_new and soffitfennel_reader_free. A buffer of 0 bytes or
+ * words may be null. Every other pointer must not be null: the address of the card's pointer, and each pointer to a
+ * number that a call returns.
  *
  * The caller has these duties, which no function can test:
  * - It sets the card's pointer to null at first, and changes it by these functions alone. It doesn't read or write
@@ -81,20 +82,25 @@
 extern "C" {
 #endif
 
-/* A card. The library alone knows what is in it. */
+/* A card, and a reader's end of T=1. The library alone knows what is in them. */
 typedef struct soffitfennel_card soffitfennel_card;
+typedef struct soffitfennel_reader soffitfennel_reader;
 
 /* The outcome of a call, which each function returns as an int32_t. A later version may have further ones. */
 enum soffitfennel_outcome {
-    SOFFITFENNEL_DONE = 0,     /* it was done */
-    SOFFITFENNEL_MUTE = 1,     /* no answer: power is off, or power-on fails */
-    SOFFITFENNEL_DARK = 2,     /* power was lost in this call, and is off */
-    SOFFITFENNEL_LOST = 3,     /* the link was lost; power-on restores it */
-    SOFFITFENNEL_SIZE = 4,     /* a length or a number is out of its range: nothing was done */
-    SOFFITFENNEL_MEMORY = 5,   /* there is too little memory: nothing was done */
-    SOFFITFENNEL_NO_CARD = 6,  /* the words are no valid card image: no card was made */
-    SOFFITFENNEL_UNSTORED = 7, /* the device did not take a write: make the card again from the device */
-    SOFFITFENNEL_ABSENT = 8    /* the card is null */
+    SOFFITFENNEL_DONE = 0,        /* it was done */
+    SOFFITFENNEL_MUTE = 1,        /* no answer: power is off, or power-on fails */
+    SOFFITFENNEL_DARK = 2,        /* power was lost in this call, and is off */
+    SOFFITFENNEL_LOST = 3,        /* the link was lost; power-on restores it */
+    SOFFITFENNEL_SIZE = 4,        /* a length or a number is out of its range: nothing was done */
+    SOFFITFENNEL_MEMORY = 5,      /* there is too little memory: nothing was done */
+    SOFFITFENNEL_NO_CARD = 6,     /* the words are no valid card image: no card was made */
+    SOFFITFENNEL_UNSTORED = 7,    /* the device did not take a write: make the card again from the device */
+    SOFFITFENNEL_ABSENT = 8,      /* the card, or the reader, is null */
+    SOFFITFENNEL_SEND = 9,        /* of a reader: send the block in the buffer */
+    SOFFITFENNEL_RESYNCHED = 10,  /* of a reader: the link is in step again; the command may have run */
+    SOFFITFENNEL_BAD_ANSWER = 11, /* of a reader: the answer's length was wrong; a reset restores the link */
+    SOFFITFENNEL_OUT_OF_TURN = 12 /* of a reader: a command is in progress, or none is: nothing was done */
 };
 
 /* Sizes. */
@@ -225,6 +231,39 @@ int32_t soffitfennel_check(const uint32_t *words, size_t count, uint32_t *why) S
  * in the buffer, and its length in *size: 0 if it doesn't fit. */
 int32_t soffitfennel_run(const uint8_t *script, size_t count, uint8_t *output, size_t room, size_t *size)
     SOFFITFENNEL_NOEXCEPT;
+
+/* A reader's end of T=1 (ISO/IEC 7816-3, clause 11), for readers and drivers. It makes blocks of a command, and an
+ * answer of the card's blocks; the caller sends and receives them, and measures time:
+ *
+ *   outcome = soffitfennel_reader_command(&reader, command, count, buffer, sizeof buffer, &size);
+ *   while (outcome == SOFFITFENNEL_SEND) {
+ *       got = send_and_wait(buffer, size, received);  (0 if no block came in time)
+ *       outcome = soffitfennel_reader_receive(&reader, received, got, buffer, sizeof buffer, &size);
+ *   }
+ *
+ * After DONE the answer is in the buffer. RESYNCHED: the command may have run, and is never sent again by itself. LOST
+ * and BAD_ANSWER: every later command is LOST, until the caller resets the card, and the reader by
+ * soffitfennel_reader_reset. docs/READER.md says what it does with each block. A reader has the duties of a card. */
+
+/* Makes a reader as after power-on, and ends the reader that was there. DONE; MEMORY: *reader stays as it was. */
+int32_t soffitfennel_reader_new(soffitfennel_reader **reader) SOFFITFENNEL_NOEXCEPT;
+
+/* Begins a command of 1 to SOFFITFENNEL_COMMAND bytes. Its first block is in the buffer. SEND, LOST, SIZE (also of a
+ * room below SOFFITFENNEL_ROOM) or OUT_OF_TURN; *size is 0 unless SEND. */
+int32_t soffitfennel_reader_command(soffitfennel_reader **reader, const uint8_t *command, size_t count,
+                                    uint8_t *block, size_t room, size_t *size) SOFFITFENNEL_NOEXCEPT;
+
+/* Takes what the card sent, of any number of bytes; 0: nothing came in time. The next block, or the answer, is in the
+ * buffer. The two buffers don't overlap. SEND, DONE, RESYNCHED, LOST, BAD_ANSWER, SIZE (a room below SOFFITFENNEL_ROOM)
+ * or OUT_OF_TURN; *size is 0 unless SEND or DONE. */
+int32_t soffitfennel_reader_receive(soffitfennel_reader **reader, const uint8_t *received, size_t count,
+                                    uint8_t *out, size_t room, size_t *size) SOFFITFENNEL_NOEXCEPT;
+
+/* Sets the reader back to its state after power-on, also within a command. Reset the card with it. DONE. */
+int32_t soffitfennel_reader_reset(soffitfennel_reader **reader) SOFFITFENNEL_NOEXCEPT;
+
+/* Ends the reader, if there is one, overwrites and frees its memory, and sets *reader to null. */
+void soffitfennel_reader_free(soffitfennel_reader **reader) SOFFITFENNEL_NOEXCEPT;
 
 #ifdef __cplusplus
 }

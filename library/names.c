@@ -24,6 +24,14 @@ const char *soffitfennel_outcome_name(int32_t outcome)
         return "UNSTORED";
     case SOFFITFENNEL_ABSENT:
         return "ABSENT";
+    case SOFFITFENNEL_SEND:
+        return "SEND";
+    case SOFFITFENNEL_RESYNCHED:
+        return "RESYNCHED";
+    case SOFFITFENNEL_BAD_ANSWER:
+        return "BAD_ANSWER";
+    case SOFFITFENNEL_OUT_OF_TURN:
+        return "OUT_OF_TURN";
     default:
         return "UNKNOWN";
     }

@@ -29,7 +29,7 @@ use Rattle.std.specs.contracts.impls.GlobalAllocator.TheImpl.{ghosts}
 use Rattle.std.proofs.GlobalToken.{dealloc_token-Testable}
 use Rattle.std_alloc.specs.Box.Ownership.{box_owns}
 use Rattle.std_alloc.proofs.ResultValues.{and_tt}
-use Rattle.soffitfennel.specs.OwningParts.{card_owns}
+use Rattle.soffitfennel.specs.OwningParts.{handle_owns}
 
 -- a struct of two machine values
 abbrev pub pair : Val → Val → Val
@@ -79,13 +79,13 @@ module _ {M : Type 1} {𝓤 : Ura M} (𝓛 : Logic 𝓤) (R : RattleType) (a : G
 
 module _ (R : RattleType) (a : Global) {M : Type 1} {𝓤 : Ura M} {𝓛 : Logic 𝓤} {K : Type 0} {Γ : List (Item 𝓤)}
     {G : Goal 𝓤 𝓛.H} where
-  -- without a card the address is null, else a box is at it
-  pub by_card : K → (p : Ptr) (x : Option R.Denot) → (p ≡ null_ptr → x ≡ None → Seq K 𝓛 Γ G)
+  -- without a value the address is null, else a box is at it
+  pub by_value : K → (p : Ptr) (x : Option R.Denot) → (p ≡ null_ptr → x ≡ None → Seq K 𝓛 Γ G)
       → ((b o : ℕ) (y : R.Denot) → p ≡ block_ptr b o → x ≡ Some y → Testable (block_ptr b o)
       → Seq K 𝓛 (‵ (box_owns (ghosts.dealloc_token a) R (block_ptr b o) y) ∷ Γ) G)
-      → Seq K 𝓛 (‵ (card_owns (ghosts.dealloc_token a) R p x) ∷ Γ) G
-  by_card t p None none one = fpick t (λ e. drop t $ none e refl)
-  by_card t p (Some y) none one =
+      → Seq K 𝓛 (‵ (handle_owns (ghosts.dealloc_token a) R p x) ∷ Γ) G
+  by_value t p None none one = fpick t (λ e. drop t $ none e refl)
+  by_value t p (Some y) none one =
       in_a_block t p (λ q. box_owns (ghosts.dealloc_token a) R q y)
       (fst∗ 𝓤 (never 𝓤) (sem 𝓛 (ghosts.dealloc_token a (bare (lone R.mir)) null_ptr))) (λ b o e.
       use1 𝓛 (given (Testable (block_ptr b o)) (‵ (box_owns (ghosts.dealloc_token a) R (block_ptr b o) y)))

@@ -20,10 +20,10 @@ pub struct Handle {
 }
 
 impl Model for Handle {
-    ghost use Rattle.soffitfennel.specs.OwningParts.{card_owns};
+    ghost use Rattle.soffitfennel.specs.OwningParts.{handle_owns};
     ghost use Rattle.soffitfennel.specs.contracts.session.Session.{the_row};
 
-    ghost also_owns = { λ h. card_owns (⟦<Global as Allocator>⟧.dealloc_token h.alloc) the_row h.at h.value };
+    ghost also_owns = { λ h. handle_owns (⟦<Global as Allocator>⟧.dealloc_token h.alloc) the_row h.at h.value };
 }
 
 impl Handle {

@@ -1,4 +1,4 @@
-//! The card as a library for C: a card is a pointer that the caller keeps, and doesn't look behind.
+//! Card and reader's end as a library for C: each is a pointer that the caller keeps, and doesn't look behind.
 //!
 //! Each export returns 32 bits: WebAssembly has no narrower results.
 #![tactic(auto)]
@@ -7,6 +7,8 @@ mod bench;
 mod device_writes;
 mod handle;
 mod held;
+mod reader;
+mod reader_handle;
 mod session;
 
 ghost use Rattle.std.specs.Prelude.{◌≡◌, ◌≢◌, ◌≤◌, ◌<◌, length, None, Some, pos, []};

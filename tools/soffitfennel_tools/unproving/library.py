@@ -6,26 +6,35 @@ Its functions have the order of the proved library, which tools/words/proved.sum
 import re
 import shutil
 from pathlib import Path
+from typing import NamedTuple
 
 from .module import FUNCTION
 
 STORED = Path(__file__).resolve().parent.parent.parent / "words" / "proved.sum"
 EXPORT = re.compile(r'^pub extern "C" fn (\w+)\(([^)]*)\)((?: -> \w+)?)', re.M)
 PARAMETER = re.compile(r"\w+: ([^,]+)")
-# it has no card at all, so that it needs nothing that the library doesn't
+# it has no card and no reader at all, so that it needs nothing that the library doesn't
 MAIN = """
 fn no_card() -> Option<Handle> {{
     None
 }}
 
-fn end(card: Handle) {{
+fn no_reader() -> Option<reader_handle::ReaderHandle> {{
+    None
+}}
+
+fn call(rt: HostRuntime, mut card: Handle, mut reader: reader_handle::ReaderHandle) {{
+{calls}
     drop(card.into_session());
+    drop(reader.into_reader());
 }}
 
 fn main(rt: HostRuntime) {{
-    if let Some(mut card) = no_card() {{
-{calls}
-        end(card);
+    if let Some(card) = no_card() {{
+        match no_reader() {{
+            Some(reader) => call(rt, card, reader),
+            None => drop(card.into_session()),
+        }}
     }}
 }}
 """
@@ -37,20 +46,37 @@ use std::alloc::Global;
 pub struct Handle {
     at: *mut u8,
 }
+/// A reader.
+#[repr(C)]
+pub struct ReaderHandle {
+    at: *mut u8,
+}
 """
 EMPTY_EXPORT = '#[unsafe(no_mangle)]\npub extern "C" fn {}({}){} {{\n    {}\n}}\n'
-KNOWN = {"Global": "rt.alloc()", "&mut Handle": "&mut card", "bool": "false"}
+KNOWN = {"Global": "rt.alloc()", "&mut Handle": "&mut card", "&mut ReaderHandle": "&mut reader", "bool": "false"}
 # a name of a module, and what it numbers
 NAME = re.compile(r'@("[^"]*"|[\w.]+)')
 STATIC = re.compile(r"^@(static\.\d+) = [^\n]*\n", re.M)
 
 
-def exports(crate: Path) -> list[tuple[str, str, str]]:
-    """The functions that C sees, with their parameters and results, in the order of the proved library."""
+class Export(NamedTuple):
+    """A function that C sees: its path in the crate, its name, parameters and result."""
+
+    path: str
+    name: str
+    words: str
+    result: str
+
+
+def exports(crate: Path) -> list[Export]:
+    """The functions that C sees, in the order of the proved library."""
     stored = re.search(r"^exports: (.*)$", STORED.read_text(encoding="utf-8"), re.M)
     order = stored[1].split() if stored else []
-    found = EXPORT.findall((crate / "src/lib.rt").read_text(encoding="utf-8"))
-    return sorted(found, key=lambda it: (order.index(it[0]) if it[0] in order else len(order), it[0]))
+    found = []
+    for file in crate.glob("src/*.rt"):
+        module = "" if file.stem == "lib" else f"{file.stem}::"
+        found += [Export(module + it[0], *it) for it in EXPORT.findall(file.read_text(encoding="utf-8"))]
+    return sorted(found, key=lambda it: (order.index(it.name) if it.name in order else len(order), it.name))
 
 
 def argument(kind: str) -> str:
@@ -71,8 +97,8 @@ def as_program(crate: Path, room: Path) -> Path:
         shutil.copytree(source, top / "crates" / source.parent.name / "src")
     listed = (crate.parent.parent / "crates.txt").read_text(encoding="utf-8")
     (top / "crates.txt").write_text(listed.replace(f"{crate.name} staticlib:", f"{crate.name}:"), encoding="utf-8")
-    calls = [(name, ", ".join(map(argument, PARAMETER.findall(words)))) for name, words, _ in exports(crate)]
-    main = MAIN.format(calls="\n".join(f"        {name}({words});" for name, words in calls))
+    calls = [(it.path, ", ".join(map(argument, PARAMETER.findall(it.words)))) for it in exports(crate)]
+    main = MAIN.format(calls="\n".join(f"    {path}({words});" for path, words in calls))
     library, program = (top / "crates" / crate.name / "src" / it for it in ("lib.rt", "main.rt"))
     program.write_text(library.read_text(encoding="utf-8") + main, encoding="utf-8")
     library.unlink()
@@ -85,9 +111,9 @@ def empty(crate: Path, room: Path) -> Path:
     (top / "crates" / crate.name / "src").mkdir(parents=True)
     (top / "crates.txt").write_text(f"{crate.name} staticlib: core std_alloc\n", encoding="utf-8")
     text = EMPTY
-    for name, words, result in exports(crate):
-        words = re.sub(r"(\w+): ", r"_\1: ", " ".join(words.split()))
-        text += EMPTY_EXPORT.format(name, words, result, "0" if result else "")
+    for it in exports(crate):
+        words = re.sub(r"(\w+): ", r"_\1: ", " ".join(it.words.split()))
+        text += EMPTY_EXPORT.format(it.name, words, it.result, "0" if it.result else "")
     (top / "crates" / crate.name / "src/lib.rt").write_text(text, encoding="utf-8")
     return top / "crates" / crate.name
 
@@ -95,7 +121,9 @@ def empty(crate: Path, room: Path) -> Path:
 def as_library(text: str, proved: str, crate: Path) -> str:
     """The module of that program as the library's, with the functions for C of the proved one."""
     made = {name_in(it[0]): it[0] for it in FUNCTION.finditer(proved)}
-    for_c = "\n".join(made[name] for name, _, _ in exports(crate))
+    # (the empty library has them all in its root)
+    name = f"{crate.name}::"
+    for_c = "\n".join(made[it.name].replace(name + it.name, name + it.path) for it in exports(crate))
     text = FUNCTION.sub(lambda it: "" if it[0].startswith("define i32 @main(") else it[0], text)
     at = text.index("\ndeclare ") + 1
     return only_read(f"{text[:at]}{for_c}\n{text[at:]}")

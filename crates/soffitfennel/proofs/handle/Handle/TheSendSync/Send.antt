@@ -12,13 +12,13 @@ use Rattle.std.specs.declared.alloc.Global.{Global}
 use Rattle.std.specs.contracts.impls.GlobalAllocator.TheImpl.{ghosts}
 use Rattle.std_alloc.proofs.SendSync.{quiet, lies}
 use Rattle.std.proofs.alloc.Global.TheSendSync as handle
-use Rattle.soffitfennel.specs.OwningParts.{card_owns}
+use Rattle.soffitfennel.specs.OwningParts.{handle_owns}
 use Rattle.soffitfennel.specs.contracts.session.Session as session
 use Rattle.soffitfennel.proofs.session.Session.TheSendSync.{the_send as session_send}
 use Rattle.soffitfennel.specs.contracts.handle.Handle.{the_row, the_type}
 
 card_keyless : (a : Global) (p : Ptr) (x : Option session.the_row.Denot)
-    → Keyless (card_owns (ghosts.dealloc_token a) session.the_row p x)
+    → Keyless (handle_owns (ghosts.dealloc_token a) session.the_row p x)
 card_keyless a p None = λ e. tt
 card_keyless a p (Some x) =
     (lies session.the_row session_send p x, heap.frees.frees a (raw (lone session.the_row.mir)) p)

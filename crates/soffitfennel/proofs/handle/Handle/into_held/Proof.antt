@@ -27,7 +27,7 @@ use Rattle.std.proofs.raw_atomic.Walks.{proved_at, leaves}
 use Rattle.std.specs.contracts.alloc.Global as heap
 use Rattle.std.proofs.alloc.Global.TheLaws as heap_laws
 use Rattle.std.specs.contracts.impls.GlobalAllocator.TheImpl.{ghosts}
-use Rattle.soffitfennel.proofs.Addresses.{Pair, pair, by_card, pair_good, pair_in, pair_out}
+use Rattle.soffitfennel.proofs.Addresses.{Pair, pair, by_value, pair_good, pair_in, pair_out}
 use Rattle.soffitfennel.specs.contracts.held.Held as held
 use Rattle.soffitfennel.specs.contracts.handle.Handle as handle
 use Rattle.soffitfennel.specs.contracts.session.Session as session
@@ -58,7 +58,7 @@ into_held_spec 𝓤 𝓛 𝓜 𝓡 wired =
     split ! $ move ! (1 ∷ []) $ fsplit ! $ fsplit ! $
     use1 𝓛 (‵ ((Pair Z LZ ghosts).own_val (v.at, (a, tt)) z.0.4.0)) (id⊢ 𝓤 _) $
     pair_out Z LZ ghosts ! v.at a z.0.4.0 (λ h us fits. move ! (1 ∷ []) $
-    by_card R a ! v.at v.value
+    by_value R a ! v.at v.value
     (λ null none.
     let w : Val = pair (ptr_val null_ptr) h in
     let ws : z.0.4.0 ≡ w ∷ [] = us ∙ ap (λ (p : Ptr). pair (ptr_val p) h ∷ []) null in
