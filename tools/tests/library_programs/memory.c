@@ -202,6 +202,34 @@ static void test_charge(void)
     fails_at = 0;
 }
 
+/* A reader takes one piece of memory when it is made, and gives it back, also where it held a PIN. Other calls ask for
+ * none. */
+static void test_reader(void)
+{
+    uint8_t block[SOFFITFENNEL_ROOM];
+    soffitfennel_reader *reader = NULL, *first;
+    size_t size;
+    long pieces = live;
+
+    fails_at = asked + 1;
+    must(soffitfennel_reader_new(&reader) == SOFFITFENNEL_MEMORY && reader == NULL, "a reader without memory");
+    must(soffitfennel_reader_new(&reader) == SOFFITFENNEL_DONE && live == pieces + 1, "a reader of one piece");
+    first = reader;
+    fails_at = asked + 1;
+    must(soffitfennel_reader_new(&reader) == SOFFITFENNEL_MEMORY && reader == first, "a reader that stays");
+    fails_at = asked + 1;
+    must(soffitfennel_reader_command(&reader, verify, sizeof verify, block, sizeof block, &size) == SOFFITFENNEL_SEND,
+         "a command asks for memory");
+    must(soffitfennel_reader_receive(&reader, NULL, 0, block, sizeof block, &size) == SOFFITFENNEL_SEND,
+         "a block asks for memory");
+    must(soffitfennel_reader_reset(&reader) == SOFFITFENNEL_DONE && asked == fails_at - 1, "a reset asks for memory");
+    fails_at = 0;
+    must(soffitfennel_reader_new(&reader) == SOFFITFENNEL_DONE && live == pieces + 1, "a reader in place of another");
+    soffitfennel_reader_free(&reader);
+    soffitfennel_reader_free(&reader);
+    must(reader == NULL && live == pieces, "memory of a reader is left");
+}
+
 /* A buffer of 0 bytes may be null. */
 static void test_null(void)
 {
@@ -232,6 +260,7 @@ int main(void)
     test_want(attach, "a card that is not attached changes something");
     test_want(check, "words that are not checked change something");
     test_charge();
+    test_reader();
     soffitfennel_free(&card);
     must(live == 0, "memory is left at the end");
     printf("memory: %ld pieces\n", asked);
