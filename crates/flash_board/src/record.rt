@@ -71,7 +71,7 @@ pub fn close<F: Flash>(flash: &mut F, at: u32) -> Result<(), DeviceErr>
     Ok(())
 }
 
-/// PutsInSlot a record into a blank slot, and then its mark. At every exit the slot has no mark, or it has the
+/// Programs a record into a blank slot, and then its mark. At every exit the slot has no mark, or it has the
 /// record and its mark.
 pub fn put_record<F: Flash>(flash: &mut F, at: u32, words: &Record) -> Result<(), DeviceErr>
     requires lit { (F.state flash.old).dark ≡ false }
