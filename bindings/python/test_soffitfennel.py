@@ -13,7 +13,7 @@ from pathlib import Path
 from typing import Any, Callable
 
 import soffitfennel
-from soffitfennel import ATR, PAGES, Card, CardError, Outcome, State
+from soffitfennel import ATR, PAGES, Card, CardError, Outcome, Reader, State
 
 SELECT_ICCID = bytes.fromhex("00A4000C022FE2")
 READ_ICCID = bytes.fromhex("00B000000A")
@@ -236,6 +236,43 @@ class Files(unittest.TestCase):
             with self.assertRaises(CardError) as raised:
                 Card.attach(self.path)
             self.assertIs(raised.exception.outcome, outcome)
+
+
+class Readers(unittest.TestCase):
+    """A reader's end over a card's blocks. The blocks are worked out by hand (docs/LINK.md)."""
+
+    def fails(self, outcome: Outcome, call: Callable[..., Any], *given: Any) -> None:
+        """The call has this outcome."""
+        with self.assertRaises(CardError) as raised:
+            call(*given)
+        self.assertIs(raised.exception.outcome, outcome)
+
+    def test_a_lost_block_is_asked_for(self) -> None:
+        card, reader = powered(), Reader()
+        self.assertEqual(reader.command(SELECT_ICCID), bytes.fromhex("00000700A4000C022FE260"))
+        self.fails(Outcome.OUT_OF_TURN, reader.command, SELECT_ICCID)
+        card.block(bytes.fromhex("00000700A4000C022FE260"))
+        self.assertEqual(reader.receive(b""), (Outcome.SEND, bytes.fromhex("00820082")))
+        self.assertEqual(reader.receive(card.block(bytes.fromhex("00820082"))), (Outcome.DONE, b"\x90\x00"))
+        self.fails(Outcome.OUT_OF_TURN, reader.receive, b"")
+        self.fails(Outcome.SIZE, reader.command, b"")
+        self.assertEqual(reader.transmit(READ_ICCID, card.block), ICCID)
+
+    def test_a_silent_card(self) -> None:
+        with Reader() as reader:
+            self.fails(Outcome.LOST, reader.transmit, SELECT_ICCID, lambda block: b"")
+            self.fails(Outcome.LOST, reader.command, SELECT_ICCID)
+            reader.reset()
+            self.fails(Outcome.RESYNCHED, reader.transmit, SELECT_ICCID,
+                       lambda block: bytes.fromhex("00E000E0") if block == bytes.fromhex("00C000C0") else b"")
+            self.assertEqual(reader.command(SELECT_ICCID), bytes.fromhex("00000700A4000C022FE260"))
+        with self.assertRaisesRegex(ValueError, "the reader is closed"):
+            reader.command(SELECT_ICCID)
+
+    def test_a_card_that_does_not_end(self) -> None:
+        blocks = [bytes.fromhex("00200020"), bytes.fromhex("00600060")] * 20
+        self.fails(Outcome.SEND, Reader().transmit, SELECT_ICCID, lambda block: blocks.pop(0), 40)
+        self.fails(Outcome.BAD_ANSWER, Reader().transmit, SELECT_ICCID, lambda block: bytes.fromhex("0000019091"))
 
 
 if __name__ == "__main__":

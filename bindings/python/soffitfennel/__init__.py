@@ -26,7 +26,7 @@ from pathlib import Path
 from types import TracebackType
 from typing import Any, Callable, NamedTuple, Sequence, Union
 
-__all__ = ["ATR", "Card", "CardError", "FreeSpace", "Outcome", "PAGES", "State", "library_version"]
+__all__ = ["ATR", "Card", "CardError", "FreeSpace", "Outcome", "PAGES", "Reader", "State", "library_version"]
 __version__ = "0.2.0"
 
 ATR = bytes.fromhex("3B808131FE458B")
@@ -50,6 +50,10 @@ class Outcome(enum.IntEnum):
     NO_CARD = 6
     UNSTORED = 7
     ABSENT = 8
+    SEND = 9
+    RESYNCHED = 10
+    BAD_ANSWER = 11
+    OUT_OF_TURN = 12
 
 
 class State(enum.IntFlag):
@@ -99,6 +103,10 @@ def _types() -> dict[str, list[Any]]:
         "state": [card, ctypes.POINTER(ctypes.c_uint32)],
         "free_space": [card, number16, number16],
         "words": [card, words, count, size],
+        "reader_new": [card],
+        "reader_command": exchange,
+        "reader_receive": exchange,
+        "reader_reset": [card],
     }
 
 
@@ -111,7 +119,8 @@ def _load() -> ctypes.CDLL:
         for function, types in _types().items():
             found = getattr(library, f"soffitfennel_{function}")
             found.argtypes, found.restype = types, ctypes.c_int32
-        library.soffitfennel_free.argtypes, library.soffitfennel_free.restype = [ctypes.POINTER(ctypes.c_void_p)], None
+        for end in (library.soffitfennel_free, library.soffitfennel_reader_free):
+            end.argtypes, end.restype = [ctypes.POINTER(ctypes.c_void_p)], None
         library.soffitfennel_version.argtypes, library.soffitfennel_version.restype = [], ctypes.c_char_p
         library.soffitfennel_outcome_name.argtypes = [ctypes.c_int32]
         library.soffitfennel_outcome_name.restype = ctypes.c_char_p
@@ -246,10 +255,7 @@ class Card:
         self._call(_library.soffitfennel_power_off)
 
     def _exchange(self, by: Callable[..., int], sent: Bytes) -> bytes:
-        if not isinstance(sent, (bytes, bytearray, memoryview)):
-            raise TypeError(f"bytes are wanted, as bytes.fromhex('00A4') gives them, not {type(sent).__name__}")
-        got, size = ctypes.create_string_buffer(ROOM), ctypes.c_size_t()
-        whole = bytes(sent)
+        whole, got, size = _whole(sent), ctypes.create_string_buffer(ROOM), ctypes.c_size_t()
         self._call(by, whole, len(whole), got, ROOM, size)
         return got.raw[: size.value]
 
@@ -294,6 +300,83 @@ class Card:
         words, size = (ctypes.c_uint32 * MOST_WORDS)(), ctypes.c_size_t()
         self._call(_library.soffitfennel_words, words, MOST_WORDS, size)
         return words[: size.value]
+
+
+class Reader:
+    """A reader's end of T=1: it makes blocks of a command, and an answer of the card's blocks.
+
+    >>> with Card() as card, Reader() as reader:
+    ...     atr = card.power_on()
+    ...     reader.transmit(bytes.fromhex("00A4000C022FE2"), card.block)
+    ...     reader.command(bytes.fromhex("00B000000A")).hex().upper()
+    b'\\x90\\x00'
+    '00400500B000000AFF'
+    """
+
+    def __init__(self) -> None:
+        """A reader as after power-on."""
+        self._lock, self._at = threading.Lock(), ctypes.c_void_p()
+        _check(_library.soffitfennel_reader_new(self._at))
+
+    def __enter__(self) -> Reader:
+        return self
+
+    def __exit__(self, kind: type[BaseException] | None, error: BaseException | None, at: TracebackType | None) -> None:
+        self.close()
+
+    def __del__(self) -> None:
+        if hasattr(self, "_at"):
+            self.close()
+
+    def close(self) -> None:
+        """Ends the reader, and frees its memory."""
+        with self._lock:
+            _library.soffitfennel_reader_free(self._at)
+
+    def _turn(self, by: Callable[..., int], sent: Bytes) -> tuple[Outcome, bytes]:
+        """A call that returns a block to send, or the answer."""
+        whole, got, size = _whole(sent), ctypes.create_string_buffer(ROOM), ctypes.c_size_t()
+        with self._lock:
+            if not self._at:
+                raise ValueError("the reader is closed")
+            outcome = by(self._at, whole, len(whole), got, ROOM, size)
+        if outcome not in (Outcome.SEND, Outcome.DONE):
+            raise CardError(outcome)
+        return Outcome(outcome), got.raw[: size.value]
+
+    def command(self, command: Bytes) -> bytes:
+        """Begins a command of 1 to 261 bytes; its first block."""
+        return self._turn(_library.soffitfennel_reader_command, command)[1]
+
+    def receive(self, block: Bytes) -> tuple[Outcome, bytes]:
+        """Takes what the card sent, or b"" if nothing came in time; SEND with the next block, or DONE with the answer.
+
+        An error RESYNCHED says that the command may have run. After LOST and BAD_ANSWER reset card and reader."""
+        return self._turn(_library.soffitfennel_reader_receive, block)
+
+    def transmit(self, command: Bytes, exchange: Callable[[bytes], Bytes], most_blocks: int = 500) -> bytes:
+        """Sends a command; its answer, with the two status bytes. exchange sends a block, and returns the card's block,
+        or b"" if none came in time. An error SEND says that the card sent so many blocks, and no whole answer."""
+        outcome, given = Outcome.SEND, self.command(command)
+        for _ in range(most_blocks):
+            outcome, given = self.receive(exchange(given))
+            if outcome == Outcome.DONE:
+                return given
+        raise CardError(outcome)
+
+    def reset(self) -> None:
+        """Sets the reader back to its state after power-on, as a reset does with the card."""
+        with self._lock:
+            if not self._at:
+                raise ValueError("the reader is closed")
+            _check(_library.soffitfennel_reader_reset(self._at))
+
+
+def _whole(sent: Bytes) -> bytes:
+    """The bytes that a call gets."""
+    if not isinstance(sent, (bytes, bytearray, memoryview)):
+        raise TypeError(f"bytes are wanted, as bytes.fromhex('00A4') gives them, not {type(sent).__name__}")
+    return bytes(sent)
 
 
 def _number(number: int, most: int = 0xFFFF_FFFF) -> int:

@@ -83,6 +83,9 @@ extern "C" {
     fn soffitfennel_free(card: *mut Pointer);
 }
 
+mod readers;
+pub use readers::{Reader, Step};
+
 /// Why a call has no result.
 #[derive(Clone, Copy, Debug, PartialEq, Eq)]
 #[non_exhaustive]
@@ -101,6 +104,12 @@ pub enum Error {
     NoCard,
     /// The device did not take a write. Make the card again from the device.
     Unstored,
+    /// A reader resynchronised the link. The command may have run.
+    Resynched,
+    /// The answer that a reader received has a wrong length. A reset restores the link.
+    BadAnswer,
+    /// A reader has a command in progress, or none. Nothing was done.
+    OutOfTurn,
     /// The library returned a number that this crate doesn't know.
     Unknown(i32),
 }
@@ -115,6 +124,9 @@ impl fmt::Display for Error {
             Error::Memory => f.write_str("there is too little memory"),
             Error::NoCard => f.write_str("no card is found in the words"),
             Error::Unstored => f.write_str("the device did not take a write"),
+            Error::Resynched => f.write_str("the link was resynchronised, and the command may have run"),
+            Error::BadAnswer => f.write_str("the answer has a wrong length"),
+            Error::OutOfTurn => f.write_str("a command is in progress, or none is"),
             Error::Unknown(outcome) => write!(f, "the library returned {outcome}, which is not known here"),
         }
     }
@@ -133,6 +145,9 @@ fn done(outcome: i32) -> Result<(), Error> {
         5 => Error::Memory,
         6 => Error::NoCard,
         7 => Error::Unstored,
+        10 => Error::Resynched,
+        11 => Error::BadAnswer,
+        12 => Error::OutOfTurn,
         _ => Error::Unknown(outcome),
     })
 }
@@ -321,7 +336,10 @@ mod tests {
         for (number, error) in (1..).zip(all) {
             assert_eq!(done(number), Err(error));
         }
-        for number in [-1, 8, 9, 77] {
+        for (number, error) in (10..).zip([Error::Resynched, Error::BadAnswer, Error::OutOfTurn]) {
+            assert_eq!(done(number), Err(error));
+        }
+        for number in [-1, 8, 9, 13, 77] {
             assert_eq!(done(number), Err(Error::Unknown(number)));
         }
     }

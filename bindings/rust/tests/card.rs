@@ -3,7 +3,7 @@ use std::fs::{File, OpenOptions};
 use std::io;
 use std::path::PathBuf;
 
-use soffitfennel::{Card, Error, FreeSpace, MOST_PAGES, MOST_WORDS, ROOM, WORDS};
+use soffitfennel::{Card, Error, FreeSpace, Reader, Step, MOST_PAGES, MOST_WORDS, ROOM, WORDS};
 
 const SELECT_ICCID: [u8; 7] = [0x00, 0xA4, 0x00, 0x0C, 0x02, 0x2F, 0xE2];
 const READ_ICCID: [u8; 5] = [0x00, 0xB0, 0x00, 0x00, 0x0A];
@@ -185,5 +185,36 @@ fn a_card_goes_to_another_thread() -> Result<(), Error> {
     let other = std::thread::spawn(move || card.free_space()).join().expect("a thread that ends")?;
     assert_eq!(free, other);
     assert_ne!(free, FreeSpace { blocks: 0, entries: 0 });
+    Ok(())
+}
+
+#[test]
+fn a_reader_repairs_a_lost_block() -> Result<(), Error> {
+    let (mut card, mut reader) = (powered()?, Reader::new()?);
+    let (mut buffer, mut received) = ([0; ROOM], [0; ROOM]);
+    let first = reader.command(&SELECT_ICCID, &mut buffer)?.to_vec();
+    assert_eq!(reader.command(&SELECT_ICCID, &mut received), Err(Error::OutOfTurn));
+    card.block(&first, &mut received)?;
+    // (the reply is lost: the reader asks for it, and the command doesn't run again)
+    let Step::Send(asked) = reader.receive(&[], &mut buffer)? else { panic!("no block is sent") };
+    assert_eq!(asked, [0x00, 0x82, 0x00, 0x82]);
+    let again = card.block(asked, &mut received)?.to_vec();
+    assert_eq!(reader.receive(&again, &mut buffer)?, Step::Done(&[0x90, 0x00]));
+    assert_eq!(reader.receive(&again, &mut buffer), Err(Error::OutOfTurn));
+    assert_eq!(reader.command(&[], &mut buffer), Err(Error::Size));
+    Ok(())
+}
+
+#[test]
+fn a_silent_card_loses_the_link_until_a_reset() -> Result<(), Error> {
+    let (mut reader, mut buffer) = (Reader::new()?, [0; ROOM]);
+    reader.command(&READ_ICCID, &mut buffer)?;
+    for _ in 0..6 {
+        assert!(matches!(reader.receive(&[], &mut buffer), Ok(Step::Send(_))));
+    }
+    assert_eq!(reader.receive(&[], &mut buffer), Err(Error::Lost));
+    assert_eq!(reader.command(&READ_ICCID, &mut buffer), Err(Error::Lost));
+    reader.reset()?;
+    reader.command(&READ_ICCID, &mut buffer)?;
     Ok(())
 }
