@@ -76,7 +76,7 @@ module _ {X : Type 0} (p : X → Bool) where
       elim (p y) as (λ b. cond b 1 0 + count_by p ys ≡ 0 → cond b (Some y) (find p ys) ≡ None)
       [ true ↦ λ is. absurd (omega arith) | false ↦ λ is. later (omega arith) ] (sym (count_cons y ys) ∙ e)
 
-  any_counted : (xs : List X) → list_any p xs ≡ nat_lt 0 (count_by p xs)
+  pub any_counted : (xs : List X) → list_any p xs ≡ nat_lt 0 (count_by p xs)
   any_counted [] = refl
   any_counted (y ∷ ys) =
       let later = any_counted ys in

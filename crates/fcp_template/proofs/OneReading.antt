@@ -26,7 +26,7 @@ reading_of_other text read none (inl h) = absurd (none h.0 h.1)
 reading_of_other text read none (inr h) = h.1
 
 -- what the objects in bytes are, where these are at most so many bytes
-abbrev Fill : List ℕ → Option (List DataObject) → Type 0
+abbrev pub Fill : List ℕ → Option (List DataObject) → Type 0
 Fill bytes found = MatchOption found ((os : List DataObject) → bytes ≡ objects_text os → ⊥)
     (λ os. bytes ≡ objects_text os)
 
@@ -65,7 +65,7 @@ lone_tag : (tag : ℕ) (os : List DataObject) → tag ∷ [] ≡ objects_text os
 lone_tag tag [] e = absurd cc
 lone_tag tag (o ∷ os) e = absurd cc
 
-objects_fill : (most : ℕ) (bytes : List ℕ) → length bytes ≤ most → Fill bytes (objects_in most bytes)
+pub objects_fill : (most : ℕ) (bytes : List ℕ) → length bytes ≤ most → Fill bytes (objects_in most bytes)
 unfolding objects_in
 objects_fill most [] few = refl
 objects_fill zero (tag ∷ rest) few = absurd (omega arith)

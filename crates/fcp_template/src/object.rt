@@ -1,11 +1,10 @@
 //! Data objects, and the templates that consist of them.
 
-ghost use Rattle.std.specs.Prelude.{◌≡◌, ℕ, List, [], ◌++◌, ◌<◌, length, IfSome, IfNone};
+ghost use Rattle.std.specs.Prelude.{◌≡◌, ℕ, List, ◌++◌, IfSome, IfNone};
 ghost use Rattle.card_model.specs.TemplateGrammar.{DataObject, object_text, objects_text};
 ghost use Rattle.fcp_template.specs.ObjectParts.{IsBody};
 
 use crate::tag::TEMPLATE;
-use arrayvec::ArrayVec;
 use std::marker::Model;
 
 /// A BER-TLV data object, with one byte for tag and length each.
@@ -39,26 +38,64 @@ impl<'a> Object<'a> {
     }
 }
 
-// `ArrayVec` fills its unused places with the default.
-impl Default for Object<'_> {
-    ghost is_default = { λ o. o ≡ record { tag = 0; value = [] } };
-
-    fn default() -> Self {
-        Object { tag: 0, value: &[] }
-    }
-}
-
 /// The most bytes of objects: a length byte has bit 8 clear.
 pub(crate) const BODY_LIMIT: usize = 127;
 
-/// The most objects of a template: each has at least two bytes.
-pub(crate) const MOST_OBJECTS: usize = BODY_LIMIT / 2;
+/// The objects of a template, or those after one of them. They lie one after the other in its bytes.
+#[derive(Drop)]
+pub(crate) struct Objects<'a> {
+    bytes: &'a [u8],
+}
 
-/// The number of tags of the table. A template with more objects is refused, whatever they are.
-pub(crate) const FEW_OBJECTS: usize = 10;
+impl<'a> Model for Objects<'a> {
+    ghost use Rattle.std.specs.Prelude.{List};
+    ghost use Rattle.card_model.specs.TemplateGrammar.{DataObject};
+    ghost use Rattle.fcp_template.specs.ObjectParts.{objects_of, AreObjects};
 
-/// At most N objects of a template.
-pub(crate) type Objects<'a, const N: usize> = ArrayVec<Object<'a>, N>;
+    ghost Value = { List DataObject };
+
+    ghost view = { λ objects. objects_of objects.bytes.now };
+
+    ghost invariant = { λ objects. AreObjects objects.bytes.now };
+}
+
+impl<'a> Objects<'a> {
+    /// Returns the objects that fill the bytes exactly, if any do.
+    pub(crate) fn parse(bytes: &'a [u8]) -> Option<Objects<'a>>
+        ensures filled { IfSome result (λ os. bytes.now ≡ objects_text os) }
+        ensures none { IfNone result ((os : List DataObject) → bytes.now ≡ objects_text os → ⊥) }
+    {
+        let mut rest = bytes;
+        while !rest.is_empty() {
+            let (_, after) = split_first(rest)?;
+            rest = after;
+        }
+        Some(Objects { bytes })
+    }
+
+    /// Returns the same objects, to go over them.
+    pub(crate) fn iter(&self) -> Objects<'a>
+        ensures { result ≡ self.now }
+    {
+        Objects { bytes: self.bytes }
+    }
+}
+
+impl<'a> Iterator for Objects<'a> {
+    ghost use Rattle.std.specs.Iterator.{YieldsFirst, item_count};
+
+    type Item = Object<'a>;
+
+    ghost next_gives = { YieldsFirst (λ rest. rest) };
+
+    ghost remaining = { item_count (λ rest. rest) };
+
+    fn next(&mut self) -> Option<Object<'a>> {
+        let (object, rest) = split_first(self.bytes)?;
+        self.bytes = rest;
+        Some(object)
+    }
+}
 
 /// Returns the bytes of the objects in a text, if its tag and its length are those of a template.
 pub(crate) fn body_of(text: &[u8]) -> Option<&[u8]>
@@ -72,24 +109,6 @@ pub(crate) fn body_of(text: &[u8]) -> Option<&[u8]>
         return None;
     }
     Some(body)
-}
-
-/// Returns the objects that fill the bytes exactly, if any do, and if they are at most N.
-pub(crate) fn split<const N: usize>(bytes: &[u8]) -> Option<Objects<'_, N>>
-    ensures filled { IfSome result (λ os. bytes.now ≡ objects_text os.items) }
-    ensures none { IfNone result ((os : List DataObject) → bytes.now ≡ objects_text os → N < length os) }
-{
-    let mut objects = Objects::new();
-    let mut rest = bytes;
-    while !rest.is_empty() {
-        if objects.is_full() {
-            return None;
-        }
-        let (object, after) = split_first(rest)?;
-        objects.push(object);
-        rest = after;
-    }
-    Some(objects)
 }
 
 /// Returns the first object of the bytes, and the bytes after it.

@@ -1,6 +1,6 @@
 //! Reads templates.
 
-ghost use Rattle.std.specs.Prelude.{◌≡◌, ◌≢◌, ◌≤◌, ◌%◌, ◌==◌, ◌&&◌, ◌||◌, Result, IfOk, IfSome, is_some, length};
+ghost use Rattle.std.specs.Prelude.{◌≡◌, ◌≢◌, ◌%◌, ◌==◌, ◌&&◌, ◌||◌, Result, IfOk, IfSome, is_some};
 ghost use Rattle.std.specs.Prelude.{nat_le, not};
 ghost use Rattle.std.specs.Option.{option_copied};
 ghost use Rattle.card_model.specs.declared.fault.FcpFault.{FcpFault};
@@ -10,7 +10,7 @@ ghost use Rattle.fcp_template.specs.TagParts.{tag_byte};
 ghost use Rattle.card_model.specs.TemplateGrammar.{is_tag, identifier_of, name_read, short_read, number_read, size_of};
 ghost use Rattle.card_model.specs.TemplateGrammar.{records_read, life_cycle_of, rule_read, descriptor_of, has};
 ghost use Rattle.card_model.specs.TemplateGrammar.{value_at};
-ghost use Rattle.card_model.specs.TemplateGrammar.{data_bytes, is_df_descriptor, tells_of_df, count_of, is_again};
+ghost use Rattle.card_model.specs.TemplateGrammar.{data_bytes, is_df_descriptor, tells_of_df};
 ghost use Rattle.card_model.specs.TemplateGrammar.{is_missing, is_twice, has_unknown, df_of, transparent_of};
 ghost use Rattle.card_model.specs.TemplateGrammar.{◌>>=◌ as and_then, record_file_of, kind_read, fcp_of, meaning};
 ghost use Rattle.card_model.specs.TemplateGrammar.{FcpReads, fcp_read};
@@ -18,7 +18,7 @@ ghost use Rattle.card_model.specs.FileControl.{IsShort, IsSize, IsDfName, IsReco
 ghost use Rattle.card_model.specs.declared.life_cycle.LifeCycle.TheVariants.{Terminated};
 
 use crate::descriptor::{DF, SHAREABLE_DF, descriptor_of};
-use crate::object::{FEW_OBJECTS, MOST_OBJECTS, Object, body_of, split};
+use crate::object::{Object, Objects, body_of};
 use crate::tag::{Tag, is_tag};
 use card_model::identifiers::{CURRENT_FILE, MASTER_FILE, RESERVED};
 use card_model::limits::{MOST_BYTES, MOST_RECORD_BYTES, MOST_RECORDS, MOST_SHORT};
@@ -54,32 +54,17 @@ pub fn parse(text: &[u8]) -> Result<Fcp<'_>, FcpFault>
 
 /// Returns what the objects in bytes read as.
 fn parse_body(body: &[u8]) -> Result<Fcp<'_>, FcpFault>
-    requires { length body.now ≤ 0x7F }
     ensures reads { BodyReads body.now result }
     ensures ranges { IfOk result IsCreatable }
 {
-    match split::<FEW_OBJECTS>(body) {
-        Some(objects) => meaning(&objects),
-        None => parse_many(body),
-    }
-}
-
-/// Returns the same, however many the objects are.
-// It isn't inlined, so that a template of few objects doesn't pay for the places of all that may be.
-#[inline(never)]
-fn parse_many(body: &[u8]) -> Result<Fcp<'_>, FcpFault>
-    requires { length body.now ≤ 0x7F }
-    ensures reads { BodyReads body.now result }
-    ensures ranges { IfOk result IsCreatable }
-{
-    match split::<MOST_OBJECTS>(body) {
+    match Objects::parse(body) {
         Some(objects) => meaning(&objects),
         None => Err(FcpFault::Shape),
     }
 }
 
 /// Returns what a template of these objects reads as.
-fn meaning<'a>(objects: &[Object<'a>]) -> Result<Fcp<'a>, FcpFault>
+fn meaning<'a>(objects: &Objects<'a>) -> Result<Fcp<'a>, FcpFault>
     ensures value { result ≡ meaning objects.now }
     ensures ranges { IfOk result IsCreatable }
 {
@@ -93,27 +78,27 @@ fn meaning<'a>(objects: &[Object<'a>]) -> Result<Fcp<'a>, FcpFault>
 }
 
 /// Returns true if an object has this tag.
-fn has(objects: &[Object<'_>], tag: Tag) -> bool
+fn has(objects: &Objects<'_>, tag: Tag) -> bool
     ensures { result ≡ has objects.now (tag_byte tag) }
 {
-    objects.iter().any(|object| object.tag() == tag.byte())
+    has_byte(objects, tag.byte())
 }
 
-/// Returns the number of objects with this tag.
-fn count_of(objects: &[Object<'_>], tag: u8) -> usize
-    ensures { result ≡ count_of objects.now tag }
+/// Returns true if an object has this byte as its tag.
+fn has_byte(objects: &Objects<'_>, tag: u8) -> bool
+    ensures { result ≡ has objects.now tag }
 {
-    objects.iter().filter(|object| object.tag() == tag).count()
+    objects.iter().any(|object| object.tag() == tag)
 }
 
 /// Returns the value of the first object that has this tag.
-fn value_at<'a>(objects: &[Object<'a>], tag: Tag) -> Option<&'a [u8]>
+fn value_at<'a>(objects: &Objects<'a>, tag: Tag) -> Option<&'a [u8]>
     ensures { option_copied result ≡ value_at objects.now (tag_byte tag) }
 {
-    objects
-        .iter()
-        .find(|object| object.tag() == tag.byte())
-        .map(|object| object.value())
+    match objects.iter().find(|object| object.tag() == tag.byte()) {
+        Some(object) => Some(object.value()),
+        None => None,
+    }
 }
 
 /// Returns true for a file descriptor with a DF byte.
@@ -124,14 +109,14 @@ fn is_df_descriptor(object: &Object<'_>) -> bool
 }
 
 /// Returns true if an object is the file descriptor of a DF.
-fn tells_of_df(objects: &[Object<'_>]) -> bool
+fn tells_of_df(objects: &Objects<'_>) -> bool
     ensures { result ≡ tells_of_df objects.now }
 {
-    objects.iter().any(|object| is_df_descriptor(object))
+    objects.iter().any(|object| is_df_descriptor(&object))
 }
 
 /// Returns true if a mandatory object is missing.
-fn is_missing(objects: &[Object<'_>]) -> bool
+fn is_missing(objects: &Objects<'_>) -> bool
     ensures { result ≡ is_missing objects.now }
 {
     !has(objects, Tag::FileDescriptor)
@@ -141,17 +126,23 @@ fn is_missing(objects: &[Object<'_>]) -> bool
 }
 
 /// Returns true if a tag of the table occurs twice.
-fn is_twice(objects: &[Object<'_>]) -> bool
+fn is_twice(objects: &Objects<'_>) -> bool
     ensures { result ≡ is_twice objects.now }
 {
-    objects.iter().any(|object| comes_again(objects, object))
+    let mut rest = objects.iter();
+    while let Some(object) = rest.next() {
+        if comes_again(&rest, &object) {
+            return true;
+        }
+    }
+    false
 }
 
-/// Returns true if another object has the same tag of the table.
-fn comes_again(objects: &[Object<'_>], object: &Object<'_>) -> bool
-    ensures { result ≡ is_again objects.now object.now }
+/// Returns true if the object has a tag of the table, and a later one has it too.
+fn comes_again(later: &Objects<'_>, object: &Object<'_>) -> bool
+    ensures { result ≡ (is_tag object.now.tag && has later.now object.now.tag) }
 {
-    is_known(object) && count_of(objects, object.tag()) > 1
+    is_known(object) && has_byte(later, object.tag())
 }
 
 /// Returns true if the object has a tag of the table.
@@ -162,15 +153,15 @@ fn is_known(object: &Object<'_>) -> bool
 }
 
 /// Returns true if an object has a tag outside the table.
-fn has_unknown(objects: &[Object<'_>]) -> bool
+fn has_unknown(objects: &Objects<'_>) -> bool
     ensures { result ≡ has_unknown objects.now }
 {
-    objects.iter().any(|object| !is_known(object))
+    objects.iter().any(|object| !is_known(&object))
 }
 
 /// Returns the parameters of the objects, if all are valid.
 #[tactic(auto, unfolding(card_model::specs::TemplateGrammar::fcp_of))]
-fn fcp_of<'a>(objects: &[Object<'a>]) -> Option<Fcp<'a>>
+fn fcp_of<'a>(objects: &Objects<'a>) -> Option<Fcp<'a>>
     ensures value { result ≡ fcp_of objects.now }
     ensures ranges { IfSome result IsCreatable }
 {
@@ -193,14 +184,14 @@ fn fcp_of<'a>(objects: &[Object<'a>]) -> Option<Fcp<'a>>
 }
 
 /// Returns the descriptor in object 82.
-fn descriptor_at(objects: &[Object<'_>]) -> Option<Descriptor>
+fn descriptor_at(objects: &Objects<'_>) -> Option<Descriptor>
     ensures { result ≡ and_then (value_at objects.now 0x82) descriptor_of }
 {
     descriptor_of(value_at(objects, Tag::FileDescriptor)?)
 }
 
 /// Returns the identifier in object 83.
-fn identifier_at(objects: &[Object<'_>]) -> Option<u16>
+fn identifier_at(objects: &Objects<'_>) -> Option<u16>
     ensures value { result ≡ and_then (value_at objects.now 0x83) identifier_of }
     ensures below_mf { IfSome result (λ n. n ≢ 0x3F00) }
     ensures current_df { IfSome result (λ n. n ≢ 0x3FFF) }
@@ -210,14 +201,14 @@ fn identifier_at(objects: &[Object<'_>]) -> Option<u16>
 }
 
 /// Returns the access rule in object 8C.
-fn rule_at(objects: &[Object<'_>]) -> Option<Compact>
+fn rule_at(objects: &Objects<'_>) -> Option<Compact>
     ensures value { result ≡ and_then (value_at objects.now 0x8C) rule_read }
 {
     Compact::parse(value_at(objects, Tag::CompactRule)?)
 }
 
 /// Returns the kind of a file, from its descriptor and its objects.
-fn kind_of<'a>(descriptor: Descriptor, objects: &[Object<'a>]) -> Option<FileKind<'a>>
+fn kind_of<'a>(descriptor: Descriptor, objects: &Objects<'a>) -> Option<FileKind<'a>>
     ensures value { result ≡ kind_read descriptor objects.now }
     ensures ranges { IfSome result IsKind }
 {
@@ -235,7 +226,7 @@ fn kind_of<'a>(descriptor: Descriptor, objects: &[Object<'a>]) -> Option<FileKin
 /// Returns a DF, with its name if it has one.
 /// Of the objects of an elementary file, it may have the number of data bytes only.
 #[tactic(auto, unfolding(card_model::specs::TemplateGrammar::df_of))]
-fn df_of<'a>(objects: &[Object<'a>]) -> Option<FileKind<'a>>
+fn df_of<'a>(objects: &Objects<'a>) -> Option<FileKind<'a>>
     ensures value { result ≡ df_of objects.now }
     ensures ranges { IfSome result IsKind }
 {
@@ -248,7 +239,7 @@ fn df_of<'a>(objects: &[Object<'a>]) -> Option<FileKind<'a>>
 
 /// Returns true if an object can't belong to a DF.
 /// This is a short identifier, or a number of data bytes of a wrong length.
-fn has_no_place_in_a_df(objects: &[Object<'_>]) -> bool
+fn has_no_place_in_a_df(objects: &Objects<'_>) -> bool
     ensures { result ≡ (has objects.now 0x88 || has objects.now 0x80 && not (is_some (data_bytes objects.now))) }
 {
     has(objects, Tag::ShortFileIdentifier)
@@ -257,7 +248,7 @@ fn has_no_place_in_a_df(objects: &[Object<'_>]) -> bool
 
 /// Returns a transparent file, from its size; it must have no name.
 #[tactic(auto, unfolding(card_model::specs::TemplateGrammar::transparent_of))]
-fn transparent_of<'a>(objects: &[Object<'a>]) -> Option<FileKind<'a>>
+fn transparent_of<'a>(objects: &Objects<'a>) -> Option<FileKind<'a>>
     ensures value { result ≡ transparent_of objects.now }
     ensures ranges { IfSome result IsKind }
 {
@@ -277,7 +268,7 @@ fn record_file_of<'a>(
     structure: Structure,
     record_length: u16,
     existing: Option<u8>,
-    objects: &[Object<'a>],
+    objects: &Objects<'a>,
 ) -> Option<FileKind<'a>>
     ensures value { result ≡ record_file_of structure record_length existing objects.now }
     ensures ranges { IfSome result IsKind }
@@ -346,7 +337,7 @@ fn short_of(value: Option<&[u8]>) -> Option<ShortIdentifier>
 }
 
 /// Returns the number of data bytes in object 80.
-fn data_bytes(objects: &[Object<'_>]) -> Option<u32>
+fn data_bytes(objects: &Objects<'_>) -> Option<u32>
     ensures { result ≡ data_bytes objects.now }
 {
     number_of(value_at(objects, Tag::DataBytes)?)

@@ -2,7 +2,7 @@ use Rattle.std.proofs.Common.{ℕ, ◌≡◌, ◌≤◌, ◌∷◌, List, length
 use Rattle.card_model.specs.declared.fcp.Fcp.{Fcp}
 use Rattle.card_model.specs.declared.fault.FcpFault.{FcpFault}
 use Rattle.card_model.specs.declared.fault.FcpFault.TheVariants.{Shape}
-use Rattle.card_model.specs.TemplateGrammar.{DataObject, objects_text, meaning, FcpReads, IsTemplate}
+use Rattle.card_model.specs.TemplateGrammar.{objects_text, FcpReads}
 use Rattle.fcp_template.specs.ObjectParts.{BodyReads, IsBody}
 use Rattle.fcp_template.proofs.OneReading.{fcp_read-is}
 use Rattle.fcp_template.proofs.reading.parse.Goals as goal
