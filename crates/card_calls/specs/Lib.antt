@@ -1,5 +1,7 @@
 pub mod Charges
+pub mod CopiedParts
 pub mod Devices
+pub mod ReaderCalls
 pub mod ScriptCalls
 pub mod SessionStates
 pub mod Telling

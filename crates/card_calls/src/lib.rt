@@ -1,4 +1,5 @@
-//! Calls from outside a script: their sizes and outcomes, and the device that has each write of a card's board.
+//! Calls from outside a script, on a card or on a reader's end: their sizes and outcomes, and the device that has each
+//! write of a card's board.
 #![tactic(auto)]
 
 mod boards;
@@ -6,6 +7,7 @@ mod charge;
 mod copied;
 mod device;
 mod outcome;
+mod reader_calls;
 mod sizes;
 mod write;
 mod write_log;
@@ -17,6 +19,7 @@ pub use device::{
     DeviceBoard, TWIN_WRITES, followed, has_device, is_stored, next_write, twin_board, unfollowed,
 };
 pub use outcome::{Outcome, Told, bit, copy};
+pub use reader_calls::{begin, receive};
 pub use sizes::{ROOM, block_fits, command_fits, order_fits};
 pub use write::{WRITE_BYTES, Write};
 pub use write_log::{LOG_WRITES, Next, WriteLog};

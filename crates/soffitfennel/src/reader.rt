@@ -1,11 +1,10 @@
 //! The reader's end of T=1 for C: a reader is a pointer that the caller keeps, and doesn't look behind.
 ghost use Rattle.std.specs.Prelude.{◌≡◌, None, Some};
-ghost use Rattle.reader_calls.specs.ReaderCalls.{CallsCommand, CallsReceive, MakesReader, ResetsReader};
+ghost use Rattle.card_calls.specs.ReaderCalls.{CallsCommand, CallsReceive, MakesReader, ResetsReader};
 
 use crate::reader_handle::ReaderHandle;
-use card_calls::Outcome;
+use card_calls::{Outcome, begin, receive};
 use core::mem::{replace, replace_with};
-use reader_calls::{begin, receive};
 use std::alloc::Global;
 use t1_link::ReaderEnd;
 

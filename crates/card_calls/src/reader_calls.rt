@@ -4,10 +4,11 @@ ghost use Rattle.t1_link.specs.ReaderFields.{HasAnswer, left_in, next_of};
 ghost use Rattle.t1_link.specs.declared.reader_end.Phase.TheVariants.{Busy};
 ghost use Rattle.card_calls.specs.Telling.{CopiesOut, outcome_number};
 ghost use Rattle.card_calls.specs.declared.sizes.TheConstants.{ROOM};
-ghost use Rattle.reader_calls.specs.CopiedParts.{next_bytes, next_outcome};
-ghost use Rattle.reader_calls.specs.ReaderCalls.{BeginsCommand, ReceivesBlock, failure_outcome, reader_hears};
+ghost use Rattle.card_calls.specs.CopiedParts.{next_bytes, next_outcome};
+ghost use Rattle.card_calls.specs.ReaderCalls.{BeginsCommand, ReceivesBlock, failure_outcome, reader_hears};
 
-use card_calls::{Outcome, ROOM, command_fits, copy};
+use crate::outcome::{Outcome, copy};
+use crate::sizes::{ROOM, command_fits};
 use t1_link::{BlockBytes, Failure, Next, ReaderEnd};
 
 /// Begins a command, and copies its first block out. Returns the outcome, and the number of bytes.

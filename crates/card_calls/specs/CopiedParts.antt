@@ -4,7 +4,7 @@ use Rattle.t1_link.specs.declared.reader_end.Next.{Next}
 use Rattle.t1_link.specs.declared.reader_end.Next.TheVariants.{Send, Done, Unknown, Failed}
 use Rattle.card_calls.specs.declared.outcome.Outcome.{Outcome}
 use Rattle.card_calls.specs.declared.outcome.Outcome.TheVariants as outcome
-use Rattle.reader_calls.specs.ReaderCalls.{failure_outcome}
+use Rattle.card_calls.specs.ReaderCalls.{failure_outcome}
 
 -- its outcome
 abbrev pub next_outcome : Next → Outcome

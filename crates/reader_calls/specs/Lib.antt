@@ -1,2 +1,0 @@
-pub mod CopiedParts
-pub mod ReaderCalls
