@@ -6,8 +6,6 @@ use Rattle.block_chain.specs.declared.chain.Extent.{Extent}
 use Rattle.block_chain.specs.declared.layout.TheConstants.{FIRST_BLOCK_PAGE}
 use Rattle.file_tree.specs.Table.{table, extents, free_entries, IsTable, HaveIdentifiers}
 use Rattle.file_tree.specs.declared.entry.Entry.{Entry}
-use Rattle.block_chain.specs.ChainParts.{AreBlockMarks}
-use Rattle.nvm_board.specs.declared.board.TheConstants.{MOST_PAGES}
 
 -- The store is ready, its entries satisfy their rules, and these are their extents and the number of free ones.
 pub record HasTable (m : Memory) (all : List Extent) (free : ℕ) : Type 0 where
@@ -32,9 +30,3 @@ pub record CanBeIndexed (t : List Entry) : Type 0 where
   pub some : 0 < length t
   pub size : length t ≤ 64
   pub apart : HaveIdentifiers t
-
--- A page from that of the first block to that behind the largest memory, and marks for the blocks before it.
-pub record AreMarksBefore (end : ℕ) (seen : List ℕ) : Type 0 where
-  pub some : FIRST_BLOCK_PAGE ≤ end
-  pub most : end ≤ MOST_PAGES
-  pub marks : AreBlockMarks end seen

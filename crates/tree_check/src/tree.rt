@@ -9,6 +9,7 @@ ghost use Rattle.file_tree.specs.Trees.{TellsSpace};
 ghost use Rattle.tree_check.specs.Surveys.{IsBlankListing, TellsListing, TellsTree};
 ghost use Rattle.file_lookup.specs.StoredFiles.{HasTableEnd};
 ghost use Rattle.tree_check.specs.SurveyParts.{HasTable};
+ghost use Rattle.tree_check.specs.declared.tree.TheConstants.{FEW_ENTRIES};
 
 use crate::format::read_block_count;
 use crate::table::{count_free, is_table, list_extents};
@@ -94,14 +95,29 @@ fn list_files<B: Board>(store: &mut Store<B>, listing: &mut Listing) -> Result<b
 {
     let end = find_end(store)?;
     if usize::from(end) <= FEW_ENTRIES {
-        let mut entries = FewEntries::new();
-        list_entries(store, end, &mut entries, listing)
+        list_few(store, end, listing)
     } else {
         list_many(store, end, listing)
     }
 }
 
-/// Checks more entries. It isn't part of `list_files`, which would otherwise clear a long table for few entries too.
+/// Checks few entries. It isn't inlined, so that the rest of a power-on doesn't pay for the table on the stack.
+#[inline(never)]
+fn list_few<B: Board>(
+    store: &mut Store<B>,
+    end: u8,
+    listing: &mut Listing,
+) -> Result<bool, StoreErr>
+    requires end { HasTableEnd store.old end }
+    requires few { end ≤ FEW_ENTRIES }
+    requires blank { IsBlankListing listing.old }
+    ensures { Learns store.old store.new result (TellsListing (table (committed store.old)) listing.new) }
+{
+    let mut entries = FewEntries::new();
+    list_entries(store, end, &mut entries, listing)
+}
+
+/// Checks more entries. It isn't part of `list_few`, which would otherwise clear a long table for few entries too.
 #[inline(never)]
 fn list_many<B: Board>(
     store: &mut Store<B>,

@@ -21,7 +21,6 @@ SENTENCES = {
     "power-on, names of one sum": r"with one sum\s+([\d,]+)",
     "power-on, other names": r"instructions, and ([\d,]+) otherwise",
     "a block": r"every block, (\d+) instructions",
-    "a block of many": r"(\d+) above 1,984 blocks",
     "a block of CREATE FILE": r"A block takes (\d+) instructions",
     "a block of CREATE FILE, plain": r"A block takes \d+ instructions, for (\d+)",
     "the lines of the plain core": r"without a contract: ([\d,]+) lines",
@@ -104,7 +103,6 @@ class Counted:
         yield "power-on, names of one sum", cost(self.program, ONE_SUM).all
         yield "power-on, other names", cost(self.program, kind("`on`, 62 DFs with names of 16 bytes")).all
         yield "a block", self.block(1024, 2048)
-        yield "a block of many", self.block(3072, 4096)
         yield "a block of CREATE FILE", self.created(self.program)
         yield "a block of CREATE FILE, plain", self.created(self.plain_core)
         sources = sorted((TOP / "tools" / "plain_core").glob("*.rs"))

@@ -1,5 +1,5 @@
 use Rattle.std.specs.Prelude.{IfOk, Result}
-use Rattle.std.proofs.Common.{◌≡◌, ◌≤◌, ℕ, Bool, List, sym, subst, arith}
+use Rattle.std.proofs.Common.{◌≡◌, ℕ, Bool, List, sym, subst, arith}
 use Rattle.undo_journal.specs.declared.error.StoreErr.{StoreErr}
 use Rattle.undo_journal.specs.laws.Exits.{none_ok}
 use Rattle.undo_journal.specs.laws.Told.{reads_handed, reads_on}
@@ -13,24 +13,14 @@ use Rattle.tree_check.proofs.tree.list_files.Goals as goal
 still_end : (m now : List ℕ) (end : ℕ) → now ≡ m → IsTableEnd (table m) end → IsTableEnd (table now) end
 still_end m now end same is = subst (λ (l : List ℕ). IsTableEnd (table l) end) (sym same) is
 
-pub list_entries-requires : goal.list_entries-requires
-list_entries-requires g c =
-    let few : c.in_ok-end.end ≤ 46 = omega (arith, c.from.ensures, c.if-from-le-FEW_ENTRIES.true) in (
-      omega arith,
-      (
-        record {
-          ready = c.in_ok-end.ensures.end.store.ready;
-          end = still_end _ _ _ c.find_end.ensures.end.store.only.keeps.committed_words c.in_ok-end.ensures.end.told;
-        },
-        (
-          few,
-          (
-            c.new-entries.ensures,
-            c.requires.blank,
-          ),
-        ),
-      ),
-    )
+pub list_few-requires-clause-end : goal.list_few-requires-clause-end
+list_few-requires-clause-end g c = record {
+  ready = c.in_ok-end.ensures.end.store.ready;
+  end = still_end _ _ _ c.find_end.ensures.end.store.only.keeps.committed_words c.in_ok-end.ensures.end.told;
+}
+
+pub list_few-requires-clause-few : goal.list_few-requires-clause-few
+list_few-requires-clause-few g c = omega (arith, c.from.ensures, c.if-from-le-FEW_ENTRIES.true)
 
 pub returns-in_err-end : goal.returns-in_err-end
 returns-in_err-end g c = record {
@@ -45,9 +35,9 @@ told_before m now listing r same told = subst (λ (l : List ℕ). IfOk r (TellsL
 
 pub returns-then-from-le-FEW_ENTRIES : goal.returns-then-from-le-FEW_ENTRIES
 returns-then-from-le-FEW_ENTRIES g c = record {
-  told = told_before _ _ _ c.list_entries.result c.find_end.ensures.end.store.only.keeps.committed_words
-      c.list_entries.ensures.told;
-  store = reads_on _ _ _ _ c.find_end.ensures.end.store.only c.list_entries.ensures.store;
+  told = told_before _ _ _ c.list_few.result c.find_end.ensures.end.store.only.keeps.committed_words
+      c.list_few.ensures.told;
+  store = reads_on _ _ _ _ c.find_end.ensures.end.store.only c.list_few.ensures.store;
 }
 
 pub returns-else-from-le-FEW_ENTRIES : goal.returns-else-from-le-FEW_ENTRIES

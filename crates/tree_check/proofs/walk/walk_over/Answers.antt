@@ -1,92 +1,104 @@
-use Rattle.std.proofs.Common.{◌≡◌, ◌≢◌, ◌+◌, ◌-◌, ◌*◌, ◌<◌, ◌≤◌, ℕ, List, length, slice_index, slice_set}
+use Rattle.std.proofs.Common.{◌≡◌, ◌≢◌, ◌+◌, ◌-◌, ◌*◌, ℕ, List, length, slice_index}
 use Rattle.std.proofs.Common.{true≢false, sym, ◌∙◌, ap, subst, arith}
 use Rattle.nvm_board.specs.Facts.{address}
-use Rattle.nvm_board.specs.Facts.{pages_of}
-use Rattle.undo_journal.specs.Memory.{Memory, committed, IsReady}
+use Rattle.nvm_board.specs.declared.board.TheConstants.{PAGE_WORDS}
+use Rattle.undo_journal.specs.Memory.{committed}
 use Rattle.undo_journal.specs.laws.Calls.{reads_then, reads_same}
-use Rattle.block_chain.specs.Counts.{count}
-use Rattle.block_chain.specs.ChainParts.{times_marked}
-use Rattle.tree_check.specs.WalkParts.{IsWalked}
-use Rattle.block_chain.specs.BlockWords.{link}
-use Rattle.block_chain.specs.declared.layout.TheConstants.{MOST_BLOCKS, FIRST_BLOCK_PAGE}
-use Rattle.block_chain.specs.laws.Walking.{HasWalked, walked_none, walked_less, walked_more, walked_all, walked_fresh}
-use Rattle.block_chain.specs.laws.Walking.{stale_there, last_more, pages_zero}
 use Rattle.undo_journal.specs.laws.Exits.{none_ok}
 use Rattle.undo_journal.specs.laws.Told.{reads_handed, reads_on, reads_so_far}
+use Rattle.block_chain.specs.BlockWords.{link}
+use Rattle.block_chain.specs.Chains.{pages_from}
+use Rattle.block_chain.specs.laws.Walking.{pages_zero}
+use Rattle.tree_check.proofs.Following.{IsFollowed, followed_none, followed_more, last_followed, followed_all}
+use Rattle.tree_check.proofs.Following.{followed_ends, goes_on, goes_on_within}
 use Rattle.tree_check.proofs.walk.walk_over.Goals as goal
-use Rattle.nvm_board.specs.declared.board.TheConstants.{PAGE_WORDS}
 
--- where a block is not marked, not all blocks were walked over
-fits_at : (store : Memory) (m : List ℕ) (end from n page : ℕ) (old new : List ℕ) → HasWalked end m from n page old new
-    → IsReady store → end ≤ pages_of (committed store)
-    → ((FIRST_BLOCK_PAGE ≤ page) × (page < end)) × (times_marked new page ≡ 0) → n < MOST_BLOCKS
-fits_at store m end from n page old new walked ready inside fit =
-    let most = ready.usable.committed_size.most in
-    walked_less end m from n page old new walked (omega (arith, inside, most)) fit.0 fit.1
-
-pub loop-last-init : goal.loop-last-init
-loop-last-init g c = record {
-  ready = c.requires.pages.ready;
-  reads = reads_same _;
-  within = omega arith;
-  walked = walked_none _ _ _ _ c.requires.marks;
-  last = sym (ap (λ (ps : List ℕ). slice_index ps 0) (pages_zero (committed c.args.store.now) c.args.first));
-}
-
-pub loop-last-preserved : goal.loop-last-preserved
-loop-last-preserved g c =
+pub loop-first-init : goal.loop-first-init
+loop-first-init g c =
     let m = committed c.args.store.now in
-    let page = c.loop-last.page in
-    let invariant = c.loop-last.invariant in
-    let fit : ((FIRST_BLOCK_PAGE ≤ page) × (page < c.args.end)) × (times_marked c.loop-last.seen page ≡ 0) =
-    c.mark.ensures.new.0 c.loop-last-test.true in
-    let some : page ≢ 0 = let least = fit.0.0 in λ e. let z : ⊥ = omega (arith, e, least) in z in
-    let fits = fits_at _ _ _ _ _ _ _ _ invariant.walked c.requires.pages.ready c.requires.pages.inside fit in
-    let seen : c.mark.new.seen ≡ slice_set c.loop-last.seen (page - FIRST_BLOCK_PAGE) 1 =
-    c.mark.ensures.marks c.loop-last-test.true in
+    let none : 0 ≡ c.args.most - c.args.most = omega arith in
+    record {
+      ready = c.requires.pages.ready;
+      reads = reads_same _;
+      within = omega arith;
+      walked = subst (λ (n : ℕ). IsFollowed c.args.end m c.args.first n c.args.first) none
+          (followed_none c.args.end m c.args.first);
+      last = subst (λ (n : ℕ). 0 ≡ slice_index (pages_from m n c.args.first) (n - 1)) none
+          (sym (ap (λ (ps : List ℕ). slice_index ps 0) (pages_zero m c.args.first)));
+    }
+
+pub loop-first-preserved : goal.loop-first-preserved
+loop-first-preserved g c =
+    let m = committed c.args.store.now in
+    let page = c.loop-first.page in
+    let n : ℕ = c.args.most - c.loop-first.left in
+    let invariant = c.loop-first.invariant in
+    let within = invariant.within in
+    let some = c.if-left-eq0.false in
+    let fit = c.is_block.ensures.0 c.loop-first-test.true in
+    let more : n + 1 ≡ c.args.most - (c.loop-first.left - 1) = omega (arith, within, some) in
+    let there : page ≢ 0 = λ e. let least = fit.0 in let z : ⊥ = omega (arith, e, least) in z in
     let next : c.in_ok-page.page ≡ link m page =
     (let at : PAGE_WORDS * page ≡ address page 0 = omega arith in c.in_ok-page.ensures.word
-    ∙ ap (λ (k : ℕ). slice_index (committed c.loop-last.store) k) at)
+    ∙ ap (λ (k : ℕ). slice_index (committed c.loop-first.store) k) at)
     ∙ ap (λ (l : List ℕ). link l page) invariant.reads.keeps.committed_words in
-    let more = walked_more c.args.end m c.args.first c.loop-last.blocks page c.args.seen.now c.loop-last.seen
-    invariant.walked c.requires.pages.ready.usable.committed_size c.requires.pages.inside fits some fit.0 fit.1 in
     record {
       ready = c.in_ok-page.ensures.store.ready;
       reads = reads_then _ _ _ invariant.reads c.read_committed.ensures.store.only;
-      within = omega (arith, fits);
-      walked = (let family : ℕ → List ℕ
-          → Type 0 = λ p l. HasWalked c.args.end m c.args.first (c.loop-last.blocks + 1) p c.args.seen.now l in
-          subst (λ (p : ℕ). family p c.mark.new.seen) (sym next) (subst (family (link m page)) (sym seen) more));
-      last = last_more c.args.end m c.args.first c.loop-last.blocks page c.args.seen.now c.loop-last.seen
-          invariant.walked fits some;
+      within = omega (arith, within);
+      walked = subst (λ (k : ℕ). IsFollowed c.args.end m c.args.first k c.in_ok-page.page) more
+          (subst (λ (p : ℕ). IsFollowed c.args.end m c.args.first (n + 1) p) (sym next)
+          (followed_more c.args.end m c.args.first n page invariant.walked c.requires.pages.inside fit));
+      last = subst (λ (k : ℕ). page ≡ slice_index (pages_from m k c.args.first) (k - 1)) more
+          (last_followed c.args.end m c.args.first n page invariant.walked there);
     }
 
-pub returns-then-page-ne0-clause-stale : goal.returns-then-page-ne0-clause-stale
-returns-then-page-ne0-clause-stale g c = λ _.
+pub returns-then-left-eq0-clause-stale : goal.returns-then-left-eq0-clause-stale
+returns-then-left-eq0-clause-stale g c = λ _ ends.
     let m = committed c.args.store.now in
-    let page = c.loop-last.page in
-    let some : page ≢ 0 = c.if-page-ne0.true in
-    stale_there c.args.end m c.args.first c.loop-last.blocks page c.args.seen.now c.loop-last.seen
-    c.loop-last.invariant.walked c.requires.pages.ready.usable.committed_size c.loop-last.invariant.within some
-    (λ fit. true≢false (sym (c.mark.ensures.new.1 fit) ∙ c.loop-last-test.false))
+    let page = c.loop-first.page in
+    let n : ℕ = c.args.most - c.loop-first.left in
+    let fit = c.is_block.ensures.0 c.loop-first-test.true in
+    let there : page ≢ 0 = λ e. let least = fit.0 in let z : ⊥ = omega (arith, e, least) in z in
+    let long = goes_on c.args.end m c.args.first n page c.loop-first.invariant.walked c.args.most ends there in
+    let few = ends.few in
+    let none = c.if-left-eq0.true in
+    omega (arith, long, few, none)
+
+pub returns-then-left-eq0-clause-store : goal.returns-then-left-eq0-clause-store
+returns-then-left-eq0-clause-store g c = reads_so_far _ _ c.loop-first.invariant.reads c.loop-first.invariant.ready
+
+pub returns-then-page-ne0-clause-stale : goal.returns-then-page-ne0-clause-stale
+returns-then-page-ne0-clause-stale g c = λ _ ends.
+    let m = committed c.args.store.now in
+    let n : ℕ = c.args.most - c.loop-first.left in
+    let fit = goes_on_within c.args.end m c.args.first n c.loop-first.page c.loop-first.invariant.walked c.args.most
+    ends c.if-page-ne0.true in
+    true≢false (sym (c.is_block.ensures.1 fit) ∙ c.loop-first-test.false)
+
+pub returns-then-page-ne0-clause-walked : goal.returns-then-page-ne0-clause-walked
+returns-then-page-ne0-clause-walked g c = tt
+
+pub returns-then-page-ne0-clause-store : goal.returns-then-page-ne0-clause-store
+returns-then-page-ne0-clause-store g c = reads_so_far _ _ c.loop-first.invariant.reads c.loop-first.invariant.ready
 
 pub returns-clause-walked : goal.returns-clause-walked
 returns-clause-walked g c =
     let m = committed c.args.store.now in
-    let none : c.loop-last.page ≡ 0 = c.if-page-ne0.false in
-    let invariant = c.loop-last.invariant in
-    let blocks = c.loop-last.blocks in
-    let all = walked_all c.args.end m c.args.first blocks _ _ _ invariant.walked invariant.within none in
-    let family : List ℕ → Type 0 = λ seen. IsWalked c.args.end m c.args.first c.args.seen.now
-    (record { blocks = blocks; last = c.loop-last.last }) seen in
-    subst family (sym (c.mark.ensures.kept c.loop-last-test.false)) (record {
-      fresh = walked_fresh _ _ _ blocks _ _ _ invariant.walked invariant.within none;
+    let n : ℕ = c.args.most - c.loop-first.left in
+    let none : c.loop-first.page ≡ 0 = c.if-page-ne0.false in
+    let limit = c.requires.most in
+    let invariant = c.loop-first.invariant in
+    let all = followed_all c.args.end m c.args.first n c.loop-first.page invariant.walked (omega (arith, limit)) none in
+    record {
+      ends = followed_ends c.args.end m c.args.first n c.loop-first.page invariant.walked c.args.most limit
+          (omega arith) none;
       blocks = sym (ap (λ (ps : List ℕ). length ps) all ∙ invariant.walked.long);
-      last = invariant.last ∙ sym (ap (λ (ps : List ℕ). slice_index ps (blocks - 1)) all);
-      marks = λ q block. invariant.walked.marks q block
-          ∙ sym (ap (λ (ps : List ℕ). times_marked c.args.seen.now q + count q ps) all);
-      fine = invariant.walked.fine;
-    })
+      last = invariant.last ∙ sym (ap (λ (ps : List ℕ). slice_index ps (n - 1)) all);
+    }
+
+pub returns-clause-store : goal.returns-clause-store
+returns-clause-store g c = reads_so_far _ _ c.loop-first.invariant.reads c.loop-first.invariant.ready
 
 pub returns-in_err-page-clause-walked : goal.returns-in_err-page-clause-walked
 returns-in_err-page-clause-walked g c = none_ok _ _ _ c.from_residual.ensures.1
@@ -96,40 +108,17 @@ returns-in_err-page-clause-stale g c = none_ok _ _ _ c.from_residual.ensures.1
 
 pub returns-in_err-page-clause-store : goal.returns-in_err-page-clause-store
 returns-in_err-page-clause-store g c =
-    reads_handed _ _ _ _ c.from_residual.ensures.1 (reads_on _ _ _ _ c.loop-last.invariant.reads
+    reads_handed _ _ _ _ c.from_residual.ensures.1 (reads_on _ _ _ _ c.loop-first.invariant.reads
     c.in_err-page.ensures.store)
 
-pub returns-then-page-ne0-clause-walked : goal.returns-then-page-ne0-clause-walked
-returns-then-page-ne0-clause-walked g c = tt
-
-pub returns-then-page-ne0-clause-store : goal.returns-then-page-ne0-clause-store
-returns-then-page-ne0-clause-store g c = reads_so_far _ _ c.loop-last.invariant.reads c.loop-last.invariant.ready
-
-pub returns-clause-store : goal.returns-clause-store
-returns-clause-store g c = reads_so_far _ _ c.loop-last.invariant.reads c.loop-last.invariant.ready
-
-pub loop-last-smaller : goal.loop-last-smaller
-loop-last-smaller g c = let fits = fits_at _ _ _ _ _ _ _ _ c.loop-last.invariant.walked c.requires.pages.ready
-    c.requires.pages.inside (c.mark.ensures.new.0 c.loop-last-test.true) in omega (arith, fits)
-
-pub overflow_add-blocks : goal.overflow_add-blocks
-overflow_add-blocks g c = let fits = fits_at _ _ _ _ _ _ _ _ c.loop-last.invariant.walked c.requires.pages.ready
-    c.requires.pages.inside (c.mark.ensures.new.0 c.loop-last-test.true) in omega (arith, fits)
-
 pub overflow_cast-last : goal.overflow_cast-last
-overflow_cast-last g c = let block = (c.mark.ensures.new.0 c.loop-last-test.true).0 in
-    let most = c.requires.pages.ready.usable.committed_size.most in omega (
-      arith,
-      block.1,
-      c.requires.pages.inside,
-      most,
-    )
+overflow_cast-last g c =
+    let block = c.is_block.ensures.0 c.loop-first-test.true in
+    let most = c.requires.pages.ready.usable.committed_size.most in
+    omega (arith, block.1, c.requires.pages.inside, most)
 
 pub overflow_mul-last : goal.overflow_mul-last
-overflow_mul-last g c = let block = (c.mark.ensures.new.0 c.loop-last-test.true).0 in
-    let most = c.requires.pages.ready.usable.committed_size.most in omega (
-      arith,
-      block.1,
-      c.requires.pages.inside,
-      most,
-    )
+overflow_mul-last g c =
+    let block = c.is_block.ensures.0 c.loop-first-test.true in
+    let most = c.requires.pages.ready.usable.committed_size.most in
+    omega (arith, block.1, c.requires.pages.inside, most)
