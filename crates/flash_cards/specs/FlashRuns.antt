@@ -6,7 +6,7 @@ use Rattle.bench_turns.specs.declared.turn.Turn.{Turn}
 use Rattle.bench_turns.specs.declared.turn.Item.{Item}
 use Rattle.bench_turns.specs.BenchStates.{BenchState, BenchHasCard, bench_facts, off}
 use Rattle.bench_turns.specs.Guessing.{GuessesFew}
-use Rattle.bench_turns.specs.Turns.{CountsLosses, Runs, darks}
+use Rattle.bench_turns.specs.Turns.{CountsLosses, IsTrace, Runs, darks}
 use Rattle.flash_board.specs.FlashCalls.{FlashState}
 use Rattle.flash_board.specs.FlashFacts.{made_of}
 use Rattle.flash_board.specs.Places.{state_of}
@@ -35,4 +35,6 @@ pub record PlaysOnFlash (old : FlashState) (turns : List Turn) (trace : List Ite
   pub faults : (bench_facts last).faults ≤ new.faults
   -- The headline. The flash has a card state after recovery, and the board reports no fault. Then the trace is the tree
   -- machine's, from that card state to the one after.
-  pub runs : FlashHasCard old → (bench_facts last).faults ≡ 0 → Runs (bench_on old) turns trace last
+  pub runs : FlashHasCard old → (bench_facts last).faults ≡ 0 → IsTrace (bench_on old) turns trace last
+  -- Each turn of it also keeps to its counts, to the guess law and to the board's log.
+  pub costs : FlashHasCard old → (bench_facts last).faults ≡ 0 → Runs (bench_on old) turns trace last
