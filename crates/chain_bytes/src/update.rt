@@ -1,7 +1,7 @@
 //! Updating bytes of a chain, in a transaction of their own.
 ghost use Rattle.std.specs.Prelude.{◌≡◌, ◌⊎◌, ◌+◌, length, OnOk};
 ghost use Rattle.std.specs.Result.{result_err};
-ghost use Rattle.undo_journal.specs.Commits.{CommitsByGate};
+ghost use Rattle.undo_journal.specs.Commits.{CommitsByGate, TurnsTo};
 ghost use Rattle.undo_journal.specs.Memory.{committed};
 ghost use Rattle.undo_journal.specs.Spending.{transaction_writes};
 ghost use Rattle.undo_journal.specs.StoreCalls.{Changes};
@@ -31,6 +31,8 @@ pub fn put_bytes<B: Board>(
     ensures done { OnOk result (Overwrites (committed store.old) (chain_of (committed store.old) chain) offset
         bytes.now (committed store.new)) }
     ensures by_gate { CommitsByGate store.old store.new }
+    ensures turned { TurnsTo (Overwrites (committed store.old) (chain_of (committed store.old) chain) offset bytes.now)
+        store.old store.new }
     ensures store { Changes (transaction_writes (touched_words offset (length bytes.now)) (touched_blocks offset
         (length bytes.now))) store.old store.new (result_err result) }
     ensures counted { OnOk result (store.new.facts.writes

@@ -4,7 +4,7 @@ use Rattle.std.specs.Result.{result_err}
 use Rattle.card_model.specs.declared.status.Sw.{Sw}
 use Rattle.undo_journal.specs.declared.error.StoreErr.{StoreErr}
 use Rattle.undo_journal.specs.StoreCalls.{Reads, Changes}
-use Rattle.undo_journal.specs.Commits.{CommitsByGate}
+use Rattle.undo_journal.specs.Commits.{CommitsByGate, TurnsTo}
 use Rattle.undo_journal.specs.Memory.{Memory, committed}
 use Rattle.block_chain.specs.ChainChanges.{AppendsSome}
 use Rattle.ef_contents.specs.declared.error.BodyErr.{BodyErr}
@@ -34,6 +34,7 @@ pub record Commits {T : Type 0} (becomes : List ℕ → Type 0) (n : ℕ) (old n
   pub any_exit : (committed new ≡ committed old) ⊎ becomes (committed new)
   pub done : OnOk result (becomes (committed new))
   pub by_gate : CommitsByGate old new
+  pub turned : TurnsTo becomes old new
   pub store : Changes n old new (result_err result)
 
 -- The same, unless the call is refused: then nothing was done.
@@ -44,4 +45,5 @@ pub record CommitsUnlessRefused {T : Type 0} (due : Option Sw) (becomes : List �
   pub refusal : Decides due (result_err result)
   pub refused : WhereRefused (result_err result) (new ≡ old)
   pub by_gate : CommitsByGate old new
+  pub turned : TurnsTo becomes old new
   pub store : Changes n old new (why_failed (result_err result))

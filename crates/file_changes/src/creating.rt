@@ -3,12 +3,14 @@
 ghost use Rattle.std.specs.Prelude.{◌≡◌, ◌⊎◌, ◌&&◌, ◌≤◌, nat_le, length, Some, IfOk, OnOk};
 ghost use Rattle.std.specs.Prelude.{MatchResult, if◌then◌else◌};
 ghost use Rattle.std.specs.Result.{result_err};
+ghost use Rattle.undo_journal.specs.Commits.{TurnsAfter};
 ghost use Rattle.undo_journal.specs.Memory.{committed, current, InRuns};
 ghost use Rattle.undo_journal.specs.Lent.{memory_of};
 ghost use Rattle.undo_journal.specs.StoreCalls.{Learns, OnlyReads, Changes, SetsIn};
 ghost use Rattle.card_model.specs.declared.status.Sw.{Sw};
 ghost use Rattle.card_model.specs.declared.fcp.ShortIdentifier.TheVariants.{Absent};
-ghost use Rattle.card_model.specs.FileControl.{IsCreatable};
+ghost use Rattle.card_model.specs.FileControl.{IsCreatable, size_of_kind};
+ghost use Rattle.card_model.specs.Spaces.{blocks_for};
 ghost use Rattle.block_chain.specs.Chains.{free_chain};
 ghost use Rattle.file_changes.specs.Adding.{AddsByGate};
 ghost use Rattle.file_changes.specs.Conditions.{CanCreate, HasDf, HasFreeBlocks, IsNewEntry, IsSurveyed};
@@ -207,6 +209,7 @@ fn write_file<B: Board>(
     ensures any_exit { FillsOrAdds (committed store.old) e entry blocks (committed store.new) }
     ensures done { OnOk result (FillsAndAdds (committed store.old) e entry blocks (committed store.new)) }
     ensures by_gate { AddsByGate store.old store.new }
+    ensures turned { TurnsAfter blocks (FillsAndAdds (committed store.old) e entry blocks) store.old store.new }
     ensures store { Changes CREATE_WRITES store.old store.new (result_err result) }
 {
     let run = fill(store, blocks, BLANK)?;
@@ -252,6 +255,8 @@ pub fn create<B: Board>(
     ensures any_exit { SameTree (committed store.old) (committed store.new)
         ⊎ CreatesNew (committed store.old) df fcp.now (committed store.new) }
     ensures by_gate { AddsByGate store.old store.new }
+    ensures turned { TurnsAfter (blocks_for (size_of_kind fcp.now.kind)) (CreatesNew (committed store.old) df fcp.now)
+        store.old store.new }
     ensures store { Changes CREATE_WRITES store.old store.new (result_err result) }
     ensures idle { (status : Sw)
         → creation_refusal (block_count (committed store.old)) (tree_of (committed store.old))

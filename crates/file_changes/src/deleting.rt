@@ -4,7 +4,7 @@ ghost use Rattle.std.specs.Prelude.{◌≡◌, ◌⊎◌, ◌<◌, ◌≤◌, �
 ghost use Rattle.std.specs.Prelude.{length, replicate, slice_index, slice_set, IfOk, OnOk, MatchResult};
 ghost use Rattle.std.specs.List.{sum_by};
 ghost use Rattle.std.specs.Result.{result_err};
-ghost use Rattle.undo_journal.specs.Commits.{CommitsByGate};
+ghost use Rattle.undo_journal.specs.Commits.{CommitsByGate, TurnsTo};
 ghost use Rattle.undo_journal.specs.Memory.{committed, current, IsReady};
 ghost use Rattle.undo_journal.specs.Lent.{memory_of};
 ghost use Rattle.undo_journal.specs.StoreCalls.{Learns, Changes, Reads, SetsIn};
@@ -202,6 +202,8 @@ fn remove<B: Board>(store: &mut Store<B>, marks: &Marks, chains: &[Chain]) -> Re
     ensures done { OnOk result ((part : List Entry) → GoesWith marks.now part
         → Removes (committed store.old) part chains.now (committed store.new)) }
     ensures by_gate { CommitsByGate store.old store.new }
+    ensures turned { TurnsTo (λ after. (part : List Entry) → GoesWith marks.now part
+        → Removes (committed store.old) part chains.now after) store.old store.new }
     ensures store { Changes DELETE_WRITES store.old store.new (result_err result) }
 {
     let mut txn = store.begin();
@@ -255,6 +257,7 @@ pub fn delete<B: Board>(
         free_space (block_count (committed store.new)) (tree_of (committed store.new))
         ≡ with_freed (free_space (block_count (committed store.old)) (tree_of (committed store.old))) freed) }
     ensures by_gate { CommitsByGate store.old store.new }
+    ensures turned { TurnsTo (Deletes (committed store.old) e) store.old store.new }
     ensures store { Changes DELETE_WRITES store.old store.new (result_err result) }
     ensures index { MatchResult result (λ freed. IsIndex (table (committed store.new)) index.new)
         (λ error. index.new ≡ index.old) }

@@ -3,7 +3,7 @@
 ghost use Rattle.std.specs.Prelude.{◌≡◌, ◌⊎◌, slice_set, OnOk};
 ghost use Rattle.std.specs.Result.{result_err};
 ghost use Rattle.undo_journal.specs.Undo.{IsDataAddress};
-ghost use Rattle.undo_journal.specs.Commits.{CommitsByGate};
+ghost use Rattle.undo_journal.specs.Commits.{CommitsByGate, TurnsTo};
 ghost use Rattle.undo_journal.specs.Memory.{committed, IsReady};
 ghost use Rattle.undo_journal.specs.StoreCalls.{Learns, OnlyReads, Changes};
 ghost use Rattle.card_model.specs.LifeCycle.{life_cycle_byte};
@@ -58,6 +58,7 @@ fn write_word<B: Board>(store: &mut Store<B>, at: u16, word: u32) -> Result<(), 
         ⊎ (committed store.new ≡ slice_set (committed store.old) at word) }
     ensures done { OnOk result (committed store.new ≡ slice_set (committed store.old) at word) }
     ensures by_gate { CommitsByGate store.old store.new }
+    ensures turned { TurnsTo (λ after. after ≡ slice_set (committed store.old) at word) store.old store.new }
     ensures store { Changes 4 store.old store.new (result_err result) }
 {
     let mut txn = store.begin();
@@ -82,6 +83,7 @@ pub fn set_life_cycle<B: Board>(
     ensures stays { life_at (tree_of (committed store.old)) (path_of (table (committed store.old)) e) ≡ state
         → OnlyReads store.old store.new }
     ensures by_gate { CommitsByGate store.old store.new }
+    ensures turned { TurnsTo (ChangesLife (committed store.old) e state) store.old store.new }
     ensures store { Changes 4 store.old store.new (result_err result) }
 {
     let entry = read_entry(store, e)?;
@@ -102,6 +104,7 @@ pub fn terminate_card<B: Board>(store: &mut Store<B>) -> Result<(), StoreErr>
         ⊎ (committed store.new ≡ with_card_terminated (committed store.old)) }
     ensures done { OnOk result (committed store.new ≡ with_card_terminated (committed store.old)) }
     ensures by_gate { CommitsByGate store.old store.new }
+    ensures turned { TurnsTo (λ after. after ≡ with_card_terminated (committed store.old)) store.old store.new }
     ensures store { Changes 4 store.old store.new (result_err result) }
 {
     write_word(

@@ -47,6 +47,12 @@ dark-as : {T : Type 0} (a : Result T DeviceErr) (old new : Facts) → Answered o
 dark-as (Ok v) old new light lost = absurd cc
 dark-as (Err e) old new light lost = let is : store_err_of e ≡ PowerLost = cc in is_dark_by e old new is light
 
+-- what holds of a call that went well, where the store hasn't failed in it
+pub done_unfailed : {T : Type 0} (P : Type 0) (r : Result T StoreErr) (failed : Option StoreErr)
+    → failed ≡ result_err r → failed ≡ None → OnOk r P → P
+done_unfailed P (Ok v) failed tells works h = h
+done_unfailed P (Err e) failed tells works h = let never : None ≡ Some e = sym works ∙ tells in cc
+
 -- what holds of a call that went well
 pub unless_failed : {T : Type 0} (P : Type 0) (r : Result T StoreErr) → OnOk r P → UnlessFailed (result_err r) P
 unless_failed P (Ok v) h = h

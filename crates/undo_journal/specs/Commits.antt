@@ -1,5 +1,5 @@
 -- Which word commits a transaction: the gate, turned to 0.
-use Rattle.std.specs.Prelude.{◌≡◌, ◌⊎◌, ◌+◌, ◌≤◌, ℕ, List, slice_set, None}
+use Rattle.std.specs.Prelude.{◌≡◌, ◌⊎◌, ◌+◌, ◌≤◌, ◌<◌, ℕ, List, slice_set, None}
 use Rattle.undo_journal.specs.declared.layout.TheConstants.{GATE}
 use Rattle.undo_journal.specs.Memory.{Memory, committed, current}
 use Rattle.undo_journal.specs.Undo.{gate, undo, data_words, IsSound}
@@ -21,7 +21,24 @@ CommitsByGate old new = (committed new ≡ committed old) ⊎ TurnsGate (committ
 -- that hasn't failed.
 abbrev pub TurnedCommits : Memory → Memory → Type 0
 TurnedCommits entry exit = gate exit.facts.words ≡ 0 → entry.failed ≡ None → (committed exit ≡ current entry)
-    ⊎ ((entry.used ≡ 0) × (exit.facts.writes ≤ entry.facts.writes + 2))
+    ⊎ ((entry.used ≡ 0) × (gate entry.facts.words ≡ 0) × (exit.facts.writes ≤ entry.facts.writes + 2))
+
+-- The gate rises early in a transaction. Where it is 0 after calls in it, it was 0 before them, and they wrote nothing.
+-- If the store has failed, they wrote at most the pairs, and a gate that didn't rise.
+abbrev pub RisesEarly : Memory → Memory → Type 0
+RisesEarly old new = gate new.facts.words ≡ 0 → (gate old.facts.words ≡ 0)
+    × (new.facts.writes ≤ old.facts.writes + 2) × (new.failed ≡ None → new.facts.writes ≤ old.facts.writes)
+
+-- The effect of at most one transaction, by its gate. With the gate 0 after more than two device writes, it has turned,
+-- and the committed words are the new ones, for which `becomes` is true.
+abbrev pub TurnsTo : (List ℕ → Type 0) → Memory → Memory → Type 0
+TurnsTo becomes old new =
+    gate new.facts.words ≡ 0 → old.facts.writes + 2 < new.facts.writes → becomes (committed new)
+
+-- The same, with at most `early` device writes before the transaction.
+abbrev pub TurnsAfter : ℕ → (List ℕ → Type 0) → Memory → Memory → Type 0
+TurnsAfter early becomes old new =
+    gate new.facts.words ≡ 0 → old.facts.writes + early + 2 < new.facts.writes → becomes (committed new)
 
 -- where no pair counts none does afterwards
 abbrev pub StaysShut : Memory → Memory → Type 0

@@ -279,6 +279,9 @@ pub(crate) fn add<B: Board>(board: &mut B, batch: &mut Batch, new: Waiting) -> R
         (B.facts board.new) }
     ensures joins { OnOk result
         (Joins new (working (B.facts board.old) batch.old) (working (B.facts board.new) batch.new)) }
+    ensures rises { gate (B.facts board.new).words ≡ 0 → (gate (B.facts board.old).words ≡ 0)
+        × ((B.facts board.new).writes ≤ (B.facts board.old).writes + 2)
+        × OnOk result ((B.facts board.new).writes ≤ (B.facts board.old).writes) }
 {
     join(&mut batch.waiting, new);
     if batch.waiting.is_full() {

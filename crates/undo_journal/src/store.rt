@@ -11,7 +11,7 @@ ghost use Rattle.undo_journal.specs.declared.layout.TheConstants.{PAIRS};
 ghost use Rattle.undo_journal.specs.declared.error.StoreErr.TheVariants.{PowerLost};
 ghost use Rattle.undo_journal.specs.Undo.{undo, data_words, IsDataAddress, IsDataRun, IsSound};
 ghost use Rattle.undo_journal.specs.Spending.{KeepsShut, WritesAtMost, rollback_writes, start_writes};
-ghost use Rattle.undo_journal.specs.Commits.{StaysShut, TurnedCommits, TurnsGate};
+ghost use Rattle.undo_journal.specs.Commits.{RisesEarly, StaysShut, TurnedCommits, TurnsGate};
 ghost use Rattle.undo_journal.specs.Memory.{committed, current, commit_writes, room, set_writes};
 ghost use Rattle.undo_journal.specs.Memory.{store_result_of, taken};
 ghost use Rattle.undo_journal.specs.Memory.{EndsAt, ContinuesRun, InRuns, IsIdle, IsOpen, IsReady, Joins, KeepsWords};
@@ -291,6 +291,7 @@ impl<B: Board> Store<B> {
         ensures spends { WritesAtMost (set_writes (record { at = at; word = word }) self.old)
             self.old.facts self.new.facts }
         ensures joins { OnOk result (Joins (record { at = at; word = word }) self.old self.new) }
+        ensures rises { RisesEarly self.old self.new }
     {
         self.check()?;
         let answer = add(&mut self.board, &mut self.batch, Waiting { at, word });

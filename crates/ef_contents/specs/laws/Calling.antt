@@ -1,5 +1,5 @@
 -- What a call promises, handed on: by a call that answers for it, or by one that promises less of the words.
-use Rattle.std.proofs.Common.{sym, refl, ap, subst, inl}
+use Rattle.std.proofs.Common.{sym, refl, ap, subst, inl, arith}
 use Rattle.std.proofs.Math.Logic.{⊎_map}
 use Rattle.std.proofs.lemmas.Result.{on_ok_weaker}
 use Rattle.std.specs.Prelude.{◌≡◌, ◌≤◌, ◌+◌, ℕ, List, [], Option, Some, None, Result, Ok, Err, IsErrAnd, OnOk}
@@ -22,6 +22,7 @@ commits_weaker n old new r P Q also commits = record {
   any_exit = ⊎_map (λ kept. kept) also commits.any_exit;
   done = on_ok_weaker r also commits.done;
   by_gate = commits.by_gate;
+  turned = λ shut more. also (commits.turned shut more);
   store = commits.store;
 }
 
@@ -32,6 +33,7 @@ commits_within n k old new r P fits commits = record {
   any_exit = commits.any_exit;
   done = commits.done;
   by_gate = commits.by_gate;
+  turned = commits.turned;
   store = changes_within n k old new (result_err r) fits commits.store;
 }
 
@@ -62,6 +64,7 @@ module _ {T : Type 0} (r : Result T StoreErr) (s : Result T BodyErr)
       refusal = store_decides r s is due none;
       refused = store_refuses r s is _;
       by_gate = commits.by_gate;
+      turned = commits.turned;
       store = store_told r s is (Changes n old new) commits.store;
     }
 
@@ -95,5 +98,6 @@ module _ {T : Type 0} (r : Result T BodyErr) (status : Sw) (is : IsErrAnd r (λ 
         refusal = is_due;
         refused = refl;
         by_gate = inl refl;
+        turned = λ shut more. absurd (omega (arith, more));
         store = reads_change n old old None ready.idle (reads_none old ready);
       })

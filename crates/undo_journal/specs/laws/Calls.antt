@@ -1,5 +1,6 @@
 -- Laws of calls in a row: reads, and the sets of a transaction.
 use Rattle.std.proofs.Common.{◌≡◌, ◌+◌, ◌-◌, ◌≤◌, ◌<◌, ℕ, zero, suc, List, length, IsSome, refl, sym, ap, subst}
+use Rattle.std.specs.Prelude.{Option, Some, None}
 use Rattle.std.proofs.Common.{◌∙◌, arith}
 use Rattle.std.proofs.Math.Logic.{⊎_map}
 use Rattle.nvm_board.specs.Facts.{address, Facts}
@@ -9,7 +10,10 @@ use Rattle.undo_journal.specs.declared.batch.Waiting.{Waiting}
 use Rattle.undo_journal.specs.declared.txn.Txn.{Txn}
 use Rattle.undo_journal.specs.Batches.{look_up, batch_writes, touched_pages}
 use Rattle.undo_journal.specs.Lent.{memory_of}
-use Rattle.undo_journal.specs.Memory.{Memory, InRuns, EndsAt, ContinuesRun, run_writes}
+use Rattle.undo_journal.specs.Commits.{RisesEarly}
+use Rattle.undo_journal.specs.Memory.{Memory, InRuns, EndsAt, ContinuesRun, Reports, run_writes}
+use Rattle.undo_journal.specs.Undo.{gate}
+use Rattle.undo_journal.specs.declared.error.StoreErr.{StoreErr}
 use Rattle.undo_journal.specs.laws.Memory.{reports_same, reports_then}
 use Rattle.undo_journal.specs.Spending.{Advances, KeepsBoard, WritesAtMost}
 use Rattle.undo_journal.specs.StoreCalls.{OnlyReads, TxnReads, Sets}
@@ -163,6 +167,37 @@ ends_kept a b at reads ends = ⊎_map
 pub goes_on_kept : (a b : Memory) (at : ℕ) → OnlyReads a b → ContinuesRun a at → ContinuesRun b at
 goes_on_kept a b at reads goes = (goes.0, ends_kept a b (at - 1) reads goes.1)
 
+-- the gate of a transaction, over calls in a row
+stops_early : (a b c : Memory) → Reports b c → RisesEarly a b → gate b.facts.words ≡ 0
+    → c.facts.writes ≤ b.facts.writes + 2 → (f : Option StoreErr) → b.failed ≡ f
+    → c.facts.writes ≤ a.facts.writes + 2
+stops_early a b c reports first shut few None is =
+    let early = (first shut).2 is in
+    omega (arith, early, few)
+stops_early a b c reports first shut few (Some e) is =
+    let same = ap (λ (f : Facts). f.writes) (reports.stuck e is).1 in
+    let early = (first shut).1 in
+    omega (arith, same, early)
+
+pub rises_then : (a b c : Memory) → Reports b c → RisesEarly a b → RisesEarly b c → RisesEarly a c
+rises_then a b c reports first rest = λ shut.
+    let late = rest shut in (
+      (first late.0).0,
+      stops_early a b c reports first late.0 late.1 b.failed refl,
+      λ works.
+          let early = (first late.0).2 (reports.works works).0 in
+          let few = late.2 works in
+          omega (arith, early, few),
+    )
+
+-- reads write nothing
+pub reads_rise : (a b : Memory) → OnlyReads a b → RisesEarly a b
+reads_rise a b reads = λ shut. (
+  sym (ap gate reads.board.words) ∙ shut,
+  omega (arith, reads.board.writes),
+  λ works. omega (arith, reads.board.writes),
+)
+
 -- sets in a row
 pub sets_then : {B : Type 0} (i k n : ℕ) (a b c : Txn B) → i + k ≤ n → Sets i a b → Sets k b c → Sets n a c
 sets_then i k n a b c fits first rest = record {
@@ -172,6 +207,7 @@ sets_then i k n a b c fits first rest = record {
   taken = omega (arith, fits, first.taken, rest.taken);
   reports = reports_then _ _ _ first.reports rest.reports;
   writes = runs_then i k n (memory_of a) (memory_of b) (memory_of c) fits first.writes rest.writes;
+  rises = rises_then (memory_of a) (memory_of b) (memory_of c) rest.reports first.rises rest.rises;
 }
 
 -- reads are no sets
@@ -183,6 +219,7 @@ reads_sets n a b reads = record {
   taken = omega (arith, reads.reads.keeps.taken);
   reports = reads.reads.reports;
   writes = reads_runs n (memory_of a) (memory_of b) reads.reads;
+  rises = reads_rise (memory_of a) (memory_of b) reads.reads;
 }
 
 -- fewer sets are at most as many
@@ -194,4 +231,5 @@ sets_weaker i n a b fits sets = record {
   taken = omega (arith, fits, sets.taken);
   reports = sets.reports;
   writes = runs_weaker i n (memory_of a) (memory_of b) fits sets.writes;
+  rises = sets.rises;
 }

@@ -4,17 +4,19 @@ use Rattle.std.specs.Prelude.{Option, Some, None, Result, Ok, Err, OnOk, IsOk}
 use Rattle.std.specs.Result.{result_err}
 use Rattle.std.specs.Prelude.{if◌then◌else◌}
 use Rattle.std.proofs.lemmas.Bool.Decides.{eqb_tells}
-use Rattle.std.proofs.Common.{◌≡◌, ◌≢◌, ◌⊎◌, ◌≤◌, ◌+◌, ℕ, Bool, List, refl, sym, ◌∙◌, ap, subst, inl, inr, arith}
-use Rattle.std.proofs.Common.{⊎_elim, true≢false}
+use Rattle.std.proofs.Common.{◌≡◌, ◌≢◌, ◌⊎◌, ◌≤◌, ◌<◌, ◌+◌, ℕ, Bool, List, refl, sym, ◌∙◌, ap, subst, inl, inr}
+use Rattle.std.proofs.Common.{⊎_elim, true≢false, arith}
+use Rattle.nvm_board.specs.Facts.{Facts}
 use Rattle.nvm_board.specs.laws.Aims.{aims_then}
 use Rattle.undo_journal.specs.declared.error.StoreErr.{StoreErr}
 use Rattle.undo_journal.specs.StoreCalls.{Changes}
-use Rattle.undo_journal.specs.Commits.{CommitsByGate, TurnsGate}
+use Rattle.undo_journal.specs.Commits.{CommitsByGate, RisesEarly, TurnedCommits, TurnsGate, TurnsTo}
 use Rattle.undo_journal.specs.Endings.{ended, end_writes}
 use Rattle.undo_journal.specs.Batches.{batch_writes}
 use Rattle.undo_journal.specs.Memory.{Memory, committed, current, commit_writes, CountsCommit, InRuns, IsIdle, IsReady}
 use Rattle.undo_journal.specs.Memory.{Reports, taken}
 use Rattle.undo_journal.specs.Spending.{transaction_writes}
+use Rattle.undo_journal.specs.Undo.{gate}
 use Rattle.undo_journal.specs.laws.Memory.{reports_then}
 use Rattle.undo_journal.specs.laws.Told.{idle_waits}
 use Rattle.undo_journal.specs.laws.Transactions.{begun, stays, stays_spends}
@@ -52,6 +54,34 @@ ends_by_gate W P a b t c x same last kept exit =
     subst (λ (m : Memory). CommitsByGate a m) (sym last)
     (⊎_elim (λ still. inl (still ∙ before))
     (λ turned. inr (subst (λ (l : List ℕ). TurnsGate l c) before turned.2)) exit)
+
+-- its end can't have turned the gate so early
+ends_early : (P : Type 0) (a b t c x : Memory) → b ≡ a → x ≡ c → c.facts.writes ≤ b.facts.writes + 2
+    → a.facts.writes + 2 < x.facts.writes → P
+ends_early P a b t c x same last few more =
+    let first = ap (λ (m : Memory). m.facts.writes) same in
+    let end = ap (λ (m : Memory). m.facts.writes) last in
+    absurd (omega (arith, first, end, few, more))
+
+-- once the gate has turned they are the work's
+pub ends_turned : {T : Type 0} (P : List ℕ → List ℕ → Type 0) (work : Result T StoreErr) (a b t c x : Memory) → b ≡ a
+    → x ≡ c → IsReady a → RisesEarly b t → OnOk work (P (current b) (current t)) → t.failed ≡ result_err work
+    → Reports t c → (IsOk work → TurnedCommits t c) → TurnsTo (P (committed a)) a x
+ends_turned P (Ok v) a b t c x same last ready rises made tells reports turned = λ shut more.
+    ⊎_elim
+    (λ (is : committed c ≡ current t). lasts P a b t c x same last ready made is)
+    (λ early.
+    let before = (rises early.1).2 tells in
+    let after = early.2 in
+    ends_early (P (committed a) (committed x)) a b t c x same last (omega (arith, before, after)) more)
+    (turned refl (sym (ap (λ (m : Memory). gate m.facts.words) last) ∙ shut) tells)
+ends_turned P (Err e) a b t c x same last ready rises made tells reports turned = λ shut more.
+    let kept = (reports.stuck e tells).1 in
+    let closed = sym (ap (λ (f : Facts). gate f.words) kept)
+    ∙ sym (ap (λ (m : Memory). gate m.facts.words) last) ∙ shut in
+    let before = (rises closed).1 in
+    let same_writes = ap (λ (f : Facts). f.writes) kept in
+    ends_early (P (committed a) (committed x)) a b t c x same last (omega (arith, before, same_writes)) more
 
 -- where it is answered they are the work's
 pub ends_done : {T : Type 0} (P : List ℕ → List ℕ → Type 0) (work result : Result T StoreErr) (a b t c x : Memory)

@@ -4,9 +4,10 @@ use Rattle.std.proofs.Common.{◌≡◌, ℕ, List, refl, sym, ◌∙◌, ap, su
 use Rattle.std.proofs.Math.Logic.{⊎_map}
 use Rattle.nvm_board.specs.Facts.{Facts}
 use Rattle.nvm_board.specs.laws.Aims.{aims_same}
-use Rattle.undo_journal.specs.Commits.{CommitsByGate, TurnsGate}
+use Rattle.undo_journal.specs.Commits.{CommitsByGate, TurnsGate, TurnsTo}
 use Rattle.undo_journal.specs.Memory.{Memory, committed, current, IsReady}
 use Rattle.undo_journal.specs.Spending.{WritesAtMost}
+use Rattle.undo_journal.specs.StoreCalls.{OnlyReads}
 
 -- it begins with the words that are committed
 pub begun : (a b : Memory) → b ≡ a → IsReady a → committed a ≡ current b
@@ -33,3 +34,13 @@ stays_spends f g same =
       compares = refl;
       matches = refl;
     })
+
+-- reads alone make no commit
+pub reads_turn : (becomes : List ℕ → Type 0) (a b : Memory) → OnlyReads a b → TurnsTo becomes a b
+reads_turn becomes a b reads = λ shut more. absurd (omega (arith, reads.board.writes, more))
+
+-- what is true of the words once the gate has turned, after reads and in other words
+pub turns_after : (becomes is : List ℕ → Type 0) (a b c : Memory) → OnlyReads a b
+    → (becomes (committed c) → is (committed c)) → TurnsTo becomes b c → TurnsTo is a c
+turns_after becomes is a b c reads weaker turned = λ shut more.
+    weaker (turned shut (omega (arith, reads.board.writes, more)))

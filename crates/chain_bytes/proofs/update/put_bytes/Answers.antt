@@ -2,7 +2,7 @@ use Rattle.std.specs.Prelude.{◌*◌, ◌+◌, ◌≤◌, length}
 use Rattle.std.proofs.Common.{ℕ, List, sym, ◌∙◌, subst, arith}
 use Rattle.undo_journal.specs.Lent.{memory_of}
 use Rattle.undo_journal.specs.Memory.{Memory, IsOpen}
-use Rattle.undo_journal.specs.laws.Endings.{ends, ends_answered, ends_by_gate, ends_counted, ends_done}
+use Rattle.undo_journal.specs.laws.Endings.{ends, ends_answered, ends_by_gate, ends_counted, ends_done, ends_turned}
 use Rattle.undo_journal.specs.laws.Transactions.{begun}
 use Rattle.undo_journal.specs.Spending.{transaction_writes}
 use Rattle.block_chain.specs.declared.layout.TheConstants.{BLOCK_BYTES}
@@ -34,6 +34,14 @@ returns-clause-by_gate g c =
     let last = c.store-1.given.1 (sym (set.store.sets.same_store ∙ c.begin-txn.ensures.same_store)) in
     ends_by_gate _ _ _ _ (memory_of c.set_bytes-work.new.txn) _ _ c.begin-txn.ensures.same last set.store.sets.kept
     c.end.ensures.any_exit
+
+pub returns-clause-turned : goal.returns-clause-turned
+returns-clause-turned g c =
+    let set = c.set_bytes-work.ensures in
+    let last = c.store-1.given.1 (sym (set.store.sets.same_store ∙ c.begin-txn.ensures.same_store)) in
+    ends_turned (λ m after. Overwrites m (chain_of m c.args.chain) c.args.offset c.args.bytes.now after)
+    c.set_bytes-work.result _ _ (memory_of c.set_bytes-work.new.txn) _ _ c.begin-txn.ensures.same last c.requires.ready
+    set.store.sets.rises set.done set.store.tells c.end.ensures.store.reports c.end.ensures.turned
 
 pub returns-clause-store : goal.returns-clause-store
 returns-clause-store g c =

@@ -2,7 +2,7 @@ use Rattle.std.specs.Prelude.{◌+◌, length}
 use Rattle.std.proofs.Common.{ℕ, List, sym, ◌∙◌, subst, arith}
 use Rattle.undo_journal.specs.Lent.{memory_of}
 use Rattle.undo_journal.specs.Memory.{Memory, IsOpen}
-use Rattle.undo_journal.specs.laws.Endings.{ends, ends_answered, ends_by_gate, ends_counted, ends_done}
+use Rattle.undo_journal.specs.laws.Endings.{ends, ends_answered, ends_by_gate, ends_counted, ends_done, ends_turned}
 use Rattle.undo_journal.specs.laws.Transactions.{begun}
 use Rattle.block_chain.specs.ChainChanges.{touched_words, touched_blocks}
 use Rattle.ef_body.specs.declared.layout.TheConstants.{RECORD_WRITES}
@@ -36,6 +36,11 @@ returns-clause-commits g c =
       by_gate = ends_by_gate _ _ _ _ (memory_of c.set_record-work.new.txn) _ _ c.begin-txn.ensures.same last
           set.store.sets.kept
           c.end.ensures.any_exit;
+      turned = ends_turned (λ m after. PutsRecord m c.args.chain c.args.offset c.args.bytes.now c.args.told_at
+          c.args.told after)
+          c.set_record-work.result _ _ (memory_of c.set_record-work.new.txn) _ _ c.begin-txn.ensures.same last
+          c.requires.bytes.ready set.store.sets.rises set.done set.store.tells c.end.ensures.store.reports
+          c.end.ensures.turned;
       store = ends_answered (touched_words c.args.offset (length c.args.bytes.now) + 1)
           (touched_blocks c.args.offset (length c.args.bytes.now) + 1) RECORD_WRITES
           c.set_record-work.result c.end.result _ _ (memory_of c.set_record-work.new.txn) _ _

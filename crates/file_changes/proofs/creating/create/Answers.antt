@@ -285,6 +285,51 @@ returns-clause-by_gate g c =
     (c.short_of.ensures.store.only.keeps.committed_words ∙ c.find_place.ensures.store.only.keeps.committed_words)
     c.write_file.ensures.by_gate
 
+pub returns-in_err-entry-clause-turned : goal.returns-in_err-entry-clause-turned
+returns-in_err-entry-clause-turned g c =
+    λ shut more. absurd (omega (arith, more, c.find_place.ensures.store.only.board.writes))
+
+pub returns-in-Refused-clause-turned : goal.returns-in-Refused-clause-turned
+returns-in-Refused-clause-turned g c =
+    λ shut more. absurd (omega (arith, more, c.find_place.ensures.store.only.board.writes))
+
+pub returns-in_err-short-clause-turned : goal.returns-in_err-short-clause-turned
+returns-in_err-short-clause-turned g c =
+    let reads = reads_then _ _ _ c.find_place.ensures.store.only c.short_of.ensures.store.only in
+    λ shut more. absurd (omega (arith, more, reads.board.writes))
+
+pub returns-in_err-write_file-clause-turned : goal.returns-in_err-write_file-clause-turned
+returns-in_err-write_file-clause-turned g c =
+    let m = committed c.args.store.now in
+    let fcp = c.args.fcp.now in
+    let read = c.find_place.ensures.store.only.keeps.committed_words in
+    let words = c.short_of.ensures.store.only.keeps.committed_words ∙ read in
+    let reads = reads_then _ _ _ c.find_place.ensures.store.only c.short_of.ensures.store.only in
+    let blocks = c.blocks_for-blocks.ensures ∙ ap blocks_for c.size.ensures in
+    λ shut more. (created m (committed c.short_of.new.store) (committed c.write_file.new.store) c.args.df
+    c.in_ok-short.short c.in-At.entry c.blocks_for-blocks.result fcp c.entry_for.result
+    c.requires.df.ready.usable.committed_size c.requires.df.tree c.requires.df.df c.requires.fcp
+    (place_at m c.args.df fcp _ c.in-At.entry c.in-At.is c.in_ok-entry.ensures.told)
+    (short_before m (committed c.find_place.new.store) c.args.df c.in_ok-short.short
+    fcp read c.in_ok-short.ensures.told) words c.entry_for.ensures blocks
+    (c.write_file.ensures.turned shut (omega (arith, more, blocks, reads.board.writes)))).creates
+
+pub returns-clause-turned : goal.returns-clause-turned
+returns-clause-turned g c =
+    let m = committed c.args.store.now in
+    let fcp = c.args.fcp.now in
+    let read = c.find_place.ensures.store.only.keeps.committed_words in
+    let words = c.short_of.ensures.store.only.keeps.committed_words ∙ read in
+    let reads = reads_then _ _ _ c.find_place.ensures.store.only c.short_of.ensures.store.only in
+    let blocks = c.blocks_for-blocks.ensures ∙ ap blocks_for c.size.ensures in
+    λ shut more. (created m (committed c.short_of.new.store) (committed c.write_file.new.store) c.args.df
+    c.in_ok-short.short c.in-At.entry c.blocks_for-blocks.result fcp c.entry_for.result
+    c.requires.df.ready.usable.committed_size c.requires.df.tree c.requires.df.df c.requires.fcp
+    (place_at m c.args.df fcp _ c.in-At.entry c.in-At.is c.in_ok-entry.ensures.told)
+    (short_before m (committed c.find_place.new.store) c.args.df c.in_ok-short.short
+    fcp read c.in_ok-short.ensures.told) words c.entry_for.ensures blocks
+    (c.write_file.ensures.turned shut (omega (arith, more, blocks, reads.board.writes)))).creates
+
 -- the dedicated file of the new file
 has_df : (m : Memory) (df : ℕ) → IsReady m → TreeStands (committed m) → (entry_in (table (committed m)) df).kind ≡ 1
     → HasFile m df

@@ -16,7 +16,7 @@ use Rattle.card_model.specs.NewFiles.{blank}
 use Rattle.file_tree.specs.Table.{table, extents}
 use Rattle.file_changes.specs.CreationParts.{AddsFile, FillsAndAdds}
 use Rattle.file_tree.specs.laws.Rewriting.{filled}
-use Rattle.undo_journal.specs.laws.Endings.{ends, ends_answered, ends_by_gate, ends_done}
+use Rattle.undo_journal.specs.laws.Endings.{ends, ends_answered, ends_by_gate, ends_done, ends_turned}
 use Rattle.undo_journal.specs.laws.Exits.{on_then}
 use Rattle.undo_journal.specs.laws.Told.{changes_within, changes_handed, changes_on}
 use Rattle.file_changes.proofs.creating.write_file.Goals as goal
@@ -104,6 +104,22 @@ returns-clause-by_gate g c =
       gate = ends_by_gate _ _ c.fill.new.store _ (memory_of c.add_file-work.new.txn) _ _ c.begin-txn.ensures.same last
           sets.kept c.end.ensures.any_exit;
     }
+
+pub returns-in_err-run-clause-turned : goal.returns-in_err-run-clause-turned
+returns-in_err-run-clause-turned g c =
+    λ shut more. absurd (omega (arith, more, c.in_err-run.ensures.store.writes.writes))
+
+pub returns-clause-turned : goal.returns-clause-turned
+returns-clause-turned g c =
+    let m = committed c.args.store.now in
+    let set = c.add_file-work.ensures in
+    let last = c.store-1.given.1 (sym (set.store.sets.same_store ∙ c.begin-txn.ensures.same_store)) in
+    λ shut more. filled_and_added m c.args.e c.args.entry c.args.blocks
+    (committed c.fill.new.store) _ c.fill.ensures.any_exit c.in_ok-run.ensures.done
+    (ends_turned (λ m after. AddsFile m c.args.e c.args.entry c.args.blocks after) c.add_file-work.result _ _
+    (memory_of c.add_file-work.new.txn) _ _ c.begin-txn.ensures.same last c.in_ok-run.ensures.store.ready
+    set.store.sets.rises set.done set.store.tells c.end.ensures.store.reports c.end.ensures.turned shut
+    (omega (arith, more, c.in_ok-run.ensures.store.writes.writes)))
 
 pub add_file-work-requires-clause-blocks : goal.add_file-work-requires-clause-blocks
 add_file-work-requires-clause-blocks g c = record {

@@ -1,10 +1,11 @@
-use Rattle.undo_journal.specs.laws.Transactions.{by_gate_after}
+use Rattle.undo_journal.specs.laws.Transactions.{by_gate_after, reads_turn, turns_after}
 use Rattle.undo_journal.specs.laws.Exits.{none_ok}
-use Rattle.std.proofs.Common.{◌≡◌, List, ◌∙◌, inl, inr, ⊎_elim, rules, arith}
+use Rattle.std.proofs.Common.{◌≡◌, ℕ, List, ◌∙◌, inl, inr, ⊎_elim, rules, arith}
 use Rattle.undo_journal.specs.Memory.{committed}
 use Rattle.file_tree.specs.declared.entry.Entry.{Entry}
 use Rattle.file_changes.specs.DeletionParts.{part_below, GoesWith, Removes}
 use Rattle.file_tree.specs.Table.{table}
+use Rattle.file_tree.specs.TreeChanges.{Deletes}
 use Rattle.file_changes.specs.laws.Removals.{can_give, removed_deletes, removed_space}
 use Rattle.undo_journal.specs.laws.Told.{changes_after, reads_change, changes_handed}
 use Rattle.file_changes.proofs.deleting.delete.Goals as goal
@@ -92,6 +93,36 @@ pub returns-clause-by_gate : goal.returns-clause-by_gate
 returns-clause-by_gate g c =
     by_gate_after c.args.store.now c.removal_of.new.store c.remove.new.store
     c.removal_of.ensures.store.only.keeps.committed_words c.remove.ensures.by_gate
+
+pub returns-in_err-removal-clause-turned : goal.returns-in_err-removal-clause-turned
+returns-in_err-removal-clause-turned g c =
+    reads_turn (λ after. Deletes (committed c.args.store.now) c.args.e after) _ _ c.removal_of.ensures.store.only
+
+pub returns-in_err-remove-clause-turned : goal.returns-in_err-remove-clause-turned
+returns-in_err-remove-clause-turned g c =
+    let m = committed c.args.store.now in
+    let removes : List ℕ → Type 0 = λ after. (part : List Entry) → GoesWith c.in_ok-removal.removal.goes part
+    → Removes (committed c.removal_of.new.store) part c.as_slice.result.now after in
+    let sized = c.requires.file.file.ready.usable.committed_size in
+    let read = c.removal_of.ensures.store.only.keeps.committed_words in
+    turns_after removes (λ after. Deletes m c.args.e after) c.args.store.now c.removal_of.new.store
+    c.remove.new.store c.removal_of.ensures.store.only
+    (λ (parts : removes (committed c.remove.new.store)). removed_deletes m _ c.args.e sized c.requires.file.file.tree
+    c.requires.file.below c.requires.file.file.used _ c.in_ok-removal.ensures.told read _ c.as_slice.ensures.value _
+    (parts _ c.in_ok-removal.ensures.told.goes)) c.remove.ensures.turned
+
+pub returns-clause-turned : goal.returns-clause-turned
+returns-clause-turned g c =
+    let m = committed c.args.store.now in
+    let removes : List ℕ → Type 0 = λ after. (part : List Entry) → GoesWith c.in_ok-removal.removal.goes part
+    → Removes (committed c.removal_of.new.store) part c.as_slice.result.now after in
+    let sized = c.requires.file.file.ready.usable.committed_size in
+    let read = c.removal_of.ensures.store.only.keeps.committed_words in
+    turns_after removes (λ after. Deletes m c.args.e after) c.args.store.now c.removal_of.new.store
+    c.remove.new.store c.removal_of.ensures.store.only
+    (λ (parts : removes (committed c.remove.new.store)). removed_deletes m _ c.args.e sized c.requires.file.file.tree
+    c.requires.file.below c.requires.file.file.used _ c.in_ok-removal.ensures.told read _ c.as_slice.ensures.value _
+    (parts _ c.in_ok-removal.ensures.told.goes)) c.remove.ensures.turned
 
 pub returns-clause-index : goal.returns-clause-index
 returns-clause-index g c =

@@ -1,7 +1,7 @@
 use Rattle.std.proofs.Common.{◌+◌, List, length, sym, ◌∙◌, subst, arith}
 use Rattle.undo_journal.specs.Memory.{Memory, IsOpen}
 use Rattle.undo_journal.specs.Lent.{memory_of}
-use Rattle.undo_journal.specs.laws.Endings.{ends, ends_answered, ends_by_gate, ends_done}
+use Rattle.undo_journal.specs.laws.Endings.{ends, ends_answered, ends_by_gate, ends_done, ends_turned}
 use Rattle.file_tree.specs.declared.layout.TheConstants.{DELETE_WRITES}
 use Rattle.file_tree.specs.declared.entry.Entry.{Entry}
 use Rattle.file_changes.specs.DeletionParts.{GoesWith, Removes}
@@ -31,6 +31,15 @@ returns-clause-by_gate g c =
     let last = c.store-1.given.1 (sym (set.store.sets.same_store ∙ c.begin-txn.ensures.same_store)) in
     ends_by_gate _ _ _ _ (memory_of c.take_away-work.new.txn) _ _ c.begin-txn.ensures.same last set.store.sets.kept
     c.end.ensures.any_exit
+
+pub returns-clause-turned : goal.returns-clause-turned
+returns-clause-turned g c =
+    let set = c.take_away-work.ensures in
+    let last = c.store-1.given.1 (sym (set.store.sets.same_store ∙ c.begin-txn.ensures.same_store)) in
+    ends_turned
+    (λ m after. (part : List Entry) → GoesWith c.args.marks.now part → Removes m part c.args.chains.now after)
+    c.take_away-work.result _ _ (memory_of c.take_away-work.new.txn) _ _ c.begin-txn.ensures.same last
+    c.requires.ready set.store.sets.rises set.done set.store.tells c.end.ensures.store.reports c.end.ensures.turned
 
 pub returns-clause-store : goal.returns-clause-store
 returns-clause-store g c =

@@ -15,7 +15,8 @@ use Rattle.file_tree.specs.Trees.{tree_of, TreeStands}
 use Rattle.file_tree.specs.TreeParts.{TellsLife}
 use Rattle.file_tree.specs.laws.Nodes.{used_small}
 use Rattle.file_changes.specs.laws.LifeChanges.{life_written, life_changed, life_stays, byte_of_state}
-use Rattle.undo_journal.specs.laws.Transactions.{by_gate_after}
+use Rattle.undo_journal.specs.Commits.{TurnsTo}
+use Rattle.undo_journal.specs.laws.Transactions.{by_gate_after, reads_turn, turns_after}
 use Rattle.undo_journal.specs.laws.Told.{changes_after, reads_change, changes_handed}
 use Rattle.file_changes.proofs.life_cycles.set_life_cycle.Goals as goal
 
@@ -136,3 +137,28 @@ read_entry-requires g c = record {
   ready = c.requires.file.ready;
   within = used_small (committed c.args.store.now) c.args.e c.requires.file.used;
 }
+
+pub returns-in_err-entry-clause-turned : goal.returns-in_err-entry-clause-turned
+returns-in_err-entry-clause-turned g c =
+    reads_turn (λ after. ChangesLife (committed c.args.store.now) c.args.e c.args.state after) _ _
+    c.read_entry.ensures.store.only
+
+pub returns-then-has_life_cycle-clause-turned : goal.returns-then-has_life_cycle-clause-turned
+returns-then-has_life_cycle-clause-turned g c =
+    reads_turn (λ after. ChangesLife (committed c.args.store.now) c.args.e c.args.state after) _ _
+    c.read_entry.ensures.store.only
+
+pub returns-clause-turned : goal.returns-clause-turned
+returns-clause-turned g c =
+    let m = committed c.args.store.now in
+    let now = committed c.read_entry.new.store in
+    let word = c.life_word.result in
+    let family : ℕ → Type 0 = λ a. TurnsTo (λ after. after ≡ slice_set now a word) c.read_entry.new.store
+    c.write_word.new.store in
+    turns_after (λ after. after ≡ slice_set now (address (FIRST_ENTRY_PAGE + c.args.e) 0) word)
+    (λ after. ChangesLife m c.args.e c.args.state after) c.args.store.now c.read_entry.new.store
+    c.write_word.new.store c.read_entry.ensures.store.only
+    (changed m now (committed c.write_word.new.store) c.args.e word c.args.state c.in_ok-entry.entry
+    c.requires.file.ready.usable.committed_size c.requires.file.tree c.requires.file.used
+    c.read_entry.ensures.store.only.keeps.committed_words c.in_ok-entry.ensures.entry c.life_word.ensures)
+    (subst family c.entry_address.ensures c.write_word.ensures.turned)

@@ -14,3 +14,6 @@ returns-clause-done g c = c.write_word.ensures.done
 
 pub returns-clause-by_gate : goal.returns-clause-by_gate
 returns-clause-by_gate g c = c.write_word.ensures.by_gate
+
+pub returns-clause-turned : goal.returns-clause-turned
+returns-clause-turned g c = c.write_word.ensures.turned

@@ -252,3 +252,16 @@ returns-clause-sound g c = c.requires.held.sound
 
 pub returns-clause-light : goal.returns-clause-light
 returns-clause-light g c = answered_ok _ _ _ (steady_same _ c.requires.held.lit)
+
+pub returns-then-is_full-clause-rises : goal.returns-then-is_full-clause-rises
+returns-then-is_full-clause-rises g c = λ shut.
+    let flush = c.flush.ensures in
+    let early = flush.turned shut in
+    let full = full-length _ (sym c.is_full.ensures.value ∙ c.if-is_full.true) in (
+      omega (arith, c.requires.held.counts, early.0),
+      early.1,
+      on_ok_weaker c.flush.result (λ counts. absurd (omega (arith, shut, counts, flush.used, full))) flush.counts,
+    )
+
+pub returns-clause-rises : goal.returns-clause-rises
+returns-clause-rises g c = λ shut. (shut, omega arith, omega arith)

@@ -27,6 +27,7 @@ returns-clause-commits g c =
       any_exit = c.put_bytes.ensures.any_exit;
       done = c.put_bytes.ensures.done;
       by_gate = c.put_bytes.ensures.by_gate;
+      turned = c.put_bytes.ensures.turned;
       store = c.put_bytes.ensures.store;
     } in
     commits_weaker _ _ _ c.put_bytes.result _ _

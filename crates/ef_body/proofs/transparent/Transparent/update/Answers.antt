@@ -45,6 +45,7 @@ returns-clause-commits g c =
       any_exit = c.put_bytes.ensures.any_exit;
       done = c.put_bytes.ensures.done;
       by_gate = c.put_bytes.ensures.by_gate;
+      turned = c.put_bytes.ensures.turned;
       store = c.put_bytes.ensures.store;
     } in
     store_commits c.put_bytes.result c.from_store.result c.from_store.ensures _

@@ -2,6 +2,7 @@ use Rattle.std.proofs.Common.{◌≡◌, ◌+◌, ◌≤◌, ap, inl, refl, sym,
 use Rattle.std.proofs.Math.Logic.{⊎_map}
 use Rattle.undo_journal.specs.Memory.{Memory, committed, current, commit_writes}
 use Rattle.undo_journal.specs.Spending.{WritesAtMost}
+use Rattle.undo_journal.specs.Undo.{gate}
 use Rattle.undo_journal.specs.laws.Exits.{ok_anyway}
 use Rattle.std.proofs.lemmas.Result.{on_ok_weaker}
 use Rattle.undo_journal.proofs.Standing.{new-idle, new-fits}
@@ -42,9 +43,12 @@ returns-in-Ok-clause-any_exit g c =
 pub returns-in-Ok-clause-turned : goal.returns-in-Ok-clause-turned
 returns-in-Ok-clause-turned g c =
     let after = g.B.Board.facts c.finish-answer.new.board in
+    let before = g.B.Board.facts c.self.inside.board in
+    let held = c.self.invariant.works (ap (λ (m : Memory). m.failed) c.self.view_is ∙ c.in-Ok.ensures.ready.works) in
     λ shut works. ⊎_map
     (λ done. done ∙ ap current c.self.view_is)
-    (λ early. subst (λ (m : Memory). (m.used ≡ 0) × (after.writes ≤ m.facts.writes + 2)) c.self.view_is early)
+    (λ early. subst (λ (m : Memory). (m.used ≡ 0) × (gate m.facts.words ≡ 0) × (after.writes ≤ m.facts.writes + 2))
+    c.self.view_is (early.0, held.counts ∙ early.0, early.1))
     (c.finish-answer.ensures.turned shut)
 
 pub returns-in-Ok-clause-done : goal.returns-in-Ok-clause-done

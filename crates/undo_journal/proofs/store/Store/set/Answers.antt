@@ -1,4 +1,4 @@
-use Rattle.std.proofs.Common.{◌<◌, ◌+◌, length, slice_set, refl, sym, subst, ap, ◌∙◌, arith}
+use Rattle.std.proofs.Common.{◌≡◌, ◌<◌, ◌≤◌, ◌+◌, None, length, slice_set, refl, sym, subst, ap, ◌∙◌, arith}
 use Rattle.std.proofs.Math.Logic.{⊎_map}
 use Rattle.undo_journal.specs.declared.batch.TheConstants.{BATCH}
 use Rattle.undo_journal.specs.declared.batch.Waiting.{Waiting}
@@ -8,9 +8,10 @@ use Rattle.undo_journal.specs.laws.Exits.{none_ok, error_tells}
 use Rattle.undo_journal.specs.laws.Memory.{reports_same}
 use Rattle.std.proofs.lemmas.Result.{on_ok_weaker}
 use Rattle.undo_journal.proofs.Standing.{board-place, held-fits}
-use Rattle.undo_journal.proofs.Noted.{on_ok, on_dark, noted_tells, noted-true, noted-open, noted-reports}
+use Rattle.undo_journal.proofs.Noted.{done_unfailed, on_ok, on_dark, noted_tells, noted-true, noted-open, noted-reports}
 use Rattle.undo_journal.specs.Memory.{set_writes}
 use Rattle.undo_journal.specs.Spending.{WritesAtMost}
+use Rattle.undo_journal.specs.Undo.{gate}
 use Rattle.undo_journal.specs.laws.Calls.{reads_runs, reads_same, within_more}
 use Rattle.undo_journal.specs.laws.Transactions.{stays_spends}
 use Rattle.undo_journal.proofs.store.Store.set.Goals as goal
@@ -170,3 +171,16 @@ returns-clause-taken g c = omega (arith, ap taken c.self.view_is, c.add-answer.e
 
 pub returns-clause-next : goal.returns-clause-next
 returns-clause-next g c = on_ok _ _ c.noted.ensures.answer _ _ (λ next. next) c.add-answer.ensures.next
+
+pub returns-in_err-check-clause-rises : goal.returns-in_err-check-clause-rises
+returns-in_err-check-clause-rises g c = λ shut. (shut, omega arith, λ works. omega arith)
+
+pub returns-clause-rises : goal.returns-clause-rises
+returns-clause-rises g c =
+    let after = g.B.Board.facts c.add-answer.new.board in
+    let tells = returns-clause-tells g c in λ shut.
+    let early = c.add-answer.ensures.rises shut in
+    let few = on_ok _ _ c.noted.ensures.answer _ _ (λ less. less) early.2 in
+    subst (λ (m : Memory). (gate m.facts.words ≡ 0) × (after.writes ≤ m.facts.writes + 2)
+    × (c.noted.new.failed ≡ None → after.writes ≤ m.facts.writes)) c.self.view_is
+    (early.0, early.1, λ works. done_unfailed _ c.noted.result c.noted.new.failed tells works few)

@@ -38,6 +38,7 @@ returns-clause-store g c =
         taken = set.taken;
         reports = set.reports;
         writes = set.runs;
+        rises = set.rises;
       };
       ready = unless_failed (IsOpen c.set.new.self) c.set.result set.ready;
       tells = set.tells;
