@@ -26,7 +26,7 @@ use Rattle.block_chain.specs.declared.layout.TheConstants.{HEADER_PAGE}
 use Rattle.file_tree.specs.declared.layout.TheConstants.{STATE_WORD}
 use Rattle.card_model.specs.Cards.{Card}
 use Rattle.card_model.specs.Steps.{attempt_of, IsDoing, carried_out, outcome_of, served, step, alone_served}
-use Rattle.card_model.specs.Steps.{gated_served}
+use Rattle.card_model.specs.Steps.{commits_served, gated_served, last_of}
 use Rattle.command_base.specs.Comparing.{comparisons, Comparisons, ComparesAsked, ComparesBy}
 use Rattle.command_base.specs.Counting.{CountsAnswered, CountsServed, CountsShown}
 use Rattle.card_model.specs.Behaviours.{Attempt, is_right, refused, outcome}
@@ -34,7 +34,8 @@ use Rattle.command_base.specs.Served.{ExecutesBytes, Executes}
 use Rattle.card_model.specs.Sessions.{Session}
 use Rattle.command_base.specs.CommandWrites.{writes_asked}
 use Rattle.command_base.specs.Standing.{IsCard, card_of}
-use Rattle.command_base.specs.CommitWords.{StandsAsked, StandsByWord, StandsServed}
+use Rattle.command_base.specs.CommitWords.{StandsAsked, StandsByWord, StandsServed, TurnsAsked}
+use Rattle.command_base.specs.Finding.{found}
 use Rattle.command_base.specs.Working.{card_in, session_in, session_of, IsKept}
 use Rattle.card_model.specs.laws.StageLaws.{doing_lasts, stage_doing, stage_first}
 use Rattle.command_base.specs.laws.Readings.{kept_still}
@@ -79,6 +80,9 @@ module _ (request : Request) (old mid new : Memory) (x y : Current) (text : List
             serves.advances;
         stands = λ shut. subst (λ (l : List ℕ). StandsServed (card_of l) (session_of (table l) x) request
             new.facts.words) same (serves.stands (ap gate reads.board.words ∙ shut));
+        turned = λ shut more. subst (λ (l : List ℕ). found new.facts.words
+            ≡ last_of (card_of l) (commits_served (card_of l) (session_of (table l) x) request)) same
+            (serves.turned shut (omega (arith, reads.board.writes, more)));
         compares = subst (λ (k : Comparisons). ComparesBy request (card_in old) k (card_in new) (comparisons new.facts))
             (reads-compared old mid reads)
             (subst (λ (l : List ℕ). ComparesBy request (card_of l) (comparisons mid.facts) (card_in new)
@@ -130,6 +134,10 @@ module _ (bytes : List ℕ) (old new : Memory) (x y : Current) (text : List ℕ)
     stands = λ shut. subst (λ (wanted : Result Request Sw). StandsAsked c s wanted new.facts.words) (sym is)
         (subst (λ (b : Bool). StandsByWord c (if b then alone_served c s request else [])
         (if b then gated_served c s request else []) new.facts.words) (sym in_use) (serves.stands shut));
+    turned = subst (λ (wanted : Result Request Sw). TurnsAsked c s wanted old.facts new.facts) (sym is)
+        (λ shut more. subst (λ (b : Bool). found new.facts.words
+        ≡ last_of c (if b then commits_served c s request else [])) (sym in_use)
+        (serves.turned shut more));
     compares = subst (λ (wanted : Result Request Sw). ComparesAsked wanted c (comparisons old.facts) (card_in new)
         (comparisons new.facts)) (sym is) serves.compares;
     counted = subst (λ (wanted : Result Request Sw). OnOk result (CountsAnswered wanted c s old.facts new.facts))
@@ -148,6 +156,12 @@ module _ (bytes : List ℕ) (old new : Memory) (x y : Current) (text : List ℕ)
       → StandsAsked c s wanted new.facts.words
   asked-first (Ok request) shut same = stands-first c _ _ new.facts.words shut same
   asked-first (Err status) shut same = stands-first c [] [] new.facts.words shut same
+
+  -- after reads alone, whatever was asked for, no gate has turned
+  asked-unturned : (wanted : Result Request Sw) → new.facts.writes ≡ old.facts.writes
+      → TurnsAsked c s wanted old.facts new.facts
+  asked-unturned (Ok request) same = λ shut more. absurd (omega (arith, same, more))
+  asked-unturned (Err status) same = tt
 
   -- after reads alone, whatever was asked for, nothing was compared
   asked-nothing : (wanted : Result Request Sw) → OnlyReads old new
@@ -174,6 +188,7 @@ module _ (bytes : List ℕ) (old new : Memory) (x y : Current) (text : List ℕ)
     advances = advances_kept old.facts new.facts reads.board;
     stands = λ shut. asked-first (asked bytes) (ap gate reads.board.words ∙ shut)
         (ap card_of reads.keeps.committed_words);
+    turned = asked-unturned (asked bytes) reads.board.writes;
     compares = asked-nothing (asked bytes) reads;
     counted = counted;
   }

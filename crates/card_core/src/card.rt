@@ -19,7 +19,7 @@ ghost use Rattle.card_start.specs.Running.{memory_failure};
 ghost use Rattle.command_base.specs.CommandWrites.{writes_of};
 ghost use Rattle.card_model.specs.WellFormed.{HasCurrentFiles};
 ghost use Rattle.card_model.specs.Steps.{IsStage, ChangesNothing};
-ghost use Rattle.command_base.specs.CommitWords.{StandsAsked};
+ghost use Rattle.command_base.specs.CommitWords.{StandsAsked, TurnsAsked};
 ghost use Rattle.card_model.specs.Behaviours.{answer_bytes};
 ghost use Rattle.command_base.specs.declared.spending.TheConstants.{COMMAND_WRITES};
 
@@ -172,6 +172,10 @@ impl<B: Board> Card<B> {
         // The charge of a PIN, and the reset of its tries by VERIFY, commit by the word of tries.
         ensures stands { self.old.state ≡ CardState.Working
             → StandsAsked (card_found self.old) self.old.session (asked command.now) self.new.facts.words }
+        // Once the gate has turned to 0, recovery gives the card after the last commit. It has turned if it is 0 after
+        // more than two device writes of the transaction.
+        ensures turned { self.old.state ≡ CardState.Working
+            → TurnsAsked (card_found self.old) self.old.session (asked command.now) self.old.facts self.new.facts }
         ensures writes { self.new.facts.writes ≤ self.old.facts.writes + COMMAND_WRITES }
         // The write counter never decreases, and a set power cut falls into the write that it was set for.
         ensures advances { Advances self.old.facts self.new.facts }

@@ -18,7 +18,7 @@ use Rattle.card_model.specs.Behaviours.{outcome}
 use Rattle.command_base.specs.CommandWrites.{most_writes, writes_of}
 use Rattle.card_model.specs.Steps.{ChangesNothing, IsStage, carried_out, served, IsDoing, moves_files}
 use Rattle.command_base.specs.Standing.{IsCard}
-use Rattle.command_base.specs.CommitWords.{StandsAsked, StandsServed}
+use Rattle.command_base.specs.CommitWords.{StandsAsked, StandsServed, TurnsAsked, TurnsServed}
 use Rattle.command_base.specs.Working.{card_in, session_in, table_in, IsKept}
 
 -- The memory, the session and the answer after a call. If it succeeds, they are the model's step of a card in use.
@@ -37,6 +37,7 @@ pub record Executes (request : Request) (old : Memory) (x : Current) (new : Memo
   pub writes : new.facts.writes ≤ old.facts.writes + most_writes request
   pub advances : Advances old.facts new.facts
   pub stands : gate old.facts.words ≡ 0 → StandsServed (card_in old) (session_in old x) request new.facts.words
+  pub turned : TurnsServed (card_in old) (session_in old x) request old.facts new.facts
   pub compares : ComparesBy request (card_in old) (comparisons old.facts) (card_in new) (comparisons new.facts)
   pub places : OnOk result (moves_files request ≡ false → KeepsPlaces (table_in old) (table_in new))
   pub counted : OnOk result (CountsServed (card_in old) (session_in old x) request old.facts new.facts)
@@ -57,6 +58,7 @@ pub record ExecutesBytes (command : List ℕ) (old : Memory) (x : Current) (new 
   pub advances : Advances old.facts new.facts
   pub stands : gate old.facts.words ≡ 0
       → StandsAsked (card_in old) (session_in old x) (asked command) new.facts.words
+  pub turned : TurnsAsked (card_in old) (session_in old x) (asked command) old.facts new.facts
   pub compares : ComparesAsked (asked command) (card_in old) (comparisons old.facts)
       (card_in new) (comparisons new.facts)
   pub counted : OnOk result (CountsAnswered (asked command) (card_in old) (session_in old x) old.facts new.facts)

@@ -9,7 +9,7 @@ use Rattle.card_model.specs.declared.status.Sw.{Sw}
 use Rattle.card_model.specs.declared.status.TheConstants.Sw.{DONE, NO_ROOM}
 use Rattle.undo_journal.specs.declared.error.StoreErr.{StoreErr}
 use Rattle.undo_journal.specs.StoreCalls.{Changes, OnlyReads}
-use Rattle.undo_journal.specs.Commits.{CommitsByGate}
+use Rattle.undo_journal.specs.Commits.{CommitsByGate, TurnsTo}
 use Rattle.undo_journal.specs.Memory.{Memory, committed, IsReady}
 use Rattle.card_model.specs.Requests.{append_record}
 use Rattle.card_model.specs.declared.requests.Target.{Target}
@@ -104,14 +104,16 @@ module _ (old mid new : Memory) (ready : IsReady old) (words : IsCard (committed
         λ i. appended_in (wraps i) (ring i).capacity (cyclic_body_records (words_same i) (ring i)) bytes
 
     module _ (any_exit : (committed new ≡ committed mid) ⊎ RingBecomes (wraps_room room) (committed mid)
-        (ring_room room) put (committed new)) (by_gate : CommitsByGate mid new) (told : Option StoreErr)
+        (ring_room room) put (committed new)) (by_gate : CommitsByGate mid new)
+        (turned : TurnsTo (RingBecomes (wraps_room room) (committed mid) (ring_room room) put) mid new)
+        (told : Option StoreErr)
         (changes : Changes RECORD_WRITES mid new told) where
       pub appended-torn : (r : Result Sw StoreErr) (error : StoreErr) → IsErrAnd r (λ f. f ≡ error) → told ≡ Some error
           → Executes (append_record target bytes) old x new x [] r
       appended-torn =
           records-torn old mid new ready words x current target need file _ records puts reads (wraps_room room)
           found.wraps_is
-          (ring_room room) found.ring_is put put-are any_exit by_gate told changes [] (omega arith)
+          (ring_room room) found.ring_is put put-are any_exit by_gate turned told changes [] (omega arith)
 
       pub appended-done : RingBecomes (wraps_room room) (committed mid) (ring_room room) put (committed new) →
           IsReady new
@@ -123,7 +125,8 @@ module _ (old mid new : Memory) (ready : IsReady old) (words : IsCard (committed
           k))
           [] (Ok DONE)) (sym number_is)
           (records-made old mid new ready words x current target need file _ records puts reads (wraps_room room)
-          found.wraps_is (ring_room room) found.ring_is put put-are any_exit by_gate told changes becomes ready_now
+          found.wraps_is (ring_room room) found.ring_is put put-are any_exit by_gate turned told changes becomes
+          ready_now
           (Some (number_added_in file)) [] (omega arith)
           (append-effect m sized words x target _ file found.named bytes found.named.named.unrefused))
 
@@ -131,4 +134,4 @@ module _ (old mid new : Memory) (ready : IsReady old) (words : IsCard (committed
           → space_in new ≡ space_in old
       appended-space =
           records-space old mid new ready words x current target need file _ records puts reads (wraps_room room)
-          found.wraps_is (ring_room room) found.ring_is put put-are any_exit by_gate told changes
+          found.wraps_is (ring_room room) found.ring_is put put-are any_exit by_gate turned told changes

@@ -11,7 +11,7 @@ use Rattle.card_model.specs.declared.access_mode.AccessBit.{AccessBit}
 use Rattle.card_model.specs.declared.access_mode.AccessBit.TheVariants.{Read, Update}
 use Rattle.undo_journal.specs.declared.error.StoreErr.{StoreErr}
 use Rattle.undo_journal.specs.StoreCalls.{OnlyReads}
-use Rattle.undo_journal.specs.Commits.{CommitsByGate}
+use Rattle.undo_journal.specs.Commits.{CommitsByGate, TurnsTo}
 use Rattle.undo_journal.specs.Memory.{Memory, committed, IsReady, Reports}
 use Rattle.undo_journal.specs.Spending.{WritesAtMost}
 use Rattle.undo_journal.specs.laws.Memory.{reports_then}
@@ -64,7 +64,7 @@ use Rattle.command_base.specs.laws.Keeping.{files-stand, files-after}
 use Rattle.command_base.specs.laws.Naming.{named-current, naming-entry}
 use Rattle.command_base.specs.laws.Executes.{compared-none, declined, reads-compared, torn, written}
 use Rattle.command_base.specs.laws.Stopping.{err-is}
-use Rattle.command_base.specs.laws.Words.{Went, went-after}
+use Rattle.command_base.specs.laws.Words.{Went, turns-one, went-after}
 
 -- what a file of bytes is needed for
 abbrev pub bytes_for : AccessBit → Need
@@ -200,7 +200,9 @@ module _ (old mid : Memory) (ready : IsReady old) (words : IsCard (committed old
   module _ (none : overlong held_now offset bytes ≡ None) (new : Memory)
       (any_exit : (committed new ≡ committed mid)
       ⊎ TransparentBecomes (committed mid) body (overwrite held_now offset bytes) (committed new))
-      (by_gate : CommitsByGate mid new) (reports : Reports mid new)
+      (by_gate : CommitsByGate mid new)
+      (turned : TurnsTo (TransparentBecomes (committed mid) body (overwrite held_now offset bytes)) mid new)
+      (reports : Reports mid new)
       (spends : WritesAtMost (most_writes request) mid.facts new.facts) where
     abbrev after : List ℕ
     after = committed new
@@ -252,6 +254,13 @@ module _ (old mid : Memory) (ready : IsReady old) (words : IsCard (committed old
 
     went : Went request old x new
     went = went-after request old x new (most_writes request) mid words refl stage reads spends by_gate
+        (turns-one request old x new (with_content (card_of m) path (overwrite (bytes_in f.kind) offset bytes))
+        (TransparentBecomes (committed mid) body (overwrite held_now offset bytes)) mid
+        (update-decided (card_in old) (session_in old x) target offset path f found.place
+        (there m words e found.file.child.used) bytes found.unrefused ∙ decides ∙ none)
+        (update-commits (card_in old) (session_in old x) target offset path f found.place
+        (there m words e found.file.child.used) bytes found.unrefused) reads turned
+        (λ (becomes : Becomes). card-is becomes))
 
     compares : ComparesBy request (card_in old) (comparisons old.facts) (card_in new) (comparisons new.facts)
     compares = compared-none (most_writes request) mid.facts new.facts spends ∙ reads-compared old mid reads
@@ -292,12 +301,14 @@ module _ (old mid : Memory) (ready : IsReady old) (words : IsCard (committed old
   pub found-stopped : IsCurrent (table_in old) x → IsReady mid → (new : Memory)
       → (committed new ≡ committed mid)
       ⊎ TransparentBecomes (committed mid) body (overwrite held_now offset bytes) (committed new)
-      → CommitsByGate mid new → Reports mid new → WritesAtMost (most_writes request) mid.facts new.facts
+      → CommitsByGate mid new
+      → TurnsTo (TransparentBecomes (committed mid) body (overwrite held_now offset bytes)) mid new
+      → Reports mid new → WritesAtMost (most_writes request) mid.facts new.facts
       → (error : BodyErr) → Decides (overlong held_now offset bytes) (Some error)
       → WhereRefused (Some error) (new ≡ mid)
       → new.failed ≡ why_failed (Some error) → (r : Result Sw Stop) → IsErrAnd r (λ f. f ≡ stop_of_body error)
       → Executes request old x new x [] (reply r)
-  found-stopped current ready_mid new any_exit by_gate reports spends error due kept failed r is =
+  found-stopped current ready_mid new any_exit by_gate turned reports spends error due kept failed r is =
       subst (λ (s : Result Sw Stop). Executes request old x new x [] (reply s)) (sym (err-is r (stop_of_body error) is))
       (by error due kept failed)
     where
@@ -307,7 +318,7 @@ module _ (old mid : Memory) (ready : IsReady old) (words : IsCard (committed old
       by (body_err.Refused status) due kept failed =
           subst (λ (n : Memory). Executes request old x n x [] (Ok status)) (sym kept)
           (declined request old x mid (λ _. tt) words status reads ready_mid current (found-update-past status due))
-      by (body_err.Store e) due kept failed = found-torn due new any_exit by_gate reports spends e failed
+      by (body_err.Store e) due kept failed = found-torn due new any_exit by_gate turned reports spends e failed
 
 -- an Le byte asks for at most 256 bytes
 pub asked-most : (expected : ℕ) → expected < 256 → (if expected == 0 then 256 else expected) ≤ 256

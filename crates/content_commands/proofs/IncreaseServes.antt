@@ -8,7 +8,7 @@ use Rattle.card_model.specs.declared.status.Sw.{Sw}
 use Rattle.card_model.specs.declared.status.TheConstants.Sw.{DONE}
 use Rattle.undo_journal.specs.declared.error.StoreErr.{StoreErr}
 use Rattle.undo_journal.specs.StoreCalls.{Changes, OnlyReads, Reads}
-use Rattle.undo_journal.specs.Commits.{CommitsByGate}
+use Rattle.undo_journal.specs.Commits.{CommitsByGate, TurnsTo}
 use Rattle.undo_journal.specs.Memory.{Memory, committed, IsReady}
 use Rattle.undo_journal.specs.laws.Calls.{reads_then}
 use Rattle.card_model.specs.Requests.{increase}
@@ -176,14 +176,16 @@ module _ {old mid : Memory} {x : Current} (kept : IsKept old x) {sent : List ℕ
 
       module _ (new : Memory)
           (any_exit : (committed new ≡ committed mid) ⊎ CyclicBecomes (committed mid) newest.ring put (committed new))
-          (by_gate : CommitsByGate mid new) (told : Option StoreErr) (changes : Changes RECORD_WRITES mid new told)
+          (by_gate : CommitsByGate mid new)
+          (turned : TurnsTo (CyclicBecomes (committed mid) newest.ring put) mid new)
+          (told : Option StoreErr) (changes : Changes RECORD_WRITES mid new told)
         where
           pub increased-torn : (text : List ℕ) → text ≡ [] → (r : Result Sw StoreErr) (error : StoreErr)
               → IsErrAnd r (λ f. f ≡ error) → told ≡ Some error → Executes (increase sent expected) old x new x text r
           increased-torn text empty =
               let none_yet : length text ≡ 0 = ap (λ (l : List ℕ). length l) empty in
               records-torn old mid new kept.ready kept.card x kept.current target.Current need file _ records puts
-              found.reads true wraps newest.ring found.ring_is put put-are any_exit by_gate told changes text
+              found.reads true wraps newest.ring found.ring_is put put-are any_exit by_gate turned told changes text
               (omega (arith, none_yet))
 
           pub increased-done : CyclicBecomes (committed mid) newest.ring put (committed new) → IsReady new
@@ -198,11 +200,12 @@ module _ {old mid : Memory} {x : Current} (kept : IsKept old x) {sent : List ℕ
               (target_path (card_in old) (session_in old x) target.Current) (Some 1)) t DONE)
               (sym (text_is ∙ ap (given expected) answer-is)) in
               records-made old mid new kept.ready kept.card x kept.current target.Current need file _ records puts
-              found.reads true wraps newest.ring found.ring_is put put-are any_exit by_gate told changes becomes ready
+              found.reads true wraps newest.ring found.ring_is put put-are any_exit by_gate turned told changes becomes
+              ready
               (Some 1) text room effect_is
 
           pub increased-space : CyclicBecomes (committed mid) newest.ring put (committed new)
               → space_in new ≡ space_in old
           increased-space =
               records-space old mid new kept.ready kept.card x kept.current target.Current need file _ records puts
-              found.reads true wraps newest.ring found.ring_is put put-are any_exit by_gate told changes
+              found.reads true wraps newest.ring found.ring_is put put-are any_exit by_gate turned told changes

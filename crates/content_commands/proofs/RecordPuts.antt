@@ -12,6 +12,7 @@ commits-within becomes few most old new result le commits =
       any_exit = commits.any_exit;
       done = commits.done;
       by_gate = commits.by_gate;
+      turned = commits.turned;
       store = record {
         reports = commits.store.reports;
         idle = commits.store.idle;

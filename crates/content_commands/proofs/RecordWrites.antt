@@ -10,7 +10,7 @@ use Rattle.card_model.specs.declared.status.Sw.{Sw}
 use Rattle.card_model.specs.declared.status.TheConstants.Sw.{DONE, NO_ROOM, RECORD_NOT_FOUND, WRONG_LENGTH}
 use Rattle.undo_journal.specs.declared.error.StoreErr.{StoreErr}
 use Rattle.undo_journal.specs.StoreCalls.{Changes, OnlyReads}
-use Rattle.undo_journal.specs.Commits.{CommitsByGate}
+use Rattle.undo_journal.specs.Commits.{CommitsByGate, TurnsTo}
 use Rattle.undo_journal.specs.Memory.{Memory, committed, IsReady}
 use Rattle.undo_journal.specs.laws.Told.{changes_after}
 use Rattle.card_model.specs.Requests.{Request, append_record, update_record}
@@ -52,7 +52,7 @@ use Rattle.content_commands.proofs.RecordChanges.{records-become, Records}
 use Rattle.content_commands.proofs.RecordSteps.{agree, chosen-is, current-is, has-is, path-is, pointer-is, session-is}
 use Rattle.command_base.specs.laws.Executes.{compared-none, counts-none, torn, written}
 use Rattle.command_base.specs.laws.Stopping.{err-is}
-use Rattle.command_base.specs.laws.Words.{Went, went-after}
+use Rattle.command_base.specs.laws.Words.{Went, turns-one, went-after}
 
 -- A command that isn't refused puts these records in place of those of its file.
 pub record PutsRecords (old : Memory) (x : Current) (target : Target) (need : Need) (file : RecordFile)
@@ -73,7 +73,8 @@ module _ (old mid new : Memory) (ready : IsReady old) (words : IsCard (committed
     file.ring)
     (put : List (List ℕ)) (put_are : put ≡ records)
     (any_exit : (committed new ≡ committed mid) ⊎ RingBecomes wraps (committed mid) ring put (committed new))
-    (by_gate : CommitsByGate mid new) (told : Option StoreErr) (changes : Changes RECORD_WRITES mid new told) where
+    (by_gate : CommitsByGate mid new) (turned : TurnsTo (RingBecomes wraps (committed mid) ring put) mid new)
+    (told : Option StoreErr) (changes : Changes RECORD_WRITES mid new told) where
   abbrev m : List ℕ
   m = committed old
 
@@ -131,6 +132,9 @@ module _ (old mid new : Memory) (ready : IsReady old) (words : IsCard (committed
 
   went : Went request old x new
   went = went-after request old x new RECORD_WRITES mid words puts.unshown stage reads changes.writes by_gate
+      (turns-one request old x new (with_records_at c (target_path c s target) records)
+      (RingBecomes wraps (committed mid) ring put) mid puts.none puts.commits_is reads turned
+      (λ (becomes : Becomes). card-is becomes))
 
   compares : ComparesBy request c (comparisons old.facts) (card_in new) (comparisons new.facts)
   compares = subst (λ (shown : Option Attempt). ComparesShown shown c (comparisons old.facts) (card_in new)

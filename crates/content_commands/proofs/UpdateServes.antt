@@ -9,7 +9,7 @@ use Rattle.card_model.specs.declared.status.Sw.{Sw}
 use Rattle.card_model.specs.declared.status.TheConstants.Sw.{DONE, RECORD_NOT_FOUND}
 use Rattle.undo_journal.specs.declared.error.StoreErr.{StoreErr}
 use Rattle.undo_journal.specs.StoreCalls.{Changes, OnlyReads}
-use Rattle.undo_journal.specs.Commits.{CommitsByGate}
+use Rattle.undo_journal.specs.Commits.{CommitsByGate, TurnsTo}
 use Rattle.undo_journal.specs.Memory.{Memory, committed, IsReady}
 use Rattle.card_model.specs.Requests.{update_record}
 use Rattle.card_model.specs.declared.requests.Target.{Target}
@@ -115,13 +115,15 @@ module _ (old mid new : Memory) (ready : IsReady old) (words : IsCard (committed
     put-are = λ i. replaced_in file.wraps (cyclic_body_records (same i) (found.ring_is i)) (found.number_is i) bytes
 
     module _ (any_exit : (committed new ≡ committed mid) ⊎ RingBecomes file.wraps (committed mid) slot.ring put
-        (committed new)) (by_gate : CommitsByGate mid new) (told : Option StoreErr)
+        (committed new)) (by_gate : CommitsByGate mid new)
+        (turned : TurnsTo (RingBecomes file.wraps (committed mid) slot.ring put) mid new)
+        (told : Option StoreErr)
         (changes : Changes RECORD_WRITES mid new told) where
       pub replaced-torn : (r : Result Sw StoreErr) (error : StoreErr) → IsErrAnd r (λ f. f ≡ error) → told ≡ Some error
           → Executes (update_record target choice bytes) old x new x [] r
       replaced-torn =
           records-torn old mid new ready words x current target _ file _ records puts reads file.wraps refl slot.ring
-          found.ring_is put put-are any_exit by_gate told changes [] (omega arith)
+          found.ring_is put put-are any_exit by_gate turned told changes [] (omega arith)
 
       pub replaced-done : RingBecomes file.wraps (committed mid) slot.ring put (committed new) → IsReady new
           → (pointer : Option ℕ)
@@ -137,7 +139,7 @@ module _ (old mid new : Memory) (ready : IsReady old) (words : IsCard (committed
           p) [] (Ok DONE)) (sym is)
           (records-made old mid new ready words x current target _ file _ records puts reads file.wraps refl
           slot.ring
-          found.ring_is put put-are any_exit by_gate told changes becomes ready_now after [] (omega arith)
+          found.ring_is put put-are any_exit by_gate turned told changes becomes ready_now after [] (omega arith)
           (update-effect m sized words x target _ file found.named bytes choice free))
 
       pub replaced-space : RingBecomes file.wraps (committed mid) slot.ring put (committed new) → space_in new ≡
@@ -145,4 +147,4 @@ module _ (old mid new : Memory) (ready : IsReady old) (words : IsCard (committed
       replaced-space =
           records-space old mid new ready words x current target _ file _ records puts reads file.wraps refl
           slot.ring
-          found.ring_is put put-are any_exit by_gate told changes
+          found.ring_is put put-are any_exit by_gate turned told changes

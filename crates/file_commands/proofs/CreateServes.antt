@@ -1,14 +1,20 @@
 -- What CREATE FILE leaves, where nothing refuses the template:
 -- first it only reads, then it creates the file.
 use Rattle.std.proofs.Common.{◌≡◌, ◌⊎◌, ◌≤◌, ◌-◌, ℕ, List, [], Some, None, Result, Ok, refl, sym, ◌∙◌}
-use Rattle.std.proofs.Common.{subst, arith, inr, true≢false}
+use Rattle.std.proofs.Common.{Option, ◌+◌, ap, subst, arith, inr, true≢false}
 use Rattle.std.specs.Result.{IsErrAnd}
 use Rattle.nvm_board.specs.Facts.{IsMemory}
 use Rattle.card_model.specs.declared.status.Sw.{Sw}
 use Rattle.card_model.specs.declared.status.TheConstants.Sw.{DONE}
 use Rattle.card_model.specs.declared.fcp.Fcp.{Fcp}
+use Rattle.card_model.specs.declared.fault.FcpFault.{FcpFault}
+use Rattle.card_model.specs.FileCommands.{told_by}
+use Rattle.card_model.specs.FileControl.{size_of_kind}
+use Rattle.card_model.specs.Spaces.{blocks_for}
+use Rattle.command_base.specs.CommitWords.{TurnsServed}
 use Rattle.undo_journal.specs.declared.error.StoreErr.{StoreErr}
 use Rattle.undo_journal.specs.StoreCalls.{Changes, OnlyReads}
+use Rattle.undo_journal.specs.Commits.{TurnsAfter}
 use Rattle.undo_journal.specs.Spending.{Advances}
 use Rattle.undo_journal.specs.laws.Calls.{advances_by}
 use Rattle.file_changes.specs.Adding.{AddsByGate}
@@ -34,7 +40,7 @@ use Rattle.command_base.specs.Standing.{IsCard}
 use Rattle.command_base.specs.Working.{card_in, session_in, space_in, table_in, IsCurrent}
 use Rattle.command_base.specs.CurrentFiles.{current_at, current_by}
 use Rattle.file_commands.proofs.Creations.{any-creating, any-stage, any-stands, created-current, created-is-card}
-use Rattle.file_commands.proofs.Creations.{created-space, filled-card, filled-stands}
+use Rattle.file_commands.proofs.Creations.{created-last, created-space, filled-card, filled-stands}
 use Rattle.file_commands.proofs.Creations.{created-step, refused-step, taken-blocks, taken-entries}
 use Rattle.command_base.specs.laws.Executes.{compared-none, declined, torn, written}
 use Rattle.command_base.specs.laws.Stopping.{err-is}
@@ -74,21 +80,43 @@ module _ (old mid made : Memory) (ready : IsReady old) (words : IsCard (committe
   -- which card stands by the word: the blocks that are filled before leave the tree
   went-adding : AddsByGate mid made
       → OnlyReads old made ⊎ IsDoing (card_in old) (session_in old x) request (card_in made)
-      → Advances old.facts made.facts → Went request old x made
-  went-adding adds stage advances =
+      → Advances old.facts made.facts → TurnsServed (card_in old) (session_in old x) request old.facts made.facts
+      → Went request old x made
+  went-adding adds stage advances turns =
       let tree = subst (λ (l : List ℕ). SameTree l adds.filled) same adds.tree in
       went-gated request old x made refl stage adds.filled (filled-stands m sized words x template fcp found.told
       found.unbarred found.permitted adds.filled tree) (filled-card m sized words x template fcp found.told
-      found.unbarred found.permitted adds.filled tree) adds.gate advances
+      found.unbarred found.permitted adds.filled tree) adds.gate advances turns
+
+  -- once the gate has turned, the file is there
+  turns-adding : creation_refusal (block_count m) (tree_of m) (path_of (table m) x.df) fcp ≡ None
+      → TurnsAfter (blocks_for (size_of_kind fcp.kind)) (CreatesNew (committed mid) x.df fcp) mid made
+      → TurnsServed (card_in old) (session_in old x) request old.facts made.facts
+  turns-adding none turned = λ shut more.
+      let early = ap (λ (r : Result Fcp FcpFault). blocks_for (size_of_kind (told_by r).kind)) found.told in
+      created-last m sized words x template fcp found.told found.unbarred found.permitted none after
+      (subst (λ (l : List ℕ). CreatesNew l x.df fcp after) same
+      (turned shut (omega (arith, early, reads.board.writes, more))))
+
+  -- where it is refused, nothing was written
+  turns-or-refused : (refusal : Option Sw)
+      → creation_refusal (block_count m) (tree_of m) (path_of (table m) x.df) fcp ≡ refusal
+      → ((status : Sw) → refusal ≡ Some status → OnlyReads old made)
+      → TurnsAfter (blocks_for (size_of_kind fcp.kind)) (CreatesNew (committed mid) x.df fcp) mid made
+      → TurnsServed (card_in old) (session_in old x) request old.facts made.facts
+  turns-or-refused None told idle turned = turns-adding told turned
+  turns-or-refused (Some status) told idle turned =
+      λ shut more. absurd (omega (arith, (idle status refl).board.writes, more))
 
   -- one that stopped, before or after its commit
   pub creation-torn : (r : Result Sw StoreErr) (e : StoreErr) → IsErrAnd r (λ f. f ≡ e)
       → SameTree (committed mid) after ⊎ CreatesNew (committed mid) x.df fcp after
       → ((refusal : Sw) → creation_refusal (block_count (committed mid)) (tree_of (committed mid))
       (path_of (table_in mid) x.df) fcp ≡ Some refusal
-      → OnlyReads mid made) → AddsByGate mid made → (n : ℕ) → Changes n mid made (Some e) → n ≤ creation_writes
-      → Executes request old x made x [] r
-  creation-torn r e is any_exit idle adds n changes few =
+      → OnlyReads mid made) → AddsByGate mid made
+      → TurnsAfter (blocks_for (size_of_kind fcp.kind)) (CreatesNew (committed mid) x.df fcp) mid made
+      → (n : ℕ) → Changes n mid made (Some e) → n ≤ creation_writes → Executes request old x made x [] r
+  creation-torn r e is any_exit idle adds turned n changes few =
       let exit = subst (λ (l : List ℕ). SameTree l after ⊎ CreatesNew l x.df fcp after) same any_exit in
       let all = changes_after n old mid made (Some e) reads changes in
       let idle_here = subst (λ (l : List ℕ). (status : Sw)
@@ -101,7 +129,9 @@ module _ (old mid made : Memory) (ready : IsReady old) (words : IsCard (committe
       (torn request old x made x [] e stage
       (any-stands m sized words x template fcp found.told found.unbarred found.permitted after exit)
       all.reports all.tells (omega arith) (omega (arith, few, all.writes.writes))
-      (went-adding adds stage (advances_by n old.facts made.facts all.writes))
+      (went-adding adds stage (advances_by n old.facts made.facts all.writes)
+      (turns-or-refused (creation_refusal (block_count m) (tree_of m) (path_of (table m) x.df) fcp) refl
+      (λ status refuses. reads_then old mid made reads (idle_here status refuses)) turned))
       (compared-none n old.facts made.facts all.writes))
 
   -- one that was made
@@ -128,8 +158,9 @@ module _ (old mid made : Memory) (ready : IsReady old) (words : IsCard (committe
         taken-entries m m after free (record { blocks = blocks; entries = 1 }) counted refl created.space
         words created-stands
 
-    module _ (adds : AddsByGate mid made) (n : ℕ) (changes : Changes n mid made None)
-        (few : n ≤ creation_writes) where
+    module _ (adds : AddsByGate mid made)
+        (turned : TurnsAfter (blocks_for (size_of_kind fcp.kind)) (CreatesNew (committed mid) x.df fcp) mid made)
+        (n : ℕ) (changes : Changes n mid made None) (few : n ≤ creation_writes) where
       all : Changes n old made None
       all = changes_after n old mid made None reads changes
 
@@ -139,6 +170,7 @@ module _ (old mid made : Memory) (ready : IsReady old) (words : IsCard (committe
 
       went : Went request old x made
       went = went-adding adds (inr made-it) (advances_by n old.facts made.facts all.writes)
+          (turns-adding created.none turned)
 
       pub created-done : IsReady made → (y : Current) → y ≡ current_by x e (kind_number fcp.kind) x.df
           → Executes request old x made y [] (Ok DONE)

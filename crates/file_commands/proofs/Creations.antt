@@ -35,7 +35,8 @@ use Rattle.card_model.specs.Behaviours.{refused, refused_by, only_status, outcom
 use Rattle.card_model.specs.SelectCommand.{selecting}
 use Rattle.card_model.specs.Sessions.{Session}
 use Rattle.command_base.specs.Standing.{card_of, IsCard}
-use Rattle.card_model.specs.Steps.{IsDoing, served}
+use Rattle.card_model.specs.Steps.{IsDoing, commits_served, last_of, served}
+use Rattle.command_base.specs.laws.Words.{is-last}
 use Rattle.command_base.specs.Working.{session_of, IsCurrent}
 use Rattle.command_base.specs.CurrentFiles.{current_at}
 use Rattle.command_base.specs.laws.Entries.{card-tree, current-entry, selecting-entry}
@@ -155,6 +156,14 @@ module _ (m : List ℕ) (sized : IsMemory m) (words : IsCard m) (x : CurrentFile
       (create-commits c s template unbarred fcp is permitted)
       (⊎_elim (λ (same : SameTree m after). inl (filled-card after same))
       (λ (creates : CreatesNew m x.df fcp after). inr (card-is after creates)) left)
+
+  -- the card with the new file is the last one
+  pub created-last : creation_refusal (block_count m) (tree_of m) df fcp ≡ None → (after : List ℕ)
+      → CreatesNew m x.df fcp after → card_of after ≡ last_of c (commits_served c s (create_file template))
+  created-last none after creates =
+      is-last c s (create_file template) (with_new c df fcp) (card_of after)
+      (create-unrefused c s template unbarred fcp is permitted (refusal-by-tree ∙ none))
+      (create-commits c s template unbarred fcp is permitted) (card-is after creates)
 
   -- a creation that was cut, or not: where it is refused, as told by a refusal, only reads were made
   pub any-stage : {R : Type 0} (refusal : Option Sw) → creation_refusal (block_count m) (tree_of m) df fcp ≡ refusal

@@ -33,7 +33,8 @@ use Rattle.card_model.specs.Behaviours.{only_status, refused_by, outcome}
 use Rattle.card_model.specs.Reaching.{subject_of, subject_or}
 use Rattle.card_model.specs.Sessions.{Session, at_dedicated_file}
 use Rattle.command_base.specs.Standing.{card_of, IsCard}
-use Rattle.card_model.specs.Steps.{IsDoing, served}
+use Rattle.card_model.specs.Steps.{IsDoing, commits_served, last_of, served}
+use Rattle.command_base.specs.laws.Words.{is-last}
 use Rattle.command_base.specs.Working.{session_of, IsCurrent}
 use Rattle.command_base.specs.NamedFiles.{file_refusal}
 use Rattle.command_base.specs.laws.Entries.{card-tree, current-path}
@@ -183,6 +184,14 @@ module _ (m : List ℕ) (sized : IsMemory m) (words : IsCard m) (x : CurrentFile
         (card_of after) (delete-unrefused c s subject path place none) (delete-commits c s subject path place)
         (⊎_elim (λ (kept : after ≡ now). inl (ap card_of (kept ∙ same)))
         (λ (deletes : Deletes now e after). inr (card-is after (deletes_is deletes))) left)
+
+    -- the card after the deletion is the last one
+    pub deleted-last : refused_by (delete_refusals c s subject) ≡ None → Deletes now e after
+        → card_of after ≡ last_of c (commits_served c s (delete_file subject))
+    deleted-last none deletes =
+        is-last c s (delete_file subject) (without c path) (card_of after)
+        (delete-unrefused c s subject path place none) (delete-commits c s subject path place)
+        (card-is after (deletes_is deletes))
 
     pub done-step : refused_by (delete_refusals c s subject) ≡ None → Deletes now e after
         → served c s (delete_file subject) ≡ outcome (card_of after) (session_of (table after) at_parent) [] DONE

@@ -12,7 +12,7 @@ use Rattle.card_model.specs.declared.status.TheConstants.Sw.{ACCESS_DENIED, DONE
 use Rattle.undo_journal.specs.declared.error.StoreErr.{StoreErr}
 use Rattle.undo_journal.specs.StoreCalls.{OnlyReads}
 use Rattle.undo_journal.specs.laws.Memory.{reports_then}
-use Rattle.undo_journal.specs.Commits.{CommitsByGate}
+use Rattle.undo_journal.specs.Commits.{CommitsByGate, TurnsTo}
 use Rattle.undo_journal.specs.Memory.{Memory, committed, IsReady, Reports}
 use Rattle.undo_journal.specs.Spending.{WritesAtMost}
 use Rattle.block_chain.specs.declared.layout.TheConstants.{FREE_HEAD_WORD}
@@ -38,7 +38,7 @@ use Rattle.command_base.specs.Comparing.{comparisons, ComparesNothing}
 use Rattle.card_model.specs.Guards.{allowed}
 use Rattle.card_model.specs.LifeCycleCommands.{card_terminated, terminate_card_refusals, terminated_card}
 use Rattle.card_model.specs.Behaviours.{refused, refused_by, outcome}
-use Rattle.card_model.specs.Steps.{IsDoing, commits, effect, refusals_of, served}
+use Rattle.card_model.specs.Steps.{IsDoing, commits, commits_served, effect, last_of, refusals_of, served}
 use Rattle.command_base.specs.Served.{Executes}
 use Rattle.card_model.specs.Sessions.{Session}
 use Rattle.command_base.specs.Standing.{card_of, IsCard}
@@ -48,7 +48,7 @@ use Rattle.command_base.specs.laws.Entries.{master-path}
 use Rattle.card_model.specs.laws.Guarding.{served-done, served-refused}
 use Rattle.command_base.specs.laws.Executes.{compared-none, reads-compared, torn, written}
 use Rattle.command_base.specs.laws.Stopping.{err-is}
-use Rattle.command_base.specs.laws.Words.{Went, went-after}
+use Rattle.command_base.specs.laws.Words.{Went, is-last, went-after}
 
 module _ (m : List ℕ) (sized : IsMemory m) (words : IsCard m) where
   abbrev ended : List ℕ
@@ -143,13 +143,21 @@ module _ (m : List ℕ) (x : Current) (permitted : Bool)
   unfolding commits
   end-doing granted d left = doing-one c s terminate_card_usage (terminated_card c) d (unrefused granted) refl left
 
+  -- the card whose use has ended is the last one
+  pub end-last : permitted ≡ true → (d : Card) → d ≡ terminated_card c
+      → d ≡ last_of c (commits_served c s terminate_card_usage)
+  unfolding commits
+  end-last granted d done = is-last c s terminate_card_usage (terminated_card c) d (unrefused granted) refl done
+
 -- A call that ends the use, where the rule allows it: first it only reads, and then it writes.
 module _ (old mid new : Memory) (ready : IsReady old) (words : IsCard (committed old)) (x : Current)
     (current : IsCurrent (table_in old) x)
     (is : true ≡ allowed (card_in old) (session_in old x) (path_of (table_in old) 0) Terminate)
     (reads : OnlyReads old mid)
     (any_exit : (committed new ≡ committed mid) ⊎ (committed new ≡ with_card_terminated (committed mid)))
-    (by_gate : CommitsByGate mid new) (reports : Reports mid new) (spends : WritesAtMost 4 mid.facts new.facts) where
+    (by_gate : CommitsByGate mid new)
+    (turned : TurnsTo (λ after. after ≡ with_card_terminated (committed mid)) mid new)
+    (reports : Reports mid new) (spends : WritesAtMost 4 mid.facts new.facts) where
   abbrev at_end : List ℕ
   at_end = with_card_terminated (committed old)
 
@@ -175,6 +183,9 @@ module _ (old mid new : Memory) (ready : IsReady old) (words : IsCard (committed
 
   went : Went terminate_card_usage old x new
   went = went-after terminate_card_usage old x new 4 mid words refl (inr doing) reads spends by_gate
+      (λ shut more. end-last (committed old) x true is refl (card_in new)
+      (ap card_of (end-is (turned shut (omega (arith, reads.board.writes, more))))
+      ∙ ended-card (committed old) size words))
 
   compares : ComparesNothing (comparisons old.facts) (comparisons new.facts)
   compares = compared-none 4 mid.facts new.facts spends ∙ reads-compared old mid reads

@@ -12,7 +12,7 @@ use Rattle.undo_journal.specs.declared.error.StoreErr.{StoreErr}
 use Rattle.undo_journal.specs.StoreCalls.{OnlyReads}
 use Rattle.undo_journal.specs.laws.Calls.{reads_then}
 use Rattle.undo_journal.specs.laws.Memory.{reports_then}
-use Rattle.undo_journal.specs.Commits.{CommitsByGate}
+use Rattle.undo_journal.specs.Commits.{CommitsByGate, TurnsTo}
 use Rattle.undo_journal.specs.Memory.{Memory, committed, IsReady, Reports}
 use Rattle.undo_journal.specs.Spending.{WritesAtMost}
 use Rattle.card_model.specs.declared.requests.Subject.{Subject}
@@ -38,7 +38,8 @@ use Rattle.command_base.specs.Working.{card_in, session_in, space_in, table_in, 
 use Rattle.command_base.specs.CurrentFiles.{current_at}
 use Rattle.card_model.specs.laws.Guarding.{served-refused}
 use Rattle.file_commands.proofs.LifeSteps.{card-is, changed-current, changed-space, changed-stands, changed-step, doing}
-use Rattle.file_commands.proofs.LifeSteps.{same-state}
+use Rattle.file_commands.proofs.LifeSteps.{last-changed, same-state}
+use Rattle.command_base.specs.CommitWords.{TurnsServed}
 use Rattle.command_base.specs.laws.Executes.{compared-none, reads-compared, torn, written}
 use Rattle.command_base.specs.laws.Stopping.{err-is}
 use Rattle.command_base.specs.laws.Words.{Went, went-after}
@@ -55,7 +56,9 @@ module _ (old mid new : Memory) (ready : IsReady old) (words : IsCard (committed
     (found : IsChanged (committed old) x change subject changed) (reads : OnlyReads old mid)
     (any_exit : (committed new ≡ committed mid)
     ⊎ ChangesLife (committed mid) changed.number changed.life (committed new))
-    (by_gate : CommitsByGate mid new) (stays : life_at (tree_of (committed mid)) (path_of (table_in mid) changed.number)
+    (by_gate : CommitsByGate mid new) (turned : TurnsTo (ChangesLife (committed mid) changed.number changed.life) mid
+    new)
+    (stays : life_at (tree_of (committed mid)) (path_of (table_in mid) changed.number)
     ≡ changed.life → OnlyReads mid new)
     (reports : Reports mid new) (spends : WritesAtMost 4 mid.facts new.facts) where
   abbrev m : List ℕ
@@ -97,21 +100,33 @@ module _ (old mid new : Memory) (ready : IsReady old) (words : IsCard (committed
       inr (card-is m sized words x current change subject changed found after (changes-it changes)))
       any_exit)
 
+  -- where the state stays, nothing was written
+  staying : changed.life ≡ life_at (tree_of m) (path_of (table m) e) → OnlyReads old new
+  staying kept = reads_then old mid new reads (stays
+      (ap (λ (l : List ℕ). life_at (tree_of l) (path_of (table l) e)) same ∙ sym kept))
+
   -- where the state stays, only reads were made
   stage : OnlyReads old new ⊎ IsDoing (card_in old) (session_in old x) request (card_in new)
   stage =
       let there = life_at (tree_of m) (path_of (table m) e) in
       ⊎_elim
-      (λ (is : life_cycle_byte changed.life ≡ life_cycle_byte there).
-      let kept : changed.life ≡ there = same-state changed.life there is in
-      let staying : life_at (tree_of (committed mid)) (path_of (table_in mid) e) ≡ changed.life =
-      ap (λ (l : List ℕ). life_at (tree_of l) (path_of (table l) e)) same ∙ sym kept in
-      inl (reads_then old mid new reads (stays staying)))
+      (λ (is : life_cycle_byte changed.life ≡ life_cycle_byte there). inl (staying (same-state changed.life there is)))
       (λ differs. inr (is-doing (λ is. differs (ap life_cycle_byte is))))
       (cases_eq (life_cycle_byte changed.life) (life_cycle_byte there))
 
+  turns : TurnsServed (card_in old) (session_in old x) request old.facts new.facts
+  turns = λ shut more.
+      let there = life_at (tree_of m) (path_of (table m) e) in
+      ⊎_elim
+      (λ (kept : life_cycle_byte changed.life ≡ life_cycle_byte there).
+      absurd (omega (arith, more, (staying (same-state changed.life there kept)).board.writes)))
+      (λ differs. last-changed m sized words x current change subject changed found after
+      (changes-it (turned shut (omega (arith, reads.board.writes, more))))
+      (λ same_life. differs (ap life_cycle_byte same_life)))
+      (cases_eq (life_cycle_byte changed.life) (life_cycle_byte there))
+
   went : Went request old x new
-  went = went-after request old x new 4 mid words refl stage reads spends by_gate
+  went = went-after request old x new 4 mid words refl stage reads spends by_gate turns
 
   compares : ComparesNothing (comparisons old.facts) (comparisons new.facts)
   compares = compared-none 4 mid.facts new.facts spends ∙ reads-compared old mid reads

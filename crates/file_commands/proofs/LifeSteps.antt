@@ -43,7 +43,8 @@ use Rattle.card_model.specs.Behaviours.{only_status, refused_by, unless_refused,
 use Rattle.card_model.specs.Reaching.{current_elementary, subject_or}
 use Rattle.card_model.specs.Sessions.{Session}
 use Rattle.card_model.specs.SelectCommand.{selecting}
-use Rattle.card_model.specs.Steps.{IsDoing, commits, effect, refusals_of, served}
+use Rattle.card_model.specs.Steps.{IsDoing, commits, commits_served, effect, last_of, refusals_of, served}
+use Rattle.command_base.specs.laws.Words.{is-last}
 use Rattle.command_base.specs.Standing.{card_of, IsCard}
 use Rattle.command_base.specs.Working.{session_of, IsCurrent, IsElementary}
 use Rattle.command_base.specs.CurrentFiles.{current_at}
@@ -267,24 +268,32 @@ module _ (m : List ℕ) (sized : IsMemory m) (words : IsCard m) (x : Current) (c
   card-changed : changed_card before session change subject ≡ with_life_at before at changed.life
   card-changed = λ i. with_life_at before (path-is i) (life-is i)
 
-  -- a change to another state is made or not
+  -- a change to another state has one commit
+  lasting : changed.life ≢ life_at (tree_of m) at
+      → life_commits before session change subject ≡ changed_card before session change subject ∷ []
+  lasting other =
+      let tree = card-tree m in
+      let differs : (life_cycle_byte (changed_life before session change subject)
+      == life_cycle_byte (life_at before.tree (changed_path before session change subject))) ≡ false =
+      (λ i. life_cycle_byte (life-is i) == life_cycle_byte (life_at before.tree (path-is i)))
+      ∙ (λ i. life_cycle_byte changed.life == life_cycle_byte (life_at (tree i) at))
+      ∙ ne_eqb (life_cycle_byte changed.life) (life_cycle_byte (life_at (tree_of m) at))
+      (λ same. other (same-state changed.life (life_at (tree_of m) at) same)) in
+      ap (λ (b : Bool). if b then [] else changed_card before session change subject ∷ []) differs
+
+  -- which is made or not
   pub doing : changed.life ≢ life_at (tree_of m) at → (d : Card)
       → (d ≡ before) ⊎ (d ≡ changed_card before session change subject) → IsDoing before session request d
   unfolding commits refusals_of
   doing other d left =
-      doing-one before session request (changed_card before session change subject) d found.unrefused lasting left
-    where
-      differs : (life_cycle_byte (changed_life before session change subject)
-          == life_cycle_byte (life_at before.tree (changed_path before session change subject))) ≡ false
-      differs =
-          let tree = card-tree m in
-          (λ i. life_cycle_byte (life-is i) == life_cycle_byte (life_at before.tree (path-is i)))
-          ∙ (λ i. life_cycle_byte changed.life == life_cycle_byte (life_at (tree i) at))
-          ∙ ne_eqb (life_cycle_byte changed.life) (life_cycle_byte (life_at (tree_of m) at))
-          (λ same. other (same-state changed.life (life_at (tree_of m) at) same))
+      doing-one before session request (changed_card before session change subject) d found.unrefused (lasting other)
+      left
 
-      lasting : life_commits before session change subject ≡ changed_card before session change subject ∷ []
-      lasting = ap (λ (b : Bool). if b then [] else changed_card before session change subject ∷ []) differs
+  last-one : changed.life ≢ life_at (tree_of m) at → (d : Card) → d ≡ changed_card before session change subject
+      → d ≡ last_of before (commits_served before session request)
+  unfolding commits refusals_of
+  last-one other d done =
+      is-last before session request (changed_card before session change subject) d found.unrefused (lasting other) done
 
   module _ (after : List ℕ) (changes : ChangesLife m e changed.life after) where
     -- whatever doesn't depend on states stays in each entry
@@ -324,6 +333,11 @@ module _ (m : List ℕ) (sized : IsMemory m) (words : IsCard m) (x : Current) (c
         ∙ ap (λ (tree : Tree). record before { tree = tree }) changes.tree
         ∙ sym (ap (λ (tree : Tree). with_life_at (record before { tree = tree }) at changed.life) (card-tree m))
         ∙ sym card-changed
+
+    -- it is the last card that the command commits
+    pub last-changed : changed.life ≢ life_at (tree_of m) at
+        → card_of after ≡ last_of before (commits_served before session request)
+    last-changed other = last-one other (card_of after) card-is
 
     session-is : selecting session (changed_path before session change subject)
         (file_at before.tree (changed_path before session change subject)).kind ≡ session_of (table after) at_file

@@ -19,7 +19,7 @@ use Rattle.card_model.specs.declared.status.TheConstants.Sw.{DONE, METHOD_BLOCKE
 use Rattle.card_model.specs.Pins.{IsPinNumber, with_pin, without_pin}
 use Rattle.undo_journal.specs.declared.error.StoreErr.{StoreErr}
 use Rattle.undo_journal.specs.StoreCalls.{OnlyReads, Reads}
-use Rattle.undo_journal.specs.Commits.{CommitsByGate, StaysShut}
+use Rattle.undo_journal.specs.Commits.{CommitsByGate, StaysShut, TurnsTo}
 use Rattle.undo_journal.specs.Undo.{gate}
 use Rattle.undo_journal.specs.laws.Calls.{advances_by, advances_then}
 use Rattle.undo_journal.specs.Memory.{Memory, committed, IsReady, Reports}
@@ -38,7 +38,7 @@ use Rattle.file_tree.specs.laws.Indexed.{places_same}
 use Rattle.command_base.specs.declared.current.Current.{Current}
 use Rattle.card_model.specs.Cards.{Card}
 use Rattle.card_model.specs.Steps.{attempt_of, commits_alone, commits_gated, IsDoing, commits, commits_unless, effect}
-use Rattle.card_model.specs.Steps.{refusals_of, served}
+use Rattle.card_model.specs.Steps.{commits_served, last_of, refusals_of, served}
 use Rattle.command_base.specs.Comparing.{comparisons, ComparesBy, ComparesShown, CostsATry}
 use Rattle.command_base.specs.Counting.{CountsAttempt, CountsServed, CountsShown}
 use Rattle.card_model.specs.Behaviours.{Refusal, first_applying, no_refusals, refused, refused_by, outcome, Attempt}
@@ -46,7 +46,7 @@ use Rattle.card_model.specs.Behaviours.{attempt_commits, charged_card, is_right,
 use Rattle.card_model.specs.Behaviours.{tries_commits, value_commits, unblocking_of, value_of, with_pin_of}
 use Rattle.card_model.specs.PinCommands.{attempt_refusals, attempted, attempted_as, changing, marking, resetting}
 use Rattle.card_model.specs.PinCommands.{told_tries, tries_status, unverified, verifying}
-use Rattle.command_base.specs.CommitWords.{StandsByWord, StandsServed}
+use Rattle.command_base.specs.CommitWords.{StandsByWord, StandsServed, TurnsServed, early_writes}
 use Rattle.command_base.specs.Served.{Executes}
 use Rattle.card_model.specs.Sessions.{Session, marked}
 use Rattle.command_base.specs.CommandWrites.{most_writes}
@@ -70,6 +70,11 @@ abbrev pub EndsByWord : Bool → Memory → Memory → Type 0
 EndsByWord true b e = CommitsByGate b e
 EndsByWord false b e = StaysShut b e
 
+-- once the gate has turned, the PIN of secret k is set after a match
+abbrev Settles : Attempt → ℕ → Memory → Memory → Type 0
+Settles a k b e =
+    a.renews ≡ true → TurnsTo (λ after. SetsByMatch k a.shown (a.becomes (pin_in b k)) b e) b e
+
 -- a request that shows a secret of a PIN, and what comes of it
 pub record IsAttempt (request : Request) (a : Attempt) : Type 0 where
   pub refuses : (c : Card) (s : Session) → refusals_of c s request ≡ attempt_refusals c a
@@ -78,6 +83,8 @@ pub record IsAttempt (request : Request) (a : Attempt) : Type 0 where
   pub shows : attempt_of request ≡ Some a
   pub number : IsPinNumber a.pin
   pub owned : owner a.secret ≡ a.pin - 1
+  pub early : early_writes request ≡ 1
+  pub alone : a.renews ≡ false → most_writes request ≡ 2
 
 -- what refuses an attempt, by its PIN: no try is left, or it is enabled, or disabled
 abbrev pub refused_at : Attempt → Pin → Option Sw
@@ -270,6 +277,7 @@ module _ (request : Request) (a : Attempt) (asks : IsAttempt request a) (old : M
         advances_by 1 old.facts b.facts spends,
         λ shut. stood b.facts.words free
             (stands-alone c (tries_commits c a) (value_commits c a) b.facts.words (stays shut) (among-tries exit)),
+        λ shut more. absurd (omega (arith, spends.writes, more)),
       ))
     where
       among-tries : (committed b ≡ committed old) ⊎ Charges a.secret old b
@@ -340,7 +348,8 @@ module _ (request : Request) (a : Attempt) (asks : IsAttempt request a) (old : M
     module _ (e : Memory) (n : ℕ) (ends : IsEnd a.secret (pin_in b a.secret) (a.becomes (pin_in b a.secret)))
         (costs : WritesAtMost 1 old.facts b.facts) (spends : ComparesOnce n a.secret b.facts e.facts)
         (pages : ArePinPages (committed e)) (reports : Reports old e) (stays : StaysShut old b)
-        (word : EndsByWord a.renews b e) (writes : e.facts.writes ≤ old.facts.writes + most_writes request)
+        (word : EndsByWord a.renews b e) (settles : Settles a a.secret b e)
+        (writes : e.facts.writes ≤ old.facts.writes + most_writes request)
         (exit : (committed e ≡ committed b) ⊎ SetsByMatch a.secret a.shown (a.becomes (pin_in b a.secret)) b e) where
       law-end : KeepsPinLaw a.secret a.shown old e
       law-end = end_keeps_law n a.secret a.shown _ old b e ends charges costs exit spends
@@ -362,12 +371,30 @@ module _ (request : Request) (a : Attempt) (asks : IsAttempt request a) (old : M
           stands-gated c (charged_card c a ∷ []) [] (committed b) e card-b (charged-card b charges) exits
           card
 
+      -- once the gate has turned, the secret was the right one, and the PIN is set
+      settled-last : SetsByMatch a.secret a.shown (a.becomes (pin_in b a.secret)) b e
+          → card_in e ≡ last_of c (commits_served c s request)
+      settled-last set =
+          let unrefused_is = unrefused free in
+          let passed_is = asks.passes c s
+          ∙ ap (λ (t : Bool). charged_card c a ∷ (if t then settled_card c a ∷ [] else []))
+          (right set.match_counted.right) in
+          settled-is e set.sets ∙ sym (λ i. last_of c (commits_unless (unrefused_is i) (passed_is i)))
+
+      turns-end : TurnsServed c s request old.facts e.facts
+      turns-end = by a.renews refl
+        where
+          by : (renews : Bool) → a.renews ≡ renews → TurnsServed c s request old.facts e.facts
+          by true is = λ shut more. settled-last (settles is shut (omega (arith, asks.early, costs.writes, more)))
+          by false is = λ shut more. absurd (omega (arith, asks.early, asks.alone is, writes, more))
+
       went-end : Went request old x e
       went-end = (
         advances_then old.facts b.facts e.facts (advances_by 1 old.facts b.facts costs)
             (record { more = spends.more; cut = spends.cut }),
         λ shut. stood e.facts.words free
             (stand a.renews (is_right c a) word shut (ended-stage e exit)),
+        turns-end,
       )
 
       compares-end : ComparesBy request c (comparisons old.facts) (card_in e) (comparisons e.facts)
@@ -532,7 +559,7 @@ module _ (request : Request) (a : Attempt) (asks : IsAttempt request a) (n : ℕ
         (ends : (p : Pin) → IsEnd a.secret p (a.becomes p))
         (exit : (committed e ≡ committed b) ⊎ SetsByMatch k a.shown (a.becomes (pin_in b k)) b e)
         (spends : ComparesOnce n k b.facts e.facts) (pages : ArePinPages (committed e)) (reports : Reports b e)
-        (stays : StaysShut old b) (word : EndsByWord a.renews b e) where
+        (stays : StaysShut old b) (word : EndsByWord a.renews b e) (settles : Settles a k b e) where
       got : (k ≡ a.secret) × Charges a.secret old b × (refused_at a (pin_in old a.secret) ≡ None)
       got = subst (λ (s : ℕ). (k ≡ s) × Charges s old b × (refused_with a.unusable s (pin_in old s) ≡ None)) named taken
 
@@ -547,6 +574,9 @@ module _ (request : Request) (a : Attempt) (asks : IsAttempt request a) (n : ℕ
       spends-told : ComparesOnce n a.secret b.facts e.facts
       spends-told = subst (λ (k : ℕ). ComparesOnce n k b.facts e.facts) got.0 spends
 
+      settles-told : Settles a a.secret b e
+      settles-told = subst (λ (k : ℕ). Settles a k b e) got.0 settles
+
       writes : e.facts.writes ≤ old.facts.writes + most_writes request
       writes = let once = costs.writes in let more = spends.writes in omega (arith, once, more, most)
 
@@ -555,7 +585,7 @@ module _ (request : Request) (a : Attempt) (asks : IsAttempt request a) (n : ℕ
       end-torn r err error failed =
           subst (λ (result : Result Sw StoreErr). Executes request old x e x [] result) (sym (err-is r err error))
           (exit-end request a asks old x sized card current got.2 b got.1 card-b e n (ends _) costs spends-told pages
-          (reports_then old b e reports-b reports) stays word writes exit-told err failed)
+          (reports_then old b e reports-b reports) stays word settles-told writes exit-told err failed)
 
       pub end-made : (end : AttemptEnd) → EndsByOutcome k a.shown (a.becomes (pin_in b k)) b e end → IsReady e
           → b.facts.writes ≡ old.facts.writes + 1
@@ -563,7 +593,8 @@ module _ (request : Request) (a : Attempt) (asks : IsAttempt request a) (n : ℕ
           → Executes request old x e y [] (Ok status)
       end-made end ended is-ready charge y at status told =
           let made = exit-done request a asks old x sized card current got.2 b got.1 card-b
-          e n (ends _) costs spends-told pages (reports_then old b e reports-b reports) stays word writes exit-told end
+          e n (ends _) costs spends-told pages (reports_then old b e reports-b reports) stays word settles-told writes
+          exit-told end
           (subst (λ (k : ℕ). EndsByOutcome k a.shown (a.becomes (pin_in b k)) b e end) got.0 ended) is-ready charge in
           subst (λ (z : Current). Executes request old x e z [] (Ok status)) (sym at)
           (subst (λ (w : Sw). Executes request old x e (tried_from x a.pin a.unverifies end) [] (Ok w)) (sym told) made)
@@ -591,6 +622,8 @@ module _ (n : ℕ) (number : IsPinNumber n) where
     shows = refl;
     number = number;
     owned = value-owned;
+    early = refl;
+    alone = λ alone. refl;
   }
 
   pub changes : (shown new : List ℕ) → IsAttempt (change_reference_data n shown new) (changing n shown new)
@@ -602,6 +635,8 @@ module _ (n : ℕ) (number : IsPinNumber n) where
     shows = refl;
     number = number;
     owned = value-owned;
+    early = refl;
+    alone = λ alone. let never : true ≡ false = alone in cc;
   }
 
   pub resets : (shown new : List ℕ) → IsAttempt (reset_retry_counter n (Some (shown, new))) (resetting n shown new)
@@ -613,6 +648,8 @@ module _ (n : ℕ) (number : IsPinNumber n) where
     shows = refl;
     number = number;
     owned = unblocking-owned;
+    early = refl;
+    alone = λ alone. let never : true ≡ false = alone in cc;
   }
 
   pub requires_or_not : (change : RequirementChange) (shown : List ℕ)
@@ -625,6 +662,8 @@ module _ (n : ℕ) (number : IsPinNumber n) where
     shows = refl;
     number = number;
     owned = value-owned;
+    early = refl;
+    alone = λ alone. let never : true ≡ false = alone in cc;
   }
 
 -- The requests that ask for the tries that are left.

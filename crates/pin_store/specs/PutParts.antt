@@ -3,6 +3,7 @@ use Rattle.std.specs.Prelude.{◌≡◌, ◌⊎◌, ◌+◌, ℕ, Result, OnOk}
 use Rattle.std.specs.Result.{result_err}
 use Rattle.undo_journal.specs.declared.error.StoreErr.{StoreErr}
 use Rattle.undo_journal.specs.declared.txn.Txn.{Txn}
+use Rattle.undo_journal.specs.Commits.{CommitsByGate, TurnsTo}
 use Rattle.undo_journal.specs.StoreCalls.{Changes, SetsIn}
 use Rattle.undo_journal.specs.Lent.{memory_of}
 use Rattle.undo_journal.specs.Memory.{Memory, CountsCommit, InRuns, committed, current}
@@ -20,6 +21,11 @@ pub record SetsIts {B : Type 0} (words spans secret : ℕ) (set : Pin → Pin) (
   pub store : SetsIn words old new (result_err result)
   pub counted : OnOk result (CountsCommit (transaction_writes words spans) (memory_of old) (memory_of new))
   pub runs : InRuns spans (memory_of old) (memory_of new)
+
+-- The gate alone commits the change of a PIN by `set`. Once it has turned, the PIN is changed.
+abbrev pub SetsByGate : ℕ → (Pin → Pin) → Memory → Memory → Type 0
+SetsByGate secret set old new = CommitsByGate old new
+    × TurnsTo (SetsPin (committed old) (owner secret) (set (pin_in old secret))) old new
 
 -- The PIN of a secret is changed by `set`, in `writes` device writes. At each exit either that is done, or nothing
 -- has changed. `gate` describes the effect on the gate.

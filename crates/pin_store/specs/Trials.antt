@@ -7,7 +7,7 @@ use Rattle.nvm_board.specs.Aims.{AimsOn}
 use Rattle.nvm_board.specs.Facts.{Facts, RisesAt, raised}
 use Rattle.undo_journal.specs.declared.error.StoreErr.{StoreErr}
 use Rattle.undo_journal.specs.StoreCalls.{Changes, Leaves, OnlyReads}
-use Rattle.undo_journal.specs.Commits.{StaysShut}
+use Rattle.undo_journal.specs.Commits.{CommitsByGate, StaysShut, TurnsTo}
 use Rattle.undo_journal.specs.Memory.{Memory, committed, IsReady}
 use Rattle.pin_store.specs.declared.errors.PinErr.{PinErr}
 use Rattle.pin_store.specs.declared.errors.PinErr.TheVariants as pin_err
@@ -70,6 +70,12 @@ pub record IsWrong (secret : ℕ) (shown : List ℕ) (tries : ℕ) (old new : Me
 abbrev pub Compared : ℕ → List ℕ → Memory → Memory → Outcome → Type 0
 Compared secret shown old new Matched = IsMatch secret shown old new
 Compared secret shown old new (Wrong left) = IsWrong secret shown left old new
+
+-- The effect of a renewal on the gate: the gate alone commits it. Once the gate has turned, the PIN is set by `set`
+-- after a match.
+abbrev pub RenewsByGate : ℕ → List ℕ → (Pin → Pin) → Memory → Memory → Type 0
+RenewsByGate secret shown set old new = CommitsByGate old new
+    × TurnsTo (λ after. SetsByMatch secret shown (set (pin_in old secret)) old new) old new
 
 -- The device writes after a charge: `writes` after a match, none after a mismatch.
 abbrev pub trial_end_writes : ℕ → Outcome → ℕ

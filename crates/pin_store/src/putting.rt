@@ -1,10 +1,10 @@
 //! Setting a PIN after a match.
 ghost use Rattle.std.specs.Prelude.{◌≡◌, ◌≤◌, if◌then◌else◌};
-ghost use Rattle.undo_journal.specs.Commits.{CommitsByGate, StaysShut};
+ghost use Rattle.undo_journal.specs.Commits.{StaysShut};
 ghost use Rattle.undo_journal.specs.Lent.{memory_of};
 ghost use Rattle.undo_journal.specs.Memory.{IsReady};
 ghost use Rattle.card_model.specs.Secrets.{changed_pin, marked_pin, reset_pin, tries_left, verified_pin, with_tries};
-ghost use Rattle.pin_store.specs.PutParts.{PutsIts, SetsIts};
+ghost use Rattle.pin_store.specs.PutParts.{PutsIts, SetsByGate, SetsIts};
 ghost use Rattle.pin_store.specs.RenewalParts.{renewal_runs, renewal_sets, renewing_writes, renewed_pin};
 ghost use Rattle.pin_store.specs.Trials.{pin_in};
 ghost use Rattle.undo_journal.specs.Rooms.{HasRoom};
@@ -110,8 +110,8 @@ pub(crate) fn put_renewed<B: Board>(
     renewal: Renewal<'_>,
 ) -> Result<(), StoreErr>
     requires ready { IsReady store.old }
-    ensures { PutsIts CommitsByGate (renewing_writes renewal.entry) secret (renewed_pin renewal.entry)
-        store.old store.new result }
+    ensures { PutsIts (SetsByGate secret (renewed_pin renewal.entry)) (renewing_writes renewal.entry) secret
+        (renewed_pin renewal.entry) store.old store.new result }
 {
     let mut txn = store.begin();
     let work = set_renewed(&mut txn, secret, renewal);

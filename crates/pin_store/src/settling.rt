@@ -2,12 +2,12 @@
 ghost use Rattle.std.specs.Prelude.{◌≡◌, ◌<◌, ◌≤◌, if◌then◌else◌, IfOk};
 ghost use Rattle.std.specs.Result.{result_err};
 ghost use Rattle.undo_journal.specs.StoreCalls.{Reads, Leaves};
-ghost use Rattle.undo_journal.specs.Commits.{CommitsByGate, StaysShut};
+ghost use Rattle.undo_journal.specs.Commits.{StaysShut};
 ghost use Rattle.undo_journal.specs.Memory.{committed, IsReady};
 ghost use Rattle.card_model.specs.declared.pins.TheConstants.{PINS};
 ghost use Rattle.card_model.specs.Secrets.{changed_pin, kept, marked_pin, reset_pin, verified_pin};
 ghost use Rattle.pin_store.specs.RenewalParts.{renewing_writes, renewed_pin};
-ghost use Rattle.pin_store.specs.Trials.{pin_in, Compared, ComparesOnce, EndsTrial, HasPins};
+ghost use Rattle.pin_store.specs.Trials.{pin_in, Compared, ComparesOnce, EndsTrial, HasPins, RenewsByGate};
 
 use crate::charging::{Charged, tries};
 use crate::errors::Outcome;
@@ -51,7 +51,8 @@ pub fn change<B: Board>(
 ) -> Result<Outcome, StoreErr>
     requires pins { HasPins store.old }
     requires secret { charged < PINS }
-    ensures { EndsTrial CommitsByGate 5 charged shown.now (changed_pin new.now) store.old store.new result }
+    ensures { EndsTrial (RenewsByGate charged shown.now (changed_pin new.now)) 5 charged shown.now (changed_pin new.now)
+        store.old store.new result }
 {
     renew(store, charged, shown, Renewal::Value(new))
 }
@@ -70,7 +71,8 @@ pub fn reset_counter<B: Board>(
 ) -> Result<Outcome, StoreErr>
     requires pins { HasPins store.old }
     requires secret { PINS ≤ charged }
-    ensures { EndsTrial CommitsByGate 4 charged shown.now (reset_pin new.now) store.old store.new result }
+    ensures { EndsTrial (RenewsByGate charged shown.now (reset_pin new.now)) 4 charged shown.now (reset_pin new.now)
+        store.old store.new result }
 {
     renew(store, charged, shown, Renewal::ValueAndTries(new))
 }
@@ -88,7 +90,8 @@ pub fn set_enabled<B: Board>(
 ) -> Result<Outcome, StoreErr>
     requires pins { HasPins store.old }
     requires secret { charged < PINS }
-    ensures { EndsTrial CommitsByGate 5 charged shown.now (marked_pin enabled) store.old store.new result }
+    ensures { EndsTrial (RenewsByGate charged shown.now (marked_pin enabled)) 5 charged shown.now (marked_pin enabled)
+        store.old store.new result }
 {
     renew(store, charged, shown, Renewal::Mark(enabled))
 }
@@ -102,8 +105,8 @@ fn renew<B: Board>(
     renewal: Renewal<'_>,
 ) -> Result<Outcome, StoreErr>
     requires pins { HasPins store.old }
-    ensures { EndsTrial CommitsByGate (renewing_writes renewal.entry) charged shown.now (renewed_pin renewal.entry)
-        store.old store.new result }
+    ensures { EndsTrial (RenewsByGate charged shown.now (renewed_pin renewal.entry)) (renewing_writes renewal.entry)
+        charged shown.now (renewed_pin renewal.entry) store.old store.new result }
 {
     let secret = charged.secret;
     let outcome = compare(store, charged, shown)?;

@@ -75,6 +75,7 @@ module _ (request : Request) (old : Memory) (x : Current) (new : Memory) where
     writes = omega (arith, reads.board.writes);
     advances = (went-reads request old x new reads).0;
     stands = (went-reads request old x new reads).1;
+    turned = (went-reads request old x new reads).2;
     compares = reads-nothing reads;
     places = tt;
     counted = tt;
@@ -110,6 +111,7 @@ module _ (request : Request) (old : Memory) (x : Current) (new : Memory) where
         writes = omega (arith, reads.board.writes);
         advances = (went-reads request old x new reads).0;
         stands = (went-reads request old x new reads).1;
+        turned = (went-reads request old x new reads).2;
         compares = reads-nothing reads;
         places = λ _. places_same (table_in old) (table_in new) (ap (λ (l : List ℕ). table l)
             reads.keeps.committed_words);
@@ -172,6 +174,7 @@ module _ (request : Request) (old : Memory) (x : Current) (new : Memory) where
     writes = writes;
     advances = went.0;
     stands = went.1;
+    turned = went.2;
     compares = compares;
     places = tt;
     counted = tt;
@@ -198,6 +201,7 @@ module _ (request : Request) (old : Memory) (x : Current) (new : Memory) where
     writes = writes;
     advances = went.0;
     stands = went.1;
+    turned = went.2;
     compares = compares;
     places = places;
     counted = counted;

@@ -2,7 +2,7 @@
 use Rattle.std.proofs.Common.{◌≡◌, ◌⊎◌, ℕ, zero, suc, List, [], ◌∷◌, ◌++◌, Contains, Option, None, Some, refl, sym, ◌∙◌}
 use Rattle.std.proofs.Common.{ap, subst, arith, inl, inr, ⊎_elim}
 use Rattle.undo_journal.specs.StoreCalls.{OnlyReads}
-use Rattle.undo_journal.specs.Commits.{CommitsByGate, TurnsGate}
+use Rattle.undo_journal.specs.Commits.{CommitsByGate, TurnsGate, TurnsTo}
 use Rattle.undo_journal.specs.Memory.{Memory, committed}
 use Rattle.undo_journal.specs.Spending.{Advances, WritesAtMost}
 use Rattle.undo_journal.specs.Undo.{gate}
@@ -11,12 +11,12 @@ use Rattle.card_model.specs.Requests.{Request}
 use Rattle.command_base.specs.declared.current.Current.{Current}
 use Rattle.card_model.specs.Cards.{Card}
 use Rattle.card_model.specs.Steps.{attempt_of, IsDoing, commits, commits_unless, refusals_of, commits_alone}
-use Rattle.card_model.specs.Steps.{commits_gated, last_of}
+use Rattle.card_model.specs.Steps.{commits_gated, commits_served, last_of}
 use Rattle.command_base.specs.Finding.{found}
 use Rattle.card_model.specs.Behaviours.{refused_by, Attempt}
 use Rattle.card_model.specs.Sessions.{Session}
 use Rattle.command_base.specs.Standing.{card_of, IsCard}
-use Rattle.command_base.specs.CommitWords.{StandsByWord, StandsServed}
+use Rattle.command_base.specs.CommitWords.{StandsByWord, StandsServed, TurnsServed}
 use Rattle.command_base.specs.Working.{card_in, session_in}
 
 -- the last of some cards is one of them
@@ -69,6 +69,12 @@ stands-gated c alone gated before new stood is (inr turned) card = record {
       (among c alone gated (card_in new) card);
 }
 
+-- the card after the one commit of a request is the last one
+pub is-last : (c : Card) (s : Session) (request : Request) (after d : Card)
+    → refused_by (refusals_of c s request) ≡ None → commits c s request ≡ after ∷ [] → d ≡ after
+    → d ≡ last_of c (commits_served c s request)
+is-last c s request after d none is done = done ∙ sym (λ i. last_of c (commits_unless (none i) (is i)))
+
 module _ (request : Request) (old : Memory) (x : Current) (new : Memory) where
   abbrev c : Card
   c = card_in old
@@ -79,6 +85,7 @@ module _ (request : Request) (old : Memory) (x : Current) (new : Memory) where
   -- what a call that carries out a request did to the board's writes, and which card stands by the word
   abbrev pub Went : Type 0
   Went = Advances old.facts new.facts × (gate old.facts.words ≡ 0 → StandsServed c s request new.facts.words)
+      × TurnsServed c s request old.facts new.facts
 
   -- it only read
   pub went-reads : OnlyReads old new → Went
@@ -86,7 +93,16 @@ module _ (request : Request) (old : Memory) (x : Current) (new : Memory) where
     advances_kept old.facts new.facts reads.board,
     λ shut. stands-first c _ _ new.facts.words (ap gate reads.board.words ∙ shut)
         (ap card_of reads.keeps.committed_words),
+    λ shut more. absurd (omega (arith, reads.board.writes, more)),
   )
+
+  -- a request with one commit, once its gate has turned
+  pub turns-one : (d : Card) (becomes : List ℕ → Type 0) (mid : Memory)
+      → refused_by (refusals_of c s request) ≡ None → commits c s request ≡ d ∷ [] → OnlyReads old mid
+      → TurnsTo becomes mid new → (becomes (committed new) → card_in new ≡ d)
+      → TurnsServed c s request old.facts new.facts
+  turns-one d becomes mid none is reads turned card = λ shut more.
+      is-last c s request d (card_in new) none is (card (turned shut (omega (arith, reads.board.writes, more))))
 
   -- the lists of a request that isn't refused and shows no secret
   unshown : (shown : Option Attempt) (verdict : Option _) → verdict ≡ None → shown ≡ None
@@ -101,19 +117,20 @@ module _ (request : Request) (old : Memory) (x : Current) (new : Memory) where
   -- it committed by the gate, if at all
   pub went-gated : attempt_of request ≡ None → OnlyReads old new ⊎ IsDoing c s request (card_in new)
       → (before : List ℕ) → IsCard before → card_of before ≡ c → (committed new ≡ before) ⊎ TurnsGate before new
-      → Advances old.facts new.facts → Went
-  went-gated none (inl reads) before stood is exit advances = went-reads reads
-  went-gated none (inr doing) before stood is exit advances = (
+      → Advances old.facts new.facts → TurnsServed c s request old.facts new.facts → Went
+  went-gated none (inl reads) before stood is exit advances turns = went-reads reads
+  went-gated none (inr doing) before stood is exit advances turns = (
     advances,
     λ shut. unshown (attempt_of request) (refused_by (refusals_of c s request)) doing.unrefused none
         (stands-gated c [] (commits c s request) before new stood is exit doing.card),
+    turns,
   )
 
   -- after reads
   pub went-after : (n : ℕ) (mid : Memory) → IsCard (committed old) → attempt_of request ≡ None
       → OnlyReads old new ⊎ IsDoing c s request (card_in new) → OnlyReads old mid → WritesAtMost n mid.facts new.facts
-      → CommitsByGate mid new → Went
-  went-after n mid card none stage reads spends exit =
+      → CommitsByGate mid new → TurnsServed c s request old.facts new.facts → Went
+  went-after n mid card none stage reads spends exit turns =
       went-gated none stage (committed mid)
       (subst IsCard (sym reads.keeps.committed_words) card) (ap card_of reads.keeps.committed_words) exit
-      (advances_by n old.facts new.facts (spends_after n old.facts mid.facts new.facts reads.board spends))
+      (advances_by n old.facts new.facts (spends_after n old.facts mid.facts new.facts reads.board spends)) turns

@@ -35,6 +35,7 @@ returns-in_err-update g c = record {
       c.requires.target.kept.current
       c.in_ok-file.ensures.store.ready
       c.update.new.store c.update.ensures.commits.any_exit c.update.ensures.commits.by_gate
+      c.update.ensures.commits.turned
       c.update.ensures.commits.store.reports
       c.update.ensures.commits.store.writes c.in_err-update.field-0.0 c.in_err-update.ensures.commits.refusal
       c.in_err-update.ensures.commits.refused c.in_err-update.ensures.commits.store.tells _
@@ -59,7 +60,8 @@ returns g c = record {
       c.in_ok-file.file.entry c.in_ok-file.ensures.told c.body_of-body.result
       c.body_of-body.ensures c.args.place.offset c.args.bytes.now c.find_file.ensures.store.only
       c.in_ok-update.ensures.commits.refusal
-      new c.update.ensures.commits.any_exit c.update.ensures.commits.by_gate c.update.ensures.commits.store.reports
+      new c.update.ensures.commits.any_exit c.update.ensures.commits.by_gate c.update.ensures.commits.turned
+      c.update.ensures.commits.store.reports
       c.update.ensures.commits.store.writes
       c.in_ok-update.ensures.commits.done c.in_ok-update.ensures.commits.store.ready c.requires.target.kept.current);
   space = let old = c.args.store.now in
@@ -71,7 +73,8 @@ returns g c = record {
       c.in_ok-file.file.entry c.in_ok-file.ensures.told c.body_of-body.result
       c.body_of-body.ensures c.args.place.offset c.args.bytes.now c.find_file.ensures.store.only
       c.in_ok-update.ensures.commits.refusal
-      new c.update.ensures.commits.any_exit c.update.ensures.commits.by_gate c.update.ensures.commits.store.reports
+      new c.update.ensures.commits.any_exit c.update.ensures.commits.by_gate c.update.ensures.commits.turned
+      c.update.ensures.commits.store.reports
       c.update.ensures.commits.store.writes
       c.in_ok-update.ensures.commits.done;
 }

@@ -97,7 +97,8 @@ returns-in_err-replace_oldest g c = record {
       c.in_ok-slot.ensures.found c.in_ok-slot.ensures.sum in
       increased-torn c.requires.kept raised c.args.expected _ c.answer_of-response.ensures
       (sym c.asks_less.ensures ∙ c.if-asks_less.false) _ c.deref.ensures.0 c.replace_oldest.new.store
-      c.replace_oldest.ensures.commits.any_exit c.replace_oldest.ensures.commits.by_gate _
+      c.replace_oldest.ensures.commits.any_exit c.replace_oldest.ensures.commits.by_gate
+      c.replace_oldest.ensures.commits.turned _
       c.in_err-replace_oldest.ensures.commits.store c.clear.new.self.items c.clear.ensures _ _
       (reply-failed _ _ c.from_residual-in_err-replace_oldest.ensures.1) refl;
   space = none-failed _ _ _ c.from_residual-in_err-replace_oldest.ensures.1;
@@ -113,12 +114,14 @@ returns g c =
           c.args.current.now c.replace_oldest.new.store y c.give.new.answer.items (Ok DONE)) (sym c.pointing.ensures)
           (increased-done c.requires.kept raised c.args.expected _ c.answer_of-response.ensures enough _
           c.deref.ensures.0 c.replace_oldest.new.store c.replace_oldest.ensures.commits.any_exit
-          c.replace_oldest.ensures.commits.by_gate _ c.in_ok-replace_oldest.ensures.commits.store
+          c.replace_oldest.ensures.commits.by_gate c.replace_oldest.ensures.commits.turned _
+          c.in_ok-replace_oldest.ensures.commits.store
           c.in_ok-replace_oldest.ensures.commits.done c.in_ok-replace_oldest.ensures.commits.store.ready
           c.give.new.answer.items c.give.ensures.given c.give.ensures.room);
       space = increased-space c.requires.kept raised c.args.expected _ c.answer_of-response.ensures enough _
           c.deref.ensures.0 c.replace_oldest.new.store c.replace_oldest.ensures.commits.any_exit
-          c.replace_oldest.ensures.commits.by_gate _ c.in_ok-replace_oldest.ensures.commits.store
+          c.replace_oldest.ensures.commits.by_gate c.replace_oldest.ensures.commits.turned _
+          c.in_ok-replace_oldest.ensures.commits.store
           c.in_ok-replace_oldest.ensures.commits.done;
     }
 

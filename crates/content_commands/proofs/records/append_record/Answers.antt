@@ -22,7 +22,7 @@ returns-in_err-fill g c = record {
       appended-torn c.args.store.now c.find_records.new.store c.fill.new.store c.requires.target.kept.ready
       c.requires.target.kept.card
       c.args.current.now c.requires.target.kept.current c.find_records.ensures.store.only _ _ _ _ found
-      c.fill.ensures.any_exit c.fill.ensures.by_gate _
+      c.fill.ensures.any_exit c.fill.ensures.by_gate c.fill.ensures.turned _
       c.in_err-fill.ensures.store _ _ (reply-failed _ _ c.from_residual-in_err-fill.ensures.1) refl;
   space = none-failed _ _ _ c.from_residual-in_err-fill.ensures.1;
 }
@@ -47,14 +47,15 @@ returns g c = record {
       c.requires.target.kept.card x
       c.requires.target.kept.current c.find_records.ensures.store.only c.args.target c.args.bytes.now c.in_ok-file.file
       c.in_ok-room.room found
-      c.fill.ensures.any_exit c.fill.ensures.by_gate _ c.in_ok-fill.ensures.store c.in_ok-fill.ensures.done
+      c.fill.ensures.any_exit c.fill.ensures.by_gate c.fill.ensures.turned _ c.in_ok-fill.ensures.store
+      c.in_ok-fill.ensures.done
       c.in_ok-fill.ensures.store.ready c.added.result c.added.ensures);
   space = let found = is-appendable c.args.bytes.now c.in_ok-room.room c.in_ok-file.ensures.told
       c.in_ok-room.ensures.ring c.in_ok-room.ensures.wraps c.in_ok-room.ensures.refusal in
       appended-space c.args.store.now c.find_records.new.store c.fill.new.store c.requires.target.kept.ready
       c.requires.target.kept.card
       c.args.current.now c.requires.target.kept.current c.find_records.ensures.store.only _ _ _ _ found
-      c.fill.ensures.any_exit c.fill.ensures.by_gate _
+      c.fill.ensures.any_exit c.fill.ensures.by_gate c.fill.ensures.turned _
       c.in_ok-fill.ensures.store c.in_ok-fill.ensures.done;
 }
 

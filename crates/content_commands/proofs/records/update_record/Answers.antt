@@ -24,7 +24,7 @@ returns-in_err-replace g c = record {
       replaced-torn c.args.store.now c.find_records.new.store c.replace.new.store c.requires.target.kept.ready
       c.requires.target.kept.card
       c.args.current.now c.requires.target.kept.current c.find_records.ensures.store.only _ _ _ _ _ found
-      c.replace.ensures.any_exit c.replace.ensures.by_gate _ c.in_err-replace.ensures.store _ _
+      c.replace.ensures.any_exit c.replace.ensures.by_gate c.replace.ensures.turned _ c.in_err-replace.ensures.store _ _
       (reply-failed _ _ c.from_residual-in_err-replace.ensures.1) refl;
   space = none-failed _ _ _ c.from_residual-in_err-replace.ensures.1;
 }
@@ -53,7 +53,7 @@ returns g c = record {
       c.requires.target.kept.card x
       c.requires.target.kept.current c.find_records.ensures.store.only c.args.target choice c.args.bytes.now file slot
       found
-      c.replace.ensures.any_exit c.replace.ensures.by_gate _ c.in_ok-replace.ensures.store
+      c.replace.ensures.any_exit c.replace.ensures.by_gate c.replace.ensures.turned _ c.in_ok-replace.ensures.store
       c.in_ok-replace.ensures.done
       c.in_ok-replace.ensures.store.ready c.pointer_replaced-after.result (c.pointer_replaced-after.ensures
       ∙ ap (λ (p : Option ℕ). if file.wraps then Some 1 else pointer_after p choice slot.number)
@@ -63,7 +63,7 @@ returns g c = record {
       replaced-space c.args.store.now c.find_records.new.store c.replace.new.store c.requires.target.kept.ready
       c.requires.target.kept.card
       c.args.current.now c.requires.target.kept.current c.find_records.ensures.store.only _ _ _ _ _ found
-      c.replace.ensures.any_exit c.replace.ensures.by_gate _ c.in_ok-replace.ensures.store
+      c.replace.ensures.any_exit c.replace.ensures.by_gate c.replace.ensures.turned _ c.in_ok-replace.ensures.store
       c.in_ok-replace.ensures.done;
 }
 

@@ -23,7 +23,8 @@ returns-in_err-entry-clause-serves g c =
     creation-torn _ c.find_new_file.new.store c.create.new.store c.requires.card.kept.ready
     c.requires.card.kept.card c.args.current.now c.requires.card.kept.current c.args.template.now c.in_ok-fcp.fcp found
     c.find_new_file.ensures.store.only _ _ (reply-failed _ _ c.from_residual-in_err-entry.ensures.1)
-    c.create.ensures.any_exit c.create.ensures.idle c.create.ensures.by_gate _ c.in_err-entry.ensures.store
+    c.create.ensures.any_exit c.create.ensures.idle c.create.ensures.by_gate c.create.ensures.turned
+    _ c.in_err-entry.ensures.store
     (omega arith)
 
 pub returns-in-Refused-clause-serves : goal.returns-in-Refused-clause-serves
@@ -87,7 +88,8 @@ returns-clause-serves g c =
     c.requires.card.kept.card c.args.current.now
     c.requires.card.kept.current c.args.template.now c.in_ok-fcp.fcp found c.find_new_file.ensures.store.only
     c.in-Created.entry c.in-Created.blocks c.in_ok-entry.field-0 c.in_ok-entry.ensures.done c.in-Created.is
-    c.create.ensures.by_gate _ c.in_ok-entry.ensures.store (omega arith) c.in_ok-entry.ensures.store.ready _
+    c.create.ensures.by_gate c.create.ensures.turned _ c.in_ok-entry.ensures.store (omega arith)
+    c.in_ok-entry.ensures.store.ready _
     c.at_new_file.ensures
 
 pub returns-clause-space : goal.returns-clause-space
@@ -98,7 +100,8 @@ returns-clause-space g c =
     c.requires.card.kept.current
     c.args.template.now c.in_ok-fcp.fcp found c.find_new_file.ensures.store.only c.in-Created.entry
     c.in-Created.blocks c.in_ok-entry.field-0 c.in_ok-entry.ensures.done c.in-Created.is
-    c.create.ensures.by_gate _ c.in_ok-entry.ensures.store (omega arith) c.args.free.now c.requires.card.space
+    c.create.ensures.by_gate c.create.ensures.turned _ c.in_ok-entry.ensures.store (omega arith)
+    c.args.free.now c.requires.card.space
 
 pub returns-clause-index : goal.returns-clause-index
 returns-clause-index g c = c.in_ok-entry.ensures.index

@@ -11,7 +11,8 @@ use Rattle.command_base.specs.Served.{Executes}
 use Rattle.command_base.specs.Working.{card_in, session_in}
 use Rattle.card_model.specs.declared.space.FreeSpace.{FreeSpace}
 use Rattle.command_base.specs.laws.CardLaws.{few_free}
-use Rattle.file_commands.proofs.Deletions.{any-deleting, any-stands, deleted-space, done-current, done-step}
+use Rattle.file_commands.proofs.Deletions.{any-deleting, any-stands, deleted-last, deleted-space, done-current}
+use Rattle.file_commands.proofs.Deletions.{done-step}
 use Rattle.file_commands.proofs.FileSteps.{delete-refused}
 use Rattle.command_base.specs.laws.Readings.{file_kept, index_still}
 use Rattle.command_base.specs.laws.Executes.{compared-none, halted, reads-compared, torn, written}
@@ -42,7 +43,10 @@ returns-in_err-freed-clause-serves g c =
     let spends = c.delete.ensures.store.writes.writes in
     let spent = reads.board.writes in
     let went = went-after request old x new _ mid c.requires.card.kept.card refl (inr stage) reads
-    c.delete.ensures.store.writes c.delete.ensures.by_gate in
+    c.delete.ensures.store.writes c.delete.ensures.by_gate
+    (λ shut more. deleted-last m sized c.requires.card.kept.card x c.args.subject
+    c.in_ok-file.file.number found.below found.used found.place (committed mid) (committed new) same found.unrefused
+    (c.delete.ensures.turned shut (omega (arith, spent, more)))) in
     let compares = compared-none _ mid.facts new.facts c.delete.ensures.store.writes ∙ reads-compared old mid reads in
     subst (λ (r : Result Sw StoreErr). Executes request old x new x [] r)
     (sym (err-is _ _ (reply-failed _ _ c.from_residual-in_err-freed.ensures.1)))
@@ -70,7 +74,10 @@ returns-clause-serves g c =
     let spends = c.delete.ensures.store.writes.writes in
     let spent = reads.board.writes in
     let went = went-after request old x new _ mid c.requires.card.kept.card refl (inr stage) reads
-    c.delete.ensures.store.writes c.delete.ensures.by_gate in
+    c.delete.ensures.store.writes c.delete.ensures.by_gate
+    (λ shut more. deleted-last m sized c.requires.card.kept.card x c.args.subject
+    c.in_ok-file.file.number found.below found.used found.place (committed mid) (committed new) same found.unrefused
+    (c.delete.ensures.turned shut (omega (arith, spent, more)))) in
     let compares = compared-none _ mid.facts new.facts c.delete.ensures.store.writes ∙ reads-compared old mid reads in
     let done = done-step m sized c.requires.card.kept.card x c.args.subject c.in_ok-file.file.number found.below
     found.used

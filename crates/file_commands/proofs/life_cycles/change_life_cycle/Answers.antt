@@ -25,7 +25,8 @@ returns g c = record {
       (change-made old mid new c.requires.card.kept.ready c.requires.card.kept.card x
       c.requires.card.kept.current c.args.change c.args.subject c.in_ok-changed.changed found
       c.find_change.ensures.store.only
-      c.set_life_cycle.ensures.any_exit c.set_life_cycle.ensures.by_gate c.set_life_cycle.ensures.stays
+      c.set_life_cycle.ensures.any_exit c.set_life_cycle.ensures.by_gate c.set_life_cycle.ensures.turned
+      c.set_life_cycle.ensures.stays
       c.set_life_cycle.ensures.store.reports c.set_life_cycle.ensures.store.writes c.in_ok-set_life_cycle.ensures.done
       c.in_ok-set_life_cycle.ensures.store.ready);
   space = let old = c.args.store.now in
@@ -36,7 +37,8 @@ returns g c = record {
       change-space old mid new c.requires.card.kept.ready c.requires.card.kept.card x
       c.requires.card.kept.current c.args.change c.args.subject c.in_ok-changed.changed found
       c.find_change.ensures.store.only
-      c.set_life_cycle.ensures.any_exit c.set_life_cycle.ensures.by_gate c.set_life_cycle.ensures.stays
+      c.set_life_cycle.ensures.any_exit c.set_life_cycle.ensures.by_gate c.set_life_cycle.ensures.turned
+      c.set_life_cycle.ensures.stays
       c.set_life_cycle.ensures.store.reports c.set_life_cycle.ensures.store.writes c.in_ok-set_life_cycle.ensures.done;
 }
 
@@ -61,7 +63,8 @@ returns-in_err-set_life_cycle g c = record {
       change-torn old mid new c.requires.card.kept.ready c.requires.card.kept.card c.args.current.now
       c.requires.card.kept.current
       c.args.change c.args.subject c.in_ok-changed.changed c.in_ok-changed.ensures.told c.find_change.ensures.store.only
-      c.set_life_cycle.ensures.any_exit c.set_life_cycle.ensures.by_gate c.set_life_cycle.ensures.stays
+      c.set_life_cycle.ensures.any_exit c.set_life_cycle.ensures.by_gate c.set_life_cycle.ensures.turned
+      c.set_life_cycle.ensures.stays
       c.set_life_cycle.ensures.store.reports c.set_life_cycle.ensures.store.writes _ _
       (reply-failed _ _ c.from_residual-in_err-set_life_cycle.ensures.1) c.in_err-set_life_cycle.ensures.store.tells;
   space = none-failed _ _ _ c.from_residual-in_err-set_life_cycle.ensures.1;

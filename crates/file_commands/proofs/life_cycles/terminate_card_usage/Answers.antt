@@ -59,7 +59,8 @@ returns-in_err-terminate_card g c =
     Terminate) c.read_entry.ensures.store.only.keeps.committed_words
     ∙ ap (λ (e : ℕ). allowed (card_of m) (session_of (table m) x) (path_of (table m) e) Terminate)
     c.master-number.ensures) both
-    c.terminate_card.ensures.any_exit c.terminate_card.ensures.by_gate c.terminate_card.ensures.store.reports
+    c.terminate_card.ensures.any_exit c.terminate_card.ensures.by_gate c.terminate_card.ensures.turned
+    c.terminate_card.ensures.store.reports
     c.terminate_card.ensures.store.writes _ _ (reply-failed _ _ c.from_residual-in_err-terminate_card.ensures.1)
     c.in_err-terminate_card.ensures.store.tells
 
@@ -78,7 +79,8 @@ returns g c =
     Terminate) c.read_entry.ensures.store.only.keeps.committed_words
     ∙ ap (λ (e : ℕ). allowed (card_of m) (session_of (table m) x) (path_of (table m) e) Terminate)
     c.master-number.ensures) both
-    c.terminate_card.ensures.any_exit c.terminate_card.ensures.by_gate c.terminate_card.ensures.store.reports
+    c.terminate_card.ensures.any_exit c.terminate_card.ensures.by_gate c.terminate_card.ensures.turned
+    c.terminate_card.ensures.store.reports
     c.terminate_card.ensures.store.writes c.in_ok-terminate_card.ensures.done c.in_ok-terminate_card.ensures.store.ready
 
 pub returns-in_err-entry : goal.returns-in_err-entry

@@ -1,4 +1,5 @@
 use Rattle.std.proofs.Common.{◌≡◌, ◌⊎◌, ◌<◌, ◌-◌, Bool, refl, subst, arith}
+use Rattle.undo_journal.specs.Commits.{TurnsTo}
 use Rattle.undo_journal.specs.Memory.{committed}
 use Rattle.card_model.specs.Secrets.{marked_pin}
 use Rattle.pin_store.specs.Trials.{pin_in, EndsByOutcome, SetsByMatch}
@@ -34,6 +35,9 @@ returns-in_err-outcome g c =
     let exit = subst (λ (on : Bool). (committed e ≡ committed b)
     ⊎ SetsByMatch c.in_ok-charged.charged c.args.shown.now (marked_pin on (pin_in b c.in_ok-charged.charged)) b e)
     c.is_enabled_by.ensures c.set_enabled.ensures.any_exit in
+    let settles = subst (λ (on : Bool). TurnsTo (λ after. SetsByMatch c.in_ok-charged.charged c.args.shown.now
+    (marked_pin on (pin_in b c.in_ok-charged.charged)) b e) b e)
+    c.is_enabled_by.ensures c.set_enabled.ensures.by_gate.1 in
     end-torn _ _ (requires_or_not c.args.pin c.value_of-secret.ensures.in_range c.args.change c.args.shown.now) 5
     refl c.args.store.now
     c.args.current.now c.requires.kept.ready c.requires.kept.card c.requires.kept.current
@@ -44,7 +48,7 @@ returns-in_err-outcome g c =
     (is_enabled_by c.args.change) p small) exit
     c.set_enabled.ensures.spends c.set_enabled.ensures.pages c.set_enabled.ensures.store.reports
     c.use_up_try.ensures.takes.shut
-    c.set_enabled.ensures.by_gate _
+    c.set_enabled.ensures.by_gate.0 (λ renews. settles) _
     c.in_err-outcome.field-0.0 (reply-failed _ _ c.from_residual-in_err-outcome.ensures.1)
     c.in_err-outcome.ensures.store.tells
 
@@ -59,6 +63,9 @@ returns g c =
     let exit = subst (λ (on : Bool). (committed e ≡ committed b)
     ⊎ SetsByMatch c.in_ok-charged.charged c.args.shown.now (marked_pin on (pin_in b c.in_ok-charged.charged)) b e)
     c.is_enabled_by.ensures c.set_enabled.ensures.any_exit in
+    let settles = subst (λ (on : Bool). TurnsTo (λ after. SetsByMatch c.in_ok-charged.charged c.args.shown.now
+    (marked_pin on (pin_in b c.in_ok-charged.charged)) b e) b e)
+    c.is_enabled_by.ensures c.set_enabled.ensures.by_gate.1 in
     let ended = subst (λ (on : Bool). EndsByOutcome c.in_ok-charged.charged c.args.shown.now
     (marked_pin on (pin_in b c.in_ok-charged.charged)) b e c.in_ok-outcome.outcome) c.is_enabled_by.ensures
     c.in_ok-outcome.ensures.done in
@@ -72,7 +79,7 @@ returns g c =
     (is_enabled_by c.args.change) p small) exit
     c.set_enabled.ensures.spends c.set_enabled.ensures.pages c.set_enabled.ensures.store.reports
     c.use_up_try.ensures.takes.shut
-    c.set_enabled.ensures.by_gate c.in_ok-outcome.outcome
+    c.set_enabled.ensures.by_gate.0 (λ renews. settles) c.in_ok-outcome.outcome
     ended c.in_ok-outcome.ensures.store.ready c.in_ok-charged.ensures.takes.counted
     c.end_attempt.new.current c.end_attempt.ensures.session
     c.end_attempt.result c.end_attempt.ensures.status

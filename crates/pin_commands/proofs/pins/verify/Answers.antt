@@ -1,4 +1,5 @@
-use Rattle.std.proofs.Common.{Ok, ◌<◌, ◌-◌, ℕ, List, [], Option, option_map, refl, sym, ap, subst, Bor, arith}
+use Rattle.std.proofs.Common.{Ok, ◌≡◌, ◌<◌, ◌-◌, ℕ, true, false, List, [], Option, option_map, refl, sym, ap, subst}
+use Rattle.std.proofs.Common.{Bor, arith}
 use Rattle.pin_store.specs.laws.Tries.{verified_ends}
 use Rattle.card_model.specs.Requests.{verify}
 use Rattle.command_base.specs.Served.{Executes}
@@ -57,7 +58,7 @@ returns-in_err-outcome g c =
     c.use_up_try.ensures.takes.store.writes
     c.use_up_try.ensures.takes.store.reports (λ p. verified_ends (c.args.pin - 1) p small) c.settle.ensures.any_exit
     c.settle.ensures.spends c.settle.ensures.pages c.settle.ensures.store.reports c.use_up_try.ensures.takes.shut
-    c.settle.ensures.by_gate _
+    c.settle.ensures.by_gate (λ renews. let never : false ≡ true = renews in cc) _
     c.in_err-outcome.field-0.0 (reply-failed _ _ c.from_residual-in_err-outcome.ensures.1)
     c.in_err-outcome.ensures.store.tells)
 
@@ -77,7 +78,7 @@ returns g c =
     c.use_up_try.ensures.takes.store.writes
     c.use_up_try.ensures.takes.store.reports (λ p. verified_ends (c.args.pin - 1) p small) c.settle.ensures.any_exit
     c.settle.ensures.spends c.settle.ensures.pages c.settle.ensures.store.reports c.use_up_try.ensures.takes.shut
-    c.settle.ensures.by_gate c.in_ok-outcome.outcome
+    c.settle.ensures.by_gate (λ renews. let never : false ≡ true = renews in cc) c.in_ok-outcome.outcome
     c.in_ok-outcome.ensures.done c.in_ok-outcome.ensures.store.ready c.in_ok-charged.ensures.takes.counted
     c.end_attempt.new.current c.end_attempt.ensures.session
     c.end_attempt.result c.end_attempt.ensures.status)

@@ -1,7 +1,7 @@
 use Rattle.std.proofs.Common.{sym, ◌∙◌, subst, arith}
 use Rattle.undo_journal.specs.Lent.{memory_of}
 use Rattle.undo_journal.specs.Memory.{Memory, IsOpen}
-use Rattle.undo_journal.specs.laws.Endings.{ends, ends_answered, ends_by_gate, ends_counted, ends_done}
+use Rattle.undo_journal.specs.laws.Endings.{ends, ends_answered, ends_by_gate, ends_counted, ends_done, ends_turned}
 use Rattle.card_model.specs.Secrets.{owner}
 use Rattle.pin_store.specs.RenewalParts.{renewal_runs, renewal_sets, renewing_writes, renewed_pin}
 use Rattle.pin_store.specs.Pages.{pin_at, SetsPin}
@@ -21,8 +21,14 @@ returns g c =
           (renewed_pin c.args.renewal (pin_at m (owner c.args.secret))) after) c.set_renewed-work.result c.end.result
           _ _ (memory_of c.set_renewed-work.new.txn) _ _ c.begin-txn.ensures.same last c.requires.ready set.done
           c.end.ensures.answered c.end.ensures.done;
-      by_gate = ends_by_gate _ _ _ _ (memory_of c.set_renewed-work.new.txn) _ _ c.begin-txn.ensures.same last
-          set.store.sets.kept c.end.ensures.any_exit;
+      by_gate = (
+        ends_by_gate _ _ _ _ (memory_of c.set_renewed-work.new.txn) _ _ c.begin-txn.ensures.same last
+            set.store.sets.kept c.end.ensures.any_exit,
+        ends_turned (λ m after. SetsPin m (owner c.args.secret)
+            (renewed_pin c.args.renewal (pin_at m (owner c.args.secret))) after) c.set_renewed-work.result
+            _ _ (memory_of c.set_renewed-work.new.txn) _ _ c.begin-txn.ensures.same last c.requires.ready
+            set.store.sets.rises set.done set.store.tells c.end.ensures.store.reports c.end.ensures.turned,
+      );
       pages = λ pages. renewed_pages _ _ c.args.renewal c.args.secret pages either;
       store = ends_answered (renewal_sets c.args.renewal) (renewal_runs c.args.renewal)
           (renewing_writes c.args.renewal) c.set_renewed-work.result c.end.result _ _

@@ -1,4 +1,4 @@
-use Rattle.std.proofs.Common.{inl}
+use Rattle.std.proofs.Common.{arith, inl}
 use Rattle.pin_store.specs.RenewalParts.{renewing_writes, renewed_pin}
 use Rattle.pin_store.specs.Trials.{pin_in}
 use Rattle.pin_store.proofs.Settled.{pages_stay, compares_more, compares_then, match_told, matched_sets}
@@ -12,7 +12,10 @@ pub returns-in_err-outcome : goal.returns-in_err-outcome
 returns-in_err-outcome g c = record {
   any_exit = inl c.compare.ensures.kept;
   done = none_ok _ _ _ c.from_residual.ensures.1;
-  by_gate = inl c.compare.ensures.kept;
+  by_gate = (
+    inl c.compare.ensures.kept,
+    λ shut more. absurd (omega (arith, c.compare.ensures.writes, more)),
+  );
   pages = pages_stay _ _ c.compare.ensures.kept c.requires.pins.pages;
   store = leaves_handed _ _ _ _ c.from_residual.ensures.1 c.in_err-outcome.ensures.store;
   spends = compares_more (renewing_writes c.args.renewal) _ _ _ c.compare.ensures.spends;
@@ -29,8 +32,16 @@ returns-in_err-put_renewed g c = record {
       c.put_renewed.ensures.store.writes
       c.put_renewed.ensures.any_exit;
   done = none_ok _ _ _ c.from_residual-in_err-put_renewed.ensures.1;
-  by_gate = by_gate_after c.args.store.now c.compare.new.store c.put_renewed.new.store c.compare.ensures.kept
-      c.put_renewed.ensures.by_gate;
+  by_gate = (
+    by_gate_after c.args.store.now c.compare.new.store c.put_renewed.new.store c.compare.ensures.kept
+        c.put_renewed.ensures.by_gate.0,
+    λ shut more. matched_sets (renewing_writes c.args.renewal) c.args.charged c.charged.inside.secret c.args.shown.now
+        (renewed_pin c.args.renewal) _ _ _
+        c.charged.view_is (match_told c.args.charged c.args.shown.now c.args.store.now c.compare.new.store
+        c.in_ok-outcome.outcome c.in-Matched.is c.in_ok-outcome.ensures.done) c.compare.ensures.kept
+        c.put_renewed.ensures.store.writes
+        (c.put_renewed.ensures.by_gate.1 shut (omega (arith, c.compare.ensures.writes, more))),
+  );
   pages = c.put_renewed.ensures.pages (pages_stay _ _ c.compare.ensures.kept c.requires.pins.pages);
   store = leaves_handed _ _ _ _ c.from_residual-in_err-put_renewed.ensures.1
       (leaves_on _ _ _ _ c.compare.ensures.store.reports (changes_leave _ _ _ _ c.in_err-put_renewed.ensures.store));
@@ -57,8 +68,16 @@ returns-in_ok-put_renewed g c = record {
       c.in_ok-outcome.outcome c.in-Matched.is c.in_ok-outcome.ensures.done) c.compare.ensures.kept
       c.put_renewed.ensures.store.writes
       c.in_ok-put_renewed.ensures.done);
-  by_gate = by_gate_after c.args.store.now c.compare.new.store c.put_renewed.new.store c.compare.ensures.kept
-      c.put_renewed.ensures.by_gate;
+  by_gate = (
+    by_gate_after c.args.store.now c.compare.new.store c.put_renewed.new.store c.compare.ensures.kept
+        c.put_renewed.ensures.by_gate.0,
+    λ shut more. matched_sets (renewing_writes c.args.renewal) c.args.charged c.charged.inside.secret c.args.shown.now
+        (renewed_pin c.args.renewal) _ _ _
+        c.charged.view_is (match_told c.args.charged c.args.shown.now c.args.store.now c.compare.new.store
+        c.in_ok-outcome.outcome c.in-Matched.is c.in_ok-outcome.ensures.done) c.compare.ensures.kept
+        c.put_renewed.ensures.store.writes
+        (c.put_renewed.ensures.by_gate.1 shut (omega (arith, c.compare.ensures.writes, more))),
+  );
   pages = c.put_renewed.ensures.pages (pages_stay _ _ c.compare.ensures.kept c.requires.pins.pages);
   store = leaves_on _ _ _ _ c.compare.ensures.store.reports (changes_leave _ _ _ _ c.in_ok-put_renewed.ensures.store);
   spends = compares_then (renewing_writes c.args.renewal) _ _ _ _ c.compare.ensures.spends
@@ -72,7 +91,10 @@ returns-in_default g c = record {
   any_exit = inl c.compare.ensures.kept;
   done = wrong_ends c.args.charged c.args.shown.now _ c.args.store.now c.compare.new.store c.in_ok-outcome.outcome
       c.in_default.not-Matched c.in_ok-outcome.ensures.done;
-  by_gate = inl c.compare.ensures.kept;
+  by_gate = (
+    inl c.compare.ensures.kept,
+    λ shut more. absurd (omega (arith, c.compare.ensures.writes, more)),
+  );
   pages = pages_stay _ _ c.compare.ensures.kept c.requires.pins.pages;
   store = c.in_ok-outcome.ensures.store;
   spends = compares_more (renewing_writes c.args.renewal) _ _ _ c.compare.ensures.spends;

@@ -11,7 +11,7 @@ use Rattle.card_start.specs.Running.{card_found, CommandFails, CommandIsCut, Run
 use Rattle.card_model.specs.Sessions.{Session}
 use Rattle.command_base.specs.CommandWrites.{writes_asked, writes_of}
 use Rattle.card_model.specs.Steps.{ChangesNothing, IsStage}
-use Rattle.command_base.specs.CommitWords.{StandsAsked}
+use Rattle.command_base.specs.CommitWords.{StandsAsked, TurnsAsked}
 use Rattle.command_base.specs.Working.{card_in, table_in}
 use Rattle.card_core.specs.ShownSessions.{session_while}
 use Rattle.command_base.specs.laws.SpendLaws.{few_writes}
@@ -230,3 +230,23 @@ returns-in-Failed-clause-updated g c = λ target offset bytes is. omega arith
 
 pub returns-in-Dark-clause-updated : goal.returns-in-Dark-clause-updated
 returns-in-Dark-clause-updated g c = λ target offset bytes is. omega arith
+
+pub returns-clause-turned : goal.returns-clause-turned
+returns-clause-turned g c = λ works.
+    let new = c.run_command-carried.new.parts.store.facts in
+    let inside = c.self.inside in
+    let session = sym (ap (λ (state : CardState). session_while state (table_in inside.parts.store)
+    inside.parts.current)
+    c.in-Working.is) in
+    subst (λ (r : Running). TurnsAsked (card_found r) r.session (asked c.args.command.now) r.facts new) c.self.view_is
+    (subst (λ (s : Session). TurnsAsked (card_in inside.parts.store) s (asked c.args.command.now)
+    inside.parts.store.facts new) session c.run_command-carried.ensures.carries.turned)
+
+pub returns-in-Failed-clause-turned : goal.returns-in-Failed-clause-turned
+returns-in-Failed-clause-turned g c = λ works.
+    let never : Working ≡ Failed = sym works
+    ∙ (ap (λ (r : Running). r.state) (sym c.self.view_is) ∙ c.in-Failed.is) in cc
+
+pub returns-in-Dark-clause-turned : goal.returns-in-Dark-clause-turned
+returns-in-Dark-clause-turned g c = λ works.
+    let never : Working ≡ Dark = sym works ∙ (ap (λ (r : Running). r.state) (sym c.self.view_is) ∙ c.in-Dark.is) in cc
