@@ -18,7 +18,7 @@ use Rattle.command_base.specs.laws.ShownLaws.{ComparesOrStays}
 use Rattle.bench_turns.specs.declared.turn.Item.TheVariants.{Dark, Mute, Reply}
 use Rattle.bench_turns.specs.BenchStates.{BenchState, off, on, bench_facts}
 use Rattle.bench_turns.specs.CardBlocks.{Powered, BlockChangesNothing, BlockCompares, BlockStands, BlockFails}
-use Rattle.bench_turns.specs.CardBlocks.{BlockIsCut, IsBlockStage, Replies}
+use Rattle.bench_turns.specs.CardBlocks.{BlockIsCut, BlockTurns, IsBlockStage, Replies}
 use Rattle.bench_turns.specs.Guessing.{GuessesFew}
 use Rattle.bench_turns.specs.Plays.{BringsNoFault, Plays, PlaysAll, PlaysBlock}
 use Rattle.bench_turns.specs.Turns.{CountsLosses, GoodTurn, IsTrace, Runs, Spends, Wears, dark_of, darks}
@@ -126,10 +126,11 @@ pub plays_cut : (old new : Powered) (got out : List ℕ) → BlockIsCut old got 
     (comparisons new.card.facts) → new.card.facts.writes ≤ old.card.facts.writes + COMMAND_WRITES
     → Advances old.card.facts new.card.facts
     → (old.card.state ≡ Working → BlockStands old (link_step old.link got).reaction new.card.facts.words)
+    → (old.card.state ≡ Working → BlockTurns old (link_step old.link got).reaction new.card.facts)
     → BlockCompares old (link_step old.link got).reaction new.card.facts
     → (BlockChangesNothing old (link_step old.link got).reaction → KeepsBoard old.card.facts new.card.facts)
     → PlaysBlock (on old) got Dark (off (record new.card.facts { dark = true }))
-plays_cut old new got out cut found stage paid shown writes advances stands compares idle = record {
+plays_cut old new got out cut found stage paid shown writes advances stands turned compares idle = record {
   has_card = λ before. found;
   counts = record {
     cuts = cut.power.cuts;
@@ -147,6 +148,8 @@ plays_cut old new got out cut found stage paid shown writes advances stands comp
     run = cut.run;
     stage = stage;
     word = stands good.well;
+    turned = subst (λ (dark : Bool). BlockTurns old (link_step old.link got).reaction
+        (record new.card.facts { dark = dark })) cut.power.dark (turned good.well);
     compares = subst (λ (dark : Bool). BlockCompares old (link_step old.link got).reaction
         (record new.card.facts { dark = dark })) cut.power.dark compares;
     idle = λ nothing.

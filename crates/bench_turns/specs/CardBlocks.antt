@@ -11,7 +11,7 @@ use Rattle.card_start.specs.declared.state.CardState.TheVariants.{Working, Faile
 use Rattle.card_model.specs.Cards.{Card}
 use Rattle.card_model.specs.Sessions.{Session, fresh_session}
 use Rattle.card_model.specs.Steps.{ChangesNothing, IsStage, Outcome, answer_bytes, carried_out}
-use Rattle.command_base.specs.CommitWords.{StandsAsked}
+use Rattle.command_base.specs.CommitWords.{StandsAsked, TurnsAsked}
 use Rattle.card_start.specs.Running.{Running, card_found, memory_failure}
 
 -- the card and its end of the link
@@ -56,6 +56,12 @@ IsBlockStage old (runs command) card = IsStage (card_found old.card) old.card.se
 abbrev pub BlockStands : Powered → Reaction → List ℕ → Type 0
 BlockStands old (replies block) m = Unit {0}
 BlockStands old (runs command) m = StandsAsked (card_found old.card) old.card.session (asked command) m
+
+-- the card state after recovery, once the gate has turned in that command
+abbrev pub BlockTurns : Powered → Reaction → Facts → Type 0
+BlockTurns old (replies block) new = Unit {0}
+BlockTurns old (runs command) new =
+    TurnsAsked (card_found old.card) old.card.session (asked command) old.card.facts new
 
 -- the reaction runs no command, or one that changes nothing permanent
 abbrev pub BlockChangesNothing : Powered → Reaction → Type 0

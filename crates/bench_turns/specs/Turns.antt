@@ -17,6 +17,7 @@ use Rattle.bench_turns.specs.declared.turn.Item.{Item}
 use Rattle.bench_turns.specs.declared.turn.Item.TheVariants.{Atr, Quiet, Mute, Dark, Reply}
 use Rattle.bench_turns.specs.BenchStates.{BenchState, off, on, bench_card, bench_facts, IsFresh, IsOff, switched_off}
 use Rattle.bench_turns.specs.CardBlocks.{Powered, Replies, IsRun, BlockChangesNothing, BlockCompares, BlockStands}
+use Rattle.bench_turns.specs.CardBlocks.{BlockTurns}
 use Rattle.bench_turns.specs.CardBlocks.{IsBlockStage}
 use Rattle.bench_turns.specs.Guessing.{GuessesFew}
 
@@ -68,13 +69,14 @@ GoesOnWith old got (off facts) out = ⊥
 GoesOnWith old got (on new) out = Replies old got new out
 
 -- Power was lost while a command ran. The card state after recovery is one of its stages, and the words written so far
--- determine which one. Only a PIN command makes a comparison: it costs a try, or it matches and resets the tries. If
--- the command changes nothing permanent, nothing was written.
+-- determine which one; it is the last one once the journal gate has turned. Only a PIN command makes a comparison: it
+-- costs a try, or it matches and resets the tries. If the command changes nothing permanent, nothing was written.
 pub record TurnIsCut (old : Powered) (got : List ℕ) (new : BenchState) : Type 0 where
   pub power : IsOff new
   pub run : IsRun (link_step old.link got).reaction
   pub stage : IsBlockStage old (link_step old.link got).reaction (bench_card new)
   pub word : BlockStands old (link_step old.link got).reaction (bench_facts new).words
+  pub turned : BlockTurns old (link_step old.link got).reaction (bench_facts new)
   pub compares : BlockCompares old (link_step old.link got).reaction (bench_facts new)
   pub idle : BlockChangesNothing old (link_step old.link got).reaction → KeepsBoard old.card.facts (bench_facts new)
 

@@ -15,6 +15,7 @@ use Rattle.card_model.specs.Requests.{Request}
 use Rattle.card_model.specs.Sessions.{Session}
 use Rattle.card_model.specs.Steps.{attempt_of}
 use Rattle.card_start.specs.Running.{card_found}
+use Rattle.command_base.specs.CommitWords.{TurnsAsked}
 use Rattle.command_base.specs.Counting.{CountsAnswered, CountsShown}
 use Rattle.command_base.specs.declared.spending.TheConstants.{COMMAND_WRITES}
 use Rattle.t1_link.specs.CardTable.{Reaction, link_step, replies, runs}
@@ -22,7 +23,8 @@ use Rattle.bench_turns.specs.declared.turn.Turn.{Turn}
 use Rattle.bench_turns.specs.declared.turn.Item.{Item}
 use Rattle.bench_turns.specs.declared.turn.Item.TheVariants.{Atr, Quiet, Mute, Dark, Reply}
 use Rattle.bench_turns.specs.BenchStates.{BenchState, off, on, bench_facts, with_facts, IsArmed}
-use Rattle.bench_turns.specs.CardBlocks.{BlockChangesNothing, BlockCompares, BlockCounts, BlockStands, IsBlockStage}
+use Rattle.bench_turns.specs.CardBlocks.{BlockChangesNothing, BlockCompares, BlockCounts, BlockStands, BlockTurns}
+use Rattle.bench_turns.specs.CardBlocks.{IsBlockStage}
 use Rattle.bench_turns.specs.CardBlocks.{Powered, Replies}
 use Rattle.bench_turns.specs.Guessing.{GuessesFew}
 use Rattle.bench_turns.specs.Plays.{IsGood}
@@ -167,6 +169,17 @@ stands-masked : (mask : ℕ) (old : Powered) (r : Reaction) (m : List ℕ) → B
 stands-masked mask old (replies block) m stands = stands
 stands-masked mask old (runs command) m stands = stands
 
+turned-masked : (mask : ℕ) (c : Card) (s : Session) (wanted : Result Request Sw) (old new : Facts)
+    → TurnsAsked c s wanted old new → TurnsAsked c s wanted (masked mask old) (masked mask new)
+turned-masked mask c s (Ok request) old new turned = turned
+turned-masked mask c s (Err status) old new turned = tt
+
+turns-masked : (mask : ℕ) (old : Powered) (r : Reaction) (new : Facts) → BlockTurns old r new
+    → BlockTurns (powered_masked mask old) r (masked mask new)
+turns-masked mask old (replies block) new turned = tt
+turns-masked mask old (runs command) new turned =
+    turned-masked mask (card_found old.card) old.card.session (asked command) old.card.facts new turned
+
 replies-masked : (mask : ℕ) (old new : Powered) (got out : List ℕ) → Replies old got new out
     → Replies (powered_masked mask old) got (powered_masked mask new) out
 replies-masked mask old new got out r = record {
@@ -194,6 +207,7 @@ cut-masked mask old got (off f) cut = record {
   run = cut.run;
   stage = stage-masked mask old (link_step old.link got).reaction _ cut.stage;
   word = stands-masked mask old (link_step old.link got).reaction _ cut.word;
+  turned = turns-masked mask old (link_step old.link got).reaction f cut.turned;
   compares = compares-masked mask old (link_step old.link got).reaction f cut.compares;
   idle = idle-masked mask old (link_step old.link got).reaction f cut.idle;
 }

@@ -12,7 +12,7 @@ ghost use Rattle.card_start.specs.Starting.{IsNewFound, KeepsFormat, KeepsFoundU
 ghost use Rattle.card_start.specs.Starting.{RenamesLast, RollsBackUnlessOld, TakesAllPages, power_on_writes};
 ghost use Rattle.t1_link.specs.CardTable.{link_step, fresh};
 ghost use Rattle.bench_turns.specs.CardBlocks.{Replies, RepliesFailure, BlockFails, BlockIsCut, IsBlockStage};
-ghost use Rattle.bench_turns.specs.CardBlocks.{IsRun, BlockChangesNothing, BlockCompares, BlockStands};
+ghost use Rattle.bench_turns.specs.CardBlocks.{IsRun, BlockChangesNothing, BlockCompares, BlockStands, BlockTurns};
 
 use card_core::{Answer, Card, FreeSpace};
 use card_start::{CardState, PowerLost, StartFault};
@@ -103,6 +103,8 @@ impl<B: Board> Powered<B> {
         ensures stage { IsBlockStage self.old (link_step self.old.link got.now).reaction (card_found self.new.card) }
         ensures stands { self.old.card.state ≡ CardState.Working
             → BlockStands self.old (link_step self.old.link got.now).reaction self.new.card.facts.words }
+        ensures turned { self.old.card.state ≡ CardState.Working
+            → BlockTurns self.old (link_step self.old.link got.now).reaction self.new.card.facts }
         ensures replies { OnOk result (self.old.card.state ≡ CardState.Working
             → Replies self.old got.now self.new out.new ⊎ BlockFails self.old got.now self.new out.new) }
         ensures lost { OnErr result (self.old.card.state ≢ CardState.Dark

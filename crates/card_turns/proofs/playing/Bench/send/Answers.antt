@@ -22,7 +22,8 @@ returns-in-Err g c =
     c.in-Err.ensures.stage c.in-Err.ensures.compares kept.1 c.in-Err.ensures.has_card)
     (block-compares c.in-On.powered c.block.new.self (link_step c.in-On.powered.link c.args.block.now).reaction
     c.in-Err.ensures.stage c.in-Err.ensures.compares) c.in-Err.ensures.writes
-    c.in-Err.ensures.advances c.in-Err.ensures.stands c.in-Err.ensures.compares c.in-Err.ensures.idle)
+    c.in-Err.ensures.advances c.in-Err.ensures.stands c.in-Err.ensures.turned c.in-Err.ensures.compares
+    c.in-Err.ensures.idle)
 
 pub returns-in-Ok : goal.returns-in-Ok
 returns-in-Ok g c =

@@ -14,7 +14,7 @@ use Rattle.command_base.specs.Comparing.{comparisons, ComparesAsked}
 use Rattle.card_start.specs.Running.{card_found}
 use Rattle.command_base.specs.laws.CompareLaws.{asked-none}
 use Rattle.bench_turns.specs.CardBlocks.{BlockChangesNothing, BlockCompares, BlockStands, BlockFails, IsBlockStage}
-use Rattle.bench_turns.specs.CardBlocks.{BlockIsCut, IsRun}
+use Rattle.bench_turns.specs.CardBlocks.{BlockIsCut, BlockTurns, IsRun}
 use Rattle.bench_turns.specs.CardBlocks.{Powered, Replies}
 use Rattle.bench_turns.proofs.BlockRuns.{cut-at, kept-board, of-reply, of-run, run-replies, silent-replies}
 use Rattle.bench_turns.proofs.CardStates.{on_err, works_if_cut}
@@ -148,6 +148,16 @@ returns-in-Reply-clause-unlit g c = tt
 pub returns-in-Reply-clause-failed : goal.returns-in-Reply-clause-failed
 returns-in-Reply-clause-failed g c = search rules
 
+pub returns-in_ok-command-in-Run-clause-turned : goal.returns-in_ok-command-in-Run-clause-turned
+returns-in_ok-command-in-Run-clause-turned g c =
+    let old : Powered = record { card = c.self.inside.card; link = c.self.inside.link.link } in
+    let waits = ap (λ (e : CardLink). e.waiting) (sym c.take.ensures.state) ∙ c.command.ensures in
+    let facts = c.command-in-Run.new.self.facts in
+    subst (λ (p : Powered). p.card.state ≡ Working → BlockTurns p (link_step p.link c.args.got.now).reaction facts)
+    c.self.view_is
+    (λ works. of-run (λ (r : Reaction). BlockTurns old r facts) (link_step old.link c.args.got.now).reaction
+    c.command.result.now waits (c.command-in-Run.ensures.turned works))
+
 pub returns-in_ok-command-in-Run-clause-stands : goal.returns-in_ok-command-in-Run-clause-stands
 returns-in_ok-command-in-Run-clause-stands g c =
     let old : Powered = record { card = c.self.inside.card; link = c.self.inside.link.link } in
@@ -157,6 +167,16 @@ returns-in_ok-command-in-Run-clause-stands g c =
     c.self.view_is
     (λ works. of-run (λ (r : Reaction). BlockStands old r words) (link_step old.link c.args.got.now).reaction
     c.command.result.now waits (c.command-in-Run.ensures.stands works))
+
+pub returns-in_err-command-in-Run-clause-turned : goal.returns-in_err-command-in-Run-clause-turned
+returns-in_err-command-in-Run-clause-turned g c =
+    let old : Powered = record { card = c.self.inside.card; link = c.self.inside.link.link } in
+    let waits = ap (λ (e : CardLink). e.waiting) (sym c.take.ensures.state) ∙ c.command.ensures in
+    let facts = c.command-in-Run.new.self.facts in
+    subst (λ (p : Powered). p.card.state ≡ Working → BlockTurns p (link_step p.link c.args.got.now).reaction facts)
+    c.self.view_is
+    (λ works. of-run (λ (r : Reaction). BlockTurns old r facts) (link_step old.link c.args.got.now).reaction
+    c.command.result.now waits (c.command-in-Run.ensures.turned works))
 
 pub returns-in_err-command-in-Run-clause-stands : goal.returns-in_err-command-in-Run-clause-stands
 returns-in_err-command-in-Run-clause-stands g c =
@@ -247,6 +267,12 @@ returns-in-Dark-clause-stands g c =
     ap (λ (p : Powered). p.card.state) (sym c.self.view_is) ∙ sym c.state.ensures.state ∙ c.in-Dark.is in
     λ works. let working : c.args.self.now.card.state ≡ Working = works in absurd cc
 
+pub returns-in-Dark-clause-turned : goal.returns-in-Dark-clause-turned
+returns-in-Dark-clause-turned g c =
+    let dark : c.args.self.now.card.state ≡ Dark =
+    ap (λ (p : Powered). p.card.state) (sym c.self.view_is) ∙ sym c.state.ensures.state ∙ c.in-Dark.is in
+    λ works. let working : c.args.self.now.card.state ≡ Working = works in absurd cc
+
 pub returns-in-Dark-clause-lost : goal.returns-in-Dark-clause-lost
 returns-in-Dark-clause-lost g c =
     let dark : c.args.self.now.card.state ≡ Dark =
@@ -276,6 +302,15 @@ returns-in-Reply-clause-stage g c =
     let card = card_found c.self.inside.card in
     subst (λ (p : Powered). IsBlockStage p (link_step p.link c.args.got.now).reaction card) c.self.view_is
     (kept-stage old (link_step old.link c.args.got.now).reaction)
+
+pub returns-in-Reply-clause-turned : goal.returns-in-Reply-clause-turned
+returns-in-Reply-clause-turned g c =
+    let old : Powered = record { card = c.self.inside.card; link = c.self.inside.link.link } in
+    let silent = ap (λ (e : CardLink). e.waiting) (sym c.take.ensures.state) ∙ c.take.ensures.replied c.in-Reply.is in
+    let facts = c.self.inside.card.facts in
+    subst (λ (p : Powered). p.card.state ≡ Working → BlockTurns p (link_step p.link c.args.got.now).reaction facts)
+    c.self.view_is (λ works. of-reply (λ (r : Reaction). BlockTurns old r facts)
+    (link_step old.link c.args.got.now).reaction silent (λ block. tt))
 
 pub returns-in-Reply-clause-stands : goal.returns-in-Reply-clause-stands
 returns-in-Reply-clause-stands g c =
