@@ -1,16 +1,18 @@
 //! Commands that are cut at each of their device writes, with the power-ons after them: the number of runs with each
 //! finding.
 
-ghost use Rattle.std.specs.Prelude.{◌≡◌, None, IfOk};
+ghost use Rattle.std.specs.Prelude.{◌≡◌, ◌≤◌, ◌+◌, length, None, IfOk};
 ghost use Rattle.simulated_boards.specs.Cut.{cut_facts};
 
 use card_bench::{Item, Turn};
-use card_sweeps::{Seen, Sweep, sweep};
+use card_sweeps::{
+    CommandRuns, MadeWrite, Seen, Stop, made_write, mask_count, masked_cut, play_copy, sweep_behind,
+};
 use card_tests::fixtures::formatted;
 use card_turns::Bench;
 use link_tests::fixtures::framed;
 use simulated_boards::CutBoard;
-use std::alloc::{AllocError, Global};
+use std::alloc::Global;
 use std::process::Abort;
 use std::test::Fail;
 
@@ -104,6 +106,9 @@ const RIGHT_AT_LAST: Case = Case {
     probe: TRIES,
 };
 
+/// More writes than any of the commands makes.
+const MOST_WRITES: u32 = 100;
+
 /// Returns a board with the factory image, and no pending cut.
 fn uncut_board(alloc: Global) -> Result<CutBoard, Fail>
     ensures { IfOk result (λ b. (cut_facts b).pending ≡ None) }
@@ -138,16 +143,12 @@ fn turns_of<'a>(alloc: Global, is_on: bool, blocks: &'a [Vec<u8>]) -> Result<Vec
     Ok(turns)
 }
 
-/// Returns the sweep of a command on the factory card.
-fn swept(alloc: Global, case: &Case, depth: u8) -> Result<Result<Sweep, AllocError>, Fail> {
-    let board = uncut_board(alloc)?;
-    let before = blocks_of(alloc, case.prepare)?;
-    let after = blocks_of(alloc, case.probe)?;
-    let control = if before.len() & 1 == 1 { 0x40 } else { 0x00 };
-    let command = framed(alloc, control, case.command)?;
-    let prepare = turns_of(alloc, true, &before)?;
-    let probe = turns_of(alloc, false, &after)?;
-    Ok(sweep::<Bench<CutBoard>>(alloc, &board, &prepare, &command, &probe, depth))
+/// Returns the failure of a test whose sweep stops.
+fn failure(stop: Stop) -> Fail {
+    match stop {
+        Stop::Memory => Fail::from("too little memory"),
+        Stop::Differs => Fail::from("another memory"),
+    }
 }
 
 /// Returns true if the replies to a probe contain these answers.
@@ -164,22 +165,140 @@ fn replies_so(alloc: Global, trace: &[Item], answers: &[&str]) -> Result<bool, F
 
 /// Returns true if a finding is this one.
 fn is_given(alloc: Global, seen: &Seen, given: &Given) -> Result<bool, Fail> {
-    let &(blocks, entries, answers, count) = given;
-    let is_counted = seen.count == count
-        && seen.free.blocks == blocks
-        && seen.free.entries == entries;
-    Ok(is_counted && replies_so(alloc, &seen.trace, answers)?)
+    let &(blocks, entries, answers, _) = given;
+    let is_free = seen.free.blocks == blocks && seen.free.entries == entries;
+    Ok(is_free && replies_so(alloc, &seen.trace, answers)?)
 }
 
-/// Returns true if a sweep has exactly these findings, in this order.
-fn gives(alloc: Global, sweep: &Sweep, given: &[Given]) -> Result<bool, Fail> {
-    for i in 0..sweep.seen.len() {
-        match given.get(i) {
-            Some(given) if is_given(alloc, &sweep.seen[i], given)? => {}
-            _ => return Ok(false),
+/// The runs of a sweep that were counted.
+#[derive(Drop)]
+struct Tally<'a> {
+    alloc: Global,
+    /// The findings, in the order of their first run.
+    given: &'a [Given],
+    /// The number of runs with each finding so far.
+    counts: Vec<u32>,
+}
+
+impl Tally<'_> {
+    /// Counts runs with one finding. Returns false if it is another finding than the next new one or an earlier one.
+    fn count(&mut self, seen: &Seen) -> Result<bool, Fail> {
+        for place in 0..self.given.len() {
+            if is_given(self.alloc, seen, &self.given[place])? {
+                return match self.counts.get_mut(place) {
+                    Some(count) => {
+                        *count = count.saturating_add(seen.count);
+                        Ok(true)
+                    }
+                    None => {
+                        self.counts.push(seen.count)?;
+                        Ok(self.counts.len() == place + 1)
+                    }
+                };
+            }
+        }
+        Ok(false)
+    }
+
+    /// Counts the runs after a cut.
+    fn count_all(&mut self, seen: &[Seen]) -> Result<bool, Fail> {
+        for it in seen {
+            if !self.count(it)? {
+                return Ok(false);
+            }
+        }
+        Ok(true)
+    }
+
+    /// Returns true if exactly the findings were counted, each as often as it says.
+    fn is_whole(&self, runs: u32) -> bool {
+        let mut all: u32 = 0;
+        for place in 0..self.counts.len() {
+            let count = self.counts[place];
+            all = all.saturating_add(count);
+            match self.given.get(place) {
+                Some(given) if given.3 == count => {}
+                _ => return false,
+            }
+        }
+        self.counts.len() == self.given.len() && all == runs
+    }
+}
+
+/// Counts the runs after cuts of one write of the command.
+fn count_write(
+    runs: &CommandRuns<'_, CutBoard>,
+    probe: &[Turn<'_>],
+    depth: u8,
+    write: u32,
+    before: &[u32],
+    made: &MadeWrite<CutBoard>,
+    tally: &mut Tally<'_>,
+) -> Result<bool, Fail>
+    requires write { 1 ≤ write }
+    requires words { made.now.words ≤ 16 }
+    requires inside { made.now.at + made.now.words ≤ length before.now }
+{
+    for i in 0..mask_count(made.words) {
+        let left = match masked_cut::<Bench<CutBoard>>(runs, write, before, made, i) {
+            Ok(left) => left,
+            Err(stop) => return Err(failure(stop)),
+        };
+        let found = match sweep_behind::<Bench<CutBoard>>(runs.alloc, &left, probe, depth) {
+            Ok(found) => found,
+            Err(stop) => return Err(failure(stop)),
+        };
+        if !tally.count_all(&found.seen)? {
+            return Ok(false);
         }
     }
-    Ok(sweep.seen.len() == given.len())
+    Ok(true)
+}
+
+/// Counts the runs after cuts of all writes of the command. Returns false at a finding that is not given.
+fn count_writes(
+    runs: &CommandRuns<'_, CutBoard>,
+    probe: &[Turn<'_>],
+    depth: u8,
+    tally: &mut Tally<'_>,
+) -> Result<bool, Fail> {
+    let (_, mut before) = play_copy::<Bench<CutBoard>>(runs.alloc, runs.board, runs.prepare)?;
+    for writes in 0..MOST_WRITES {
+        let memory = before.words();
+        let made = match made_write::<Bench<CutBoard>>(runs, writes + 1, memory) {
+            Ok(Some(made)) => made,
+            Ok(None) => return Ok(true),
+            Err(stop) => return Err(failure(stop)),
+        };
+        if !count_write(runs, probe, depth, writes + 1, memory, &made, tally)? {
+            return Ok(false);
+        }
+        before = made.after;
+    }
+    Ok(false)
+}
+
+/// Returns true if a sweep of a command on the factory card has this number of runs, and these findings in this order.
+fn gives(alloc: Global, case: &Case, depth: u8, runs: u32, given: &[Given]) -> Result<bool, Fail> {
+    let board = uncut_board(alloc)?;
+    let before = blocks_of(alloc, case.prepare)?;
+    let after = blocks_of(alloc, case.probe)?;
+    let control = if before.len() & 1 == 1 { 0x40 } else { 0x00 };
+    let command = framed(alloc, control, case.command)?;
+    let prepare = turns_of(alloc, true, &before)?;
+    let probe = turns_of(alloc, false, &after)?;
+    let of = CommandRuns {
+        alloc,
+        board: &board,
+        prepare: &prepare,
+        command: &command,
+    };
+    let mut tally = Tally {
+        alloc,
+        given,
+        counts: Vec::new(alloc),
+    };
+    Ok(count_writes(&of, &probe, depth, &mut tally)? && tally.is_whole(runs))
 }
 
 /// Checks the number of runs of a sweep, and its findings.
@@ -190,9 +309,10 @@ fn check<R: Abort + AllocGlobal>(
     runs: u32,
     given: &[Given],
 ) -> Result<(), Fail> {
-    let sweep = swept(rt.alloc(), case, depth)??;
-    assert!(rt; sweep.runs == runs, "{} runs", sweep.runs);
-    assert!(rt; gives(rt.alloc(), &sweep, given)?, "other results");
+    assert!(rt;
+        gives(rt.alloc(), case, depth, runs, given)?,
+        "other runs than {runs}"
+    );
     Ok(())
 }
 

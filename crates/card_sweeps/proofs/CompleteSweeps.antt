@@ -1,14 +1,12 @@
--- All runs of a sweep, put together one behind the other.
-use Rattle.std.specs.Prelude.{◌≡◌, ◌⊎◌, ◌≤◌, ◌<◌, ◌+◌, ◌-◌, ◌/◌, ◌%◌, ◌^◌, ℕ, zero, suc, List, [], ◌∷◌, ◌++◌}
+-- All runs after a cut, put together one behind the other.
+use Rattle.std.specs.Prelude.{◌≡◌, ◌⊎◌, ◌≤◌, ◌<◌, ◌+◌, ◌-◌, ◌^◌, ℕ, zero, suc, List, [], ◌∷◌, ◌++◌}
 use Rattle.std.proofs.Common.{refl, sym, subst, inl, inr, arith}
-use Rattle.std.proofs.lemmas.List.{append-nil}
 use Rattle.nvm_board.specs.Facts.{Facts}
 use Rattle.bench_turns.specs.declared.turn.Turn.{Turn}
 use Rattle.card_sweeps.specs.declared.tally.Seen.{Seen}
-use Rattle.card_sweeps.specs.Masks.{mask_of, mask_count_of, words_tried}
-use Rattle.card_sweeps.specs.Sweeps.{CutsCommand, CutsStart, SparesStart, EndsIn}
-use Rattle.card_sweeps.specs.SweptRuns.{InTurn, IsOneLook, AreBehindCut, AreAllBehind, AreOfMask, IsUnmade}
-use Rattle.card_sweeps.specs.SweptRuns.{AreOfWrite, AreOfUnmadeWrite, AreAllRuns}
+use Rattle.card_sweeps.specs.Masks.{mask_of}
+use Rattle.card_sweeps.specs.Sweeps.{EndsIn, LeavesUncut}
+use Rattle.card_sweeps.specs.SweptRuns.{AreAllBehind, AreBehindWrite, AreBehindWrites, IsOneLook, MakesWrite}
 use Rattle.card_sweeps.specs.Tallies.{Finding, CountsOne, CountsEach, CountsRuns}
 
 -- runs that are counted, and then others
@@ -18,25 +16,6 @@ unfolding CountsEach
 counts-each-on [] ys old between new none rest = subst (λ (l : List Seen). CountsEach ys l new) none rest
 counts-each-on (x ∷ xs) ys old between new some rest =
     (some.0, some.1, counts-each-on xs ys some.0 between new some.2 rest)
-
--- no part yet
-pub counts-none : (Part : ℕ → List Finding → Type 0) (seen : List Seen) → CountsRuns (InTurn Part 0) seen seen
-unfolding InTurn CountsEach
-counts-none Part seen = record { runs = []; are = refl; each = refl }
-
--- a part more
-pub counts-next : (Part : ℕ → List Finding → Type 0) (n : ℕ) (old between new : List Seen)
-    → CountsRuns (InTurn Part n) old between → CountsRuns (Part n) between new
-    → CountsRuns (InTurn Part (n + 1)) old new
-unfolding InTurn
-counts-next Part n old between new some next =
-    let more : CountsRuns (InTurn Part (suc n)) old new = record {
-      runs = some.runs ++ next.runs;
-      are = (some.runs, next.runs, some.are, next.are, refl);
-      each = counts-each-on some.runs next.runs old between new some.each next.each;
-    } in
-    let one : suc n ≡ n + 1 = omega arith in
-    subst (λ (m : ℕ). CountsRuns (InTurn Part m) old new) one more
 
 -- what they are, said otherwise
 pub counts-weaker : (Are Also : List Finding → Type 0) (old new : List Seen)
@@ -68,53 +47,6 @@ unfolding AreAllBehind
 are-behind-none depth probe board all none one =
     let look : AreAllBehind 0 probe board all = one in subst (λ (d : ℕ). AreAllBehind d probe board all) (sym none) look
 
--- the next one makes no write
-pub are-behind-whole : (depth number mask : ℕ) (probe : List Turn) (board : Facts) (all : List Finding)
-    → 0 < depth → number ≡ 1 → mask ≡ 0 → SparesStart number mask board → IsOneLook probe board all
-    → AreAllBehind depth probe board all
-unfolding AreAllBehind
-are-behind-whole depth number mask probe board all more first none whole one =
-    let spares : SparesStart 1 mask board = subst (λ (n : ℕ). SparesStart n mask board) first whole in
-    let look : AreAllBehind (suc (depth - 1)) probe board all =
-    inl (subst (λ (m : ℕ). SparesStart 1 m board) none spares, one) in
-    let same : suc (depth - 1) ≡ depth = omega (arith, more) in
-    subst (λ (d : ℕ). AreAllBehind d probe board all) same look
-
--- the next one is cut
-pub are-behind-cuts : (depth cuts : ℕ) (probe : List Turn) (board : Facts) (all : List Finding) → 0 < depth → 1 ≤ cuts
-    → (SparesStart (cuts / 2 + 1) (cuts % 2) board ⊎ (cuts ≡ 2 ^ 32 - 1))
-    → InTurn (AreBehindCut (AreAllBehind (depth - 1) probe) board) cuts all → AreAllBehind depth probe board all
-unfolding AreAllBehind
-are-behind-cuts depth cuts probe board all more some done each =
-    let swept : AreAllBehind (suc (depth - 1)) probe board all =
-    inr (record { cuts = cuts; some = some; each = each; done = done }) in
-    let same : suc (depth - 1) ≡ depth = omega (arith, more) in
-    subst (λ (d : ℕ). AreAllBehind d probe board all) same swept
-
--- a start is cut once more
-pub counts-cut : (depth i : ℕ) (probe : List Turn) (board left : Facts) (old between new : List Seen)
-    → CountsRuns (InTurn (AreBehindCut (AreAllBehind depth probe) board) i) old between
-    → CutsStart (i / 2 + 1) (i % 2) board left → CountsRuns (AreAllBehind depth probe left) between new
-    → CountsRuns (InTurn (AreBehindCut (AreAllBehind depth probe) board) (i + 1)) old new
-counts-cut depth i probe board left old between new some cut behind =
-    counts-next (AreBehindCut (AreAllBehind depth probe) board) i old between new some
-    (counts-weaker (AreAllBehind depth probe left) (AreBehindCut (AreAllBehind depth probe) board i) between new
-    (λ all these. record { left = left; cut = cut; behind = these }) behind)
-
--- the command is cut at a write by one mask more
-pub counts-mask : {B : Type 0} (facts : B → Facts) (torn : B
-    → ℕ) (depth number words i : ℕ) (board : Facts) (left : B) (prepare : List Turn) (command : List ℕ)
-    (probe : List Turn) (old between new : List Seen) → (i ≡ 0 → words ≡ words_tried (torn left))
-    → CountsRuns (InTurn (AreOfMask facts torn board prepare command probe depth number words) i) old between
-    → CutsCommand number (mask_of words i) board prepare command (facts left)
-    → CountsRuns (AreAllBehind depth probe (facts left)) between new
-    → CountsRuns (InTurn (AreOfMask facts torn board prepare command probe depth number words) (i + 1)) old new
-counts-mask facts torn depth number words i board left prepare command probe old between new told some cut behind =
-    counts-next (AreOfMask facts torn board prepare command probe depth number words) i old between new some
-    (counts-weaker (AreAllBehind depth probe (facts left))
-    (AreOfMask facts torn board prepare command probe depth number
-    words i) between new (λ all these. record { left = left; cut = cut; words_told = told; behind = these }) behind)
-
 -- a mask by what is told of it
 pub mask-is : (words i mask : ℕ) → (i ≡ 0 → mask ≡ 0) → (i ≡ 1 → mask + 1 ≡ 2 ^ words)
     → ((bit : ℕ) → i ≡ bit + 2 → mask ≡ 2 ^ bit) → mask ≡ mask_of words i
@@ -122,101 +54,89 @@ mask-is words zero mask none all single = none refl
 mask-is words (suc zero) mask none all single = omega (arith, all refl)
 mask-is words (suc (suc bit)) mask none all single = single bit (omega arith)
 
--- the next start makes no write, and none was cut
-pub counts-whole : (depth i : ℕ) (Part : ℕ → List Finding → Type 0) (probe : List Turn)
-    (board : Facts) (old between new : List Seen) → 0 < depth → i ≡ 0 → SparesStart (i / 2 + 1) (i % 2) board
-    → CountsRuns (InTurn Part i) old between
+-- no write of a power-on yet
+pub counts-none : (Behind : Facts → List Finding → Type 0) (board : Facts) (seen : List Seen)
+    → CountsRuns (AreBehindWrites Behind board 0 board.words) seen seen
+unfolding AreBehindWrites CountsEach
+counts-none Behind board seen = record { runs = []; are = (refl, refl); each = refl }
+
+-- both cuts of a write of a power-on
+pub counts-cuts : (Old New : Facts → List Finding → Type 0) (number : ℕ) (board : Facts) (before : List ℕ)
+    (left later : Facts) (old between new : List Seen) → MakesWrite number board before left later
+    → CountsRuns (Old left) old between → CountsRuns (New later) between new
+    → CountsRuns (AreBehindWrite Old New board number before later.words) old new
+counts-cuts Old New number board before left later old between new made some more =
+    counts-both (Old left) (New later) (AreBehindWrite Old New board number before later.words) old between new
+    (λ first last one two. record {
+      old = left;
+      new = later;
+      made = made;
+      after_is = refl;
+      first = first;
+      last = last;
+      behind_old = one;
+      behind_new = two;
+      all_are = refl;
+    }) some more
+
+-- a write of a power-on more
+pub counts-write : (Behind : Facts → List Finding → Type 0) (n : ℕ) (board : Facts) (now after : List ℕ)
+    (old between new : List Seen) → CountsRuns (AreBehindWrites Behind board n now) old between
+    → CountsRuns (AreBehindWrite Behind Behind board (n + 1) now after) between new
+    → CountsRuns (AreBehindWrites Behind board (n + 1) after) old new
+unfolding AreBehindWrites
+counts-write Behind n board now after old between new some next =
+    let more : CountsRuns (AreBehindWrites Behind board (suc n) after) old new =
+    counts-both (AreBehindWrites Behind board n now) (AreBehindWrite Behind Behind board (n + 1) now after)
+    (AreBehindWrites Behind board (suc n) after) old between new
+    (λ earlier last writes it. (now, earlier, last, writes, it, refl)) some next in
+    let one : suc n ≡ n + 1 = omega arith in
+    subst (λ (m : ℕ). CountsRuns (AreBehindWrites Behind board m after) old new) one more
+
+-- the next power-on makes no write
+are-behind-whole : (depth : ℕ) (probe : List Turn) (board : Facts) (all : List Finding) → 0 < depth
+    → LeavesUncut 1 0 board board.words → IsOneLook probe board all → AreAllBehind depth probe board all
+unfolding AreAllBehind
+are-behind-whole depth probe board all more whole one =
+    let look : AreAllBehind (suc (depth - 1)) probe board all = inl (whole, one) in
+    let same : suc (depth - 1) ≡ depth = omega (arith, more) in
+    subst (λ (d : ℕ). AreAllBehind d probe board all) same look
+
+-- the next power-on makes no write, and none was cut
+pub counts-whole : (depth writes : ℕ) (Behind : Facts → List Finding → Type 0) (probe : List Turn) (board : Facts)
+    (now : List ℕ) (old between new : List Seen) → 0 < depth → writes ≡ 0 → LeavesUncut (writes + 1) 0 board now
+    → CountsRuns (AreBehindWrites Behind board writes now) old between
     → CountsRuns (IsOneLook probe board) between new → CountsRuns (AreAllBehind depth probe board) old new
-unfolding InTurn
-counts-whole depth i Part probe board old between new more first whole none look =
-    let number : i / 2 + 1 ≡ 1 = omega (arith, first) in
-    let mask : i % 2 ≡ 0 = omega (arith, first) in
-    counts-both (InTurn Part i) (IsOneLook probe board) (AreAllBehind depth probe board) old between new
+unfolding AreBehindWrites
+counts-whole depth writes Behind probe board now old between new more first whole none look =
+    let number : writes + 1 ≡ 1 = omega (arith, first) in
+    let uncut : LeavesUncut 1 0 board now = subst (λ (n : ℕ). LeavesUncut n 0 board now) number whole in
+    counts-both (AreBehindWrites Behind board writes now) (IsOneLook probe board) (AreAllBehind depth probe board) old
+    between new
     (λ before last parts one.
-    let empty : before ≡ [] = subst (λ (n : ℕ). InTurn Part n before) first parts in
-    let all : AreAllBehind depth probe board last = are-behind-whole depth (i / 2 + 1) (i % 2) probe board last more
-    number mask whole one in
-    subst (λ (l : List Finding). AreAllBehind depth probe board (l ++ last)) (sym empty) all)
+    let empty : (now ≡ board.words) × (before ≡ []) =
+    subst (λ (n : ℕ). AreBehindWrites Behind board n now before) first parts in
+    let all : AreAllBehind depth probe board last = are-behind-whole depth probe board last more
+    (subst (λ (m : List ℕ). LeavesUncut 1 0 board m) empty.0 uncut) one in
+    subst (λ (l : List Finding). AreAllBehind depth probe board (l ++ last)) (sym empty.1) all)
     none look
 
--- the next start was cut at each of its writes
-pub counts-swept : (depth i : ℕ) (probe : List Turn) (board : Facts) (old new : List Seen) → 0 < depth → 1 ≤ i
-    → (SparesStart (i / 2 + 1) (i % 2) board ⊎ (i ≡ 2 ^ 32 - 1))
-    → CountsRuns (InTurn (AreBehindCut (AreAllBehind (depth - 1) probe) board) i) old new
+-- the next power-on was cut at each of its writes
+are-behind-cuts : (depth writes : ℕ) (probe : List Turn) (board : Facts) (now : List ℕ) (all : List Finding)
+    → 0 < depth → 1 ≤ writes → LeavesUncut (writes + 1) 0 board now ⊎ (writes ≡ 2 ^ 32 - 1)
+    → AreBehindWrites (AreAllBehind (depth - 1) probe) board writes now all → AreAllBehind depth probe board all
+unfolding AreAllBehind
+are-behind-cuts depth writes probe board now all more some done each =
+    let swept : AreAllBehind (suc (depth - 1)) probe board all =
+    inr (record { writes = writes; some = some; now = now; each = each; done = done }) in
+    let same : suc (depth - 1) ≡ depth = omega (arith, more) in
+    subst (λ (d : ℕ). AreAllBehind d probe board all) same swept
+
+-- the same, counted
+pub counts-swept : (depth writes : ℕ) (probe : List Turn) (board : Facts) (now : List ℕ) (old new : List Seen)
+    → 0 < depth → 1 ≤ writes → LeavesUncut (writes + 1) 0 board now ⊎ (writes ≡ 2 ^ 32 - 1)
+    → CountsRuns (AreBehindWrites (AreAllBehind (depth - 1) probe) board writes now) old new
     → CountsRuns (AreAllBehind depth probe board) old new
-counts-swept depth i probe board old new more some done each =
-    counts-weaker (InTurn (AreBehindCut (AreAllBehind (depth - 1) probe) board) i) (AreAllBehind depth probe board) old
-    new (λ all parts. are-behind-cuts depth i probe board all more some done parts) each
-
--- the command is cut at a write by each mask
-pub counts-write : {B : Type 0} (facts : B → Facts) (torn : B
-    → ℕ) (depth number words i : ℕ) (board : Facts) (prepare : List Turn) (command : List ℕ)
-    (probe : List Turn) (old new : List Seen) → 1 ≤ words → words ≤ 16 → i ≡ mask_count_of words
-    → CountsRuns (InTurn (AreOfMask facts torn board prepare command probe depth number words) i) old new
-    → CountsRuns (AreOfWrite facts torn board prepare command probe depth number) old new
-counts-write facts torn depth number words i board prepare command probe old new some fit end each =
-    counts-weaker (InTurn (AreOfMask facts torn board prepare command probe depth number words) i)
-    (AreOfWrite facts torn board prepare command probe depth number) old new
-    (λ all parts. record {
-      words = words;
-      some = some;
-      fit = fit;
-      each = subst (λ (n : ℕ). InTurn
-          (AreOfMask facts torn board prepare command probe depth number words) n all) end parts;
-    })
-    each
-
--- the command doesn't make this write
-pub counts-last : {B : Type 0} (facts : B → Facts) (torn : B
-    → ℕ) (depth number words i : ℕ) (board : Facts) (prepare : List Turn) (command : List ℕ)
-    (probe : List Turn) (old new : List Seen) → i < mask_count_of words
-    → CountsRuns (InTurn (AreOfMask facts torn board prepare command probe depth number words) i) old new
-    → IsUnmade number board prepare command
-    → CountsRuns (AreOfUnmadeWrite facts torn board prepare command probe depth number) old new
-counts-last facts torn depth number words i board prepare command probe old new few each unmade =
-    counts-weaker (InTurn (AreOfMask facts torn board prepare command probe depth number words) i)
-    (AreOfUnmadeWrite facts torn board prepare command probe depth number) old new
-    (λ all parts. record { words = words; masks = i; few = few; each = parts; unmade = unmade }) each
-
--- all writes of the command, and the one that it doesn't make
-pub counts-command : {B : Type 0} (facts : B → Facts) (torn : B
-    → ℕ) (depth writes : ℕ) (board : Facts) (prepare : List Turn) (command : List ℕ) (probe : List Turn)
-    (old between new : List Seen) → CountsRuns (InTurn (λ n. AreOfWrite facts torn board prepare command probe depth
-    (n + 1)) writes)
-    old between → CountsRuns (AreOfUnmadeWrite facts torn board prepare command probe depth (writes + 1)) between new
-    → CountsRuns (AreAllRuns facts torn board prepare command probe depth) old new
-counts-command facts torn depth writes board prepare command probe old between new each last =
-    counts-both (InTurn (λ n. AreOfWrite facts torn board prepare command probe depth (n + 1)) writes)
-    (AreOfUnmadeWrite facts torn board prepare command probe depth (writes + 1))
-    (AreAllRuns facts torn board prepare command probe depth) old
-    between new (λ before end parts one. record {
-      writes = writes;
-      before = before;
-      last = end;
-      each = parts;
-      done = inl one;
-      all_are = refl;
-    }) each last
-
--- and where all numbers are used up
-pub counts-command-full : {B : Type 0} (facts : B → Facts) (torn : B
-    → ℕ) (depth writes : ℕ) (board : Facts) (prepare : List Turn) (command : List ℕ)
-    (probe : List Turn) (old new : List Seen) → writes ≡ 2 ^ 32 - 1
-    → CountsRuns (InTurn (λ n. AreOfWrite facts torn board prepare command probe depth (n + 1)) writes) old new
-    → CountsRuns (AreAllRuns facts torn board prepare command probe depth) old new
-counts-command-full facts torn depth writes board prepare command probe old new full each =
-    counts-weaker (InTurn (λ n. AreOfWrite facts torn board prepare command probe depth (n + 1)) writes)
-    (AreAllRuns facts torn board prepare command probe depth) old new
-    (λ all parts. record {
-      writes = writes;
-      before = all;
-      last = [];
-      each = parts;
-      done = inr (full, refl);
-      all_are = sym (append-nil all);
-    })
-    each
-
--- each write is tried by some mask
-pub masks-some : (words : ℕ) → 1 ≤ mask_count_of words
-masks-some words = grind arith
+counts-swept depth writes probe board now old new more some done each =
+    counts-weaker (AreBehindWrites (AreAllBehind (depth - 1) probe) board writes now) (AreAllBehind depth probe board)
+    old new (λ all parts. are-behind-cuts depth writes probe board now all more some done parts) each

@@ -9,3 +9,4 @@ pub mod Turned
 mod ReadSo
 pub mod Stopped
 mod SweepWords
+pub mod NewWords

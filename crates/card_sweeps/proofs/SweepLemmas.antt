@@ -1,6 +1,6 @@
 -- Runs put together.
-use Rattle.std.specs.Prelude.{◌≡◌, ◌≢◌, ◌⊎◌, ◌-◌, ◌<◌, ℕ, suc, refl, List, Bool, true, false, Option, None, Some}
-use Rattle.std.specs.Prelude.{IfNone, is_some}
+use Rattle.std.specs.Prelude.{◌≡◌, ◌≢◌, ◌⊎◌, ◌-◌, ◌<◌, ℕ, suc, refl, List, Bool, true, false, Option, None}
+use Rattle.std.specs.Prelude.{is_some}
 use Rattle.std.proofs.Common.{ap, arith, inl, inr, sym, subst}
 use Rattle.std.proofs.Math.Logic.{⊎_map}
 use Rattle.core.specs.Borrow.{Bor}
@@ -21,8 +21,8 @@ use Rattle.bench_turns.specs.Turns.{GoodTurn, Runs}
 use Rattle.card_sweeps.specs.SweptRuns.{SparesCommand}
 use Rattle.card_sweeps.specs.Tallies.{Finding}
 use Rattle.bench_turns.proofs.TurnsTold.{good-block, tells-then}
-use Rattle.card_sweeps.specs.Sweeps.{CutsStart, CutsStarts, SparesStart, EndsIn, EndsBehindStarts, CutsCommand}
-use Rattle.card_sweeps.specs.Sweeps.{GivenByRun, PlaysOn, off_with, free_of}
+use Rattle.card_sweeps.specs.Sweeps.{CutsStart, CutsStarts, LeavesUncut, SparesStart, EndsIn, EndsBehindStarts}
+use Rattle.card_sweeps.specs.Sweeps.{CutsCommand, PlaysOn, off_with, free_of}
 
 -- no start is to be cut
 pub behind_none : (depth : ℕ) (board : Facts) (probe : List Turn) (given : Finding) → depth ≡ 0
@@ -32,19 +32,18 @@ behind_none depth board probe given none end =
     record { starts = 0; few = omega arith; left = board; cut = refl; done = inl (omega (arith, none)); end = end }
 
 -- the next one makes no write
-pub behind_whole : (depth number mask : ℕ) (board : Facts) (probe : List Turn) (given : Finding) → number ≡ 1 → mask ≡ 0
-    → SparesStart number mask board → EndsIn board probe given → EndsBehindStarts depth board probe given
+pub behind_whole : (depth number : ℕ) (board : Facts) (memory : List ℕ) (probe : List Turn) (given : Finding)
+    → number ≡ 1 → LeavesUncut number 0 board memory → EndsIn board probe given
+    → EndsBehindStarts depth board probe given
 unfolding CutsStarts
-behind_whole depth number mask board probe given first none whole end =
-    let spares : SparesStart 1 mask board = subst (λ (n : ℕ). SparesStart n mask board) first whole in
-    record {
-      starts = 0;
-      few = omega arith;
-      left = board;
-      cut = refl;
-      done = inr (subst (λ (m : ℕ). SparesStart 1 m board) none spares);
-      end = end;
-    }
+behind_whole depth number board memory probe given first whole end = record {
+  starts = 0;
+  few = omega arith;
+  left = board;
+  cut = refl;
+  done = inr (subst (λ (n : ℕ). SparesStart n 0 board) first whole.0);
+  end = end;
+}
 
 -- the next one is cut
 pub behind_more : (depth number mask : ℕ) (board between : Facts) (probe : List Turn) (given : Finding) → 0 < depth
@@ -130,20 +129,23 @@ module _ (board left : Facts) (first armed last : BenchState) (told : TurnResult
   -- the start makes fewer writes
   pub spares-start : (IsGood first → IsGood armed) → IsArmed number mask first armed
       → (IsGood armed → IsGood last × TellsItem told reply (λ i. GoodTurn armed turn.On i last))
-      → SparesStart number mask board
+      → LeavesUncut number mask board left.words
   spares-start arms arm plays =
       spares-so told reply (λ i. GoodTurn armed turn.On i last) (is_some (bench_facts last).pending ≡ true)
-      (SparesStart number mask board) dark lit spared-so
-      (λ i spares start. record {
-        item = i;
-        armed = armed;
-        last = last;
-        arm = subst (λ (b : BenchState). IsArmed number mask b armed) is arm;
-        good = arms first-good;
-        good_left = (plays (arms first-good)).0;
-        start = start;
-        spared = spares;
-      }) (plays (arms first-good)).1
+      (LeavesUncut number mask board left.words) dark lit spared-so
+      (λ i spares start. (
+        record {
+          item = i;
+          armed = armed;
+          last = last;
+          arm = subst (λ (b : BenchState). IsArmed number mask b armed) is arm;
+          good = arms first-good;
+          good_left = (plays (arms first-good)).0;
+          start = start;
+          spared = spares;
+        },
+        ap (λ (f : Facts). f.words) left_is,
+      )) (plays (arms first-good)).1
 
   -- the command makes fewer writes
   pub spares-command : (prepare : List Turn) (trace : List Item) (prepared : BenchState) (command : Bor (List ℕ))
@@ -226,16 +228,3 @@ module _ (board left : Facts) (first armed last : BenchState) (told : TurnResult
         fired = fired;
         has_card = left-card played.0;
       }
-
--- where there is none, one fact follows from the other
-pub if-none : {T : Type 0} (o : Option T) (A B : Type 0) → (A → B) → IfNone o A → IfNone o B
-if-none None A B then holds = then holds
-if-none (Some x) A B then holds = tt
-
--- a run put together
-pub given-by-run : (depth number mask : ℕ) (board left : Facts) (prepare : List Turn)
-    (command : List ℕ) (probe : List Turn) (given : Finding) → CutsCommand number mask board prepare command left
-    → EndsBehindStarts depth left probe given
-    → GivenByRun board prepare command probe depth given
-given-by-run depth number mask board left prepare command probe given cut rest =
-    record { number = number; mask = mask; left = left; cut = cut; rest = rest }

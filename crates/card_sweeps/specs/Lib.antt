@@ -4,6 +4,8 @@ pub mod Sweeps
 pub mod SweptRuns
 pub mod Tallies
 pub mod PlanParts
+pub mod WrittenRuns
+pub mod CommandCuts
 pub mod Turning
 pub mod Framing
 pub mod Asking

@@ -76,6 +76,10 @@ pub record SparesStart (number mask : ℕ) (board : Facts) : Type 0 where
   pub start : GoodTurn armed turn.On item last
   pub spared : (item ≢ Dark) ⊎ (is_some (bench_facts last).pending ≡ true)
 
+-- Power-on makes fewer writes, and leaves this memory.
+abbrev pub LeavesUncut : ℕ → ℕ → Facts → List ℕ → Type 0
+LeavesUncut number mask board memory = (s : SparesStart number mask board) × (memory ≡ (bench_facts s.last).words)
+
 -- `n` power-ons are cut in order, each at some write
 unfoldable pub CutsStarts : ℕ → Facts → Facts → Type 0
 CutsStarts zero board left = left ≡ board

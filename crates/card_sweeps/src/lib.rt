@@ -1,6 +1,7 @@
 //! Sweeps: what their command line and script ask for, and what a sweep tries and counts.
 #![tactic(auto)]
 
+mod command_cuts;
 mod cut_masks;
 mod fault;
 mod frames;
@@ -9,16 +10,21 @@ mod options;
 mod parts;
 mod script;
 mod steps;
+mod stop;
 mod sweepable;
 mod sweeping;
 mod tally;
+mod written_runs;
 
+pub use command_cuts::{CommandRuns, MadeWrite, made_write, masked_cut};
 pub use cut_masks::{mask_at, mask_count, words_to_try};
 pub use fault::{LineError, SweepFault};
 pub use options::{Options, read_words};
 pub use parts::SweepPart;
 pub use script::{SweepScript, read_script};
 pub use steps::{OwnBlock, Step, turns_of};
+pub use stop::Stop;
 pub use sweepable::Sweepable;
-pub use sweeping::{cut_at, play_copy, sweep, sweep_behind};
+pub use sweeping::{play_copy, sweep_behind};
 pub use tally::{Seen, Sweep, Trace};
+pub use written_runs::{first_change, is_same};

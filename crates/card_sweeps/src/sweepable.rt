@@ -1,4 +1,4 @@
-//! Boards whose writes a sweep cuts.
+//! Boards whose writes a sweep cuts, and whose memories it compares.
 ghost use Rattle.std.specs.Prelude.{◌≡◌, ◌≤◌, ℕ, is_some, IfOk};
 ghost use Rattle.nvm_board.specs.declared.board.TheConstants.{PAGE_WORDS};
 
@@ -26,6 +26,10 @@ pub trait Sweepable: Armed + Faultless {
     fn torn_words(&self) -> u8
         ensures last { result ≡ torn self.now }
         ensures fits { result ≤ PAGE_WORDS };
+
+    /// Returns the words, with power on or off.
+    fn words(&self) -> &[u32]
+        ensures { result.now ≡ (Self.facts self.now).words };
 }
 
 impl Sweepable for CutBoard {
@@ -43,5 +47,9 @@ impl Sweepable for CutBoard {
 
     fn torn_words(&self) -> u8 {
         CutBoard::torn_words(self)
+    }
+
+    fn words(&self) -> &[u32] {
+        CutBoard::words(self)
     }
 }

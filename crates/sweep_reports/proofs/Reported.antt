@@ -4,6 +4,7 @@ use Rattle.std.proofs.Common.{refl, sym, ◌∙◌, ap, subst, arith, append-nil
 use Rattle.nvm_board.specs.Facts.{Facts}
 use Rattle.bench_turns.specs.declared.turn.Item.{Item}
 use Rattle.bench_turns.specs.declared.turn.Turn.{Turn}
+use Rattle.card_sweeps.specs.CommandCuts.{IsMade}
 use Rattle.card_sweeps.specs.Masks.{mask_count_of, mask_of}
 use Rattle.card_sweeps.specs.Sweeps.{CutsCommand}
 use Rattle.card_sweeps.specs.PartTexts.{IsOfPart}
@@ -12,9 +13,9 @@ use Rattle.sweep_reports.specs.DeviceWrites.{IsWriteKind, kinds_text, write_text
 use Rattle.sweep_reports.specs.ReportParts.{AddsText, AreRest}
 use Rattle.sweep_reports.specs.Printing.{cut_head, last_item, look_text, looks_text, total_text}
 use Rattle.sweep_reports.specs.Reporting.{AreResults, AreWrites, HasSections, IsCutOrNone, IsFound, IsWrite, Sweeping}
-use Rattle.sweep_reports.specs.Reporting.{IsMade, LacksWrite, TextsInTurn, WritesInTurn}
+use Rattle.sweep_reports.specs.Reporting.{LacksWrite, TextsInTurn, WritesInTurn}
 use Rattle.sweep_reports.specs.declared.device_writes.WriteKind.{WriteKind}
-use Rattle.sweep_reports.specs.WrittenRuns.{IsMasked, WrittenRun}
+use Rattle.card_sweeps.specs.WrittenRuns.{IsMasked, WrittenRun}
 use Rattle.sweep_reports.proofs.Put.{five-parts, puts-both, three-parts}
 
 -- the same results, whose lines begin with a head that is said otherwise
@@ -37,7 +38,7 @@ none-put sweeping write run i old other = record {
 pub cut-put : {B : Type 0} {facts : B → Facts} {torn : B → ℕ} (sweeping : Sweeping facts torn)
     (write : ℕ) (run : WrittenRun) (i mask : ℕ) (left : Facts) (old new : List ℕ)
     → mask ≡ mask_of run.words i → IsOfPart sweeping.part write i → IsMasked run i left.words
-    → CutsCommand write mask sweeping.board sweeping.prepare sweeping.command left
+    → CutsCommand write (mask_of run.words i) sweeping.board sweeping.prepare sweeping.command left
     → AddsText (AreResults sweeping.looks (cut_head write i mask) sweeping.depth sweeping.probe left) old new
     → AddsText (IsCutOrNone sweeping write run i) old new
 cut-put sweeping write run i mask left old new same own masked cut results = record {
@@ -45,7 +46,7 @@ cut-put sweeping write run i mask left old new same own masked cut results = rec
   holds = record {
     own = λ _. record {
       left = left;
-      cut = subst (λ (m : ℕ). CutsCommand write m sweeping.board sweeping.prepare sweeping.command left) same cut;
+      cut = cut;
       masked = masked;
       results = subst
           (λ (m : ℕ). AreResults sweeping.looks (cut_head write i m) sweeping.depth sweeping.probe left results.more)
@@ -57,25 +58,19 @@ cut-put sweeping write run i mask left old new same own masked cut results = rec
   all = results.all;
 }
 
--- what a cut leaves, said of the same memories
-pub masked-same : (at words i : ℕ) (before new left after now : List ℕ) → new ≡ after → left ≡ now
-    → IsMasked (record { at = at; words = words; before = before; after = new }) i left
-    → IsMasked (record { at = at; words = words; before = before; after = after }) i now
-masked-same at words i before new left after now one two is =
-    subst (λ (m : List ℕ). IsMasked (record { at = at; words = words; before = before; after = m }) i now) one
-    (subst (λ (m : List ℕ). IsMasked (record { at = at; words = words; before = before; after = new }) i m) two is)
-
 -- a device write, its kind, and its cuts
 pub write-put : {B : Type 0} {facts : B → Facts} {torn : B → ℕ} (sweeping : Sweeping facts torn) (write at words : ℕ)
     (kind : WriteKind) (before after given first next old new : List ℕ)
     → given ≡ before → first ≡ before → next ≡ after
-    → IsMade sweeping write (record { at = at; words = words; before = given; after = after })
+    → IsMade facts torn sweeping.board sweeping.prepare sweeping.command write
+    (record { at = at; words = words; before = given; after = after })
     → IsWriteKind words first next kind
     → AddsText (TextsInTurn
     (IsCutOrNone sweeping write (record { at = at; words = words; before = given; after = after }))
     (mask_count_of words)) old new
     → AddsText (IsWrite sweeping write before after (record { words = words; kind = kind })) old new
-write-put sweeping write at words kind before after given first next old new same one two made is_kind texts =
+write-put {B} {facts} {torn} sweeping write at words kind before after given first next old new same one two made
+    is_kind texts =
     let kind_is : IsWriteKind words before after kind =
     subst (λ (m : List ℕ). IsWriteKind words m after kind) one
     (subst (λ (m : List ℕ). IsWriteKind words first m kind) two is_kind) in
@@ -84,7 +79,8 @@ write-put sweeping write at words kind before after given first next old new sam
       holds = record {
         at = at;
         made = subst
-            (λ (m : List ℕ). IsMade sweeping write (record { at = at; words = words; before = m; after = after }))
+            (λ (m : List ℕ). IsMade facts torn sweeping.board sweeping.prepare sweeping.command write
+            (record { at = at; words = words; before = m; after = after }))
             same made;
         each = subst
             (λ (m : List ℕ). TextsInTurn
@@ -143,8 +139,8 @@ pub sections-put : {B : Type 0} {facts : B → Facts} {torn : B → ℕ} (sweepi
     → last ≡ ended.words → none ≡ [] → shown ≡ all → given ≡ cuts
     → AddsText (AreWrites sweeping prepared.words last all) none cuts
     → AddsText (AreRest sweeping shown given) two new → AddsText (HasSections sweeping whole) old new
-sections-put sweeping whole prepared ended all shown last none cuts given old one two new before after ends empty are_all
-    is_given writes shown_rest = let rest : AddsText (AreRest sweeping all cuts) two new =
+sections-put sweeping whole prepared ended all shown last none cuts given old one two new before after ends empty
+    are_all is_given writes shown_rest = let rest : AddsText (AreRest sweeping all cuts) two new =
     subst (λ (l : List ℕ). AddsText (AreRest sweeping all l) two new) is_given
     (subst (λ (l : List DeviceWrite). AddsText (AreRest sweeping l given) two new) are_all shown_rest) in record {
       more = before.more ++ after.more ++ rest.holds.kinds ++ writes.more ++ total_text (length all) sweeping.depth;

@@ -1,18 +1,12 @@
 -- What a device write of a command does to the memory.
-use Rattle.std.specs.Prelude.{◌≡◌, ◌≢◌, ◌<◌, ◌+◌, ◌++◌, ◌∷◌, [], ℕ, List, Option, Some, None, codes, decimal}
-use Rattle.std.specs.Prelude.{length, nat_eq, nat_lt, slice_index, if◌then◌else◌}
+use Rattle.std.specs.Prelude.{◌≡◌, ◌≢◌, ◌+◌, ◌++◌, ◌∷◌, [], ℕ, List, Option, Some, None, codes, decimal}
+use Rattle.std.specs.Prelude.{nat_eq, nat_lt, if◌then◌else◌}
 use Rattle.undo_journal.specs.Undo.{gate, in_journal}
+use Rattle.card_sweeps.specs.WrittenRuns.{IsFirstChange}
 use Rattle.sweep_reports.specs.declared.device_writes.DeviceWrite.{DeviceWrite}
 use Rattle.sweep_reports.specs.declared.device_writes.WriteKind.{WriteKind}
 use Rattle.sweep_reports.specs.declared.device_writes.WriteKind.TheVariants.{Gate, Commit, Pairs, Words, Alone, Fill}
 use Rattle.sweep_reports.specs.declared.device_writes.WriteKind.TheVariants.{Same}
-
--- The lowest address at which two memories differ, if there is one.
-abbrev pub IsFirstChange : List ℕ → List ℕ → Option ℕ → Type 0
-IsFirstChange before after None =
-    (a : ℕ) → a < length before → a < length after → slice_index before a ≡ slice_index after a
-IsFirstChange before after (Some at) = (slice_index before at ≢ slice_index after at)
-    × ((a : ℕ) → a < at → slice_index before a ≡ slice_index after a)
 
 -- The kind of a write of this many words that doesn't change the gate, by the lowest address that it changes. A device
 -- write lies within one page, so all that it changes lies in the journal, or all in data words.

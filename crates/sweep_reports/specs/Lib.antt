@@ -3,4 +3,3 @@ pub mod DeviceWrites
 pub mod Reporting
 pub mod ReportEndings
 pub mod ReportParts
-pub mod WrittenRuns

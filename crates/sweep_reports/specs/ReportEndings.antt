@@ -8,8 +8,6 @@ use Rattle.card_sweeps.specs.declared.parts.SweepPart.{SweepPart}
 use Rattle.card_sweeps.specs.declared.script.SweepScript.{SweepScript}
 use Rattle.card_sweeps.specs.Asking.{IsRead, asked_of}
 use Rattle.card_sweeps.specs.SweepEndings.{StopsAtLine, StopsInLine}
-use Rattle.sweep_reports.specs.declared.stop.Stop.{Stop}
-use Rattle.sweep_reports.specs.declared.stop.Stop.TheVariants as stop
 use Rattle.sweep_reports.specs.Reporting.{IsReport}
 
 -- A script was read to its end, and the first bytes of the report of a sweep of it were written.
@@ -26,11 +24,6 @@ pub record WritesInto {B : Type 0} (facts : B → Facts) (torn : B → ℕ) (boa
 -- A script was read to its end.
 abbrev pub ReadsScript : Option (List ℕ) → Option (List ℕ) → Type 0
 ReadsScript script left = (asked : SweepScript) × IsRead script left (asked_of asked)
-
--- The fault that reports why a report is not made.
-abbrev pub fault_of : Stop → SweepFault
-fault_of stop.Memory = Memory
-fault_of stop.Differs = Differs
 
 -- The end of the program's work by its fault: that of the reading, or a writer that fails within the report. Runs that
 -- differ are seen only after the whole script was read.

@@ -2,18 +2,16 @@
 use Rattle.std.specs.Prelude.{◌≡◌, ℕ, List, ◌++◌, length}
 use Rattle.nvm_board.specs.Facts.{Facts}
 use Rattle.sweep_reports.specs.declared.plan.Plan.{Plan}
-use Rattle.sweep_reports.specs.declared.made_write.MadeWrite.{MadeWrite}
 use Rattle.sweep_reports.specs.Reporting.{AreKindsOrNone, Sweeping}
 use Rattle.sweep_reports.specs.Printing.{total_text}
 use Rattle.sweep_reports.specs.declared.device_writes.DeviceWrite.{DeviceWrite}
-use Rattle.sweep_reports.specs.WrittenRuns.{WrittenRun}
 
 -- the sweep of a plan
 abbrev pub sweeping_of : {B : Type 0} (facts : B → Facts) (torn : B → ℕ) → Plan B → Sweeping facts torn
 sweeping_of facts torn plan = record {
-  board = facts plan.board.now;
-  prepare = plan.prepare.now;
-  command = plan.command.now;
+  board = facts plan.runs.board.now;
+  prepare = plan.runs.prepare.now;
+  command = plan.runs.command.now;
   probe = plan.probe.now;
   looks = plan.looks.now;
   depth = plan.depth;
@@ -25,15 +23,6 @@ pub record AddsText (Is : List ℕ → Type 0) (old new : List ℕ) : Type 0 whe
   pub more : List ℕ
   pub holds : Is more
   pub all : new ≡ old ++ more
-
--- the device write of a cut command, from the memory before it
-abbrev pub made_run : {B : Type 0} (facts : B → Facts) → List ℕ → MadeWrite B → WrittenRun
-made_run facts before made = record {
-  at = made.at;
-  words = made.words;
-  before = before;
-  after = (facts made.after).words;
-}
 
 -- the end of the report: the kinds of the device writes, the text of the cuts, and the number of writes
 pub record AreRest {B : Type 0} {facts : B → Facts} {torn : B → ℕ} (sweeping : Sweeping facts torn)

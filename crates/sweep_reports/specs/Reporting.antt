@@ -6,7 +6,8 @@ use Rattle.nvm_board.specs.Facts.{Facts}
 use Rattle.bench_turns.specs.declared.turn.Turn.{Turn}
 use Rattle.bench_turns.specs.declared.turn.Item.{Item}
 use Rattle.card_sweeps.specs.declared.tally.Seen.{Seen}
-use Rattle.card_sweeps.specs.Masks.{mask_of, mask_count_of, words_tried}
+use Rattle.card_sweeps.specs.CommandCuts.{IsMade}
+use Rattle.card_sweeps.specs.Masks.{mask_of, mask_count_of}
 use Rattle.card_sweeps.specs.Sweeps.{CutsCommand, EndsBehindStarts, PlaysOn}
 use Rattle.card_sweeps.specs.SweptRuns.{AreAllBehind, AreFirstBehind, IsUnmade}
 use Rattle.card_sweeps.specs.Tallies.{CountsToFull, IsTally, findings}
@@ -17,7 +18,7 @@ use Rattle.card_sweeps.specs.declared.steps.Step.TheVariants.{Block}
 use Rattle.card_sweeps.specs.Asking.{IsRead, asked_of}
 use Rattle.card_sweeps.specs.PartTexts.{IsFirstPart, IsOfPart}
 use Rattle.sweep_reports.specs.DeviceWrites.{IsWriteKind, kinds_text}
-use Rattle.sweep_reports.specs.WrittenRuns.{IsMasked, WrittenRun}
+use Rattle.card_sweeps.specs.WrittenRuns.{IsMasked, WrittenRun}
 use Rattle.sweep_reports.specs.Printing.{cut_head, results_text, stage_head, total_text}
 use Rattle.card_sweeps.specs.Turning.{AreTurns}
 
@@ -70,25 +71,12 @@ TextsInTurn IsText (suc n) text =
 abbrev pub LacksWrite : {B : Type 0} {facts : B → Facts} {torn : B → ℕ} → Sweeping facts torn → ℕ → Type 0
 LacksWrite sweeping write = IsUnmade write sweeping.board sweeping.prepare sweeping.command
 
--- The command makes this device write. Cuts with the first mask and the second leave the memories before and after it.
--- The board after the first one reports the number of words.
-pub record IsMade {B : Type 0} {facts : B → Facts} {torn : B → ℕ} (sweeping : Sweeping facts torn) (write : ℕ)
-    (run : WrittenRun) : Type 0 where
-  pub none : B
-  pub cut : CutsCommand write 0 sweeping.board sweeping.prepare sweeping.command (facts none)
-  pub words_are : run.words ≡ words_tried (torn none)
-  pub none_new : IsMasked run 0 (facts none).words
-  pub all : Facts
-  pub whole : CutsCommand write (mask_of run.words 1) sweeping.board sweeping.prepare sweeping.command all
-  pub after_is : run.after ≡ all.words
-  pub all_new : IsMasked run 1 run.after
-  pub inside : run.at + run.words ≤ length run.before
-
 -- A device write between these memories: its kind, and each cut of it, with each mask for its number of words.
 pub record IsWrite {B : Type 0} {facts : B → Facts} {torn : B → ℕ} (sweeping : Sweeping facts torn) (write : ℕ)
     (before after : List ℕ) (it : DeviceWrite) (text : List ℕ) : Type 0 where
   pub at : ℕ
-  pub made : IsMade sweeping write (record { at = at; words = it.words; before = before; after = after })
+  pub made : IsMade facts torn sweeping.board sweeping.prepare sweeping.command write
+      (record { at = at; words = it.words; before = before; after = after })
   pub each : TextsInTurn
       (IsCutOrNone sweeping write (record { at = at; words = it.words; before = before; after = after }))
       (mask_count_of it.words) text

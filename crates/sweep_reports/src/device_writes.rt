@@ -1,9 +1,10 @@
 //! The device writes of a command, and what each does to the memory.
 ghost use Rattle.std.specs.Prelude.{◌≡◌, ◌++◌, OnOk, string_bytes};
 ghost use Rattle.undo_journal.specs.Undo.{gate, in_journal};
-ghost use Rattle.sweep_reports.specs.DeviceWrites.{IsFirstChange, IsWriteKind, kind_at, kind_name, kinds_text};
+ghost use Rattle.sweep_reports.specs.DeviceWrites.{IsWriteKind, kind_at, kind_name, kinds_text};
 ghost use Rattle.sweep_reports.specs.DeviceWrites.{write_text};
 
+use card_sweeps::first_change;
 use std::alloc::{AllocError, Global};
 use undo_journal::{GATE, JOURNAL_END};
 
@@ -99,18 +100,6 @@ fn is_in_journal(at: usize) -> bool
     ensures { result ≡ in_journal at }
 {
     GATE as usize <= at && at < JOURNAL_END as usize
-}
-
-/// Returns the lowest address at which two memories differ.
-pub(crate) fn first_change(left: &[u32], right: &[u32]) -> Option<usize>
-    ensures { IsFirstChange left.now right.now result }
-{
-    for at in 0..left.len().min(right.len()) {
-        if left[at] != right[at] {
-            return Some(at);
-        }
-    }
-    None
 }
 
 /// Appends the line of a device write.

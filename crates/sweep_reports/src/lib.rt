@@ -3,12 +3,7 @@
 
 mod device_writes;
 mod lines;
-mod made_write;
 mod plan;
-mod readable_board;
 mod reporting;
-mod stop;
-mod written_runs;
 
-pub use readable_board::ReadableBoard;
 pub use reporting::report;

@@ -1,32 +1,26 @@
 //! The plan of a sweep, and the parts of its report.
 ghost use Rattle.std.specs.Prelude.{◌≡◌, ◌≤◌, ◌<◌, ◌+◌, length, OnOk, IfOk, IfSome, IfNone, string_bytes};
 ghost use Rattle.command_base.specs.Finding.{HasCard};
+ghost use Rattle.card_sweeps.specs.CommandCuts.{IsMade, made_run};
 ghost use Rattle.card_sweeps.specs.Masks.{mask_count_of};
-ghost use Rattle.card_sweeps.specs.Sweeps.{CutsCommand};
 ghost use Rattle.sweep_reports.specs.Printing.{cut_head};
-ghost use Rattle.sweep_reports.specs.ReportParts.{AddsText, made_run, sweeping_of};
-ghost use Rattle.sweep_reports.specs.Reporting.{AreKindsOrNone, AreResults, AreWrites, IsCutOrNone, IsFound, IsMade};
+ghost use Rattle.sweep_reports.specs.ReportParts.{AddsText, sweeping_of};
+ghost use Rattle.sweep_reports.specs.Reporting.{AreKindsOrNone, AreResults, AreWrites, IsCutOrNone, IsFound};
 ghost use Rattle.sweep_reports.specs.Reporting.{LacksWrite, TextsInTurn};
 
-use crate::device_writes::{DeviceWrite, WriteKind, first_change, push_kinds};
+use crate::device_writes::{DeviceWrite, WriteKind, push_kinds};
 use crate::lines::{cut_head, push_results, stage_head};
-use crate::made_write::MadeWrite;
-use crate::readable_board::ReadableBoard;
-use crate::stop::Stop;
-use crate::written_runs::{is_masked, is_same, is_write};
 use bench_turns::{Turn, TurnPlayer};
 use card_sweeps::{
-    SweepPart, Sweepable, cut_at, mask_at, mask_count, play_copy, sweep_behind, words_to_try,
+    CommandRuns, MadeWrite, Stop, SweepPart, Sweepable, is_same, made_write, mask_at, mask_count,
+    masked_cut, play_copy, sweep_behind,
 };
 use std::alloc::{AllocError, Global};
 
 /// The plan of a sweep. Each run uses a copy of the board.
 #[derive(Drop)]
-pub struct Plan<'a, B: ReadableBoard> {
-    pub alloc: Global,
-    pub board: &'a B,
-    pub prepare: &'a [Turn<'a>],
-    pub command: &'a [u8],
+pub struct Plan<'a, B: Sweepable> {
+    pub runs: CommandRuns<'a, B>,
     pub probe: &'a [Turn<'a>],
     pub looks: &'a [usize],
     pub depth: u8,
@@ -40,15 +34,16 @@ fn push_behind<P: TurnPlayer + Drop>(
     depth: u8,
     head: &str,
     text: &mut String,
-) -> Result<(), AllocError>
+) -> Result<(), Stop>
 where
-    P::Board: ReadableBoard + Drop,
+    P::Board: Sweepable + Drop,
     ensures { OnOk result (HasCard (P.Board.facts left.now).words
         → AddsText (AreResults plan.now.looks.now head.now depth plan.now.probe.now (P.Board.facts left.now))
         (string_bytes text.old) (string_bytes text.new)) }
 {
-    let found = sweep_behind::<P>(plan.alloc, left, plan.probe, depth)?;
-    push_results(plan.alloc, text, plan.looks, head, &found.seen)
+    let found = sweep_behind::<P>(plan.runs.alloc, left, plan.probe, depth)?;
+    push_results(plan.runs.alloc, text, plan.looks, head, &found.seen)?;
+    Ok(())
 }
 
 /// Appends the result of the probe after turns on a copy of the board. Returns that copy as the turns left it.
@@ -62,13 +57,13 @@ pub fn push_stage<P: TurnPlayer + Drop>(
     text: &mut String,
 ) -> Result<P::Board, Stop>
 where
-    P::Board: ReadableBoard + Drop,
-    ensures { IfOk result (λ left. HasCard (P.Board.facts plan.now.board.now).words
+    P::Board: Sweepable + Drop,
+    ensures { IfOk result (λ left. HasCard (P.Board.facts plan.now.runs.board.now).words
         → AddsText (IsFound (sweeping_of P.Board.facts P.Board.torn plan.now) stage.now turns.now (P.Board.facts left))
         (string_bytes text.old) (string_bytes text.new)) }
 {
-    let (trace, left) = play_copy::<P>(plan.alloc, plan.board, turns)?;
-    let head = stage_head(plan.alloc, stage, &trace)?;
+    let (trace, left) = play_copy::<P>(plan.runs.alloc, plan.runs.board, turns)?;
+    let head = stage_head(plan.runs.alloc, stage, &trace)?;
     push_behind::<P>(plan, &left, 0, &head, text)?;
     Ok(left)
 }
@@ -81,101 +76,16 @@ fn push_cut<P: TurnPlayer + Drop>(
     mask: u16,
     left: &P::Board,
     text: &mut String,
-) -> Result<(), AllocError>
+) -> Result<(), Stop>
 where
-    P::Board: ReadableBoard + Drop,
+    P::Board: Sweepable + Drop,
     ensures { OnOk result (HasCard (P.Board.facts left.now).words
         → AddsText (AreResults plan.now.looks.now (cut_head write i mask) plan.now.depth plan.now.probe.now
         (P.Board.facts left.now))
         (string_bytes text.old) (string_bytes text.new)) }
 {
-    let head = cut_head(plan.alloc, write, i, mask)?;
+    let head = cut_head(plan.runs.alloc, write, i, mask)?;
     push_behind::<P>(plan, left, plan.depth, &head, text)
-}
-
-/// Returns the address of the first word of a device write of `words` words, between these memories. A cut that makes
-/// one word new shows it. The caller compares the memories that all cuts leave.
-fn first_address<P: TurnPlayer + Drop>(
-    plan: &Plan<'_, P::Board>,
-    write: u32,
-    words: u8,
-    before: &[u32],
-    after: &[u32],
-) -> Result<usize, Stop>
-where
-    P::Board: ReadableBoard + Drop,
-    requires write { 1 ≤ write }
-    requires words { words ≤ 16 }
-{
-    let Some(changed) = first_change(before, after) else {
-        return Ok(0);
-    };
-    if words < 2 {
-        return Ok(changed);
-    }
-    for i in 0..words {
-        let left = made_cut::<P>(plan, write, mask_at(words, i + 2))?;
-        if left.words().get(changed) != before.get(changed) {
-            return Ok(changed.saturating_sub(usize::from(i)));
-        }
-    }
-    Err(Stop::Differs)
-}
-
-/// Returns the board after a cut at a device write that the command makes.
-fn made_cut<P: TurnPlayer + Drop>(
-    plan: &Plan<'_, P::Board>,
-    write: u32,
-    mask: u16,
-) -> Result<P::Board, Stop>
-where
-    P::Board: ReadableBoard + Drop,
-    requires { 1 ≤ write }
-    ensures { IfOk result (λ left. HasCard (P.Board.facts plan.now.board.now).words
-        → CutsCommand write mask (P.Board.facts plan.now.board.now) plan.now.prepare.now plan.now.command.now
-        (P.Board.facts left)) }
-{
-    match cut_at::<P>(
-        plan.alloc,
-        plan.board,
-        plan.prepare,
-        plan.command,
-        write,
-        mask,
-    )? {
-        Some(left) => Ok(left),
-        None => Err(Stop::Differs),
-    }
-}
-
-/// Returns this device write of the command, which begins with the memory `before`.
-/// Returns `None` if the command makes fewer writes.
-fn made_write<P: TurnPlayer + Drop>(
-    plan: &Plan<'_, P::Board>,
-    write: u32,
-    before: &[u32],
-) -> Result<Option<MadeWrite<P::Board>>, Stop>
-where
-    P::Board: ReadableBoard + Drop,
-    requires { 1 ≤ write }
-    ensures words { IfOk result (λ made. IfSome made (λ it. it.words ≤ 16)) }
-    ensures inside { IfOk result (λ made. IfSome made (λ it. it.at + it.words ≤ length before.now)) }
-    ensures made { IfOk result (λ made. IfSome made (λ it. HasCard (P.Board.facts plan.now.board.now).words
-        → IsMade (sweeping_of P.Board.facts P.Board.torn plan.now) write (made_run P.Board.facts before.now it))) }
-    ensures unmade { IfOk result (λ made. IfNone made (HasCard (P.Board.facts plan.now.board.now).words
-        → LacksWrite (sweeping_of P.Board.facts P.Board.torn plan.now) write)) }
-{
-    let Some(none) = cut_at::<P>(plan.alloc, plan.board, plan.prepare, plan.command, write, 0)?
-    else {
-        return Ok(None);
-    };
-    let words = words_to_try(none.torn_words());
-    let after = made_cut::<P>(plan, write, mask_at(words, 1))?;
-    let at = first_address::<P>(plan, write, words, before, after.words())?;
-    if !is_write(at, words, before, none.words(), after.words()) {
-        return Err(Stop::Differs);
-    }
-    Ok(Some(MadeWrite { after, words, at }))
 }
 
 /// Appends the cut of a device write with mask number `i`, if it is of the part.
@@ -188,12 +98,12 @@ fn push_mask<P: TurnPlayer + Drop>(
     text: &mut String,
 ) -> Result<(), Stop>
 where
-    P::Board: ReadableBoard + Drop,
+    P::Board: Sweepable + Drop,
     requires write { 1 ≤ write }
     requires words { made.now.words ≤ 16 }
     requires inside { made.now.at + made.now.words ≤ length before.now }
     requires place { i < mask_count_of made.now.words }
-    ensures { OnOk result (HasCard (P.Board.facts plan.now.board.now).words
+    ensures { OnOk result (HasCard (P.Board.facts plan.now.runs.board.now).words
         → AddsText (IsCutOrNone (sweeping_of P.Board.facts P.Board.torn plan.now) write
         (made_run P.Board.facts before.now made.now) i)
         (string_bytes text.old) (string_bytes text.new)) }
@@ -201,14 +111,8 @@ where
     if !plan.part.has(write, i) {
         return Ok(());
     }
-    let mask = mask_at(made.words, i);
-    let left = made_cut::<P>(plan, write, mask)?;
-    let after = made.after.words();
-    if !is_masked(made.at, made.words, i, before, after, left.words()) {
-        return Err(Stop::Differs);
-    }
-    push_cut::<P>(plan, write, i, mask, &left, text)?;
-    Ok(())
+    let left = masked_cut::<P>(&plan.runs, write, before, made, i)?;
+    push_cut::<P>(plan, write, i, mask_at(made.words, i), &left, text)
 }
 
 /// Appends the cuts of a device write that are of the part, and returns the write.
@@ -220,19 +124,20 @@ fn push_write<P: TurnPlayer + Drop>(
     text: &mut String,
 ) -> Result<Option<MadeWrite<P::Board>>, Stop>
 where
-    P::Board: ReadableBoard + Drop,
+    P::Board: Sweepable + Drop,
     requires { 1 ≤ write }
-    ensures made { IfOk result (λ made. IfSome made (λ it. HasCard (P.Board.facts plan.now.board.now).words
-        → IsMade (sweeping_of P.Board.facts P.Board.torn plan.now) write (made_run P.Board.facts before.now it))) }
-    ensures text { IfOk result (λ made. IfSome made (λ it. HasCard (P.Board.facts plan.now.board.now).words
+    ensures made { IfOk result (λ made. IfSome made (λ it. HasCard (P.Board.facts plan.now.runs.board.now).words
+        → IsMade P.Board.facts P.Board.torn (P.Board.facts plan.now.runs.board.now) plan.now.runs.prepare.now
+        plan.now.runs.command.now write (made_run P.Board.facts before.now it))) }
+    ensures text { IfOk result (λ made. IfSome made (λ it. HasCard (P.Board.facts plan.now.runs.board.now).words
         → AddsText (TextsInTurn (IsCutOrNone (sweeping_of P.Board.facts P.Board.torn plan.now) write
         (made_run P.Board.facts before.now it)) (mask_count_of it.words))
         (string_bytes text.old) (string_bytes text.new))) }
-    ensures unmade { IfOk result (λ made. IfNone made (HasCard (P.Board.facts plan.now.board.now).words
+    ensures unmade { IfOk result (λ made. IfNone made (HasCard (P.Board.facts plan.now.runs.board.now).words
         → LacksWrite (sweeping_of P.Board.facts P.Board.torn plan.now) write)) }
     ensures same { IfOk result (λ made. IfNone made (string_bytes text.new ≡ string_bytes text.old)) }
 {
-    let Some(made) = made_write::<P>(plan, write, before)? else {
+    let Some(made) = made_write::<P>(&plan.runs, write, before)? else {
         return Ok(None);
     };
     for i in 0..mask_count(made.words) {
@@ -254,12 +159,12 @@ pub fn push_writes<P: TurnPlayer + Drop>(
     text: &mut String,
 ) -> Result<Vec<DeviceWrite>, Stop>
 where
-    P::Board: ReadableBoard + Drop,
-    ensures { IfOk result (λ all. HasCard (P.Board.facts plan.now.board.now).words
+    P::Board: Sweepable + Drop,
+    ensures { IfOk result (λ all. HasCard (P.Board.facts plan.now.runs.board.now).words
         → AddsText (AreWrites (sweeping_of P.Board.facts P.Board.torn plan.now) (P.Board.facts prepared).words
         ended.now all.items) (string_bytes text.old) (string_bytes text.new)) }
 {
-    let mut all = Vec::new(plan.alloc);
+    let mut all = Vec::new(plan.runs.alloc);
     let mut before = prepared;
     for writes in 0..u32::MAX {
         // The progress is for people: the sweep continues even if standard error fails.
@@ -286,7 +191,7 @@ where
 ///
 /// # Errors
 /// There is too little memory.
-pub fn push_first_part<B: ReadableBoard>(
+pub fn push_first_part<B: Sweepable>(
     plan: &Plan<'_, B>,
     all: &[DeviceWrite],
     text: &mut String,
@@ -297,5 +202,5 @@ pub fn push_first_part<B: ReadableBoard>(
     if !plan.part.is_first() {
         return Ok(());
     }
-    push_kinds(plan.alloc, text, all)
+    push_kinds(plan.runs.alloc, text, all)
 }

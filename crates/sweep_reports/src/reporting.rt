@@ -9,11 +9,11 @@ ghost use Rattle.card_sweeps.specs.Turning.{AreTurns};
 use crate::device_writes::DeviceWrite;
 use crate::lines::push_total;
 use crate::plan::{Plan, push_first_part, push_stage, push_writes};
-use crate::readable_board::ReadableBoard;
-use crate::stop::Stop;
 use bench_lines::write_line;
 use bench_turns::{Turn, TurnPlayer};
-use card_sweeps::{Step, SweepFault, SweepPart, SweepScript, read_script, turns_of};
+use card_sweeps::{
+    CommandRuns, Step, Stop, SweepFault, SweepPart, SweepScript, Sweepable, read_script, turns_of,
+};
 use std::alloc::{AllocError, Global};
 use std::io::{BufRead, Write};
 
@@ -56,7 +56,7 @@ fn script_turns(alloc: Global, script: &SweepScript) -> Result<ScriptTurns<'_>, 
 }
 
 /// Appends the kinds of the device writes, the text of the cuts, and the number of writes.
-fn push_rest<B: ReadableBoard>(
+fn push_rest<B: Sweepable>(
     plan: &Plan<'_, B>,
     all: &[DeviceWrite],
     cuts: &str,
@@ -67,7 +67,7 @@ fn push_rest<B: ReadableBoard>(
 {
     push_first_part(plan, all, text)?;
     text.push_str(cuts)?;
-    push_total(plan.alloc, text, all.len(), plan.depth)
+    push_total(plan.runs.alloc, text, all.len(), plan.depth)
 }
 
 /// Appends what is found without the command and after it, and the cuts of the part.
@@ -78,14 +78,14 @@ fn push_sections<P: TurnPlayer + Drop>(
     text: &mut String,
 ) -> Result<(), Stop>
 where
-    P::Board: ReadableBoard + Drop,
-    ensures { OnOk result (HasCard (P.Board.facts plan.now.board.now).words
+    P::Board: Sweepable + Drop,
+    ensures { OnOk result (HasCard (P.Board.facts plan.now.runs.board.now).words
         → AddsText (HasSections (sweeping_of P.Board.facts P.Board.torn plan.now) whole.now)
         (string_bytes text.old) (string_bytes text.new)) }
 {
-    let prepared = push_stage::<P>(plan, "before", plan.prepare, text)?;
+    let prepared = push_stage::<P>(plan, "before", plan.runs.prepare, text)?;
     let ended = push_stage::<P>(plan, "after", whole, text)?;
-    let mut cuts = String::new(plan.alloc);
+    let mut cuts = String::new(plan.runs.alloc);
     let all = push_writes::<P>(plan, prepared, ended.words(), progress, &mut cuts)?;
     push_rest(plan, &all, &cuts, text)?;
     Ok(())
@@ -100,17 +100,19 @@ fn swept<P: TurnPlayer + Drop>(
     progress: &impl Eprint,
 ) -> Result<String, Stop>
 where
-    P::Board: ReadableBoard + Drop,
+    P::Board: Sweepable + Drop,
     requires { HasCard (P.Board.facts board.now).words }
     ensures { IfOk result (λ text. IsReport P.Board.facts P.Board.torn (P.Board.facts board.now) script.now part
         (string_bytes text)) }
 {
     let turns = script_turns(alloc, script)?;
     let plan = Plan {
-        alloc,
-        board,
-        prepare: &turns.prepare,
-        command: script.command.as_slice(),
+        runs: CommandRuns {
+            alloc,
+            board,
+            prepare: &turns.prepare,
+            command: script.command.as_slice(),
+        },
         probe: &turns.probe,
         looks: &script.looks,
         depth: script.depth,
@@ -134,7 +136,7 @@ pub fn report<P: TurnPlayer + Drop, R: BufRead, W: Write>(
     progress: &impl Eprint,
 ) -> Result<(), SweepFault>
 where
-    P::Board: ReadableBoard + Drop,
+    P::Board: Sweepable + Drop,
     requires { HasCard (P.Board.facts board.now).words }
     // The text is the report of a sweep of the script that was read.
     ensures told { OnOk result (WritesReport P.Board.facts P.Board.torn (P.Board.facts board.now)

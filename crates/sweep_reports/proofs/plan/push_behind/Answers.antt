@@ -1,14 +1,12 @@
 use Rattle.std.proofs.Common.{◌++◌, ◌∙◌, List, ap, refl, string_bytes}
 use Rattle.card_sweeps.specs.declared.tally.Seen.{Seen}
 use Rattle.sweep_reports.specs.Printing.{results_text}
-use Rattle.sweep_reports.proofs.Put.{on-ok}
 use Rattle.sweep_reports.proofs.plan.push_behind.Goals as goal
 
 pub returns : goal.returns
-returns g c =
+returns g c = λ card.
     let found = c.in_ok-found.found in
-    on-ok c.push_results.result _ _
-    (λ written card. record {
+    record {
       more = results_text c.args.plan.now.looks.now c.args.head.now found.seen.items;
       holds = record {
         runs = found.runs;
@@ -18,8 +16,7 @@ returns g c =
         all = c.in_ok-found.ensures.complete card;
         text_is = refl;
       };
-      all = written ∙ ap (λ (l : List Seen). string_bytes c.args.text.now ++ results_text c.args.plan.now.looks.now
-          c.args.head.now l)
+      all = c.in_ok-push_results.ensures ∙ ap (λ (l : List Seen). string_bytes c.args.text.now
+          ++ results_text c.args.plan.now.looks.now c.args.head.now l)
           c.deref.ensures.value;
-    })
-    c.push_results.ensures
+    }

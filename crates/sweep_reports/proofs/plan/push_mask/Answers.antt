@@ -1,20 +1,22 @@
 use Rattle.std.proofs.Common.{◌∙◌, sym, true≢false}
+use Rattle.card_sweeps.specs.CommandCuts.{made_run}
 use Rattle.card_sweeps.proofs.CompleteSweeps.{mask-is}
-use Rattle.sweep_reports.specs.ReportParts.{made_run, sweeping_of}
-use Rattle.sweep_reports.proofs.Reported.{cut-put, masked-same, none-put}
+use Rattle.sweep_reports.specs.ReportParts.{sweeping_of}
+use Rattle.sweep_reports.proofs.Put.{on-ok}
+use Rattle.sweep_reports.proofs.Reported.{cut-put, none-put}
 use Rattle.sweep_reports.proofs.plan.push_mask.Goals as goal
 
 pub returns : goal.returns
-returns g c = λ card.
-    let cut = c.in_ok-left.ensures card in
-    let told = c.mask_at-mask.ensures in
+returns g c = on-ok c.push_cut.result _ _
+    (λ results card.
+    let left = c.in_ok-left.ensures in
+    let told = c.mask_at.ensures in
     cut-put (sweeping_of g.P.Board.Board.facts g.P.Board.Sweepable.torn c.args.plan.now) c.args.write
     (made_run g.P.Board.Board.facts c.args.before.now c.args.made.now)
     c.args.i _ (g.P.Board.Board.facts c.in_ok-left.left) _ _
     (mask-is c.args.made.now.words c.args.i _ told.none told.all told.single)
-    (c.has.ensures.0 c.if-not-has.false)
-    (masked-same c.args.made.now.at c.args.made.now.words c.args.i _ _ _ _ _ c.words-after.ensures c.words.ensures
-    (c.is_masked.ensures c.if-not-is_masked.false)) cut (c.in_ok-push_cut.ensures cut.has_card)
+    (c.has.ensures.0 c.if-not-has.false) left.masked (left.cut card) (results (left.cut card).has_card))
+    c.push_cut.ensures
 
 pub returns-then-not-has : goal.returns-then-not-has
 returns-then-not-has g c = λ card. none-put (sweeping_of g.P.Board.Board.facts g.P.Board.Sweepable.torn c.args.plan.now)

@@ -1,21 +1,39 @@
 //! Compares the memory that a cut leaves with those before and after the device write.
 ghost use Rattle.std.specs.Prelude.{◌≡◌, ◌≤◌, ◌+◌, length, IsTrue};
-ghost use Rattle.sweep_reports.specs.WrittenRuns.{IsMasked, IsNewWithin, WrittenRun};
+ghost use Rattle.card_sweeps.specs.WrittenRuns.{IsFirstChange, IsMasked, IsNewWithin, WrittenRun};
 
-/// Returns true if `left` is `after` from address `first` up to before `end`, and `before` at all others.
-fn is_new_within(first: usize, end: usize, before: &[u32], after: &[u32], left: &[u32]) -> bool
-    ensures { IsTrue result → IsNewWithin first end before.now after.now left.now }
+/// Returns the lowest address at which two memories differ.
+pub fn first_change(left: &[u32], right: &[u32]) -> Option<usize>
+    ensures { IsFirstChange left.now right.now result }
 {
-    if left.len() != before.len() || after.len() != before.len() {
-        return false;
-    }
-    for at in 0..left.len() {
-        let is_new = first <= at && at < end;
-        if left[at] != (if is_new { after[at] } else { before[at] }) {
-            return false;
+    for at in 0..left.len().min(right.len()) {
+        if left[at] != right[at] {
+            return Some(at);
         }
     }
-    true
+    None
+}
+
+/// Returns true if `left` is `after` from address `first` up to before `end`, and `before` at all others.
+/// It compares whole slices, since a sweep does so after each cut.
+fn is_new_within(first: usize, end: usize, before: &[u32], after: &[u32], left: &[u32]) -> bool
+    requires order { first ≤ end }
+    requires inside { end ≤ length before.now }
+    ensures { IsTrue result → IsNewWithin first end before.now after.now left.now }
+{
+    if left.len() != before.len() {
+        return false;
+    }
+    if after.len() != before.len() {
+        return false;
+    }
+    if !is_same(&left[..first], &before[..first]) {
+        return false;
+    }
+    if !is_same(&left[end..], &before[end..]) {
+        return false;
+    }
+    is_same(&left[first..end], &after[first..end])
 }
 
 /// Returns true if `left` is what a cut with mask number `i` has to leave of a write of `words` words at `at`.

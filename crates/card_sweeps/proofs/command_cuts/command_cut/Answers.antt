@@ -1,11 +1,11 @@
 use Rattle.std.proofs.Common.{◌≡◌, ◌∙◌, ap, false, sym, true, true≢false}
-use Rattle.std.proofs.lemmas.Option.{IfSome_then}
+use Rattle.std.proofs.lemmas.Result.{IfErr-weaker, IfOk-weaker}
 use Rattle.bench_turns.specs.declared.turn_result.TurnResult.TheVariants as turned
 use Rattle.card_sweeps.specs.Sweeps.{off_with}
 use Rattle.card_sweeps.proofs.OtherMasks.{unmade-by}
-use Rattle.card_sweeps.proofs.SweepLemmas.{cuts-command, if-none, spares-command}
-use Rattle.card_sweeps.proofs.sweeping.command_cut.Goals as goal
-use Rattle.card_sweeps.proofs.sweeping.command_cut.Goals.{in-Dark, in_default}
+use Rattle.card_sweeps.proofs.SweepLemmas.{cuts-command, spares-command}
+use Rattle.card_sweeps.proofs.command_cuts.command_cut.Goals as goal
+use Rattle.card_sweeps.proofs.command_cuts.command_cut.Goals.{in-Dark, in_default}
 
 pub returns-clause-unmade : goal.returns-clause-unmade
 returns-clause-unmade g c =
@@ -14,14 +14,15 @@ returns-clause-unmade g c =
       | in-Dark w ↦ λ is e. true≢false (sym w.matches-is ∙ is)
       | in_default w ↦ λ is e. w.in_default.not-Dark e
     ] in
-    if-none c.cut_board.result _ _
-    (λ spared card. unmade-by _ _ _ _ _ (spares-command _ _ _ _ _ _ _ _ _ _
-    (g.met.P.Board.Faultless.faultless c.args.plan.now.board.now).faults
-    (g.met.P.Board.Faultless.faultless c.args.plan.now.board.now).due
-    (c.new-bench.ensures ∙ ap off_with c.in_ok-copy.ensures) c.into_board.ensures lit spared card _ _ _
-    c.args.plan.now.command c.in_ok-played.ensures c.arm_well.ensures.good c.arm_well.ensures.armed
+    IfErr-weaker c.cut_board.result _ _
+    (λ whole left card. unmade-by _ _ _ _ _ (spares-command _ _ _ _ _ _ _ _ _ _
+    (g.met.P.Board.Faultless.faultless c.args.runs.now.board.now).faults
+    (g.met.P.Board.Faultless.faultless c.args.runs.now.board.now).due
+    (c.new-bench.ensures ∙ ap off_with c.in_ok-copy.ensures) (ap g.P.Board.Board.facts left.0 ∙ c.into_board.ensures)
+    lit left.1 card _ _ _
+    c.args.runs.now.command c.in_ok-played.ensures c.arm_well.ensures.good c.arm_well.ensures.armed
     c.turn_well-turned.ensures))
-    c.cut_board.ensures.spared
+    c.cut_board.ensures.whole
 
 pub returns-clause-cut : goal.returns-clause-cut
 returns-clause-cut g c =
@@ -29,11 +30,12 @@ returns-clause-cut g c =
       | in-Dark w ↦ λ is. w.in-Dark.is
       | in_default w ↦ λ is. absurd (true≢false (sym is ∙ w.matches-is))
     ] in
-    IfSome_then c.cut_board.result c.cut_board.ensures.cut
+    IfOk-weaker c.cut_board.result _ _
     (λ left fell card. cuts-command _ _ _ _ _ _ _ _ _
-    (g.met.P.Board.Faultless.faultless c.args.plan.now.board.now).faults
-    (g.met.P.Board.Faultless.faultless c.args.plan.now.board.now).due
+    (g.met.P.Board.Faultless.faultless c.args.runs.now.board.now).faults
+    (g.met.P.Board.Faultless.faultless c.args.runs.now.board.now).due
     (c.new-bench.ensures ∙ ap off_with c.in_ok-copy.ensures) (ap g.P.Board.Board.facts fell.0 ∙ c.into_board.ensures)
     (lost fell.1) fell.2 card _ _ _
-    c.args.plan.now.command c.in_ok-played.ensures c.arm_well.ensures.good
+    c.args.runs.now.command c.in_ok-played.ensures c.arm_well.ensures.good
     c.arm_well.ensures.armed c.turn_well-turned.ensures)
+    c.cut_board.ensures.cut

@@ -1,19 +1,19 @@
-//! Why a report is not made.
-use card_sweeps::SweepFault;
+//! Why a sweep stops early.
+use crate::fault::SweepFault;
 use std::alloc::{AllocError, AllocFailed};
 
-/// Why a report is not made.
+/// Why a sweep stops early.
 #[derive(Clone, Copy)]
 pub enum Stop {
     /// There is too little memory.
     Memory,
-    /// Two runs of the same turns left different memories.
+    /// A cut left another memory than the other cuts ask for, so the board is not deterministic.
     Differs,
 }
 
 impl From<AllocError> for Stop {
     ghost use Rattle.std.specs.Prelude.{◌≡◌};
-    ghost use Rattle.sweep_reports.specs.declared.stop.Stop.TheVariants.{Memory};
+    ghost use Rattle.card_sweeps.specs.declared.stop.Stop.TheVariants.{Memory};
 
     ghost from_gives = { λ _ stop. stop ≡ Memory };
 
@@ -24,7 +24,7 @@ impl From<AllocError> for Stop {
 
 impl<T: Drop> From<AllocFailed<T>> for Stop {
     ghost use Rattle.std.specs.Prelude.{◌≡◌};
-    ghost use Rattle.sweep_reports.specs.declared.stop.Stop.TheVariants.{Memory};
+    ghost use Rattle.card_sweeps.specs.declared.stop.Stop.TheVariants.{Memory};
 
     ghost from_gives = { λ _ stop. stop ≡ Memory };
 
@@ -35,7 +35,7 @@ impl<T: Drop> From<AllocFailed<T>> for Stop {
 
 impl From<Stop> for SweepFault {
     ghost use Rattle.std.specs.Prelude.{◌≡◌};
-    ghost use Rattle.sweep_reports.specs.ReportEndings.{fault_of};
+    ghost use Rattle.card_sweeps.specs.ExitStatuses.{fault_of};
 
     ghost from_gives = { λ stop fault. fault ≡ fault_of stop };
 

@@ -1,6 +1,13 @@
 -- The words that a device write changes, and those that a cut of it with a mask makes new.
-use Rattle.std.specs.Prelude.{◌≡◌, ◌<◌, ◌+◌, ◌&&◌, ℕ, zero, suc, List, length, nat_le, nat_lt, slice_index}
-use Rattle.std.specs.Prelude.{if◌then◌else◌}
+use Rattle.std.specs.Prelude.{◌≡◌, ◌≢◌, ◌<◌, ◌+◌, ◌&&◌, ℕ, zero, suc, List, Option, Some, None, length, nat_le, nat_lt}
+use Rattle.std.specs.Prelude.{slice_index, if◌then◌else◌}
+
+-- The lowest address at which two memories differ, if there is one.
+abbrev pub IsFirstChange : List ℕ → List ℕ → Option ℕ → Type 0
+IsFirstChange before after None =
+    (a : ℕ) → a < length before → a < length after → slice_index before a ≡ slice_index after a
+IsFirstChange before after (Some at) = (slice_index before at ≢ slice_index after at)
+    × ((a : ℕ) → a < at → slice_index before a ≡ slice_index after a)
 
 -- A device write: its first address, the number of its words, and the memories before and after it.
 pub record WrittenRun : Type 0 where
