@@ -10,6 +10,8 @@ mod faults;
 #[cfg(test)]
 mod memories;
 #[cfg(test)]
+mod one_word_board;
+#[cfg(test)]
 mod readers;
 #[cfg(test)]
 mod replies;

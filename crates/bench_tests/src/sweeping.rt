@@ -8,7 +8,7 @@ use card_bench::{Item, Turn};
 use card_sweeps::{
     CommandRuns, MadeWrite, Seen, Stop, made_write, mask_count, masked_cut, play_copy, sweep_behind,
 };
-use card_tests::fixtures::formatted;
+use card_tests::fixtures::{formatted, formatted_old};
 use card_turns::Bench;
 use link_tests::fixtures::framed;
 use simulated_boards::CutBoard;
@@ -579,4 +579,17 @@ fn right_value_is_charged_first(rt: HostRuntime) -> Result<(), Fail> {
             (895, 62, &["63CA", "9000"], 1),
         ],
     )
+}
+
+/// The power-on of a card of format 1 writes several words at once. A sweep cuts only power-ons that write words one by
+/// one.
+#[test]
+fn migration_is_not_swept(rt: HostRuntime) -> Result<(), Fail> {
+    let board = formatted_old(CutBoard::new(rt.alloc())?)?;
+    let behind = sweep_behind::<Bench<CutBoard>>(rt.alloc(), &board, &[], 1);
+    assert!(rt;
+        matches!(behind, Err(Stop::Differs)),
+        "a migration was swept"
+    );
+    Ok(())
 }
