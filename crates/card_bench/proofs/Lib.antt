@@ -1,4 +1,5 @@
 pub mod BlocksOnLine
+pub mod ChargeLaws
 pub mod DarkLines
 pub mod DeskTurns
 pub mod ExchangeInWorld

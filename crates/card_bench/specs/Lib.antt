@@ -1,4 +1,5 @@
 -- What script lines do: the line between both ends, desks, exchanges, and what is printed.
+pub mod Charges
 pub mod EndsParts
 pub mod Prints
 pub mod DeskStates

@@ -1,6 +1,7 @@
 //! A desk with reader, line and bench: what the lines of a script do there, and the run of a script, line by line.
 #![tactic(auto)]
 
+mod charge;
 mod desk;
 mod exchange;
 pub mod laws;
@@ -12,6 +13,7 @@ mod script;
 pub use bench_lines::Order;
 pub use bench_turns::{Item, Turn};
 pub use card_boards::factory_board;
+pub use charge::{ALL_WORDS, cuts_next, may_compare};
 pub use desk::Desk;
 pub use line::Line;
 pub use line_result::LineResult;

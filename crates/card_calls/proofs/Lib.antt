@@ -1,4 +1,4 @@
-pub mod ChargeLaws
+pub mod FirstWriteLaws
 pub mod ImageLaws
 pub mod LogLaws
 pub mod OrderLaws

@@ -1,6 +1,6 @@
-pub mod Charges
 pub mod CopiedParts
 pub mod Devices
+pub mod FirstWrites
 pub mod ReaderCalls
 pub mod ScriptCalls
 pub mod SessionStates

@@ -1,14 +1,16 @@
 -- Calls that hand device writes out.
-use Rattle.std.specs.Prelude.{◌≡◌, ◌*◌, ℕ, ℤ, List, Option, None, Some, Result, Ok, Err, IfSome, true}
+use Rattle.std.specs.Prelude.{◌≡◌, ◌⊎◌, ◌*◌, ◌+◌, ◌%◌, ◌^◌, ℕ, ℤ, List, Option, None, Some, Result, Ok, Err, IfSome}
+use Rattle.std.specs.Prelude.{true, false}
 use Rattle.bench_lines.specs.Orders.{Order}
-use Rattle.card_calls.specs.Charges.{TakesNext, TellsFirst}
-use Rattle.card_calls.specs.Devices.{image_bytes, run_of}
+use Rattle.card_calls.specs.Devices.{TellsNext, image_bytes, run_of}
+use Rattle.card_calls.specs.FirstWrites.{TellsFirst}
 use Rattle.card_calls.specs.SessionStates.{SessionState}
-use Rattle.card_calls.specs.Telling.{CopiesNothing, CopiesOut, outcome_number}
+use Rattle.card_calls.specs.Telling.{CopiesNothing, CopiesOut, outcome_number, session_facts}
 use Rattle.card_calls.specs.declared.outcome.Outcome.{Outcome}
 use Rattle.card_calls.specs.declared.outcome.Outcome.TheVariants as outcome
 use Rattle.card_calls.specs.declared.write.Write.{Write}
 use Rattle.card_calls.specs.declared.write.TheConstants.{WORD_BYTES}
+use Rattle.card_calls.specs.declared.write_log.Next.TheVariants as next
 
 -- A device write is copied out: its bytes in the image, and the offset of the first. Without one the size is 0.
 abbrev pub CopiesWrite : Result (Option Write) Outcome → List ℕ → List ℕ → ℕ → ℕ → ℤ → Type 0
@@ -24,6 +26,16 @@ ReturnsFirst order None old new offset size number = (number ≡ outcome_number 
 ReturnsFirst order (Some was) old new offset size number = (told : Result (Option Write) Outcome)
     × TellsFirst order was told × CopiesWrite told old new offset size number
 
+-- The next write that the device lacks, which counts as stored from then on. If the log has lost it, the device is
+-- behind.
+abbrev pub TakesNext : SessionState → SessionState → Result (Option Write) Outcome → Type 0
+TakesNext was now (Ok None) = (now ≡ was) × (was.behind ≡ false)
+    × TellsNext (session_facts was).log was.stored next.Nothing
+TakesNext was now (Ok (Some w)) = (now ≡ record was { stored = (was.stored + 1) % 2 ^ 64 }) × (was.behind ≡ false)
+    × TellsNext (session_facts was).log was.stored (next.Write w)
+TakesNext was now (Err why) = (why ≡ outcome.Unstored) × (now.behind ≡ true) × (now ≡ record was { behind = true })
+    × ((was.behind ≡ true) ⊎ TellsNext (session_facts was).log was.stored next.Lost)
+
 -- the next write of a card, if there is one
 abbrev pub TakesFrom : Option SessionState → Option SessionState → Result (Option Write) Outcome → Type 0
 TakesFrom None now told = (now ≡ None) × (told ≡ Err outcome.Absent)
@@ -38,7 +50,8 @@ ReturnsNext was now old new offset size number = (told : Result (Option Write) O
 -- a call that tells that the device didn't take a write
 abbrev pub FallsBehind : Option SessionState → Option SessionState → ℤ → Type 0
 FallsBehind None now number = (number ≡ outcome_number outcome.Absent) × (now ≡ None)
-FallsBehind (Some was) now number = (number ≡ outcome_number outcome.Done) × (now ≡ Some (record was { behind = true }))
+FallsBehind (Some was) now number =
+    (number ≡ outcome_number outcome.Done) × (now ≡ Some (record was { behind = true }))
 
 -- a call that returns the number of the device
 abbrev pub ReturnsDevice : Option SessionState → ℤ → ℤ → Type 0

@@ -3,9 +3,9 @@
 #![tactic(auto)]
 
 mod boards;
-mod charge;
 mod copied;
 mod device;
+mod first_write;
 mod outcome;
 mod reader_calls;
 mod sizes;
@@ -13,11 +13,11 @@ mod write;
 mod write_log;
 
 pub use boards::{board_of, check_words, factory_of};
-pub use charge::{ALL_WORDS, cuts_next, first_write, may_compare};
 pub use copied::copy_write;
 pub use device::{
     DeviceBoard, TWIN_WRITES, followed, has_device, is_stored, next_write, twin_board, unfollowed,
 };
+pub use first_write::first_write;
 pub use outcome::{Outcome, Told, bit, copy};
 pub use reader_calls::{begin, receive};
 pub use sizes::{ROOM, block_fits, command_fits, order_fits};

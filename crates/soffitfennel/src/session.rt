@@ -6,14 +6,15 @@ ghost use Rattle.bench_turns.specs.BenchStates.{bench_facts};
 ghost use Rattle.command_base.specs.Finding.{HasCard};
 ghost use Rattle.card_bench.specs.Prints.{desk_of};
 ghost use Rattle.simulated_boards.specs.Cut.{cut_facts};
-ghost use Rattle.card_calls.specs.Charges.{HasNoCharge, TakesNext, TellsFirst};
+ghost use Rattle.card_calls.specs.FirstWrites.{HasNoCharge, TellsFirst};
 ghost use Rattle.card_calls.specs.SessionStates.{begun_at};
 ghost use Rattle.card_calls.specs.Telling.{CopiesWords, TellsResult, cleared, outcome_number, state_bits};
+ghost use Rattle.card_calls.specs.WriteCalls.{TakesNext};
 
-use card_bench::{Desk, Order};
+use card_bench::{ALL_WORDS, Desk, Order, cuts_next, may_compare};
 use card_calls::{
-    ALL_WORDS, DeviceBoard, Next, Outcome, Told, Write, bit, cuts_next, first_write, followed,
-    has_device, is_stored, may_compare, next_write, twin_board, unfollowed,
+    DeviceBoard, Next, Outcome, Told, Write, bit, first_write, followed, has_device, is_stored,
+    next_write, twin_board, unfollowed,
 };
 use card_turns::Bench;
 use core::mem::replace_with;

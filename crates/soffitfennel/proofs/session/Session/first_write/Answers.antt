@@ -2,16 +2,17 @@ use Rattle.std.proofs.Common.{◌≡◌, ◌∙◌, ap, subst}
 use Rattle.bench_lines.specs.OrderViews.{order_with}
 use Rattle.bench_lines.specs.Orders.{Cut}
 use Rattle.bench_turns.specs.BenchStates.{with_facts}
+use Rattle.card_bench.specs.Charges.{twin_desk}
 use Rattle.card_bench.specs.DeskStates.{printed_at}
 use Rattle.card_bench.specs.Exchanges.{Desk}
 use Rattle.card_bench.specs.Performing.{Performs}
+use Rattle.card_bench.specs.declared.charge.TheConstants.{ALL_WORDS}
 use Rattle.nvm_board.specs.Facts.{Facts}
-use Rattle.card_calls.specs.Charges.{TellsFirst, twin_desk}
+use Rattle.card_calls.specs.FirstWrites.{TellsFirst}
 use Rattle.card_calls.specs.Devices.{logs_none}
 use Rattle.card_calls.specs.SessionStates.{SessionState}
-use Rattle.card_calls.specs.declared.charge.TheConstants.{ALL_WORDS}
 use Rattle.card_calls.specs.declared.device.TheConstants.{TWIN_WRITES}
-use Rattle.card_calls.proofs.ChargeLaws.{tells_first}
+use Rattle.card_calls.proofs.FirstWriteLaws.{tells_first}
 use Rattle.soffitfennel.proofs.session.Session.first_write.Goals as goal
 
 pub returns : goal.returns
@@ -28,7 +29,7 @@ returns c =
     let left = c.perform-2.new.self in
     let quiet = printed_at c.perform.result armed in
     let prints = printed_at c.perform-2.result left in
-    let second : c.twin-second.result.desk ≡ twin_desk was = c.twin-second.ensures
+    let second : c.twin-second.result.desk ≡ twin_desk was.desk (logs_none TWIN_WRITES) = c.twin-second.ensures
     ∙ ap (λ (f : Facts). record inside.desk.desk { bench = with_facts inside.desk.desk.bench f })
     (c.in-Ok.ensures ∙ ap (λ (f : Facts). record f { log = logs_none TWIN_WRITES }) c.board.ensures) in
     let cut = subst (λ (d : Desk). Performs (Cut 1 ALL_WORDS) d armed.desk quiet) second c.perform.ensures.performs in

@@ -1,0 +1,50 @@
+-- The charge of an order that can compare a PIN: its first device write, as a second desk makes it.
+use Rattle.std.specs.Prelude.{◌≡◌, ◌<◌, ◌==◌, ◌||◌, ℕ, List, Bool, Option, None, Some, IsTrue, length, slice_index}
+use Rattle.nvm_board.specs.History.{Log}
+use Rattle.nvm_board.specs.declared.board.Arm.{Arm}
+use Rattle.bench_lines.specs.Orders.{Order, Nothing, On, Off, Free, Apdu, Block, Cut, Lose, Garble}
+use Rattle.bench_lines.specs.Printouts.{Print}
+use Rattle.bench_turns.specs.BenchStates.{bench_facts, with_facts}
+use Rattle.bench_turns.specs.Guessing.{GuessesFew}
+use Rattle.bench_turns.specs.Plays.{IsGood}
+use Rattle.card_bench.specs.Exchanges.{Desk}
+use Rattle.card_bench.specs.Performing.{Performs}
+use Rattle.card_bench.specs.declared.charge.TheConstants.{ALL_WORDS}
+
+-- the instructions that can compare a PIN: VERIFY, CHANGE, DISABLE, ENABLE and RESET RETRY COUNTER (ISO/IEC 7816-4)
+abbrev pub is_pin_instruction : ℕ → Bool
+is_pin_instruction ins = (ins == 0x20) || (ins == 0x24) || (ins == 0x26) || (ins == 0x28) || (ins == 0x2C)
+
+-- an order that can compare a PIN: a command of such an instruction, or a block, which can end one
+abbrev pub MayCompare : Order → Type 0
+MayCompare Nothing = ⊥
+MayCompare On = ⊥
+MayCompare Off = ⊥
+MayCompare Free = ⊥
+MayCompare (Apdu command) = (1 < length command) × IsTrue (is_pin_instruction (slice_index command 1))
+MayCompare (Block block) = Unit
+MayCompare (Cut number mask) = ⊥
+MayCompare (Lose number) = ⊥
+MayCompare (Garble number) = ⊥
+
+-- a cut falls into the next write
+abbrev pub CutsNext : Option Arm → Type 0
+CutsNext None = ⊥
+CutsNext (Some arm) = arm.whole_writes ≡ 0
+
+-- a desk in the same state, whose board has this log
+abbrev pub twin_desk : Desk → Option Log → Desk
+twin_desk was log = record was { bench = with_facts was.bench (record (bench_facts was.bench) { log = log }) }
+
+-- An order runs on a second desk with this log, which loses power at its first write. These words are then in its
+-- memory. The guess law holds of them.
+pub record RunsToFirst (order : Order) (was : Desk) (log : Option Log) (words : List ℕ) : Type 0 where
+  pub armed : Desk
+  pub quiet : Print
+  pub cut : Performs (Cut 1 ALL_WORDS) (twin_desk was log) armed quiet
+  pub left : Desk
+  pub prints : Print
+  pub runs : Performs order armed left prints
+  pub good : IsGood left.bench
+  pub guesses : GuessesFew was.bench left.bench
+  pub leaves : (bench_facts left.bench).words ≡ words
