@@ -5,9 +5,9 @@
 mod boards;
 mod copied;
 mod device;
-mod first_write;
 mod outcome;
 mod reader_calls;
+mod second_log;
 mod sizes;
 mod write;
 mod write_log;
@@ -17,9 +17,9 @@ pub use copied::copy_write;
 pub use device::{
     DeviceBoard, TWIN_WRITES, followed, has_device, is_stored, next_write, twin_board, unfollowed,
 };
-pub use first_write::first_write;
 pub use outcome::{Outcome, Told, bit, copy};
 pub use reader_calls::{begin, receive};
+pub use second_log::first_write;
 pub use sizes::{ROOM, block_fits, command_fits, order_fits};
 pub use write::{WRITE_BYTES, Write};
 pub use write_log::{LOG_WRITES, Next, WriteLog};
