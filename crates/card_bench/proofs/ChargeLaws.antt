@@ -1,22 +1,24 @@
 -- What a second desk wrote that ran an order up to its first write.
-use Rattle.std.specs.Prelude.{◌≡◌, ◌<◌, ◌^◌, ℕ, List, Option, length}
-use Rattle.std.proofs.Common.{◌∙◌, ap, arith, refl}
+use Rattle.std.specs.Prelude.{◌≡◌, ◌⊎◌, ◌<◌, ◌^◌, ℕ, List, Option, None, is_some, length}
+use Rattle.std.proofs.Common.{◌∙◌, ap, arith, inl, inr, refl, subst, sym, true≢false}
 use Rattle.nvm_board.specs.Facts.{Facts}
 use Rattle.nvm_board.specs.History.{Log, Run, and_runs, replayed}
 use Rattle.bench_lines.specs.Orders.{Order, Cut}
 use Rattle.bench_lines.specs.Printouts.{Print}
 use Rattle.bench_turns.specs.BenchStates.{BenchState, off, on, bench_facts, with_facts}
 use Rattle.bench_turns.specs.Guessing.{GuessesFew}
+use Rattle.bench_turns.specs.Lasting.{HasLeft}
 use Rattle.bench_turns.specs.Plays.{IsGood}
 use Rattle.bench_turns.proofs.FewGuesses.{pays-nothing, pays-on}
-use Rattle.card_bench.specs.Charges.{RunsToFirst, twin_desk}
+use Rattle.card_bench.specs.Charges.{CutsNext, IsCharged, IsFactsOf, MayCompare, RunsToFirst, TakesCharge}
+use Rattle.card_bench.specs.Charges.{twin_desk}
 use Rattle.card_bench.specs.Exchanges.{Desk}
 use Rattle.card_bench.specs.Performing.{Performs}
 use Rattle.card_bench.specs.declared.charge.TheConstants.{ALL_WORDS}
 use Rattle.card_bench.proofs.GuessedLines.{performs_few}
 use Rattle.card_bench.proofs.WrittenLines.{performs_wrote}
 
-facts-with : (b : BenchState) (f : Facts) → bench_facts (with_facts b f) ≡ f
+pub facts-with : (b : BenchState) (f : Facts) → bench_facts (with_facts b f) ≡ f
 facts-with (off was) f = refl
 facts-with (on was) f = refl
 
@@ -71,3 +73,103 @@ module _ (order : Order) (was : Desk) (log : Option Log) (armed left : Desk) (qu
         words = second.wrote.words ∙ ap (λ (m : List ℕ). replayed m second.wrote.runs) words;
         few = let most = second.few in omega (arith, most);
       }
+
+-- a desk with its own log is that desk
+with-own : (b : BenchState) → with_facts b (bench_facts b) ≡ b
+with-own (off was) = refl
+with-own (on was) = refl
+
+twin-own : (d : Desk) → twin_desk d (bench_facts d.bench).log ≡ d
+twin-own d = ap (λ (b : BenchState). record d { bench = b }) (with-own d.bench)
+
+-- other facts in place of others
+with-again : (b : BenchState) (f g : Facts) → with_facts (with_facts b f) g ≡ with_facts b g
+with-again (off was) f g = refl
+with-again (on was) f g = refl
+
+-- the facts of a second desk
+pub twin_facts : (d : Desk) (log : Option Log)
+    → bench_facts (twin_desk d log).bench ≡ record (bench_facts d.bench) { log = log }
+twin_facts d log = facts-with d.bench _
+
+-- its board may have another one's log, on the same facts
+pub is_facts : (d : Desk) (f : Facts) (log : Option Log) → f ≡ record (bench_facts d.bench) { log = log }
+    → IsFactsOf d f
+is_facts d f log is = is ∙ ap (λ (l : Option Log). record (bench_facts d.bench) { log = l })
+    (sym (ap (λ (g : Facts). g.log) is))
+
+pub own_facts : (d : Desk) (f : Facts) → f ≡ bench_facts d.bench → IsFactsOf d f
+own_facts d f is = is_facts d f (bench_facts d.bench).log is
+
+-- a board with the memory of a second desk fits it
+pub fits_twin : (was second : Desk) (f : Facts) → second ≡ twin_desk was None → IsFactsOf was f → IsFactsOf second f
+fits_twin was second f is fits = fits ∙ ap (λ (g : Facts). record g { log = f.log })
+    (sym (ap (λ (d : Desk). bench_facts d.bench) is ∙ twin_facts was None))
+
+-- a second desk with this board in place of its own
+pub second_twin : (was second new : Desk) (f : Facts) (log : Option Log) → second ≡ twin_desk was None
+    → f ≡ record (bench_facts was.bench) { log = log }
+    → new ≡ record second { bench = with_facts second.bench f } → new ≡ twin_desk was log
+second_twin was second new f log is facts twin =
+    twin ∙ ap (λ (d : Desk). record d { bench = with_facts d.bench f }) is
+    ∙ ap (λ (b : BenchState). record was { bench = b }) (with-again was.bench _ f)
+    ∙ ap (λ (g : Facts). record was { bench = with_facts was.bench g }) facts
+
+-- the follower took the charge of an order
+module _ (order : Order) (was armed left : Desk) (quiet prints : Print)
+    (cut : Performs (Cut 1 ALL_WORDS) was armed quiet) (run : Performs order armed left prints)
+    (good : IsGood left.bench) where
+  pub takes_charge : (now : Desk) (log : Option Log) → log ≡ (bench_facts left.bench).log → now ≡ twin_desk was log
+      → TakesCharge order was now
+  unfolding ran_to_first
+  takes_charge now log is same = record {
+    words = (bench_facts left.bench).words;
+    first = ran_to_first order was (bench_facts was.bench).log armed left quiet prints
+        (subst (λ (d : Desk). Performs (Cut 1 ALL_WORDS) d armed quiet) (sym (twin-own was)) cut) run good _ refl;
+    same = same ∙ ap (twin_desk was) is;
+  }
+
+-- what holds of a desk holds of one that is charged
+good-with : (b : BenchState) (log : Option Log) → IsGood b
+    → IsGood (with_facts b (record (bench_facts b) { log = log }))
+good-with (off was) log good =
+    record { has_card = good.has_card; faults = good.faults; due = good.due; well = good.well }
+good-with (on was) log good =
+    record { has_card = good.has_card; faults = good.faults; due = good.due; well = good.well }
+
+pub good_charged : (order : Order) (was now : Desk) → IsCharged order was now → IsGood was.bench → IsGood now.bench
+good_charged order was now (inl same) good = subst (λ (d : Desk). IsGood d.bench) (sym same.0) good
+good_charged order was now (inr takes) good =
+    subst (λ (d : Desk). IsGood d.bench) (sym takes.same) (good-with was.bench _ good)
+
+left-logged : (n : ℕ) (f : Facts) (log : Option Log) → HasLeft n f → HasLeft n (record f { log = log })
+left-logged n f log left = record {
+  faults = left.faults;
+  cuts = left.cuts;
+  writes = left.writes;
+  compares = left.compares;
+  matches = left.matches;
+}
+
+pub left_charged : (n : ℕ) (order : Order) (was now : Desk) → IsCharged order was now
+    → HasLeft n (bench_facts was.bench) → HasLeft n (bench_facts now.bench)
+left_charged n order was now (inl same) left = subst (λ (d : Desk). HasLeft n (bench_facts d.bench)) (sym same.0) left
+left_charged n order was now (inr takes) left =
+    subst (λ (d : Desk). HasLeft n (bench_facts d.bench)) (sym takes.same)
+    (subst (HasLeft n) (sym (twin_facts was _)) (left-logged n _ _ left))
+
+-- a desk whose order owes no charge
+pub never_compares : (order : Order) (was : Desk) → ¬ MayCompare order → IsCharged order was was
+never_compares order was never = inl (refl, λ owes. never owes.0)
+
+pub is_unlogged : (order : Order) (was : Desk) → (bench_facts was.bench).log ≡ None → IsCharged order was was
+is_unlogged order was none = inl (refl, λ owes. true≢false (sym owes.1 ∙ ap is_some none))
+
+pub is_cut_next : (order : Order) (was : Desk) → CutsNext (bench_facts was.bench).pending → IsCharged order was was
+is_cut_next order was cuts = inl (refl, λ owes. owes.2 cuts)
+
+-- the board of a desk that is charged has the facts that it had
+pub charged_facts : (order : Order) (was now : Desk) (f : Facts) → TakesCharge order was now
+    → f ≡ bench_facts now.bench → IsFactsOf was f
+charged_facts order was now f takes is = is_facts was f _
+    (is ∙ ap (λ (d : Desk). bench_facts d.bench) takes.same ∙ twin_facts was _)

@@ -24,6 +24,7 @@ use Rattle.card_bench.specs.Exchanges.{toward_card, toward_reader}
 use Rattle.bench_turns.specs.Lasting.{HasLeft}
 use Rattle.card_bench.specs.Performing.{Performs, PerformsCommand}
 use Rattle.bench_lines.specs.Printouts.{Print}
+use Rattle.card_bench.proofs.ChargeLaws.{left_charged}
 use Rattle.card_bench.specs.Prints.{IsFirstDesk, PrintsLines}
 use Rattle.bench_turns.specs.Turns.{turn_steps}
 use Rattle.bench_turns.proofs.Wearing.{fewer, few-steps, turn-lasts, block-lasts, stays-last}
@@ -32,7 +33,8 @@ use Rattle.bench_turns.proofs.Wearing.{fewer, few-steps, turn-lasts, block-lasts
 takes-last : (n : ℕ) (old new : BenchState) (got : List ℕ) (follows : Result NextBlock Ended)
     → CardTakes old got new follows → HasLeft (n + COMMAND_WRITES) (bench_facts old) → HasLeft n (bench_facts new)
 takes-last n old new got (Ok (toward_card bytes)) takes left = absurd takes
-takes-last n old new got (Ok (toward_reader bytes)) takes left = block-lasts n old new got (item.Reply bytes) takes left
+takes-last n old new got (Ok (toward_reader bytes)) takes left = block-lasts n old new got (item.Reply bytes) takes
+    left
 takes-last n old new got (Err (answered answer)) takes left = absurd takes
 takes-last n old new got (Err set_back) takes left = absurd takes
 takes-last n old new got (Err link_lost) takes left = absurd takes
@@ -133,22 +135,25 @@ line-lasts n (Block block) old new prints performs left =
     block-lasts n old.bench new.bench block performs.outcome performs.turn (block-left n (bench_facts old.bench) left)
 line-lasts n (Cut number mask) old new prints performs left =
     let nearer = fewer (n + LINE_STEPS) n (bench_facts old.bench) (omega arith) left in
-    subst (λ (b : BenchState). HasLeft n (bench_facts b)) (sym performs.armed.same) (armed-lasts n old.bench _ _ nearer)
+    subst (λ (b : BenchState). HasLeft n (bench_facts b)) (sym performs.armed.same) (armed-lasts n old.bench _ _
+    nearer)
 line-lasts n (Lose number) old new prints performs left =
     stays-last n LINE_STEPS old.bench new.bench (ap (λ (d : Desk). d.bench) performs.0) left
 line-lasts n (Garble number) old new prints performs left =
     stays-last n LINE_STEPS old.bench new.bench (ap (λ (d : Desk). d.bench) performs.0) left
 
-lines-last : (n : ℕ) (first last : Desk) (some : List (List ℕ)) (out : List ℕ) → PrintsLines first some last out
+lines-last : (Stored Kept : Facts → Type 0) (n : ℕ) (first last : Desk) (some : List (List ℕ)) (out : List ℕ)
+    → PrintsLines Stored Kept first some last out
     → HasLeft (n + LINE_STEPS * length some) (bench_facts first.bench) → HasLeft n (bench_facts last.bench)
 unfolding PrintsLines
-lines-last n first last [] out prints left =
+lines-last Stored Kept n first last [] out prints left =
     stays-last n (LINE_STEPS * 0) first.bench last.bench (ap (λ (d : Desk). d.bench) prints.0) left
-lines-last n first last (line ∷ others) out prints left =
-    lines-last n prints.1 last others prints.3 prints.7
-    (line-lasts (n + LINE_STEPS * length others) prints.0 first prints.1 prints.2 prints.5
+lines-last Stored Kept n first last (line ∷ others) out prints left =
+    lines-last Stored Kept n prints.1 last others prints.3 prints.7
+    (line-lasts (n + LINE_STEPS * length others) prints.0 prints.5.charged prints.1 prints.2 prints.5.performs
+    (left_charged (n + LINE_STEPS * length others + LINE_STEPS) prints.0 first prints.5.charged prints.5.charge
     (fewer (n + LINE_STEPS * length (line ∷ others)) (n + LINE_STEPS * length others + LINE_STEPS)
-    (bench_facts first.bench) (omega arith) left))
+    (bench_facts first.bench) (omega arith) left)))
 
 -- counts that are all 0
 none-counted : (n : ℕ) (counts : List ℕ) → counts ≡ replicate SECRETS 0 → n < COUNT_END
@@ -157,15 +162,17 @@ none-counted n counts none few =
     subst (λ (l : List ℕ). All (λ c. c + n < COUNT_END) l) (sym none)
     (All-replicate (λ (c : ℕ). c + n < COUNT_END) SECRETS 0 (omega (arith, few)))
 
-pub script-lasts : (first last : Desk) (some : List (List ℕ)) (out : List ℕ) → IsFirstDesk first
-    → PrintsLines first some last out → length some ≤ SCRIPT_LIMIT + 1 → HasLeft LINE_STEPS (bench_facts last.bench)
-script-lasts first last some out begins prints short =
+pub script-lasts : (Stored Kept : Facts → Type 0) (first last : Desk) (some : List (List ℕ)) (out : List ℕ)
+    → IsFirstDesk first
+    → PrintsLines Stored Kept first some last out → length some ≤ SCRIPT_LIMIT + 1
+    → HasLeft LINE_STEPS (bench_facts last.bench)
+script-lasts Stored Kept first last some out begins prints short =
     let counts = begins.counts in
     let none = begins.good.faults in
     let cuts = counts.cuts in
     let writes = counts.writes in
     let few : LINE_STEPS + LINE_STEPS * length some < COUNT_END = omega (arith, short) in
-    lines-last LINE_STEPS first last some out prints (record {
+    lines-last Stored Kept LINE_STEPS first last some out prints (record {
       faults = omega (arith, none, short);
       cuts = omega (arith, cuts, short);
       writes = omega (arith, writes, short);

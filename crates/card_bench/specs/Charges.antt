@@ -1,9 +1,11 @@
 -- The charge of an order that can compare a PIN: its first device write, as a second desk makes it.
-use Rattle.std.specs.Prelude.{◌≡◌, ◌<◌, ◌==◌, ◌||◌, ℕ, List, Bool, Option, None, Some, IsTrue, length, slice_index}
+use Rattle.std.specs.Prelude.{◌≡◌, ◌≢◌, ◌⊎◌, ◌<◌, ◌==◌, ◌||◌, ℕ, List, Bool, true, Option, None, Some, IsTrue}
+use Rattle.std.specs.Prelude.{is_some, length, slice_index}
+use Rattle.nvm_board.specs.Facts.{Facts}
 use Rattle.nvm_board.specs.History.{Log}
 use Rattle.nvm_board.specs.declared.board.Arm.{Arm}
 use Rattle.bench_lines.specs.Orders.{Order, Nothing, On, Off, Free, Apdu, Block, Cut, Lose, Garble}
-use Rattle.bench_lines.specs.Printouts.{Print}
+use Rattle.bench_lines.specs.Printouts.{Print, prints_nothing}
 use Rattle.bench_turns.specs.BenchStates.{bench_facts, with_facts}
 use Rattle.bench_turns.specs.Guessing.{GuessesFew}
 use Rattle.bench_turns.specs.Plays.{IsGood}
@@ -48,3 +50,36 @@ pub record RunsToFirst (order : Order) (was : Desk) (log : Option Log) (words : 
   pub good : IsGood left.bench
   pub guesses : GuessesFew was.bench left.bench
   pub leaves : (bench_facts left.bench).words ≡ words
+
+-- An order owes a charge: it can compare, the board's follower has a log, and no cut falls into the next write.
+abbrev pub Owes : Order → Desk → Type 0
+Owes order was = MayCompare order × (is_some (bench_facts was.bench).log ≡ true)
+    × ¬ CutsNext (bench_facts was.bench).pending
+
+-- The follower takes the first write of an order before the order runs: its log is that of a desk in the same state
+-- that ran the order and lost power in this write. Nothing else changes.
+pub record TakesCharge (order : Order) (was now : Desk) : Type 0 where
+  pub words : List ℕ
+  pub first : RunsToFirst order was (bench_facts was.bench).log words
+  pub same : now ≡ twin_desk was (bench_facts first.left.bench).log
+
+-- a desk at which the follower took the charge of an order, if the order owes one
+abbrev pub IsCharged : Order → Desk → Desk → Type 0
+IsCharged order was now = ((now ≡ was) × ¬ Owes order was) ⊎ TakesCharge order was now
+
+-- no statement about facts
+abbrev pub AnyFacts : Facts → Type 0
+AnyFacts f = Unit {0}
+
+-- An order of a line runs, after the charge that it owes. `Stored` holds of the board's facts before an order that can
+-- compare runs, and `Kept` of those after it, if the line has output.
+pub record RunsLine (Stored Kept : Facts → Type 0) (order : Order) (old new : Desk) (prints : Print) : Type 0 where
+  pub charged : Desk
+  pub charge : IsCharged order old charged
+  pub stored : MayCompare order → Stored (bench_facts charged.bench)
+  pub performs : Performs order charged new prints
+  pub kept : prints ≢ prints_nothing → Kept (bench_facts new.bench)
+
+-- the facts of a desk's board, which may have another log
+abbrev pub IsFactsOf : Desk → Facts → Type 0
+IsFactsOf d f = f ≡ record (bench_facts d.bench) { log = f.log }

@@ -1,6 +1,7 @@
 //! The desk of a script: a bench, the reader's end of the link, and the line between the ends.
 ghost use Rattle.std.specs.Prelude.{◌≡◌, ◌≢◌, ◌⊎◌, ◌↔◌, ℕ, None, Err, IsTrue, take, true, false};
 ghost use Rattle.std.specs.Prelude.{IfErr, OnErr, OnOk};
+ghost use Rattle.card_bench.specs.Charges.{IsCharged, IsFactsOf, MayCompare, TakesCharge, twin_desk};
 ghost use Rattle.std.specs.Io.KnownBytes.{Appends};
 ghost use Rattle.bench_lines.specs.declared.order.TheConstants.{COMMAND_LIMIT};
 ghost use Rattle.bench_turns.specs.BenchStates.{IsOn, bench_facts, off, with_facts};
@@ -9,16 +10,19 @@ ghost use Rattle.card_bench.specs.DeskStates.{print_of, printed_at};
 ghost use Rattle.bench_lines.specs.OrderViews.{order_with};
 ghost use Rattle.bench_lines.specs.Orders.{IsOrderSized};
 ghost use Rattle.card_bench.specs.Lines.{perfect_line};
+ghost use Rattle.card_bench.specs.Prints.{LacksNoWrite};
 ghost use Rattle.card_bench.specs.Performing.{Performs, PerformsCommand, TakesTurn, free_shown};
 ghost use Rattle.bench_turns.specs.Plays.{IsGood};
 ghost use Rattle.bench_lines.specs.Printouts.{prints_nothing, text_of};
 
+use crate::charge::{ALL_WORDS, cuts_next, may_compare};
 use crate::exchange::{Ends, exchange};
 use crate::line::Line;
 use crate::line_result::LineResult;
 use crate::reader_turns::{Blocks, Ending};
 use bench_lines::{Order, PrintedText, RunFault};
 use bench_turns::{Turn, TurnPlayer, Twinned};
+use core::mem::replace;
 use simulated_boards::Followed;
 use std::io::Write;
 use std::marker::Model;
@@ -173,8 +177,8 @@ where
         ensures unwritten { result ≡ Err RunFault.Write → (size : ℕ) × Appends (W.contents writer.old)
             (W.contents writer.new) (take size (text_of (printed_at line_result self.now))) }
         ensures unkept { result ≡ Err RunFault.Unkept → W.contents writer.new ≡ W.contents writer.old }
-        ensures kept { OnOk result (printed_at line_result self.now ≢ prints_nothing → (board : P.Board)
-            × (P.Board.facts board ≡ bench_facts self.now.desk.bench) × (P.Board.has_kept board ≡ true)) }
+        ensures kept { result ≢ Err RunFault.Unkept → printed_at line_result self.now ≢ prints_nothing
+            → LacksNoWrite P.Board P.Board.facts P.Board.has_kept (bench_facts self.now.desk.bench) }
         ensures behind { result ≡ Err RunFault.Unkept → (board : P.Board)
             × (P.Board.facts board ≡ bench_facts self.now.desk.bench) × (P.Board.has_kept board ≡ false) }
         ensures fault { IfErr result (λ fault. (fault ≡ RunFault.Write) ⊎ (fault ≡ RunFault.Unkept)) }
@@ -185,6 +189,80 @@ where
         }
         let ends = &self.ends;
         line_result.print(&ends.reader, &ends.blocks.toward_reader, writer, text)
+    }
+}
+
+impl<P: Twinned + Drop> Desk<P>
+where
+    P::Board: Followed + Drop,
+{
+    /// Gives the board's follower the first write of an order that can compare a PIN. The order is to run after it.
+    /// The desk runs the order up to this write, and a second desk in the state before it takes its place.
+    ///
+    /// # Errors
+    ///
+    /// `Unkept` if the follower did not take the write, or there is too little memory for a second board. Then nothing
+    /// was compared.
+    #[tactic(auto, using(crate::proofs::ChargeLaws::charged_facts, crate::proofs::ChargeLaws::is_unlogged, crate::proofs::ChargeLaws::is_cut_next, crate::proofs::ChargeLaws::never_compares, crate::proofs::ChargeLaws::own_facts))]
+    pub(crate) fn charge(&mut self, order: Order, given: &[u8]) -> Result<(), RunFault>
+        requires sized { IsOrderSized (order_with order given.now) }
+        requires good { IsGood self.old.desk.bench }
+        ensures charged { OnOk result (IsCharged (order_with order given.now) self.old.desk self.new.desk) }
+        ensures kept { OnOk result (MayCompare (order_with order given.now)
+            → LacksNoWrite P.Board P.Board.facts P.Board.has_kept (bench_facts self.new.desk.bench)) }
+        ensures fault { IfErr result (λ fault. fault ≡ RunFault.Unkept) }
+        ensures compares { OnErr result (MayCompare (order_with order given.now)) }
+        ensures lacks { OnErr result ((board : P.Board) × ((P.Board.has_follower board ≡ true)
+            ⊎ (P.Board.has_kept board ≡ false)) × IsFactsOf self.old.desk (P.Board.facts board)) }
+    {
+        if !may_compare(order, given) {
+            return Ok(());
+        }
+        let board = self.board();
+        if !board.follows() {
+            return Err(RunFault::Unkept);
+        }
+        if !board.is_followed() || cuts_next(board.pending_cut()) {
+            return Ok(());
+        }
+        let Ok(second) = board.unfollowed_copy() else {
+            return Err(RunFault::Unkept);
+        };
+        let Ok(next) = board.unfollowed_copy() else {
+            return Err(RunFault::Unkept);
+        };
+        let second = self.twin(second);
+        if self.take_charge(second, next, order, given) {
+            Ok(())
+        } else {
+            Err(RunFault::Unkept)
+        }
+    }
+
+    /// Runs an order up to its first write, which the follower gets. Then a second desk in the state before it takes
+    /// this one's place, and `next`, which has its memory, the follower. Returns true if the follower took the write.
+    /// This is a function of its own, so that a line without a charge, the usual case, doesn't pay for it.
+    #[inline(never)]
+    fn take_charge(&mut self, second: Desk<P>, next: P::Board, order: Order, given: &[u8]) -> bool
+        requires sized { IsOrderSized (order_with order given.now) }
+        requires good { IsGood self.old.desk.bench }
+        requires second { second.desk ≡ twin_desk self.old.desk None }
+        requires next { P.Board.facts next ≡ record (bench_facts self.old.desk.bench) { log = None } }
+        ensures charged { TakesCharge (order_with order given.now) self.old.desk self.new.desk }
+        ensures kept { (board : P.Board) × (P.Board.facts board ≡ bench_facts self.new.desk.bench)
+            × (P.Board.has_kept board ≡ result) }
+    {
+        let cut = Order::Cut {
+            number: 1,
+            mask: ALL_WORDS,
+        };
+        self.perform(cut, &[]);
+        self.perform(order, given);
+        let left = replace(self, second).into_board();
+        let board = next.with_follower_of(left);
+        let kept = board.follows();
+        *self = self.twin(board);
+        kept
     }
 }
 

@@ -19,7 +19,7 @@ ghost use Rattle.card_bench.specs.Lines.{arriving, line_after};
 ghost use Rattle.card_bench.specs.Performing.{Performs};
 ghost use Rattle.bench_turns.specs.Plays.{IsGood};
 ghost use Rattle.bench_lines.specs.Printouts.{prints_dark};
-ghost use Rattle.card_bench.specs.Prints.{IsFirstDesk, PrintsLines};
+ghost use Rattle.card_bench.specs.Prints.{IsFirstDesk, IsUnfollowed, PrintsLines};
 ghost use Rattle.card_bench.specs.ScriptWorlds.{PowerOnLaw, LineLaw};
 ghost use Rattle.bench_turns.specs.Turns.{GoodBlock, GoodTurn, Runs, dark_of, run_steps, turn_steps};
 ghost use Rattle.file_tree.specs.Formats.{is_format_2};
@@ -83,7 +83,8 @@ pub fn counts_last()
         → (run_steps old turns trace new run ≤ 3787 * length turns)
         × (HasLeft (n + run_steps old turns trace new run) (bench_facts old) → HasLeft n (bench_facts new)) }
     ensures script { (first last : Desk) (some : List (List ℕ)) (out : List ℕ) → IsFirstDesk first
-        → PrintsLines first some last out → length some ≤ 16777217 → HasLeft 700000 (bench_facts last.bench) }
+        → PrintsLines IsUnfollowed IsUnfollowed first some last out → length some ≤ 16777217
+        → HasLeft 700000 (bench_facts last.bench) }
     ensures cut { (order : Order) (old new : Desk) → Performs order old new prints_dark
         → IsGood old.bench → IsGood new.bench
         → HasLeft 700000 (bench_facts old.bench) → (bench_facts new.bench).pending ≡ None }

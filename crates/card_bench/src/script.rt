@@ -1,8 +1,8 @@
 //! Runs a script, from its first line to its last.
-ghost use Rattle.std.specs.Prelude.{◌≡◌, ◌≢◌, false, Err, IfSome, IfErr, OnOk};
-ghost use Rattle.card_bench.specs.ScriptEndings.{IsRunToEnd, RunStopsBy, StopsUnkept};
+ghost use Rattle.std.specs.Prelude.{◌≡◌, ◌≢◌, Err, IfSome, IfErr, OnOk};
+ghost use Rattle.card_bench.specs.ScriptEndings.{IsRunToEnd, RunStopsBy, StopsBehind};
 ghost use Rattle.card_bench.specs.Exchanges.{Desk as DeskValue};
-ghost use Rattle.card_bench.specs.Prints.{IsFirstDesk, desk_of};
+ghost use Rattle.card_bench.specs.Prints.{IsFirstDesk, LacksNoWrite, IsUnfollowed, desk_of};
 ghost use Rattle.bench_turns.specs.Plays.{IsGood};
 ghost use Rattle.command_base.specs.Finding.{HasCard};
 
@@ -10,7 +10,7 @@ use crate::desk::Desk;
 use bench_lines::{
     GivenBytes, LineBytes, LineEnd, LineFault, NO_TEXT, Order, RunFault, SCRIPT_LIMIT, read_line,
 };
-use bench_turns::TurnPlayer;
+use bench_turns::Twinned;
 use card_boards::factory_board;
 use nvm_board::has_no_fault;
 use simulated_boards::{CutBoard, Followed};
@@ -26,7 +26,7 @@ use std::io::{BufRead, Write};
 /// `Memory` before anything is read; `BadLine` at the first line that is invalid or too long, after the output of the
 /// lines before it; `Read` if the reader fails, or the script has more than 16,777,216 bytes; `Write` if the writer
 /// fails, or takes nothing.
-pub fn run<P: TurnPlayer<Board = CutBoard> + Drop, R: BufRead, W: Write>(
+pub fn run<P: Twinned<Board = CutBoard> + Drop, R: BufRead, W: Write>(
     alloc: Global,
     reader: &mut R,
     writer: &mut W,
@@ -34,12 +34,12 @@ pub fn run<P: TurnPlayer<Board = CutBoard> + Drop, R: BufRead, W: Write>(
     // At the end of the script, each of its lines is valid, and the writer contains their output, from the factory card
     // on.
     ensures done { OnOk result ((first : DeskValue) × IsFirstDesk first × IfSome (R.remaining reader.old)
-        (λ script. IsRunToEnd first script (W.contents writer.old) (W.contents writer.new))) }
+        (λ script. IsRunToEnd IsUnfollowed first script (W.contents writer.old) (W.contents writer.new))) }
 
     // A bad line is the first one, and the writer contains the output of the lines before it. `Read` occurs within a
     // line, before its end and before it is too long. `Write` occurs in the output of the last line that was read.
     ensures stopped { result ≢ Err RunFault.Memory → IfErr result (λ fault. (first : DeskValue) × IsFirstDesk first
-        × RunStopsBy first fault (R.remaining reader.old) (R.remaining reader.new)
+        × RunStopsBy IsUnfollowed first fault (R.remaining reader.old) (R.remaining reader.new)
         (W.contents writer.old) (W.contents writer.new)) }
 
     // With too little memory nothing was read or written.
@@ -61,26 +61,28 @@ pub fn run<P: TurnPlayer<Board = CutBoard> + Drop, R: BufRead, W: Write>(
 /// # Errors
 ///
 /// Those of `run` but `Memory`, and `Unkept` if the follower did not take a write: then the line has no answer, and no
-/// line after it runs.
-pub fn run_on<P: TurnPlayer + Drop, R: BufRead, W: Write>(
+/// line after it runs. If it did not take the charge of a PIN, the line itself does not run, and nothing is compared.
+pub fn run_on<P: Twinned + Drop, R: BufRead, W: Write>(
     board: P::Board,
     reader: &mut R,
     writer: &mut W,
 ) -> Result<(), RunFault>
 where
-    P::Board: Followed,
+    P::Board: Followed + Drop,
     requires { HasCard (P.Board.facts board).words }
     ensures done { OnOk result (IfSome (R.remaining reader.old)
-        (λ script. IsRunToEnd (desk_of (P.Board.facts board)) script (W.contents writer.old)
-        (W.contents writer.new))) }
+        (λ script. IsRunToEnd (LacksNoWrite P.Board P.Board.facts P.Board.has_kept) (desk_of (P.Board.facts board))
+        script (W.contents writer.old) (W.contents writer.new))) }
     ensures stopped { IfErr result (λ fault.
-        RunStopsBy (desk_of (P.Board.facts board)) fault (R.remaining reader.old) (R.remaining reader.new)
-        (W.contents writer.old) (W.contents writer.new)) }
+        RunStopsBy (LacksNoWrite P.Board P.Board.facts P.Board.has_kept) (desk_of (P.Board.facts board)) fault
+        (R.remaining reader.old) (R.remaining reader.new) (W.contents writer.old) (W.contents writer.new)) }
     ensures memory { result ≢ Err RunFault.Memory }
-    // The board that lacks a write is that of the line without an answer.
-    ensures behind { result ≡ Err RunFault.Unkept → (left : P.Board) × (P.Board.has_kept left ≡ false)
-        × StopsUnkept (desk_of (P.Board.facts board)) (P.Board.facts left) (R.remaining reader.old)
-        (R.remaining reader.new) (W.contents writer.old) (W.contents writer.new) }
+    // The board that lacks a write is that of the line without an answer, or that before the line without a charge.
+    ensures behind { result ≡ Err RunFault.Unkept → (left : P.Board)
+        × StopsBehind (P.Board.has_kept left) (P.Board.has_follower left)
+        (LacksNoWrite P.Board P.Board.facts P.Board.has_kept) (desk_of (P.Board.facts board)) (P.Board.facts left)
+        (R.remaining reader.old) (R.remaining reader.new) (W.contents writer.old)
+        (W.contents writer.new) }
 {
     has_no_fault(&board);
     let mut desk: Desk<P> = Desk::new(board);
@@ -88,23 +90,25 @@ where
 }
 
 /// Runs the lines of a script on a desk.
-fn run_lines<P: TurnPlayer, R: BufRead, W: Write>(
+fn run_lines<P: Twinned + Drop, R: BufRead, W: Write>(
     desk: &mut Desk<P>,
     reader: &mut R,
     writer: &mut W,
 ) -> Result<(), RunFault>
 where
-    P::Board: Followed,
+    P::Board: Followed + Drop,
     requires { IsGood desk.old.desk.bench }
     ensures done { OnOk result (IfSome (R.remaining reader.old)
-        (λ script. IsRunToEnd desk.old.desk script (W.contents writer.old) (W.contents writer.new))) }
+        (λ script. IsRunToEnd (LacksNoWrite P.Board P.Board.facts P.Board.has_kept) desk.old.desk script
+        (W.contents writer.old) (W.contents writer.new))) }
     ensures stopped { IfErr result (λ fault.
-        RunStopsBy desk.old.desk fault (R.remaining reader.old) (R.remaining reader.new)
-        (W.contents writer.old) (W.contents writer.new)) }
+        RunStopsBy (LacksNoWrite P.Board P.Board.facts P.Board.has_kept) desk.old.desk fault
+        (R.remaining reader.old) (R.remaining reader.new) (W.contents writer.old) (W.contents writer.new)) }
     ensures memory { result ≢ Err RunFault.Memory }
-    ensures behind { result ≡ Err RunFault.Unkept → (left : P.Board) × (P.Board.has_kept left ≡ false)
-        × StopsUnkept desk.old.desk (P.Board.facts left) (R.remaining reader.old) (R.remaining reader.new)
-        (W.contents writer.old) (W.contents writer.new) }
+    ensures behind { result ≡ Err RunFault.Unkept → (left : P.Board)
+        × StopsBehind (P.Board.has_kept left) (P.Board.has_follower left)
+        (LacksNoWrite P.Board P.Board.facts P.Board.has_kept) desk.old.desk (P.Board.facts left)
+        (R.remaining reader.old) (R.remaining reader.new) (W.contents writer.old) (W.contents writer.new) }
 {
     let mut line = LineBytes::new();
     let mut given = GivenBytes::new();
@@ -121,7 +125,9 @@ where
         let Some(order) = Order::parse(line.as_slice(), &mut given) else {
             return Err(RunFault::BadLine(number));
         };
-        let line_result = desk.perform(order, given.as_slice());
+        let bytes = given.as_slice();
+        desk.charge(order, bytes)?;
+        let line_result = desk.perform(order, bytes);
         desk.answer(line_result, writer, &mut text)?;
         match end {
             LineEnd::LineFeed => {}

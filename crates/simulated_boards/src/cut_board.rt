@@ -51,6 +51,11 @@ impl CutBoard {
         })
     }
 
+    /// Returns the allocator of the words.
+    pub(crate) fn allocator(&self) -> Global {
+        self.ram.allocator()
+    }
+
     /// Returns a second board with the same words, power, counts and cut.
     ///
     /// # Errors

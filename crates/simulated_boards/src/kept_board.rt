@@ -228,10 +228,45 @@ impl<F: Follower> Faultless for KeptBoard<F> {
     ghost faultless = { λ b. record { faults = refl; due = refl } };
 }
 
-impl<F: Follower> Followed for KeptBoard<F> {
+impl<F: Follower + Drop> Followed for KeptBoard<F> {
+    ghost use Rattle.std.specs.Prelude.{◌&&◌, is_some};
+
     ghost has_kept = { λ b. b.follows };
+
+    ghost has_follower = { λ b. b.follows && is_some b.follower };
 
     fn follows(&self) -> bool {
         self.follows
+    }
+
+    fn is_followed(&self) -> bool {
+        self.follows && self.follower.is_some()
+    }
+
+    fn pending_cut(&self) -> Option<Arm> {
+        self.cut.arm_pending()
+    }
+
+    fn unfollowed_copy(&self) -> Result<KeptBoard<F>, AllocError> {
+        let cut = self.cut.copy(self.cut.allocator())?;
+        Ok(KeptBoard::new(cut, None))
+    }
+
+    fn with_follower_of(self, other: KeptBoard<F>) -> KeptBoard<F> {
+        let KeptBoard {
+            cut: own,
+            follower: _,
+            follows: _,
+        } = self;
+        let KeptBoard {
+            cut: _,
+            follower: theirs,
+            follows: has_all,
+        } = other;
+        KeptBoard {
+            cut: own,
+            follower: theirs,
+            follows: has_all,
+        }
     }
 }

@@ -121,6 +121,11 @@ impl RamBoard {
         })
     }
 
+    /// Returns the allocator of the words.
+    pub(crate) fn allocator(&self) -> Global {
+        *self.words.allocator()
+    }
+
     /// Returns true if power is off.
     pub(crate) fn is_dark(&self) -> bool
         ensures { result ≡ (ram_facts self.now).dark }

@@ -130,6 +130,19 @@ def answers(calls: list[Call]) -> list[list[Call]]:
     return parts
 
 
+def of_charges(checks: Checks, bench: Bench) -> None:
+    """A PIN's charge is in the file before the command runs, which then writes it again."""
+    bench.image.write_bytes(data_of(factory()))
+    _, _, _, calls = run(bench, ["on", WRONG_PIN], "--sync")
+    charges = [(it.name, it.words) for it in answers(calls)[1]]
+    checks.compare("a charge and its sync, twice", charges[:2] * 2, charges)
+    bench.image.write_bytes(data_of(factory()))
+    status, printed, told, calls = run(bench, ["on", WRONG_PIN], inject="pwrite64:error=EIO:when=2")
+    checks.compare("the run's own charge is refused", (UNKEPT, [ATR], UNKEPT_WORDS), (status, printed, told))
+    kept = bench.run(f"on\n{WRONG_PIN}\n")[1]
+    checks.compare("a charge that is in the file counts", [ATR, "< 63C1"], kept)
+
+
 def of_writes(checks: Checks, bench: Bench) -> None:
     """Each device write is one write within a page; --sync waits for each, and nothing else does."""
     for options in ((), ("--sync",)):
@@ -178,7 +191,7 @@ def of_failing_writes(checks: Checks, bench: Bench) -> None:
         "a disk that takes two bytes": ("pwrite64:retval=2:when=1", ()),
         "a disk that takes none": ("pwrite64:retval=0:when=1", ()),
         "a sync that fails": ("fdatasync:error=EIO:when=1", ("--sync",)),
-        "a second sync that fails": ("fdatasync:error=EIO:when=2", ("--sync",)),
+        "a second sync that fails": ("fdatasync:error=EIO:when=3", ("--sync",)),
     }
     for what, (inject, options) in faults.items():
         bench.image.write_bytes(data_of(factory()))
@@ -187,7 +200,8 @@ def of_failing_writes(checks: Checks, bench: Bench) -> None:
         lines = [ATR] + ["< 63C2"] * ("second" in what)
         checks.compare(what, (UNKEPT, lines, UNKEPT_WORDS), (status, printed, told))
         writes = [it for it in calls if it.name == "pwrite64"]
-        checks.compare(f"{what}: nothing is written behind it", len(script) - 2, len(writes))
+        # (a PIN that is compared writes its charge before and in its run; a charge that fails is the last write)
+        checks.compare(f"{what}: nothing is written behind it", 2 * len(script) - 5, len(writes))
 
 
 def check(checks: Checks, program: str, folder: Path) -> None:
@@ -202,5 +216,6 @@ def check(checks: Checks, program: str, folder: Path) -> None:
     of_two_makers(checks, bench)
     of_failing_makers(checks, bench)
     of_writes(checks, bench)
+    of_charges(checks, bench)
     of_failing_writes(checks, bench)
     of_a_removal(checks, bench)

@@ -2,6 +2,7 @@ use Rattle.card_bench.proofs.DarkLines.{dark-spends, dark-unsets}
 use Rattle.bench_turns.proofs.Wearing.{block-due, due-spent, few-run, few-steps, not-mute, runs-last}
 use Rattle.bench_turns.proofs.Wearing.{steps-new}
 use Rattle.card_bench.proofs.LineWear.{script-lasts}
+use Rattle.card_bench.specs.Prints.{IsUnfollowed}
 use Rattle.card_bench.proofs.laws.counts_last.Goals as goal
 
 pub returns-clause-starts : goal.returns-clause-starts
@@ -18,7 +19,7 @@ returns-clause-turns c = λ n old new turns trace run.
     (few-run old new turns trace run, runs-last n old new turns trace run)
 
 pub returns-clause-script : goal.returns-clause-script
-returns-clause-script c = script-lasts
+returns-clause-script c = script-lasts IsUnfollowed IsUnfollowed
 
 pub returns-clause-dark : goal.returns-clause-dark
 returns-clause-dark c = dark-spends
