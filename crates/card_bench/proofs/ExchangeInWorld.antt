@@ -103,7 +103,7 @@ more-blocks course blocks w pending new power_lost (before, all, unreported, cut
       new.bench) (later-blocks before pending) cut,
 )
 
-reached-step : (start : Served) (w : World Served) (event : Event) → IsProperState start → IsReached start w
+pub reached-step : (start : Served) (w : World Served) (event : Event) → IsProperState start → IsReached start w
     → IsReached start (world_step tree_machine w event)
 reached-step start w event proper reached = record {
   counts = counts_after (record { world = w; counts = reached.counts }) event;
@@ -200,11 +200,11 @@ worlds-go_on w [] more = refl
 worlds-go_on w (event ∷ events) more = worlds-go_on (world_step tree_machine w event) events more
 
 -- a command is given where none is in hand
-ready-so : (r : Reader) (command : List ℕ) → is_busy r.phase ≡ false → is_command command ≡ true
+pub ready-so : (r : Reader) (command : List ℕ) → is_busy r.phase ≡ false → is_command command ≡ true
     → may_send r command ≡ true
 ready-so r command free sound = and_from (not (is_busy r.phase)) (is_command command) (ap not free) sound
 
-given-so : (w : World Served) (command : List ℕ) → may_send w.reader command ≡ true
+pub given-so : (w : World Served) (command : List ℕ) → may_send w.reader command ≡ true
     → world_step tree_machine w (send command) ≡ giving w command
 unfolding world_step
 given-so w command may = simp may refl
@@ -219,12 +219,12 @@ after-so start events command pending blocks =
     sym (worlds-go_on (powered start) events
     (exchange_events (comes_of tree_machine start events) command pending blocks))
 
-stands-sent : (bench : BenchState) (reader : Reader) (w : World Served) (command : List ℕ) → StandIn bench reader w
+pub stands-sent : (bench : BenchState) (reader : Reader) (w : World Served) (command : List ℕ) → StandIn bench reader w
     → StandIn bench reader (record w { sent = command ∷ w.sent; offered = [] })
 stands-sent (off facts) reader w command s = absurd s
 stands-sent (on p) reader w command s = record { reader_is = s.reader_is; link_is = s.link_is; card_is = s.card_is }
 
-reached : (start : Served) (events : List Event) → IsProperState start
+pub reached : (start : Served) (events : List Event) → IsProperState start
     → IsReached start (comes_of tree_machine start events)
 reached start events proper = record {
   counts = (watched tree_machine start events).counts;

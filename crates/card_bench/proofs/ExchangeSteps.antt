@@ -51,7 +51,7 @@ is-way-under_way (ways.toward_card bytes) line is = ap is_under_way is.1
 is-way-under_way (ways.toward_reader bytes) line is = ap is_under_way is.1
 
 -- a block goes toward the card
-abbrev goes_there : NextBlock → Bool
+abbrev pub goes_there : NextBlock → Bool
 goes_there (ways.toward_card bytes) = true
 goes_there (ways.toward_reader bytes) = false
 
@@ -309,7 +309,7 @@ known-there start w b false false reached s line = λ command e.
     runs-given tree_machine start reached.counts w b command reached.good line
     (ap (λ (h : Result Block Fault). (card_takes w.card h).reaction) (sym (heard-frame b s.spellable)) ∙ e)
 
-known-so : (start : Served) (w : World Served) (way : NextBlock) (pending : Line) → IsReached start w → IsWay way w.line
+pub known-so : (start : Served) (w : World Served) (way : NextBlock) (pending : Line) → IsReached start w → IsWay way w.line
     → goes_there way ≡ true → IsKnown w (lines.arriving pending 0 (bytes_under_way way))
 known-so start w (ways.toward_card bytes) pending reached is there =
     subst (λ (x : List ℕ). IsKnown w (lines.arriving pending 0 x)) (sym is.2)

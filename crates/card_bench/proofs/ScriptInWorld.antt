@@ -29,7 +29,7 @@ use Rattle.card_bench.proofs.ExchangeInWorld.{exchange-runs}
 use Rattle.t1_link.proofs.SoundBlocks.{told-bytes}
 
 -- a command of a line is one of the world
-command-so : (bytes : List ℕ) → 1 ≤ length bytes → length bytes ≤ 261 → AreBytes bytes → is_command bytes ≡ true
+pub command-so : (bytes : List ℕ) → 1 ≤ length bytes → length bytes ≤ 261 → AreBytes bytes → is_command bytes ≡ true
 command-so bytes some most all =
     and_from (are_bytes bytes) (nat_le 1 (length bytes) && nat_le (length bytes) 261) (told-bytes bytes all)
     (and_from (nat_le 1 (length bytes)) (nat_le (length bytes) 261) (le-leb 1 (length bytes) some)

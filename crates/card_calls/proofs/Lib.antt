@@ -1,4 +1,6 @@
 pub mod FirstWriteLaws
 pub mod ImageLaws
+pub mod InStepLaws
 pub mod LogLaws
 pub mod OrderLaws
+pub mod PlainRequests

@@ -5,6 +5,7 @@
 mod boards;
 mod copied;
 mod device;
+mod laws;
 mod outcome;
 mod reader_calls;
 mod second_log;
@@ -17,6 +18,7 @@ pub use copied::copy_write;
 pub use device::{
     DeviceBoard, TWIN_WRITES, followed, has_device, is_stored, next_write, twin_board, unfollowed,
 };
+pub use laws::other_orders_compare_nothing;
 pub use outcome::{Outcome, Told, bit, copy};
 pub use reader_calls::{begin, receive};
 pub use second_log::first_write;
