@@ -1,8 +1,10 @@
 /* The calls in which a card with a device can write. The proved code calls nothing but the heap: these functions call
  * it, take the device writes from it, and store them.
  *
- * - A command or a block that can compare a PIN has a charge, its first write. It is stored before the card itself runs.
- * - The card runs, and its log has the writes. Each is stored in order; the first one is there already.
+ * - A command or a block that can compare a PIN has a charge, its first write. It is stored before the card runs.
+ *   (The proved code runs no such order unless it has handed the charge out, and withholds the result of an order that
+ *   begins with another write. Here nothing else may run before the charge is stored.)
+ * - The card runs, and its log has the other writes. Each is stored, in order.
  * - Only then the caller gets the outcome and the answer.
  *
  * If the device does not take a write, the card runs no more, and no answer is handed out. */
@@ -21,7 +23,7 @@ struct write {
 typedef int32_t run_order(soffitfennel_card **card, const uint8_t *given, size_t count, uint8_t *out, size_t room,
                           size_t *size);
 
-/* Tells the first write of such an order, if it can compare a PIN. The card stays as it is. */
+/* Tells the first write of such an order, if it can compare a PIN, and notes it. */
 typedef int32_t first_of_order(soffitfennel_card **card, const uint8_t *given, size_t count, uint8_t *out, size_t room,
                                size_t *offset, size_t *size);
 
@@ -59,50 +61,48 @@ static bool store(soffitfennel_card **card, const struct write *write)
     return false;
 }
 
-static bool is_same(const struct write *one, const struct write *other)
-{
-    bool same = one->size == other->size && one->offset == other->offset;
-
-    for (size_t i = 0; same && i < one->size; i++)
-        same = one->bytes[i] == other->bytes[i];
-    return same;
-}
-
-/* Stores what a call wrote, but for a first write that is stored already: the log has to begin with that one. Returns
- * the outcome of the call, or UNSTORED. */
-static int32_t store_writes(soffitfennel_card **card, const struct write *first, int32_t outcome)
+/* Stores what a call wrote. Returns the outcome of the call, or UNSTORED. */
+static int32_t store_writes(soffitfennel_card **card, int32_t outcome)
 {
     struct write write;
-    bool is_due = first->size > 0;
     int32_t taken;
 
     while ((taken = soffitfennelcore_next_write(card, write.bytes, sizeof write.bytes, &write.offset, &write.size))
                == SOFFITFENNEL_DONE
-           && write.size > 0) {
-        if (is_due ? !is_same(first, &write) : !store(card, &write))
+           && write.size > 0)
+        if (!store(card, &write))
             break;
-        is_due = false;
-    }
-    bool is_stored = taken == SOFFITFENNEL_DONE && write.size == 0 && !is_due;
-    overwrite(write.bytes, sizeof write.bytes);
-    if (is_stored)
-        return outcome;
-    soffitfennelcore_fall_behind(card);
-    return SOFFITFENNEL_UNSTORED;
+    bool is_stored = taken == SOFFITFENNEL_DONE && write.size == 0;
+    overwrite(write.bytes, SOFFITFENNEL_WRITE);
+    return is_stored ? outcome : SOFFITFENNEL_UNSTORED;
+}
+
+/* Stores the charge of an order, if it has one. Only then the order may run. Returns DONE, or why it may not. */
+static int32_t store_charge(first_of_order *first_of, soffitfennel_card **card, const uint8_t *given, size_t count)
+{
+    struct write charge;
+    int32_t outcome = first_of(card, given, count, charge.bytes, sizeof charge.bytes, &charge.offset, &charge.size);
+
+    if (outcome == SOFFITFENNEL_DONE && charge.size > 0 && !store(card, &charge))
+        outcome = SOFFITFENNEL_UNSTORED;
+    overwrite(charge.bytes, charge.size);
+    return outcome;
 }
 
 /* Runs an order with bytes on a card with a device: the charge, the order, the other writes, and then its bytes. */
-static int32_t exchange(run_order *run, soffitfennel_card **card, const uint8_t *given, size_t count, uint8_t *out,
-                        size_t *size, const struct write *first)
+static int32_t exchange(run_order *run, first_of_order *first_of, soffitfennel_card **card, const uint8_t *given,
+                        size_t count, uint8_t *out, size_t *size)
 {
     uint8_t own[SOFFITFENNEL_ROOM];
     size_t came;
     int32_t outcome;
 
-    if (first->size > 0 && !store(card, first))
-        return SOFFITFENNEL_UNSTORED;
+    *size = 0;
+    outcome = store_charge(first_of, card, given, count);
+    if (outcome != SOFFITFENNEL_DONE)
+        return outcome;
     outcome = run(card, given, count, own, sizeof own, &came);
-    outcome = store_writes(card, first, outcome);
+    outcome = store_writes(card, outcome);
     if (outcome == SOFFITFENNEL_DONE) {
         for (size_t i = 0; i < came; i++)
             out[i] = own[i];
@@ -116,26 +116,16 @@ static int32_t exchange(run_order *run, soffitfennel_card **card, const uint8_t 
 static int32_t perform(run_order *run, first_of_order *first_of, soffitfennel_card **card, const uint8_t *given,
                        size_t count, uint8_t *out, size_t room, size_t *size)
 {
-    struct write first;
-    int32_t outcome;
-
     if (room < SOFFITFENNEL_ROOM || !has_device(card))
         return run(card, given, count, out, room, size);
-    *size = 0;
-    outcome = first_of(card, given, count, first.bytes, sizeof first.bytes, &first.offset, &first.size);
-    if (outcome == SOFFITFENNEL_DONE) {
-        outcome = exchange(run, card, given, count, out, size, &first);
-        overwrite(first.bytes, first.size);
-    }
-    return outcome;
+    return exchange(run, first_of, card, given, count, out, size);
 }
 
 int32_t soffitfennel_power_on(soffitfennel_card **card)
 {
-    struct write none = {.size = 0};
     int32_t outcome = soffitfennelcore_power_on(card);
 
-    return has_device(card) ? store_writes(card, &none, outcome) : outcome;
+    return has_device(card) ? store_writes(card, outcome) : outcome;
 }
 
 int32_t soffitfennel_command(soffitfennel_card **card, const uint8_t *command, size_t count, uint8_t *answer,

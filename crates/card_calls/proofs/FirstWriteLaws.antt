@@ -1,7 +1,9 @@
 -- The first write of an order, from the log of a second card's board.
 use Rattle.std.specs.Prelude.{◌≡◌, ◌<◌, ◌+◌, ◌%◌, ◌^◌, ◌∷◌, ℕ, List, [], Option, None, Some, length}
 use Rattle.std.specs.Prelude.{IfErr, IfOk, IfSome, Result, Ok, Err}
-use Rattle.std.proofs.Common.{◌∙◌, ap, arith, inr, refl, subst, sym}
+use Rattle.std.specs.Prelude.{is_some, option_map, true, false}
+use Rattle.std.proofs.Common.{◌∙◌, ap, arith, inl, inr, refl, subst, sym}
+use Rattle.std.proofs.lemmas.Bool.{true≢false}
 use Rattle.nvm_board.specs.Facts.{Facts}
 use Rattle.nvm_board.specs.History.{Log, Run, and_runs, logged, replayed}
 use Rattle.nvm_board.specs.Torn.{written}
@@ -9,15 +11,14 @@ use Rattle.bench_lines.specs.Orders.{Order, Cut}
 use Rattle.bench_lines.specs.Printouts.{Print}
 use Rattle.bench_turns.specs.BenchStates.{bench_facts}
 use Rattle.bench_turns.specs.Plays.{IsGood}
-use Rattle.card_bench.specs.Charges.{RunsToFirst, twin_desk}
+use Rattle.card_bench.specs.Charges.{CutsNext, MayCompare, RunsToFirst, twin_desk}
 use Rattle.card_bench.specs.Exchanges.{Desk}
 use Rattle.card_bench.specs.Performing.{Performs}
 use Rattle.card_bench.specs.declared.charge.TheConstants.{ALL_WORDS}
 use Rattle.card_bench.proofs.ChargeLaws.{SecondWrote, ran_to_first, second_wrote}
 use Rattle.card_calls.specs.Devices.{AllStored, TellsNext, logs_none, run_of}
-use Rattle.card_calls.specs.FirstWrites.{TellsFirst}
-use Rattle.card_calls.specs.SessionStates.{SessionState}
-use Rattle.card_calls.specs.Telling.{session_facts}
+use Rattle.card_calls.specs.FirstWrites.{HasNoCharge, RunsAhead, TellsFirst}
+use Rattle.card_calls.specs.SessionStates.{SessionState, session_facts}
 use Rattle.card_calls.specs.declared.device.TheConstants.{TWIN_WRITES}
 use Rattle.card_calls.specs.declared.outcome.Outcome.{Outcome}
 use Rattle.card_calls.specs.declared.outcome.Outcome.TheVariants as outcome
@@ -59,7 +60,7 @@ replays-one : (words : List ℕ) (runs : List Run) (w : Write) → length runs �
     → replayed words runs ≡ written words (run_of w).at (run_of w).words
 replays-one words [] w one tells = absurd (omega (arith, one))
 replays-one words (run ∷ []) w one tells =
-    ap (λ (r : Run). written words r.at r.words) (ap (some-of run) tells.1)
+    ap (λ (r : Run). written words r.at r.words) (ap (some-of run) tells.2)
 replays-one words (run ∷ more ∷ runs) w one tells = absurd (omega (arith, one))
 
 module _ (order : Order) (was : SessionState) (armed left : Desk) (quiet prints : Print)
@@ -98,10 +99,29 @@ module _ (order : Order) (was : SessionState) (armed left : Desk) (quiet prints 
   pub tells_first : (f : Facts) → f ≡ bench_facts left.bench → (told : Result (Option Write) Outcome)
       → (told ≡ Ok None → AllStored f.log 0)
       → IfOk told (λ first. IfSome first (λ w. TellsNext f.log 0 (next.Write w) × AllStored f.log 1))
-      → IfErr told (λ why. why ≡ outcome.Memory) → TellsFirst order was told
+      → IfErr told (λ why. why ≡ outcome.Memory) → RunsAhead order was told
   tells_first f same (Ok None) none one more =
-      inr (first_none (subst (λ (g : Facts). AllStored g.log 0) same (none refl)))
+      first_none (subst (λ (g : Facts). AllStored g.log 0) same (none refl))
   tells_first f same (Ok (Some w)) none one more =
       first_one w (subst (λ (g : Facts). TellsNext g.log 0 (next.Write w)) same one.0)
       (subst (λ (g : Facts). AllStored g.log 1) same one.1)
   tells_first f same (Err why) none one more = more
+
+-- a first write that was told, and announced
+pub tells_announced : (order : Order) (was now : SessionState) (first : Option Write) → RunsAhead order was (Ok first)
+    → now ≡ record was { announced = Some (record { order = order; first = option_map run_of first }) }
+    → TellsFirst order was now (Ok first)
+tells_announced order was now None told is = inr (record { told = told; now_is = is })
+tells_announced order was now (Some w) told is = record { told = told; now_is = is }
+
+-- an order without a charge
+pub tells_none : (order : Order) (was : SessionState) → HasNoCharge order was → TellsFirst order was was (Ok None)
+tells_none order was none = inl (none, refl)
+
+-- an order has a charge
+pub charge_there : (order : Order) (was : SessionState) → MayCompare order → is_some (session_facts was).log ≡ true
+    → was.behind ≡ false → ¬ CutsNext (session_facts was).pending → ¬ HasNoCharge order was
+charge_there order was may some up uncut (inl never) = never may
+charge_there order was may some up uncut (inr (inl none)) = true≢false (sym some ∙ none)
+charge_there order was may some up uncut (inr (inr (inl behind))) = true≢false (sym behind ∙ up)
+charge_there order was may some up uncut (inr (inr (inr cuts))) = uncut cuts

@@ -1,5 +1,5 @@
 -- A board whose device writes go to a device: the writes, their bytes in the image, and those that the device lacks.
-use Rattle.std.specs.Prelude.{◌≡◌, ◌≢◌, ◌+◌, ◌-◌, ◌%◌, ◌^◌, ◌<◌, ℕ, List, Bool, true, false, [], Option, None, Some}
+use Rattle.std.specs.Prelude.{◌≡◌, ◌≢◌, ◌+◌, ◌-◌, ◌%◌, ◌^◌, ◌<◌, ◌≤◌, ℕ, List, Bool, true, false, [], Option, None, Some}
 use Rattle.std.specs.Prelude.{flat_map, length, map, slice_get, take}
 use Rattle.std.specs.Int.{w32, to_be_bytes}
 use Rattle.nvm_board.specs.Facts.{Facts, pages_of}
@@ -55,6 +55,7 @@ AllStored (Some log) stored = fresh_count stored log.count ≡ 0
 abbrev pub NextIn : Log → ℕ → Next → Type 0
 NextIn log stored next.Nothing = fresh_count stored log.count ≡ 0
 NextIn log stored (next.Write w) = (fresh_count stored log.count ≢ 0)
+    × (fresh_count stored log.count ≤ length log.runs)
     × (slice_get log.runs (length log.runs - fresh_count stored log.count) ≡ Some (run_of w))
 NextIn log stored next.Lost = length log.runs < fresh_count stored log.count
 

@@ -2,6 +2,7 @@ pub mod CopiedParts
 pub mod Devices
 pub mod FirstWrites
 pub mod InStep
+pub mod PaidOrders
 pub mod ReaderCalls
 pub mod ScriptCalls
 pub mod SessionStates

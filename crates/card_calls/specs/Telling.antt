@@ -4,14 +4,17 @@ use Rattle.std.specs.Prelude.{Some, Result, Ok, Err, length, take, drop, is_some
 use Rattle.nvm_board.specs.Aims.{WritesRuns}
 use Rattle.nvm_board.specs.declared.board.TheConstants.{LEAST_PAGES, MOST_PAGES}
 use Rattle.nvm_board.specs.Facts.{Facts, IsMemory}
+use Rattle.nvm_board.specs.History.{Run}
 use Rattle.undo_journal.specs.Undo.{IsBadJournal, IsSound}
 use Rattle.simulated_boards.specs.Given.{board_with}
+use Rattle.command_base.specs.Comparing.{comparisons}
 use Rattle.command_base.specs.Finding.{HasCard, words_found}
 use Rattle.command_base.specs.Standing.{IsAnyCard}
 use Rattle.bench_lines.specs.Orders.{Order, IsOrderSized, Free}
-use Rattle.bench_turns.specs.BenchStates.{BenchState, off, on, bench_facts}
+use Rattle.bench_turns.specs.BenchStates.{BenchState, off, on}
 use Rattle.bench_turns.specs.Guessing.{GuessesFew}
 use Rattle.bench_turns.specs.Plays.{IsGood}
+use Rattle.card_bench.specs.Charges.{MayCompare}
 use Rattle.card_bench.specs.DeskStates.{print_of}
 use Rattle.card_bench.specs.Performing.{Performs}
 use Rattle.card_bench.specs.Prints.{desk_of}
@@ -20,12 +23,15 @@ use Rattle.bench_lines.specs.Printouts.{prints_nothing, prints_atr, prints_mute,
 use Rattle.bench_lines.specs.Printouts.{prints_bytes}
 use Rattle.bench_lines.specs.Printouts.{prints_free}
 use Rattle.card_boards.specs.FactoryBoards.{IsFactoryBoard}
-use Rattle.card_calls.specs.SessionStates.{SessionState, begun_at}
-use Rattle.card_calls.specs.Devices.{AllStored}
+use Rattle.card_calls.specs.SessionStates.{Announcement, SessionState, begun_at, session_facts}
+use Rattle.card_calls.specs.Devices.{AllStored, TellsNext}
+use Rattle.card_calls.specs.FirstWrites.{HasNoCharge, IsAsAnnounced, and_first, charge_of}
+use Rattle.card_calls.specs.PaidOrders.{IsLedBy, PaidInOrder}
 use Rattle.card_calls.specs.declared.outcome.Outcome.{Outcome}
 use Rattle.card_calls.specs.declared.outcome.Outcome.TheVariants as outcome
 use Rattle.card_calls.specs.declared.outcome.Told.{Told}
 use Rattle.card_calls.specs.declared.sizes.TheConstants.{ROOM}
+use Rattle.card_calls.specs.declared.write_log.Next.{Next}
 
 -- the number that C sees
 abbrev pub outcome_number : Outcome → ℤ
@@ -57,10 +63,6 @@ print_outcome (prints_free free) = outcome.Done
 abbrev pub told_print : Told → Print
 told_print told = print_of told.came told.bytes.items told.bytes.items
 
--- the facts of a session's board
-abbrev pub session_facts : SessionState → Facts
-session_facts s = bench_facts s.desk.bench
-
 -- power is on
 abbrev pub is_on : BenchState → Bool
 is_on (off facts) = false
@@ -68,30 +70,95 @@ is_on (on powered) = true
 
 -- An order runs, and has an output. The memory has a card state after it, the board had no fault, and the guess law
 -- holds. The board made device writes, in order: put into the words before the order, they make the words after it.
--- The log of a card with a device has them.
+-- The log of a card with a device has them. An order that can't compare a PIN counts no comparison.
 pub record IsPerformed (order : Order) (was now : SessionState) (prints : Print) : Type 0 where
   pub performs : Performs order was.desk now.desk prints
   pub good : IsGood now.desk.bench
   pub guesses : GuessesFew was.desk.bench now.desk.bench
   pub made : WritesRuns (session_facts was) (session_facts now)
+  pub still : ¬ MayCompare order → comparisons (session_facts now) ≡ comparisons (session_facts was)
 
--- No order runs and nothing changes: the device didn't take a write, or lacks one of an earlier order.
-pub record IsHeldBack (was now : SessionState) : Type 0 where
-  pub why : (was.behind ≡ true) ⊎ ¬ AllStored (session_facts was).log was.stored
+-- the first write of an order was announced
+pub record IsAnnounced (order : Order) (was : SessionState) : Type 0 where
+  pub first : Option Run
+  pub told : was.announced ≡ Some (record { order = order; first = first })
+
+-- An order has a charge, which was not announced.
+pub record LacksCharge (order : Order) (was : SessionState) : Type 0 where
+  pub charge : ¬ HasNoCharge order was
+  pub unannounced : ¬ IsAnnounced order was
+
+-- an order may not run: the device didn't take a write, lacks one of an earlier order, or lacks the charge
+abbrev pub MayNotRun : Order → SessionState → Type 0
+MayNotRun order was =
+    (was.behind ≡ true) ⊎ (¬ AllStored (session_facts was).log was.stored) ⊎ LacksCharge order was
+
+-- No order runs and nothing changes.
+pub record IsHeldBack (order : Order) (was now : SessionState) : Type 0 where
+  pub why : MayNotRun order was
   pub same : now ≡ was
 
--- The device had all writes before the order. Those of the order are in the log.
-pub record KeepsUp (was now : SessionState) : Type 0 where
+-- The device had all writes before an order, and an order with a charge was announced.
+pub record MayRun (order : Order) (was : SessionState) : Type 0 where
   pub was_up : was.behind ≡ false
   pub all_stored : AllStored (session_facts was).log was.stored
+  pub charge : HasNoCharge order was ⊎ IsAnnounced order was
+
+-- An order with a charge ran. Its first write is the one that was announced, which the device has. The writes are paid
+-- for in order.
+pub record BeginsAsTold (order : Order) (was now : SessionState) (runs : List Run) : Type 0 where
+  pub announced : IsAnnounced order was
+  pub begins : IsLedBy announced.first runs
+  pub stored : now.stored ≡ and_first was.stored announced.first
+  pub paid : PaidInOrder order was.desk runs (comparisons (session_facts now))
+
+-- The device had all writes before the order. Those of the order are in the log. Of an order with a charge it has the
+-- first one.
+pub record KeepsUp (order : Order) (was now : SessionState) (runs : List Run) : Type 0 where
+  pub before : MayRun order was
   pub up : now.behind ≡ false
-  pub stored : now.stored ≡ was.stored
+  pub stored : (HasNoCharge order was × (now.stored ≡ was.stored)) ⊎ BeginsAsTold order was now runs
+  pub unannounced : now.announced ≡ None
   pub device : now.device ≡ was.device
 
--- the result of an order is the output, if the device had all earlier writes
+-- An order with a charge ran, and its first write is not the one that was announced: the log has another one next, or
+-- has lost it. The device is behind from then on.
+pub record Diverges (order : Order) (was now : SessionState) : Type 0 where
+  pub before : MayRun order was
+  pub prints : Print
+  pub performed : IsPerformed order was now prints
+  pub announced : IsAnnounced order was
+  pub answer : Next
+  pub next : TellsNext (session_facts now).log was.stored answer
+  pub other : ¬ IsAsAnnounced announced.first answer
+  pub behind : now.behind ≡ true
+  pub stored : now.stored ≡ was.stored
+  pub unannounced : now.announced ≡ None
+  pub device : now.device ≡ was.device
+
+-- an order has no result
+abbrev pub IsWithheld : Order → SessionState → SessionState → Type 0
+IsWithheld order was now = IsHeldBack order was now ⊎ Diverges order was now
+
+-- An order ran, and the device has what it has to have.
+pub record HasRun (order : Order) (was now : SessionState) (prints : Print) : Type 0 where
+  pub performed : IsPerformed order was now prints
+  pub keeps_up : KeepsUp order was now performed.made.runs
+
+-- the result of an order is the output, if the device had all earlier writes and the charge
 abbrev pub TellsResult : Order → SessionState → SessionState → Result Told Outcome → Type 0
-TellsResult order was now (Ok told) = IsPerformed order was now (told_print told) × KeepsUp was now
-TellsResult order was now (Err why) = (why ≡ outcome.Unstored) × IsHeldBack was now
+TellsResult order was now (Ok told) = HasRun order was now (told_print told)
+TellsResult order was now (Err why) = (why ≡ outcome.Unstored) × IsWithheld order was now
+
+-- An order's announcement, if it has a charge.
+abbrev pub IsTaken : Order → SessionState → Option Announcement → Type 0
+IsTaken order was None = HasNoCharge order was
+IsTaken order was (Some told) = (¬ HasNoCharge order was) × (was.announced ≡ Some told) × (told.order ≡ order)
+
+-- Before an order runs: whether it has a charge, which was announced then, or that it may not run.
+abbrev pub BeginsOrder : Order → SessionState → Result Bool Outcome → Type 0
+BeginsOrder order was (Ok is_charged) = MayRun order was × IsTaken order was (charge_of is_charged was.announced)
+BeginsOrder order was (Err why) = (why ≡ outcome.Unstored) × MayNotRun order was
 
 -- An order to a card. Without a card nothing is done.
 abbrev pub AnswersOrder : Order → Option SessionState → Option SessionState → Result Told Outcome → Type 0
@@ -105,9 +172,8 @@ abbrev pub CallRuns : Order → Option SessionState → Option SessionState → 
 CallRuns order None now result Holds Fails = (now ≡ None) × (result ≡ outcome.Absent) × Fails
 CallRuns order (Some was) None result Holds Fails = ⊥
 CallRuns order (Some was) (Some now) result Holds Fails =
-    ((prints : Print) × IsPerformed order was now prints × (result ≡ print_outcome prints) × Holds prints
-    × KeepsUp was now)
-    ⊎ (Fails × (result ≡ outcome.Unstored) × IsHeldBack was now)
+    ((prints : Print) × HasRun order was now prints × (result ≡ print_outcome prints) × Holds prints)
+    ⊎ (Fails × (result ≡ outcome.Unstored) × IsWithheld order was now)
 
 -- The buffer begins with these bytes, and their number is returned. The rest of the buffer is unchanged.
 pub record CopiesOut (bytes old new : List ℕ) (size : ℕ) : Type 0 where
@@ -227,6 +293,7 @@ cleared s = record {
   desk = desk_of (record (session_facts s) { due = 0; pending = None });
   behind = s.behind;
   stored = s.stored;
+  announced = None;
   device = s.device;
 }
 

@@ -4,8 +4,8 @@ use Rattle.std.specs.Prelude.{true, false}
 use Rattle.bench_lines.specs.Orders.{Order}
 use Rattle.card_calls.specs.Devices.{TellsNext, image_bytes, run_of}
 use Rattle.card_calls.specs.FirstWrites.{TellsFirst}
-use Rattle.card_calls.specs.SessionStates.{SessionState}
-use Rattle.card_calls.specs.Telling.{CopiesNothing, CopiesOut, outcome_number, session_facts}
+use Rattle.card_calls.specs.SessionStates.{SessionState, session_facts}
+use Rattle.card_calls.specs.Telling.{CopiesNothing, CopiesOut, outcome_number}
 use Rattle.card_calls.specs.declared.outcome.Outcome.{Outcome}
 use Rattle.card_calls.specs.declared.outcome.Outcome.TheVariants as outcome
 use Rattle.card_calls.specs.declared.write.Write.{Write}
@@ -19,12 +19,16 @@ CopiesWrite (Ok (Some w)) old new offset size number = (number ≡ outcome_numbe
     × CopiesOut (image_bytes (run_of w).words) old new size × (offset ≡ WORD_BYTES * (run_of w).at)
 CopiesWrite (Err why) old new offset size number = (number ≡ outcome_number why) × CopiesNothing old new size
 
--- a call that hands the first write of an order out, and changes nothing of the card
-abbrev pub ReturnsFirst : Order → Option SessionState → List ℕ → List ℕ → ℕ → ℕ → ℤ → Type 0
-ReturnsFirst order None old new offset size number = (number ≡ outcome_number outcome.Absent)
-    × CopiesNothing old new size
-ReturnsFirst order (Some was) old new offset size number = (told : Result (Option Write) Outcome)
-    × TellsFirst order was told × CopiesWrite told old new offset size number
+-- the first write of an order to a card, which is announced
+abbrev pub TellsFirstOf : Order → Option SessionState → Option SessionState → Result (Option Write) Outcome → Type 0
+TellsFirstOf order None now told = (now ≡ None) × (told ≡ Err outcome.Absent)
+TellsFirstOf order (Some was) None told = ⊥
+TellsFirstOf order (Some was) (Some now) told = TellsFirst order was now told
+
+-- a call that hands the first write of an order out, and changes nothing of the card but what is announced
+abbrev pub ReturnsFirst : Order → Option SessionState → Option SessionState → List ℕ → List ℕ → ℕ → ℕ → ℤ → Type 0
+ReturnsFirst order was now old new offset size number = (told : Result (Option Write) Outcome)
+    × TellsFirstOf order was now told × CopiesWrite told old new offset size number
 
 -- The next write that the device lacks, which counts as stored from then on. If the log has lost it, the device is
 -- behind.

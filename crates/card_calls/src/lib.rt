@@ -2,10 +2,12 @@
 //! write of a card's board.
 #![tactic(auto)]
 
+mod announced;
 mod boards;
 mod copied;
 mod device;
 mod laws;
+mod of_bytes;
 mod outcome;
 mod reader_calls;
 mod second_log;
@@ -13,12 +15,14 @@ mod sizes;
 mod write;
 mod write_log;
 
+pub use announced::{Announced, stored_after};
 pub use boards::{board_of, check_words, factory_of};
 pub use copied::copy_write;
 pub use device::{
     DeviceBoard, TWIN_WRITES, followed, has_device, is_stored, next_write, twin_board, unfollowed,
 };
 pub use laws::other_orders_compare_nothing;
+pub use of_bytes::is_of_bytes;
 pub use outcome::{Outcome, Told, bit, copy};
 pub use reader_calls::{begin, receive};
 pub use second_log::first_write;

@@ -1,5 +1,5 @@
 //! A device write on its way to the device.
-ghost use Rattle.std.specs.Prelude.{◌≡◌, ◌≤◌, ◌+◌, ◌*◌, length};
+ghost use Rattle.std.specs.Prelude.{◌≡◌, ◌≤◌, ◌+◌, ◌*◌, ◌↔◌, IsTrue, length};
 ghost use Rattle.nvm_board.specs.declared.board.TheConstants.{MOST_PAGES, PAGE_WORDS};
 
 use arrayvec::ArrayVec;
@@ -37,6 +37,17 @@ impl Write {
             size: words.len() as u16,
             words: own,
         }
+    }
+
+    /// Returns true if another write is of the same words and at the same address.
+    #[tactic(auto, using(crate::proofs::AnnouncedLaws::differ_at, crate::proofs::AnnouncedLaws::same_at))]
+    pub fn is_same(&self, other: &Write) -> bool
+        ensures { IsTrue result ↔ run_of self.now ≡ run_of other.now }
+    {
+        if self.at != other.at {
+            return false;
+        }
+        self.words[..usize::from(self.size)] == other.words[..usize::from(other.size)]
     }
 
     /// Returns the offset of the first byte in the image.

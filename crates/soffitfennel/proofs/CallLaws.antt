@@ -25,7 +25,7 @@ told-runs : (order : Order) (was now : Option SessionState) (told : Told) (resul
 told-runs order None now told result Holds Fails answers is holds = absurd (subst IsAnswer answers.1 tt)
 told-runs order (Some was) None told result Holds Fails answers is holds = absurd answers
 told-runs order (Some was) (Some now) told result Holds Fails answers is holds =
-    inl (told_print told, answers.0, is, holds, answers.1)
+    inl (told_print told, answers, is, holds)
 
 -- none, as there is no card, or its device is behind
 failed-runs : (order : Order) (was now : Option SessionState) (why : Outcome) (Holds : Print → Type 0) (Fails : Type 0)

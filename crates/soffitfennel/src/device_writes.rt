@@ -12,7 +12,7 @@ use card_calls::{Outcome, Write, copy_write};
 use core::mem::{replace, replace_with};
 use std::alloc::Global;
 
-/// Copies the first write of an order out. The card stays as it is.
+/// Copies the first write of an order out, and announces it.
 pub(crate) fn first(
     alloc: Global,
     card: &mut Handle,
@@ -23,21 +23,18 @@ pub(crate) fn first(
     size: &mut usize,
 ) -> i32
     requires { FitsCall (order_with order given.now) out.old }
-    ensures same { card.new.value ≡ card.old.value }
-    ensures first { ReturnsFirst (order_with order given.now) card.old.value out.old out.new offset.new size.new
-        result }
+    ensures { ReturnsFirst (order_with order given.now) card.old.value card.new.value out.old out.new offset.new
+        size.new result }
 {
-    match replace(card, Handle::empty(alloc)).into_session() {
-        Some(session) => {
+    let told = match replace(card, Handle::empty(alloc)).into_session() {
+        Some(mut session) => {
             let told = session.first_write(alloc, order, given);
             replace_with(card, session, exchange_card);
-            copy_write(told, out, offset, size)
+            told
         }
-        None => {
-            *size = 0;
-            Outcome::Absent.number()
-        }
-    }
+        None => Err(Outcome::Absent),
+    };
+    copy_write(told, out, offset, size)
 }
 
 /// Takes the next write from the log of a handle's card.

@@ -260,7 +260,8 @@ pub extern "C" fn soffitfennel_power_off(alloc: Global, card: &mut Handle) -> i3
 }
 
 /// Sends a command through both ends of the link. A caller stores the command's first write before this call, and the
-/// others before it hands the answer out.
+/// others before it hands the answer out. On a card with a device, a command that can compare a PIN runs only if its
+/// first write was handed out.
 #[unsafe(no_mangle)]
 pub extern "C" fn soffitfennelcore_command(
     alloc: Global,
@@ -282,7 +283,7 @@ pub extern "C" fn soffitfennelcore_command(
 }
 
 /// Sends a block of T=1 to the card's end of the link. A caller stores the block's first write before this call, and the
-/// others before it hands the reply out.
+/// others before it hands the reply out. On a card with a device, a block runs only if its first write was handed out.
 #[unsafe(no_mangle)]
 pub extern "C" fn soffitfennelcore_block(
     alloc: Global,
@@ -303,7 +304,7 @@ pub extern "C" fn soffitfennelcore_block(
     exchange(alloc, card, Order::Block, block, reply, size)
 }
 
-/// Copies the first device write of a command out, if it can compare a PIN.
+/// Copies the first device write of a command out, if it can compare a PIN. The command may run then.
 #[unsafe(no_mangle)]
 pub extern "C" fn soffitfennelcore_first_of_command(
     alloc: Global,
@@ -313,9 +314,8 @@ pub extern "C" fn soffitfennelcore_first_of_command(
     offset: &mut usize,
     size: &mut usize,
 ) -> i32
-    ensures same { card.new.value ≡ card.old.value }
-    ensures fits { FitsCall (Apdu command.now) out.old
-        → ReturnsFirst (Apdu command.now) card.old.value out.old out.new offset.new size.new result }
+    ensures fits { FitsCall (Apdu command.now) out.old → ReturnsFirst (Apdu command.now) card.old.value card.new.value
+        out.old out.new offset.new size.new result }
     ensures unfit { ¬ FitsCall (Apdu command.now) out.old → RefusesCall card.old.value card.new.value result
         × CopiesNothing out.old out.new size.new }
 {
@@ -326,7 +326,7 @@ pub extern "C" fn soffitfennelcore_first_of_command(
     first(alloc, card, Order::Apdu, command, out, offset, size)
 }
 
-/// Copies the first device write of a block's command out, if the block ends one.
+/// Copies the first device write of a block's command out, if the block ends one. The block may run then.
 #[unsafe(no_mangle)]
 pub extern "C" fn soffitfennelcore_first_of_block(
     alloc: Global,
@@ -336,9 +336,8 @@ pub extern "C" fn soffitfennelcore_first_of_block(
     offset: &mut usize,
     size: &mut usize,
 ) -> i32
-    ensures same { card.new.value ≡ card.old.value }
-    ensures fits { FitsCall (Block block.now) out.old
-        → ReturnsFirst (Block block.now) card.old.value out.old out.new offset.new size.new result }
+    ensures fits { FitsCall (Block block.now) out.old → ReturnsFirst (Block block.now) card.old.value card.new.value
+        out.old out.new offset.new size.new result }
     ensures unfit { ¬ FitsCall (Block block.now) out.old → RefusesCall card.old.value card.new.value result
         × CopiesNothing out.old out.new size.new }
 {

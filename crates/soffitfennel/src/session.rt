@@ -1,20 +1,22 @@
 //! A card at its desk.
-ghost use Rattle.std.specs.Prelude.{◌≡◌, None, IfOk, IfSome, IsTrue, true};
+ghost use Rattle.std.specs.Prelude.{◌≡◌, ◌↔◌, None, IfOk, IfSome, IsTrue, true};
 ghost use Rattle.bench_lines.specs.Orders.{IsOrderSized};
 ghost use Rattle.bench_lines.specs.OrderViews.{order_with};
 ghost use Rattle.bench_turns.specs.BenchStates.{bench_facts};
 ghost use Rattle.command_base.specs.Finding.{HasCard};
+ghost use Rattle.card_bench.specs.Charges.{MayCompare};
 ghost use Rattle.card_bench.specs.Prints.{desk_of};
 ghost use Rattle.simulated_boards.specs.Cut.{cut_facts};
-ghost use Rattle.card_calls.specs.FirstWrites.{HasNoCharge, TellsFirst};
+ghost use Rattle.card_calls.specs.FirstWrites.{HasNoCharge, RunsAhead, TellsFirst};
 ghost use Rattle.card_calls.specs.SessionStates.{begun_at};
-ghost use Rattle.card_calls.specs.Telling.{CopiesWords, TellsResult, cleared, outcome_number, state_bits};
+ghost use Rattle.card_calls.specs.Telling.{BeginsOrder, CopiesWords, IsAnnounced, TellsResult, cleared};
+ghost use Rattle.card_calls.specs.Telling.{outcome_number, state_bits};
 ghost use Rattle.card_calls.specs.WriteCalls.{TakesNext};
 
 use card_bench::{ALL_WORDS, Desk, Order, cuts_next, may_compare};
 use card_calls::{
-    DeviceBoard, Next, Outcome, Told, Write, bit, first_write, followed, has_device, is_stored,
-    next_write, twin_board, unfollowed,
+    Announced, DeviceBoard, Next, Outcome, Told, Write, bit, first_write, followed, has_device,
+    is_of_bytes, is_stored, next_write, stored_after, twin_board, unfollowed,
 };
 use card_turns::Bench;
 use core::mem::replace_with;
@@ -32,6 +34,8 @@ pub struct Session {
     behind: bool,
     /// The writes that the device has of all that the board made, modulo 2^64.
     stored: u64,
+    /// The order whose first write was handed out last, until an order runs.
+    announced: Option<Announced>,
     /// The number of the device.
     device: Option<i32>,
 }
@@ -40,6 +44,9 @@ impl Model for Session {
     ghost use Rattle.std.specs.Coded.{codes};
     ghost use Rattle.card_model.specs.Sessions.{session_code};
     ghost use Rattle.bench_turns.specs.Plays.{IsGood};
+    ghost use Rattle.std.specs.Prelude.{option_map};
+    ghost use Rattle.card_calls.specs.FirstWrites.{IsTold, announcement};
+    ghost use Rattle.card_calls.specs.InStep.{IsInStep};
     ghost use Rattle.card_calls.specs.SessionStates.{SessionState};
 
     ghost Value = { SessionState };
@@ -50,10 +57,12 @@ impl Model for Session {
       desk = s.desk.desk;
       behind = s.behind;
       stored = s.stored;
+      announced = option_map announcement s.announced;
       device = s.device;
     } };
 
-    ghost invariant = { λ s. IsGood s.desk.desk.bench };
+    ghost invariant = { λ s. IsGood s.desk.desk.bench × IsInStep s.desk.desk
+        × IsTold (option_map announcement s.announced) s.desk.desk };
 }
 
 impl Session {
@@ -61,6 +70,7 @@ impl Session {
     ///
     /// # Errors
     /// There is too little memory for the log of a device.
+    #[tactic(auto, using(card_calls::proofs::InStepLaws::step_none))]
     pub fn new(alloc: Global, board: CutBoard, device: Option<i32>) -> Result<Session, AllocError>
         requires { HasCard (cut_facts board).words }
         ensures { IfOk result (λ session. session ≡ begun_at (cut_facts board) device) }
@@ -74,45 +84,99 @@ impl Session {
             desk: Desk::new(board),
             behind: false,
             stored: 0,
+            announced: None,
             device,
         })
     }
 
     /// Runs an order, and returns its result. The writes of a card with a device are then to be stored, before anybody
-    /// sees the result.
+    /// sees the result. Of an order with a charge the device has the first write already.
     ///
     /// # Errors
-    /// `Unstored` if the card's device didn't take a write, or lacks one of an earlier order. Then no order runs.
+    /// `Unstored` if the card's device didn't take a write, or lacks one of an earlier order, or if the order has a
+    /// charge that wasn't announced. Then no order runs. Also if the order began with another write than the announced
+    /// one. Then the device is behind.
+    #[tactic(auto, using(card_calls::proofs::OrderLaws::held_back))]
     pub fn perform(&mut self, order: Order, given: &[u8]) -> Result<Told, Outcome>
         requires { IsOrderSized (order_with order given.now) }
         ensures { TellsResult (order_with order given.now) self.old self.new result }
     {
-        if self.behind || !is_stored(self.desk.board(), self.stored) {
-            return Err(Outcome::Unstored);
-        }
+        let is_charged = self.begin(order, given)?;
+        is_of_bytes(order, given);
         let came = self.desk.perform(order, given);
+        let board = self.desk.board();
+        let after = stored_after(board, self.stored, is_charged, &self.announced);
+        self.announced = None;
+        let Some(stored) = after else {
+            self.fall_behind();
+            return Err(Outcome::Unstored);
+        };
+        self.stored = stored;
         let mut bytes = AnswerBytes::new();
         self.desk.copy_bytes(came, &mut bytes);
         Ok(Told { came, bytes })
     }
 
+    /// Returns whether an order has a charge. Then its first write was announced.
+    ///
+    /// # Errors
+    /// `Unstored`: the order may not run.
+    #[tactic(auto, using(card_calls::proofs::OrderLaws::begins_order))]
+    fn begin(&self, order: Order, given: &[u8]) -> Result<bool, Outcome>
+        ensures { BeginsOrder (order_with order given.now) self.now result }
+    {
+        if self.behind || !is_stored(self.desk.board(), self.stored) {
+            return Err(Outcome::Unstored);
+        }
+        let is_charged = self.has_charge(order, given);
+        if is_charged && !self.is_announced(order, given) {
+            return Err(Outcome::Unstored);
+        }
+        Ok(is_charged)
+    }
+
+    /// Returns true if the first write of this order was announced.
+    #[tactic(auto, using(card_calls::proofs::OrderLaws::announced_of, card_calls::proofs::OrderLaws::of_announced, card_calls::proofs::OrderLaws::none_announced))]
+    fn is_announced(&self, order: Order, given: &[u8]) -> bool
+        ensures { IsTrue result ↔ IsAnnounced (order_with order given.now) self.now }
+    {
+        match &self.announced {
+            Some(announced) => announced.is_of(order, given),
+            None => false,
+        }
+    }
+
     /// Returns the first device write of an order that can compare a PIN: the charge, which its device has before the
-    /// order runs. A second card, which loses power in that write, tells it.
+    /// order runs. The order is announced with it.
     ///
     /// # Errors
     /// `Memory`: there is too little for the second card.
+    #[tactic(auto, using(card_calls::proofs::FirstWriteLaws::tells_none, card_calls::proofs::FirstWriteLaws::tells_announced))]
     pub fn first_write(
-        &self,
+        &mut self,
         alloc: Global,
         order: Order,
         given: &[u8],
     ) -> Result<Option<Write>, Outcome>
         requires { IsOrderSized (order_with order given.now) }
-        ensures { TellsFirst (order_with order given.now) self.now result }
+        ensures { TellsFirst (order_with order given.now) self.old self.new result }
     {
         if !self.has_charge(order, given) {
             return Ok(None);
         }
+        let first = self.run_ahead(alloc, order, given)?;
+        self.announced = Some(Announced::new(order, given, first));
+        Ok(first)
+    }
+
+    /// Returns the first device write of an order. A second card, which loses power in that write, tells it.
+    ///
+    /// # Errors
+    /// `Memory`: there is too little for the second card.
+    fn run_ahead(&self, alloc: Global, order: Order, given: &[u8]) -> Result<Option<Write>, Outcome>
+        requires { IsOrderSized (order_with order given.now) }
+        ensures { RunsAhead (order_with order given.now) self.now result }
+    {
         let Ok(board) = twin_board(alloc, self.desk.board()) else {
             return Err(Outcome::Memory);
         };
@@ -127,8 +191,11 @@ impl Session {
     }
 
     /// Returns false if an order has no charge.
+    #[tactic(auto, using(card_calls::proofs::FirstWriteLaws::charge_there))]
     fn has_charge(&self, order: Order, given: &[u8]) -> bool
-        ensures { ¬ IsTrue result → HasNoCharge (order_with order given.now) self.now }
+        ensures compares { IsTrue result → MayCompare (order_with order given.now) }
+        ensures charge { IsTrue result → ¬ HasNoCharge (order_with order given.now) self.now }
+        ensures none { ¬ IsTrue result → HasNoCharge (order_with order given.now) self.now }
     {
         let board = self.desk.board();
         may_compare(order, given)
@@ -191,9 +258,11 @@ impl Session {
     }
 
     /// Takes back the cut, the loss and the garbling that are to come, and switches power off.
+    #[tactic(auto, using(card_calls::proofs::InStepLaws::step_none))]
     pub fn clear_faults(&mut self)
         ensures { self.new ≡ cleared self.old }
     {
+        self.announced = None; // (it was told of the desk with power)
         replace_with(&mut self.desk, (), cleared_desk);
     }
 

@@ -125,6 +125,12 @@ def test_charges(tests: Tests) -> None:
     tests.run("charges are stored before secrets are looked at", *words, program, wanted="charges: 36 commands\n")
 
 
+def test_uncharged(tests: Tests) -> None:
+    """The proved code itself runs no command on PINs whose first write it hasn't handed out."""
+    program = tests.compile(PROGRAMS / "uncharged.c", *SANITIZERS)
+    tests.run("a command on PINs without a charge is refused", program)
+
+
 def test_steps(tests: Tests) -> None:
     """A right value and wrong ones run the same instructions up to the first store."""
     program = tests.compile(PROGRAMS / "steps.c", "-O2")
@@ -150,4 +156,4 @@ def header_example() -> list[str]:
 
 
 ALL = (test_scripts, test_run, test_example, test_random, test_kept, test_kept_mistakes, test_kills, test_charges,
-       test_steps, test_memory)
+       test_uncharged, test_steps, test_memory)

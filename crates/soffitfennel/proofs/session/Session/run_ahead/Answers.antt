@@ -1,4 +1,5 @@
 use Rattle.std.proofs.Common.{◌≡◌, ◌∙◌, ap, subst}
+use Rattle.std.specs.Prelude.{option_map}
 use Rattle.bench_lines.specs.OrderViews.{order_with}
 use Rattle.bench_lines.specs.Orders.{Cut}
 use Rattle.bench_turns.specs.BenchStates.{with_facts}
@@ -8,12 +9,12 @@ use Rattle.card_bench.specs.Exchanges.{Desk}
 use Rattle.card_bench.specs.Performing.{Performs}
 use Rattle.card_bench.specs.declared.charge.TheConstants.{ALL_WORDS}
 use Rattle.nvm_board.specs.Facts.{Facts}
-use Rattle.card_calls.specs.FirstWrites.{TellsFirst}
+use Rattle.card_calls.specs.FirstWrites.{RunsAhead, announcement}
 use Rattle.card_calls.specs.Devices.{logs_none}
 use Rattle.card_calls.specs.SessionStates.{SessionState}
 use Rattle.card_calls.specs.declared.device.TheConstants.{TWIN_WRITES}
 use Rattle.card_calls.proofs.FirstWriteLaws.{tells_first}
-use Rattle.soffitfennel.proofs.session.Session.first_write.Goals as goal
+use Rattle.soffitfennel.proofs.session.Session.run_ahead.Goals as goal
 
 pub returns : goal.returns
 returns c =
@@ -23,6 +24,7 @@ returns c =
       desk = inside.desk.desk;
       behind = inside.behind;
       stored = inside.stored;
+      announced = option_map announcement inside.announced;
       device = inside.device;
     } in
     let armed = c.perform.new.self in
@@ -33,7 +35,7 @@ returns c =
     ∙ ap (λ (f : Facts). record inside.desk.desk { bench = with_facts inside.desk.desk.bench f })
     (c.in-Ok.ensures ∙ ap (λ (f : Facts). record f { log = logs_none TWIN_WRITES }) c.board.ensures) in
     let cut = subst (λ (d : Desk). Performs (Cut 1 ALL_WORDS) d armed.desk quiet) second c.perform.ensures.performs in
-    subst (λ (s : SessionState). TellsFirst order s c.first_write.result) c.self.view_is
+    subst (λ (s : SessionState). RunsAhead order s c.first_write.result) c.self.view_is
     (tells_first order was armed.desk left.desk quiet prints cut c.perform-2.ensures.performs
     c.perform-2.ensures.good _ c.board-2.ensures c.first_write.result c.first_write.ensures.none
     c.first_write.ensures.one c.first_write.ensures.more)
