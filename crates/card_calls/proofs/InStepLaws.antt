@@ -198,7 +198,8 @@ plain-armed number mask old new armed =
 pub compares-none : ComparesNoneLaw
 compares-none Nothing old new prints there sized bytes plain run = ap (λ (d : Desk). counts_of d.bench) run.0
 compares-none On old new prints there sized bytes plain run = plain-on run.outcome old.bench new.bench run.turn
-compares-none Off old new prints there sized bytes plain run = same-counts (switched_off old.bench) new.bench run.turn.one
+compares-none Off old new prints there sized bytes plain run =
+    same-counts (switched_off old.bench) new.bench run.turn.one
 compares-none Free old new prints there sized bytes plain run = ap (λ (d : Desk). counts_of d.bench) run.0
 compares-none (Apdu command) old new prints there sized bytes plain run =
     plain-command old.bench old new command prints there (command-so command sized.0 sized.1 bytes)

@@ -1,5 +1,6 @@
 -- An order that the desk has run, with its writes and what pays for its comparisons.
-use Rattle.std.specs.Prelude.{◌≡◌, ◌⊎◌, ◌<◌, ◌^◌, ℕ, true, false, List, [], ◌∷◌, Bool, Option, None, Some, is_some, length, take}
+use Rattle.std.specs.Prelude.{◌≡◌, ◌⊎◌, ◌<◌, ◌^◌, ℕ, true, false, List, [], ◌∷◌, Bool, Option, None, Some, is_some}
+use Rattle.std.specs.Prelude.{length, take}
 use Rattle.std.specs.Prelude.{Result, Ok, Err}
 use Rattle.std.proofs.Common.{◌∙◌, ap, arith, inl, inr, refl, subst, sym}
 use Rattle.std.proofs.lemmas.Bool.{false≢true, true_from_ne_false}
@@ -43,8 +44,8 @@ some-same : {X : Type 0} (a b : X) → Some a ≡ Some b → a ≡ b
 some-same a b e = cc
 
 -- the announcement of a session is of this order
-abbrev pub announced_of : (order : Order) (was : SessionState) (a : Announcement) → was.announced ≡ Some a → a.order ≡ order
-    → IsAnnounced order was
+abbrev pub announced_of : (order : Order) (was : SessionState) (a : Announcement) → was.announced ≡ Some a
+    → a.order ≡ order → IsAnnounced order was
 announced_of order was a is of = record {
   first = a.first;
   told = is ∙ ap (λ (o : Order). Some (record { order = o; first = a.first })) of;

@@ -1,6 +1,6 @@
 -- A board whose device writes go to a device: the writes, their bytes in the image, and those that the device lacks.
-use Rattle.std.specs.Prelude.{◌≡◌, ◌≢◌, ◌+◌, ◌-◌, ◌%◌, ◌^◌, ◌<◌, ◌≤◌, ℕ, List, Bool, true, false, [], Option, None, Some}
-use Rattle.std.specs.Prelude.{flat_map, length, map, slice_get, take}
+use Rattle.std.specs.Prelude.{◌≡◌, ◌≢◌, ◌+◌, ◌-◌, ◌%◌, ◌^◌, ◌<◌, ◌≤◌, ℕ, List, Bool, true, false, [], Option, None}
+use Rattle.std.specs.Prelude.{Some, flat_map, length, map, slice_get, take}
 use Rattle.std.specs.Int.{w32, to_be_bytes}
 use Rattle.nvm_board.specs.Facts.{Facts, pages_of}
 use Rattle.nvm_board.specs.declared.board.TheConstants.{LEAST_PAGES}

@@ -1,5 +1,6 @@
 -- The first device write of an order that can compare a PIN. A second card tells it before the order runs.
-use Rattle.std.specs.Prelude.{◌≡◌, ◌⊎◌, ◌+◌, ◌%◌, ◌^◌, ℕ, List, Option, None, Some, Result, Ok, Err, is_some, option_map}
+use Rattle.std.specs.Prelude.{◌≡◌, ◌⊎◌, ◌+◌, ◌%◌, ◌^◌, ℕ, List, Option, None, Some, Result, Ok, Err, is_some}
+use Rattle.std.specs.Prelude.{option_map}
 use Rattle.std.specs.Prelude.{Bool, true, false}
 use Rattle.nvm_board.specs.History.{Log, Run}
 use Rattle.nvm_board.specs.Torn.{written}

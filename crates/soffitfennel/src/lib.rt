@@ -282,8 +282,9 @@ pub extern "C" fn soffitfennelcore_command(
     exchange(alloc, card, Order::Apdu, command, answer, size)
 }
 
-/// Sends a block of T=1 to the card's end of the link. A caller stores the block's first write before this call, and the
-/// others before it hands the reply out. On a card with a device, a block runs only if its first write was handed out.
+/// Sends a block of T=1 to the card's end of the link. A caller stores the block's first write before this call, and
+/// the others before it hands the reply out. On a card with a device, a block runs only if its first write was handed
+/// out.
 #[unsafe(no_mangle)]
 pub extern "C" fn soffitfennelcore_block(
     alloc: Global,
