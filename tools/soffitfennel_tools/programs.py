@@ -1,7 +1,6 @@
 """The programs of the repository: the bench, and the one that sweeps."""
 from __future__ import annotations
 
-import ctypes
 import os
 import signal
 import subprocess
@@ -24,14 +23,6 @@ def program(*options: str, given: str | None = None) -> str:
         sys.exit(2)
     os.environ.pop(named, None)
     return done.stdout.strip()
-
-
-PR_SET_PDEATHSIG = 1
-
-
-def dies_with_parent() -> None:
-    """For a process that is being started: it ends with the one that started it, however that one ends."""
-    ctypes.CDLL(None).prctl(PR_SET_PDEATHSIG, signal.SIGKILL)
 
 
 def past_file_limits() -> None:

@@ -17,7 +17,7 @@ from dataclasses import dataclass
 from pathlib import Path
 from queue import Queue
 
-from ..programs import dies_with_parent
+from ..tests.checks import dies_with_parent
 
 from .edits import Unfit, texts_of
 from .trying import Verdict

@@ -1,6 +1,8 @@
 """The checks of a test: counted, and reported where one fails."""
 from __future__ import annotations
 
+import ctypes
+import signal
 from argparse import ArgumentParser
 from collections.abc import Callable, Iterable
 from typing import Any, TypeVar
@@ -8,6 +10,12 @@ from typing import Any, TypeVar
 Part = TypeVar("Part", bound=Callable[..., Any])
 # how much of a value is shown
 MOST = 2000
+PR_SET_PDEATHSIG = 1
+
+
+def dies_with_parent() -> None:
+    """For a process that is being started: it ends with the one that started it, however that one ends."""
+    ctypes.CDLL(None).prctl(PR_SET_PDEATHSIG, signal.SIGKILL)
 
 
 def add_words(parser: ArgumentParser) -> None:

@@ -17,7 +17,7 @@ import urllib.request
 from pathlib import Path
 from typing import Any, Protocol
 
-from ...programs import dies_with_parent
+from ..checks import dies_with_parent
 
 SIZE = (1400, 1000)
 # the window of Firefox that stands for a narrower one, by its zoom
