@@ -124,8 +124,7 @@ def try_mutant(copy: Path, mutant: Mutant, environment: Environment) -> Verdict:
     ran = run_test(copy, mutant.test, environment)
     for path, content in old.items():
         (copy / path).write_bytes(content)
-    is_late = ran.seconds >= MOST_SECONDS
-    return Verdict(mutant.name, ran.failed > 0 or is_late, f"{ran.said} ({ran.seconds:.0f} s)")
+    return Verdict(mutant.name, ran.failed > 0, f"{ran.said} ({ran.seconds:.0f} s)")
 
 
 def try_test(copies: Queue[Path], test: Test, mutants: list[Mutant], environment: Environment) -> list[Verdict]:
