@@ -30,7 +30,7 @@ fn file_of(p2: u8) -> Option<Target>
 }
 
 /// Returns the record place of P1.
-fn place_of(p1: u8) -> RecordPlace
+fn record_place_of(p1: u8) -> RecordPlace
     ensures named { result ≡ record_place p1 }
     ensures ranges { IsRecordPlace result }
 {
@@ -48,7 +48,7 @@ fn choice_of(p1: u8, p2: u8) -> Option<RecordChoice>
     match p2 % 8 {
         2 if p1 == 0 => Some(RecordChoice::Next),
         3 if p1 == 0 => Some(RecordChoice::Previous),
-        4 => Some(RecordChoice::At(place_of(p1))),
+        4 => Some(RecordChoice::At(record_place_of(p1))),
         _ => None,
     }
 }
@@ -137,7 +137,7 @@ pub(crate) fn parse_search_record(operands: Operands<'_>) -> Parsed<'_>
     let text = body.text()?;
     Ok(Command::SearchRecord {
         target,
-        first: place_of(operands.p1),
+        first: record_place_of(operands.p1),
         direction,
         text,
         expected: body.expected,

@@ -7,7 +7,7 @@ ghost use Rattle.bench_lines.specs.Faults.{status_of};
 
 use bench_lines::RunFault;
 use card_bench::run_on;
-use card_files::{Asked, CardFault, NoBoard, board_of, read_words};
+use card_files::{Asked, CardFault, NoBoard, open_board, parse_bench_options};
 use card_turns::Bench;
 use std::env;
 use std::io::{self, BufReader, ErrorKind};
@@ -17,7 +17,7 @@ use std::process::ExitCode;
 const NO_CARD: u8 = 6;
 
 /// Reports a bad line, or a failed file, on standard error, and returns the exit status.
-fn report(rt: &impl Eprint, fault: &RunFault) -> u8
+fn report_run_fault(rt: &impl Eprint, fault: &RunFault) -> u8
     ensures { result ≡ status_of fault.now }
 {
     if let RunFault::BadLine(_) | RunFault::Unkept = fault {
@@ -33,12 +33,12 @@ fn status_at_end(rt: &impl Eprint, ended: &Result<(), RunFault>) -> u8
 {
     match ended {
         Ok(()) => 0,
-        Err(fault) => report(rt, fault),
+        Err(fault) => report_run_fault(rt, fault),
     }
 }
 
 /// Reports on standard error why a file is not taken as a card's, and returns the exit status.
-fn refuse(rt: &impl Eprint, fault: &CardFault) -> u8
+fn report_card_fault(rt: &impl Eprint, fault: &CardFault) -> u8
     ensures { result ≡ 6 }
 {
     let _ = rt.eprintln(format_args!("error card: {fault}"));
@@ -50,7 +50,7 @@ fn asked(rt: &HostRuntime) -> Result<Asked, RunFault> {
     match env::args(rt) {
         Ok(mut words) => {
             let _program = words.next();
-            Ok(read_words(words))
+            Ok(parse_bench_options(words))
         }
         Err(error) if error.kind() == ErrorKind::OutOfMemory => Err(RunFault::Memory),
         Err(_) => Ok(Asked::Unknown),
@@ -69,7 +69,7 @@ fn run_asked(rt: &HostRuntime) -> Result<Result<(), RunFault>, CardFault> {
         Ok(asked) => asked,
         Err(fault) => return Ok(Err(fault)),
     };
-    match board_of(rt, asked) {
+    match open_board(rt, asked) {
         Ok(board) => Ok(run_on::<Bench<_>, _, _>(board, &mut reader, &mut io::writer(rt))),
         Err(NoBoard::Memory) => Ok(Err(RunFault::Memory)),
         Err(NoBoard::Card(fault)) => Err(fault),
@@ -80,6 +80,6 @@ fn run_asked(rt: &HostRuntime) -> Result<Result<(), RunFault>, CardFault> {
 fn main(rt: HostRuntime) -> ExitCode {
     match run_asked(&rt) {
         Ok(ran) => ExitCode::from(status_at_end(&rt, &ran)),
-        Err(fault) => ExitCode::from(refuse(&rt, &fault)),
+        Err(fault) => ExitCode::from(report_card_fault(&rt, &fault)),
     }
 }

@@ -8,8 +8,8 @@ use Rattle.std.specs.Str.Lines.{lines, strip_carriage_return}
 use Rattle.bench_lines.specs.declared.reading.TheConstants.{SCRIPT_LIMIT}
 use Rattle.bench_lines.specs.declared.reading.LineEnd.{LineEnd}
 use Rattle.bench_lines.specs.declared.reading.LineEnd.TheVariants.{LineFeed, EndOfScript}
-use Rattle.bench_lines.specs.declared.reading.Part.{Part}
-use Rattle.bench_lines.specs.declared.reading.Part.TheVariants.{End, Begun, LineFeed as FedPart}
+use Rattle.bench_lines.specs.declared.reading.LinePart.{LinePart}
+use Rattle.bench_lines.specs.declared.reading.LinePart.TheVariants.{End, Begun, LineFeed as FedPart}
 use Rattle.bench_lines.specs.declared.order.TheConstants.{LINE_LIMIT}
 use Rattle.bench_lines.specs.Orders.{order_of}
 
@@ -85,14 +85,14 @@ TakesInto old new before after =
     × CountsTaken old new before after
 
 -- the number of bytes of a part of a line
-abbrev pub part_size : Part → ℕ
+abbrev pub part_size : LinePart → ℕ
 part_size End = 0
 part_size (Begun size) = size
 part_size (FedPart size) = size
 
 -- a part of a line was read and appended to the line: nothing at the end; bytes without a line feed; or
 -- bytes up to the first line feed, which isn't appended
-abbrev pub TakesPart : Option (List ℕ) → Option (List ℕ) → List ℕ → List ℕ → Part → Type 0
+abbrev pub TakesPart : Option (List ℕ) → Option (List ℕ) → List ℕ → List ℕ → LinePart → Type 0
 TakesPart old new before after End = Consumes old new [] × OnSome old (IsAtEnd new) × (after ≡ before)
 TakesPart old new before after (Begun size) =
     (bytes : List ℕ) × Consumes old new bytes × IsInLine bytes × (after ≡ before ++ bytes)

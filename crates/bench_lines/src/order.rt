@@ -128,9 +128,9 @@ impl Order {
         } else if let Some(words) = line.strip_prefix(b"cut ") {
             cut_of(words)
         } else if let Some(digits) = line.strip_prefix(b"lose ") {
-            number_of(digits).map(Order::Lose)
+            decimal_number(digits).map(Order::Lose)
         } else if let Some(digits) = line.strip_prefix(b"garble ") {
-            number_of(digits).map(Order::Garble)
+            decimal_number(digits).map(Order::Garble)
         } else {
             None
         }
@@ -139,7 +139,7 @@ impl Order {
 
 /// Returns the number that 1 to 6 decimal digits spell.
 /// It is at least 1.
-fn number_of(digits: &[u8]) -> Option<u32>
+fn decimal_number(digits: &[u8]) -> Option<u32>
     ensures { result ≡ number_in digits.now }
 {
     if digits.is_empty() || digits.len() > NUMBER_DIGITS || !are_decimal(digits) {
@@ -157,7 +157,7 @@ fn cut_of(words: &[u8]) -> Option<Order>
         return None;
     };
     match (
-        number_of(number),
+        decimal_number(number),
         mask_of(&[*first, *second, *third, *fourth]),
     ) {
         (Some(number), Some(mask)) => Some(Order::Cut { number, mask }),

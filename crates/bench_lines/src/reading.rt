@@ -112,7 +112,7 @@ pub enum LineFault {
 
 /// The part of a line in the reader's buffer.
 #[derive(Clone, Copy)]
-enum Part {
+enum LinePart {
     /// Nothing: the script is at its end.
     End,
     /// This number of bytes, without a line feed.
@@ -128,7 +128,7 @@ fn read_part<R: BufRead>(
     reader: &mut R,
     most: usize,
     line: &mut LineBytes,
-) -> Result<Part, LineFault>
+) -> Result<LinePart, LineFault>
     requires { length line.old + most ≤ LINE_ROOM }
     ensures part { IfOk result
         (TakesPart (R.remaining reader.old) (R.remaining reader.new) line.old line.new) }
@@ -144,7 +144,7 @@ fn read_part<R: BufRead>(
         Err(_) => return Err(LineFault::Read),
     };
     if available.is_empty() {
-        return Ok(Part::End);
+        return Ok(LinePart::End);
     }
     if most == 0 {
         return Err(LineFault::TooMuch);
@@ -155,10 +155,10 @@ fn read_part<R: BufRead>(
     line.append(&seen[..size]);
     if is_fed {
         reader.consume(size + 1);
-        return Ok(Part::LineFeed(size + 1));
+        return Ok(LinePart::LineFeed(size + 1));
     }
     reader.consume(size);
-    Ok(Part::Begun(size))
+    Ok(LinePart::Begun(size))
 }
 
 /// Returns the number of bytes before the first line feed.
@@ -204,9 +204,9 @@ pub fn read_line<R: BufRead>(
     for _ in 0..=LINE_ROOM {
         let most = (LINE_ROOM - line.len()).min((SCRIPT_LIMIT - *taken) as usize);
         match read_part(reader, most, line) {
-            Ok(Part::End) => return Ok(LineEnd::EndOfScript),
-            Ok(Part::Begun(size)) => *taken += size as u32,
-            Ok(Part::LineFeed(size)) => {
+            Ok(LinePart::End) => return Ok(LineEnd::EndOfScript),
+            Ok(LinePart::Begun(size)) => *taken += size as u32,
+            Ok(LinePart::LineFeed(size)) => {
                 *taken += size as u32;
                 line.drop_carriage_return();
                 return Ok(LineEnd::LineFeed);

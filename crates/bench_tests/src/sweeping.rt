@@ -6,7 +6,8 @@ ghost use Rattle.simulated_boards.specs.Cut.{cut_facts};
 
 use card_bench::{Item, Turn};
 use card_sweeps::{
-    CommandRuns, MadeWrite, Seen, Stop, made_write, mask_count, masked_cut, play_copy, sweep_behind,
+    CommandRuns, MadeWrite, Seen, SweepStop, made_write, mask_count, masked_cut, play_copy,
+    sweep_behind,
 };
 use card_tests::fixtures::{formatted, formatted_old};
 use card_turns::Bench;
@@ -144,10 +145,10 @@ fn turns_of<'a>(alloc: Global, is_on: bool, blocks: &'a [Vec<u8>]) -> Result<Vec
 }
 
 /// Returns the failure of a test whose sweep stops.
-fn failure(stop: Stop) -> Fail {
+fn failure(stop: SweepStop) -> Fail {
     match stop {
-        Stop::Memory => Fail::from("too little memory"),
-        Stop::Differs => Fail::from("another memory"),
+        SweepStop::Memory => Fail::from("too little memory"),
+        SweepStop::Differs => Fail::from("another memory"),
     }
 }
 
@@ -588,7 +589,7 @@ fn migration_is_not_swept(rt: HostRuntime) -> Result<(), Fail> {
     let board = formatted_old(CutBoard::new(rt.alloc())?)?;
     let behind = sweep_behind::<Bench<CutBoard>>(rt.alloc(), &board, &[], 1);
     assert!(rt;
-        matches!(behind, Err(Stop::Differs)),
+        matches!(behind, Err(SweepStop::Differs)),
         "a migration was swept"
     );
     Ok(())

@@ -62,12 +62,12 @@ pub fn give_back<B: Board>(txn: &mut Txn<'_, B>, chains: &[Chain]) -> Result<(),
     if chains.is_empty() {
         return Ok(());
     }
-    let page = join(txn, chains)?;
+    let page = join_chains(txn, chains)?;
     txn.set(FREE_HEAD, u32::from(page))
 }
 
 /// Joins chains to the free one, and returns its new first block.
-fn join<B: Board>(txn: &mut Txn<'_, B>, chains: &[Chain]) -> Result<u16, StoreErr>
+fn join_chains<B: Board>(txn: &mut Txn<'_, B>, chains: &[Chain]) -> Result<u16, StoreErr>
     requires room { HasRoom (memory_of txn.old) (length chains.now) }
     requires free { HasFree (current (memory_of txn.old)) }
     requires apart { AreApart (current (memory_of txn.old)) chains.now }

@@ -20,10 +20,10 @@ use Rattle.card_calls.specs.Devices.{AllStored, TellsNext, logs_none, run_of}
 use Rattle.card_calls.specs.FirstWrites.{HasNoCharge, RunsAhead, TellsFirst}
 use Rattle.card_calls.specs.SessionStates.{SessionState, session_facts}
 use Rattle.card_calls.specs.declared.device.TheConstants.{TWIN_WRITES}
-use Rattle.card_calls.specs.declared.outcome.Outcome.{Outcome}
-use Rattle.card_calls.specs.declared.outcome.Outcome.TheVariants as outcome
+use Rattle.card_calls.specs.declared.outcome.CallOutcome.{CallOutcome}
+use Rattle.card_calls.specs.declared.outcome.CallOutcome.TheVariants as outcome
 use Rattle.card_calls.specs.declared.write.Write.{Write}
-use Rattle.card_calls.specs.declared.write_log.Next.TheVariants as next
+use Rattle.card_calls.specs.declared.write_log.NextWrite.TheVariants as next
 
 -- a log that counts so many writes
 abbrev Counts : ℕ → Option Log → Type 0
@@ -96,7 +96,7 @@ module _ (order : Order) (was : SessionState) (armed left : Desk) (quiet prints 
       (subst (λ (l : Option Log). TellsNext l 0 (next.Write w)) wrote.logs tells))
 
   -- what the board's log tells
-  pub tells_first : (f : Facts) → f ≡ bench_facts left.bench → (told : Result (Option Write) Outcome)
+  pub tells_first : (f : Facts) → f ≡ bench_facts left.bench → (told : Result (Option Write) CallOutcome)
       → (told ≡ Ok None → AllStored f.log 0)
       → IfOk told (λ first. IfSome first (λ w. TellsNext f.log 0 (next.Write w) × AllStored f.log 1))
       → IfErr told (λ why. why ≡ outcome.Memory) → RunsAhead order was told

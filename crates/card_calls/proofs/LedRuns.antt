@@ -11,8 +11,8 @@ use Rattle.card_calls.specs.Devices.{AllStored, TellsNext, fresh_count, run_of}
 use Rattle.card_calls.specs.FirstWrites.{IsAsAnnounced}
 use Rattle.card_calls.specs.PaidOrders.{IsLedBy}
 use Rattle.card_calls.specs.declared.write.Write.{Write}
-use Rattle.card_calls.specs.declared.write_log.Next.{Next}
-use Rattle.card_calls.specs.declared.write_log.Next.TheVariants as next
+use Rattle.card_calls.specs.declared.write_log.NextWrite.{NextWrite}
+use Rattle.card_calls.specs.declared.write_log.NextWrite.TheVariants as next
 
 -- a log after some runs: the last of all, and their number, but for what it carried
 record IsLogAfter (log : Log) (runs : List Run) (after : Option Log) : Type 0 where
@@ -65,7 +65,7 @@ module _ (log : Log) (stored : ℕ) (all_stored : fresh_count stored log.count �
   fresh runs after is few = let counts = is.counts in omega (arith, all_stored, few, counts)
 
   led-next : (runs : List Run) (after : Option Log) (is : IsLogAfter log runs after) → length runs < 2 ^ 64
-      → (answer : Next) (first : Option Run)
+      → (answer : NextWrite) (first : Option Run)
       → TellsNext (Some (record { runs = drop is.drops (log.runs ++ runs); room = log.room; count = is.count })) stored
       answer → IsAsAnnounced first answer → IsLedBy first runs
   led-next [] after is few next.Nothing None tells so = refl
@@ -92,7 +92,7 @@ module _ (log : Log) (stored : ℕ) (all_stored : fresh_count stored log.count �
       ∙ ap (λ (k : ℕ). get_or all k run) place ∙ get-seam log.runs run runs)
 
 -- an order that begins with the write that was announced
-pub led_by : (log now : Option Log) (stored : ℕ) (runs : List Run) (answer : Next) (first : Option Run)
+pub led_by : (log now : Option Log) (stored : ℕ) (runs : List Run) (answer : NextWrite) (first : Option Run)
     → is_some log ≡ true → AllStored log stored → now ≡ and_runs log runs → length runs < 2 ^ 64
     → TellsNext now stored answer → IsAsAnnounced first answer → IsLedBy first runs
 led_by None now stored runs answer first some all same few tells so = absurd cc

@@ -23,8 +23,8 @@ use Rattle.card_calls.specs.PaidOrders.{IsLedBy, PaidInOrder, PaysFor}
 use Rattle.card_calls.specs.SessionStates.{Announcement, SessionState, session_facts}
 use Rattle.card_calls.specs.Telling.{BeginsAsTold, BeginsOrder, Diverges, HasRun, IsAnnounced, IsPerformed, IsTaken}
 use Rattle.card_calls.specs.Telling.{MayNotRun, MayRun, TellsResult}
-use Rattle.card_calls.specs.declared.outcome.Outcome.{Outcome}
-use Rattle.card_calls.specs.declared.outcome.Outcome.TheVariants as outcome
+use Rattle.card_calls.specs.declared.outcome.CallOutcome.{CallOutcome}
+use Rattle.card_calls.specs.declared.outcome.CallOutcome.TheVariants as outcome
 use Rattle.card_calls.specs.declared.device.TheConstants.{TWIN_WRITES}
 use Rattle.card_calls.proofs.InStepLaws.{compares-none}
 use Rattle.card_calls.proofs.LedRuns.{led_by}
@@ -131,7 +131,8 @@ module _ (order : Order) (was now : SessionState) (prints : Print) (run : Perfor
     }
 
 -- an order that may not run
-pub held_back : (order : Order) (was : SessionState) (why : Outcome) → (why ≡ outcome.Unstored) × MayNotRun order was
+pub held_back : (order : Order) (was : SessionState) (why : CallOutcome) → (why ≡ outcome.Unstored)
+    × MayNotRun order was
     → TellsResult order was was (Err why)
 held_back order was why held = (held.0, inl (record { why = held.1; same = refl }))
 

@@ -2,12 +2,12 @@
 use Rattle.std.specs.Prelude.{ℕ, List, []}
 use Rattle.t1_link.specs.declared.reader_end.Next.{Next}
 use Rattle.t1_link.specs.declared.reader_end.Next.TheVariants.{Send, Done, Unknown, Failed}
-use Rattle.card_calls.specs.declared.outcome.Outcome.{Outcome}
-use Rattle.card_calls.specs.declared.outcome.Outcome.TheVariants as outcome
+use Rattle.card_calls.specs.declared.outcome.CallOutcome.{CallOutcome}
+use Rattle.card_calls.specs.declared.outcome.CallOutcome.TheVariants as outcome
 use Rattle.card_calls.specs.ReaderCalls.{failure_outcome}
 
 -- its outcome
-abbrev pub next_outcome : Next → Outcome
+abbrev pub next_outcome : Next → CallOutcome
 next_outcome Send = outcome.Send
 next_outcome Done = outcome.Done
 next_outcome Unknown = outcome.Resynched

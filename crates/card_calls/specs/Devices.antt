@@ -8,8 +8,8 @@ use Rattle.nvm_board.specs.History.{Log, Run}
 use Rattle.simulated_boards.specs.declared.kept_board.KeptBoard.{KeptBoard}
 use Rattle.simulated_boards.specs.Kept.{kept_facts}
 use Rattle.card_calls.specs.declared.write.Write.{Write}
-use Rattle.card_calls.specs.declared.write_log.Next.{Next}
-use Rattle.card_calls.specs.declared.write_log.Next.TheVariants as next
+use Rattle.card_calls.specs.declared.write_log.NextWrite.{NextWrite}
+use Rattle.card_calls.specs.declared.write_log.NextWrite.TheVariants as next
 use Rattle.card_calls.specs.declared.write_log.TheConstants.{LOG_WRITES}
 use Rattle.card_calls.specs.declared.write_log.WriteLog.{WriteLog}
 
@@ -52,7 +52,7 @@ AllStored None stored = Unit
 AllStored (Some log) stored = fresh_count stored log.count ≡ 0
 
 -- The first write that a device lacks, of a log: none, or this one, or one that the log has no more.
-abbrev pub NextIn : Log → ℕ → Next → Type 0
+abbrev pub NextIn : Log → ℕ → NextWrite → Type 0
 NextIn log stored next.Nothing = fresh_count stored log.count ≡ 0
 NextIn log stored (next.Write w) = (fresh_count stored log.count ≢ 0)
     × (fresh_count stored log.count ≤ length log.runs)
@@ -60,6 +60,6 @@ NextIn log stored (next.Write w) = (fresh_count stored log.count ≢ 0)
 NextIn log stored next.Lost = length log.runs < fresh_count stored log.count
 
 -- the same, where there may be no log: then there is no write
-abbrev pub TellsNext : Option Log → ℕ → Next → Type 0
+abbrev pub TellsNext : Option Log → ℕ → NextWrite → Type 0
 TellsNext None stored answer = answer ≡ next.Nothing
 TellsNext (Some log) stored answer = NextIn log stored answer

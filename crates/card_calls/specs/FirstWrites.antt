@@ -12,11 +12,11 @@ use Rattle.card_calls.specs.Devices.{TellsNext, logs_none, run_of}
 use Rattle.card_calls.specs.SessionStates.{Announcement, SessionState, session_facts}
 use Rattle.card_calls.specs.declared.announced.Announced.{Announced}
 use Rattle.card_calls.specs.declared.device.TheConstants.{TWIN_WRITES}
-use Rattle.card_calls.specs.declared.outcome.Outcome.{Outcome}
-use Rattle.card_calls.specs.declared.outcome.Outcome.TheVariants as outcome
+use Rattle.card_calls.specs.declared.outcome.CallOutcome.{CallOutcome}
+use Rattle.card_calls.specs.declared.outcome.CallOutcome.TheVariants as outcome
 use Rattle.card_calls.specs.declared.write.Write.{Write}
-use Rattle.card_calls.specs.declared.write_log.Next.{Next}
-use Rattle.card_calls.specs.declared.write_log.Next.TheVariants as next
+use Rattle.card_calls.specs.declared.write_log.NextWrite.{NextWrite}
+use Rattle.card_calls.specs.declared.write_log.NextWrite.TheVariants as next
 
 -- An order has no charge: it can't compare, the card has no device, the device is behind, or power is lost in its
 -- first write.
@@ -40,7 +40,7 @@ IsTold None d = Unit {0}
 IsTold (Some told) d = IsFirstOf told.first told.order d
 
 -- the first write that a second card told, or why there is none
-abbrev pub RunsAhead : Order → SessionState → Result (Option Write) Outcome → Type 0
+abbrev pub RunsAhead : Order → SessionState → Result (Option Write) CallOutcome → Type 0
 RunsAhead order was (Ok first) = IsFirstOf (option_map run_of first) order was.desk
 RunsAhead order was (Err why) = why ≡ outcome.Memory
 
@@ -50,7 +50,7 @@ pub record Announces (first : Option Run) (order : Order) (was now : SessionStat
   pub now_is : now ≡ record was { announced = Some (record { order = order; first = first }) }
 
 -- The first write of an order, if it has a charge. Else nothing changes.
-abbrev pub TellsFirst : Order → SessionState → SessionState → Result (Option Write) Outcome → Type 0
+abbrev pub TellsFirst : Order → SessionState → SessionState → Result (Option Write) CallOutcome → Type 0
 TellsFirst order was now (Ok None) = (HasNoCharge order was × (now ≡ was)) ⊎ Announces None order was now
 TellsFirst order was now (Ok (Some w)) = Announces (Some (run_of w)) order was now
 TellsFirst order was now (Err why) = (why ≡ outcome.Memory) × (now ≡ was)
@@ -70,7 +70,7 @@ charge_of true announced = announced
 charge_of false announced = None
 
 -- The next write that the device lacks is the one that was announced; or none was, and there is none.
-abbrev pub IsAsAnnounced : Option Run → Next → Type 0
+abbrev pub IsAsAnnounced : Option Run → NextWrite → Type 0
 IsAsAnnounced None next.Nothing = Unit {0}
 IsAsAnnounced None (next.Write w) = ⊥
 IsAsAnnounced None next.Lost = ⊥
@@ -87,7 +87,7 @@ and_first stored (Some run) = (stored + 1) % 2 ^ 64
 -- order began with another write.
 abbrev pub EndsCharge : Option Log → ℕ → Option Announcement → Option ℕ → Type 0
 EndsCharge log stored None after = after ≡ Some stored
-EndsCharge log stored (Some told) None = (answer : Next) × TellsNext log stored answer
+EndsCharge log stored (Some told) None = (answer : NextWrite) × TellsNext log stored answer
     × ¬ IsAsAnnounced told.first answer
-EndsCharge log stored (Some told) (Some after) = (answer : Next) × TellsNext log stored answer
+EndsCharge log stored (Some told) (Some after) = (answer : NextWrite) × TellsNext log stored answer
     × IsAsAnnounced told.first answer × (after ≡ and_first stored told.first)

@@ -9,17 +9,17 @@ use Rattle.t1_link.specs.declared.reader_end.Failure.TheVariants.{LinkLost, BadA
 use Rattle.t1_link.specs.declared.reader_end.Phase.TheVariants.{Busy}
 use Rattle.bench_lines.specs.Orders.{Apdu}
 use Rattle.card_calls.specs.Telling.{CopiesNothing, CopiesOut, FitsCall, outcome_number}
-use Rattle.card_calls.specs.declared.outcome.Outcome.{Outcome}
-use Rattle.card_calls.specs.declared.outcome.Outcome.TheVariants as outcome
+use Rattle.card_calls.specs.declared.outcome.CallOutcome.{CallOutcome}
+use Rattle.card_calls.specs.declared.outcome.CallOutcome.TheVariants as outcome
 use Rattle.card_calls.specs.declared.sizes.TheConstants.{ROOM}
 
 -- the outcome of a failure
-abbrev pub failure_outcome : Failure → Outcome
+abbrev pub failure_outcome : Failure → CallOutcome
 failure_outcome LinkLost = outcome.Lost
 failure_outcome BadAnswer = outcome.BadAnswer
 
 -- the outcome of a step of the reader's table
-abbrev pub report_outcome : CommandReport → Outcome
+abbrev pub report_outcome : CommandReport → CallOutcome
 report_outcome (sends b) = outcome.Send
 report_outcome (gives answer) = outcome.Done
 report_outcome unknown = outcome.Resynched
@@ -39,7 +39,8 @@ pub record TakesStep (turned : Turned) (now : Reader) (old new : List ℕ) (size
   pub copied : CopiesOut (report_bytes turned.outcome) old new size
 
 -- a refused call: nothing changes, and no bytes are returned
-pub record RefusesReader (why : Outcome) (was now : Reader) (old new : List ℕ) (size : ℕ) (number : ℤ) : Type 0 where
+pub record RefusesReader (why : CallOutcome) (was now : Reader) (old new : List ℕ) (size : ℕ)
+    (number : ℤ) : Type 0 where
   pub number_is : number ≡ outcome_number why
   pub same : now ≡ was
   pub nothing : CopiesNothing old new size

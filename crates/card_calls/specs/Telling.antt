@@ -27,14 +27,14 @@ use Rattle.card_calls.specs.SessionStates.{Announcement, SessionState, begun_at,
 use Rattle.card_calls.specs.Devices.{AllStored, TellsNext}
 use Rattle.card_calls.specs.FirstWrites.{HasNoCharge, IsAsAnnounced, and_first, charge_of}
 use Rattle.card_calls.specs.PaidOrders.{IsLedBy, PaidInOrder}
-use Rattle.card_calls.specs.declared.outcome.Outcome.{Outcome}
-use Rattle.card_calls.specs.declared.outcome.Outcome.TheVariants as outcome
+use Rattle.card_calls.specs.declared.outcome.CallOutcome.{CallOutcome}
+use Rattle.card_calls.specs.declared.outcome.CallOutcome.TheVariants as outcome
 use Rattle.card_calls.specs.declared.outcome.Told.{Told}
 use Rattle.card_calls.specs.declared.sizes.TheConstants.{ROOM}
-use Rattle.card_calls.specs.declared.write_log.Next.{Next}
+use Rattle.card_calls.specs.declared.write_log.NextWrite.{NextWrite}
 
 -- the number that C sees
-abbrev pub outcome_number : Outcome → ℤ
+abbrev pub outcome_number : CallOutcome → ℤ
 outcome_number outcome.Done = pos 0
 outcome_number outcome.Mute = pos 1
 outcome_number outcome.Dark = pos 2
@@ -50,7 +50,7 @@ outcome_number outcome.BadAnswer = pos 11
 outcome_number outcome.OutOfTurn = pos 12
 
 -- the outcome of an output
-abbrev pub print_outcome : Print → Outcome
+abbrev pub print_outcome : Print → CallOutcome
 print_outcome prints_nothing = outcome.Done
 print_outcome prints_atr = outcome.Done
 print_outcome prints_mute = outcome.Mute
@@ -128,7 +128,7 @@ pub record Diverges (order : Order) (was now : SessionState) : Type 0 where
   pub prints : Print
   pub performed : IsPerformed order was now prints
   pub announced : IsAnnounced order was
-  pub answer : Next
+  pub answer : NextWrite
   pub next : TellsNext (session_facts now).log was.stored answer
   pub other : ¬ IsAsAnnounced announced.first answer
   pub behind : now.behind ≡ true
@@ -146,7 +146,7 @@ pub record HasRun (order : Order) (was now : SessionState) (prints : Print) : Ty
   pub keeps_up : KeepsUp order was now performed.made.runs
 
 -- the result of an order is the output, if the device had all earlier writes and the charge
-abbrev pub TellsResult : Order → SessionState → SessionState → Result Told Outcome → Type 0
+abbrev pub TellsResult : Order → SessionState → SessionState → Result Told CallOutcome → Type 0
 TellsResult order was now (Ok told) = HasRun order was now (told_print told)
 TellsResult order was now (Err why) = (why ≡ outcome.Unstored) × IsWithheld order was now
 
@@ -156,19 +156,20 @@ IsTaken order was None = HasNoCharge order was
 IsTaken order was (Some told) = (¬ HasNoCharge order was) × (was.announced ≡ Some told) × (told.order ≡ order)
 
 -- Before an order runs: whether it has a charge, which was announced then, or that it may not run.
-abbrev pub BeginsOrder : Order → SessionState → Result Bool Outcome → Type 0
+abbrev pub BeginsOrder : Order → SessionState → Result Bool CallOutcome → Type 0
 BeginsOrder order was (Ok is_charged) = MayRun order was × IsTaken order was (charge_of is_charged was.announced)
 BeginsOrder order was (Err why) = (why ≡ outcome.Unstored) × MayNotRun order was
 
 -- An order to a card. Without a card nothing is done.
-abbrev pub AnswersOrder : Order → Option SessionState → Option SessionState → Result Told Outcome → Type 0
+abbrev pub AnswersOrder : Order → Option SessionState → Option SessionState → Result Told CallOutcome → Type 0
 AnswersOrder order None now result = (now ≡ None) × (result ≡ Err outcome.Absent)
 AnswersOrder order (Some was) None result = ⊥
 AnswersOrder order (Some was) (Some now) result = TellsResult order was now result
 
 -- A call that runs an order: its outcome is that of the output, for which `Holds` is true; or the device is behind, or
 -- there is no card, for which `Fails` is.
-abbrev pub CallRuns : Order → Option SessionState → Option SessionState → Outcome → (Print → Type 0) → Type 0 → Type 0
+abbrev pub CallRuns : Order → Option SessionState → Option SessionState → CallOutcome → (Print → Type 0) → Type 0
+    → Type 0
 CallRuns order None now result Holds Fails = (now ≡ None) × (result ≡ outcome.Absent) × Fails
 CallRuns order (Some was) None result Holds Fails = ⊥
 CallRuns order (Some was) (Some now) result Holds Fails =
@@ -207,25 +208,25 @@ ReportsSpace blocks entries (prints_free free) = (blocks ≡ free.blocks) × (en
 
 -- a call that runs an order without bytes
 pub record Tells (order : Order) (was now : Option SessionState) (number : ℤ) : Type 0 where
-  pub result : Outcome
+  pub result : CallOutcome
   pub number_is : number ≡ outcome_number result
   pub runs : CallRuns order was now result (λ prints. Unit {0}) (Unit {0})
 
 -- a call that runs an order, and copies its bytes out
 pub record TellsBytes (order : Order) (was now : Option SessionState) (old new : List ℕ) (size : ℕ) (number : ℤ)
     : Type 0 where
-  pub result : Outcome
+  pub result : CallOutcome
   pub number_is : number ≡ outcome_number result
   pub runs : CallRuns order was now result (Copies old new size) (CopiesNothing old new size)
 
 -- a call that returns the free space
 pub record ReturnsSpace (was now : Option SessionState) (blocks entries : ℕ) (number : ℤ) : Type 0 where
-  pub result : Outcome
+  pub result : CallOutcome
   pub number_is : number ≡ outcome_number result
   pub runs : CallRuns Free was now result (ReportsSpace blocks entries) ((blocks ≡ 0) × (entries ≡ 0))
 
 -- why a size or a number is refused: there is no card, or else it is out of its range
-abbrev pub refusal_of : Option SessionState → Outcome
+abbrev pub refusal_of : Option SessionState → CallOutcome
 refusal_of None = outcome.Absent
 refusal_of (Some was) = outcome.Size
 

@@ -8,7 +8,7 @@ ghost use Rattle.card_calls.specs.FirstWrites.{EndsCharge, IsAsAnnounced, announ
 
 use crate::device::{DeviceBoard, next_write};
 use crate::write::Write;
-use crate::write_log::Next;
+use crate::write_log::NextWrite;
 use arrayvec::ArrayVec;
 use bench_lines::{BLOCK_LIMIT, Order};
 
@@ -50,12 +50,12 @@ impl Announced {
     }
 
     /// Returns true if a log's next write is the first one of this order.
-    fn is_next(&self, next: &Next) -> bool
+    fn is_next(&self, next: &NextWrite) -> bool
         ensures { IsTrue result ↔ IsAsAnnounced (announcement self.now).first next.now }
     {
         match (next, &self.first) {
-            (Next::Nothing, None) => true,
-            (Next::Write(write), Some(first)) => write.is_same(first),
+            (NextWrite::Nothing, None) => true,
+            (NextWrite::Write(write), Some(first)) => write.is_same(first),
             _ => false,
         }
     }

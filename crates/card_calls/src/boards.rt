@@ -8,7 +8,7 @@ ghost use Rattle.simulated_boards.specs.Cut.{cut_facts};
 ghost use Rattle.simulated_boards.specs.Given.{board_with};
 ghost use Rattle.card_calls.specs.Telling.{ChecksWords, RefusesPages, RefusesWords, outcome_number};
 
-use crate::outcome::Outcome;
+use crate::outcome::CallOutcome;
 use card_boards::{NoCard, factory_board_of, image_board};
 use card_start::StartFault;
 use nvm_board::{LEAST_PAGES, MOST_PAGES, PAGE_WORDS};
@@ -19,11 +19,11 @@ use std::alloc::Global;
 ///
 /// # Errors
 /// `Size`, `Memory`, `NoCard`.
-pub fn board_of(alloc: Global, words: &[u32]) -> Result<CutBoard, Outcome>
+pub fn board_from_words(alloc: Global, words: &[u32]) -> Result<CutBoard, CallOutcome>
     ensures facts { IfOk result (λ board. cut_facts board ≡ board_with words.now) }
     ensures card { IfOk result (λ board. HasCard (cut_facts board).words) }
     ensures refused { IfErr result (λ why. RefusesWords words.now (outcome_number why)) }
-    ensures undone { IfErr result (λ why. why ≢ Outcome.Done) }
+    ensures undone { IfErr result (λ why. why ≢ CallOutcome.Done) }
 {
     match card_of(alloc, words) {
         Ok(board) => Ok(board),
@@ -62,11 +62,11 @@ fn has_memory_size(words: &[u32]) -> bool
 }
 
 /// Tells whether words are a valid card image, and the number of what is wrong with them.
-pub fn check_words(alloc: Global, words: &[u32]) -> (Outcome, u32)
+pub fn check_words(alloc: Global, words: &[u32]) -> (CallOutcome, u32)
     ensures { ChecksWords words.now (outcome_number result.0) result.1 }
 {
     match card_of(alloc, words) {
-        Ok(_) => (Outcome::Done, 0),
+        Ok(_) => (CallOutcome::Done, 0),
         Err(why) => wrong(&why),
     }
 }
@@ -75,46 +75,46 @@ pub fn check_words(alloc: Global, words: &[u32]) -> (Outcome, u32)
 ///
 /// # Errors
 /// `Size`: no memory has so many pages. `Memory`.
-pub fn factory_of(alloc: Global, pages: usize) -> Result<CutBoard, Outcome>
+pub fn factory_of(alloc: Global, pages: usize) -> Result<CutBoard, CallOutcome>
     ensures factory { IfOk result (λ board. IsFactoryBoard pages (cut_facts board)) }
     ensures card { IfOk result (λ board. HasCard (cut_facts board).words) }
     ensures refused { IfErr result (λ why. RefusesPages pages (outcome_number why)) }
-    ensures undone { IfErr result (λ why. why ≢ Outcome.Done) }
+    ensures undone { IfErr result (λ why. why ≢ CallOutcome.Done) }
 {
     if pages < usize::from(LEAST_PAGES) || pages > usize::from(MOST_PAGES) {
-        return Err(Outcome::Size);
+        return Err(CallOutcome::Size);
     }
     match factory_board_of(alloc, pages as u16) {
         Ok(board) => Ok(board),
-        Err(_) => Err(Outcome::Memory),
+        Err(_) => Err(CallOutcome::Memory),
     }
 }
 
 /// Returns the outcome of words that are refused.
-fn refusal(why: &NoCard) -> Outcome
+fn refusal(why: &NoCard) -> CallOutcome
     ensures rightly { (words : List ℕ) → IsRefusedRightly why.now words
         → RefusesWords words (outcome_number result) }
-    ensures undone { result ≢ Outcome.Done }
+    ensures undone { result ≢ CallOutcome.Done }
 {
     match why {
-        NoCard::Memory => Outcome::Memory,
-        NoCard::Size => Outcome::Size,
-        NoCard::Start(_) => Outcome::NoCard,
+        NoCard::Memory => CallOutcome::Memory,
+        NoCard::Size => CallOutcome::Size,
+        NoCard::Start(_) => CallOutcome::NoCard,
     }
 }
 
 /// Returns the outcome of words that are refused, and the number of what is wrong.
-fn wrong(why: &NoCard) -> (Outcome, u32)
+fn wrong(why: &NoCard) -> (CallOutcome, u32)
     ensures { (words : List ℕ) → IsRefusedRightly why.now words
         → ChecksWords words (outcome_number result.0) result.1 }
 {
     match why {
-        NoCard::Memory => (Outcome::Memory, 0),
-        NoCard::Size => (Outcome::Size, 0),
-        NoCard::Start(StartFault::BadJournal) => (Outcome::NoCard, 1),
+        NoCard::Memory => (CallOutcome::Memory, 0),
+        NoCard::Size => (CallOutcome::Size, 0),
+        NoCard::Start(StartFault::BadJournal) => (CallOutcome::NoCard, 1),
         // A new board loses no power, and has no fault.
         NoCard::Start(StartFault::Damaged | StartFault::PowerLost | StartFault::Fault) => (
-            Outcome::NoCard,
+            CallOutcome::NoCard,
             2,
         ),
     }

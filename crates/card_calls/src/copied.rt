@@ -3,12 +3,12 @@ ghost use Rattle.std.specs.Prelude.{◌≤◌, length};
 ghost use Rattle.card_calls.specs.WriteCalls.{CopiesWrite};
 ghost use Rattle.card_calls.specs.declared.write.TheConstants.{WRITE_BYTES};
 
-use crate::outcome::{Outcome, copy};
+use crate::outcome::{CallOutcome, copy};
 use crate::write::Write;
 
 /// Copies a device write out, if there is one, and returns the number of the outcome.
 pub fn copy_write(
-    told: Result<Option<Write>, Outcome>,
+    told: Result<Option<Write>, CallOutcome>,
     out: &mut [u8],
     offset: &mut usize,
     size: &mut usize,
@@ -19,12 +19,12 @@ pub fn copy_write(
     match told {
         Ok(None) => {
             *size = 0;
-            Outcome::Done.number()
+            CallOutcome::Done.number()
         }
         Ok(Some(write)) => {
             *offset = write.offset();
             *size = copy(&write.bytes(), out);
-            Outcome::Done.number()
+            CallOutcome::Done.number()
         }
         Err(outcome) => {
             *size = 0;

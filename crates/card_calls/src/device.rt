@@ -4,7 +4,7 @@ ghost use Rattle.simulated_boards.specs.Cut.{cut_facts};
 ghost use Rattle.card_calls.specs.Devices.{AllStored, TellsNext, begun_log, device_facts, log_room, logs_none};
 ghost use Rattle.card_calls.specs.declared.device.TheConstants.{TWIN_WRITES};
 
-use crate::write_log::{LOG_WRITES, Next, WriteLog};
+use crate::write_log::{LOG_WRITES, NextWrite, WriteLog};
 use nvm_board::{LEAST_PAGES, PAGE_WORDS};
 use simulated_boards::{CutBoard, Followed, KeptBoard};
 use std::alloc::{AllocError, Global};
@@ -56,15 +56,15 @@ pub fn twin_board(alloc: Global, board: &DeviceBoard) -> Result<DeviceBoard, All
 }
 
 /// Returns the first write of a board that its device lacks, if that has so many of all writes, modulo 2^64.
-pub fn next_write(board: &DeviceBoard, stored: u64) -> Next
+pub fn next_write(board: &DeviceBoard, stored: u64) -> NextWrite
     ensures { TellsNext (device_facts board.now).log stored result }
 {
     if !board.follows() {
-        return Next::Nothing;
+        return NextWrite::Nothing;
     }
     match board.follower() {
         Some(log) => log.next(stored),
-        None => Next::Nothing,
+        None => NextWrite::Nothing,
     }
 }
 

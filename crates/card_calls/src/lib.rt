@@ -16,16 +16,16 @@ mod write;
 mod write_log;
 
 pub use announced::{Announced, stored_after};
-pub use boards::{board_of, check_words, factory_of};
+pub use boards::{board_from_words, check_words, factory_of};
 pub use copied::copy_write;
 pub use device::{
     DeviceBoard, TWIN_WRITES, followed, has_device, is_stored, next_write, twin_board, unfollowed,
 };
 pub use laws::other_orders_compare_nothing;
 pub use of_bytes::is_of_bytes;
-pub use outcome::{Outcome, Told, bit, copy};
+pub use outcome::{CallOutcome, Told, bit, copy};
 pub use reader_calls::{begin, receive};
 pub use second_log::first_write;
 pub use sizes::{ROOM, block_fits, command_fits, order_fits};
 pub use write::{WRITE_BYTES, Write};
-pub use write_log::{LOG_WRITES, Next, WriteLog};
+pub use write_log::{LOG_WRITES, NextWrite, WriteLog};

@@ -10,7 +10,7 @@ use t1_link::AnswerBytes;
 
 /// The outcome of a call. C sees its number.
 #[derive(Clone, Copy)]
-pub enum Outcome {
+pub enum CallOutcome {
     /// It was done.
     Done,
     /// No answer: power is off, or power-on fails.
@@ -41,25 +41,25 @@ pub enum Outcome {
     OutOfTurn,
 }
 
-impl Outcome {
+impl CallOutcome {
     /// Returns the number that C sees.
     pub fn number(self) -> i32
         ensures { result ≡ outcome_number self }
     {
         match self {
-            Outcome::Done => 0,
-            Outcome::Mute => 1,
-            Outcome::Dark => 2,
-            Outcome::Lost => 3,
-            Outcome::Size => 4,
-            Outcome::Memory => 5,
-            Outcome::NoCard => 6,
-            Outcome::Unstored => 7,
-            Outcome::Absent => 8,
-            Outcome::Send => 9,
-            Outcome::Resynched => 10,
-            Outcome::BadAnswer => 11,
-            Outcome::OutOfTurn => 12,
+            CallOutcome::Done => 0,
+            CallOutcome::Mute => 1,
+            CallOutcome::Dark => 2,
+            CallOutcome::Lost => 3,
+            CallOutcome::Size => 4,
+            CallOutcome::Memory => 5,
+            CallOutcome::NoCard => 6,
+            CallOutcome::Unstored => 7,
+            CallOutcome::Absent => 8,
+            CallOutcome::Send => 9,
+            CallOutcome::Resynched => 10,
+            CallOutcome::BadAnswer => 11,
+            CallOutcome::OutOfTurn => 12,
         }
     }
 }
@@ -73,18 +73,18 @@ pub struct Told {
 
 impl Told {
     /// Returns the outcome.
-    pub fn outcome(&self) -> Outcome
+    pub fn outcome(&self) -> CallOutcome
         ensures { result ≡ print_outcome (told_print self.now) }
     {
         match self.came {
-            LineResult::Mute => Outcome::Mute,
-            LineResult::Dark => Outcome::Dark,
-            LineResult::Lost => Outcome::Lost,
+            LineResult::Mute => CallOutcome::Mute,
+            LineResult::Dark => CallOutcome::Dark,
+            LineResult::Lost => CallOutcome::Lost,
             LineResult::Nothing
             | LineResult::Atr
             | LineResult::Answer
             | LineResult::Block
-            | LineResult::Free(_) => Outcome::Done,
+            | LineResult::Free(_) => CallOutcome::Done,
         }
     }
 

@@ -14,7 +14,7 @@ pub const LOG_WRITES: usize = 704;
 
 /// The next device write of a log.
 #[derive(Drop)]
-pub enum Next {
+pub enum NextWrite {
     /// The device has all writes.
     Nothing,
     /// The device lacks this write, and has all earlier ones.
@@ -58,20 +58,20 @@ impl WriteLog {
     }
 
     /// Returns the first write that a device lacks which has so many of all writes, modulo 2^64.
-    pub fn next(&self, stored: u64) -> Next
+    pub fn next(&self, stored: u64) -> NextWrite
         ensures { TellsNext (shown_log self.now) stored result }
     {
         let fresh = self.count.wrapping_sub(stored);
         let held = self.writes.len();
         if fresh == 0 {
-            return Next::Nothing;
+            return NextWrite::Nothing;
         }
         if fresh > held as u64 {
-            return Next::Lost;
+            return NextWrite::Lost;
         }
         match self.writes.get(held - fresh as usize) {
-            Some(write) => Next::Write(*write),
-            None => Next::Lost,
+            Some(write) => NextWrite::Write(*write),
+            None => NextWrite::Lost,
         }
     }
 }

@@ -6,8 +6,8 @@ use Rattle.std.specs.String.{string_bytes}
 use Rattle.nvm_board.specs.declared.board.TheConstants.{LEAST_PAGES, MOST_PAGES}
 use Rattle.card_files.specs.declared.options.Asked.{Asked}
 use Rattle.card_files.specs.declared.options.Asked.TheVariants as asked
-use Rattle.card_files.specs.declared.options.Next.{Next}
-use Rattle.card_files.specs.declared.options.Next.TheVariants as next
+use Rattle.card_files.specs.declared.options.WordRole.{WordRole}
+use Rattle.card_files.specs.declared.options.WordRole.TheVariants as next
 use Rattle.card_files.specs.declared.page_count.PageCount.{PageCount}
 use Rattle.card_files.specs.declared.options.Reading.{Reading}
 
@@ -17,7 +17,7 @@ pub record GivenOptions : Type 0 where
   pub pages : Option ℕ
   pub sync : Bool
   pub known : Bool
-  pub role : Next
+  pub role : WordRole
 
 -- the number of pages, if there is one
 abbrev pub pages_number : Option PageCount → Option ℕ
@@ -63,7 +63,7 @@ pub record TakesOption (old : GivenOptions) (word : List ℕ) (new : GivenOption
       → new ≡ record old { known = false }
 
 -- The effect of a word, by its role. A path may be any word, and a later option replaces an earlier one.
-abbrev pub TakesRole : Next → GivenOptions → List ℕ → GivenOptions → Type 0
+abbrev pub TakesRole : WordRole → GivenOptions → List ℕ → GivenOptions → Type 0
 TakesRole next.Path old word new = new ≡ record old { path = Some word; role = next.Option }
 TakesRole next.Pages old word new = (pages : Option ℕ) × ArePagesOf word pages
     × (new ≡ record old { pages = pages; known = old.known && is_some pages; role = next.Option })

@@ -42,14 +42,14 @@ pub fn words_in<R: Read>(alloc: Global, reader: &mut R, size: u64) -> Result<Vec
     if bytes.len() % WORD_BYTES != 0 {
         return Err(WordsFault::Parts);
     }
-    match words_of(alloc, &bytes) {
+    match words_from_bytes(alloc, &bytes) {
         Ok(words) => Ok(words),
         Err(_) => Err(WordsFault::Memory),
     }
 }
 
 /// Returns the words in bytes.
-fn words_of(alloc: Global, bytes: &[u8]) -> Result<Vec<u32>, AllocError>
+fn words_from_bytes(alloc: Global, bytes: &[u8]) -> Result<Vec<u32>, AllocError>
     requires { length bytes.now % WORD_BYTES ≡ 0 }
     ensures fit { IfOk result (λ words. AreWords words.items) }
     ensures image { IfOk result (λ words. bytes_in_file words.items ≡ bytes.now) }

@@ -88,8 +88,8 @@ impl KeptFile {
         requires size { length words.now ≤ PAGE_WORDS }
         requires within { at + length words.now ≤ PAGE_WORDS * MOST_PAGES }
     {
-        let bytes = bytes_of(words);
-        let wrote = self.file.write_at(&bytes, offset_of(at));
+        let bytes = big_endian_bytes(words);
+        let wrote = self.file.write_at(&bytes, file_offset(at));
         matches!(wrote, Ok(count) if count == bytes.len())
     }
 
@@ -126,7 +126,7 @@ impl Follower for KeptFile {
 }
 
 /// Returns the offset of a word's first byte in the image.
-fn offset_of(at: usize) -> u64
+fn file_offset(at: usize) -> u64
     requires { at ≤ PAGE_WORDS * MOST_PAGES }
     ensures { result ≡ WORD_BYTES * at }
 {
@@ -134,7 +134,7 @@ fn offset_of(at: usize) -> u64
 }
 
 /// Returns the bytes of words in the image, the most significant of each word first.
-fn bytes_of(words: &[u32]) -> ArrayVec<u8, PAGE_BYTES>
+fn big_endian_bytes(words: &[u32]) -> ArrayVec<u8, PAGE_BYTES>
     requires { length words.now ≤ PAGE_WORDS }
     ensures bytes { result.items ≡ bytes_in_file words.now }
     ensures size { length result.items ≡ WORD_BYTES * length words.now }

@@ -10,6 +10,6 @@ mod reading;
 mod swept_file;
 
 pub use kept_file::CardBoard;
-pub use opening::{CardFault, NoBoard, board_of};
-pub use options::{Asked, CardOptions, read_words};
+pub use opening::{CardFault, NoBoard, open_board};
+pub use options::{Asked, CardOptions, parse_bench_options};
 pub use swept_file::{BoardFault, swept_board};

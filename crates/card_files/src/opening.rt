@@ -58,7 +58,7 @@ pub enum NoBoard {
 }
 
 /// Returns the board with the card that the command line asks for. No cut is pending.
-pub fn board_of(rt: &HostRuntime, asked: Asked) -> Result<CardBoard, NoBoard>
+pub fn open_board(rt: &HostRuntime, asked: Asked) -> Result<CardBoard, NoBoard>
     ensures card { IfOk result (λ board. HasCard (kept_words board)) }
     ensures board { IfOk result (IsBoardOf asked) }
     ensures uncut { IfOk result (λ board. (facts_of board).pending ≡ None) }
@@ -101,14 +101,14 @@ fn read_card(alloc: Global, file: File, options: &CardOptions) -> Result<CardBoa
     ensures uncut { IfOk result (λ board. (facts_of board).pending ≡ None) }
 {
     lock(&file)?;
-    let (size, stamp) = size_of(&file)?;
+    let (size, stamp) = size_and_stamp(&file)?;
     let board = card_in(alloc, &mut &file, size, options)?;
     let file = KeptFile::new(file, stamp, options.sync);
     Ok(KeptBoard::new(board, Some(file)))
 }
 
 /// Returns the size of a regular file in bytes, and its stamp.
-fn size_of(file: &File) -> Result<(u64, Stamp), CardFault> {
+fn size_and_stamp(file: &File) -> Result<(u64, Stamp), CardFault> {
     let read = file.metadata().and_then(|it| Ok((it, Stamp::of(file)?)));
     match read {
         Ok((it, stamp)) if it.is_file() => Ok((it.len(), stamp)),
@@ -143,7 +143,7 @@ fn new_file(rt: &HostRuntime, words: &[u32], options: &CardOptions) -> io::Resul
 {
     let new = other_name(rt, options.path.as_str())?;
     let file = write_new(rt, words, new.as_str(), options.path.as_str())?;
-    let stamp = settle(rt, &file, options)?;
+    let stamp = stamp_of_new(rt, &file, options)?;
     Ok(KeptFile::new(file, stamp, options.sync))
 }
 
@@ -155,7 +155,7 @@ fn write_new(rt: &HostRuntime, words: &[u32], new: &str, path: &str) -> io::Resu
         .create_new(true)
         .mode(OWNER_ALONE)
         .open(rt, new)?;
-    let filled = fill(rt, &mut file, words);
+    let filled = write_image(rt, &mut file, words);
     let named = filled.and_then(|()| give_name(rt, new, path));
     // (a link leaves both names)
     let _ = fs::remove_file(rt, new);
@@ -164,7 +164,7 @@ fn write_new(rt: &HostRuntime, words: &[u32], new: &str, path: &str) -> io::Resu
 }
 
 /// Returns the stamp of a new file. With `sync` it waits until the disk has the file's name.
-fn settle(rt: &HostRuntime, file: &File, options: &CardOptions) -> io::Result<Stamp> {
+fn stamp_of_new(rt: &HostRuntime, file: &File, options: &CardOptions) -> io::Result<Stamp> {
     if options.sync {
         fs::open(rt, folder_of(options.path.as_str()))?.sync_all()?;
     }
@@ -181,7 +181,7 @@ fn other_name(rt: &HostRuntime, path: &str) -> io::Result<String> {
 }
 
 /// Locks a file, and writes words to it. It returns once the disk has them.
-fn fill(rt: &HostRuntime, file: &mut File, words: &[u32]) -> io::Result<()> {
+fn write_image(rt: &HostRuntime, file: &mut File, words: &[u32]) -> io::Result<()> {
     if file.try_lock().is_err() {
         return Err(ErrorKind::WouldBlock.into());
     }

@@ -47,7 +47,7 @@ pub enum Asked {
 
 /// The role of the next word.
 #[derive(Clone, Copy)]
-enum Next {
+enum WordRole {
     Option,
     Path,
     Pages,
@@ -60,7 +60,7 @@ struct Reading {
     pages: Option<PageCount>,
     sync: bool,
     is_known: bool,
-    next: Next,
+    next: WordRole,
 }
 
 impl Reading {
@@ -77,7 +77,7 @@ impl Reading {
             pages: None,
             sync: false,
             is_known: true,
-            next: Next::Option,
+            next: WordRole::Option,
         }
     }
 
@@ -86,16 +86,16 @@ impl Reading {
         ensures { TakesRole self.old.next (options_read self.old) (string_bytes word) (options_read self.new) }
     {
         match self.next {
-            Next::Path => {
+            WordRole::Path => {
                 self.path = Some(word);
-                self.next = Next::Option;
+                self.next = WordRole::Option;
             }
-            Next::Pages => {
+            WordRole::Pages => {
                 self.pages = PageCount::parse(word.as_str());
                 self.is_known = self.is_known && self.pages.is_some();
-                self.next = Next::Option;
+                self.next = WordRole::Option;
             }
-            Next::Option => self.take_option(word.as_bytes()),
+            WordRole::Option => self.take_option(word.as_bytes()),
         }
     }
 
@@ -104,9 +104,9 @@ impl Reading {
         ensures { TakesOption (options_read self.old) word.now (options_read self.new) }
     {
         if word == b"--card".as_slice() {
-            self.next = Next::Path;
+            self.next = WordRole::Path;
         } else if word == b"--pages".as_slice() {
-            self.next = Next::Pages;
+            self.next = WordRole::Pages;
         } else if word == b"--sync".as_slice() {
             self.sync = true;
         } else {
@@ -126,17 +126,17 @@ impl Reading {
             next,
         } = self;
         match (path, next) {
-            (Some(path), Next::Option) if is_known => {
+            (Some(path), WordRole::Option) if is_known => {
                 Asked::Card(CardOptions { path, pages, sync })
             }
-            (None, Next::Option | Next::Pages) => Asked::Factory,
+            (None, WordRole::Option | WordRole::Pages) => Asked::Factory,
             _ => Asked::Unknown,
         }
     }
 }
 
 /// Reads the words after the program's name.
-pub fn read_words(words: IntoIter<String>) -> Asked
+pub fn parse_bench_options(words: IntoIter<String>) -> Asked
     ensures { (given : GivenOptions)
         × TakesWords no_options (map string_bytes (take (into_iter_len words) (into_iter_items words))) given
         × IsAskedBy given result }

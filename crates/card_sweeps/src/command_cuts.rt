@@ -8,7 +8,7 @@ ghost use Rattle.card_sweeps.specs.SweptRuns.{IsUnmade};
 ghost use Rattle.card_sweeps.specs.WrittenRuns.{IsMasked};
 
 use crate::cut_masks::{mask_at, words_to_try};
-use crate::stop::Stop;
+use crate::stop::SweepStop;
 use crate::sweepable::Sweepable;
 use crate::sweeping::{cut_board, played};
 use crate::written_runs::{first_change, is_masked, is_write};
@@ -48,7 +48,7 @@ pub fn made_write<P: TurnPlayer + Drop>(
     runs: &CommandRuns<'_, P::Board>,
     write: u32,
     before: &[u32],
-) -> Result<Option<MadeWrite<P::Board>>, Stop>
+) -> Result<Option<MadeWrite<P::Board>>, SweepStop>
 where
     P::Board: Sweepable + Drop,
     requires { 1 ≤ write }
@@ -67,7 +67,7 @@ where
     let after = made_cut::<P>(runs, write, mask_at(words, 1))?;
     let at = first_address::<P>(runs, write, words, before, after.words())?;
     if !is_write(at, words, before, none.words(), after.words()) {
-        return Err(Stop::Differs);
+        return Err(SweepStop::Differs);
     }
     Ok(Some(MadeWrite { after, words, at }))
 }
@@ -83,7 +83,7 @@ pub fn masked_cut<P: TurnPlayer + Drop>(
     before: &[u32],
     made: &MadeWrite<P::Board>,
     i: u8,
-) -> Result<P::Board, Stop>
+) -> Result<P::Board, SweepStop>
 where
     P::Board: Sweepable + Drop,
     requires write { 1 ≤ write }
@@ -99,7 +99,7 @@ where
     let left = made_cut::<P>(runs, write, mask_at(made.words, i))?;
     let after = made.after.words();
     if !is_masked(made.at, made.words, i, before, after, left.words()) {
-        return Err(Stop::Differs);
+        return Err(SweepStop::Differs);
     }
     Ok(left)
 }
@@ -112,7 +112,7 @@ fn first_address<P: TurnPlayer + Drop>(
     words: u8,
     before: &[u32],
     after: &[u32],
-) -> Result<usize, Stop>
+) -> Result<usize, SweepStop>
 where
     P::Board: Sweepable + Drop,
     requires write { 1 ≤ write }
@@ -130,7 +130,7 @@ where
             return Ok(changed.saturating_sub(usize::from(i)));
         }
     }
-    Err(Stop::Differs)
+    Err(SweepStop::Differs)
 }
 
 /// Returns the board after a cut at a device write that the command makes.
@@ -138,7 +138,7 @@ fn made_cut<P: TurnPlayer + Drop>(
     runs: &CommandRuns<'_, P::Board>,
     write: u32,
     mask: u16,
-) -> Result<P::Board, Stop>
+) -> Result<P::Board, SweepStop>
 where
     P::Board: Sweepable + Drop,
     requires { 1 ≤ write }
@@ -148,7 +148,7 @@ where
 {
     match command_cut::<P>(runs, write, mask)? {
         Ok(left) => Ok(left),
-        Err(_) => Err(Stop::Differs),
+        Err(_) => Err(SweepStop::Differs),
     }
 }
 

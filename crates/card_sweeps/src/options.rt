@@ -77,7 +77,7 @@ impl Reading {
 
 /// Reads the words after the program's name.
 /// Returns `None` if one is unknown, or a path is missing.
-pub fn read_words(words: IntoIter<String>) -> Option<Options>
+pub fn parse_sweep_options(words: IntoIter<String>) -> Option<Options>
     ensures { (first : GivenSweep) × IsWholeSweep first
         × AsksForSweep first (map string_bytes (take (into_iter_len words) (into_iter_items words))) result }
 {

@@ -4,45 +4,45 @@ use std::alloc::{AllocError, AllocFailed};
 
 /// Why a sweep stops early.
 #[derive(Clone, Copy)]
-pub enum Stop {
+pub enum SweepStop {
     /// There is too little memory.
     Memory,
     /// A cut left another memory than the other cuts ask for, so the board is not deterministic.
     Differs,
 }
 
-impl From<AllocError> for Stop {
+impl From<AllocError> for SweepStop {
     ghost use Rattle.std.specs.Prelude.{◌≡◌};
-    ghost use Rattle.card_sweeps.specs.declared.stop.Stop.TheVariants.{Memory};
+    ghost use Rattle.card_sweeps.specs.declared.stop.SweepStop.TheVariants.{Memory};
 
     ghost from_gives = { λ _ stop. stop ≡ Memory };
 
-    fn from(_: AllocError) -> Stop {
-        Stop::Memory
+    fn from(_: AllocError) -> SweepStop {
+        SweepStop::Memory
     }
 }
 
-impl<T: Drop> From<AllocFailed<T>> for Stop {
+impl<T: Drop> From<AllocFailed<T>> for SweepStop {
     ghost use Rattle.std.specs.Prelude.{◌≡◌};
-    ghost use Rattle.card_sweeps.specs.declared.stop.Stop.TheVariants.{Memory};
+    ghost use Rattle.card_sweeps.specs.declared.stop.SweepStop.TheVariants.{Memory};
 
     ghost from_gives = { λ _ stop. stop ≡ Memory };
 
-    fn from(_: AllocFailed<T>) -> Stop {
-        Stop::Memory
+    fn from(_: AllocFailed<T>) -> SweepStop {
+        SweepStop::Memory
     }
 }
 
-impl From<Stop> for SweepFault {
+impl From<SweepStop> for SweepFault {
     ghost use Rattle.std.specs.Prelude.{◌≡◌};
     ghost use Rattle.card_sweeps.specs.ExitStatuses.{fault_of};
 
     ghost from_gives = { λ stop fault. fault ≡ fault_of stop };
 
-    fn from(stop: Stop) -> SweepFault {
+    fn from(stop: SweepStop) -> SweepFault {
         match stop {
-            Stop::Memory => SweepFault::Memory,
-            Stop::Differs => SweepFault::Differs,
+            SweepStop::Memory => SweepFault::Memory,
+            SweepStop::Differs => SweepFault::Differs,
         }
     }
 }

@@ -6,13 +6,13 @@ ghost use Rattle.bench_turns.specs.Plays.{IsGood};
 ghost use Rattle.bench_turns.specs.BenchStates.{IsWell};
 ghost use Rattle.bench_turns.specs.Turns.{Runs};
 ghost use Rattle.card_sweeps.specs.Tallies.{findings, times_seen, CountsToFull};
-ghost use Rattle.card_sweeps.specs.declared.stop.Stop.TheVariants.{Memory};
+ghost use Rattle.card_sweeps.specs.declared.stop.SweepStop.TheVariants.{Memory};
 ghost use Rattle.card_sweeps.specs.declared.sweeping.Halt.TheVariants.{Stopped};
 ghost use Rattle.card_sweeps.specs.PlanParts.{Sweeps, words_left};
 ghost use Rattle.card_sweeps.specs.SweptRuns.{AreAllBehind, AreFirstBehind, IsOneLook, MakesWrite};
 ghost use Rattle.card_sweeps.specs.Sweeps.{CutsStart, EndsIn, EndsBehindStarts, LeavesUncut, PlaysOn, free_of};
 
-use crate::stop::Stop;
+use crate::stop::SweepStop;
 use crate::sweepable::Sweepable;
 use crate::tally::{Sweep, Trace, blank_trace};
 use crate::written_runs::{first_change, is_same, is_write};
@@ -27,21 +27,21 @@ enum Halt {
     /// No further run can be counted.
     Full,
     /// The sweep stops.
-    Stopped(Stop),
+    Stopped(SweepStop),
 }
 
 impl From<AllocError> for Halt {
     ghost from_gives = { λ _ halt. halt ≡ Stopped Memory };
 
     fn from(_: AllocError) -> Halt {
-        Halt::Stopped(Stop::Memory)
+        Halt::Stopped(SweepStop::Memory)
     }
 }
 
-impl From<Stop> for Halt {
+impl From<SweepStop> for Halt {
     ghost from_gives = { λ stop halt. halt ≡ Stopped stop };
 
-    fn from(stop: Stop) -> Halt {
+    fn from(stop: SweepStop) -> Halt {
         Halt::Stopped(stop)
     }
 }
@@ -66,7 +66,7 @@ pub fn sweep_behind<P: TurnPlayer + Drop>(
     board: &P::Board,
     probe: &[Turn<'_>],
     depth: u8,
-) -> Result<Sweep, Stop>
+) -> Result<Sweep, SweepStop>
 where
     P::Board: Sweepable + Drop,
     ensures sum { IfOk result (λ s. sum_by times_seen s.seen.items ≡ s.runs) }
@@ -168,7 +168,7 @@ fn start_write<P: TurnPlayer + Drop>(
     board: &P::Board,
     k: u32,
     before: &[u32],
-) -> Result<Option<StartWrite<P::Board>>, Stop>
+) -> Result<Option<StartWrite<P::Board>>, SweepStop>
 where
     P::Board: Sweepable + Drop,
     requires { 1 ≤ k }
@@ -183,15 +183,15 @@ where
             if is_same(whole.words(), before) {
                 return Ok(None);
             }
-            return Err(Stop::Differs);
+            return Err(SweepStop::Differs);
         }
     };
     let Ok(new) = start_cut::<P>(alloc, board, k, 1)? else {
-        return Err(Stop::Differs);
+        return Err(SweepStop::Differs);
     };
     let at = first_change(before, new.words()).unwrap_or(0);
     if !is_write(at, 1, before, old.words(), new.words()) {
-        return Err(Stop::Differs);
+        return Err(SweepStop::Differs);
     }
     Ok(Some(StartWrite { old, new }))
 }

@@ -12,8 +12,8 @@ use Rattle.file_tree.specs.Table.{table, entry_in, path_of}
 use Rattle.file_tree.specs.Trees.{content, file_in}
 use Rattle.command_base.specs.declared.current.Current.{Current}
 use Rattle.command_base.specs.declared.target_file.Need.{Need}
-use Rattle.command_base.specs.declared.target_file.Structure.{Structure}
-use Rattle.command_base.specs.declared.target_file.Structure.TheVariants.{Bytes, Records, Linear, Cyclic}
+use Rattle.command_base.specs.declared.target_file.AcceptedStructure.{AcceptedStructure}
+use Rattle.command_base.specs.declared.target_file.AcceptedStructure.TheVariants.{Bytes, Records, Linear, Cyclic}
 use Rattle.card_model.specs.Cards.{Card}
 use Rattle.card_model.specs.Guards.{file_refusals, allowed}
 use Rattle.card_model.specs.Behaviours.{refused_by}
@@ -26,21 +26,21 @@ use Rattle.command_base.specs.laws.Entries.{there}
 use Rattle.card_model.specs.laws.Guarding.{guarded-named}
 use Rattle.command_base.specs.laws.Told.{told-entry}
 
-of-bytes : (s : Structure) (short : Option ℕ) (held : List ℕ)
+of-bytes : (s : AcceptedStructure) (short : Option ℕ) (held : List ℕ)
     → fits s (elementary short (transparent held)) ≡ fits_kind s 2
 of-bytes Bytes short held = refl
 of-bytes Records short held = refl
 of-bytes Linear short held = refl
 of-bytes Cyclic short held = refl
 
-of-linear : (s : Structure) (short : Option ℕ) (long capacity : ℕ) (records : List (List ℕ))
+of-linear : (s : AcceptedStructure) (short : Option ℕ) (long capacity : ℕ) (records : List (List ℕ))
     → fits s (elementary short (linear long capacity records)) ≡ fits_kind s 3
 of-linear Bytes short long capacity records = refl
 of-linear Records short long capacity records = refl
 of-linear Linear short long capacity records = refl
 of-linear Cyclic short long capacity records = refl
 
-of-cyclic : (s : Structure) (short : Option ℕ) (long capacity : ℕ) (records : List (List ℕ))
+of-cyclic : (s : AcceptedStructure) (short : Option ℕ) (long capacity : ℕ) (records : List (List ℕ))
     → fits s (elementary short (cyclic long capacity records)) ≡ fits_kind s 4
 of-cyclic Bytes short long capacity records = refl
 of-cyclic Records short long capacity records = refl
@@ -64,7 +64,7 @@ module _ (m : List ℕ) (e : ℕ) where
       cyclic x.record_length (entry_capacity x) (cyclic_records x (content m x)))
 
   -- whether the file of an entry has a structure
-  pub fits-is : (s : Structure) → 2 ≤ x.kind → x.kind ≤ 4 → fits s (file_in m e).kind ≡ fits_kind s x.kind
+  pub fits-is : (s : AcceptedStructure) → 2 ≤ x.kind → x.kind ≤ 4 → fits s (file_in m e).kind ≡ fits_kind s x.kind
   unfolding file_of
   fits-is s high low = ⊎_elim
       (λ (bytes : x.kind ≡ 2).

@@ -10,8 +10,8 @@ use Rattle.card_model.specs.RecordCommands.{has_records, is_cyclic, is_linear}
 use Rattle.file_tree.specs.Table.{table, entry_in, path_of}
 use Rattle.command_base.specs.declared.current.Current.{Current}
 use Rattle.command_base.specs.declared.target_file.Need.{Need}
-use Rattle.command_base.specs.declared.target_file.Structure.{Structure}
-use Rattle.command_base.specs.declared.target_file.Structure.TheVariants.{Bytes, Records, Linear, Cyclic}
+use Rattle.command_base.specs.declared.target_file.AcceptedStructure.{AcceptedStructure}
+use Rattle.command_base.specs.declared.target_file.AcceptedStructure.TheVariants.{Bytes, Records, Linear, Cyclic}
 use Rattle.card_model.specs.Cards.{Kind, is_transparent}
 use Rattle.card_model.specs.Guards.{file_refusals}
 use Rattle.card_model.specs.Behaviours.{refused_by}
@@ -22,14 +22,14 @@ use Rattle.card_model.specs.Requests.{IsTarget}
 use Rattle.command_base.specs.Working.{IsElementary, IsKept, session_of}
 
 -- true if a file of this kind has a structure that the command accepts
-abbrev pub fits : Structure → Kind → Bool
+abbrev pub fits : AcceptedStructure → Kind → Bool
 fits Bytes kind = is_transparent kind
 fits Records kind = has_records kind
 fits Linear kind = is_linear kind
 fits Cyclic kind = is_cyclic kind
 
 -- the same, for the kind of an entry
-abbrev pub fits_kind : Structure → ℕ → Bool
+abbrev pub fits_kind : AcceptedStructure → ℕ → Bool
 fits_kind Bytes kind = kind == kind_byte kinds.Transparent
 fits_kind Records kind = kind == kind_byte kinds.Linear || kind == kind_byte kinds.Cyclic
 fits_kind Linear kind = kind == kind_byte kinds.Linear

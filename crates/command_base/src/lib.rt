@@ -14,4 +14,4 @@ pub use current::{Current, Shown};
 pub use lengths::{ResponseData, asks_less, give, right_length};
 pub use spending::COMMAND_WRITES;
 pub use stop::{Stop, reply};
-pub use target_file::{Findings, Need, Structure, TargetFile, find_file};
+pub use target_file::{AcceptedStructure, Findings, Need, TargetFile, find_file};

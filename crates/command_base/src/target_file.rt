@@ -23,7 +23,7 @@ use undo_journal::{Board, Store, StoreErr};
 
 /// The structures that a command accepts.
 #[derive(Clone, Copy)]
-pub enum Structure {
+pub enum AcceptedStructure {
     /// A transparent file.
     Bytes,
     /// A linear or a cyclic file.
@@ -37,7 +37,7 @@ pub enum Structure {
 /// What a command needs: a structure, and an operation.
 #[derive(Clone, Copy)]
 pub struct Need {
-    pub structure: Structure,
+    pub structure: AcceptedStructure,
     pub bit: AccessBit,
 }
 
@@ -126,18 +126,18 @@ impl Findings {
     }
 }
 
-impl Structure {
+impl AcceptedStructure {
     /// Returns true if the file of this entry has this structure.
     fn fits(self, entry: &Entry) -> bool
         ensures { result ≡ fits_kind self entry.now.kind }
     {
         match self {
-            Structure::Bytes => entry.has_kind(EntryKind::Transparent),
-            Structure::Records => {
+            AcceptedStructure::Bytes => entry.has_kind(EntryKind::Transparent),
+            AcceptedStructure::Records => {
                 entry.has_kind(EntryKind::Linear) || entry.has_kind(EntryKind::Cyclic)
             }
-            Structure::Linear => entry.has_kind(EntryKind::Linear),
-            Structure::Cyclic => entry.has_kind(EntryKind::Cyclic),
+            AcceptedStructure::Linear => entry.has_kind(EntryKind::Linear),
+            AcceptedStructure::Cyclic => entry.has_kind(EntryKind::Cyclic),
         }
     }
 }

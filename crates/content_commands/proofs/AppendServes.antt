@@ -18,7 +18,7 @@ use Rattle.ef_body.specs.declared.layout.TheConstants.{RECORD_WRITES}
 use Rattle.ef_body.specs.Bodies.{cyclic_body_records, IsCyclic}
 use Rattle.command_base.specs.declared.current.Current.{Current}
 use Rattle.command_base.specs.declared.target_file.Need.{Need}
-use Rattle.command_base.specs.declared.target_file.Structure.TheVariants.{Records}
+use Rattle.command_base.specs.declared.target_file.AcceptedStructure.TheVariants.{Records}
 use Rattle.content_commands.specs.declared.record_file.RecordFile.{RecordFile}
 use Rattle.content_commands.specs.declared.record_file.Room.{Room}
 use Rattle.command_base.specs.Served.{Executes}

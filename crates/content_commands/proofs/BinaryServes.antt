@@ -42,7 +42,7 @@ use Rattle.file_tree.specs.laws.Tables.{length-table}
 use Rattle.file_tree.specs.laws.Indexed.{places_same}
 use Rattle.command_base.specs.declared.current.Current.{Current as CurrentFiles}
 use Rattle.command_base.specs.declared.target_file.Need.{Need}
-use Rattle.command_base.specs.declared.target_file.Structure.TheVariants.{Bytes}
+use Rattle.command_base.specs.declared.target_file.AcceptedStructure.TheVariants.{Bytes}
 use Rattle.card_model.specs.BinaryCommands.{read_response, end_status}
 use Rattle.command_base.specs.Comparing.{comparisons, ComparesBy}
 use Rattle.card_model.specs.Cards.{with_content}

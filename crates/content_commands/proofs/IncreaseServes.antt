@@ -24,7 +24,7 @@ use Rattle.card_model.specs.laws.Spelling.{length-spelled}
 use Rattle.ef_contents.specs.Refusals.{unraised}
 use Rattle.command_base.specs.declared.current.Current.{Current}
 use Rattle.command_base.specs.declared.target_file.Need.{Need}
-use Rattle.command_base.specs.declared.target_file.Structure.TheVariants.{Cyclic as Cyclic_file}
+use Rattle.command_base.specs.declared.target_file.AcceptedStructure.TheVariants.{Cyclic as Cyclic_file}
 use Rattle.content_commands.specs.declared.record_file.RecordFile.{RecordFile}
 use Rattle.card_model.specs.Guards.{target_path, asks_less, given, right_length}
 use Rattle.card_model.specs.Behaviours.{refused_by, outcome}

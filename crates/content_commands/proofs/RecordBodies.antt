@@ -48,9 +48,9 @@ count-at m ring is =
     let number = is.number in
     let start = is.start in
     let told = is.told in
-    let count : number_told m ring.told_at ≡ ring.records = omega (arith, few, number, start, told) in
-    length-newest_first ring.record_length ring.capacity (chain_bytes m ring.chain) (start_told m ring.told_at)
-    (number_told m ring.told_at)
+    let count : number_told m ring.counts_at ≡ ring.records = omega (arith, few, number, start, told) in
+    length-newest_first ring.record_length ring.capacity (chain_bytes m ring.chain) (start_told m ring.counts_at)
+    (number_told m ring.counts_at)
     ∙ count
 
 pub count-few : (m : List ℕ) (ring : Ring) → IsCyclic m ring → ring.records ≤ 254
@@ -147,14 +147,14 @@ module _ (m : List ℕ) (sized : IsMemory m) (words : IsCard m) (e : ℕ) (used 
         let number = told-is.0 in
         let straight = rules.linear three in
         let start = told-is.1 in
-        let zero : start_told m ring.told_at ≡ 0 = omega (arith, start, straight) in
+        let zero : start_told m ring.counts_at ≡ 0 = omega (arith, start, straight) in
         let most = rules.records in
-        let few : number_told m ring.told_at ≤ ring.capacity = omega (arith, number, most) in
+        let few : number_told m ring.counts_at ≤ ring.capacity = omega (arith, number, most) in
         (λ i. linear_order x.record_length (bytes i) (number i))
-        ∙ sym (in_order-ring ring.record_length ring.capacity (chain_bytes m ring.chain) (number_told m ring.told_at)
+        ∙ sym (in_order-ring ring.record_length ring.capacity (chain_bytes m ring.chain) (number_told m ring.counts_at)
         few)
         ∙ ap (λ (s : ℕ). newest_first ring.record_length ring.capacity (chain_bytes m ring.chain) s (number_told m
-        ring.told_at)) (sym zero)
+        ring.counts_at)) (sym zero)
 
     ring-records : cyclic_of x (content m x) ≡ records
     unfolding newest_first
@@ -222,8 +222,8 @@ slot-long m slot sized is =
     let ring = slot.ring in
     let size = ring.record_length in
     let bytes = chain_bytes m ring.chain in
-    let start = start_told m ring.told_at in
-    let number = number_told m ring.told_at in
+    let start = start_told m ring.counts_at in
+    let number = number_told m ring.counts_at in
     let few = is.slots.few in
     let room = is.slots.room in
     let most = is.number in

@@ -254,9 +254,9 @@ module _ (m after : List ℕ) (e : ℕ) (sized : IsMemory m) (words : IsCard m) 
 -- What becomes of a ring, whether its last record is followed by the first or not.
 record Becomes (m : List ℕ) (ring : Ring) (wraps : Bool) (records : List (List ℕ)) (after : List ℕ) : Type 0 where
   becomes : cyclic_body_records after ring ≡ records
-  begins : start_told after ring.told_at < ring.capacity
-  straight : wraps ≡ false → start_told after ring.told_at ≡ ring.start
-  only : OnlyBody m (chain_of m ring.chain) ring.told_at after
+  begins : start_told after ring.counts_at < ring.capacity
+  straight : wraps ≡ false → start_told after ring.counts_at ≡ ring.start
+  only : OnlyBody m (chain_of m ring.chain) ring.counts_at after
 
 of-ring : (m : List ℕ) (ring : Ring) (wraps : Bool) (records : List (List ℕ)) (after : List ℕ) → IsCyclic m ring
     → RingBecomes wraps m ring records after → Becomes m ring wraps records after
@@ -300,7 +300,7 @@ module _ (m after : List ℕ) (e : ℕ) (sized : IsMemory m) (words : IsCard m) 
       records after
   ring-become few made =
       let count = length-newest_first ring.record_length ring.capacity (chain_bytes after ring.chain)
-      (start_told after ring.told_at) (number_told after ring.told_at) in
+      (start_told after ring.counts_at) (number_told after ring.counts_at) in
       let all = ap (λ (rs : List (List ℕ)). length rs) made.becomes in
       let number : number_told after (told_address e) ≤ entry_capacity entry_m = omega (arith, count, all, few) in
       let start : start_told after (told_address e) < entry_capacity entry_m = made.begins in

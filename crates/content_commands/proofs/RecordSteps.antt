@@ -36,7 +36,7 @@ use Rattle.card_model.specs.Behaviours.{refused, refused_by, Refusal, Refusals, 
 use Rattle.card_model.specs.RecordCommands.{has_records, next_record, place_number, pointer_after, pointer_at}
 use Rattle.card_model.specs.RecordCommands.{pointer_found, matches, no_record, pointing, previous_record, records_of}
 use Rattle.card_model.specs.RecordCommands.{search_status, target_number}
-use Rattle.command_base.specs.declared.target_file.Structure.TheVariants.{Records}
+use Rattle.command_base.specs.declared.target_file.AcceptedStructure.TheVariants.{Records}
 use Rattle.card_model.specs.Sessions.{Session}
 use Rattle.command_base.specs.Standing.{card_of, IsCard}
 use Rattle.card_model.specs.Steps.{effect, refusals_of, served}

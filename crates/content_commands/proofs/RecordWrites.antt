@@ -24,7 +24,7 @@ use Rattle.ef_body.specs.declared.layout.TheConstants.{RECORD_WRITES}
 use Rattle.file_tree.specs.Table.{table, entry_in}
 use Rattle.command_base.specs.declared.current.Current.{Current}
 use Rattle.command_base.specs.declared.target_file.Need.{Need}
-use Rattle.command_base.specs.declared.target_file.Structure.TheVariants as structures
+use Rattle.command_base.specs.declared.target_file.AcceptedStructure.TheVariants as structures
 use Rattle.content_commands.specs.declared.record_file.RecordFile.{RecordFile}
 use Rattle.card_model.specs.Cards.{Card, Kind, Path}
 use Rattle.card_model.specs.Steps.{attempt_of, IsDoing, commits, effect, refusals_of}

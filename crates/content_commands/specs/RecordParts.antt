@@ -22,8 +22,8 @@ use Rattle.card_model.specs.RecordCommands.{next_record, place_number, previous_
 use Rattle.file_tree.specs.Table.{table, entry_in}
 use Rattle.command_base.specs.declared.current.Current.{Current}
 use Rattle.command_base.specs.declared.target_file.Need.{Need}
-use Rattle.command_base.specs.declared.target_file.Structure.{Structure}
-use Rattle.command_base.specs.declared.target_file.Structure.TheVariants.{Records, Linear}
+use Rattle.command_base.specs.declared.target_file.AcceptedStructure.{AcceptedStructure}
+use Rattle.command_base.specs.declared.target_file.AcceptedStructure.TheVariants.{Records, Linear}
 use Rattle.command_base.specs.NamedFiles.{IsNamed}
 use Rattle.file_tree.specs.Kinds.{kind_byte}
 use Rattle.file_tree.specs.declared.kinds.EntryKind.TheVariants as entry_kinds
@@ -41,7 +41,7 @@ ring_in e entry = record {
   capacity = entry_capacity entry;
   records = entry.records;
   start = entry.start;
-  told_at = told_address e;
+  counts_at = told_address e;
 }
 
 abbrev pub record_file_in : ℕ → Entry → RecordFile
@@ -110,7 +110,7 @@ pub record IsRecordFile (m : List ℕ) (x : Current) (target : Target) (need : N
   pub file_is : file ≡ record_file_in file.number (entry_in (table m) file.number)
 
 -- what UPDATE RECORD needs of its file, by its choice of record
-abbrev pub structure_replaced : RecordChoice → Structure
+abbrev pub structure_replaced : RecordChoice → AcceptedStructure
 structure_replaced Next = Linear
 structure_replaced Previous = Records
 structure_replaced (At place) = Linear

@@ -11,20 +11,20 @@ use apdu_core::{Answer, BinaryPlace, Sw};
 use block_chain::Chain;
 use card_model::AccessBit;
 use card_model::limits::MOST_ANSWER_DATA;
-use command_base::{Current, Need, Stop, Structure, find_file};
+use command_base::{AcceptedStructure, Current, Need, Stop, find_file};
 use ef_body::Transparent;
 use file_tree::Entry;
 use undo_journal::{Board, Store};
 
 /// What READ BINARY needs of its file.
 const READING: Need = Need {
-    structure: Structure::Bytes,
+    structure: AcceptedStructure::Bytes,
     bit: AccessBit::Read,
 };
 
 /// What UPDATE BINARY needs of its file.
 const UPDATING: Need = Need {
-    structure: Structure::Bytes,
+    structure: AcceptedStructure::Bytes,
     bit: AccessBit::Update,
 };
 
@@ -43,7 +43,7 @@ pub fn read_binary<B: Board>(
 {
     answer.clear();
     let file = find_file(store, current, place.target, READING)?;
-    let body = body_of(&file.entry);
+    let body = transparent_body(&file.entry);
     body.read(store, place.offset, most_of(expected), answer)?;
     *current = current.naming(place.target, file.number);
     Ok(read_status(answer.len(), expected))
@@ -62,14 +62,14 @@ pub fn update_binary<B: Board>(
         current.new [] (reply result) }
 {
     let file = find_file(store, current, place.target, UPDATING)?;
-    let body = body_of(&file.entry);
+    let body = transparent_body(&file.entry);
     body.update(store, place.offset, bytes)?;
     *current = current.naming(place.target, file.number);
     Ok(Sw::DONE)
 }
 
 /// Returns the body of a transparent file, from its entry.
-fn body_of(entry: &Entry) -> Transparent
+fn transparent_body(entry: &Entry) -> Transparent
     ensures { result
         ≡ record { chain = record { first = entry.now.first; last = entry.now.last }; size = entry.now.size } }
 {

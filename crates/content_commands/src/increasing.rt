@@ -9,13 +9,15 @@ use crate::records::find_records;
 use apdu_core::{Answer, Sw, Target};
 use card_model::AccessBit;
 use card_model::limits::MOST_ANSWER_DATA;
-use command_base::{Current, Need, ResponseData, Stop, Structure, asks_less, give, right_length};
+use command_base::{
+    AcceptedStructure, Current, Need, ResponseData, Stop, asks_less, give, right_length,
+};
 use ef_body::Cyclic;
 use undo_journal::{Board, Store};
 
 /// What INCREASE needs of its file.
 const INCREASING: Need = Need {
-    structure: Structure::Cyclic,
+    structure: AcceptedStructure::Cyclic,
     bit: AccessBit::Update,
 };
 
@@ -40,7 +42,7 @@ pub fn increase<B: Board>(
 {
     answer.clear();
     let file = find_records(store, current, Target::Current, INCREASING)?;
-    if is_too_long(file.ring, amount) {
+    if exceeds_limits(file.ring, amount) {
         return Err(Stop::Refused(Sw::WRONG_LENGTH));
     }
     let mut sum = ResponseData::new();
@@ -68,7 +70,7 @@ fn answer_of(sum: &ResponseData, amount: &[u8]) -> ResponseData
 
 /// Returns true if the number or the answer is too long.
 /// The number may have the length of a record, and the answer 256 bytes.
-fn is_too_long(ring: Cyclic, amount: &[u8]) -> bool
+fn exceeds_limits(ring: Cyclic, amount: &[u8]) -> bool
     requires { length amount.now ≤ 255 }
     ensures { result ≡ (nat_lt ring.record_length (length amount.now)
         || nat_lt 256 (ring.record_length + length amount.now)) }

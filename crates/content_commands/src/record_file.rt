@@ -58,7 +58,7 @@ impl RecordFile {
             capacity: entry.size / entry.record_length,
             records: entry.records,
             start: entry.start,
-            told_at: entry_address(number) + RECORDS_WORD,
+            counts_at: entry_address(number) + RECORDS_WORD,
         };
         RecordFile {
             number,

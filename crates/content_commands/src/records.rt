@@ -3,7 +3,7 @@ ghost use Rattle.std.specs.Prelude.{◌≡◌, ◌≢◌, ◌≤◌, ◌==◌, �
 ghost use Rattle.undo_journal.specs.Memory.{committed};
 ghost use Rattle.card_model.specs.Requests.{append_record as appending, read_record as reading};
 ghost use Rattle.card_model.specs.Requests.{search_record as searching, update_record as updating, HasBetween};
-ghost use Rattle.command_base.specs.declared.target_file.Structure.TheVariants as Structure;
+ghost use Rattle.command_base.specs.declared.target_file.AcceptedStructure.TheVariants as AcceptedStructure;
 ghost use Rattle.card_model.specs.Behaviours.{refused_by};
 ghost use Rattle.command_base.specs.NamedFiles.{fits};
 ghost use Rattle.card_model.specs.Guards.{file_refusals};
@@ -19,19 +19,19 @@ use crate::record_file::{RecordFile, pointer_after};
 use apdu_core::{Answer, RecordChoice, RecordPlace, Sw, Target};
 use card_model::{AccessBit, Direction};
 use command_base::{
-    Current, Need, ResponseData, Stop, Structure, asks_less, find_file, give, right_length,
+    AcceptedStructure, Current, Need, ResponseData, Stop, asks_less, find_file, give, right_length,
 };
 use undo_journal::{Board, Store};
 
 /// What READ RECORD and SEARCH RECORD need of their file.
 const READING: Need = Need {
-    structure: Structure::Records,
+    structure: AcceptedStructure::Records,
     bit: AccessBit::Read,
 };
 
 /// What APPEND RECORD needs of its file.
 const APPENDING: Need = Need {
-    structure: Structure::Records,
+    structure: AcceptedStructure::Records,
     bit: AccessBit::Append,
 };
 
@@ -41,8 +41,8 @@ fn replacing(choice: RecordChoice) -> Need
     ensures { result ≡ need_replacing choice }
 {
     let structure = match choice {
-        RecordChoice::Previous => Structure::Records,
-        RecordChoice::Next | RecordChoice::At(_) => Structure::Linear,
+        RecordChoice::Previous => AcceptedStructure::Records,
+        RecordChoice::Next | RecordChoice::At(_) => AcceptedStructure::Linear,
     };
     Need {
         structure,
@@ -58,7 +58,7 @@ pub(crate) fn find_records<B: Board>(
     need: Need,
 ) -> Result<RecordFile, Stop>
     requires target { HasTarget store.old current.now target }
-    requires records { need.structure ≢ Structure.Bytes }
+    requires records { need.structure ≢ AcceptedStructure.Bytes }
     ensures { Looks store.old store.new result
         (IsRecordFile (committed store.old) current.now target need)
         (λ refusal. refused_by (file_refusals (card_in store.old) (session_in store.old current.now) target
@@ -181,7 +181,7 @@ pub fn search_record<B: Board>(
     give(expected, &numbers, answer);
     let after = first_of(&numbers, pointer);
     *current = current.pointing(target, file.number, after);
-    Ok(status_of(&numbers))
+    Ok(status_of_search(&numbers))
 }
 
 /// Returns true if Le is neither 00 nor the record length.
@@ -199,7 +199,7 @@ fn first_of(numbers: &ResponseData, pointer: Option<u8>) -> Option<u8>
 }
 
 /// Returns the status word of a search with these matches.
-fn status_of(numbers: &ResponseData) -> Sw
+fn status_of_search(numbers: &ResponseData) -> Sw
     ensures { result ≡ search_status numbers.now.items }
 {
     match numbers.first() {

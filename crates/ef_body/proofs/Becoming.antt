@@ -59,9 +59,9 @@ ring_put m after ring number bytes sized is long some most slot_record offset li
     let small : ring.start < 0x10000 = (let start = is.start in omega (arith, few, start)) in
     let blocks = chain_kept m after ring.chain offset bytes sized is.slots.chain over in
     let told =
-    before_kept m after ring.chain offset bytes sized is.slots.chain over ring.told_at is.slots.entry ∙ is.told in
-    let first = told_start after ring.told_at ring.records ring.start told small in
-    let count = told_number after ring.told_at ring.records ring.start told small in
+    before_kept m after ring.chain offset bytes sized is.slots.chain over ring.counts_at is.slots.entry ∙ is.told in
+    let first = told_start after ring.counts_at ring.records ring.start told small in
+    let count = told_number after ring.counts_at ring.records ring.start told small in
     let place : ring.start + number - 1 ≡ ring.start + (number - 1) = omega (arith, some) in
     let here : offset ≡ (ring.start + (number - 1)) % ring.capacity * size =
     at ∙ ap (λ (s : ℕ). s * size) (lies ∙ ap (λ (i : ℕ). i % ring.capacity) place) in
@@ -69,8 +69,8 @@ ring_put m after ring number bytes sized is long some most slot_record offset li
     ≡ overwrite bs ((ring.start + (number - 1)) % ring.capacity * size) bytes =
     ap (bytes_of after) blocks ∙ over.content ∙ ap (λ (o : ℕ). overwrite bs o bytes) here in
     record {
-      becomes = ap (λ (l : List ℕ). newest_first size ring.capacity l (start_told after ring.told_at)
-          (number_told after ring.told_at)) content
+      becomes = ap (λ (l : List ℕ). newest_first size ring.capacity l (start_told after ring.counts_at)
+          (number_told after ring.counts_at)) content
           ∙ ap₂ (newest_first size ring.capacity
           (overwrite bs ((ring.start + (number - 1)) % ring.capacity * size) bytes)) first count
           ∙ newest_first-put size ring.capacity bs ring.start ring.records bytes long (ring_fits m ring sized is)
@@ -90,21 +90,21 @@ pub ring_added : (m after : List ℕ) (ring : Cyclic) (bytes : List ℕ) → IsM
     → length bytes ≡ ring.record_length → ring.records < ring.capacity
     → (slot_record offset told : ℕ) → slot_record ≡ (ring.start + (ring.records + 1) - 1) % ring.capacity
     → offset ≡ slot_record * ring.record_length → told ≡ counts_word (ring.records + 1) ring.start
-    → PutsRecord m ring.chain offset bytes ring.told_at told after
+    → PutsRecord m ring.chain offset bytes ring.counts_at told after
     → RecordsBecome m ring (cyclic_body_records m ring ++ bytes ∷ []) after
 ring_added m after ring bytes sized is long room slot_record offset told lies at tells puts =
     let size = ring.record_length in
     let bs = chain_bytes m ring.chain in
     let few = is.slots.few in
     let small : ring.start < 0x10000 = (let start = is.start in omega (arith, few, start)) in
-    let first = told_start after ring.told_at (ring.records + 1) ring.start (puts.tells ∙ tells) small in
-    let count = told_number after ring.told_at (ring.records + 1) ring.start (puts.tells ∙ tells) small in
+    let first = told_start after ring.counts_at (ring.records + 1) ring.start (puts.tells ∙ tells) small in
+    let count = told_number after ring.counts_at (ring.records + 1) ring.start (puts.tells ∙ tells) small in
     let place : ring.start + (ring.records + 1) - 1 ≡ ring.start + ring.records = omega arith in
     let here : offset ≡ (ring.start + ring.records) % ring.capacity * size =
     at ∙ ap (λ (s : ℕ). s * size) (lies ∙ ap (λ (i : ℕ). i % ring.capacity) place) in
     record {
-      becomes = ap (λ (l : List ℕ). newest_first size ring.capacity l (start_told after ring.told_at)
-          (number_told after ring.told_at)) (puts.becomes ∙ ap (λ (o : ℕ). overwrite bs o bytes) here)
+      becomes = ap (λ (l : List ℕ). newest_first size ring.capacity l (start_told after ring.counts_at)
+          (number_told after ring.counts_at)) (puts.becomes ∙ ap (λ (o : ℕ). overwrite bs o bytes) here)
           ∙ ap₂ (newest_first size ring.capacity
           (overwrite bs ((ring.start + ring.records) % ring.capacity * size) bytes)) first count
           ∙ newest_first-back size ring.capacity bs ring.start ring.records bytes long (ring_fits m ring sized is)
@@ -120,7 +120,7 @@ pub cyclic_front : (m after : List ℕ) (body : Cyclic) (bytes : List ℕ) (n : 
     → length bytes ≡ body.record_length → 1 ≤ n → n ≤ body.capacity → n ≤ body.records + 1
     → (slot_record offset told : ℕ) → slot_record ≡ slot_before body.start body.capacity
     → offset ≡ slot_record * body.record_length
-    → told ≡ counts_word n slot_record → PutsRecord m body.chain offset bytes body.told_at told after
+    → told ≡ counts_word n slot_record → PutsRecord m body.chain offset bytes body.counts_at told after
     → CyclicBecomes m body (front n bytes (cyclic_body_records m body)) after
 cyclic_front m after body bytes n sized is long some most more slot_record offset told before at tells puts =
     let size = body.record_length in
@@ -128,12 +128,12 @@ cyclic_front m after body bytes n sized is long some most more slot_record offse
     let low = slot_before-small body.start body.capacity is.start in
     let few = is.slots.few in
     let small : slot_record < 0x10000 = omega (arith, few, low, before) in
-    let number = told_number after body.told_at n slot_record (puts.tells ∙ tells) small in
-    let first = told_start after body.told_at n slot_record (puts.tells ∙ tells) small ∙ before in
+    let number = told_number after body.counts_at n slot_record (puts.tells ∙ tells) small in
+    let first = told_start after body.counts_at n slot_record (puts.tells ∙ tells) small ∙ before in
     let all = ring_fits m body sized is in
     record {
-      becomes = ap (λ (l : List ℕ). newest_first size body.capacity l (start_told after body.told_at)
-          (number_told after body.told_at)) (puts.becomes ∙ ap (λ (o : ℕ). overwrite bs o bytes) (at
+      becomes = ap (λ (l : List ℕ). newest_first size body.capacity l (start_told after body.counts_at)
+          (number_told after body.counts_at)) (puts.becomes ∙ ap (λ (o : ℕ). overwrite bs o bytes) (at
           ∙ ap (λ (s : ℕ). s * size) before))
           ∙ ap₂ (newest_first size body.capacity
           (overwrite bs (slot_before body.start body.capacity * size) bytes)) first number

@@ -18,8 +18,8 @@ linear_becomes : (m after : List ℕ) (body : Linear) (records : List (List ℕ)
 linear_becomes m after body records few ring =
     let size = body.record_length in
     let bs = chain_bytes after body.chain in
-    let n = number_told after body.told_at in
-    let start = start_told after body.told_at in
+    let n = number_told after body.counts_at in
+    let start = start_told after body.counts_at in
     let many : length (newest_first size body.capacity bs start n) ≡ length records =
     ap (λ (l : List (List ℕ)). length l) ring.becomes in
     let told = length-newest_first size body.capacity bs start n in

@@ -15,32 +15,32 @@ use Rattle.card_model.specs.RecordLists.{front, spelled, raised_number}
 use Rattle.ef_body.specs.Bodies.{cyclic_body_records, start_told}
 
 -- Only the content words of these blocks and the word at this address may change.
-pub record OnlyBody (m ps : List ℕ) (told_at : ℕ) (after : List ℕ) : Type 0 where
+pub record OnlyBody (m ps : List ℕ) (counts_at : ℕ) (after : List ℕ) : Type 0 where
   pub size : length after ≡ length m
-  pub others : (page place : ℕ) → place < PAGE_WORDS → (place ≡ 0) ⊎ IsNotIn page ps → address page place ≢ told_at
+  pub others : (page place : ℕ) → place < PAGE_WORDS → (place ≡ 0) ⊎ IsNotIn page ps → address page place ≢ counts_at
       → word after page place ≡ word m page place
 
 -- A ring has these records, with record 1 in the same slot as before. All else is unchanged.
 pub record RecordsBecome (m : List ℕ) (ring : Cyclic) (records : List (List ℕ)) (after : List ℕ) : Type 0 where
   pub becomes : cyclic_body_records after ring ≡ records
-  pub start : start_told after ring.told_at ≡ ring.start
+  pub start : start_told after ring.counts_at ≡ ring.start
   pub blocks : chain_of after ring.chain ≡ chain_of m ring.chain
-  pub only : OnlyBody m (chain_of m ring.chain) ring.told_at after
+  pub only : OnlyBody m (chain_of m ring.chain) ring.counts_at after
 
 -- A cyclic EF has these records, with record 1 in the slot before that of the former record 1. All else is unchanged.
 pub record CyclicBecomes (m : List ℕ) (body : Cyclic) (records : List (List ℕ)) (after : List ℕ) : Type 0 where
   pub becomes : cyclic_body_records after body ≡ records
-  pub start : start_told after body.told_at ≡ (body.start + body.capacity - 1) % body.capacity
+  pub start : start_told after body.counts_at ≡ (body.start + body.capacity - 1) % body.capacity
   pub blocks : chain_of after body.chain ≡ chain_of m body.chain
-  pub only : OnlyBody m (chain_of m body.chain) body.told_at after
+  pub only : OnlyBody m (chain_of m body.chain) body.counts_at after
 
 -- Bytes of a chain are overwritten, and the word at an address is set. All else is unchanged.
-pub record PutsRecord (m : List ℕ) (c : Chain) (offset : ℕ) (bytes : List ℕ) (told_at told : ℕ) (after : List ℕ)
+pub record PutsRecord (m : List ℕ) (c : Chain) (offset : ℕ) (bytes : List ℕ) (counts_at new_counts : ℕ) (after : List ℕ)
     : Type 0 where
   pub becomes : chain_bytes after c ≡ overwrite (chain_bytes m c) offset bytes
-  pub tells : slice_index after told_at ≡ told
+  pub tells : slice_index after counts_at ≡ new_counts
   pub blocks : chain_of after c ≡ chain_of m c
-  pub only : OnlyBody m (chain_of m c) told_at after
+  pub only : OnlyBody m (chain_of m c) counts_at after
 
 -- INCREASE: the sum of record 1 and the sent number, in the record length, becomes the newest record. The oldest is
 -- dropped.

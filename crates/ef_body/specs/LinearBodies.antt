@@ -10,7 +10,7 @@ use Rattle.ef_body.specs.declared.linear.Linear.{Linear}
 
 -- The records of a linear EF, in number order.
 abbrev pub linear_body_records : List ℕ → Linear → List (List ℕ)
-linear_body_records m body = linear_order body.record_length (chain_bytes m body.chain) (number_told m body.told_at)
+linear_body_records m body = linear_order body.record_length (chain_bytes m body.chain) (number_told m body.counts_at)
 
 -- A linear body as a cyclic one: record 1 is in slot 0.
 abbrev pub ring_of : Linear → Cyclic
@@ -20,14 +20,14 @@ ring_of body = record {
   capacity = body.capacity;
   records = body.records;
   start = 0;
-  told_at = body.told_at;
+  counts_at = body.counts_at;
 }
 
 -- A valid linear body, as the entry's word says.
 pub record IsLinear (m : List ℕ) (body : Linear) : Type 0 where
-  pub slots : HasSlots m body.chain body.record_length body.capacity body.told_at
+  pub slots : HasSlots m body.chain body.record_length body.capacity body.counts_at
   pub number : body.records ≤ body.capacity
-  pub told : slice_index m body.told_at ≡ counts_word body.records 0
+  pub told : slice_index m body.counts_at ≡ counts_word body.records 0
 
 -- The store is ready, and its words have these records of a linear EF. A record of the right length is to be stored.
 pub record TakesLinear (m : Memory) (records : Linear) (bytes : List ℕ) : Type 0 where
@@ -38,6 +38,6 @@ pub record TakesLinear (m : Memory) (records : Linear) (bytes : List ℕ) : Type
 -- A linear EF has these records. All else is unchanged.
 pub record LinearBecomes (m : List ℕ) (body : Linear) (records : List (List ℕ)) (after : List ℕ) : Type 0 where
   pub becomes : linear_body_records after body ≡ records
-  pub start : start_told after body.told_at ≡ 0
+  pub start : start_told after body.counts_at ≡ 0
   pub blocks : chain_of after body.chain ≡ chain_of m body.chain
-  pub only : OnlyBody m (chain_of m body.chain) body.told_at after
+  pub only : OnlyBody m (chain_of m body.chain) body.counts_at after

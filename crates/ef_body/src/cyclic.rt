@@ -16,7 +16,7 @@ ghost use Rattle.ef_body.specs.BodyChanges.{record_put_writes, slot_offset, Cycl
 ghost use Rattle.ef_contents.specs.BodyCalls.{Commits, CommitsUnlessRefused};
 ghost use Rattle.ef_body.specs.RingCalls.{FindsRecord, ReceivesSum};
 
-use crate::number::add;
+use crate::number::add_number;
 use crate::slot::{FreeSlot, RecordSlot};
 use crate::writing::put_front;
 use arrayvec::ArrayVec;
@@ -35,7 +35,7 @@ pub struct Cyclic {
     pub capacity: u16,
     pub records: u16,
     pub start: u16,
-    pub told_at: u16,
+    pub counts_at: u16,
 }
 
 impl Cyclic {
@@ -148,7 +148,7 @@ impl Cyclic {
         bytes.clear();
         let newest = self.find(1)?;
         from_store(newest.read(store, bytes))?;
-        if add(bytes, sent) {
+        if add_number(bytes, sent) {
             bytes.clear();
             return Err(BodyErr::Refused(Sw::MAXIMUM_REACHED));
         }

@@ -25,7 +25,7 @@ pub struct Linear {
     pub record_length: u16,
     pub capacity: u16,
     pub records: u16,
-    pub told_at: u16,
+    pub counts_at: u16,
 }
 
 impl RecordBody for Linear {
@@ -43,7 +43,7 @@ impl RecordBody for Linear {
             capacity: self.capacity,
             records: self.records,
             start: 0,
-            told_at: self.told_at,
+            counts_at: self.counts_at,
         }
     }
 

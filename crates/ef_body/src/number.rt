@@ -19,7 +19,7 @@ fn digit(bytes: &[u8], place: usize) -> u16
 }
 
 /// Adds a number to the one in the buffer. The sum keeps the buffer's length. It returns true on overflow.
-pub(crate) fn add<const N: usize>(number: &mut ArrayVec<u8, N>, sent: &[u8]) -> bool
+pub(crate) fn add_number<const N: usize>(number: &mut ArrayVec<u8, N>, sent: &[u8]) -> bool
     requires { length sent.now ≤ length number.old.items }
     ensures size { length number.new.items ≡ length number.old.items }
     ensures digits { All (λ b. b < 256) number.new.items }

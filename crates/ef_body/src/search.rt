@@ -20,7 +20,7 @@ use memchr::memchr;
 use undo_journal::{Board, Store, StoreErr};
 
 /// Returns the first place, `from` or a later one, where a text may begin: one with its first byte, or else the end.
-fn next_place(text: &[u8], bytes: &[u8], from: usize) -> usize
+fn next_candidate(text: &[u8], bytes: &[u8], from: usize) -> usize
     requires { from ≤ length bytes.now }
     ensures from { from ≤ result }
     ensures within { result ≤ length bytes.now }
@@ -48,12 +48,12 @@ fn begins_at(text: &[u8], bytes: &[u8], at: usize) -> bool
 fn stands(text: &[u8], bytes: &[u8]) -> bool
     ensures { result ≡ stands_in text.now bytes.now }
 {
-    let mut at = next_place(text, bytes, 0);
+    let mut at = next_candidate(text, bytes, 0);
     while at < bytes.len() {
         if begins_at(text, bytes, at) {
             return true;
         }
-        at = next_place(text, bytes, at + 1);
+        at = next_candidate(text, bytes, at + 1);
     }
     false
 }

@@ -37,18 +37,18 @@ fn put_record<B: Board>(
     chain: Chain,
     offset: u16,
     bytes: &[u8],
-    told_at: u16,
-    told: u32,
+    counts_at: u16,
+    new_counts: u32,
 ) -> Result<(), StoreErr>
     requires bytes { TakesBytes store.old chain offset (length bytes.now) }
-    requires entry { told_at < GATE }
-    ensures commits { Commits (PutsRecord (committed store.old) chain offset bytes.now told_at told) RECORD_WRITES
-        store.old store.new result }
+    requires entry { counts_at < GATE }
+    ensures commits { Commits (PutsRecord (committed store.old) chain offset bytes.now counts_at new_counts)
+        RECORD_WRITES store.old store.new result }
     ensures counted { OnOk result (store.new.facts.writes
         ≡ store.old.facts.writes + record_put_writes offset (length bytes.now)) }
 {
     let mut txn = store.begin();
-    let work = set_record(&mut txn, chain, offset, bytes, told_at, told);
+    let work = set_record(&mut txn, chain, offset, bytes, counts_at, new_counts);
     txn.end(work)
 }
 
@@ -58,21 +58,21 @@ fn set_record<B: Board>(
     chain: Chain,
     offset: u16,
     bytes: &[u8],
-    told_at: u16,
-    told: u32,
+    counts_at: u16,
+    new_counts: u32,
 ) -> Result<(), StoreErr>
     requires room { HasRoom (memory_of txn.old) (touched_words offset (length bytes.now) + 1) }
     requires lie { LieIn (current (memory_of txn.old)) chain offset (length bytes.now) }
-    requires entry { told_at < GATE }
-    ensures done { OnOk result (PutsRecord (current (memory_of txn.old)) chain offset bytes.now told_at told (current
-        (memory_of txn.new))) }
+    requires entry { counts_at < GATE }
+    ensures done { OnOk result (PutsRecord (current (memory_of txn.old)) chain offset bytes.now counts_at new_counts
+        (current (memory_of txn.new))) }
     ensures store { SetsIn (touched_words offset (length bytes.now) + 1) txn.old txn.new (result_err result) }
     ensures runs { InRuns (touched_blocks offset (length bytes.now) + 1) (memory_of txn.old) (memory_of txn.new) }
     ensures counted { OnOk result (CountsCommit (record_put_writes offset (length bytes.now)) (memory_of txn.old)
         (memory_of txn.new)) }
 {
     set_bytes(txn, chain, offset, bytes)?;
-    txn.set(told_at, told)
+    txn.set(counts_at, new_counts)
 }
 
 /// Puts a record in front of a cyclic EF, in one transaction. Its bytes go into the slot before that of record 1. The
@@ -91,8 +91,8 @@ pub(crate) fn put_front<B: Board>(
 {
     let start = slot_of(body, body.capacity);
     let offset = offset_of(body, start);
-    let told = counts(records, start);
-    put_record(store, body.chain, offset, bytes, body.told_at, told)
+    let new_counts = counts(records, start);
+    put_record(store, body.chain, offset, bytes, body.counts_at, new_counts)
 }
 
 impl RecordSlot {
@@ -150,7 +150,7 @@ impl FreeSlot {
     {
         let ring = self.ring;
         let offset = offset_of(ring, slot_of(ring, ring.records + 1));
-        let told = counts(ring.records + 1, ring.start);
-        put_record(store, ring.chain, offset, bytes, ring.told_at, told)
+        let new_counts = counts(ring.records + 1, ring.start);
+        put_record(store, ring.chain, offset, bytes, ring.counts_at, new_counts)
     }
 }

@@ -39,7 +39,7 @@ fn put_objects(fcp: &Fcp<'_>, body: &mut Body)
     ensures { body.new.items ≡ objects_text (fcp_objects fcp.now) }
 {
     put_descriptor(&fcp.kind, body);
-    put(body, Tag::FileIdentifier, &two_bytes(fcp.identifier));
+    put(body, Tag::FileIdentifier, &in_two_bytes(fcp.identifier));
     put_kind(&fcp.kind, body);
     put(body, Tag::LifeCycleStatus, &[fcp.life_cycle.to_byte()]);
     put(body, Tag::CompactRule, fcp.rule.as_bytes());
@@ -69,7 +69,7 @@ fn put_record_descriptor(byte: u8, records: &Records, body: &mut Body)
     ensures { body.new.items ≡ body.old.items ++ object_text
         (data_object 0x82 (byte ∷ 0x21 ∷ in_two_bytes records.now.record_length ++ records.now.existing ∷ [])) }
 {
-    let [high, low] = two_bytes(u16::from(records.record_length));
+    let [high, low] = in_two_bytes(u16::from(records.record_length));
     put(
         body,
         Tag::FileDescriptor,
@@ -109,7 +109,7 @@ fn put_short_and_size(short: ShortIdentifier, size: u16, body: &mut Body)
             &[],
         ),
     }
-    put(body, Tag::DataBytes, &two_bytes(size));
+    put(body, Tag::DataBytes, &in_two_bytes(size));
 }
 
 /// Appends a data object.
@@ -124,7 +124,7 @@ fn put(body: &mut Body, tag: Tag, value: &[u8])
 }
 
 /// Returns a number in two bytes, big-endian.
-fn two_bytes(number: u16) -> [u8; 2]
+fn in_two_bytes(number: u16) -> [u8; 2]
     ensures { result ≡ in_two_bytes number }
 {
     number.to_be_bytes()

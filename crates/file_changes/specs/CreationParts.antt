@@ -15,8 +15,8 @@ use Rattle.block_chain.specs.ChainChanges.{OnlyContent, Takes}
 use Rattle.file_tree.specs.Formats.{block_count}
 use Rattle.file_tree.specs.declared.layout.TheConstants.{FIRST_ENTRY_PAGE}
 use Rattle.file_tree.specs.declared.entry.Entry.{Entry}
-use Rattle.file_changes.specs.declared.placing.Place.{Place}
-use Rattle.file_changes.specs.declared.placing.Place.TheVariants.{At, Refused}
+use Rattle.file_changes.specs.declared.placing.NewPlace.{NewPlace}
+use Rattle.file_changes.specs.declared.placing.NewPlace.TheVariants.{At, Refused}
 use Rattle.card_model.specs.Spaces.{blocks_for}
 use Rattle.file_tree.specs.Entries.{entry_of}
 use Rattle.file_tree.specs.Table.{table, entry_in, ancestor, path_of}
@@ -40,14 +40,14 @@ pub record IsPlaceFor (m : List ℕ) (df : ℕ) (kind : FileKind) (e : ℕ) : Ty
   pub enough : blocks_for (size_of_kind kind) ≤ length (free_chain m)
 
 -- The place of a new file, or the refusal.
-abbrev pub TellsPlace : List ℕ → ℕ → FileKind → Place → Type 0
+abbrev pub TellsPlace : List ℕ → ℕ → FileKind → NewPlace → Type 0
 TellsPlace m df kind (Refused status) =
     place_refusal (block_count m) (tree_of m) (path_of (table m) df) kind ≡ Some status
 TellsPlace m df kind (At e) =
     (place_refusal (block_count m) (tree_of m) (path_of (table m) df) kind ≡ None) × IsPlaceFor m df kind e
 
 -- The place of a new file, or the first of all refusals.
-abbrev pub FindsPlace : List ℕ → ℕ → Fcp → Place → Type 0
+abbrev pub FindsPlace : List ℕ → ℕ → Fcp → NewPlace → Type 0
 FindsPlace m df fcp (Refused status) =
     creation_refusal (block_count m) (tree_of m) (path_of (table m) df) fcp ≡ Some status
 FindsPlace m df fcp (At e) = (taken_refusal (tree_of m) (path_of (table m) df) fcp ≡ None)

@@ -30,7 +30,7 @@ ghost use Rattle.file_changes.specs.CreationParts.{entry_for, record_length_of_k
 ghost use Rattle.file_changes.specs.CreationParts.{padded, no_chain, short_option};
 ghost use Rattle.undo_journal.specs.Rooms.{HasRoom};
 
-use crate::placing::{Place, place_for};
+use crate::placing::{NewPlace, place_for};
 use crate::refusing::taken;
 use crate::writing::write_entry;
 use block_chain::FreeRun;
@@ -88,7 +88,11 @@ fn short_by_default<B: Board>(
 }
 
 /// Returns the short identifier of a new file, 0 for none. A DF has none.
-fn short_of<B: Board>(store: &mut Store<B>, df: EntryNumber, fcp: &Fcp<'_>) -> Result<u8, StoreErr>
+fn short_of_new_file<B: Board>(
+    store: &mut Store<B>,
+    df: EntryNumber,
+    fcp: &Fcp<'_>,
+) -> Result<u8, StoreErr>
     requires df { HasFile store.old df }
     requires fcp { IsCreatable fcp.now }
     ensures { Learns store.old store.new result (λ n. short_option n
@@ -117,7 +121,7 @@ fn entry_kind(kind: &FileKind<'_>) -> EntryKind
 }
 
 /// Returns the record length in bytes and the number of records. Both are 0 for a kind without records.
-fn records_of(kind: &FileKind<'_>) -> (u8, u8)
+fn record_length_and_count(kind: &FileKind<'_>) -> (u8, u8)
     ensures { result ≡ (record_length_of_kind kind.now, existing_of_kind kind.now) }
 {
     match kind {
@@ -148,7 +152,7 @@ fn entry_for(fcp: &Fcp<'_>, parent: EntryNumber, short: u8) -> Entry
 {
     let name = fcp.kind.name();
     let rule = fcp.rule.as_bytes();
-    let (record_length, existing) = records_of(&fcp.kind);
+    let (record_length, existing) = record_length_and_count(&fcp.kind);
     Entry {
         kind: entry_kind(&fcp.kind).to_byte(),
         life: fcp.life_cycle.to_byte(),
@@ -225,12 +229,12 @@ fn find_place<B: Board>(
     free: FreeSpace,
     df: EntryNumber,
     fcp: &Fcp<'_>,
-) -> Result<Place, StoreErr>
+) -> Result<NewPlace, StoreErr>
     requires { CanCreate store.old df free index.now fcp.now }
     ensures { Learns store.old store.new result (FindsPlace (committed store.old) df fcp.now) }
 {
     match taken(store, index, df, fcp)? {
-        Some(status) => Ok(Place::Refused(status)),
+        Some(status) => Ok(NewPlace::Refused(status)),
         None => place_for(store, free, df, fcp),
     }
 }
@@ -268,10 +272,10 @@ pub fn create<B: Board>(
         (λ error. index.new ≡ index.old) }
 {
     let entry = match find_place(store, index, free, df, fcp)? {
-        Place::At(entry) => entry,
-        Place::Refused(status) => return Ok(Creation::Refused(status)),
+        NewPlace::At(entry) => entry,
+        NewPlace::Refused(status) => return Ok(Creation::Refused(status)),
     };
-    let short = short_of(store, df, fcp)?;
+    let short = short_of_new_file(store, df, fcp)?;
     let blocks = blocks_for(fcp.kind.size());
     write_file(store, entry, entry_for(fcp, df, short), blocks)?;
     index.with(df, fcp.identifier, entry);

@@ -14,7 +14,7 @@ ghost use Rattle.file_tree.specs.Trees.{tree_of};
 ghost use Rattle.file_tree.specs.TreeParts.{TellsLife};
 ghost use Rattle.file_lookup.specs.StoredFiles.{HasFile, HasStoredEntry};
 
-use crate::writing::two_bytes;
+use crate::writing::bytes_and_half;
 use block_chain::HEADER_PAGE;
 use card_model::{LifeCycle, LifeCycleCommand};
 use file_lookup::{is_below_barred, read_entry};
@@ -47,11 +47,11 @@ pub fn next_life_cycle<B: Board>(
 fn life_word(entry: &Entry, state: LifeCycle) -> u32
     ensures { TellsLife entry.now (life_cycle_byte state) result }
 {
-    two_bytes(entry.kind, state.to_byte(), entry.identifier)
+    bytes_and_half(entry.kind, state.to_byte(), entry.identifier)
 }
 
 /// Writes a word in a transaction.
-fn write_word<B: Board>(store: &mut Store<B>, at: u16, word: u32) -> Result<(), StoreErr>
+fn commit_word<B: Board>(store: &mut Store<B>, at: u16, word: u32) -> Result<(), StoreErr>
     requires ready { IsReady store.old }
     requires place { IsDataAddress (committed store.old) at }
     ensures any_exit { (committed store.new ≡ committed store.old)
@@ -90,7 +90,7 @@ pub fn set_life_cycle<B: Board>(
     if entry.has_life_cycle(state) {
         return Ok(());
     }
-    write_word(store, entry_address(e), life_word(&entry, state))
+    commit_word(store, entry_address(e), life_word(&entry, state))
 }
 
 /// Sets the state of the card to terminated. No other word changes. A card that is terminated already must not get
@@ -107,7 +107,7 @@ pub fn terminate_card<B: Board>(store: &mut Store<B>) -> Result<(), StoreErr>
     ensures turned { TurnsTo (λ after. after ≡ with_card_terminated (committed store.old)) store.old store.new }
     ensures store { Changes 4 store.old store.new (result_err result) }
 {
-    write_word(
+    commit_word(
         store,
         PAGE_WORDS * HEADER_PAGE + STATE_WORD,
         CARD_TERMINATED,

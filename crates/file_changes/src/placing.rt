@@ -16,7 +16,7 @@ use undo_journal::{Board, Store, StoreErr};
 
 /// The place of a new file, a free entry, or the refusal.
 #[derive(Clone, Copy)]
-pub(crate) enum Place {
+pub(crate) enum NewPlace {
     At(EntryNumber),
     Refused(Sw),
 }
@@ -27,22 +27,22 @@ pub(crate) fn place_for<B: Board>(
     free: FreeSpace,
     df: EntryNumber,
     fcp: &Fcp<'_>,
-) -> Result<Place, StoreErr>
+) -> Result<NewPlace, StoreErr>
     requires df { HasFile store.old df }
     requires free { free ≡ free_space (block_count (committed store.old)) (tree_of (committed store.old)) }
     ensures { Learns store.old store.new result (TellsPlace (committed store.old) df fcp.now.kind) }
 {
     let deepest = is_deepest(store, df)?;
     if deepest {
-        return Ok(Place::Refused(Sw::CONDITIONS_NOT_SATISFIED));
+        return Ok(NewPlace::Refused(Sw::CONDITIONS_NOT_SATISFIED));
     }
     let found = first_free(store)?;
     let Some(e) = found else {
-        return Ok(Place::Refused(Sw::NO_ROOM));
+        return Ok(NewPlace::Refused(Sw::NO_ROOM));
     };
     let blocks = blocks_for(fcp.kind.size());
     if free.blocks < blocks {
-        return Ok(Place::Refused(Sw::NO_ROOM));
+        return Ok(NewPlace::Refused(Sw::NO_ROOM));
     }
-    Ok(Place::At(e))
+    Ok(NewPlace::At(e))
 }

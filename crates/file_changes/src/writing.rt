@@ -16,13 +16,13 @@ use file_tree::{ENTRY_WORDS, Entry, EntryNumber, entry_address};
 use undo_journal::{Board, StoreErr, Txn};
 
 /// Returns the words that encode an entry.
-fn words_of(entry: Entry) -> [u32; ENTRY_WORDS]
+fn words_of_entry(entry: Entry) -> [u32; ENTRY_WORDS]
     ensures { entry_told result ≡ entry }
 {
     let rule = entry.rule;
     let name = entry.name;
     [
-        two_bytes(entry.kind, entry.life, entry.identifier),
+        bytes_and_half(entry.kind, entry.life, entry.identifier),
         four_bytes(
             entry.parent,
             entry.short,
@@ -49,7 +49,7 @@ fn four_bytes(first: u8, second: u8, third: u8, fourth: u8) -> u32
 }
 
 /// Returns a word of two bytes and a 16-bit number.
-pub(crate) fn two_bytes(first: u8, second: u8, low: u16) -> u32
+pub(crate) fn bytes_and_half(first: u8, second: u8, low: u16) -> u32
     ensures { result ≡ 16777216 * first + 65536 * second + low }
 {
     0x100_0000 * u32::from(first) + 0x1_0000 * u32::from(second) + u32::from(low)
@@ -74,6 +74,6 @@ pub(crate) fn write_entry<B: Board>(
     ensures store { SetsIn 11 txn.old txn.new (result_err result) }
     ensures runs { InRuns 1 (memory_of txn.old) (memory_of txn.new) }
 {
-    let words = words_of(entry);
+    let words = words_of_entry(entry);
     txn.set_run(entry_address(e), &words)
 }

@@ -16,7 +16,7 @@ use file_tree::{ENTRIES_END, ENTRY_WORDS, Entry, EntryHead, EntryNumber, entry_a
 use undo_journal::{Board, Store, StoreErr};
 
 /// Returns the words of an entry, each read once.
-fn read_words<B: Board>(
+fn read_entry_words<B: Board>(
     store: &mut Store<B>,
     e: EntryNumber,
 ) -> Result<[u32; ENTRY_WORDS], StoreErr>
@@ -43,7 +43,7 @@ pub fn read_entry<B: Board>(store: &mut Store<B>, e: EntryNumber) -> Result<Entr
     ensures entry { IfOk result (λ entry. entry ≡ entry_in (table (committed store.old)) e) }
     ensures store { Reads store.old store.new (result_err result) }
 {
-    let words = read_words(store, e)?;
+    let words = read_entry_words(store, e)?;
     Ok(Entry::from_words(&words))
 }
 

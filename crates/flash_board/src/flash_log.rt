@@ -7,7 +7,7 @@ ghost use Rattle.flash_board.specs.declared.layout.TheConstants.{TRIES};
 
 use crate::flash::{Flash, FlashSocket};
 use crate::image::blank_table;
-use crate::place::Place;
+use crate::place::PageMap;
 use crate::steps::{read_at, write_at};
 use crate::turns::has_ring;
 use nvm_board::DeviceErr;
@@ -15,7 +15,7 @@ use std::marker::Model;
 
 /// The reason why a flash isn't taken.
 #[derive(Clone, Copy, Debug, PartialEq, Eq)]
-pub enum OpenFault {
+pub enum FlashFault {
     /// No log is on it.
     NoLog,
     /// Power was lost.
@@ -28,7 +28,7 @@ pub enum OpenFault {
 #[derive(Drop)]
 pub struct FlashLog<F: Flash> {
     flash: F,
-    place: Place,
+    place: PageMap,
 }
 
 impl<F: Flash> Model for FlashLog<F> {
@@ -53,7 +53,7 @@ impl<F: Flash> FlashLog<F> {
     {
         FlashLog {
             flash,
-            place: Place {
+            place: PageMap {
                 ready: false,
                 table: blank_table(),
                 turn: 0,
@@ -67,7 +67,7 @@ impl<F: Flash> FlashLog<F> {
     ///
     /// # Errors
     /// The flash has no log, power was lost, or the flash failed.
-    pub fn open(flash: F) -> Result<FlashLog<F>, (F, OpenFault)>
+    pub fn open(flash: F) -> Result<FlashLog<F>, (F, FlashFault)>
         requires { (F.state flash).dark ≡ false }
         ensures log { IfOk result (λ l. l ≡ state_of (F.state flash)) }
         ensures has_log { IfOk result (λ _. IsRing (F.state flash).words) }
@@ -76,9 +76,9 @@ impl<F: Flash> FlashLog<F> {
         let mut flash = flash;
         match has_ring(&mut flash) {
             Ok(true) => Ok(FlashLog::new(flash)),
-            Ok(false) => Err((flash, OpenFault::NoLog)),
-            Err(DeviceErr::PowerLost) => Err((flash, OpenFault::PowerLost)),
-            Err(DeviceErr::Fault) => Err((flash, OpenFault::Fault)),
+            Ok(false) => Err((flash, FlashFault::NoLog)),
+            Err(DeviceErr::PowerLost) => Err((flash, FlashFault::PowerLost)),
+            Err(DeviceErr::Fault) => Err((flash, FlashFault::Fault)),
         }
     }
 

@@ -10,20 +10,20 @@ use crate::record::Record;
 use nvm_board::DeviceErr;
 
 /// Where the pages of a board stand: 0 for a page that was never written, else its slot and 1.
-pub type Table = [u16; 1024];
+pub type PageTable = [u16; 1024];
 
 /// Returns the table of a board that was never written.
-pub fn blank_table() -> Table
+pub fn blank_table() -> PageTable
     ensures { (p : ℕ) → p < 1024 → slice_index result p ≡ 0 }
 {
     [0; 1024]
 }
 
 /// Returns the word of a page.
-pub fn read_word<F: Flash>(
+pub fn read_page_word<F: Flash>(
     flash: &mut F,
     area: u8,
-    table: &Table,
+    table: &PageTable,
     page: u16,
     place: u16,
 ) -> Result<u32, DeviceErr>
@@ -48,7 +48,7 @@ pub fn read_word<F: Flash>(
 pub fn record_of<F: Flash>(
     flash: &mut F,
     area: u8,
-    table: &Table,
+    table: &PageTable,
     page: u16,
 ) -> Result<Record, DeviceErr>
     requires lit { (F.state flash.old).dark ≡ false }
@@ -63,7 +63,7 @@ pub fn record_of<F: Flash>(
 {
     let mut found: Record = [0; 18];
     for k in 0..16u16 {
-        found[usize::from(k)] = read_word(flash, area, table, page, k)?;
+        found[usize::from(k)] = read_page_word(flash, area, table, page, k)?;
     }
     found[16] = u32::from(page);
     Ok(found)

@@ -17,6 +17,6 @@ mod writing;
 
 pub use flash::{BLANK, BLOCKS, FLASH_WORDS, Flash, FlashSocket};
 pub use flash_board::FlashBoard;
-pub use flash_log::{FlashLog, OpenFault};
+pub use flash_log::{FlashFault, FlashLog};
 pub use layout::{AREA_WORDS, PAGES, RECORD_WORDS, SLOT_WORDS, SLOTS};
 pub use turns::format_flash;

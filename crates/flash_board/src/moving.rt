@@ -8,9 +8,9 @@ ghost use Rattle.flash_board.specs.SlotParts.{IsPut};
 ghost use Rattle.flash_board.specs.declared.layout.TheConstants.{SLOTS, SPARES};
 
 use crate::flash::Flash;
-use crate::image::{Table, record_of};
+use crate::image::{PageTable, record_of};
 use crate::layout::{PAGES, SPARES, slot_at};
-use crate::record::{Record, put_record};
+use crate::record::{Record, program_record};
 use nvm_board::DeviceErr;
 
 /// Puts a record into the first slot from `next` on that takes it, below `end`. A slot that fails is passed over.
@@ -33,7 +33,7 @@ fn put_in_spare<F: Flash>(
     ensures work { Costs 2 2 (F.state flash.old) (F.state flash.new) }
 {
     for slot in next..end {
-        match put_record(flash, slot_at(area, slot), words) {
+        match program_record(flash, slot_at(area, slot), words) {
             Ok(()) => return Ok(slot),
             Err(DeviceErr::PowerLost) => return Err(DeviceErr::PowerLost),
             Err(DeviceErr::Fault) => {}
@@ -49,7 +49,7 @@ fn copy_page<F: Flash>(
     from: u8,
     to: u8,
     next: u16,
-    table: &mut Table,
+    table: &mut PageTable,
     page: u16,
 ) -> Result<u16, DeviceErr>
     requires lit { (F.state flash.old).dark ≡ false }
@@ -79,7 +79,7 @@ pub fn copy_pages<F: Flash>(
     flash: &mut F,
     from: u8,
     to: u8,
-    table: &mut Table,
+    table: &mut PageTable,
 ) -> Result<u16, DeviceErr>
     requires lit { (F.state flash.old).dark ≡ false }
     requires areas { from + to ≡ 1 }

@@ -27,7 +27,7 @@ pub fn is_marked<F: Flash>(flash: &mut F, at: u32) -> Result<bool, DeviceErr>
 }
 
 /// Programs a mark.
-pub fn mark<F: Flash>(flash: &mut F, at: u32) -> Result<(), DeviceErr>
+pub fn program_mark<F: Flash>(flash: &mut F, at: u32) -> Result<(), DeviceErr>
     requires lit { (F.state flash.old).dark ≡ false }
     requires blank { AreFilled (F.state flash.old).words at 2 BLANK }
     requires within { at + 2 ≤ FLASH_WORDS }
@@ -73,7 +73,7 @@ pub fn close<F: Flash>(flash: &mut F, at: u32) -> Result<(), DeviceErr>
 
 /// Programs a record into a blank slot, and then its mark. At every exit the slot has no mark, or it has the
 /// record and its mark.
-pub fn put_record<F: Flash>(flash: &mut F, at: u32, words: &Record) -> Result<(), DeviceErr>
+pub fn program_record<F: Flash>(flash: &mut F, at: u32, words: &Record) -> Result<(), DeviceErr>
     requires lit { (F.state flash.old).dark ≡ false }
     requires within { at + 20 ≤ FLASH_WORDS }
     requires blank { AreFilled (F.state flash.old).words at 20 BLANK }
@@ -83,7 +83,7 @@ pub fn put_record<F: Flash>(flash: &mut F, at: u32, words: &Record) -> Result<()
     ensures light { Lights (F.state flash.old) (F.state flash.new) result }
 {
     flash.program(at, words)?;
-    mark(flash, at + RECORD_WORDS)?;
+    program_mark(flash, at + RECORD_WORDS)?;
     Ok(())
 }
 

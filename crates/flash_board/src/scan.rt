@@ -6,7 +6,7 @@ ghost use Rattle.flash_board.specs.FlashLogs.{base_in};
 ghost use Rattle.flash_board.specs.declared.layout.TheConstants.{SLOTS};
 
 use crate::flash::Flash;
-use crate::image::{Table, blank_table};
+use crate::image::{PageTable, blank_table};
 use crate::layout::{NUMBER_PLACE, PAGES, RECORD_WORDS, SLOTS, slot_at};
 use crate::record::{is_blank, is_marked};
 use nvm_board::DeviceErr;
@@ -17,7 +17,7 @@ fn scan_slot<F: Flash>(
     area: u8,
     slot: u16,
     next: u16,
-    table: &mut Table,
+    table: &mut PageTable,
 ) -> Result<u16, DeviceErr>
     requires lit { (F.state flash.old).dark ≡ false }
     requires below { slot < SLOTS }
@@ -44,7 +44,7 @@ fn scan_slot<F: Flash>(
 }
 
 /// Finds the slot of each page, and returns the first slot that is free, with all that follow it.
-pub fn scan<F: Flash>(flash: &mut F, area: u8, table: &mut Table) -> Result<u16, DeviceErr>
+pub fn scan<F: Flash>(flash: &mut F, area: u8, table: &mut PageTable) -> Result<u16, DeviceErr>
     requires lit { (F.state flash.old).dark ≡ false }
     ensures index { IfOk result (λ _. IsPageTable (F.state flash.old).words (base_in area) SLOTS table.new) }
     ensures free { IfOk result (λ n. AreFree (F.state flash.old).words (base_in area) n SLOTS) }

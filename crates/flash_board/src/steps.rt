@@ -7,9 +7,9 @@ ghost use Rattle.flash_board.specs.Places.{IsLog, IsPlaceOf};
 ghost use Rattle.flash_board.specs.declared.layout.TheConstants.{SLOTS, TRIES};
 
 use crate::flash::Flash;
-use crate::image::read_word;
+use crate::image::read_page_word;
 use crate::layout::{SLOTS, TRIES};
-use crate::place::Place;
+use crate::place::PageMap;
 use crate::scan::scan;
 use crate::turns::{find_turn, home, move_to_a, move_to_b, pass_witness};
 use crate::writing::write_run;
@@ -29,7 +29,7 @@ fn later(next: u16, tried: u16) -> u16
 }
 
 /// Finds the pages, if they are not known.
-pub fn settle<F: Flash>(flash: &mut F, place: &mut Place) -> Result<(), DeviceErr>
+pub fn find_pages<F: Flash>(flash: &mut F, place: &mut PageMap) -> Result<(), DeviceErr>
     requires lit { (F.state flash.old).dark ≡ false }
     requires log { IsLog (F.state flash.old).words place.old }
     ensures words { (F.state flash.new).words ≡ (F.state flash.old).words }
@@ -50,7 +50,7 @@ pub fn settle<F: Flash>(flash: &mut F, place: &mut Place) -> Result<(), DeviceEr
 }
 
 /// Makes room for a record.
-pub fn make_room<F: Flash>(flash: &mut F, place: &mut Place) -> Result<(), DeviceErr>
+pub fn make_room<F: Flash>(flash: &mut F, place: &mut PageMap) -> Result<(), DeviceErr>
     requires lit { (F.state flash.old).dark ≡ false }
     requires log { IsLog (F.state flash.old).words place.old }
     requires ready { place.old.ready ≡ true }
@@ -84,7 +84,7 @@ pub fn make_room<F: Flash>(flash: &mut F, place: &mut Place) -> Result<(), Devic
 }
 
 /// Reads a word of the board.
-pub fn read_at<F: Flash>(flash: &mut F, place: &mut Place, at: u16) -> Result<u32, DeviceErr>
+pub fn read_at<F: Flash>(flash: &mut F, place: &mut PageMap, at: u16) -> Result<u32, DeviceErr>
     requires lit { (F.state flash.old).dark ≡ false }
     requires log { IsLog (F.state flash.old).words place.old }
     requires at { at < 16384 }
@@ -94,15 +94,15 @@ pub fn read_at<F: Flash>(flash: &mut F, place: &mut Place, at: u16) -> Result<u3
     ensures log { IsLog (F.state flash.new).words place.new }
     ensures light { Lights (F.state flash.old) (F.state flash.new) result }
 {
-    settle(flash, place)?;
-    let word = read_word(flash, home(place.turn), &place.table, at / 16, at % 16)?;
+    find_pages(flash, place)?;
+    let word = read_page_word(flash, home(place.turn), &place.table, at / 16, at % 16)?;
     Ok(word)
 }
 
 /// Writes a run of a page, or fails once. At every exit all words of the run are old, or all are new.
 fn write_once<F: Flash>(
     flash: &mut F,
-    place: &mut Place,
+    place: &mut PageMap,
     page: u16,
     first: u8,
     words: &[u32],
@@ -120,7 +120,7 @@ fn write_once<F: Flash>(
     ensures light { Tries 1 (F.state flash.old) (F.state flash.new) result }
     ensures work { Costs 2054 2 (F.state flash.old) (F.state flash.new) }
 {
-    settle(flash, place)?;
+    find_pages(flash, place)?;
     make_room(flash, place)?;
     place.ready = false;
     place.tried = place.next + 1;
@@ -142,7 +142,7 @@ fn write_once<F: Flash>(
 /// the flash is returned only if as many tries failed, each in a slot that the others didn't use.
 pub fn write_at<F: Flash>(
     flash: &mut F,
-    place: &mut Place,
+    place: &mut PageMap,
     page: u16,
     first: u8,
     words: &[u32],

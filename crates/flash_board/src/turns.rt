@@ -9,7 +9,7 @@ ghost use Rattle.flash_board.specs.Rings.{IsRing};
 ghost use Rattle.flash_board.specs.declared.layout.TheConstants.{SLOTS, SPARES};
 
 use crate::flash::Flash;
-use crate::image::Table;
+use crate::image::PageTable;
 use crate::moving::copy_pages;
 use crate::record::{close, is_closed};
 use nvm_board::DeviceErr;
@@ -72,7 +72,12 @@ pub fn pass_witness<F: Flash>(flash: &mut F) -> Result<(), DeviceErr>
 }
 
 /// Erases an area and copies the pages to it. Returns its first free slot.
-fn fill<F: Flash>(flash: &mut F, from: u8, to: u8, table: &mut Table) -> Result<u16, DeviceErr>
+fn erase_and_copy<F: Flash>(
+    flash: &mut F,
+    from: u8,
+    to: u8,
+    table: &mut PageTable,
+) -> Result<u16, DeviceErr>
     requires lit { (F.state flash.old).dark ≡ false }
     requires areas { from + to ≡ 1 }
     requires index { IsPageTable (F.state flash.old).words (base_in from) SLOTS table.old }
@@ -93,7 +98,7 @@ fn fill<F: Flash>(flash: &mut F, from: u8, to: u8, table: &mut Table) -> Result<
 }
 
 /// From turn 0 to turn 1: the pages move to area B. Returns its first free slot.
-pub fn move_to_b<F: Flash>(flash: &mut F, table: &mut Table) -> Result<u16, DeviceErr>
+pub fn move_to_b<F: Flash>(flash: &mut F, table: &mut PageTable) -> Result<u16, DeviceErr>
     requires lit { (F.state flash.old).dark ≡ false }
     requires turn { turn_of (F.state flash.old).words ≡ 0 }
     requires ring { IsRing (F.state flash.old).words }
@@ -107,13 +112,13 @@ pub fn move_to_b<F: Flash>(flash: &mut F, table: &mut Table) -> Result<u16, Devi
     ensures light { Tries 1 (F.state flash.old) (F.state flash.new) result }
     ensures work { Costs 2050 2 (F.state flash.old) (F.state flash.new) }
 {
-    let next = fill(flash, 0, 1, table)?;
+    let next = erase_and_copy(flash, 0, 1, table)?;
     close(flash, 25600)?;
     Ok(next)
 }
 
 /// From turn 2 to turn 0: the pages move to area A. Returns its first free slot.
-pub fn move_to_a<F: Flash>(flash: &mut F, table: &mut Table) -> Result<u16, DeviceErr>
+pub fn move_to_a<F: Flash>(flash: &mut F, table: &mut PageTable) -> Result<u16, DeviceErr>
     requires lit { (F.state flash.old).dark ≡ false }
     requires turn { turn_of (F.state flash.old).words ≡ 2 }
     requires index { IsPageTable (F.state flash.old).words 25602 SLOTS table.old }
@@ -126,7 +131,7 @@ pub fn move_to_a<F: Flash>(flash: &mut F, table: &mut Table) -> Result<u16, Devi
     ensures light { Tries 1 (F.state flash.old) (F.state flash.new) result }
     ensures work { Costs 2050 2 (F.state flash.old) (F.state flash.new) }
 {
-    let next = fill(flash, 1, 0, table)?;
+    let next = erase_and_copy(flash, 1, 0, table)?;
     close(flash, 51204)?;
     Ok(next)
 }

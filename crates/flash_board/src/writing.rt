@@ -8,16 +8,16 @@ ghost use Rattle.flash_board.specs.Rings.{SameMarks};
 ghost use Rattle.flash_board.specs.declared.layout.TheConstants.{SLOTS};
 
 use crate::flash::Flash;
-use crate::image::{Table, overlay, record_of};
+use crate::image::{PageTable, overlay, record_of};
 use crate::layout::slot_at;
-use crate::record::put_record;
+use crate::record::program_record;
 use nvm_board::DeviceErr;
 
 /// Writes a run of a page. At every exit all words of the run are old, or all are new.
 pub fn write_run<F: Flash>(
     flash: &mut F,
     area: u8,
-    table: &mut Table,
+    table: &mut PageTable,
     next: u16,
     page: u16,
     first: u8,
@@ -43,7 +43,7 @@ pub fn write_run<F: Flash>(
 {
     let mut found = record_of(flash, area, table, page)?;
     overlay(&mut found, first, words);
-    put_record(flash, slot_at(area, next), &found)?;
+    program_record(flash, slot_at(area, next), &found)?;
     table[usize::from(page)] = next + 1;
     Ok(())
 }

@@ -5,7 +5,7 @@ ghost use Rattle.flash_cards.specs.FlashRuns.{PlaysOnFlash};
 
 use bench_turns::{Item, Turn};
 use card_turns::Bench;
-use flash_board::{FlashBoard, FlashLog, FlashSocket, OpenFault};
+use flash_board::{FlashBoard, FlashFault, FlashLog, FlashSocket};
 
 /// Plays turns in order with the card on a flash, and returns the flash. Item i of the trace becomes the result of turn
 /// i.
@@ -16,7 +16,7 @@ pub fn play_on_flash<F: FlashSocket>(
     flash: F,
     turns: &[Turn<'_>],
     trace: &mut [Item],
-) -> Result<F, (F, OpenFault)>
+) -> Result<F, (F, FlashFault)>
     requires lit { (F.state flash).dark ≡ false }
     requires trace { length turns.now ≡ length trace.old }
     // The headline, for every flash that keeps the clauses of `Flash`, for every list of turns, and for a power loss at

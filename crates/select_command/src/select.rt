@@ -53,7 +53,7 @@ pub fn select_file<B: Board>(
     let head = read_entry_head(store, e)?;
     give_data(store, e, returned, expected, answer)?;
     *current = current.at_head(e, head);
-    Ok(status_of(head.life_cycle()))
+    Ok(status_of_selection(head.life_cycle()))
 }
 
 /// Returns the entry of the file that SELECT names.
@@ -141,7 +141,7 @@ fn give_template(entry: &Entry, expected: Option<u8>, answer: &mut Answer) -> Re
 }
 
 /// Returns the status word of SELECT for a file in this state.
-fn status_of(life: LifeCycle) -> Sw
+fn status_of_selection(life: LifeCycle) -> Sw
     ensures { result ≡ selection_status life }
 {
     match life {

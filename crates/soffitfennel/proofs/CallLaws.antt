@@ -4,22 +4,23 @@ use Rattle.std.proofs.Common.{ap, subst, inl, inr}
 use Rattle.bench_lines.specs.Orders.{Order, Free}
 use Rattle.bench_lines.specs.Printouts.{Print}
 use Rattle.card_calls.specs.SessionStates.{SessionState}
-use Rattle.card_calls.specs.declared.outcome.Outcome.{Outcome}
-use Rattle.card_calls.specs.declared.outcome.Outcome.TheVariants as outcome
+use Rattle.card_calls.specs.declared.outcome.CallOutcome.{CallOutcome}
+use Rattle.card_calls.specs.declared.outcome.CallOutcome.TheVariants as outcome
 use Rattle.card_calls.specs.declared.outcome.Told.{Told}
 use Rattle.card_calls.specs.Telling.{AnswersOrder, CallRuns, Copies, CopiesNothing, ReportsSpace, ReturnsSpace, Tells}
 use Rattle.card_calls.specs.Telling.{TellsBytes, outcome_number, print_outcome, told_print}
 
-abbrev why-of : Result Told Outcome → Outcome
+abbrev why-of : Result Told CallOutcome → CallOutcome
 why-of (Ok told) = outcome.Done
 why-of (Err why) = why
 
-abbrev IsAnswer : Result Told Outcome → Type 0
+abbrev IsAnswer : Result Told CallOutcome → Type 0
 IsAnswer (Ok told) = Unit {0}
 IsAnswer (Err why) = ⊥
 
 -- a result
-told-runs : (order : Order) (was now : Option SessionState) (told : Told) (result : Outcome) (Holds : Print → Type 0)
+told-runs : (order : Order) (was now : Option SessionState) (told : Told) (result : CallOutcome)
+    (Holds : Print → Type 0)
     (Fails : Type 0) → AnswersOrder order was now (Ok told) → result ≡ print_outcome (told_print told)
     → Holds (told_print told) → CallRuns order was now result Holds Fails
 told-runs order None now told result Holds Fails answers is holds = absurd (subst IsAnswer answers.1 tt)
@@ -28,7 +29,8 @@ told-runs order (Some was) (Some now) told result Holds Fails answers is holds =
     inl (told_print told, answers, is, holds)
 
 -- none, as there is no card, or its device is behind
-failed-runs : (order : Order) (was now : Option SessionState) (why : Outcome) (Holds : Print → Type 0) (Fails : Type 0)
+failed-runs : (order : Order) (was now : Option SessionState) (why : CallOutcome) (Holds : Print → Type 0)
+    (Fails : Type 0)
     → AnswersOrder order was now (Err why) → Fails → CallRuns order was now why Holds Fails
 failed-runs order None now why Holds Fails answers fails = (answers.0, ap why-of answers.1, fails)
 failed-runs order (Some was) None why Holds Fails answers fails = absurd answers
@@ -36,7 +38,7 @@ failed-runs order (Some was) (Some now) why Holds Fails answers fails =
     inr (fails, answers.0, answers.1)
 
 -- the outcome alone is returned
-pub told_tells : (order : Order) (was now : Option SessionState) (told : Told) (result : Outcome) (number : ℤ)
+pub told_tells : (order : Order) (was now : Option SessionState) (told : Told) (result : CallOutcome) (number : ℤ)
     → AnswersOrder order was now (Ok told) → result ≡ print_outcome (told_print told)
     → number ≡ outcome_number result → Tells order was now number
 told_tells order was now told result number answers is numbered = record {
@@ -45,7 +47,7 @@ told_tells order was now told result number answers is numbered = record {
   runs = told-runs order was now told result (λ prints. Unit {0}) (Unit {0}) answers is tt;
 }
 
-pub failed_tells : (order : Order) (was now : Option SessionState) (why : Outcome) (number : ℤ)
+pub failed_tells : (order : Order) (was now : Option SessionState) (why : CallOutcome) (number : ℤ)
     → AnswersOrder order was now (Err why) → number ≡ outcome_number why → Tells order was now number
 failed_tells order was now why number answers numbered = record {
   result = why;
@@ -54,7 +56,8 @@ failed_tells order was now why number answers numbered = record {
 }
 
 -- bytes are copied out
-pub told_copies : (order : Order) (was now : Option SessionState) (told : Told) (result : Outcome) (old new : List ℕ)
+pub told_copies : (order : Order) (was now : Option SessionState) (told : Told) (result : CallOutcome)
+    (old new : List ℕ)
     (size : ℕ) (number : ℤ) → AnswersOrder order was now (Ok told) → Copies old new size (told_print told)
     → result ≡ print_outcome (told_print told) → number ≡ outcome_number result
     → TellsBytes order was now old new size number
@@ -64,7 +67,7 @@ told_copies order was now told result old new size number answers copies is numb
   runs = told-runs order was now told result (Copies old new size) (CopiesNothing old new size) answers is copies;
 }
 
-pub failed_copies : (order : Order) (was now : Option SessionState) (why : Outcome) (old new : List ℕ) (size : ℕ)
+pub failed_copies : (order : Order) (was now : Option SessionState) (why : CallOutcome) (old new : List ℕ) (size : ℕ)
     (number : ℤ) → AnswersOrder order was now (Err why) → size ≡ 0 → new ≡ old → number ≡ outcome_number why
     → TellsBytes order was now old new size number
 failed_copies order was now why old new size number answers none same numbered = record {
@@ -74,7 +77,7 @@ failed_copies order was now why old new size number answers none same numbered =
 }
 
 -- the free space is returned
-pub told_space : (was now : Option SessionState) (told : Told) (result : Outcome) (blocks entries : ℕ) (number : ℤ)
+pub told_space : (was now : Option SessionState) (told : Told) (result : CallOutcome) (blocks entries : ℕ) (number : ℤ)
     → AnswersOrder Free was now (Ok told) → ReportsSpace blocks entries (told_print told)
     → result ≡ print_outcome (told_print told) → number ≡ outcome_number result
     → ReturnsSpace was now blocks entries number
@@ -85,7 +88,7 @@ told_space was now told result blocks entries number answers space is numbered =
       space;
 }
 
-pub failed_space : (was now : Option SessionState) (why : Outcome) (blocks entries : ℕ) (number : ℤ)
+pub failed_space : (was now : Option SessionState) (why : CallOutcome) (blocks entries : ℕ) (number : ℤ)
     → AnswersOrder Free was now (Err why) → blocks ≡ 0 → entries ≡ 0 → number ≡ outcome_number why
     → ReturnsSpace was now blocks entries number
 failed_space was now why blocks entries number answers no_blocks no_entries numbered = record {

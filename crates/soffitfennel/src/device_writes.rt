@@ -8,7 +8,7 @@ ghost use Rattle.card_calls.specs.WriteCalls.{FallsBehind, ReturnsDevice, Return
 use crate::exchange_card;
 use crate::handle::Handle;
 use card_bench::Order;
-use card_calls::{Outcome, Write, copy_write};
+use card_calls::{CallOutcome, Write, copy_write};
 use core::mem::{replace, replace_with};
 use std::alloc::Global;
 
@@ -32,13 +32,16 @@ pub(crate) fn first(
             replace_with(card, session, exchange_card);
             told
         }
-        None => Err(Outcome::Absent),
+        None => Err(CallOutcome::Absent),
     };
     copy_write(told, out, offset, size)
 }
 
 /// Takes the next write from the log of a handle's card.
-pub(crate) fn take(card: Handle, alloc: Global) -> (Handle, Result<Option<Write>, Outcome>)
+pub(crate) fn take_next_write(
+    card: Handle,
+    alloc: Global,
+) -> (Handle, Result<Option<Write>, CallOutcome>)
     ensures { TakesFrom card.value result.0.value result.1 }
 {
     match card.into_session() {
@@ -46,33 +49,33 @@ pub(crate) fn take(card: Handle, alloc: Global) -> (Handle, Result<Option<Write>
             let told = session.take_write();
             (Handle::of(session), told)
         }
-        None => (Handle::empty(alloc), Err(Outcome::Absent)),
+        None => (Handle::empty(alloc), Err(CallOutcome::Absent)),
     }
 }
 
 /// Notes for a handle's card that its device didn't take a write.
-pub(crate) fn fall_behind(card: Handle, alloc: Global) -> (Handle, Outcome)
+pub(crate) fn fall_behind(card: Handle, alloc: Global) -> (Handle, CallOutcome)
     ensures { FallsBehind card.value result.0.value (outcome_number result.1) }
 {
     match card.into_session() {
         Some(mut session) => {
             session.fall_behind();
-            (Handle::of(session), Outcome::Done)
+            (Handle::of(session), CallOutcome::Done)
         }
-        None => (Handle::empty(alloc), Outcome::Absent),
+        None => (Handle::empty(alloc), CallOutcome::Absent),
     }
 }
 
 /// Returns the number of a handle's device.
-pub(crate) fn read_device(card: Handle, alloc: Global) -> (Handle, (Outcome, i32))
+pub(crate) fn read_device(card: Handle, alloc: Global) -> (Handle, (CallOutcome, i32))
     ensures same { result.0.value ≡ card.value }
     ensures returns { ReturnsDevice card.value result.1.1 (outcome_number result.1.0) }
 {
     match card.into_session() {
         Some(session) => {
             let device = session.device();
-            (Handle::of(session), (Outcome::Done, device))
+            (Handle::of(session), (CallOutcome::Done, device))
         }
-        None => (Handle::empty(alloc), (Outcome::Absent, 0)),
+        None => (Handle::empty(alloc), (CallOutcome::Absent, 0)),
     }
 }

@@ -26,14 +26,14 @@ ghost use Rattle.card_calls.specs.declared.sizes.TheConstants.{ROOM};
 ghost use Rattle.card_calls.specs.Telling.{TellsBytes, TellsWords, inserted, outcome_number, refusal_of};
 
 use crate::bench::printed;
-use crate::device_writes::{fall_behind, first, read_device, take};
+use crate::device_writes::{fall_behind, first, read_device, take_next_write};
 use crate::handle::Handle;
 use crate::session::Session;
 use bench_lines::RunFault;
 use card_bench::Order;
 use card_calls::{
-    Outcome, ROOM, Told, block_fits, board_of, check_words, command_fits, copy, copy_write,
-    factory_of, order_fits,
+    CallOutcome, ROOM, Told, block_fits, board_from_words, check_words, command_fits, copy,
+    copy_write, factory_of, order_fits,
 };
 use core::mem::{replace, replace_with};
 use simulated_boards::CutBoard;
@@ -41,14 +41,14 @@ use std::alloc::Global;
 
 /// An order with its bytes, and the allocator of the card that runs it.
 #[derive(Drop)]
-struct Asked<'a> {
+struct OrderWithBytes<'a> {
     alloc: Global,
     order: Order,
     given: &'a [u8],
 }
 
 /// Runs an order on the card of a handle.
-fn run(card: Handle, asked: Asked<'_>) -> (Handle, Result<Told, Outcome>)
+fn run_on_card(card: Handle, asked: OrderWithBytes<'_>) -> (Handle, Result<Told, CallOutcome>)
     requires { IsOrderSized (order_with asked.order asked.given.now) }
     ensures { AnswersOrder (order_with asked.entry.order asked.entry.given.now) card.value result.0.value
         result.1 }
@@ -58,21 +58,26 @@ fn run(card: Handle, asked: Asked<'_>) -> (Handle, Result<Told, Outcome>)
             let told = session.perform(asked.order, asked.given);
             (Handle::of(session), told)
         }
-        None => (Handle::empty(asked.alloc), Err(Outcome::Absent)),
+        None => (Handle::empty(asked.alloc), Err(CallOutcome::Absent)),
     }
 }
 
 /// Runs an order on the card of a handle that the caller keeps.
-fn perform(alloc: Global, card: &mut Handle, order: Order, given: &[u8]) -> Result<Told, Outcome>
+fn perform(
+    alloc: Global,
+    card: &mut Handle,
+    order: Order,
+    given: &[u8],
+) -> Result<Told, CallOutcome>
     requires { IsOrderSized (order_with order given.now) }
     ensures { AnswersOrder (order_with order given.now) card.old.value card.new.value result }
 {
-    let asked = Asked {
+    let asked = OrderWithBytes {
         alloc,
         order,
         given,
     };
-    replace_with(card, asked, run)
+    replace_with(card, asked, run_on_card)
 }
 
 /// Runs an order without bytes, and returns the number of its outcome. It refuses a number that is out of its range.
@@ -93,7 +98,7 @@ fn run_order(alloc: Global, card: &mut Handle, order: Order) -> i32
 
 /// Runs an order with bytes, copies the result's bytes out, and returns the number of its outcome.
 #[tactic(auto, using(crate::proofs::CallLaws::told_copies, crate::proofs::CallLaws::failed_copies))]
-fn exchange(
+fn perform_into(
     alloc: Global,
     card: &mut Handle,
     order: Order,
@@ -118,29 +123,29 @@ fn exchange(
 }
 
 /// Returns what a handle's card is in.
-fn read_state(card: Handle, alloc: Global) -> (Handle, (Outcome, u32))
+fn read_state(card: Handle, alloc: Global) -> (Handle, (CallOutcome, u32))
     ensures same { result.0.value ≡ card.value }
     ensures returns { ReturnsState card.value result.1.1 (outcome_number result.1.0) }
 {
     match card.into_session() {
         Some(session) => {
             let state = session.state();
-            (Handle::of(session), (Outcome::Done, state))
+            (Handle::of(session), (CallOutcome::Done, state))
         }
-        None => (Handle::empty(alloc), (Outcome::Absent, 0)),
+        None => (Handle::empty(alloc), (CallOutcome::Absent, 0)),
     }
 }
 
 /// Takes back what is to come of a handle's card, and switches power off.
-fn clear_card(card: Handle, alloc: Global) -> (Handle, Outcome)
+fn clear_card(card: Handle, alloc: Global) -> (Handle, CallOutcome)
     ensures { ClearsFaults card.value result.0.value (outcome_number result.1) }
 {
     match card.into_session() {
         Some(mut session) => {
             session.clear_faults();
-            (Handle::of(session), Outcome::Done)
+            (Handle::of(session), CallOutcome::Done)
         }
-        None => (Handle::empty(alloc), Outcome::Absent),
+        None => (Handle::empty(alloc), CallOutcome::Absent),
     }
 }
 
@@ -161,13 +166,13 @@ fn end_card(card: Handle, alloc: Global) -> (Handle, ())
 }
 
 /// Tells why a size or a number is refused.
-fn tell_refusal(card: Handle, alloc: Global) -> (Handle, Outcome)
+fn tell_refusal(card: Handle, alloc: Global) -> (Handle, CallOutcome)
     ensures same { result.0.value ≡ card.value }
     ensures why { result.1 ≡ refusal_of card.value }
 {
     match card.into_session() {
-        Some(session) => (Handle::of(session), Outcome::Size),
-        None => (Handle::empty(alloc), Outcome::Absent),
+        Some(session) => (Handle::of(session), CallOutcome::Size),
+        None => (Handle::empty(alloc), CallOutcome::Absent),
     }
 }
 
@@ -179,20 +184,20 @@ fn refuse(alloc: Global, card: &mut Handle) -> i32
 }
 
 /// Puts a card on a board behind a handle, if there is memory for it.
-fn put(alloc: Global, card: &mut Handle, board: CutBoard, device: Option<i32>) -> Outcome
+fn place_card(alloc: Global, card: &mut Handle, board: CutBoard, device: Option<i32>) -> CallOutcome
     requires { HasCard (cut_facts board).words }
-    ensures done { result ≡ Outcome.Done → card.new.value ≡ Some (begun_at (cut_facts board) device) }
-    ensures undone { result ≢ Outcome.Done → (result ≡ Outcome.Memory) × (card.new.value ≡ card.old.value) }
+    ensures done { result ≡ CallOutcome.Done → card.new.value ≡ Some (begun_at (cut_facts board) device) }
+    ensures undone { result ≢ CallOutcome.Done → (result ≡ CallOutcome.Memory) × (card.new.value ≡ card.old.value) }
 {
     let Ok(session) = Session::new(alloc, board, device) else {
-        return Outcome::Memory;
+        return CallOutcome::Memory;
     };
     match Box::new(alloc, session) {
         Ok(made) => {
             replace_with(card, made, exchange_card);
-            Outcome::Done
+            CallOutcome::Done
         }
-        Err(_) => Outcome::Memory,
+        Err(_) => CallOutcome::Memory,
     }
 }
 
@@ -201,8 +206,8 @@ fn insert(alloc: Global, card: &mut Handle, words: &[u32], device: Option<i32>) 
     ensures done { result ≡ pos 0 → card.new.value ≡ Some (inserted words.now device) }
     ensures undone { result ≢ pos 0 → (card.new.value ≡ card.old.value) × RefusesWords words.now result }
 {
-    match board_of(alloc, words) {
-        Ok(board) => put(alloc, card, board, device).number(),
+    match board_from_words(alloc, words) {
+        Ok(board) => place_card(alloc, card, board, device).number(),
         Err(outcome) => outcome.number(),
     }
 }
@@ -214,7 +219,7 @@ pub extern "C" fn soffitfennel_factory(alloc: Global, card: &mut Handle, pages: 
     ensures undone { result ≢ pos 0 → (card.new.value ≡ card.old.value) × RefusesPages pages result }
 {
     match factory_of(alloc, pages) {
-        Ok(board) => put(alloc, card, board, None).number(),
+        Ok(board) => place_card(alloc, card, board, None).number(),
         Err(outcome) => outcome.number(),
     }
 }
@@ -279,7 +284,7 @@ pub extern "C" fn soffitfennelcore_command(
         *size = 0;
         return refuse(alloc, card);
     }
-    exchange(alloc, card, Order::Apdu, command, answer, size)
+    perform_into(alloc, card, Order::Apdu, command, answer, size)
 }
 
 /// Sends a block of T=1 to the card's end of the link. A caller stores the block's first write before this call, and
@@ -302,7 +307,7 @@ pub extern "C" fn soffitfennelcore_block(
         *size = 0;
         return refuse(alloc, card);
     }
-    exchange(alloc, card, Order::Block, block, reply, size)
+    perform_into(alloc, card, Order::Block, block, reply, size)
 }
 
 /// Copies the first device write of a command out, if it can compare a PIN. The command may run then.
@@ -367,7 +372,7 @@ pub extern "C" fn soffitfennelcore_next_write(
         *size = 0;
         return refuse(alloc, card);
     }
-    let told = replace_with(card, alloc, take);
+    let told = replace_with(card, alloc, take_next_write);
     copy_write(told, out, offset, size)
 }
 
@@ -484,7 +489,7 @@ pub extern "C" fn soffitfennel_words(
         }
         None => {
             *size = 0;
-            Outcome::Absent.number()
+            CallOutcome::Absent.number()
         }
     }
 }

@@ -3,7 +3,7 @@ ghost use Rattle.std.specs.Prelude.{◌≡◌, None, Some};
 ghost use Rattle.card_calls.specs.ReaderCalls.{CallsCommand, CallsReceive, MakesReader, ResetsReader};
 
 use crate::reader_handle::ReaderHandle;
-use card_calls::{Outcome, begin, receive};
+use card_calls::{CallOutcome, begin, receive};
 use core::mem::{replace, replace_with};
 use std::alloc::Global;
 use t1_link::ReaderEnd;
@@ -32,9 +32,9 @@ pub extern "C" fn soffitfennel_reader_new(alloc: Global, reader: &mut ReaderHand
     match Box::new(alloc, ReaderEnd::new()) {
         Ok(made) => {
             replace_with(reader, made, exchange_reader);
-            Outcome::Done.number()
+            CallOutcome::Done.number()
         }
-        Err(_) => Outcome::Memory.number(),
+        Err(_) => CallOutcome::Memory.number(),
     }
 }
 
@@ -51,7 +51,7 @@ pub extern "C" fn soffitfennel_reader_command(
 {
     let Some(mut end) = replace(reader, ReaderHandle::empty(alloc)).into_reader() else {
         *size = 0;
-        return Outcome::Absent.number();
+        return CallOutcome::Absent.number();
     };
     let (outcome, count) = begin(&mut end, command, block);
     *size = count;
@@ -72,7 +72,7 @@ pub extern "C" fn soffitfennel_reader_receive(
 {
     let Some(mut end) = replace(reader, ReaderHandle::empty(alloc)).into_reader() else {
         *size = 0;
-        return Outcome::Absent.number();
+        return CallOutcome::Absent.number();
     };
     let (outcome, count) = receive(&mut end, block, out);
     *size = count;
@@ -87,9 +87,9 @@ fn reset(reader: ReaderHandle, alloc: Global) -> (ReaderHandle, i32)
     match reader.into_reader() {
         Some(mut end) => {
             end.reset();
-            (ReaderHandle::of(end), Outcome::Done.number())
+            (ReaderHandle::of(end), CallOutcome::Done.number())
         }
-        None => (ReaderHandle::empty(alloc), Outcome::Absent.number()),
+        None => (ReaderHandle::empty(alloc), CallOutcome::Absent.number()),
     }
 }
 

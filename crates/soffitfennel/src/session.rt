@@ -15,8 +15,8 @@ ghost use Rattle.card_calls.specs.WriteCalls.{TakesNext};
 
 use card_bench::{ALL_WORDS, Desk, Order, cuts_next, may_compare};
 use card_calls::{
-    Announced, DeviceBoard, Next, Outcome, Told, Write, bit, first_write, followed, has_device,
-    is_of_bytes, is_stored, next_write, stored_after, twin_board, unfollowed,
+    Announced, CallOutcome, DeviceBoard, NextWrite, Told, Write, bit, first_write, followed,
+    has_device, is_of_bytes, is_stored, next_write, stored_after, twin_board, unfollowed,
 };
 use card_turns::Bench;
 use core::mem::replace_with;
@@ -97,7 +97,7 @@ impl Session {
     /// charge that wasn't announced. Then no order runs. Also if the order began with another write than the announced
     /// one. Then the device is behind.
     #[tactic(auto, using(card_calls::proofs::OrderLaws::held_back))]
-    pub fn perform(&mut self, order: Order, given: &[u8]) -> Result<Told, Outcome>
+    pub fn perform(&mut self, order: Order, given: &[u8]) -> Result<Told, CallOutcome>
         requires { IsOrderSized (order_with order given.now) }
         ensures { TellsResult (order_with order given.now) self.old self.new result }
     {
@@ -109,7 +109,7 @@ impl Session {
         self.announced = None;
         let Some(stored) = after else {
             self.fall_behind();
-            return Err(Outcome::Unstored);
+            return Err(CallOutcome::Unstored);
         };
         self.stored = stored;
         let mut bytes = AnswerBytes::new();
@@ -122,15 +122,15 @@ impl Session {
     /// # Errors
     /// `Unstored`: the order may not run.
     #[tactic(auto, using(card_calls::proofs::OrderLaws::begins_order))]
-    fn begin(&self, order: Order, given: &[u8]) -> Result<bool, Outcome>
+    fn begin(&self, order: Order, given: &[u8]) -> Result<bool, CallOutcome>
         ensures { BeginsOrder (order_with order given.now) self.now result }
     {
         if self.behind || !is_stored(self.desk.board(), self.stored) {
-            return Err(Outcome::Unstored);
+            return Err(CallOutcome::Unstored);
         }
         let is_charged = self.has_charge(order, given);
         if is_charged && !self.is_announced(order, given) {
-            return Err(Outcome::Unstored);
+            return Err(CallOutcome::Unstored);
         }
         Ok(is_charged)
     }
@@ -157,7 +157,7 @@ impl Session {
         alloc: Global,
         order: Order,
         given: &[u8],
-    ) -> Result<Option<Write>, Outcome>
+    ) -> Result<Option<Write>, CallOutcome>
         requires { IsOrderSized (order_with order given.now) }
         ensures { TellsFirst (order_with order given.now) self.old self.new result }
     {
@@ -173,12 +173,17 @@ impl Session {
     ///
     /// # Errors
     /// `Memory`: there is too little for the second card.
-    fn run_ahead(&self, alloc: Global, order: Order, given: &[u8]) -> Result<Option<Write>, Outcome>
+    fn run_ahead(
+        &self,
+        alloc: Global,
+        order: Order,
+        given: &[u8],
+    ) -> Result<Option<Write>, CallOutcome>
         requires { IsOrderSized (order_with order given.now) }
         ensures { RunsAhead (order_with order given.now) self.now result }
     {
         let Ok(board) = twin_board(alloc, self.desk.board()) else {
-            return Err(Outcome::Memory);
+            return Err(CallOutcome::Memory);
         };
         let mut second = self.desk.twin(board);
         let cut = Order::Cut {
@@ -208,21 +213,21 @@ impl Session {
     ///
     /// # Errors
     /// `Unstored` if the device didn't take a write, or the log has lost this one.
-    pub fn take_write(&mut self) -> Result<Option<Write>, Outcome>
+    pub fn take_write(&mut self) -> Result<Option<Write>, CallOutcome>
         ensures { TakesNext self.old self.new result }
     {
         if self.behind {
-            return Err(Outcome::Unstored);
+            return Err(CallOutcome::Unstored);
         }
         match next_write(self.desk.board(), self.stored) {
-            Next::Nothing => Ok(None),
-            Next::Write(write) => {
+            NextWrite::Nothing => Ok(None),
+            NextWrite::Write(write) => {
                 self.stored = self.stored.wrapping_add(1);
                 Ok(Some(write))
             }
-            Next::Lost => {
+            NextWrite::Lost => {
                 self.fall_behind();
-                Err(Outcome::Unstored)
+                Err(CallOutcome::Unstored)
             }
         }
     }
@@ -267,16 +272,16 @@ impl Session {
     }
 
     /// Copies the memory's words to the start of a buffer that has room for them all. Returns their number.
-    pub fn copy_words(&self, out: &mut [u32]) -> (Outcome, usize)
+    pub fn copy_words(&self, out: &mut [u32]) -> (CallOutcome, usize)
         ensures { CopiesWords (bench_facts self.now.desk.bench).words out.old out.new result.1
             (outcome_number result.0) }
     {
         let words = self.desk.board().words();
         if out.len() < words.len() {
-            return (Outcome::Size, words.len());
+            return (CallOutcome::Size, words.len());
         }
         out[..words.len()].copy_from_slice(words);
-        (Outcome::Done, words.len())
+        (CallOutcome::Done, words.len())
     }
 }
 

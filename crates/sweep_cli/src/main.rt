@@ -8,7 +8,7 @@ ghost use Rattle.sweep_cli.specs.ProgramStatuses.{program_status_of};
 mod fault;
 
 use card_files::swept_board;
-use card_sweeps::{Options, SweepFault, read_words};
+use card_sweeps::{Options, SweepFault, parse_sweep_options};
 use card_turns::Bench;
 use fault::ProgramFault;
 use simulated_boards::CutBoard;
@@ -22,7 +22,7 @@ fn asked(rt: &HostRuntime) -> Result<Options, ProgramFault> {
     match env::args(rt) {
         Ok(mut words) => {
             let _program = words.next();
-            read_words(words).ok_or(ProgramFault::Usage)
+            parse_sweep_options(words).ok_or(ProgramFault::Usage)
         }
         Err(error) if error.kind() == ErrorKind::OutOfMemory => {
             Err(ProgramFault::NoReport(SweepFault::Memory))

@@ -6,13 +6,14 @@ use Rattle.card_sweeps.specs.declared.fault.SweepFault.{SweepFault}
 use Rattle.card_sweeps.specs.declared.fault.SweepFault.TheVariants.{BadLine, Read, Write, Memory, Differs}
 use Rattle.card_sweeps.specs.declared.parts.SweepPart.{SweepPart}
 use Rattle.card_sweeps.specs.SweepEndings.{ReadingStopsBy}
-use Rattle.card_sweeps.specs.declared.stop.Stop.{Stop}
-use Rattle.card_sweeps.specs.declared.stop.Stop.TheVariants as stop
+use Rattle.card_sweeps.specs.declared.stop.SweepStop.{SweepStop}
+use Rattle.card_sweeps.specs.declared.stop.SweepStop.TheVariants as stop
 use Rattle.card_sweeps.specs.ExitStatuses.{fault_of}
 use Rattle.sweep_reports.specs.ReportEndings.{ReadsScript, SweepStopsBy}
 
 -- the report is not made
-pub stop-ends : {T B : Type 0} (facts : B → Facts) (torn : B → ℕ) (r : Result T SweepFault) (why : Stop) (board : Facts)
+pub stop-ends : {T B : Type 0} (facts : B → Facts) (torn : B → ℕ) (r : Result T SweepFault) (why : SweepStop)
+    (board : Facts)
     (part : SweepPart)
     (script left old new : Option (List ℕ)) → ReadsScript script left
     → IsErrAnd r (λ fault. fault ≡ fault_of why) → IfErr r (λ fault. SweepStopsBy facts torn board part fault script

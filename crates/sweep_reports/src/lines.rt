@@ -112,7 +112,7 @@ fn push_reply(
 }
 
 /// Appends the answer of a line of the probe. `items` are those of its turns.
-fn push_look(alloc: Global, text: &mut String, items: &[Item]) -> Result<(), AllocError>
+fn push_look_answer(alloc: Global, text: &mut String, items: &[Item]) -> Result<(), AllocError>
     ensures { OnOk result (string_bytes text.new ≡ string_bytes text.old ++ look_text items.now (last_item items.now)) }
 {
     let Some(last) = items.last() else {
@@ -136,7 +136,7 @@ fn push_looks(
     while let [size, later @ ..] = sizes {
         let (line, rest) = items.split_at((*size).min(items.len()));
         text.push_str(", \"")?;
-        push_look(alloc, text, line)?;
+        push_look_answer(alloc, text, line)?;
         text.push_str("\"")?;
         sizes = later;
         items = rest;

@@ -12,14 +12,14 @@ use crate::device_writes::{DeviceWrite, WriteKind, push_kinds};
 use crate::lines::{cut_head, push_results, stage_head};
 use bench_turns::{Turn, TurnPlayer};
 use card_sweeps::{
-    CommandRuns, MadeWrite, Stop, SweepPart, Sweepable, is_same, made_write, mask_at, mask_count,
-    masked_cut, play_copy, sweep_behind,
+    CommandRuns, MadeWrite, SweepPart, SweepStop, Sweepable, is_same, made_write, mask_at,
+    mask_count, masked_cut, play_copy, sweep_behind,
 };
 use std::alloc::{AllocError, Global};
 
 /// The plan of a sweep. Each run uses a copy of the board.
 #[derive(Drop)]
-pub struct Plan<'a, B: Sweepable> {
+pub struct ReportPlan<'a, B: Sweepable> {
     pub runs: CommandRuns<'a, B>,
     pub probe: &'a [Turn<'a>],
     pub looks: &'a [usize],
@@ -29,12 +29,12 @@ pub struct Plan<'a, B: Sweepable> {
 
 /// Appends the results of all runs after a cut that left this board. Each line begins with `head`.
 fn push_behind<P: TurnPlayer + Drop>(
-    plan: &Plan<'_, P::Board>,
+    plan: &ReportPlan<'_, P::Board>,
     left: &P::Board,
     depth: u8,
     head: &str,
     text: &mut String,
-) -> Result<(), Stop>
+) -> Result<(), SweepStop>
 where
     P::Board: Sweepable + Drop,
     ensures { OnOk result (HasCard (P.Board.facts left.now).words
@@ -51,11 +51,11 @@ where
 /// # Errors
 /// There is too little memory.
 pub fn push_stage<P: TurnPlayer + Drop>(
-    plan: &Plan<'_, P::Board>,
+    plan: &ReportPlan<'_, P::Board>,
     stage: &str,
     turns: &[Turn<'_>],
     text: &mut String,
-) -> Result<P::Board, Stop>
+) -> Result<P::Board, SweepStop>
 where
     P::Board: Sweepable + Drop,
     ensures { IfOk result (λ left. HasCard (P.Board.facts plan.now.runs.board.now).words
@@ -70,13 +70,13 @@ where
 
 /// Appends the results of a cut that left this board.
 fn push_cut<P: TurnPlayer + Drop>(
-    plan: &Plan<'_, P::Board>,
+    plan: &ReportPlan<'_, P::Board>,
     write: u32,
     i: u8,
     mask: u16,
     left: &P::Board,
     text: &mut String,
-) -> Result<(), Stop>
+) -> Result<(), SweepStop>
 where
     P::Board: Sweepable + Drop,
     ensures { OnOk result (HasCard (P.Board.facts left.now).words
@@ -90,13 +90,13 @@ where
 
 /// Appends the cut of a device write with mask number `i`, if it is of the part.
 fn push_mask<P: TurnPlayer + Drop>(
-    plan: &Plan<'_, P::Board>,
+    plan: &ReportPlan<'_, P::Board>,
     write: u32,
     before: &[u32],
     made: &MadeWrite<P::Board>,
     i: u8,
     text: &mut String,
-) -> Result<(), Stop>
+) -> Result<(), SweepStop>
 where
     P::Board: Sweepable + Drop,
     requires write { 1 ≤ write }
@@ -118,11 +118,11 @@ where
 /// Appends the cuts of a device write that are of the part, and returns the write.
 /// Returns `None` if the command makes fewer writes.
 fn push_write<P: TurnPlayer + Drop>(
-    plan: &Plan<'_, P::Board>,
+    plan: &ReportPlan<'_, P::Board>,
     write: u32,
     before: &[u32],
     text: &mut String,
-) -> Result<Option<MadeWrite<P::Board>>, Stop>
+) -> Result<Option<MadeWrite<P::Board>>, SweepStop>
 where
     P::Board: Sweepable + Drop,
     requires { 1 ≤ write }
@@ -152,12 +152,12 @@ where
 /// # Errors
 /// There is too little memory, or a memory is another than the runs before show.
 pub fn push_writes<P: TurnPlayer + Drop>(
-    plan: &Plan<'_, P::Board>,
+    plan: &ReportPlan<'_, P::Board>,
     prepared: P::Board,
     ended: &[u32],
     progress: &impl Eprint,
     text: &mut String,
-) -> Result<Vec<DeviceWrite>, Stop>
+) -> Result<Vec<DeviceWrite>, SweepStop>
 where
     P::Board: Sweepable + Drop,
     ensures { IfOk result (λ all. HasCard (P.Board.facts plan.now.runs.board.now).words
@@ -174,7 +174,7 @@ where
             return if is_same(memory, ended) {
                 Ok(all)
             } else {
-                Err(Stop::Differs)
+                Err(SweepStop::Differs)
             };
         };
         let kind = WriteKind::of(made.words, memory, made.after.words());
@@ -192,7 +192,7 @@ where
 /// # Errors
 /// There is too little memory.
 pub fn push_first_part<B: Sweepable>(
-    plan: &Plan<'_, B>,
+    plan: &ReportPlan<'_, B>,
     all: &[DeviceWrite],
     text: &mut String,
 ) -> Result<(), AllocError>

@@ -8,11 +8,12 @@ ghost use Rattle.card_sweeps.specs.Turning.{AreTurns};
 
 use crate::device_writes::DeviceWrite;
 use crate::lines::push_total;
-use crate::plan::{Plan, push_first_part, push_stage, push_writes};
+use crate::plan::{ReportPlan, push_first_part, push_stage, push_writes};
 use bench_lines::write_line;
 use bench_turns::{Turn, TurnPlayer};
 use card_sweeps::{
-    CommandRuns, Step, Stop, SweepFault, SweepPart, SweepScript, Sweepable, read_script, turns_of,
+    CommandRuns, Step, SweepFault, SweepPart, SweepScript, SweepStop, Sweepable, read_script,
+    turns_of,
 };
 use std::alloc::{AllocError, Global};
 use std::io::{BufRead, Write};
@@ -57,7 +58,7 @@ fn script_turns(alloc: Global, script: &SweepScript) -> Result<ScriptTurns<'_>, 
 
 /// Appends the kinds of the device writes, the text of the cuts, and the number of writes.
 fn push_rest<B: Sweepable>(
-    plan: &Plan<'_, B>,
+    plan: &ReportPlan<'_, B>,
     all: &[DeviceWrite],
     cuts: &str,
     text: &mut String,
@@ -72,11 +73,11 @@ fn push_rest<B: Sweepable>(
 
 /// Appends what is found without the command and after it, and the cuts of the part.
 fn push_sections<P: TurnPlayer + Drop>(
-    plan: &Plan<'_, P::Board>,
+    plan: &ReportPlan<'_, P::Board>,
     whole: &[Turn<'_>],
     progress: &impl Eprint,
     text: &mut String,
-) -> Result<(), Stop>
+) -> Result<(), SweepStop>
 where
     P::Board: Sweepable + Drop,
     ensures { OnOk result (HasCard (P.Board.facts plan.now.runs.board.now).words
@@ -98,7 +99,7 @@ fn swept<P: TurnPlayer + Drop>(
     script: &SweepScript,
     part: SweepPart,
     progress: &impl Eprint,
-) -> Result<String, Stop>
+) -> Result<String, SweepStop>
 where
     P::Board: Sweepable + Drop,
     requires { HasCard (P.Board.facts board.now).words }
@@ -106,7 +107,7 @@ where
         (string_bytes text)) }
 {
     let turns = script_turns(alloc, script)?;
-    let plan = Plan {
+    let plan = ReportPlan {
         runs: CommandRuns {
             alloc,
             board,

@@ -14,7 +14,7 @@ pub linear_is : (m : List ℕ) (body : Linear) → IsLinear m body
     → linear_body_records m body ≡ linear_order body.record_length (chain_bytes m body.chain) body.records
 linear_is m body is =
     ap (linear_order body.record_length (chain_bytes m body.chain))
-    (told_number m body.told_at body.records 0 is.told (omega arith))
+    (told_number m body.counts_at body.records 0 is.told (omega arith))
 
 pub length-linear : (m : List ℕ) (body : Linear) → IsLinear m body → length (linear_body_records m body) ≡ body.records
 length-linear m body is =

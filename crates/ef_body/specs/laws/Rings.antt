@@ -25,8 +25,8 @@ cyclic_is m body is =
     let start = is.start in
     let small : body.start < 0x10000 = omega (arith, few, start) in
     ap₂ (newest_first body.record_length body.capacity (chain_bytes m body.chain))
-    (told_start m body.told_at body.records body.start is.told small)
-    (told_number m body.told_at body.records body.start is.told small)
+    (told_start m body.counts_at body.records body.start is.told small)
+    (told_number m body.counts_at body.records body.start is.told small)
 
 pub length-cyclic : (m : List ℕ) (body : Cyclic) → IsCyclic m body → length (cyclic_body_records m body) ≡ body.records
 length-cyclic m body is =

@@ -11,7 +11,7 @@ use Rattle.card_model.specs.declared.fcp.FileKind.{FileKind}
 use Rattle.card_model.specs.FileControl.{size_of_kind}
 use Rattle.block_chain.specs.Chains.{free_chain}
 use Rattle.card_model.specs.declared.space.FreeSpace.{FreeSpace}
-use Rattle.file_changes.specs.declared.placing.Place.TheVariants.{At}
+use Rattle.file_changes.specs.declared.placing.NewPlace.TheVariants.{At}
 use Rattle.card_model.specs.FileTrees.{Path, Tree}
 use Rattle.card_model.specs.Spaces.{blocks_for, free_space}
 use Rattle.file_tree.specs.Table.{table, ancestor, path_of, free_entries, IsUsed}

@@ -273,7 +273,7 @@ module _ (a b c m : List ℕ) (first : AreFilled a 0 25602 BLANK) (second : AreF
   is_open_b =
       let x : 51202 + 2 ≤ 51204 = omega arith in
       closed_same c m 51202 51204 2 last (inl x) ∙ closed_same b c 51202 51204 2 after (inl x) ∙ erased_open b 25602
-          second
+      second
 
   pub formatted_turn : turn_of m ≡ 0
   formatted_turn = turn_marks m false false true is_open_a is_open_b closed

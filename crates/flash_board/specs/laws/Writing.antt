@@ -41,13 +41,13 @@ module _ (m after : List ℕ) (area s : ℕ) (elsewhere : SameElsewhere m (slot_
     -- with it, it is the write
     pub put_written : (first : ℕ) (run : List ℕ) → first + length run ≤ 16
         → ((k : ℕ) → k < 16 → slice_index words k ≡ slice_index (written (words_of m) (16 * page + first) run)
-            (16 * page + k))
+        (16 * page + k))
         → words_of after ≡ written (words_of m) (16 * page + first) run
     put_written first run fits each = words_written m after (base_in area) home turn page first run within fits
         (λ p k small other lt. word_kept m after (base_in area) s elsewhere free SLOTS p k (omega (arith, lt))
         (put_other m after (base_in area) s elsewhere words SLOTS page size below names behind put p other))
         (λ k lt. put_word m after (base_in area) s elsewhere words SLOTS page size below names behind put k lt ∙ each
-            k lt)
+        k lt)
 
     -- and the table has it
     pub put_index : (table : List ℕ) → length table ≡ 1024 → IsPageTable m (base_in area) SLOTS table
@@ -133,7 +133,7 @@ module _ (m after : List ℕ) (area s page first : ℕ) (run old words : List �
   run_done puts put =
       put_written m after area s puts.elsewhere below home are words page size within names put first run fits
       (overlaid m after (base_in area) home (turn_same m after (run_marks puts)) page first run within fits old words
-          was other over)
+      was other over)
 
   pub run_whole : PutsInSlot m (slot_of (base_in area) s) words after
       → (words_of after ≡ words_of m) ⊎ (words_of after ≡ written (words_of m) (16 * page + first) run)

@@ -17,10 +17,10 @@ returns-clause-done g c =
     let m = current (memory_of c.args.txn.now) in
     let cs = c.args.chains.now in
     let page : c.from.result ≡ first_block m cs = c.from.ensures ∙ c.in_ok-page.ensures.page in
-    let words : current (memory_of c.join.new.txn) ≡ joined_chains m cs = c.in_ok-page.ensures.done in
+    let words : current (memory_of c.join_chains.new.txn) ≡ joined_chains m cs = c.in_ok-page.ensures.done in
     let family : List ℕ → Type 0 = λ l. GivesBack m cs l in
     on_ok_weaker c.set.result (λ
-    (done : current (memory_of c.set.new.self) ≡ slice_set (current (memory_of c.join.new.txn))
+    (done : current (memory_of c.set.new.self) ≡ slice_set (current (memory_of c.join_chains.new.txn))
     (address HEADER_PAGE FREE_HEAD_WORD) c.from.result).
     let after : current (memory_of c.set.new.self) ≡ slice_set (joined_chains m cs) (address HEADER_PAGE FREE_HEAD_WORD)
     (first_block m cs) = done ∙ (λ i. slice_set (words i) (address HEADER_PAGE FREE_HEAD_WORD) (page i)) in
@@ -29,7 +29,7 @@ returns-clause-done g c =
 
 pub returns-clause-store : goal.returns-clause-store
 returns-clause-store g c =
-    sets_in_on _ _ _ _ _ _ _ (omega arith) c.join.ensures.store.sets c.set.ensures.store
+    sets_in_on _ _ _ _ _ _ _ (omega arith) c.join_chains.ensures.store.sets c.set.ensures.store
 
 pub returns-in_err-page-clause-done : goal.returns-in_err-page-clause-done
 returns-in_err-page-clause-done g c = none_ok _ _ _ c.from_residual.ensures.1
@@ -44,8 +44,8 @@ returns-then-is_empty-clause-done g c =
     let none : length c.args.chains.now ≡ 0 = search rules in
     gives_none (current (memory_of c.args.txn.now)) c.args.chains.now none c.requires.free
 
-pub join-requires-clause-room : goal.join-requires-clause-room
-join-requires-clause-room g c = record {
+pub join_chains-requires-clause-room : goal.join_chains-requires-clause-room
+join_chains-requires-clause-room g c = record {
   ready = c.requires.room.ready;
   enough = omega (arith, c.requires.room.enough);
 }

@@ -32,7 +32,8 @@ read-requires g c =
     let stands = found-body (committed c.args.store.now) c.requires.target.kept.ready.usable.committed_size
     c.requires.target.kept.card c.args.current.now c.args.place.target Read c.in_ok-file.file.number
     c.in_ok-file.file.entry
-    c.in_ok-file.ensures.told c.body_of-body.result c.body_of-body.ensures (committed c.find_file.new.store)
+    c.in_ok-file.ensures.told c.transparent_body-body.result c.transparent_body-body.ensures
+    (committed c.find_file.new.store)
     c.find_file.ensures.store.only.keeps.committed_words in
     let most = asked-most c.args.expected (omega arith) in (
       lit< tt,
@@ -66,8 +67,8 @@ returns-in_err-read g c =
       kept.0,
       found-read-past (committed old) c.requires.target.kept.ready.usable.committed_size c.requires.target.kept.card x
           c.args.place.target c.in_ok-file.file.number c.in_ok-file.file.entry c.in_ok-file.ensures.told
-          c.body_of-body.result
-          c.body_of-body.ensures (committed mid) c.find_file.ensures.store.only.keeps.committed_words
+          c.transparent_body-body.result
+          c.transparent_body-body.ensures (committed mid) c.find_file.ensures.store.only.keeps.committed_words
           c.args.place.offset c.args.expected status past,
     )))
 
@@ -80,7 +81,7 @@ returns g c =
     let request = read_binary c.args.place.target c.args.place.offset c.args.expected in
     let found = c.in_ok-file.ensures.told in
     let e = c.in_ok-file.file.number in
-    let body = c.body_of-body.result in
+    let body = c.transparent_body-body.result in
     let text = c.read.new.bytes.items in
     let room = read-short c.args.expected c.most_of.result (omega arith) c.most_of.ensures _ text
     c.read.ensures.any_exit in
@@ -97,7 +98,7 @@ returns g c =
     room
     (found-read (committed old) c.requires.target.kept.ready.usable.committed_size c.requires.target.kept.card x
     c.args.place.target e
-    c.in_ok-file.file.entry found body c.body_of-body.ensures (committed mid)
+    c.in_ok-file.file.entry found body c.transparent_body-body.ensures (committed mid)
     c.find_file.ensures.store.only.keeps.committed_words c.args.place.offset c.args.expected
     c.in_ok-read.ensures.refusal text given
     ∙ (λ i. outcome (card_in old) (session_in old (current i)) text (status i)))

@@ -30,8 +30,8 @@ returns-in_err-update g c = record {
       let mid = c.find_file.new.store in
       found-stopped old mid c.requires.target.kept.ready c.requires.target.kept.card c.args.current.now
       c.args.place.target
-      c.in_ok-file.file.number c.in_ok-file.file.entry c.in_ok-file.ensures.told c.body_of-body.result
-      c.body_of-body.ensures c.args.place.offset c.args.bytes.now c.find_file.ensures.store.only
+      c.in_ok-file.file.number c.in_ok-file.file.entry c.in_ok-file.ensures.told c.transparent_body-body.result
+      c.transparent_body-body.ensures c.args.place.offset c.args.bytes.now c.find_file.ensures.store.only
       c.requires.target.kept.current
       c.in_ok-file.ensures.store.ready
       c.update.new.store c.update.ensures.commits.any_exit c.update.ensures.commits.by_gate
@@ -57,8 +57,8 @@ returns g c = record {
       subst (λ (y : Current). Executes request old x new y [] (Ok DONE)) (sym c.naming.ensures)
       (found-made old mid c.requires.target.kept.ready c.requires.target.kept.card x c.args.place.target
       c.in_ok-file.file.number
-      c.in_ok-file.file.entry c.in_ok-file.ensures.told c.body_of-body.result
-      c.body_of-body.ensures c.args.place.offset c.args.bytes.now c.find_file.ensures.store.only
+      c.in_ok-file.file.entry c.in_ok-file.ensures.told c.transparent_body-body.result
+      c.transparent_body-body.ensures c.args.place.offset c.args.bytes.now c.find_file.ensures.store.only
       c.in_ok-update.ensures.commits.refusal
       new c.update.ensures.commits.any_exit c.update.ensures.commits.by_gate c.update.ensures.commits.turned
       c.update.ensures.commits.store.reports
@@ -70,8 +70,8 @@ returns g c = record {
       let new = c.update.new.store in
       found-space old mid c.requires.target.kept.ready c.requires.target.kept.card x c.args.place.target
       c.in_ok-file.file.number
-      c.in_ok-file.file.entry c.in_ok-file.ensures.told c.body_of-body.result
-      c.body_of-body.ensures c.args.place.offset c.args.bytes.now c.find_file.ensures.store.only
+      c.in_ok-file.file.entry c.in_ok-file.ensures.told c.transparent_body-body.result
+      c.transparent_body-body.ensures c.args.place.offset c.args.bytes.now c.find_file.ensures.store.only
       c.in_ok-update.ensures.commits.refusal
       new c.update.ensures.commits.any_exit c.update.ensures.commits.by_gate c.update.ensures.commits.turned
       c.update.ensures.commits.store.reports
@@ -86,6 +86,6 @@ update-requires-clause-body g c = record {
       c.requires.target.kept.card
       c.args.current.now c.args.place.target Update c.in_ok-file.file.number c.in_ok-file.file.entry
       c.in_ok-file.ensures.told
-      c.body_of-body.result c.body_of-body.ensures (committed c.find_file.new.store)
+      c.transparent_body-body.result c.transparent_body-body.ensures (committed c.find_file.new.store)
       c.find_file.ensures.store.only.keeps.committed_words;
 }

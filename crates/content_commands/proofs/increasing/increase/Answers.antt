@@ -31,14 +31,14 @@ returns-in_err-file g c =
     increase-barred (card_in c.args.store.now) (session_in c.args.store.now c.args.current.now) status
     c.args.amount.now c.args.expected) c.in_err-file.ensures.told)
 
-pub returns-then-is_too_long : goal.returns-then-is_too_long
-returns-then-is_too_long g c =
+pub returns-then-exceeds_limits : goal.returns-then-exceeds_limits
+returns-then-exceeds_limits g c =
     let found = c.in_ok-file.ensures.told in
     increase-halted c.requires.kept c.args.amount.now c.args.expected _ c.clear.ensures (Err (Refused WRONG_LENGTH))
     (Refused WRONG_LENGTH) refl c.in_ok-file.ensures.store
     (increase-long (committed c.args.store.now) c.requires.kept.ready.usable.committed_size c.requires.kept.card
     c.args.current.now _ c.in_ok-file.file found c.args.amount.now c.args.expected found.named.unrefused
-    (sym c.is_too_long.ensures ∙ c.if-is_too_long.true))
+    (sym c.exceeds_limits.ensures ∙ c.if-exceeds_limits.true))
 
 pub raise-requires : goal.raise-requires
 raise-requires g c =
@@ -51,7 +51,7 @@ raise-requires g c =
       lit< tt,
       record {
         body = record { ready = c.in_ok-file.ensures.store.ready; body = stands };
-        sent = short-sent _ _ (sym c.is_too_long.ensures ∙ c.if-is_too_long.false);
+        sent = short-sent _ _ (sym c.exceeds_limits.ensures ∙ c.if-exceeds_limits.false);
         room = room;
       },
     )
@@ -69,20 +69,20 @@ returns-in_err-slot g c =
     (body-decided _ _ e c.in_err-slot.ensures.sum.refusal (λ status due.
     increase-unraised (committed c.args.store.now) c.requires.kept.ready.usable.committed_size c.requires.kept.card
     c.args.current.now _ c.in_ok-file.file found sent c.args.expected found.named.unrefused
-    (sym c.is_too_long.ensures ∙ c.if-is_too_long.false) status
+    (sym c.exceeds_limits.ensures ∙ c.if-exceeds_limits.false) status
     (ap (λ (l : List ℕ). unraised ring.record_length (cyclic_body_records l ring) sent)
     (sym reads.keeps.committed_words) ∙ due)))
 
 pub answer_of-response-requires : goal.answer_of-response-requires
 answer_of-response-requires g c =
     increased-short c.requires.kept (is-raised c.args.amount.now c.find_records.ensures.store.only
-    c.in_ok-file.ensures.told (sym c.is_too_long.ensures ∙ c.if-is_too_long.false) c.in_ok-slot.ensures.store.only
+    c.in_ok-file.ensures.told (sym c.exceeds_limits.ensures ∙ c.if-exceeds_limits.false) c.in_ok-slot.ensures.store.only
     c.in_ok-slot.ensures.found c.in_ok-slot.ensures.sum)
 
 pub returns-then-asks_less : goal.returns-then-asks_less
 returns-then-asks_less g c =
     let raised = is-raised c.args.amount.now c.find_records.ensures.store.only
-    c.in_ok-file.ensures.told (sym c.is_too_long.ensures ∙ c.if-is_too_long.false) c.in_ok-slot.ensures.store.only
+    c.in_ok-file.ensures.told (sym c.exceeds_limits.ensures ∙ c.if-exceeds_limits.false) c.in_ok-slot.ensures.store.only
     c.in_ok-slot.ensures.found c.in_ok-slot.ensures.sum in
     increase-halted c.requires.kept c.args.amount.now c.args.expected _ c.clear.ensures
     (Err (Refused c.right_length.result)) (Refused c.right_length.result) refl
@@ -93,7 +93,8 @@ returns-then-asks_less g c =
 pub returns-in_err-replace_oldest : goal.returns-in_err-replace_oldest
 returns-in_err-replace_oldest g c = record {
   serves = let raised = is-raised c.args.amount.now c.find_records.ensures.store.only
-      c.in_ok-file.ensures.told (sym c.is_too_long.ensures ∙ c.if-is_too_long.false) c.in_ok-slot.ensures.store.only
+      c.in_ok-file.ensures.told (sym c.exceeds_limits.ensures ∙ c.if-exceeds_limits.false)
+      c.in_ok-slot.ensures.store.only
       c.in_ok-slot.ensures.found c.in_ok-slot.ensures.sum in
       increased-torn c.requires.kept raised c.args.expected _ c.answer_of-response.ensures
       (sym c.asks_less.ensures ∙ c.if-asks_less.false) _ c.deref.ensures.0 c.replace_oldest.new.store
@@ -107,7 +108,7 @@ returns-in_err-replace_oldest g c = record {
 pub returns : goal.returns
 returns g c =
     let raised = is-raised c.args.amount.now c.find_records.ensures.store.only
-    c.in_ok-file.ensures.told (sym c.is_too_long.ensures ∙ c.if-is_too_long.false) c.in_ok-slot.ensures.store.only
+    c.in_ok-file.ensures.told (sym c.exceeds_limits.ensures ∙ c.if-exceeds_limits.false) c.in_ok-slot.ensures.store.only
     c.in_ok-slot.ensures.found c.in_ok-slot.ensures.sum in
     let enough = sym c.asks_less.ensures ∙ c.if-asks_less.false in record {
       serves = subst (λ (y : Current). Executes (increase c.args.amount.now c.args.expected) c.args.store.now
@@ -130,10 +131,12 @@ replace_oldest-requires g c = record {
   body = record {
     ready = c.in_ok-slot.ensures.store.ready;
     body = increased-body c.requires.kept (is-raised c.args.amount.now c.find_records.ensures.store.only
-        c.in_ok-file.ensures.told (sym c.is_too_long.ensures ∙ c.if-is_too_long.false) c.in_ok-slot.ensures.store.only
+        c.in_ok-file.ensures.told (sym c.exceeds_limits.ensures ∙ c.if-exceeds_limits.false)
+        c.in_ok-slot.ensures.store.only
         c.in_ok-slot.ensures.found c.in_ok-slot.ensures.sum);
     size = increased-long c.requires.kept (is-raised c.args.amount.now c.find_records.ensures.store.only
-        c.in_ok-file.ensures.told (sym c.is_too_long.ensures ∙ c.if-is_too_long.false) c.in_ok-slot.ensures.store.only
+        c.in_ok-file.ensures.told (sym c.exceeds_limits.ensures ∙ c.if-exceeds_limits.false)
+        c.in_ok-slot.ensures.store.only
         c.in_ok-slot.ensures.found c.in_ok-slot.ensures.sum) _ c.deref.ensures.0;
   };
 }

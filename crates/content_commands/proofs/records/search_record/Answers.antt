@@ -96,13 +96,14 @@ returns g c =
     c.pointing.ensures ∙ ap (pointing_from x c.args.target e) pointer in
     let given_is : c.give.new.answer.items ≡ given c.args.expected all =
     c.give.ensures.given ∙ ap (given c.args.expected) numbers in
-    let status : c.status_of.result ≡ search_status all = c.status_of.ensures ∙ ap search_status numbers in
+    let status : c.status_of_search.result ≡ search_status all = c.status_of_search.ensures
+    ∙ ap search_status numbers in
     let current = current-is (committed old) sized c.requires.target.kept.card x c.args.target _ file found.named
     c.requires.target.kept.current
     (pointer_found (pointer_from x c.args.target) all) in
     answered (search_record c.args.target c.args.first c.args.direction c.args.text.now c.args.expected) old x
     c.search.new.store (λ _. tt) c.requires.target.kept.card c.pointing.result c.give.new.answer.items
-    c.status_of.result
+    c.status_of_search.result
     (reads_then old c.find_records.new.store c.search.new.store c.find_records.ensures.store.only
     c.search.ensures.store.only) c.in_ok-search.ensures.store.ready
     (subst (λ (y : Current). IsCurrent (table_in old) y) (sym y_is) current)

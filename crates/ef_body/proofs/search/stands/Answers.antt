@@ -8,9 +8,9 @@ loop-at-preserved c =
     let at = c.loop-at.at in
     let so_far = below_more _ _ c.loop-at.invariant.passed (sym c.begins_at.ensures ∙ c.if-begins_at.false) in
     record {
-      within = c.next_place-at-in-loop-at.ensures.within;
+      within = c.next_candidate-at-in-loop-at.ensures.within;
       passed = λ k lt. ⊎_elim (λ (before : k < at + 1). so_far k before)
-          (λ (behind : at + 1 ≤ k). c.next_place-at-in-loop-at.ensures.passed k behind lt)
+          (λ (behind : at + 1 ≤ k). c.next_candidate-at-in-loop-at.ensures.passed k behind lt)
           (cases_lt k (at + 1));
     }
 

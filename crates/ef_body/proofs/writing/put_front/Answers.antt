@@ -10,8 +10,8 @@ returns-clause-commits g c =
     commits_weaker _ _ _ c.put_record.result _ _
     (cyclic_front (committed c.args.store.now) (committed c.put_record.new.store) c.args.body c.args.bytes.now
     c.args.records c.requires.body.ready.usable.committed_size c.requires.body.body c.requires.body.size c.requires.some
-    c.requires.most c.requires.more c.slot_of-start.result c.offset_of-offset.result c.counts-told.result
-    c.slot_of-start.ensures.slot c.offset_of-offset.ensures c.counts-told.ensures) c.put_record.ensures.commits
+    c.requires.most c.requires.more c.slot_of-start.result c.offset_of-offset.result c.counts-new_counts.result
+    c.slot_of-start.ensures.slot c.offset_of-offset.ensures c.counts-new_counts.ensures) c.put_record.ensures.commits
 
 pub returns-clause-counted : goal.returns-clause-counted
 returns-clause-counted g c =

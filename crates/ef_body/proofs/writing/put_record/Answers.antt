@@ -24,20 +24,21 @@ returns-clause-commits g c =
     let most = touched_few c.args.offset (length c.args.bytes.now) c.requires.bytes.few in
     let blocks = touched_few_blocks c.args.offset (length c.args.bytes.now) c.requires.bytes.few in
     record {
-      any_exit = ends (λ m after. PutsRecord m c.args.chain c.args.offset c.args.bytes.now c.args.told_at c.args.told
+      any_exit = ends (λ m after. PutsRecord m c.args.chain c.args.offset c.args.bytes.now c.args.counts_at
+          c.args.new_counts
           after)
           _ c.set_record-work.result _ _ (memory_of c.set_record-work.new.txn) _ _ c.begin-txn.ensures.same last
           c.requires.bytes.ready set.store.sets.kept set.done c.end.ensures.any_exit;
-      done = ends_done (λ m after. PutsRecord m c.args.chain c.args.offset c.args.bytes.now c.args.told_at
-          c.args.told after)
+      done = ends_done (λ m after. PutsRecord m c.args.chain c.args.offset c.args.bytes.now c.args.counts_at
+          c.args.new_counts after)
           c.set_record-work.result c.end.result _ _ (memory_of c.set_record-work.new.txn) _ _
           c.begin-txn.ensures.same last
           c.requires.bytes.ready set.done c.end.ensures.answered c.end.ensures.done;
       by_gate = ends_by_gate _ _ _ _ (memory_of c.set_record-work.new.txn) _ _ c.begin-txn.ensures.same last
           set.store.sets.kept
           c.end.ensures.any_exit;
-      turned = ends_turned (λ m after. PutsRecord m c.args.chain c.args.offset c.args.bytes.now c.args.told_at
-          c.args.told after)
+      turned = ends_turned (λ m after. PutsRecord m c.args.chain c.args.offset c.args.bytes.now c.args.counts_at
+          c.args.new_counts after)
           c.set_record-work.result _ _ (memory_of c.set_record-work.new.txn) _ _ c.begin-txn.ensures.same last
           c.requires.bytes.ready set.store.sets.rises set.done set.store.tells c.end.ensures.store.reports
           c.end.ensures.turned;

@@ -32,10 +32,11 @@ returns-clause-done g c =
     let m = current (memory_of c.args.txn.now) in
     on_ok_weaker c.set.result (λ
     (done : current (memory_of c.set.new.self) ≡ slice_set (current (memory_of c.set_bytes.new.txn))
-    c.args.told_at c.args.told).
+    c.args.counts_at c.args.new_counts).
     puts m (current (memory_of c.set_bytes.new.txn)) (current (memory_of c.set.new.self)) c.args.chain
     c.args.offset
-    c.args.bytes.now c.args.told_at c.args.told c.requires.room.ready.current_size c.requires.lie.chain c.requires.entry
+    c.args.bytes.now c.args.counts_at c.args.new_counts c.requires.room.ready.current_size c.requires.lie.chain
+    c.requires.entry
     c.in_ok-set_bytes.ensures.done done) c.set.ensures.done
 
 pub returns-in_err-set_bytes-clause-runs : goal.returns-in_err-set_bytes-clause-runs
@@ -55,7 +56,7 @@ returns-in_err-set_bytes-clause-counted g c = none_ok _ _ _ c.from_residual.ensu
 pub returns-clause-counted : goal.returns-clause-counted
 returns-clause-counted g c =
     let put = c.in_ok-set_bytes.ensures in
-    let set : Waiting = record { at = c.args.told_at; word = c.args.told } in
+    let set : Waiting = record { at = c.args.counts_at; word = c.args.new_counts } in
     on_ok_weaker c.set.result (λ (joins : Joins set (memory_of c.set_bytes.new.txn) (memory_of c.set.new.self)).
     λ idle. record-counted c.args.offset (length c.args.bytes.now) set (memory_of c.args.txn.now)
     (memory_of c.set_bytes.new.txn) (memory_of c.set.new.self) c.requires.entry (put.counted idle) (put.waits idle)

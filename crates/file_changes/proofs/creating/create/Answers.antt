@@ -14,8 +14,8 @@ use Rattle.card_model.specs.FileControl.{IsCreatable, size_of_kind}
 use Rattle.block_chain.specs.Chains.{free_chain}
 use Rattle.block_chain.specs.ChainChanges.{OnlyContent}
 use Rattle.file_tree.specs.declared.entry.Entry.{Entry}
-use Rattle.file_changes.specs.declared.placing.Place.{Place}
-use Rattle.file_changes.specs.declared.placing.Place.TheVariants.{At}
+use Rattle.file_changes.specs.declared.placing.NewPlace.{NewPlace}
+use Rattle.file_changes.specs.declared.placing.NewPlace.TheVariants.{At}
 use Rattle.card_model.specs.Spaces.{blocks_for}
 use Rattle.file_tree.specs.Table.{table, entry_in, path_of}
 use Rattle.file_tree.specs.Trees.{tree_of, TreeStands}
@@ -48,10 +48,10 @@ same_tree m after stands same = subst (λ (l : List ℕ). SameTree m l) (sym sam
 })
 
 -- what was told of a place
-place_at : (m : List ℕ) (df : ℕ) (fcp : Fcp) (place : Place) (e : ℕ) → place ≡ At e → FindsPlace m df fcp place
+place_at : (m : List ℕ) (df : ℕ) (fcp : Fcp) (place : NewPlace) (e : ℕ) → place ≡ At e → FindsPlace m df fcp place
     → FindsPlace m df fcp (At e)
 place_at m df fcp place e is found =
-    let family : Place → Type 0 = λ p. FindsPlace m df fcp p in
+    let family : NewPlace → Type 0 = λ p. FindsPlace m df fcp p in
     subst family is found
 
 -- a file that finds a place is not refused
@@ -86,7 +86,7 @@ pub write_file-requires-clause-enough : goal.write_file-requires-clause-enough
 write_file-requires-clause-enough g c =
     let m = committed c.args.store.now in
     let found = place_at m c.args.df c.args.fcp.now _ c.in-At.entry c.in-At.is c.in_ok-entry.ensures.told in
-    let words = c.short_of.ensures.store.only.keeps.committed_words
+    let words = c.short_of_new_file.ensures.store.only.keeps.committed_words
     ∙ c.find_place.ensures.store.only.keeps.committed_words in
     let free = ap (λ (l : List ℕ). length (free_chain l)) words in
     let blocks = c.blocks_for-blocks.ensures ∙ ap blocks_for c.size.ensures in
@@ -102,12 +102,12 @@ returns-clause-done g c =
     let m = committed c.args.store.now in
     let fcp = c.args.fcp.now in
     let read = c.find_place.ensures.store.only.keeps.committed_words in
-    created m (committed c.short_of.new.store) (committed c.write_file.new.store) c.args.df
+    created m (committed c.short_of_new_file.new.store) (committed c.write_file.new.store) c.args.df
     c.in_ok-short.short c.in-At.entry c.blocks_for-blocks.result fcp c.entry_for.result
     c.requires.df.ready.usable.committed_size c.requires.df.tree c.requires.df.df c.requires.fcp
     (place_at m c.args.df fcp _ c.in-At.entry c.in-At.is c.in_ok-entry.ensures.told)
     (short_before m (committed c.find_place.new.store) c.args.df c.in_ok-short.short
-    fcp read c.in_ok-short.ensures.told) (c.short_of.ensures.store.only.keeps.committed_words ∙ read)
+    fcp read c.in_ok-short.ensures.told) (c.short_of_new_file.ensures.store.only.keeps.committed_words ∙ read)
     c.entry_for.ensures (c.blocks_for-blocks.ensures ∙ ap blocks_for c.size.ensures) c.in_ok-write_file.ensures.done
 
 pub returns-clause-any_exit : goal.returns-clause-any_exit
@@ -141,17 +141,17 @@ returns-in_err-write_file-clause-any_exit g c =
     let fcp = c.args.fcp.now in
     let sized = c.requires.df.ready.usable.committed_size in
     let read = c.find_place.ensures.store.only.keeps.committed_words in
-    let words = c.short_of.ensures.store.only.keeps.committed_words ∙ read in
+    let words = c.short_of_new_file.ensures.store.only.keeps.committed_words ∙ read in
     let after = committed c.write_file.new.store in
     ⊎_elim
-    (λ (fills : OnlyContent (committed c.short_of.new.store)
-    (take c.blocks_for-blocks.result (free_chain (committed c.short_of.new.store))) after).
+    (λ (fills : OnlyContent (committed c.short_of_new_file.new.store)
+    (take c.blocks_for-blocks.result (free_chain (committed c.short_of_new_file.new.store))) after).
     let only : List ℕ → Type 0 = λ l. OnlyContent l (take c.blocks_for-blocks.result (free_chain l)) after in
     inl (filled m after c.blocks_for-blocks.result sized c.requires.df.tree (subst only words fills)))
-    (λ (adds : FillsAndAdds (committed c.short_of.new.store) c.in-At.entry c.entry_for.result
+    (λ (adds : FillsAndAdds (committed c.short_of_new_file.new.store) c.in-At.entry c.entry_for.result
     c.blocks_for-blocks.result after).
     let is =
-    created m (committed c.short_of.new.store) after c.args.df c.in_ok-short.short c.in-At.entry
+    created m (committed c.short_of_new_file.new.store) after c.args.df c.in_ok-short.short c.in-At.entry
     c.blocks_for-blocks.result fcp c.entry_for.result
     sized c.requires.df.tree c.requires.df.df c.requires.fcp
     (place_at m c.args.df fcp _ c.in-At.entry c.in-At.is c.in_ok-entry.ensures.told)
@@ -181,7 +181,7 @@ returns-in-Refused-clause-any_exit g c =
 
 pub returns-in-Refused-clause-done : goal.returns-in-Refused-clause-done
 returns-in-Refused-clause-done g c = (
-  subst (λ (p : Place). FindsPlace (committed c.args.store.now) c.args.df c.args.fcp.now p) c.in-Refused.is
+  subst (λ (p : NewPlace). FindsPlace (committed c.args.store.now) c.args.df c.args.fcp.now p) c.in-Refused.is
       c.in_ok-entry.ensures.told,
   c.find_place.ensures.store.only.keeps.committed_words,
 )
@@ -190,13 +190,13 @@ pub returns-in-Refused-clause-store : goal.returns-in-Refused-clause-store
 returns-in-Refused-clause-store g c =
     reads_change _ _ _ _ c.requires.df.ready.idle c.in_ok-entry.ensures.store
 
-pub short_of-requires-clause-fcp : goal.short_of-requires-clause-fcp
-short_of-requires-clause-fcp g c = c.requires.fcp
+pub short_of_new_file-requires-clause-fcp : goal.short_of_new_file-requires-clause-fcp
+short_of_new_file-requires-clause-fcp g c = c.requires.fcp
 
 pub returns-in_err-short-clause-any_exit : goal.returns-in_err-short-clause-any_exit
 returns-in_err-short-clause-any_exit g c =
     inl (same_tree (committed c.args.store.now) _ c.requires.df.tree
-    (c.short_of.ensures.store.only.keeps.committed_words
+    (c.short_of_new_file.ensures.store.only.keeps.committed_words
     ∙ c.find_place.ensures.store.only.keeps.committed_words))
 
 pub returns-in_err-short-clause-done : goal.returns-in_err-short-clause-done
@@ -214,12 +214,12 @@ returns-in_err-write_file-clause-done g c = none_ok _ _ _ c.from_residual-in_err
 pub returns-in_err-write_file-clause-store : goal.returns-in_err-write_file-clause-store
 returns-in_err-write_file-clause-store g c =
     changes_handed _ _ _ _ _ c.from_residual-in_err-write_file.ensures.1
-    (changes_after _ _ _ _ _ (reads_then _ _ _ c.find_place.ensures.store.only c.short_of.ensures.store.only)
+    (changes_after _ _ _ _ _ (reads_then _ _ _ c.find_place.ensures.store.only c.short_of_new_file.ensures.store.only)
     c.in_err-write_file.ensures.store)
 
 pub returns-clause-store : goal.returns-clause-store
 returns-clause-store g c =
-    changes_after _ _ _ _ _ (reads_then _ _ _ c.find_place.ensures.store.only c.short_of.ensures.store.only)
+    changes_after _ _ _ _ _ (reads_then _ _ _ c.find_place.ensures.store.only c.short_of_new_file.ensures.store.only)
     c.in_ok-write_file.ensures.store
 
 pub returns-clause-idle : goal.returns-clause-idle
@@ -242,7 +242,7 @@ returns-in-Refused-clause-idle g c = λ status is. c.find_place.ensures.store.on
 
 pub returns-in_err-short-clause-idle : goal.returns-in_err-short-clause-idle
 returns-in_err-short-clause-idle g c = λ status is. reads_then _ _ _ c.find_place.ensures.store.only
-    c.short_of.ensures.store.only
+    c.short_of_new_file.ensures.store.only
 
 -- where only reads were made nothing is added
 not_added : (old new : Memory) → TreeStands (committed old) → committed new ≡ committed old → AddsByGate old new
@@ -271,18 +271,21 @@ returns-in-Refused-clause-by_gate g c =
 pub returns-in_err-short-clause-by_gate : goal.returns-in_err-short-clause-by_gate
 returns-in_err-short-clause-by_gate g c =
     not_added c.args.store.now _ c.requires.df.tree
-    (c.short_of.ensures.store.only.keeps.committed_words ∙ c.find_place.ensures.store.only.keeps.committed_words)
+    (c.short_of_new_file.ensures.store.only.keeps.committed_words
+    ∙ c.find_place.ensures.store.only.keeps.committed_words)
 
 pub returns-in_err-write_file-clause-by_gate : goal.returns-in_err-write_file-clause-by_gate
 returns-in_err-write_file-clause-by_gate g c =
-    added_after c.args.store.now c.short_of.new.store c.write_file.new.store
-    (c.short_of.ensures.store.only.keeps.committed_words ∙ c.find_place.ensures.store.only.keeps.committed_words)
+    added_after c.args.store.now c.short_of_new_file.new.store c.write_file.new.store
+    (c.short_of_new_file.ensures.store.only.keeps.committed_words
+    ∙ c.find_place.ensures.store.only.keeps.committed_words)
     c.write_file.ensures.by_gate
 
 pub returns-clause-by_gate : goal.returns-clause-by_gate
 returns-clause-by_gate g c =
-    added_after c.args.store.now c.short_of.new.store c.write_file.new.store
-    (c.short_of.ensures.store.only.keeps.committed_words ∙ c.find_place.ensures.store.only.keeps.committed_words)
+    added_after c.args.store.now c.short_of_new_file.new.store c.write_file.new.store
+    (c.short_of_new_file.ensures.store.only.keeps.committed_words
+    ∙ c.find_place.ensures.store.only.keeps.committed_words)
     c.write_file.ensures.by_gate
 
 pub returns-in_err-entry-clause-turned : goal.returns-in_err-entry-clause-turned
@@ -295,7 +298,7 @@ returns-in-Refused-clause-turned g c =
 
 pub returns-in_err-short-clause-turned : goal.returns-in_err-short-clause-turned
 returns-in_err-short-clause-turned g c =
-    let reads = reads_then _ _ _ c.find_place.ensures.store.only c.short_of.ensures.store.only in
+    let reads = reads_then _ _ _ c.find_place.ensures.store.only c.short_of_new_file.ensures.store.only in
     λ shut more. absurd (omega (arith, more, reads.board.writes))
 
 pub returns-in_err-write_file-clause-turned : goal.returns-in_err-write_file-clause-turned
@@ -303,10 +306,10 @@ returns-in_err-write_file-clause-turned g c =
     let m = committed c.args.store.now in
     let fcp = c.args.fcp.now in
     let read = c.find_place.ensures.store.only.keeps.committed_words in
-    let words = c.short_of.ensures.store.only.keeps.committed_words ∙ read in
-    let reads = reads_then _ _ _ c.find_place.ensures.store.only c.short_of.ensures.store.only in
+    let words = c.short_of_new_file.ensures.store.only.keeps.committed_words ∙ read in
+    let reads = reads_then _ _ _ c.find_place.ensures.store.only c.short_of_new_file.ensures.store.only in
     let blocks = c.blocks_for-blocks.ensures ∙ ap blocks_for c.size.ensures in
-    λ shut more. (created m (committed c.short_of.new.store) (committed c.write_file.new.store) c.args.df
+    λ shut more. (created m (committed c.short_of_new_file.new.store) (committed c.write_file.new.store) c.args.df
     c.in_ok-short.short c.in-At.entry c.blocks_for-blocks.result fcp c.entry_for.result
     c.requires.df.ready.usable.committed_size c.requires.df.tree c.requires.df.df c.requires.fcp
     (place_at m c.args.df fcp _ c.in-At.entry c.in-At.is c.in_ok-entry.ensures.told)
@@ -319,10 +322,10 @@ returns-clause-turned g c =
     let m = committed c.args.store.now in
     let fcp = c.args.fcp.now in
     let read = c.find_place.ensures.store.only.keeps.committed_words in
-    let words = c.short_of.ensures.store.only.keeps.committed_words ∙ read in
-    let reads = reads_then _ _ _ c.find_place.ensures.store.only c.short_of.ensures.store.only in
+    let words = c.short_of_new_file.ensures.store.only.keeps.committed_words ∙ read in
+    let reads = reads_then _ _ _ c.find_place.ensures.store.only c.short_of_new_file.ensures.store.only in
     let blocks = c.blocks_for-blocks.ensures ∙ ap blocks_for c.size.ensures in
-    λ shut more. (created m (committed c.short_of.new.store) (committed c.write_file.new.store) c.args.df
+    λ shut more. (created m (committed c.short_of_new_file.new.store) (committed c.write_file.new.store) c.args.df
     c.in_ok-short.short c.in-At.entry c.blocks_for-blocks.result fcp c.entry_for.result
     c.requires.df.ready.usable.committed_size c.requires.df.tree c.requires.df.df c.requires.fcp
     (place_at m c.args.df fcp _ c.in-At.entry c.in-At.is c.in_ok-entry.ensures.told)
@@ -335,8 +338,8 @@ has_df : (m : Memory) (df : ℕ) → IsReady m → TreeStands (committed m) → 
     → HasFile m df
 has_df m df ready tree kind = record { ready = ready; tree = tree; used = used_df (committed m) df kind }
 
-pub short_of-requires-clause-df : goal.short_of-requires-clause-df
-short_of-requires-clause-df g c =
+pub short_of_new_file-requires-clause-df : goal.short_of_new_file-requires-clause-df
+short_of_new_file-requires-clause-df g c =
     file_still _ _ _ c.find_place.ensures.store.only c.in_ok-entry.ensures.store.ready
     (has_df c.args.store.now c.args.df c.requires.df.ready c.requires.df.tree c.requires.df.df)
 
@@ -352,7 +355,7 @@ write_file-requires-clause-entry g c = record {
 pub write_file-requires-clause-tree : goal.write_file-requires-clause-tree
 write_file-requires-clause-tree g c = record {
   ready = c.in_ok-short.ensures.store.ready;
-  tree = subst (λ (l : List ℕ). TreeStands l) (sym (c.short_of.ensures.store.only.keeps.committed_words
+  tree = subst (λ (l : List ℕ). TreeStands l) (sym (c.short_of_new_file.ensures.store.only.keeps.committed_words
       ∙ c.find_place.ensures.store.only.keeps.committed_words)) c.requires.df.tree;
 }
 

@@ -3,8 +3,8 @@ use Rattle.std.proofs.Common.{◌≡◌, Option, None, ◌∙◌, ap}
 use Rattle.undo_journal.specs.Memory.{committed}
 use Rattle.card_model.specs.declared.status.Sw.{Sw}
 use Rattle.card_model.specs.declared.fcp.Fcp.{Fcp}
-use Rattle.file_changes.specs.declared.placing.Place.{Place}
-use Rattle.file_changes.specs.declared.placing.Place.TheVariants.{At, Refused}
+use Rattle.file_changes.specs.declared.placing.NewPlace.{NewPlace}
+use Rattle.file_changes.specs.declared.placing.NewPlace.TheVariants.{At, Refused}
 use Rattle.file_changes.specs.CreationRefusals.{taken_refusal, place_refusal, first_reason}
 use Rattle.card_model.specs.Spaces.{free_space}
 use Rattle.file_tree.specs.Table.{path_of}
@@ -19,7 +19,7 @@ use Rattle.file_lookup.specs.laws.StoredFiles.{file_still}
 use Rattle.file_changes.proofs.creating.find_place.Goals as goal
 
 -- where no name is taken, what was told of the place tells it all
-place_told : (m now : List ℕ) (df : ℕ) (fcp : Fcp) (place : Place) → now ≡ m
+place_told : (m now : List ℕ) (df : ℕ) (fcp : Fcp) (place : NewPlace) → now ≡ m
     → taken_refusal (tree_of m) (path_of (table m) df) fcp ≡ None → TellsPlace now df fcp.kind place
     → FindsPlace m df fcp place
 place_told m now df fcp (Refused status) same none told =

@@ -3,7 +3,7 @@ use Rattle.file_changes.proofs.life_cycles.life_word.Goals as goal
 
 pub returns : goal.returns
 returns c = record {
-  kind = omega (arith, c.two_bytes.ensures, c.to_byte.ensures.value);
-  life = omega (arith, c.two_bytes.ensures, c.to_byte.ensures.value);
-  identifier = omega (arith, c.two_bytes.ensures, c.to_byte.ensures.value);
+  kind = omega (arith, c.bytes_and_half.ensures, c.to_byte.ensures.value);
+  life = omega (arith, c.bytes_and_half.ensures, c.to_byte.ensures.value);
+  identifier = omega (arith, c.bytes_and_half.ensures, c.to_byte.ensures.value);
 }

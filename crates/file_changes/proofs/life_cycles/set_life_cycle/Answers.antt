@@ -41,8 +41,8 @@ returns-then-has_life_cycle-clause-done g c =
     (ap (λ (x : Entry). x.life) (sym c.in_ok-entry.ensures.entry)
     ∙ c.has_life_cycle.ensures.0 c.if-has_life_cycle.true))
 
-pub write_word-requires-clause-place : goal.write_word-requires-clause-place
-write_word-requires-clause-place g c =
+pub commit_word-requires-clause-place : goal.commit_word-requires-clause-place
+commit_word-requires-clause-place g c =
     let small = used_small (committed c.args.store.now) c.args.e c.requires.file.used in
     let size = c.in_ok-entry.ensures.store.ready.usable.committed_size in
     (inl (omega (arith, c.entry_address.ensures, small)), omega (arith, size, c.entry_address.ensures, small))
@@ -50,34 +50,34 @@ write_word-requires-clause-place g c =
 pub returns-clause-done : goal.returns-clause-done
 returns-clause-done g c =
     let m = committed c.args.store.now in
-    let family : ℕ → Type 0 = λ a. OnOk c.write_word.result (committed c.write_word.new.store
+    let family : ℕ → Type 0 = λ a. OnOk c.commit_word.result (committed c.commit_word.new.store
     ≡ slice_set (committed c.read_entry.new.store) a c.life_word.result) in
     on_then _ _ _ (changed m (committed c.read_entry.new.store)
-    (committed c.write_word.new.store) c.args.e c.life_word.result
+    (committed c.commit_word.new.store) c.args.e c.life_word.result
     c.args.state c.in_ok-entry.entry c.requires.file.ready.usable.committed_size c.requires.file.tree
     c.requires.file.used
     c.read_entry.ensures.store.only.keeps.committed_words c.in_ok-entry.ensures.entry
     c.life_word.ensures)
-    (subst family c.entry_address.ensures c.write_word.ensures.done)
+    (subst family c.entry_address.ensures c.commit_word.ensures.done)
 
 pub returns-clause-any_exit : goal.returns-clause-any_exit
 returns-clause-any_exit g c =
     let m = committed c.args.store.now in
-    let family : ℕ → Type 0 = λ a. (committed c.write_word.new.store ≡ committed c.read_entry.new.store)
-    ⊎ (committed c.write_word.new.store ≡ slice_set (committed c.read_entry.new.store) a c.life_word.result) in
+    let family : ℕ → Type 0 = λ a. (committed c.commit_word.new.store ≡ committed c.read_entry.new.store)
+    ⊎ (committed c.commit_word.new.store ≡ slice_set (committed c.read_entry.new.store) a c.life_word.result) in
     ⊎_elim
-    (λ (same : committed c.write_word.new.store ≡ committed c.read_entry.new.store).
+    (λ (same : committed c.commit_word.new.store ≡ committed c.read_entry.new.store).
     inl (same ∙ c.read_entry.ensures.store.only.keeps.committed_words))
-    (λ (set : committed c.write_word.new.store
+    (λ (set : committed c.commit_word.new.store
     ≡ slice_set (committed c.read_entry.new.store) (address (FIRST_ENTRY_PAGE + c.args.e) 0) c.life_word.result).
     inr (changed m (committed c.read_entry.new.store)
-    (committed c.write_word.new.store) c.args.e c.life_word.result
+    (committed c.commit_word.new.store) c.args.e c.life_word.result
     c.args.state c.in_ok-entry.entry c.requires.file.ready.usable.committed_size c.requires.file.tree
     c.requires.file.used
     c.read_entry.ensures.store.only.keeps.committed_words c.in_ok-entry.ensures.entry
     c.life_word.ensures
     set))
-    (subst family c.entry_address.ensures c.write_word.ensures.any_exit)
+    (subst family c.entry_address.ensures c.commit_word.ensures.any_exit)
 
 -- a file that is in the state has its byte
 has_byte : (m : List ℕ) (e : ℕ) (state : LifeCycle) (entry : Entry) → TreeStands m → IsUsed (table m) e
@@ -114,12 +114,12 @@ pub returns-then-has_life_cycle-clause-store : goal.returns-then-has_life_cycle-
 returns-then-has_life_cycle-clause-store g c =
     reads_change _ _ _ _ c.requires.file.ready.idle c.in_ok-entry.ensures.store
 
-pub write_word-requires-clause-ready : goal.write_word-requires-clause-ready
-write_word-requires-clause-ready g c = c.in_ok-entry.ensures.store.ready
+pub commit_word-requires-clause-ready : goal.commit_word-requires-clause-ready
+commit_word-requires-clause-ready g c = c.in_ok-entry.ensures.store.ready
 
 pub returns-clause-store : goal.returns-clause-store
 returns-clause-store g c =
-    changes_after _ _ _ _ _ c.read_entry.ensures.store.only c.write_word.ensures.store
+    changes_after _ _ _ _ _ c.read_entry.ensures.store.only c.commit_word.ensures.store
 
 pub returns-in_err-entry-clause-by_gate : goal.returns-in_err-entry-clause-by_gate
 returns-in_err-entry-clause-by_gate g c = inl c.read_entry.ensures.store.only.keeps.committed_words
@@ -129,8 +129,8 @@ returns-then-has_life_cycle-clause-by_gate g c = inl c.read_entry.ensures.store.
 
 pub returns-clause-by_gate : goal.returns-clause-by_gate
 returns-clause-by_gate g c =
-    by_gate_after c.args.store.now c.read_entry.new.store c.write_word.new.store
-    c.read_entry.ensures.store.only.keeps.committed_words c.write_word.ensures.by_gate
+    by_gate_after c.args.store.now c.read_entry.new.store c.commit_word.new.store
+    c.read_entry.ensures.store.only.keeps.committed_words c.commit_word.ensures.by_gate
 
 pub read_entry-requires : goal.read_entry-requires
 read_entry-requires g c = record {
@@ -154,11 +154,11 @@ returns-clause-turned g c =
     let now = committed c.read_entry.new.store in
     let word = c.life_word.result in
     let family : ℕ → Type 0 = λ a. TurnsTo (λ after. after ≡ slice_set now a word) c.read_entry.new.store
-    c.write_word.new.store in
+    c.commit_word.new.store in
     turns_after (λ after. after ≡ slice_set now (address (FIRST_ENTRY_PAGE + c.args.e) 0) word)
     (λ after. ChangesLife m c.args.e c.args.state after) c.args.store.now c.read_entry.new.store
-    c.write_word.new.store c.read_entry.ensures.store.only
-    (changed m now (committed c.write_word.new.store) c.args.e word c.args.state c.in_ok-entry.entry
+    c.commit_word.new.store c.read_entry.ensures.store.only
+    (changed m now (committed c.commit_word.new.store) c.args.e word c.args.state c.in_ok-entry.entry
     c.requires.file.ready.usable.committed_size c.requires.file.tree c.requires.file.used
     c.read_entry.ensures.store.only.keeps.committed_words c.in_ok-entry.ensures.entry c.life_word.ensures)
-    (subst family c.entry_address.ensures c.write_word.ensures.turned)
+    (subst family c.entry_address.ensures c.commit_word.ensures.turned)

@@ -13,7 +13,7 @@ use Rattle.file_changes.proofs.writing.write_entry.Goals as goal
 pub returns-clause-done : goal.returns-clause-done
 returns-clause-done g c =
     let m = current (memory_of c.args.txn.now) in
-    let ws = c.words_of-words.result in
+    let ws = c.words_of_entry-words.result in
     let long : length ws ≡ 11 = search rules in
     let at : c.entry_address.result ≡ address (FIRST_ENTRY_PAGE + c.args.e) 0 = c.entry_address.ensures in
     let family : List ℕ → Type 0 = λ l. WritesEntry m c.args.e c.args.entry l in
@@ -21,10 +21,10 @@ returns-clause-done g c =
     (λ (done : current (memory_of c.set_run.new.self) ≡ written m c.entry_address.result ws).
     subst family (sym (done ∙ ap (λ (k : ℕ). written m k ws) at))
     (written_entry m ws c.args.e c.args.entry c.requires.room.ready.current_size c.requires.entry.within long
-    c.words_of-words.ensures c.requires.entry.used)) c.set_run.ensures.done
+    c.words_of_entry-words.ensures c.requires.entry.used)) c.set_run.ensures.done
 
 pub returns-clause-runs : goal.returns-clause-runs
 returns-clause-runs g c =
-    let long : length c.words_of-words.result ≡ 11 = search rules in
-    runs_in_page (FIRST_ENTRY_PAGE + c.args.e) 0 c.entry_address.result (length c.words_of-words.result) _ _
+    let long : length c.words_of_entry-words.result ≡ 11 = search rules in
+    runs_in_page (FIRST_ENTRY_PAGE + c.args.e) 0 c.entry_address.result (length c.words_of_entry-words.result) _ _
     c.entry_address.ensures (omega (arith, long)) c.set_run.ensures.runs

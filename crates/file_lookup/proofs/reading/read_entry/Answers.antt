@@ -26,8 +26,8 @@ returns-in_err-words-clause-store g c =
 pub returns-clause-store : goal.returns-clause-store
 returns-clause-store g c = c.in_ok-words.ensures.store
 
-pub read_words-requires : goal.read_words-requires
-read_words-requires g c = record {
+pub read_entry_words-requires : goal.read_entry_words-requires
+read_entry_words-requires g c = record {
   ready = c.requires.ready;
   within = c.requires.within;
 }

@@ -11,7 +11,7 @@ pub returns-in-Ok-clause-put : goal.returns-in-Ok-clause-put
 returns-in-Ok-clause-put g c =
     let m = (g.F.Flash.state c.args.flash.now).words in
     let mid = (g.F.Flash.state c.loop-slot.flash).words in
-    let after = (g.F.Flash.state c.put_record.new.flash).words in
+    let after = (g.F.Flash.state c.program_record.new.flash).words in
     let base = base_in c.args.area in
     let words = c.args.words.now in
     let page = slice_index words 16 in
@@ -20,7 +20,7 @@ returns-in-Ok-clause-put g c =
     let below : s < SLOTS = omega (arith, c.loop-slot-test.true, c.requires.end) in
     let size : length words ≡ 18 = omega arith in
     let puts : PutsInSlot mid (slot_of base s) words after =
-    subst (λ (k : ℕ). PutsInSlot mid k words after) c.slot_at.ensures c.put_record.ensures.puts in
+    subst (λ (k : ℕ). PutsInSlot mid k words after) c.slot_at.ensures c.program_record.ensures.puts in
     let put : IsPut after (slot_of base s) words =
     subst (λ (k : ℕ). IsPut after k words) c.slot_at.ensures c.in-Ok.ensures.done in (
       c.loop-slot-test.true,
@@ -33,7 +33,7 @@ pub loop-slot-preserved : goal.loop-slot-preserved
 loop-slot-preserved g c =
     let m = (g.F.Flash.state c.args.flash.now).words in
     let mid = (g.F.Flash.state c.loop-slot.flash).words in
-    let after = (g.F.Flash.state c.put_record.new.flash).words in
+    let after = (g.F.Flash.state c.program_record.new.flash).words in
     let base = base_in c.args.area in
     let words = c.args.words.now in
     let page = slice_index words 16 in
@@ -43,8 +43,8 @@ loop-slot-preserved g c =
     let below : s < SLOTS = omega (arith, c.loop-slot-test.true, c.requires.end) in
     let size : length words ≡ 18 = omega arith in
     let puts : PutsInSlot mid (slot_of base s) words after =
-    subst (λ (k : ℕ). PutsInSlot mid k words after) c.slot_at.ensures c.put_record.ensures.puts in
-    let work = c.put_record.ensures.work in
+    subst (λ (k : ℕ). PutsInSlot mid k words after) c.slot_at.ensures c.program_record.ensures.puts in
+    let work = c.program_record.ensures.work in
     let more = failed.faults in
     let within : SameElsewhere mid base 25600 after = in_area mid after base s words puts below was.kept.free size in
     record {

@@ -6,10 +6,10 @@ use Rattle.flash_board.proofs.steps.read_at.Goals as goal
 
 pub returns-clause-word : goal.returns-clause-word
 returns-clause-word g c =
-    let m = (g.F.Flash.state c.settle.new.flash).words in
+    let m = (g.F.Flash.state c.find_pages.new.flash).words in
     let at = c.args.at in
-    let known = c.settle.ensures.log.known c.in_ok-settle.ensures.ready in
+    let known = c.find_pages.ensures.log.known c.in_ok-find_pages.ensures.ready in
     c.in_ok-word.ensures.word
     ∙ ap (λ (b : ℕ). page_word m b SLOTS (at / 16) (at % 16)) (c.home.ensures.is ∙ ap base_in known.turn)
     ∙ sym (index-words m at c.requires.at)
-    ∙ ap (λ (l : List ℕ). slice_index (words_of l) at) c.settle.ensures.words
+    ∙ ap (λ (l : List ℕ). slice_index (words_of l) at) c.find_pages.ensures.words

@@ -10,89 +10,93 @@ use Rattle.flash_board.proofs.turns.move_to_a.Goals as goal
 pub returns-in_err-next-clause-words : goal.returns-in_err-next-clause-words
 returns-in_err-next-clause-words g c =
     let m = (g.F.Flash.state c.args.flash.now).words in
-    let mid = (g.F.Flash.state c.fill.new.flash).words in
-    let stays : Stays m mid = two_stays m mid c.requires.turn c.fill.ensures.elsewhere in
+    let mid = (g.F.Flash.state c.erase_and_copy.new.flash).words in
+    let stays : Stays m mid = two_stays m mid c.requires.turn c.erase_and_copy.ensures.elsewhere in
     stays.words
 
 pub returns-in_err-next-clause-ring : goal.returns-in_err-next-clause-ring
 returns-in_err-next-clause-ring g c =
     let m = (g.F.Flash.state c.args.flash.now).words in
-    let mid = (g.F.Flash.state c.fill.new.flash).words in
-    let stays : Stays m mid = two_stays m mid c.requires.turn c.fill.ensures.elsewhere in
+    let mid = (g.F.Flash.state c.erase_and_copy.new.flash).words in
+    let stays : Stays m mid = two_stays m mid c.requires.turn c.erase_and_copy.ensures.elsewhere in
     stays.ring
 
 pub returns-in_err-close-clause-words : goal.returns-in_err-close-clause-words
 returns-in_err-close-clause-words g c =
     let m = (g.F.Flash.state c.args.flash.now).words in
-    let mid = (g.F.Flash.state c.fill.new.flash).words in
+    let mid = (g.F.Flash.state c.erase_and_copy.new.flash).words in
     let after = (g.F.Flash.state c.close.new.flash).words in
     let passes : Passes m after 2 0 =
-    two_passes m mid after c.requires.turn c.fill.ensures.elsewhere c.in_ok-next.ensures.open
+    two_passes m mid after c.requires.turn c.erase_and_copy.ensures.elsewhere c.in_ok-next.ensures.open
     c.close.ensures.elsewhere c.in_ok-next.ensures.pages in
     passes.words
 
 pub returns-in_err-close-clause-ring : goal.returns-in_err-close-clause-ring
 returns-in_err-close-clause-ring g c =
     let m = (g.F.Flash.state c.args.flash.now).words in
-    let mid = (g.F.Flash.state c.fill.new.flash).words in
+    let mid = (g.F.Flash.state c.erase_and_copy.new.flash).words in
     let after = (g.F.Flash.state c.close.new.flash).words in
     let passes : Passes m after 2 0 =
-    two_passes m mid after c.requires.turn c.fill.ensures.elsewhere c.in_ok-next.ensures.open
+    two_passes m mid after c.requires.turn c.erase_and_copy.ensures.elsewhere c.in_ok-next.ensures.open
     c.close.ensures.elsewhere c.in_ok-next.ensures.pages in
     passes.ring
 
 pub returns-clause-words : goal.returns-clause-words
 returns-clause-words g c =
     let m = (g.F.Flash.state c.args.flash.now).words in
-    let mid = (g.F.Flash.state c.fill.new.flash).words in
+    let mid = (g.F.Flash.state c.erase_and_copy.new.flash).words in
     let after = (g.F.Flash.state c.close.new.flash).words in
     let passes : Passes m after 2 0 =
-    two_passes m mid after c.requires.turn c.fill.ensures.elsewhere c.in_ok-next.ensures.open
+    two_passes m mid after c.requires.turn c.erase_and_copy.ensures.elsewhere c.in_ok-next.ensures.open
     c.close.ensures.elsewhere c.in_ok-next.ensures.pages in
     passes.words
 
 pub returns-clause-ring : goal.returns-clause-ring
 returns-clause-ring g c =
     let m = (g.F.Flash.state c.args.flash.now).words in
-    let mid = (g.F.Flash.state c.fill.new.flash).words in
+    let mid = (g.F.Flash.state c.erase_and_copy.new.flash).words in
     let after = (g.F.Flash.state c.close.new.flash).words in
     let passes : Passes m after 2 0 =
-    two_passes m mid after c.requires.turn c.fill.ensures.elsewhere c.in_ok-next.ensures.open
+    two_passes m mid after c.requires.turn c.erase_and_copy.ensures.elsewhere c.in_ok-next.ensures.open
     c.close.ensures.elsewhere c.in_ok-next.ensures.pages in
     passes.ring
 
 pub returns-clause-done : goal.returns-clause-done
 returns-clause-done g c =
     let m = (g.F.Flash.state c.args.flash.now).words in
-    let mid = (g.F.Flash.state c.fill.new.flash).words in
+    let mid = (g.F.Flash.state c.erase_and_copy.new.flash).words in
     let after = (g.F.Flash.state c.close.new.flash).words in
     let passes : Passes m after 2 0 =
-    two_passes m mid after c.requires.turn c.fill.ensures.elsewhere c.in_ok-next.ensures.open
+    two_passes m mid after c.requires.turn c.erase_and_copy.ensures.elsewhere c.in_ok-next.ensures.open
     c.close.ensures.elsewhere c.in_ok-next.ensures.pages in
     ⊎_elim (λ (old : turn_of after ≡ 2). absurd (true≢false (sym c.in_ok-close.ensures.done ∙ (two_marks after old).1)))
     (λ (new : turn_of after ≡ 0). new) passes.turn
 
 pub returns-clause-index : goal.returns-clause-index
 returns-clause-index g c =
-    let mid = (g.F.Flash.state c.fill.new.flash).words in
+    let mid = (g.F.Flash.state c.erase_and_copy.new.flash).words in
     let after = (g.F.Flash.state c.close.new.flash).words in
     let same : SameArea mid after 0 =
-    record { each = λ k low high. let x : k < 51204 = omega (arith, high) in
-        c.close.ensures.elsewhere.same k (inl x) } in
+    record {
+      each = λ k low high. let x : k < 51204 = omega (arith, high) in
+          c.close.ensures.elsewhere.same k (inl x);
+    } in
     record { each = λ p lt. c.in_ok-next.ensures.index.each p lt ∙ sym (area_found mid after 0 same p) }
 
 pub returns-clause-free : goal.returns-clause-free
 returns-clause-free g c =
-    let mid = (g.F.Flash.state c.fill.new.flash).words in
+    let mid = (g.F.Flash.state c.erase_and_copy.new.flash).words in
     let after = (g.F.Flash.state c.close.new.flash).words in
     let same : SameArea mid after 0 =
-    record { each = λ k low high. let x : k < 51204 = omega (arith, high) in
-        c.close.ensures.elsewhere.same k (inl x) } in
+    record {
+      each = λ k low high. let x : k < 51204 = omega (arith, high) in
+          c.close.ensures.elsewhere.same k (inl x);
+    } in
     area_free mid after 0 same c.in_ok-next.next c.in_ok-next.ensures.free
 
 pub close-requires-clause-opened : goal.close-requires-clause-opened
 close-requires-clause-opened g c =
     let m = (g.F.Flash.state c.args.flash.now).words in
-    let mid = (g.F.Flash.state c.fill.new.flash).words in
+    let mid = (g.F.Flash.state c.erase_and_copy.new.flash).words in
     let past : 0 + 25602 ≤ 51204 = omega arith in
-    closed_same m mid 51204 0 25602 c.fill.ensures.elsewhere (inr past) ∙ (two_marks m c.requires.turn).1
+    closed_same m mid 51204 0 25602 c.erase_and_copy.ensures.elsewhere (inr past) ∙ (two_marks m c.requires.turn).1

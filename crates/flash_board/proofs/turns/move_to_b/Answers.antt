@@ -10,64 +10,64 @@ use Rattle.flash_board.proofs.turns.move_to_b.Goals as goal
 pub returns-in_err-next-clause-words : goal.returns-in_err-next-clause-words
 returns-in_err-next-clause-words g c =
     let m = (g.F.Flash.state c.args.flash.now).words in
-    let mid = (g.F.Flash.state c.fill.new.flash).words in
-    let stays : Stays m mid = zero_stays m mid c.requires.ring c.requires.turn c.fill.ensures.elsewhere in
+    let mid = (g.F.Flash.state c.erase_and_copy.new.flash).words in
+    let stays : Stays m mid = zero_stays m mid c.requires.ring c.requires.turn c.erase_and_copy.ensures.elsewhere in
     stays.words
 
 pub returns-in_err-next-clause-ring : goal.returns-in_err-next-clause-ring
 returns-in_err-next-clause-ring g c =
     let m = (g.F.Flash.state c.args.flash.now).words in
-    let mid = (g.F.Flash.state c.fill.new.flash).words in
-    let stays : Stays m mid = zero_stays m mid c.requires.ring c.requires.turn c.fill.ensures.elsewhere in
+    let mid = (g.F.Flash.state c.erase_and_copy.new.flash).words in
+    let stays : Stays m mid = zero_stays m mid c.requires.ring c.requires.turn c.erase_and_copy.ensures.elsewhere in
     stays.ring
 
 pub returns-in_err-close-clause-words : goal.returns-in_err-close-clause-words
 returns-in_err-close-clause-words g c =
     let m = (g.F.Flash.state c.args.flash.now).words in
-    let mid = (g.F.Flash.state c.fill.new.flash).words in
+    let mid = (g.F.Flash.state c.erase_and_copy.new.flash).words in
     let after = (g.F.Flash.state c.close.new.flash).words in
     let passes : Passes m after 0 1 =
-    zero_passes m mid after c.requires.ring c.requires.turn c.fill.ensures.elsewhere c.in_ok-next.ensures.open
+    zero_passes m mid after c.requires.ring c.requires.turn c.erase_and_copy.ensures.elsewhere c.in_ok-next.ensures.open
     c.close.ensures.elsewhere c.in_ok-next.ensures.pages in
     passes.words
 
 pub returns-in_err-close-clause-ring : goal.returns-in_err-close-clause-ring
 returns-in_err-close-clause-ring g c =
     let m = (g.F.Flash.state c.args.flash.now).words in
-    let mid = (g.F.Flash.state c.fill.new.flash).words in
+    let mid = (g.F.Flash.state c.erase_and_copy.new.flash).words in
     let after = (g.F.Flash.state c.close.new.flash).words in
     let passes : Passes m after 0 1 =
-    zero_passes m mid after c.requires.ring c.requires.turn c.fill.ensures.elsewhere c.in_ok-next.ensures.open
+    zero_passes m mid after c.requires.ring c.requires.turn c.erase_and_copy.ensures.elsewhere c.in_ok-next.ensures.open
     c.close.ensures.elsewhere c.in_ok-next.ensures.pages in
     passes.ring
 
 pub returns-clause-words : goal.returns-clause-words
 returns-clause-words g c =
     let m = (g.F.Flash.state c.args.flash.now).words in
-    let mid = (g.F.Flash.state c.fill.new.flash).words in
+    let mid = (g.F.Flash.state c.erase_and_copy.new.flash).words in
     let after = (g.F.Flash.state c.close.new.flash).words in
     let passes : Passes m after 0 1 =
-    zero_passes m mid after c.requires.ring c.requires.turn c.fill.ensures.elsewhere c.in_ok-next.ensures.open
+    zero_passes m mid after c.requires.ring c.requires.turn c.erase_and_copy.ensures.elsewhere c.in_ok-next.ensures.open
     c.close.ensures.elsewhere c.in_ok-next.ensures.pages in
     passes.words
 
 pub returns-clause-ring : goal.returns-clause-ring
 returns-clause-ring g c =
     let m = (g.F.Flash.state c.args.flash.now).words in
-    let mid = (g.F.Flash.state c.fill.new.flash).words in
+    let mid = (g.F.Flash.state c.erase_and_copy.new.flash).words in
     let after = (g.F.Flash.state c.close.new.flash).words in
     let passes : Passes m after 0 1 =
-    zero_passes m mid after c.requires.ring c.requires.turn c.fill.ensures.elsewhere c.in_ok-next.ensures.open
+    zero_passes m mid after c.requires.ring c.requires.turn c.erase_and_copy.ensures.elsewhere c.in_ok-next.ensures.open
     c.close.ensures.elsewhere c.in_ok-next.ensures.pages in
     passes.ring
 
 pub returns-clause-done : goal.returns-clause-done
 returns-clause-done g c =
     let m = (g.F.Flash.state c.args.flash.now).words in
-    let mid = (g.F.Flash.state c.fill.new.flash).words in
+    let mid = (g.F.Flash.state c.erase_and_copy.new.flash).words in
     let after = (g.F.Flash.state c.close.new.flash).words in
     let passes : Passes m after 0 1 =
-    zero_passes m mid after c.requires.ring c.requires.turn c.fill.ensures.elsewhere c.in_ok-next.ensures.open
+    zero_passes m mid after c.requires.ring c.requires.turn c.erase_and_copy.ensures.elsewhere c.in_ok-next.ensures.open
     c.close.ensures.elsewhere c.in_ok-next.ensures.pages in
     ⊎_elim (λ (old : turn_of after ≡ 0). absurd (true≢false (sym c.in_ok-close.ensures.done ∙ (zero_marks after
     passes.ring old).0)))
@@ -75,26 +75,30 @@ returns-clause-done g c =
 
 pub returns-clause-index : goal.returns-clause-index
 returns-clause-index g c =
-    let mid = (g.F.Flash.state c.fill.new.flash).words in
+    let mid = (g.F.Flash.state c.erase_and_copy.new.flash).words in
     let after = (g.F.Flash.state c.close.new.flash).words in
     let same : SameArea mid after 25602 =
-    record { each = λ k low high. let x : 25600 + 2 ≤ k = omega (arith, low) in
-        c.close.ensures.elsewhere.same k (inr x) } in
+    record {
+      each = λ k low high. let x : 25600 + 2 ≤ k = omega (arith, low) in
+          c.close.ensures.elsewhere.same k (inr x);
+    } in
     record { each = λ p lt. c.in_ok-next.ensures.index.each p lt ∙ sym (area_found mid after 25602 same p) }
 
 pub returns-clause-free : goal.returns-clause-free
 returns-clause-free g c =
-    let mid = (g.F.Flash.state c.fill.new.flash).words in
+    let mid = (g.F.Flash.state c.erase_and_copy.new.flash).words in
     let after = (g.F.Flash.state c.close.new.flash).words in
     let same : SameArea mid after 25602 =
-    record { each = λ k low high. let x : 25600 + 2 ≤ k = omega (arith, low) in
-        c.close.ensures.elsewhere.same k (inr x) } in
+    record {
+      each = λ k low high. let x : 25600 + 2 ≤ k = omega (arith, low) in
+          c.close.ensures.elsewhere.same k (inr x);
+    } in
     area_free mid after 25602 same c.in_ok-next.next c.in_ok-next.ensures.free
 
 pub close-requires-clause-opened : goal.close-requires-clause-opened
 close-requires-clause-opened g c =
     let m = (g.F.Flash.state c.args.flash.now).words in
-    let mid = (g.F.Flash.state c.fill.new.flash).words in
+    let mid = (g.F.Flash.state c.erase_and_copy.new.flash).words in
     let before : 25600 + 2 ≤ 25602 = omega arith in
-    closed_same m mid 25600 25602 25602 c.fill.ensures.elsewhere (inl before) ∙ (zero_marks m c.requires.ring
+    closed_same m mid 25600 25602 25602 c.erase_and_copy.ensures.elsewhere (inl before) ∙ (zero_marks m c.requires.ring
     c.requires.turn).0

@@ -7,31 +7,31 @@ use Rattle.flash_board.specs.SlotParts.{IsPut, PutsInSlot}
 use Rattle.flash_board.specs.laws.Writing.{run_marks, run_done, run_whole, run_index, free_behind}
 use Rattle.flash_board.proofs.writing.write_run.Goals as goal
 
-pub returns-in_err-put_record-clause-whole : goal.returns-in_err-put_record-clause-whole
-returns-in_err-put_record-clause-whole g c =
+pub returns-in_err-program_record-clause-whole : goal.returns-in_err-program_record-clause-whole
+returns-in_err-program_record-clause-whole g c =
     let a = c.args in
     let m = (g.F.Flash.state a.flash.now).words in
-    let after = (g.F.Flash.state c.put_record.new.flash).words in
+    let after = (g.F.Flash.state c.program_record.new.flash).words in
     let words = c.overlay.new.found in
     let at = slot_of (base_in a.area) a.next in
     let puts : PutsInSlot m at words after = subst (λ (k : ℕ). PutsInSlot m k words after) c.slot_at.ensures
     (subst (λ (l : List ℕ). PutsInSlot l c.slot_at.result words after) c.record_of.ensures.words
-    c.put_record.ensures.puts) in
+    c.program_record.ensures.puts) in
     let size : length words ≡ 18 = omega arith in
     run_whole m after a.area a.next a.page a.first a.words.now c.in_ok-found.found words c.requires.room c.requires.home
     c.requires.free size c.requires.page c.requires.run c.in_ok-found.ensures.each c.in_ok-found.ensures.names
     c.overlay.ensures.other c.overlay.ensures.run puts
 
-pub returns-in_err-put_record-clause-marks : goal.returns-in_err-put_record-clause-marks
-returns-in_err-put_record-clause-marks g c =
+pub returns-in_err-program_record-clause-marks : goal.returns-in_err-program_record-clause-marks
+returns-in_err-program_record-clause-marks g c =
     let a = c.args in
     let m = (g.F.Flash.state a.flash.now).words in
-    let after = (g.F.Flash.state c.put_record.new.flash).words in
+    let after = (g.F.Flash.state c.program_record.new.flash).words in
     let words = c.overlay.new.found in
     let at = slot_of (base_in a.area) a.next in
     let puts : PutsInSlot m at words after = subst (λ (k : ℕ). PutsInSlot m k words after) c.slot_at.ensures
     (subst (λ (l : List ℕ). PutsInSlot l c.slot_at.result words after) c.record_of.ensures.words
-    c.put_record.ensures.puts) in
+    c.program_record.ensures.puts) in
     let size : length words ≡ 18 = omega arith in
     run_marks m after a.area a.next a.page a.first a.words.now c.in_ok-found.found words c.requires.room c.requires.home
     c.requires.free size c.requires.page c.requires.run c.in_ok-found.ensures.each c.in_ok-found.ensures.names
@@ -41,12 +41,12 @@ pub returns-clause-whole : goal.returns-clause-whole
 returns-clause-whole g c =
     let a = c.args in
     let m = (g.F.Flash.state a.flash.now).words in
-    let after = (g.F.Flash.state c.put_record.new.flash).words in
+    let after = (g.F.Flash.state c.program_record.new.flash).words in
     let words = c.overlay.new.found in
     let at = slot_of (base_in a.area) a.next in
     let puts : PutsInSlot m at words after = subst (λ (k : ℕ). PutsInSlot m k words after) c.slot_at.ensures
     (subst (λ (l : List ℕ). PutsInSlot l c.slot_at.result words after) c.record_of.ensures.words
-    c.put_record.ensures.puts) in
+    c.program_record.ensures.puts) in
     let size : length words ≡ 18 = omega arith in
     run_whole m after a.area a.next a.page a.first a.words.now c.in_ok-found.found words c.requires.room c.requires.home
     c.requires.free size c.requires.page c.requires.run c.in_ok-found.ensures.each c.in_ok-found.ensures.names
@@ -56,15 +56,15 @@ pub returns-clause-done : goal.returns-clause-done
 returns-clause-done g c =
     let a = c.args in
     let m = (g.F.Flash.state a.flash.now).words in
-    let after = (g.F.Flash.state c.put_record.new.flash).words in
+    let after = (g.F.Flash.state c.program_record.new.flash).words in
     let words = c.overlay.new.found in
     let at = slot_of (base_in a.area) a.next in
     let puts : PutsInSlot m at words after = subst (λ (k : ℕ). PutsInSlot m k words after) c.slot_at.ensures
     (subst (λ (l : List ℕ). PutsInSlot l c.slot_at.result words after) c.record_of.ensures.words
-    c.put_record.ensures.puts) in
+    c.program_record.ensures.puts) in
     let size : length words ≡ 18 = omega arith in
     let put : IsPut after at words =
-    subst (λ (k : ℕ). IsPut after k words) c.slot_at.ensures c.in_ok-put_record.ensures.done in
+    subst (λ (k : ℕ). IsPut after k words) c.slot_at.ensures c.in_ok-program_record.ensures.done in
     run_done m after a.area a.next a.page a.first a.words.now c.in_ok-found.found words c.requires.room c.requires.home
     c.requires.free size c.requires.page c.requires.run c.in_ok-found.ensures.each c.in_ok-found.ensures.names
     c.overlay.ensures.other c.overlay.ensures.run puts put
@@ -73,15 +73,15 @@ pub returns-clause-index : goal.returns-clause-index
 returns-clause-index g c =
     let a = c.args in
     let m = (g.F.Flash.state a.flash.now).words in
-    let after = (g.F.Flash.state c.put_record.new.flash).words in
+    let after = (g.F.Flash.state c.program_record.new.flash).words in
     let words = c.overlay.new.found in
     let at = slot_of (base_in a.area) a.next in
     let puts : PutsInSlot m at words after = subst (λ (k : ℕ). PutsInSlot m k words after) c.slot_at.ensures
     (subst (λ (l : List ℕ). PutsInSlot l c.slot_at.result words after) c.record_of.ensures.words
-    c.put_record.ensures.puts) in
+    c.program_record.ensures.puts) in
     let size : length words ≡ 18 = omega arith in
     let put : IsPut after at words =
-    subst (λ (k : ℕ). IsPut after k words) c.slot_at.ensures c.in_ok-put_record.ensures.done in
+    subst (λ (k : ℕ). IsPut after k words) c.slot_at.ensures c.in_ok-program_record.ensures.done in
     let table : length a.table.now ≡ 1024 = omega arith in
     let number = c.from.ensures in
     subst (λ (k : ℕ). IsPageTable after (base_in a.area) SLOTS (slice_set a.table.now k (a.next + 1))) (sym number)
@@ -94,12 +94,12 @@ pub returns-clause-free : goal.returns-clause-free
 returns-clause-free g c =
     let a = c.args in
     let m = (g.F.Flash.state a.flash.now).words in
-    let after = (g.F.Flash.state c.put_record.new.flash).words in
+    let after = (g.F.Flash.state c.program_record.new.flash).words in
     let words = c.overlay.new.found in
     let at = slot_of (base_in a.area) a.next in
     let puts : PutsInSlot m at words after = subst (λ (k : ℕ). PutsInSlot m k words after) c.slot_at.ensures
     (subst (λ (l : List ℕ). PutsInSlot l c.slot_at.result words after) c.record_of.ensures.words
-    c.put_record.ensures.puts) in
+    c.program_record.ensures.puts) in
     let size : length words ≡ 18 = omega arith in
     free_behind m after a.area a.next puts.elsewhere c.requires.room c.requires.home c.requires.free
 
@@ -107,12 +107,12 @@ pub returns-clause-marks : goal.returns-clause-marks
 returns-clause-marks g c =
     let a = c.args in
     let m = (g.F.Flash.state a.flash.now).words in
-    let after = (g.F.Flash.state c.put_record.new.flash).words in
+    let after = (g.F.Flash.state c.program_record.new.flash).words in
     let words = c.overlay.new.found in
     let at = slot_of (base_in a.area) a.next in
     let puts : PutsInSlot m at words after = subst (λ (k : ℕ). PutsInSlot m k words after) c.slot_at.ensures
     (subst (λ (l : List ℕ). PutsInSlot l c.slot_at.result words after) c.record_of.ensures.words
-    c.put_record.ensures.puts) in
+    c.program_record.ensures.puts) in
     let size : length words ≡ 18 = omega arith in
     run_marks m after a.area a.next a.page a.first a.words.now c.in_ok-found.found words c.requires.room c.requires.home
     c.requires.free size c.requires.page c.requires.run c.in_ok-found.ensures.each c.in_ok-found.ensures.names

@@ -110,10 +110,10 @@ returns g c =
     ∙ ap (λ (l : List ℕ). head_of (entry_in (table l) e))
     c.find_selected.ensures.found.store.only.keeps.committed_words in
     let current = sym (c.at_head.ensures ∙ ap (λ (h : EntryHead). current_by x e h.kind h.parent) head) in
-    let status = sym (c.status_of.ensures ∙ ap selection_status c.life_cycle.ensures
+    let status = sym (c.status_of_selection.ensures ∙ ap selection_status c.life_cycle.ensures
     ∙ ap (λ (h : EntryHead). selection_status (state_told h.life)) head) in
     answered request old x c.give_data.new.store (λ _. tt) c.requires.card.kept.card c.at_head.result text
-    c.status_of.result
+    c.status_of_selection.result
     reads c.in_ok-give_data.ensures.data.store.ready
     (subst (λ (y : Current). IsCurrent t y)
     current (current-entry m c.requires.card.kept.card e used x c.requires.card.kept.current.marks)) given.2

@@ -38,8 +38,8 @@ returns-in_err-from_store-clause-store g c =
     (sym (told_is _ _ c.from_residual-in_err-from_store.ensures.1) ∙ c.in_err-from_store.ensures)
     (Reads c.args.store.now c.read.new.store) c.read.ensures.store
 
-pub add-requires : goal.add-requires
-add-requires g c =
+pub add_number-requires : goal.add_number-requires
+add_number-requires g c =
     let m = committed c.args.store.now in
     let at = c.in_ok-newest.ensures.found in
     let some = received_last c.args.self 1 c.in_ok-newest.newest at in
@@ -50,8 +50,8 @@ add-requires g c =
     in
     (search rules, omega (arith, long, c.requires.sent))
 
-pub returns-then-add-clause-sum : goal.returns-then-add-clause-sum
-returns-then-add-clause-sum g c =
+pub returns-then-add_number-clause-sum : goal.returns-then-add_number-clause-sum
+returns-then-add_number-clause-sum g c =
     let m = committed c.args.store.now in
     let rs = cyclic_body_records m c.args.self in
     let at = c.in_ok-newest.ensures.found in
@@ -64,12 +64,14 @@ returns-then-add-clause-sum g c =
     in
     record {
       bytes = tt;
-      emptied = c.clear-then-add.ensures;
-      buffer = inl (record { some = 0; is = c.clear-then-add.ensures });
-      refusal = too_high c.args.self.record_length rs c.args.sent.now c.read.new.bytes.items c.add.new.number.items
-          c.add.result
-          (omega (arith, many, some)) read long c.add.ensures.size c.add.ensures.digits c.add.ensures.sum
-          c.if-add.true;
+      emptied = c.clear-then-add_number.ensures;
+      buffer = inl (record { some = 0; is = c.clear-then-add_number.ensures });
+      refusal = too_high c.args.self.record_length rs c.args.sent.now c.read.new.bytes.items
+          c.add_number.new.number.items
+          c.add_number.result
+          (omega (arith, many, some)) read long c.add_number.ensures.size c.add_number.ensures.digits
+          c.add_number.ensures.sum
+          c.if-add_number.true;
     }
 
 pub returns-clause-sum : goal.returns-clause-sum
@@ -84,17 +86,19 @@ returns-clause-sum g c =
     let long = ap (λ (l : List ℕ). length l) read
     ∙ length-record m c.args.self 1 c.requires.body.ready.usable.committed_size c.requires.body.body (omega arith) some
     in
-    let sum = is_sum c.args.self.record_length rs c.args.sent.now c.read.new.bytes.items c.add.new.number.items
-    c.add.result (omega (arith, many, some)) read long c.add.ensures.size c.add.ensures.digits c.add.ensures.sum
-    c.if-add.false in
+    let sum = is_sum c.args.self.record_length rs c.args.sent.now c.read.new.bytes.items c.add_number.new.number.items
+    c.add_number.result (omega (arith, many, some)) read long c.add_number.ensures.size c.add_number.ensures.digits
+    c.add_number.ensures.sum
+    c.if-add_number.false in
     record {
       bytes = sum;
       emptied = tt;
       buffer = inr sum;
       refusal = not_too_high c.args.self.record_length rs c.args.sent.now c.read.new.bytes.items
-          c.add.new.number.items
-          c.add.result (omega (arith, many, some)) read long c.add.ensures.size c.add.ensures.digits c.add.ensures.sum
-          c.if-add.false;
+          c.add_number.new.number.items
+          c.add_number.result (omega (arith, many, some)) read long c.add_number.ensures.size
+          c.add_number.ensures.digits c.add_number.ensures.sum
+          c.if-add_number.false;
     }
 
 pub read-requires : goal.read-requires

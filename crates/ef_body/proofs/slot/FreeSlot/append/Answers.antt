@@ -11,8 +11,9 @@ returns-clause-commits g c =
     commits_weaker _ _ _ c.put_record.result _ _
     (ring_added (committed c.args.store.now) (committed c.put_record.new.store) ring c.args.bytes.now
     c.requires.body.ready.usable.committed_size c.requires.body.body c.requires.body.size c.args.self.room
-    c.slot_of.result c.offset_of-offset.result c.counts-told.result c.slot_of.ensures.slot c.offset_of-offset.ensures
-    c.counts-told.ensures) c.put_record.ensures.commits
+    c.slot_of.result c.offset_of-offset.result c.counts-new_counts.result c.slot_of.ensures.slot
+    c.offset_of-offset.ensures
+    c.counts-new_counts.ensures) c.put_record.ensures.commits
 
 pub returns-clause-counted : goal.returns-clause-counted
 returns-clause-counted g c =

@@ -43,7 +43,7 @@ returns-then-self-3 g c = record {
   done = search rules;
   torn =
       whole_torn c.args.self.now.log.words c.args.words.now c.write-ended.new.self.words
-          (address c.args.page c.args.first)
+      (address c.args.page c.args.first)
       c.write-ended.ensures.whole;
   light = search rules;
   worn = search rules;
@@ -61,7 +61,7 @@ returns-in-Ok g c = record {
   done = search rules;
   torn =
       whole_torn c.args.self.now.log.words c.args.words.now c.write-ended.new.self.words
-          (address c.args.page c.args.first)
+      (address c.args.page c.args.first)
       c.write-ended.ensures.whole;
   light = search rules;
   worn = search rules;
@@ -79,7 +79,7 @@ returns-in-Err-PowerLost g c = record {
   done = search rules;
   torn =
       whole_torn c.args.self.now.log.words c.args.words.now c.write-ended.new.self.words
-          (address c.args.page c.args.first)
+      (address c.args.page c.args.first)
       c.write-ended.ensures.whole;
   light = search rules;
   worn = search rules;
@@ -97,7 +97,7 @@ returns-else-self-3 g c = record {
   done = search rules;
   torn =
       whole_torn c.args.self.now.log.words c.args.words.now c.write-ended.new.self.words
-          (address c.args.page c.args.first)
+      (address c.args.page c.args.first)
       c.write-ended.ensures.whole;
   light = search rules;
   worn = search rules;
