@@ -1,5 +1,6 @@
--- Why words are no valid card image.
-use Rattle.std.specs.Prelude.{ℕ, List}
+-- The bytes of an image, and why words are no valid one.
+use Rattle.std.specs.Prelude.{ℕ, List, flat_map}
+use Rattle.std.specs.Int.{w32, to_be_bytes}
 use Rattle.nvm_board.specs.Facts.{IsMemory}
 use Rattle.undo_journal.specs.Undo.{IsBadJournal, IsSound}
 use Rattle.card_start.specs.declared.faults.StartFault.{StartFault}
@@ -22,3 +23,7 @@ abbrev pub IsRefusedRightly : NoCard → List ℕ → Type 0
 IsRefusedRightly Memory words = Unit {0}
 IsRefusedRightly Size words = ¬ IsMemory words
 IsRefusedRightly (Start fault) words = IsMemory words × ¬ HasCard words × IsFaultOf fault words
+
+-- the bytes of words in an image: the most significant of each first
+abbrev pub image_bytes : List ℕ → List ℕ
+image_bytes words = flat_map (to_be_bytes w32) words

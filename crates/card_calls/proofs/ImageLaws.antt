@@ -3,7 +3,7 @@ use Rattle.std.specs.Prelude.{◌≡◌, ◌<◌, ◌+◌, ◌++◌, ℕ, List, 
 use Rattle.std.specs.Int.{w32, to_be_bytes}
 use Rattle.std.proofs.Common.{◌∙◌, ap, sym}
 use Rattle.std.proofs.lemmas.List.{flat_map_more, take_more}
-use Rattle.card_calls.specs.Devices.{image_bytes}
+use Rattle.card_boards.specs.Images.{image_bytes}
 
 -- the bytes of one word more
 pub image_more : (words : List ℕ) (i : ℕ) → i < length words

@@ -1,7 +1,6 @@
 -- A board whose device writes go to a device: the writes, their bytes in the image, and those that the device lacks.
 use Rattle.std.specs.Prelude.{◌≡◌, ◌≢◌, ◌+◌, ◌-◌, ◌%◌, ◌^◌, ◌<◌, ◌≤◌, ℕ, List, Bool, true, false, [], Option, None}
-use Rattle.std.specs.Prelude.{Some, flat_map, length, map, slice_get, take}
-use Rattle.std.specs.Int.{w32, to_be_bytes}
+use Rattle.std.specs.Prelude.{Some, length, map, slice_get, take}
 use Rattle.nvm_board.specs.Facts.{Facts, pages_of}
 use Rattle.nvm_board.specs.declared.board.TheConstants.{LEAST_PAGES}
 use Rattle.nvm_board.specs.History.{Log, Run}
@@ -16,10 +15,6 @@ use Rattle.card_calls.specs.declared.write_log.WriteLog.{WriteLog}
 -- the words of a write, from its address on
 abbrev pub run_of : Write → Run
 run_of w = record { at = w.at; words = take w.size w.words }
-
--- the bytes of words in an image: the most significant of each first
-abbrev pub image_bytes : List ℕ → List ℕ
-image_bytes words = flat_map (to_be_bytes w32) words
 
 -- what contracts know of a log
 abbrev pub shown_log : WriteLog → Option Log

@@ -2,7 +2,8 @@
 use Rattle.std.specs.Prelude.{◌≡◌, ◌⊎◌, ◌*◌, ◌+◌, ◌%◌, ◌^◌, ℕ, ℤ, List, Option, None, Some, Result, Ok, Err, IfSome}
 use Rattle.std.specs.Prelude.{true, false}
 use Rattle.bench_lines.specs.Orders.{Order}
-use Rattle.card_calls.specs.Devices.{TellsNext, image_bytes, run_of}
+use Rattle.card_boards.specs.Images.{image_bytes}
+use Rattle.card_calls.specs.Devices.{TellsNext, run_of}
 use Rattle.card_calls.specs.FirstWrites.{TellsFirst}
 use Rattle.card_calls.specs.SessionStates.{SessionState, session_facts}
 use Rattle.card_calls.specs.Telling.{CopiesNothing, CopiesOut, outcome_number}

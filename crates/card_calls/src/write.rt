@@ -21,7 +21,8 @@ pub struct Write {
 }
 
 impl Write {
-    ghost use Rattle.card_calls.specs.Devices.{image_bytes, run_of};
+    ghost use Rattle.card_boards.specs.Images.{image_bytes};
+    ghost use Rattle.card_calls.specs.Devices.{run_of};
     ghost use Rattle.card_calls.specs.declared.write.TheConstants.{WORD_BYTES};
 
     /// Returns a write of these words, from this address on.

@@ -6,7 +6,7 @@ use Rattle.std.specs.Int.{w32, to_be_bytes}
 use Rattle.std.proofs.lemmas.Grind.{same_number_lists}
 use Rattle.std.proofs.lemmas.List.{flat_map_more, take_more}
 use Rattle.std.proofs.Math.Seq.{take-add}
-use Rattle.card_files.specs.ImageParts.{bytes_in_file}
+use Rattle.card_boards.specs.Images.{image_bytes}
 
 -- the four bytes of a word
 pub bytes_of_word : (bytes : List ℕ) (at w : ℕ) → at + 4 ≤ length bytes
@@ -20,9 +20,9 @@ bytes_of_word bytes at w room same =
     ∙ sym (get_or-take 4 (drop at bytes) k 0 lt ∙ get_or-drop at bytes k 0))
 
 -- the words of four bytes more
-pub image_more : (bytes words : List ℕ) (i w : ℕ) → 4 * i + 4 ≤ length bytes → bytes_in_file words ≡ take (4 * i) bytes
+pub image_more : (bytes words : List ℕ) (i w : ℕ) → 4 * i + 4 ≤ length bytes → image_bytes words ≡ take (4 * i) bytes
     → ((place : ℕ) → place < 4 → slice_index (to_be_bytes w32 w) place ≡ slice_index bytes (4 * i + place))
-    → bytes_in_file (words ++ w ∷ []) ≡ take (4 * (i + 1)) bytes
+    → image_bytes (words ++ w ∷ []) ≡ take (4 * (i + 1)) bytes
 image_more bytes words i w room before same =
     let size : 4 * i + 4 ≡ 4 * (i + 1) = omega arith in
     sym (flat_map_more (to_be_bytes w32) [] words w)
@@ -31,6 +31,6 @@ image_more bytes words i w room before same =
 
 -- the bytes of one word more
 pub bytes_more : (words : List ℕ) (i : ℕ) → i < length words
-    → bytes_in_file (take i words) ++ to_be_bytes w32 (get_or words i 0) ≡ bytes_in_file (take (i + 1) words)
+    → image_bytes (take i words) ++ to_be_bytes w32 (get_or words i 0) ≡ image_bytes (take (i + 1) words)
 bytes_more words i within = flat_map_more (to_be_bytes w32) [] (take i words) (get_or words i 0)
-    ∙ ap bytes_in_file (sym (take_more words i 0 within))
+    ∙ ap image_bytes (sym (take_more words i 0 within))

@@ -7,12 +7,13 @@ use Rattle.nvm_board.specs.Facts.{AreWords, IsMemory, pages_of}
 use Rattle.card_boards.specs.declared.image.NoCard.{NoCard}
 use Rattle.card_boards.specs.Images.{IsRefusedRightly}
 use Rattle.command_base.specs.Finding.{HasCard}
-use Rattle.card_files.specs.ImageParts.{bytes_in_file, AreAllWordsIn, AreWordsIn, IsImageSize}
+use Rattle.card_boards.specs.Images.{image_bytes}
+use Rattle.card_files.specs.ImageParts.{AreAllWordsIn, AreWordsIn, IsImageSize}
 use Rattle.card_files.specs.FileRefusals.{HoldsNoCard, IsShorter}
 use Rattle.card_files.specs.declared.image_words.TheConstants.{PAGE_BYTES, WORD_BYTES}
 
 -- four bytes for each word
-pub length-image : (words : List ℕ) → length (bytes_in_file words) ≡ 4 * length words
+pub length-image : (words : List ℕ) → length (image_bytes words) ≡ 4 * length words
 length-image [] = refl
 length-image (word ∷ words) = let rest = length-image words in omega (arith, rest)
 
@@ -31,7 +32,7 @@ memory_of_image words size bytes image =
     )
 
 -- a memory has an image of so many bytes
-pub image_of_memory : (words : List ℕ) → IsMemory words → length (bytes_in_file words) ≤ 262144
+pub image_of_memory : (words : List ℕ) → IsMemory words → length (image_bytes words) ≤ 262144
 image_of_memory words memory =
     let bytes = length-image words in let whole = memory.whole in let most = memory.most in
     omega (arith, bytes, whole, most)
@@ -43,7 +44,7 @@ is_shorter None size words are image none = tt
 is_shorter (Some bytes) size words are image none = ⊎_elim (λ (fewer : length bytes < size). fewer)
     (λ enough.
     let taken = length-take size bytes in
-    let same : length (bytes_in_file words) ≡ length (take size bytes) = ap length are in
+    let same : length (image_bytes words) ≡ length (take size bytes) = ap length are in
     let image_length = length-image words in
     let all : 4 * length words ≡ size = omega (arith, enough, taken, same, image_length) in
     absurd (none (memory_of_image words size all image)))
@@ -83,7 +84,7 @@ pub all_words : (known : Option (List ℕ)) (limit : ℕ) (words : List ℕ) →
 all_words None limit words large are memory = tt
 all_words (Some bytes) limit words large are memory =
     let most = image_of_memory words memory in
-    let same : length (bytes_in_file words) ≡ length (take limit bytes) = ap length are in
+    let same : length (image_bytes words) ≡ length (take limit bytes) = ap length are in
     are ∙ all_bytes bytes limit (omega (arith, most, same, large))
 
 -- words that are no memory are those of no image
@@ -92,7 +93,7 @@ pub no_memory_is_no_image : (known : Option (List ℕ)) (limit : ℕ) (words : L
 no_memory_is_no_image None limit words large are none = tt
 no_memory_is_no_image (Some bytes) limit words large are none = λ image.
     let taken = length-take limit bytes in
-    let same : length (bytes_in_file words) ≡ length (take limit bytes) = ap length are in
+    let same : length (image_bytes words) ≡ length (take limit bytes) = ap length are in
     let most = image.most in let whole = image.whole in
     let image_length = length-image words in
     let all : 4 * length words ≡ length bytes = omega (arith, taken, same, most, whole, image_length, large) in
@@ -101,7 +102,7 @@ no_memory_is_no_image (Some bytes) limit words large are none = λ image.
 -- the words of all bytes, which are no card's
 pub all_hold_no_card : (known : Option (List ℕ)) (limit : ℕ) (words : List ℕ) → 262144 < limit → AreWords words
     → AreWordsIn known limit words → IsMemory words → ¬ HasCard words
-    → IfSome known (λ bytes. (some : List ℕ) × AreWords some × (bytes_in_file some ≡ bytes) × ¬ HasCard some)
+    → IfSome known (λ bytes. (some : List ℕ) × AreWords some × (image_bytes some ≡ bytes) × ¬ HasCard some)
 all_hold_no_card None limit words large fit are memory none = tt
 all_hold_no_card (Some bytes) limit words large fit are memory none =
     (words, fit, all_words (Some bytes) limit words large are memory, none)

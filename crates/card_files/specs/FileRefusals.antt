@@ -3,7 +3,8 @@ use Rattle.std.specs.Prelude.{◌≡◌, ◌<◌, ◌/◌, ℕ, List, Option, So
 use Rattle.nvm_board.specs.Facts.{AreWords, pages_of}
 use Rattle.command_base.specs.Finding.{HasCard}
 use Rattle.card_files.specs.CommandLines.{pages_number}
-use Rattle.card_files.specs.ImageParts.{bytes_in_file, IsImageSize}
+use Rattle.card_boards.specs.Images.{image_bytes}
+use Rattle.card_files.specs.ImageParts.{IsImageSize}
 use Rattle.card_files.specs.declared.image_words.TheConstants.{PAGE_BYTES}
 use Rattle.card_files.specs.declared.opening.CardFault.{CardFault}
 use Rattle.card_files.specs.declared.opening.CardFault.TheVariants as fault
@@ -28,7 +29,7 @@ IsShorter known size = IfSome known (λ bytes. length bytes < size)
 -- The first bytes of a reader are those of words, which are no card's, if the bytes are known.
 abbrev pub HoldsNoCard : Option (List ℕ) → ℕ → Type 0
 HoldsNoCard known size = IfSome known (λ bytes. (words : List ℕ) × AreWords words
-    × (bytes_in_file words ≡ take size bytes) × ¬ HasCard words)
+    × (image_bytes words ≡ take size bytes) × ¬ HasCard words)
 
 -- Why a reader with a file of `size` bytes gives no card. No memory has as many bytes, or the reader has fewer. The
 -- options give another number of pages. The bytes hold no card. The reader failed, or there was too little memory.

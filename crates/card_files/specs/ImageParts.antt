@@ -1,20 +1,16 @@
 -- The bytes of a memory in an image.
-use Rattle.std.specs.Prelude.{◌≡◌, ◌≤◌, ◌/◌, ◌%◌, ℕ, List, flat_map, take, Option, IfSome}
-use Rattle.std.specs.Int.{w32, to_be_bytes}
+use Rattle.std.specs.Prelude.{◌≡◌, ◌≤◌, ◌/◌, ◌%◌, ℕ, List, take, Option, IfSome}
+use Rattle.card_boards.specs.Images.{image_bytes}
 use Rattle.nvm_board.specs.declared.board.TheConstants.{LEAST_PAGES, MOST_PAGES}
 use Rattle.card_files.specs.declared.image_words.TheConstants.{PAGE_BYTES}
 
--- the bytes of words in a file: the most significant of each first
-abbrev pub bytes_in_file : List ℕ → List ℕ
-bytes_in_file words = flat_map (to_be_bytes w32) words
-
 -- the words in the first bytes of a reader, at most `size` of them, if its bytes are known
 abbrev pub AreWordsIn : Option (List ℕ) → ℕ → List ℕ → Type 0
-AreWordsIn known size words = IfSome known (λ bytes. bytes_in_file words ≡ take size bytes)
+AreWordsIn known size words = IfSome known (λ bytes. image_bytes words ≡ take size bytes)
 
 -- the words in all bytes of a reader, if they are known
 abbrev pub AreAllWordsIn : Option (List ℕ) → List ℕ → Type 0
-AreAllWordsIn known words = IfSome known (λ bytes. bytes_in_file words ≡ bytes)
+AreAllWordsIn known words = IfSome known (λ bytes. image_bytes words ≡ bytes)
 
 -- A memory's image has so many bytes: 64 for each page, and 1,024 to 4,096 pages.
 pub record IsImageSize (size : ℕ) : Type 0 where

@@ -2,7 +2,8 @@
 use Rattle.std.specs.Prelude.{◌≡◌, ℕ, List, Option, IfSome, length}
 use Rattle.nvm_board.specs.Facts.{AreWords}
 use Rattle.command_base.specs.Finding.{HasCard}
-use Rattle.card_files.specs.ImageParts.{bytes_in_file, IsImageSize}
+use Rattle.card_boards.specs.Images.{image_bytes}
+use Rattle.card_files.specs.ImageParts.{IsImageSize}
 use Rattle.card_files.specs.declared.swept_file.BoardFault.{BoardFault}
 use Rattle.card_files.specs.declared.swept_file.BoardFault.TheVariants as board
 
@@ -11,7 +12,7 @@ use Rattle.card_files.specs.declared.swept_file.BoardFault.TheVariants as board
 abbrev pub IsSweptFault : Option (List ℕ) → BoardFault → Type 0
 IsSweptFault known board.Size = IfSome known (λ bytes. ¬ IsImageSize (length bytes))
 IsSweptFault known board.NoCard = IfSome known (λ bytes. (words : List ℕ) × AreWords words
-    × (bytes_in_file words ≡ bytes) × ¬ HasCard words)
+    × (image_bytes words ≡ bytes) × ¬ HasCard words)
 IsSweptFault known (board.Read error) = Unit {0}
 IsSweptFault known board.Memory = Unit {0}
 IsSweptFault known (board.Open error) = ⊥

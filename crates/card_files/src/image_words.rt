@@ -3,7 +3,8 @@ ghost use Rattle.std.specs.Prelude.{◌≡◌, ◌≢◌, ◌+◌, ◌%◌, ◌^
 ghost use Rattle.std.specs.Prelude.{IfOk, IfSome, Err};
 ghost use Rattle.std.specs.Int.{w32, to_be_bytes};
 ghost use Rattle.nvm_board.specs.Facts.{AreWords};
-ghost use Rattle.card_files.specs.ImageParts.{AreWordsIn, bytes_in_file};
+ghost use Rattle.card_boards.specs.Images.{image_bytes};
+ghost use Rattle.card_files.specs.ImageParts.{AreWordsIn};
 
 use nvm_board::PAGE_WORDS;
 use std::alloc::{AllocError, Global};
@@ -52,7 +53,7 @@ pub fn words_in<R: Read>(alloc: Global, reader: &mut R, size: u64) -> Result<Vec
 fn words_from_bytes(alloc: Global, bytes: &[u8]) -> Result<Vec<u32>, AllocError>
     requires { length bytes.now % WORD_BYTES ≡ 0 }
     ensures fit { IfOk result (λ words. AreWords words.items) }
-    ensures image { IfOk result (λ words. bytes_in_file words.items ≡ bytes.now) }
+    ensures image { IfOk result (λ words. image_bytes words.items ≡ bytes.now) }
 {
     let mut words = Vec::new(alloc);
     for i in 0..bytes.len() / WORD_BYTES {

@@ -1,6 +1,6 @@
 //! A file with the words of a board.
 ghost use Rattle.std.specs.Prelude.{◌≡◌, ◌≤◌, ◌↔◌, ◌+◌, ◌*◌, false, length, IsTrue};
-ghost use Rattle.card_files.specs.ImageParts.{bytes_in_file};
+ghost use Rattle.card_boards.specs.Images.{image_bytes};
 ghost use Rattle.card_files.specs.declared.image_words.TheConstants.{WORD_BYTES};
 ghost use Rattle.nvm_board.specs.declared.board.TheConstants.{MOST_PAGES, PAGE_WORDS};
 
@@ -136,7 +136,7 @@ fn file_offset(at: usize) -> u64
 /// Returns the bytes of words in the image, the most significant of each word first.
 fn big_endian_bytes(words: &[u32]) -> ArrayVec<u8, PAGE_BYTES>
     requires { length words.now ≤ PAGE_WORDS }
-    ensures bytes { result.items ≡ bytes_in_file words.now }
+    ensures bytes { result.items ≡ image_bytes words.now }
     ensures size { length result.items ≡ WORD_BYTES * length words.now }
 {
     let mut bytes = ArrayVec::new();

@@ -3,7 +3,7 @@ use Rattle.std.proofs.Common.{◌≡◌, ◌≤◌, ◌<◌, ◌^◌, ◌+◌, �
 use Rattle.std.proofs.Common.{ap, arith, subst, sym, ◌∙◌}
 use Rattle.std.proofs.lemmas.List.Elements.{All-push}
 use Rattle.nvm_board.specs.Facts.{AreWords}
-use Rattle.card_files.specs.ImageParts.{bytes_in_file}
+use Rattle.card_boards.specs.Images.{image_bytes}
 use Rattle.card_files.proofs.Images.{image_more}
 use Rattle.card_files.proofs.image_words.words_from_bytes.Goals as goal
 
@@ -19,6 +19,6 @@ loop-i-preserved c =
     record {
       fit = subst (λ (words : List ℕ). AreWords words) (sym pushed)
           (All-push (λ (w : ℕ). w < 2 ^ 32) before word c.loop-i.invariant.fit c.word_at.ensures.fit);
-      image = ap bytes_in_file pushed
+      image = ap image_bytes pushed
           ∙ image_more bytes before c.loop-i.i word room c.loop-i.invariant.image c.word_at.ensures.bytes;
     }

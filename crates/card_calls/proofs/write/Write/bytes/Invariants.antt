@@ -1,5 +1,5 @@
 use Rattle.std.proofs.Common.{◌≡◌, ◌*◌, length, take}
-use Rattle.card_calls.specs.Devices.{image_bytes}
+use Rattle.card_boards.specs.Images.{image_bytes}
 use Rattle.card_calls.specs.declared.write.TheConstants.{WORD_BYTES}
 use Rattle.card_calls.proofs.write.Write.bytes.Given as goal
 
