@@ -1,6 +1,7 @@
 pub mod TallyLemmas
 pub mod CompleteSweeps
 pub mod FirstRuns
+pub mod WritesSwept
 pub mod SweepLemmas
 pub mod StageLemmas
 pub mod SparedLemmas

@@ -18,11 +18,11 @@ use Rattle.bench_turns.specs.declared.turn_result.TurnResult.{TurnResult}
 use Rattle.bench_turns.specs.declared.turn_result.TurnResult.TheVariants as turned
 use Rattle.bench_turns.specs.Plays.{IsGood, TellsItem}
 use Rattle.bench_turns.specs.Turns.{GoodTurn, Runs}
-use Rattle.card_sweeps.specs.SweptRuns.{SparesCommand}
+use Rattle.card_sweeps.specs.SweptRuns.{EndsUncut}
 use Rattle.card_sweeps.specs.Tallies.{Finding}
 use Rattle.bench_turns.proofs.TurnsTold.{good-block, tells-then}
 use Rattle.card_sweeps.specs.Sweeps.{CutsStart, CutsStarts, LeavesUncut, SparesStart, EndsIn, EndsBehindStarts}
-use Rattle.card_sweeps.specs.Sweeps.{CutsCommand, PlaysOn, off_with, free_of}
+use Rattle.card_sweeps.specs.Sweeps.{CutsCommand, GivenByRun, PlaysOn, off_with, free_of}
 
 -- no start is to be cut
 pub behind_none : (depth : ℕ) (board : Facts) (probe : List Turn) (given : Finding) → depth ≡ 0
@@ -58,6 +58,14 @@ behind_more depth number mask board between probe given more cut rest = record {
   done = ⊎_map (λ (all : rest.starts ≡ depth - 1). omega (arith, all)) (λ whole. whole) rest.done;
   end = rest.end;
 }
+
+-- a run of the command that is cut, and what comes after it
+pub given-by-run : (depth number mask : ℕ) (board left : Facts) (prepare : List Turn)
+    (command : List ℕ) (probe : List Turn) (given : Finding) → CutsCommand number mask board prepare command left
+    → EndsBehindStarts depth left probe given
+    → GivenByRun board prepare command probe depth given
+given-by-run depth number mask board left prepare command probe given cut rest =
+    record { number = number; mask = mask; left = left; cut = cut; rest = rest }
 
 -- a look at a board
 pub ends-in : (board : Facts) (probe : List Turn) (first started last : BenchState) (told : TurnResult) (reply : List ℕ)
@@ -152,24 +160,27 @@ module _ (board left : Facts) (first armed last : BenchState) (told : TurnResult
       → (IsGood first → IsGood prepared × Runs first prepare trace prepared) → (IsGood prepared → IsGood armed)
       → IsArmed number mask prepared armed
       → (IsGood armed → IsGood last × TellsItem told reply (λ i. GoodTurn armed (turn.Block command) i last))
-      → SparesCommand number mask board prepare command.now
+      → EndsUncut number mask board prepare command.now left.words
   spares-command prepare trace prepared command prepares arms arm plays =
       let before = prepares first-good in
       spares-so told reply (λ i. GoodTurn armed (turn.Block command) i last) (is_some (bench_facts last).pending ≡ true)
-      (SparesCommand number mask board prepare command.now) dark lit spared-so
-      (λ i spares sent. record {
-        trace = trace;
-        item = i;
-        prepared = prepared;
-        armed = armed;
-        last = last;
-        before = subst (λ (b : BenchState). Runs b prepare trace prepared) is before.1;
-        arm = arm;
-        good = arms before.0;
-        good_left = (plays (arms before.0)).0;
-        sent = good-block armed last command i sent;
-        spared = spares;
-      }) (plays (arms before.0)).1
+      (EndsUncut number mask board prepare command.now left.words) dark lit spared-so
+      (λ i spares sent. (
+        record {
+          trace = trace;
+          item = i;
+          prepared = prepared;
+          armed = armed;
+          last = last;
+          before = subst (λ (b : BenchState). Runs b prepare trace prepared) is before.1;
+          arm = arm;
+          good = arms before.0;
+          good_left = (plays (arms before.0)).0;
+          sent = good-block armed last command i sent;
+          spared = spares;
+        },
+        ap (λ (f : Facts). f.words) left_is,
+      )) (plays (arms before.0)).1
 
 -- the board that is left where power was lost, with no cut to come
 module _ (board left : Facts) (first armed last : BenchState) (told : TurnResult) (reply : List ℕ) (number mask : ℕ)

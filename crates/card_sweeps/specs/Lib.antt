@@ -6,6 +6,7 @@ pub mod Tallies
 pub mod PlanParts
 pub mod WrittenRuns
 pub mod CommandCuts
+pub mod CommandSweeps
 pub mod Turning
 pub mod Framing
 pub mod Asking

@@ -30,6 +30,11 @@ pub record SparesCommand (number mask : ℕ) (board : Facts) (prepare : List Tur
 abbrev pub IsUnmade : ℕ → Facts → List Turn → List ℕ → Type 0
 IsUnmade number board prepare command = (mask : ℕ) → SparesCommand number mask board prepare command
 
+-- The command makes fewer writes, and leaves this memory.
+abbrev pub EndsUncut : ℕ → ℕ → Facts → List Turn → List ℕ → List ℕ → Type 0
+EndsUncut number mask board prepare command memory =
+    (s : SparesCommand number mask board prepare command) × (memory ≡ (bench_facts s.last).words)
+
 -- One run: power-on and the probe on this board.
 pub record IsOneLook (probe : List Turn) (board : Facts) (all : List Finding) : Type 0 where
   pub given : Finding

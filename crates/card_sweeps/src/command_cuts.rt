@@ -4,14 +4,14 @@ ghost use Rattle.command_base.specs.Finding.{HasCard};
 ghost use Rattle.card_sweeps.specs.CommandCuts.{IsMade, made_run};
 ghost use Rattle.card_sweeps.specs.Masks.{mask_count_of, mask_of};
 ghost use Rattle.card_sweeps.specs.Sweeps.{CutsCommand};
-ghost use Rattle.card_sweeps.specs.SweptRuns.{IsUnmade};
+ghost use Rattle.card_sweeps.specs.SweptRuns.{EndsUncut, IsUnmade};
 ghost use Rattle.card_sweeps.specs.WrittenRuns.{IsMasked};
 
 use crate::cut_masks::{mask_at, words_to_try};
 use crate::stop::SweepStop;
 use crate::sweepable::Sweepable;
 use crate::sweeping::{cut_board, played};
-use crate::written_runs::{first_change, is_masked, is_write};
+use crate::written_runs::{first_change, is_masked, is_same, is_write};
 use bench_turns::{Turn, TurnPlayer, TurnResult};
 use std::alloc::{AllocError, Global};
 use t1_link::BlockBytes;
@@ -40,10 +40,10 @@ pub struct MadeWrite<B: Sweepable + Drop> {
 }
 
 /// Returns this device write of the command, which begins with the memory `before`.
-/// Returns `None` if the command makes fewer writes.
+/// Returns `None` if the command makes fewer writes, and leaves this memory.
 ///
 /// # Errors
-/// There is too little memory, or cuts of the write leave other memories than one write does.
+/// There is too little memory, or the runs leave other memories than such a write or command does.
 pub fn made_write<P: TurnPlayer + Drop>(
     runs: &CommandRuns<'_, P::Board>,
     write: u32,
@@ -59,9 +59,17 @@ where
         write (made_run P.Board.facts before.now it))) }
     ensures unmade { IfOk result (λ made. IfNone made (HasCard (P.Board.facts runs.now.board.now).words
         → IsUnmade write (P.Board.facts runs.now.board.now) runs.now.prepare.now runs.now.command.now)) }
+    ensures uncut { IfOk result (λ made. IfNone made (HasCard (P.Board.facts runs.now.board.now).words
+        → EndsUncut write 0 (P.Board.facts runs.now.board.now) runs.now.prepare.now runs.now.command.now before.now)) }
 {
-    let Ok(none) = command_cut::<P>(runs, write, 0)? else {
-        return Ok(None);
+    let none = match command_cut::<P>(runs, write, 0)? {
+        Ok(none) => none,
+        Err(whole) => {
+            if is_same(whole.words(), before) {
+                return Ok(None);
+            }
+            return Err(SweepStop::Differs);
+        }
     };
     let words = words_to_try(none.torn_words());
     let after = made_cut::<P>(runs, write, mask_at(words, 1))?;
@@ -167,6 +175,9 @@ where
         (P.Board.facts left))) }
     ensures unmade { IfOk result (λ cut. IfErr cut (λ _. HasCard (P.Board.facts runs.now.board.now).words
         → IsUnmade k (P.Board.facts runs.now.board.now) runs.now.prepare.now runs.now.command.now)) }
+    ensures uncut { IfOk result (λ cut. IfErr cut (λ whole. HasCard (P.Board.facts runs.now.board.now).words
+        → EndsUncut k mask (P.Board.facts runs.now.board.now) runs.now.prepare.now runs.now.command.now
+        (P.Board.facts whole).words)) }
 {
     let mut bench = P::new(runs.board.copy(runs.alloc)?);
     let _ = played(runs.alloc, &mut bench, runs.prepare)?;

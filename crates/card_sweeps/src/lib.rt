@@ -14,6 +14,7 @@ mod stop;
 mod sweepable;
 mod sweeping;
 mod tally;
+mod whole_sweep;
 mod written_runs;
 
 pub use command_cuts::{CommandRuns, MadeWrite, made_write, masked_cut};
@@ -27,4 +28,5 @@ pub use stop::SweepStop;
 pub use sweepable::Sweepable;
 pub use sweeping::{play_copy, sweep_behind};
 pub use tally::{Seen, Sweep, Trace};
+pub use whole_sweep::sweep;
 pub use written_runs::{first_change, is_same};

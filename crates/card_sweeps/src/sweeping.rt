@@ -23,7 +23,7 @@ use t1_link::BlockBytes;
 
 /// Why the counting of runs stops early.
 #[derive(Clone, Copy)]
-enum Halt {
+pub(crate) enum Halt {
     /// No further run can be counted.
     Full,
     /// The sweep stops.
@@ -119,7 +119,7 @@ pub(crate) fn cut_board<B: Sweepable + Drop>(is_dark: bool, board: B) -> Result<
 
 /// Cuts up to `depth` power-ons, then runs the probe.
 /// It cuts no more after a power-on without writes.
-fn cut_starts<P: TurnPlayer + Drop>(
+pub(crate) fn cut_starts<P: TurnPlayer + Drop>(
     alloc: Global,
     board: &P::Board,
     probe: &[Turn<'_>],

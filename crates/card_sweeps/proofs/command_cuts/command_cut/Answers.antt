@@ -21,7 +21,24 @@ returns-clause-unmade g c =
     (c.new-bench.ensures ∙ ap off_with c.in_ok-copy.ensures) (ap g.P.Board.Board.facts left.0 ∙ c.into_board.ensures)
     lit left.1 card _ _ _
     c.args.runs.now.command c.in_ok-played.ensures c.arm_well.ensures.good c.arm_well.ensures.armed
-    c.turn_well-turned.ensures))
+    c.turn_well-turned.ensures).0)
+    c.cut_board.ensures.whole
+
+pub returns-clause-uncut : goal.returns-clause-uncut
+returns-clause-uncut g c =
+    let lit : c.match-matches.matches ≡ false → c.turn_well-turned.result ≡ turned.Dark → ⊥ =
+    elim c.match-matches.branch [
+      | in-Dark w ↦ λ is e. true≢false (sym w.matches-is ∙ is)
+      | in_default w ↦ λ is e. w.in_default.not-Dark e
+    ] in
+    IfErr-weaker c.cut_board.result _ _
+    (λ whole left card. spares-command _ _ _ _ _ _ _ _ _ _
+    (g.met.P.Board.Faultless.faultless c.args.runs.now.board.now).faults
+    (g.met.P.Board.Faultless.faultless c.args.runs.now.board.now).due
+    (c.new-bench.ensures ∙ ap off_with c.in_ok-copy.ensures) (ap g.P.Board.Board.facts left.0 ∙ c.into_board.ensures)
+    lit left.1 card _ _ _
+    c.args.runs.now.command c.in_ok-played.ensures c.arm_well.ensures.good c.arm_well.ensures.armed
+    c.turn_well-turned.ensures)
     c.cut_board.ensures.whole
 
 pub returns-clause-cut : goal.returns-clause-cut
