@@ -52,8 +52,8 @@
  * All other input is tested: no length, number, command or block is wrong to pass.
  *
  * A card with a device. soffitfennel_attach makes a card whose device writes go to soffitfennel_store: the charge for a
- * PIN's try before the PIN is compared, all others before the call returns. If the device refuses the charge, nothing is
- * compared. A command on PINs or a block asks for memory, for a copy of the card. The image on the device is the
+ * PIN's try before the PIN is compared, all others before the call returns. If the device refuses the charge, nothing
+ * is compared. A command on PINs or a block asks for memory, for a copy of the card. The image on the device is the
  * memory's words in order, the most significant byte of each first. After a loss of power the caller makes the card
  * again from the image, and power-on rolls back an unfinished command. Whoever reads the image has all PINs, since it
  * holds them in plain bytes; an old PIN can stay in its journal.
@@ -163,8 +163,8 @@ int32_t soffitfennel_attach(soffitfennel_card **card, const uint32_t *words, siz
  * can then hold no card at all. With O_DSYNC each write is on the disk before the next one.
  *
  * A program with another device defines this function itself. It owes the card this:
- * - It returns size only once no later loss of power takes the bytes back. A device that defers writes, as a cache does,
- *   lets an attacker try PINs at no cost.
+ * - It returns size only once no later loss of power takes the bytes back. A device that defers writes, as a cache
+ *   does, lets an attacker try PINs at no cost.
  * - A word is old or new after a loss of power, never a mixture.
  * - It calls no function of the library for this card.
  * - It refuses a write if the device does not take it. On a chip in an attacker's hands it rather resets the processor.
@@ -172,7 +172,8 @@ int32_t soffitfennel_attach(soffitfennel_card **card, const uint32_t *words, siz
 int64_t soffitfennel_store(int32_t device, const void *bytes, size_t size, int64_t offset);
 
 /* The next functions run the card. If its device refuses a write, each returns UNSTORED: the card gives no answer, and
- * the device gets no further write. From then on they return UNSTORED, and do nothing. A wrong SIZE comes before that. */
+ * the device gets no further write. From then on they return UNSTORED, and do nothing. A wrong SIZE comes before
+ * that. */
 
 /* Switches power on, after power off if it is on. DONE: the card booted. MUTE or DARK. */
 int32_t soffitfennel_power_on(soffitfennel_card **card) SOFFITFENNEL_NOEXCEPT;

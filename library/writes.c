@@ -131,7 +131,8 @@ int32_t soffitfennel_power_on(soffitfennel_card **card)
 int32_t soffitfennel_command(soffitfennel_card **card, const uint8_t *command, size_t count, uint8_t *answer,
                              size_t room, size_t *size)
 {
-    return perform(soffitfennelcore_command, soffitfennelcore_first_of_command, card, command, count, answer, room, size);
+    return perform(soffitfennelcore_command, soffitfennelcore_first_of_command, card, command, count, answer, room,
+                   size);
 }
 
 int32_t soffitfennel_block(soffitfennel_card **card, const uint8_t *block, size_t count, uint8_t *reply, size_t room,

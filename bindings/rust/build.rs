@@ -1,5 +1,5 @@
-//! Links the library in the folder that SOFFITFENNEL_LIB names, in the folder lib of a release's crate, or in that which
-//! tools/library fills.
+//! Links the library in the folder that SOFFITFENNEL_LIB names, in the folder lib of a release's crate, or in that
+//! which tools/library fills.
 use std::path::{Path, PathBuf};
 
 fn main() {

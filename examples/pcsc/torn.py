@@ -1,5 +1,6 @@
-# An update is torn, and the reader sees the card go. When it is back the bytes are the old ones, and the update succeeds. The
-# file asks for PIN 1: to verify it makes two device writes, so that the third one of the update is the fifth.
+# An update is torn, and the reader sees the card go. When it is back the bytes are the old ones, and the update
+# succeeds. The file asks for PIN 1: to verify it makes two device writes, so that the third one of the update is the
+# fifth.
 # Run over: tools/pcsc --cut 5 0001
 import time
 from typing import Any

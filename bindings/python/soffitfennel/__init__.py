@@ -8,8 +8,8 @@ b';\\x80\\x811\\xfeE\\x8b'
 b'\\x90\\x00'
 '981032547698103254769000'
 
-The variable SOFFITFENNEL_SO names the shared library; else it is libsoffitfennel.so.1 beside this file, or the system's.
-Threads may share a card: it runs one call at a time.
+The variable SOFFITFENNEL_SO names the shared library; else it is libsoffitfennel.so.1 beside this file, or the
+system's. Threads may share a card: it runs one call at a time.
 """
 
 from __future__ import annotations

@@ -228,8 +228,8 @@ impl Card {
         Ok(Card::of(pointer))
     }
 
-    /// Makes the card whose memory has these words, with power off. The device of this number has the words already, and
-    /// `soffitfennel_store` gets each device write before the call returns.
+    /// Makes the card whose memory has these words, with power off. The device of this number has the words already,
+    /// and `soffitfennel_store` gets each device write before the call returns.
     ///
     /// # Safety
     /// With the library's own `soffitfennel_store` the number is a descriptor that stays open, and belongs to a file

@@ -19,7 +19,8 @@ STYLE = """
 body { max-width: 60rem; margin: 1rem auto; padding: 0 1rem; }
 ul { list-style: none; border-left: 1px solid #808080; padding-left: 1rem; }
 pre { overflow-x: auto; } dt { font-weight: bold; } dd { margin: 0 0 .5rem 1rem; }
-svg { max-width: 100%; height: auto; } code { overflow-wrap: anywhere; } td, th { text-align: left; padding: 0 1rem 0 0; }
+svg { max-width: 100%; height: auto; } code { overflow-wrap: anywhere; } \
+td, th { text-align: left; padding: 0 1rem 0 0; }
 """
 
 

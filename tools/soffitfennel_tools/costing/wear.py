@@ -25,7 +25,9 @@ JOURNAL = range(73, 128)
 # BWI, times 960, times 372 clock cycles; the 11 etu before it are left out).
 WAIT = 2**4 * 960 * 372 / 5_000
 WRITES_OF_A_WORD = 100_000
-HEAD = "| command | writes | of the gate | words | pages changed | commands | ms a write |\n|---|---|---|---|---|---|---|"
+HEAD = """\
+| command | writes | of the gate | words | pages changed | commands | ms a write |
+|---|---|---|---|---|---|---|"""
 ROW = re.compile(r"\| ([^|]+) \| ([\d,]+) \| ([\d,]+) \| ([\d,]+) \| ([\d,]+) \| ([\d,]+) \| ([\d.,]+) \|")
 
 

@@ -110,7 +110,8 @@ class Case:
         name = self.words["command"].get(other)
         return {
             "fault": it.fault, "cla": it.given[0], "p1": it.p1, "p2": it.p2, "pin": it.p2, "mode": it.p2 & 7,
-            "reference": self.words["pin"].get(f"{it.p2:02X}"), "p1_digits": f"{it.p1:02X}", "p2_digits": f"{it.p2:02X}", "digits": it.data.hex().upper(),
+            "reference": self.words["pin"].get(f"{it.p2:02X}"), "p1_digits": f"{it.p1:02X}",
+            "p2_digits": f"{it.p2:02X}", "digits": it.data.hex().upper(),
             "lc": it.lc, "follow": follow(it.rest, "byte"),
             "sent": len(it.data), "sent_bytes": count(len(it.data), "byte"), "has_data": bool(it.data),
             "has_le": it.expected is not None, "le": it.expected, "short": it.short_identifier(),

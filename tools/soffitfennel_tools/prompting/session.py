@@ -134,7 +134,8 @@ class Completer:
 def help_text() -> str:
     """The lines that the prompt takes."""
     lines = ", ".join(f"{it} {of.replace('H', 'HEX')}".rstrip() for it, of in OPERANDS.items())
-    return HELP.format(lines=lines, names="\n".join(f"  {f'{name} {it.usage}':<24}{it.about}" for name, it in NAMES.items()))
+    names = (f"  {f'{name} {it.usage}':<24}{it.about}" for name, it in NAMES.items())
+    return HELP.format(lines=lines, names="\n".join(names))
 
 
 def greet() -> None:

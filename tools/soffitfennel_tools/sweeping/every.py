@@ -80,7 +80,9 @@ def cases(script: str, bench: str, card: str | None) -> Iterator[tuple[int, str,
                 shown |= {it.p2: it.data[-8:].hex()} if it.key in SHOWING and it.data else {}
 
 
-def row(sweeper: str, path: str, depth: int | None, card: str | None, case: tuple[int, str, str]) -> tuple[list[str], Case]:
+def row(
+    sweeper: str, path: str, depth: int | None, card: str | None, case: tuple[int, str, str]
+) -> tuple[list[str], Case]:
     """The row of a command, and whether its outcomes are allowed, as the case of a test."""
     (line, answer, script), began = case, time.monotonic()
     it = Sweep([sweep_part(sweeper, script, depth, card, "1/1")])

@@ -2,10 +2,9 @@
  *
  * The secrets in a card's memory are marked as undefined, so memcheck counts an error where a branch depends on one.
  * The device asks for that count at each write. As long as the image has all tries, it is 0. A device that loses power
- * at the charge, or refuses it, sees no error at all; one that refuses a write gets no other, and the command no answer,
- * nor has the buffer a byte of one. The number of
- * errors of a wrong value is the same whatever byte differs first, so no branch is on a byte. The last line has the
- * number of commands.
+ * at the charge, or refuses it, sees no error at all; one that refuses a write gets no other, and the command no
+ * answer, nor has the buffer a byte of one. The number of errors of a wrong value is the same whatever byte differs
+ * first, so no branch is on a byte. The last line has the number of commands.
  */
 #include "soffitfennel.h"
 

@@ -1,7 +1,7 @@
 /* The library's heap and its device, and what it does without memory: memory. Each piece of memory that is freed is all
  * zeros then. Where the allocator fails at its call 1, 2, .., a maker returns MEMORY, changes nothing, and leaves no
- * memory behind. Of the calls of a card only those ask for memory that can compare a PIN, on a card with a device: without
- * memory the card is as it was, and its device has nothing. */
+ * memory behind. Of the calls of a card only those ask for memory that can compare a PIN, on a card with a device:
+ * without memory the card is as it was, and its device has nothing. */
 #include "soffitfennel.h"
 
 #include <errno.h>
@@ -93,7 +93,8 @@ static void test_store(void)
         size_t at = sizeof disk - size;
         must(soffitfennel_store(9, bytes, size, (int64_t)at) == (int64_t)size, "a write is refused");
         must(memcmp(disk + at, bytes, size) == 0 && (at == 0 || disk[at - 1] == 0), "a write is stored in part");
-        must(soffitfennel_store(9, bytes, size, (int64_t)at + 4) != (int64_t)size, "a part of a write is taken for all");
+        must(soffitfennel_store(9, bytes, size, (int64_t)at + 4) != (int64_t)size,
+             "a part of a write is taken for all");
     }
 }
 
@@ -114,7 +115,8 @@ static void test_realloc(void)
     fails_at = asked + 1;
     uint8_t first = it.memory[0];
     must(!rattle_realloc(it.memory, 1, 1000, 1).is_done && it.memory[0] == first, "memory that can't grow is lost");
-    must(!rattle_alloc(SIZE_MAX, 1).is_done && !rattle_realloc(it.memory, 1, SIZE_MAX - 8, 1).is_done, "too much memory");
+    must(!rattle_alloc(SIZE_MAX, 1).is_done && !rattle_realloc(it.memory, 1, SIZE_MAX - 8, 1).is_done,
+         "too much memory");
     fails_at = 0;
     struct tried none = rattle_alloc(0, 16);
     must(none.is_done && none.memory != it.memory, "no memory of 0 bytes");
@@ -237,7 +239,8 @@ static void test_null(void)
     uint32_t why = 9;
     size_t size = 9;
 
-    must(soffitfennel_command(&card, NULL, 0, NULL, 0, &size) == SOFFITFENNEL_SIZE && size == 0, "a command of nothing");
+    must(soffitfennel_command(&card, NULL, 0, NULL, 0, &size) == SOFFITFENNEL_SIZE && size == 0,
+         "a command of nothing");
     must(soffitfennel_block(&card, NULL, 0, NULL, 0, &size) == SOFFITFENNEL_SIZE && size == 0, "a block of nothing");
     must(soffitfennel_words(&card, NULL, 0, &size) == SOFFITFENNEL_SIZE, "words to nowhere");
     must(size == SOFFITFENNEL_MOST_WORDS, "a wrong number of words");

@@ -138,7 +138,8 @@ int64_t soffitfennel_store(int32_t device, const void *bytes, size_t size, int64
     struct held *it = &cards[device - FIRST_DEVICE];
     must(it->is_kept && !it->is_refused, "a write to a device that gets none");
     must(size >= 4 && size % 4 == 0 && offset % 4 == 0, "a wrong size of a write");
-    must(offset >= 0 && offset % 64 + size <= SOFFITFENNEL_WRITE && offset + size <= sizeof it->image, "a wrong offset");
+    must(offset >= 0 && offset % 64 + size <= SOFFITFENNEL_WRITE && offset + size <= sizeof it->image,
+         "a wrong offset");
     it->is_refused = random_below(512) == 0;
     for (size_t i = 0; i < size; i += 4)
         if (!it->is_refused || random_below(2) == 0)

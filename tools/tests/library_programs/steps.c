@@ -1,7 +1,7 @@
 /* Runs VERIFY with a right value and with wrong ones, instruction by instruction: steps. Up to the first store all run
  * the same instructions, and all wrong values the same to the end, whatever byte differs first. So the time before the
- * charge is stored tells nothing of the PIN, and the time behind it only whether it was right. If the device refuses the
- * charge, all values run the same instructions to the end. x86-64 alone. The status is 77 where the system lets no
+ * charge is stored tells nothing of the PIN, and the time behind it only whether it was right. If the device refuses
+ * the charge, all values run the same instructions to the end. x86-64 alone. The status is 77 where the system lets no
  * program be traced. */
 #include "soffitfennel.h"
 

@@ -137,7 +137,8 @@ def executed(tests: Tests, image: Path, value: str) -> list[int]:
     script, log = tests.room / "traced.script", tests.room / "traced.log"
     script.write_text(f"on\napdu 0020000108{value}\n", encoding="ascii")
     words = ["qemu-system-aarch64", "-M", "virt", "-cpu", "cortex-a53", "-display", "none", "-monitor", "none"]
-    words += ["-nic", "none", "-m", "16M", "-serial", "pty", "-d", "exec,nochain", "-D", str(log), "-kernel", str(image)]
+    words += ["-nic", "none", "-m", "16M", "-serial", "pty", "-d", "exec,nochain", "-D", str(log)]
+    words += ["-kernel", str(image)]
     words += ["-singlestep"] if "-singlestep" in tests.call(words[0], "-help").stdout else ONE_EACH
     with subprocess.Popen(words, stdout=subprocess.PIPE, text=True) as board:
         assert board.stdout
@@ -167,7 +168,8 @@ def compare_steps(tests: Tests, image: Path) -> None:
     tests.holds(all(it == before[0] for it in before), "instructions before the store", str([len(it) for it in before]))
     tests.holds(not any(compare in it for it in before), "no comparison is before the store")
     tests.holds(all(compare in it for it in behind), "the comparison is behind the store")
-    tests.holds(all(it == behind[1] for it in behind[1:]), "instructions of wrong values", str([len(it) for it in behind]))
+    is_same = all(it == behind[1] for it in behind[1:])
+    tests.holds(is_same, "instructions of wrong values", str([len(it) for it in behind]))
 
 
 def use(tests: Tests, image: Path, script: Path) -> str:

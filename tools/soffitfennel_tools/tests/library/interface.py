@@ -37,8 +37,8 @@ def test_header(tests: Tests) -> None:
         if not shutil.which(compiler):
             tests.skip(f"the header by {compiler}", f"{compiler} isn't installed")
             continue
-        words: list[object] = [f"-std={language}", "-x", "c++" if "++" in compiler else "c", "-Wall", "-Wextra", "-Wpedantic"]
-        words += ["-Wno-long-long", "-Werror", f"-I{TOP / 'include'}", "-fsyntax-only", source]
+        words: list[object] = [f"-std={language}", "-x", "c++" if "++" in compiler else "c", "-Wall", "-Wextra"]
+        words += ["-Wpedantic", "-Wno-long-long", "-Werror", f"-I{TOP / 'include'}", "-fsyntax-only", source]
         for line, is_right in USES.items():
             source.write_text(USE.format(line), encoding="ascii")
             came = tests.call(compiler, *words)
@@ -90,7 +90,8 @@ def test_names(tests: Tests) -> None:
 
 def test_shared(tests: Tests) -> None:
     """A program over the shared library runs, and gives its card's writes to a function of its own."""
-    words: list[object] = ["cc", "-O2", "-D_GNU_SOURCE", f"-I{TOP / 'include'}", f"-L{tests.library}", f"-Wl,-rpath,{tests.library}"]
+    words: list[object] = ["cc", "-O2", "-D_GNU_SOURCE", f"-I{TOP / 'include'}"]
+    words += [f"-L{tests.library}", f"-Wl,-rpath,{tests.library}"]
     card, kept = tests.room / "shared", tests.room / "shared_kept"
     tests.run("the example over the shared library", *words, EXAMPLES / "card.c", "-lsoffitfennel", "-o", card)
     tests.run("the example over the shared library runs", card, wanted=f"9000\n{ICCID}")
@@ -132,7 +133,8 @@ def test_mistakes(tests: Tests) -> None:
     words = [sys.executable, build, none, "--target", AARCH64]
     tests.refuses("no cross compiler", "apt-get install gcc-aarch64-linux-gnu", *words, env={**given, "PATH": none})
     tests.holds(not none.exists(), "a folder of a library that is not built")
-    for folder, goal in (("reader", "libifdsoffitfennel.so"), ("examples/firmware", "card.elf"), ("library", "install")):
+    goals = {"reader": "libifdsoffitfennel.so", "examples/firmware": "card.elf", "library": "install"}
+    for folder, goal in goals.items():
         words = ["make", "-s", "-C", TOP / folder, f"LIBRARY={none}", f"DESTDIR={tests.room}", goal]
         tests.refuses(f"make -C {folder} without the library", "run tools/library", *words)
 

@@ -143,7 +143,8 @@ def test_steps(tests: Tests) -> None:
 
 def test_memory(tests: Tests) -> None:
     """The heap wipes what it frees, the device stores all bytes, and a call without memory changes nothing."""
-    program = tests.compile(PROGRAMS / "memory.c", "-O2", "-D_GNU_SOURCE", "-Wl,--wrap=malloc,--wrap=free,--wrap=pwrite")
+    words = ["-O2", "-D_GNU_SOURCE", "-Wl,--wrap=malloc,--wrap=free,--wrap=pwrite"]
+    program = tests.compile(PROGRAMS / "memory.c", *words)
     tests.run("the heap, the device, and want of memory", program)
 
 

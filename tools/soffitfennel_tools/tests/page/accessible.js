@@ -59,7 +59,8 @@
     const it = document.activeElement;
     const isOutlined = (of) => of && getComputedStyle(of).outlineStyle !== "none" &&
       parseFloat(getComputedStyle(of).outlineWidth) >= 1;
-    const isStroked = (of) => getComputedStyle(of).stroke !== "none" && parseFloat(getComputedStyle(of).strokeWidth) >= 1;
+    const isStroked = (of) => getComputedStyle(of).stroke !== "none" &&
+      parseFloat(getComputedStyle(of).strokeWidth) >= 1;
     if (it instanceof SVGElement) return [...it.querySelectorAll("rect")].every(isStroked);
     return Boolean(isOutlined(it) || isOutlined(it.nextElementSibling));
   },

@@ -350,7 +350,8 @@ class Firefox:
 
     def dark(self, is_dark: bool) -> None:
         """Sets the visitor's colours."""
-        self.inside(f"Services.prefs.setIntPref('layout.css.prefers-color-scheme.content-override', {int(not is_dark)})")
+        setting = "layout.css.prefers-color-scheme.content-override"
+        self.inside(f"Services.prefs.setIntPref('{setting}', {int(not is_dark)})")
 
     def quit(self) -> None:
         try:

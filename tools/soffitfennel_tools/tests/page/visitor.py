@@ -168,7 +168,8 @@ class Visitor:
         """The button tries every cut of a command with many writes, and draws what tools/sweep finds."""
         before, command = script.split("# command\n")
         self.script(before + command.split("# probe")[0])
-        self.until(f"document.querySelector('#tally').textContent === '{len(wanted['writes'])} memory writes.'", "waits")
+        tally = f"{len(wanted['writes'])} memory writes."
+        self.until(f"document.querySelector('#tally').textContent === '{tally}'", "waits")
         self.same(self.browser.run(DRAWN)["cells"], [], "no cell is drawn before the button")
         self.browser.run("soffitfennel.state.found = null")
         self.browser.click("#all")
@@ -177,7 +178,8 @@ class Visitor:
         places = [[at, len({0, (1 << words) - 1, *(1 << it for it in range(words))})] for at, (words, _) in
                   enumerate(wanted["writes"], 1)]
         self.same(drawn["cells"], places, "a cell for each write and mask")
-        self.same(drawn["runs"], {card: many for many, card in wanted["outcomes"]}, "the runs of all cells, by the card found")
+        runs = {card: many for many, card in wanted["outcomes"]}
+        self.same(drawn["runs"], runs, "the runs of all cells, by the card found")
         self.same(drawn["colours"], {it: [CARDS[it]] for it in drawn["runs"]}, "the colours of the cells")
         legend = [f"{card}: {many:,} run{'s' * (many != 1)}" for many, card in wanted["outcomes"]]
         commits = ", ".join(map(str, wanted["commits"]))

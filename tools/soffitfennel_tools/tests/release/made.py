@@ -17,7 +17,8 @@ from .common import ICCID, TOP, clean, one, releases, room_of, run
 # what is in every release, with V in place of the version
 NAMES = {"PROOF-V.txt", "SHA256SUMS", "libsoffitfennel-dev_V_amd64.deb", "libsoffitfennel1_V_amd64.deb",
          "soffitfennel-V-linux-x86_64.tar.gz", "soffitfennel-V.crate", "soffitfennel-V.html",
-         "soffitfennel-V.spdx.json", "soffitfennel-V.whl", "libifd-soffitfennel_V_amd64.deb", "soffitfennel_V_amd64.deb"}
+         "soffitfennel-V.spdx.json", "soffitfennel-V.whl", "libifd-soffitfennel_V_amd64.deb",
+         "soffitfennel_V_amd64.deb"}
 VERSION = r"\d+\.\d+\.\d+(?:[-~.]dev0?)?(?:[+~]unproved)?(?:-1)?"
 
 
