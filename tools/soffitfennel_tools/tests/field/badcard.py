@@ -7,6 +7,7 @@ from typing import Any
 
 from ...misbehaving.faults import FAULTS, Moment
 
+from .engines import column, of_page
 from .room import TOP, Room
 
 CARELESS = TOP / "tools" / "tests" / "field_programs" / "careless.py"
@@ -76,6 +77,7 @@ class Sweeps(Room):
             self.assertIn(it["outcome"], allowed, it)
         repaired = {"lrc", "garbled", "nad", "longer", "resynch", "field-0", "nak", "ready", "one"}
         self.assertEqual({it["outcome"] for it in runs if it["fault"] in repaired}, {"right"})
+        self.assertEqual(column(runs), of_page("ours")[1])
 
     def careless(self, mode: str, faults: str) -> dict[str, str]:
         """What becomes of an INCREASE by a careless end."""
