@@ -6,8 +6,8 @@ ghost use Rattle.simulated_boards.specs.Cut.{cut_facts};
 
 use card_bench::{Item, Turn};
 use card_sweeps::{
-    CommandRuns, MadeWrite, Seen, SweepStop, made_write, mask_count, masked_cut, play_copy,
-    sweep_behind,
+    CommandRuns, MadeWrite, Seen, Sweep, SweepStop, made_write, mask_count, masked_cut, play_copy,
+    sweep, sweep_behind,
 };
 use card_tests::fixtures::{formatted, formatted_old};
 use card_turns::Bench;
@@ -279,6 +279,41 @@ fn count_writes(
     Ok(false)
 }
 
+/// Returns true if a sweep has this number of runs, and exactly these findings, in this order.
+fn has_given(alloc: Global, sweep: &Sweep, runs: u32, given: &[Given]) -> Result<bool, Fail> {
+    for i in 0..sweep.seen.len() {
+        let seen = &sweep.seen[i];
+        match given.get(i) {
+            Some(given) if seen.count == given.3 && is_given(alloc, seen, given)? => {}
+            _ => return Ok(false),
+        }
+    }
+    Ok(sweep.seen.len() == given.len() && sweep.runs == runs)
+}
+
+/// Returns true if both `sweep` and the calls that it makes for each cut have this number of runs, and these findings.
+fn both_give(
+    of: &CommandRuns<'_, CutBoard>,
+    probe: &[Turn<'_>],
+    depth: u8,
+    runs: u32,
+    given: &[Given],
+) -> Result<bool, Fail> {
+    let whole = match sweep::<Bench<CutBoard>>(
+        of.alloc, of.board, of.prepare, of.command, probe, depth,
+    ) {
+        Ok(whole) => whole,
+        Err(stop) => return Err(failure(stop)),
+    };
+    let mut tally = Tally {
+        alloc: of.alloc,
+        given,
+        counts: Vec::new(of.alloc),
+    };
+    let is_counted = count_writes(of, probe, depth, &mut tally)? && tally.is_whole(runs);
+    Ok(is_counted && has_given(of.alloc, &whole, runs, given)?)
+}
+
 /// Returns true if a sweep of a command on the factory card has this number of runs, and these findings in this order.
 fn gives(alloc: Global, case: &Case, depth: u8, runs: u32, given: &[Given]) -> Result<bool, Fail> {
     let board = uncut_board(alloc)?;
@@ -294,12 +329,7 @@ fn gives(alloc: Global, case: &Case, depth: u8, runs: u32, given: &[Given]) -> R
         prepare: &prepare,
         command: &command,
     };
-    let mut tally = Tally {
-        alloc,
-        given,
-        counts: Vec::new(alloc),
-    };
-    Ok(count_writes(&of, &probe, depth, &mut tally)? && tally.is_whole(runs))
+    both_give(&of, &probe, depth, runs, given)
 }
 
 /// Checks the number of runs of a sweep, and its findings.
