@@ -182,23 +182,27 @@ struct Tally<'a> {
 }
 
 impl Tally<'_> {
-    /// Counts runs with one finding. Returns false if it is another finding than the next new one or an earlier one.
-    fn count(&mut self, seen: &Seen) -> Result<bool, Fail> {
+    /// Returns the place of a finding.
+    fn place_of(&self, seen: &Seen) -> Result<Option<usize>, Fail> {
         for place in 0..self.given.len() {
             if is_given(self.alloc, seen, &self.given[place])? {
-                return match self.counts.get_mut(place) {
-                    Some(count) => {
-                        *count = count.saturating_add(seen.count);
-                        Ok(true)
-                    }
-                    None => {
-                        self.counts.push(seen.count)?;
-                        Ok(self.counts.len() == place + 1)
-                    }
-                };
+                return Ok(Some(place));
             }
         }
-        Ok(false)
+        Ok(None)
+    }
+
+    /// Counts runs with one finding. Returns false if it is another finding than the next new one or an earlier one.
+    fn count(&mut self, seen: &Seen) -> Result<bool, Fail> {
+        let Some(place) = self.place_of(seen)? else {
+            return Ok(false);
+        };
+        if let Some(count) = self.counts.get_mut(place) {
+            *count = count.saturating_add(seen.count);
+            return Ok(true);
+        }
+        self.counts.push(seen.count)?;
+        Ok(self.counts.len() > place)
     }
 
     /// Counts the runs after a cut.
