@@ -231,18 +231,32 @@ where
         let Ok(next) = board.unfollowed_copy() else {
             return Err(RunFault::Unkept);
         };
-        let second = self.twin(second);
-        if self.take_charge(second, next, order, given) {
+        if self.charge_on(second, next, order, given) {
             Ok(())
         } else {
             Err(RunFault::Unkept)
         }
     }
 
+    /// Takes the charge of an order, over the boards of the second desk and of the next one. Returns true if the follower
+    /// took the write. This is a function of its own, so that a line without a charge, the usual case, has no place for a
+    /// second desk.
+    #[inline(never)]
+    fn charge_on(&mut self, second: P::Board, next: P::Board, order: Order, given: &[u8]) -> bool
+        requires sized { IsOrderSized (order_with order given.now) }
+        requires good { IsGood self.old.desk.bench }
+        requires second { P.Board.facts second ≡ record (bench_facts self.old.desk.bench) { log = None } }
+        requires next { P.Board.facts next ≡ record (bench_facts self.old.desk.bench) { log = None } }
+        ensures charged { TakesCharge (order_with order given.now) self.old.desk self.new.desk }
+        ensures kept { (board : P.Board) × (P.Board.facts board ≡ bench_facts self.new.desk.bench)
+            × (P.Board.has_kept board ≡ result) }
+    {
+        let second = self.twin(second);
+        self.take_charge(second, next, order, given)
+    }
+
     /// Runs an order up to its first write, which the follower gets. Then a second desk in the state before it takes
     /// this one's place, and `next`, which has its memory, the follower. Returns true if the follower took the write.
-    /// This is a function of its own, so that a line without a charge, the usual case, doesn't pay for it.
-    #[inline(never)]
     fn take_charge(&mut self, second: Desk<P>, next: P::Board, order: Order, given: &[u8]) -> bool
         requires sized { IsOrderSized (order_with order given.now) }
         requires good { IsGood self.old.desk.bench }
