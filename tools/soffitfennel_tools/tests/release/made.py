@@ -65,7 +65,7 @@ class Files(unittest.TestCase):
     def test_theorems(self) -> None:
         text = papers.theorems()
         self.assertIn("\n- Headline. A card is found at entry", text)
-        self.assertIn("\n  carried by Bench::play (runs, well)\n", text)
+        self.assertIn("\n  carried by Bench::play (runs)\n", text)
         rows = re.findall(r"^\| (?!theorem|---).*`", (TOP / "docs/PROMISES.md").read_text(encoding="utf-8"), re.M)
         self.assertGreater(text.count("\n  carried by "), len(rows) // 2)
         self.assertNotRegex(text, r"\]\(|`|\*\*")
