@@ -23,7 +23,7 @@ use Rattle.bench_turns.specs.CardBlocks.{BlockCompares, IsBlockStage, Powered}
 use Rattle.bench_turns.proofs.GuessesPaid.{ArePaid, attempt-paid, nothing-paid}
 
 -- a card that is found has eight PINs, in either format
-eight-pins : (m : List ℕ) → length (found m).pins ≡ PINS
+pub eight-pins : (m : List ℕ) → length (found m).pins ≡ PINS
 unfolding card_of card_pins pins_of unmarked_pins_of
 eight-pins m =
     let l = words_found m in
@@ -65,8 +65,8 @@ pub block-compares : (old new : Powered) (reaction : Reaction) → IsBlockStage 
     (comparisons new.card.facts)
 block-compares old new (replies block) stage compares = inl (compares, ap (λ (c : Card). c.pins) stage)
 block-compares old new (runs command) stage compares =
-    compares-or-stays (card_found old.card) (card_found new.card) (comparisons old.card.facts)
-    (comparisons new.card.facts) old.card.session command stage compares
+    compares-or-stays (card_found old.card) (card_found new.card) old.card.facts new.card.facts old.card.session command
+    stage compares
 
 -- a block, whatever comes of it
 module _ (old new : Powered) (reaction : Reaction) (stage : IsBlockStage old reaction (card_found new.card))

@@ -6,7 +6,7 @@ use Rattle.nvm_board.specs.laws.Aims.{aim_same}
 use Rattle.undo_journal.specs.Spending.{KeepsBoard}
 use Rattle.t1_link.specs.Blocks.{Block}
 use Rattle.t1_link.specs.CardTable.{Link, Reaction, answers, reply_bytes, waiting_command, link_step, replies, runs}
-use Rattle.command_base.specs.Comparing.{ComparesAsked, comparisons}
+use Rattle.command_base.specs.Comparing.{ComparesAsked}
 use Rattle.card_start.specs.declared.state.CardState.TheVariants.{Working}
 use Rattle.card_start.specs.Running.{CommandFails, CommandIsCut, Steps, card_found, memory_failure}
 use Rattle.card_model.specs.CommandTable.{asked}
@@ -89,8 +89,7 @@ module _ (p new : Powered) (got bytes answer out : List ℕ) where
         bytes waits (block ∙ ap (λ (l : List ℕ). reply_bytes (answers (link_step p.link got).link l).reaction) is)
 
     steps-replies : Steps p.card bytes new.card answer
-        → ComparesAsked (asked bytes) (card_found p.card) (comparisons p.card.facts) (card_found new.card)
-        (comparisons new.card.facts)
+        → ComparesAsked (asked bytes) (card_found p.card) p.card.facts (card_found new.card) new.card.facts
         → (ChangesNothing (card_found p.card) p.card.session bytes → KeepsBoard p.card.facts new.card.facts)
         → Replies p got new out
     steps-replies steps compares idle = record {
@@ -123,8 +122,7 @@ module _ (p new : Powered) (got bytes answer out : List ℕ) where
     }
 
     pub run-replies : Steps p.card bytes new.card answer ⊎ CommandFails p.card new.card answer
-        → ComparesAsked (asked bytes) (card_found p.card) (comparisons p.card.facts) (card_found new.card)
-        (comparisons new.card.facts)
+        → ComparesAsked (asked bytes) (card_found p.card) p.card.facts (card_found new.card) new.card.facts
         → (ChangesNothing (card_found p.card) p.card.session bytes → KeepsBoard p.card.facts new.card.facts)
         → Replies p got new out ⊎ BlockFails p got new out
     run-replies (inl steps) compares idle = inl (steps-replies steps compares idle)

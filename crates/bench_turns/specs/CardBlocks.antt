@@ -72,8 +72,7 @@ BlockChangesNothing old (runs command) = ChangesNothing (card_found old.card) ol
 abbrev pub BlockCompares : Powered → Reaction → Facts → Type 0
 BlockCompares old (replies block) new = ComparesNothing (comparisons old.card.facts) (comparisons new)
 BlockCompares old (runs command) new =
-    ComparesAsked (asked command) (card_found old.card) (comparisons old.card.facts) (found new.words)
-    (comparisons new)
+    ComparesAsked (asked command) (card_found old.card) old.card.facts (found new.words) new
 
 -- a reply to a block counts the PIN comparison of the command that it runs; nothing is stated without a command
 abbrev pub BlockCounts : Powered → Reaction → Powered → Type 0

@@ -16,7 +16,8 @@ use Rattle.card_model.specs.CommandTable.{select_rows, sent_body}
 use Rattle.card_model.specs.Requests.{Request}
 use Rattle.card_model.specs.Steps.{attempt_of}
 use Rattle.card_model.specs.laws.TableLaws.{EachRow, choose, each_group}
-use Rattle.command_base.specs.Comparing.{Comparisons, ComparesAsked, ComparesShown}
+use Rattle.nvm_board.specs.Facts.{Facts}
+use Rattle.command_base.specs.Comparing.{ComparesAsked, ComparesShown, comparisons}
 use Rattle.bench_lines.specs.Orders.{Apdu}
 use Rattle.card_bench.specs.Charges.{MayCompare, is_pin_instruction}
 
@@ -26,8 +27,8 @@ ShowsNone (Ok request) = attempt_of request ≡ None
 ShowsNone (Err status) = Unit {0}
 
 -- then nothing is compared
-pub compares-nothing : (wanted : Result Request Sw) (c d : Card) (old new : Comparisons) → ShowsNone wanted
-    → ComparesAsked wanted c old d new → new ≡ old
+pub compares-nothing : (wanted : Result Request Sw) (c d : Card) (old new : Facts) → ShowsNone wanted
+    → ComparesAsked wanted c old d new → comparisons new ≡ comparisons old
 compares-nothing (Ok request) c d old new none compares =
     subst (λ (a : Option Attempt). ComparesShown a c old d new) none compares
 compares-nothing (Err status) c d old new none compares = compares

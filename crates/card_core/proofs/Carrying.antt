@@ -27,7 +27,7 @@ use Rattle.file_tree.specs.declared.layout.TheConstants.{STATE_WORD}
 use Rattle.card_model.specs.Cards.{Card}
 use Rattle.card_model.specs.Steps.{attempt_of, IsDoing, carried_out, outcome_of, served, step, alone_served}
 use Rattle.card_model.specs.Steps.{commits_served, gated_served, last_of}
-use Rattle.command_base.specs.Comparing.{comparisons, Comparisons, ComparesAsked, ComparesBy}
+use Rattle.command_base.specs.Comparing.{ComparesAsked, ComparesBy}
 use Rattle.command_base.specs.Counting.{CountsAnswered, CountsServed, CountsShown}
 use Rattle.card_model.specs.Behaviours.{Attempt, is_right, refused, outcome}
 use Rattle.command_base.specs.Served.{ExecutesBytes, Executes}
@@ -39,6 +39,7 @@ use Rattle.command_base.specs.Finding.{found}
 use Rattle.command_base.specs.Working.{card_in, session_in, session_of, IsKept}
 use Rattle.card_model.specs.laws.StageLaws.{doing_lasts, stage_doing, stage_first}
 use Rattle.command_base.specs.laws.Readings.{kept_still}
+use Rattle.command_base.specs.laws.CompareLaws.{compares-after}
 use Rattle.command_base.specs.laws.Executes.{reads-compared, reads-nothing}
 use Rattle.command_base.specs.laws.Words.{stands-first}
 
@@ -83,10 +84,9 @@ module _ (request : Request) (old mid new : Memory) (x y : Current) (text : List
         turned = λ shut more. subst (λ (l : List ℕ). found new.facts.words
             ≡ last_of (card_of l) (commits_served (card_of l) (session_of (table l) x) request)) same
             (serves.turned shut (omega (arith, reads.board.writes, more)));
-        compares = subst (λ (k : Comparisons). ComparesBy request (card_in old) k (card_in new) (comparisons new.facts))
-            (reads-compared old mid reads)
-            (subst (λ (l : List ℕ). ComparesBy request (card_of l) (comparisons mid.facts) (card_in new)
-            (comparisons new.facts)) same serves.compares);
+        compares = compares-after request (card_in old) old.facts mid.facts (card_in new) new.facts reads.board
+            (subst (λ (l : List ℕ). ComparesBy request (card_of l) mid.facts (card_in new) new.facts) same
+            serves.compares);
         places = on_ok_weaker result (λ keeps stays. subst
             (λ (l : List ℕ). KeepsPlaces (table l) (table (committed new))) same (keeps stays)) serves.places;
         counted = subst (λ (l : List ℕ). OnOk result (CountsServed (card_of l) (session_of (table l) x) request
@@ -138,8 +138,8 @@ module _ (bytes : List ℕ) (old new : Memory) (x y : Current) (text : List ℕ)
         (λ shut more. subst (λ (b : Bool). found new.facts.words
         ≡ last_of c (if b then commits_served c s request else [])) (sym in_use)
         (serves.turned shut more));
-    compares = subst (λ (wanted : Result Request Sw). ComparesAsked wanted c (comparisons old.facts) (card_in new)
-        (comparisons new.facts)) (sym is) serves.compares;
+    compares = subst (λ (wanted : Result Request Sw). ComparesAsked wanted c old.facts (card_in new) new.facts) (sym is)
+        serves.compares;
     counted = subst (λ (wanted : Result Request Sw). OnOk result (CountsAnswered wanted c s old.facts new.facts))
         (sym is) (on_then _ _ result (λ counts _. counts) serves.counted);
   }
@@ -165,7 +165,7 @@ module _ (bytes : List ℕ) (old new : Memory) (x y : Current) (text : List ℕ)
 
   -- after reads alone, whatever was asked for, nothing was compared
   asked-nothing : (wanted : Result Request Sw) → OnlyReads old new
-      → ComparesAsked wanted c (comparisons old.facts) (card_in new) (comparisons new.facts)
+      → ComparesAsked wanted c old.facts (card_in new) new.facts
   asked-nothing (Ok request) reads = reads-nothing request old x new reads
   asked-nothing (Err status) reads = reads-compared old new reads
 

@@ -6,7 +6,7 @@ use Rattle.std.proofs.Common.{arith}
 use Rattle.card_model.specs.CommandTable.{asked}
 use Rattle.file_tree.specs.Indexes.{IsIndex}
 use Rattle.file_tree.specs.declared.index.Index.{Index}
-use Rattle.command_base.specs.Comparing.{comparisons, ComparesAsked}
+use Rattle.command_base.specs.Comparing.{ComparesAsked}
 use Rattle.command_base.specs.Counting.{CountsAnswered}
 use Rattle.card_model.specs.Steps.{IsStage, carried_out}
 use Rattle.command_base.specs.laws.CompareLaws.{asked-none}
@@ -146,7 +146,5 @@ module _ (r : Running) (command : List ℕ) where
   pub still-stage : IsStage (card_found r) r.session command (card_found r)
   still-stage = (0, (omega arith), refl)
 
-  pub still-compares : ComparesAsked (asked command) (card_found r) (comparisons r.facts)
-      (card_found r) (comparisons r.facts)
-  still-compares =
-      asked-none (asked command) (card_found r) (comparisons r.facts) (card_found r) (comparisons r.facts) refl refl
+  pub still-compares : ComparesAsked (asked command) (card_found r) r.facts (card_found r) r.facts
+  still-compares = asked-none (asked command) (card_found r) r.facts (card_found r) r.facts refl refl

@@ -9,7 +9,7 @@ ghost use Rattle.ef_contents.specs.UpdateWrites.{update_writes};
 ghost use Rattle.card_model.specs.CommandTable.{asked};
 ghost use Rattle.card_model.specs.Requests.{update_binary};
 ghost use Rattle.card_model.specs.declared.requests.Target.{Target};
-ghost use Rattle.command_base.specs.Comparing.{comparisons, ComparesAsked};
+ghost use Rattle.command_base.specs.Comparing.{ComparesAsked};
 ghost use Rattle.card_model.specs.Cards.{card_space};
 ghost use Rattle.command_base.specs.Finding.{HasCard, FindsAgain};
 ghost use Rattle.card_start.specs.Starting.{IsNewFound, KeepsFormat, KeepsFoundUnlessOld, KeepsUnlessOld};
@@ -185,9 +185,10 @@ impl<B: Board> Card<B> {
         ensures updated { (target : Target) (offset : ℕ) (bytes : List ℕ)
             → asked command.now ≡ Ok (update_binary target offset bytes)
             → self.new.facts.writes ≤ self.old.facts.writes + update_writes (length bytes) }
-        // A comparison permanently uses up a try. Only commands on PINs with data make one.
-        ensures compares { ComparesAsked (asked command.now) (card_found self.old) (comparisons self.old.facts)
-            (card_found self.new) (comparisons self.new.facts) }
+        // A comparison permanently uses up a try. Only commands on PINs with data make one, and the first device write of
+        // such a command is the charge.
+        ensures compares { ComparesAsked (asked command.now) (card_found self.old) self.old.facts
+            (card_found self.new) self.new.facts }
     {
         answer.clear();
         match self.state {

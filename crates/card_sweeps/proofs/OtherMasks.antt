@@ -5,7 +5,7 @@ use Rattle.std.proofs.Common.{◌∙◌, ap, inl, inr, refl, subst, sym}
 use Rattle.std.proofs.Math.Logic.{⊎_map}
 use Rattle.card_model.specs.declared.status.Sw.{Sw}
 use Rattle.nvm_board.specs.declared.board.Arm.{Arm}
-use Rattle.nvm_board.specs.Aims.{Aim, AimStays, KeepsAim, aim, due_of}
+use Rattle.nvm_board.specs.Aims.{Aim, AimStays, KeepsAim, WritesRuns, aim, due_of}
 use Rattle.nvm_board.specs.Facts.{Facts}
 use Rattle.undo_journal.specs.Spending.{KeepsBoard}
 use Rattle.card_model.specs.Behaviours.{Attempt}
@@ -16,6 +16,8 @@ use Rattle.card_model.specs.Sessions.{Session}
 use Rattle.card_model.specs.Steps.{attempt_of}
 use Rattle.card_start.specs.Running.{card_found}
 use Rattle.command_base.specs.CommitWords.{TurnsAsked}
+use Rattle.command_base.specs.Comparing.{ComparesAsked, ComparesCharged, ComparesShown}
+use Rattle.command_base.specs.Finding.{found}
 use Rattle.command_base.specs.Counting.{CountsAnswered, CountsShown}
 use Rattle.command_base.specs.declared.spending.TheConstants.{COMMAND_WRITES}
 use Rattle.t1_link.specs.CardTable.{Reaction, link_step, replies, runs}
@@ -116,6 +118,9 @@ board-masked mask old new kept = record {
   matches = kept.matches;
 }
 
+abbrev wrote-masked : (mask : ℕ) (old new : Facts) → WritesRuns old new → WritesRuns (masked mask old) (masked mask new)
+wrote-masked mask old new w = record { runs = w.runs; words = w.words; log = w.log; counted = w.counted }
+
 spends-masked : (mask lost : ℕ) (old new : Facts) → Spends lost old new
     → Spends lost (masked mask old) (masked mask new)
 spends-masked mask lost old new s = record {
@@ -125,7 +130,7 @@ spends-masked mask lost old new s = record {
   more = s.more;
   cut = keeps-masked mask old new s.cut;
   still = s.still;
-  wrote = record { runs = s.wrote.runs; words = s.wrote.words; log = s.wrote.log; counted = s.wrote.counted };
+  wrote = wrote-masked mask old new s.wrote;
 }
 
 -- the command that runs is the same
@@ -147,10 +152,34 @@ counts-masked mask old new (replies block) counts = counts
 counts-masked mask old new (runs command) counts =
     answered-masked mask (asked command) (card_found old.card) old.card.session old.card.facts new.card.facts counts
 
+charged-masked : (mask : ℕ) (a : Attempt) (c : Card) (old new : Facts) → ComparesCharged a c old new
+    → ComparesCharged a c (masked mask old) (masked mask new)
+charged-masked mask a c old new (inl none) = inl none
+charged-masked mask a c old new (inr first) =
+    inr (record {
+      left = first.left;
+      wrote = wrote-masked mask old new first.wrote;
+      charge = first.charge;
+      rest = first.rest;
+      begins = first.begins;
+      charged = first.charged;
+    })
+
+attempt-masked : (mask : ℕ) (shown : Option Attempt) (c : Card) (old : Facts) (d : Card) (new : Facts)
+    → ComparesShown shown c old d new → ComparesShown shown c (masked mask old) d (masked mask new)
+attempt-masked mask None c old d new compares = compares
+attempt-masked mask (Some a) c old d new compares = (compares.0, charged-masked mask a c old new compares.1)
+
+asked-masked : (mask : ℕ) (wanted : Result Request Sw) (c : Card) (old : Facts) (d : Card) (new : Facts)
+    → ComparesAsked wanted c old d new → ComparesAsked wanted c (masked mask old) d (masked mask new)
+asked-masked mask (Ok request) c old d new compares = attempt-masked mask (attempt_of request) c old d new compares
+asked-masked mask (Err status) c old d new compares = compares
+
 compares-masked : (mask : ℕ) (old : Powered) (r : Reaction) (new : Facts) → BlockCompares old r new
     → BlockCompares (powered_masked mask old) r (masked mask new)
 compares-masked mask old (replies block) new compares = compares
-compares-masked mask old (runs command) new compares = compares
+compares-masked mask old (runs command) new compares =
+    asked-masked mask (asked command) (card_found old.card) old.card.facts (found new.words) new compares
 
 idle-masked : (mask : ℕ) (old : Powered) (r : Reaction) (new : Facts)
     → (BlockChangesNothing old r → KeepsBoard old.card.facts new)

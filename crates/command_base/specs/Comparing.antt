@@ -1,14 +1,18 @@
--- The comparisons of a request, and that each permanently uses up a try (ISO/IEC 7816-4, clause 11,
--- basic security handling).
-use Rattle.std.specs.Prelude.{◌≡◌, ◌⊎◌, ◌<◌, ◌+◌, ◌-◌, ℕ, List, slice_set, Option, Some, None, Result, Ok, Err}
+-- The comparisons of a request, and that each permanently uses up a try, before it is made (ISO/IEC 7816-4,
+-- clause 11, basic security handling).
+use Rattle.std.specs.Prelude.{◌≡◌, ◌⊎◌, ◌<◌, ◌+◌, ◌-◌, ℕ, List, ◌∷◌, slice_set, Option, Some, None, Result, Ok, Err}
 use Rattle.card_model.specs.declared.status.Sw.{Sw}
+use Rattle.nvm_board.specs.Aims.{WritesRuns}
 use Rattle.nvm_board.specs.Facts.{Facts, RisesAt, raised}
+use Rattle.nvm_board.specs.History.{Run}
+use Rattle.nvm_board.specs.Torn.{written}
 use Rattle.card_model.specs.Requests.{Request}
 use Rattle.card_model.specs.declared.pins.TheConstants.{PINS}
 use Rattle.card_model.specs.Secrets.{charged_pin, full_tries, kept, tries_left}
-use Rattle.card_model.specs.Behaviours.{Attempt, pin_of}
+use Rattle.card_model.specs.Behaviours.{Attempt, charged_card, pin_of}
 use Rattle.card_model.specs.Cards.{Card, Pin}
 use Rattle.card_model.specs.Steps.{attempt_of}
+use Rattle.command_base.specs.Finding.{Finds}
 
 -- the counters of a board for each secret: how often it was compared, and how often it matched
 pub record Comparisons : Type 0 where
@@ -58,15 +62,30 @@ pub record ComparesAttempt (a : Attempt) (c d : Card) (old new : Comparisons) : 
   pub costs : CostsATry a.secret a.shown (pin_of c a.pin) (pin_of d a.pin) old new
   pub others : d.pins ≡ slice_set c.pins (a.pin - 1) (pin_of d a.pin)
 
--- a request that presents no secret makes no comparison
-abbrev pub ComparesShown : Option Attempt → Card → Comparisons → Card → Comparisons → Type 0
-ComparesShown None c old d new = ComparesNothing old new
-ComparesShown (Some a) c old d new = ComparesAttempt a c d old new
+-- The device writes of an attempt begin with its charge. Power-on with the first write, and no other, finds the card
+-- with one try less of the presented secret, which had one, and otherwise unchanged.
+pub record ChargesFirst (a : Attempt) (c : Card) (old new : Facts) : Type 0 where
+  pub left : 0 < tries_left a.secret (pin_of c a.pin)
+  pub wrote : WritesRuns old new
+  pub charge : Run
+  pub rest : List Run
+  pub begins : wrote.runs ≡ charge ∷ rest
+  pub charged : Finds (written old.words charge.at charge.words) (charged_card c a)
 
-abbrev pub ComparesBy : Request → Card → Comparisons → Card → Comparisons → Type 0
+-- wherever an attempt stops: nothing was compared, or its first device write was the charge
+abbrev pub ComparesCharged : Attempt → Card → Facts → Facts → Type 0
+ComparesCharged a c old new = ComparesNothing (comparisons old) (comparisons new) ⊎ ChargesFirst a c old new
+
+-- A request that presents no secret makes no comparison. One that does costs a try, and charges it first.
+abbrev pub ComparesShown : Option Attempt → Card → Facts → Card → Facts → Type 0
+ComparesShown None c old d new = ComparesNothing (comparisons old) (comparisons new)
+ComparesShown (Some a) c old d new =
+    ComparesAttempt a c d (comparisons old) (comparisons new) × ComparesCharged a c old new
+
+abbrev pub ComparesBy : Request → Card → Facts → Card → Facts → Type 0
 ComparesBy request c old d new = ComparesShown (attempt_of request) c old d new
 
 -- a command that is no valid request makes no comparison
-abbrev pub ComparesAsked : Result Request Sw → Card → Comparisons → Card → Comparisons → Type 0
+abbrev pub ComparesAsked : Result Request Sw → Card → Facts → Card → Facts → Type 0
 ComparesAsked (Ok request) c old d new = ComparesBy request c old d new
-ComparesAsked (Err status) c old d new = ComparesNothing old new
+ComparesAsked (Err status) c old d new = ComparesNothing (comparisons old) (comparisons new)

@@ -12,7 +12,7 @@ use Rattle.card_model.specs.CommandTable.{asked}
 use Rattle.card_model.specs.Requests.{Request}
 use Rattle.file_tree.specs.Indexes.{KeepsPlaces}
 use Rattle.command_base.specs.declared.current.Current.{Current}
-use Rattle.command_base.specs.Comparing.{comparisons, ComparesAsked, ComparesBy}
+use Rattle.command_base.specs.Comparing.{ComparesAsked, ComparesBy}
 use Rattle.command_base.specs.Counting.{CountsAnswered, CountsServed}
 use Rattle.card_model.specs.Behaviours.{outcome}
 use Rattle.command_base.specs.CommandWrites.{most_writes, writes_of}
@@ -38,7 +38,7 @@ pub record Executes (request : Request) (old : Memory) (x : Current) (new : Memo
   pub advances : Advances old.facts new.facts
   pub stands : gate old.facts.words ≡ 0 → StandsServed (card_in old) (session_in old x) request new.facts.words
   pub turned : TurnsServed (card_in old) (session_in old x) request old.facts new.facts
-  pub compares : ComparesBy request (card_in old) (comparisons old.facts) (card_in new) (comparisons new.facts)
+  pub compares : ComparesBy request (card_in old) old.facts (card_in new) new.facts
   pub places : OnOk result (moves_files request ≡ false → KeepsPlaces (table_in old) (table_in new))
   pub counted : OnOk result (CountsServed (card_in old) (session_in old x) request old.facts new.facts)
 
@@ -59,6 +59,5 @@ pub record ExecutesBytes (command : List ℕ) (old : Memory) (x : Current) (new 
   pub stands : gate old.facts.words ≡ 0
       → StandsAsked (card_in old) (session_in old x) (asked command) new.facts.words
   pub turned : TurnsAsked (card_in old) (session_in old x) (asked command) old.facts new.facts
-  pub compares : ComparesAsked (asked command) (card_in old) (comparisons old.facts)
-      (card_in new) (comparisons new.facts)
+  pub compares : ComparesAsked (asked command) (card_in old) old.facts (card_in new) new.facts
   pub counted : OnOk result (CountsAnswered (asked command) (card_in old) (session_in old x) old.facts new.facts)

@@ -44,7 +44,7 @@ use Rattle.command_base.specs.declared.current.Current.{Current as CurrentFiles}
 use Rattle.command_base.specs.declared.target_file.Need.{Need}
 use Rattle.command_base.specs.declared.target_file.AcceptedStructure.TheVariants.{Bytes}
 use Rattle.card_model.specs.BinaryCommands.{read_response, end_status}
-use Rattle.command_base.specs.Comparing.{comparisons, ComparesBy}
+use Rattle.command_base.specs.Comparing.{ComparesBy}
 use Rattle.card_model.specs.Cards.{with_content}
 use Rattle.card_model.specs.Behaviours.{Response, refused, only_status, outcome}
 use Rattle.command_base.specs.laws.FoundLaws.{same-of}
@@ -262,7 +262,7 @@ module _ (old mid : Memory) (ready : IsReady old) (words : IsCard (committed old
         (there m words e found.file.child.used) bytes found.unrefused) reads turned
         (λ (becomes : Becomes). card-is becomes))
 
-    compares : ComparesBy request (card_in old) (comparisons old.facts) (card_in new) (comparisons new.facts)
+    compares : ComparesBy request (card_in old) old.facts (card_in new) new.facts
     compares = compared-none (most_writes request) mid.facts new.facts spends ∙ reads-compared old mid reads
 
     -- an update that stopped, before or after its commit

@@ -28,7 +28,7 @@ use Rattle.command_base.specs.declared.target_file.AcceptedStructure.TheVariants
 use Rattle.content_commands.specs.declared.record_file.RecordFile.{RecordFile}
 use Rattle.card_model.specs.Cards.{Card, Kind, Path}
 use Rattle.card_model.specs.Steps.{attempt_of, IsDoing, commits, effect, refusals_of}
-use Rattle.command_base.specs.Comparing.{comparisons, ComparesBy, ComparesShown}
+use Rattle.command_base.specs.Comparing.{ComparesBy, ComparesShown}
 use Rattle.card_model.specs.Behaviours.{Attempt, refused_by, Refusal, outcome}
 use Rattle.card_model.specs.Guards.{file_refusals, target_kind, target_path}
 use Rattle.card_model.specs.RecordCommands.{appended_records, capacity_of, has_records, is_linear, no_record}
@@ -136,9 +136,9 @@ module _ (old mid new : Memory) (ready : IsReady old) (words : IsCard (committed
       (RingBecomes wraps (committed mid) ring put) mid puts.none puts.commits_is reads turned
       (λ (becomes : Becomes). card-is becomes))
 
-  compares : ComparesBy request c (comparisons old.facts) (card_in new) (comparisons new.facts)
-  compares = subst (λ (shown : Option Attempt). ComparesShown shown c (comparisons old.facts) (card_in new)
-      (comparisons new.facts)) (sym puts.unshown) (compared-none RECORD_WRITES old.facts new.facts all.writes)
+  compares : ComparesBy request c old.facts (card_in new) new.facts
+  compares = subst (λ (shown : Option Attempt). ComparesShown shown c old.facts (card_in new) new.facts)
+      (sym puts.unshown) (compared-none RECORD_WRITES old.facts new.facts all.writes)
 
   costs : new.facts.writes ≤ old.facts.writes + most_writes request
   costs = let spent = all.writes.writes in let most = puts.most in omega (arith, spent, most)

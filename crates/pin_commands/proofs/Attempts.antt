@@ -11,7 +11,10 @@ use Rattle.std.specs.Prelude.{nat_eq, IfOk, IsSome, Result}
 use Rattle.std.specs.Result.{result_err, IsErrAnd}
 use Rattle.std.specs.FinSet.{FinSet}
 use Rattle.std.specs.Ordering.{nat_cmp}
+use Rattle.nvm_board.specs.Aims.{AimsOn}
 use Rattle.nvm_board.specs.Facts.{IsMemory}
+use Rattle.nvm_board.specs.History.{Log, Run, and_runs, replayed}
+use Rattle.nvm_board.specs.Torn.{written}
 use Rattle.nvm_board.specs.laws.Sizes.{memory_same}
 use Rattle.nvm_board.specs.Facts.{raised}
 use Rattle.card_model.specs.declared.status.Sw.{Sw}
@@ -20,7 +23,8 @@ use Rattle.card_model.specs.Pins.{IsPinNumber, with_pin, without_pin}
 use Rattle.undo_journal.specs.declared.error.StoreErr.{StoreErr}
 use Rattle.undo_journal.specs.StoreCalls.{OnlyReads, Reads}
 use Rattle.undo_journal.specs.Commits.{CommitsByGate, StaysShut, TurnsTo}
-use Rattle.undo_journal.specs.Undo.{gate}
+use Rattle.undo_journal.specs.Undo.{data_words, gate, undo}
+use Rattle.undo_journal.specs.laws.Undo.{sound_shut}
 use Rattle.undo_journal.specs.laws.Calls.{advances_by, advances_then}
 use Rattle.undo_journal.specs.Memory.{Memory, committed, IsReady, Reports}
 use Rattle.undo_journal.specs.Spending.{WritesAtMost}
@@ -33,13 +37,14 @@ use Rattle.pin_store.specs.declared.errors.Outcome.TheVariants.{Matched, Wrong}
 use Rattle.pin_store.specs.Pages.{pin_at, ArePinPages, IsApart, IsMark, SetsPin}
 use Rattle.card_model.specs.Secrets.{charged_pin, kept, owner, tries_left, Pin}
 use Rattle.pin_store.specs.Trials.{pin_in, Charges, ComparesOnce, EndsByOutcome, IsWrong, KeepsPinLaw, SetsByMatch}
-use Rattle.pin_store.specs.laws.Tries.{charge_keeps_law, end_keeps_law, IsEnd}
+use Rattle.pin_store.specs.laws.Tries.{charge_keeps_law, charged_left, end_keeps_law, IsEnd}
 use Rattle.file_tree.specs.laws.Indexed.{places_same}
 use Rattle.command_base.specs.declared.current.Current.{Current}
 use Rattle.card_model.specs.Cards.{Card}
 use Rattle.card_model.specs.Steps.{attempt_of, commits_alone, commits_gated, IsDoing, commits, commits_unless, effect}
 use Rattle.card_model.specs.Steps.{commits_served, last_of, refusals_of, served}
-use Rattle.command_base.specs.Comparing.{comparisons, ComparesBy, ComparesShown, CostsATry}
+use Rattle.command_base.specs.Comparing.{comparisons, ChargesFirst, ComparesBy, ComparesCharged, ComparesShown}
+use Rattle.command_base.specs.Comparing.{CostsATry}
 use Rattle.command_base.specs.Counting.{CountsAttempt, CountsServed, CountsShown}
 use Rattle.card_model.specs.Behaviours.{Refusal, first_applying, no_refusals, refused, refused_by, outcome, Attempt}
 use Rattle.card_model.specs.Behaviours.{attempt_commits, charged_card, is_right, pin_of, settled_card, tries_of}
@@ -47,6 +52,7 @@ use Rattle.card_model.specs.Behaviours.{tries_commits, value_commits, unblocking
 use Rattle.card_model.specs.PinCommands.{attempt_refusals, attempted, attempted_as, changing, marking, resetting}
 use Rattle.card_model.specs.PinCommands.{told_tries, tries_status, unverified, verifying}
 use Rattle.command_base.specs.CommitWords.{StandsByWord, StandsServed, TurnsServed, early_writes}
+use Rattle.command_base.specs.Finding.{Finds}
 use Rattle.command_base.specs.Served.{Executes}
 use Rattle.card_model.specs.Sessions.{Session, marked}
 use Rattle.command_base.specs.CommandWrites.{most_writes}
@@ -57,7 +63,8 @@ use Rattle.pin_commands.specs.PinParts.{end_of_attempt}
 use Rattle.pin_commands.proofs.Comparisons.{costs-told}
 use Rattle.card_model.specs.laws.Guarding.{served-done, served-refused}
 use Rattle.pin_commands.proofs.PinCards.{pin-is, pin-set, pin-stands, pin-table}
-use Rattle.command_base.specs.laws.Executes.{counts-none, declined, stopped, torn, written}
+use Rattle.command_base.specs.laws.Executes.{compared-none, counts-none, declined, stopped, torn}
+use Rattle.command_base.specs.laws.Executes as exits
 use Rattle.command_base.specs.laws.Stopping.{err-is}
 use Rattle.command_base.specs.declared.stop.Stop.{Stop}
 use Rattle.command_base.specs.declared.stop.Stop.TheVariants.{Refused, Failed}
@@ -198,17 +205,20 @@ module _ (request : Request) (a : Attempt) (asks : IsAttempt request a) (old : M
 
     exit-compares : (tries_left a.secret was ≡ 0
         → (committed new ≡ committed old) × (comparisons new.facts ≡ comparisons old.facts))
-        → ComparesBy request c (comparisons old.facts) (card_in new) (comparisons new.facts)
-    exit-compares blocked = subst (λ (o : Option Attempt). ComparesShown o c (comparisons old.facts) (card_in new)
-        (comparisons new.facts)) (sym asks.shows) (record {
-          costs = subst (λ (p : Pin). CostsATry a.secret a.shown p (pin_of (card_in new) a.pin) (comparisons old.facts)
-              (comparisons new.facts)) (pin-in old card)
-              (subst (λ (p : Pin). CostsATry a.secret a.shown was p (comparisons old.facts) (comparisons new.facts))
-              (pin-in new exit-card) (costs-told a.secret a.shown old new law (λ none.
-              (ap (λ (l : List ℕ). pin_at l (owner a.secret)) (blocked none).0, (blocked none).1))));
-          others = ap (λ (d : Card). d.pins) card-any
-              ∙ ap (slice_set c.pins k) (sym (pin-is (committed new) a.pin exit-card asks.number));
-        })
+        → ComparesCharged a c old.facts new.facts → ComparesBy request c old.facts (card_in new) new.facts
+    exit-compares blocked charged =
+        subst (λ (o : Option Attempt). ComparesShown o c old.facts (card_in new) new.facts) (sym asks.shows) (
+          record {
+            costs = subst (λ (p : Pin). CostsATry a.secret a.shown p (pin_of (card_in new) a.pin)
+                (comparisons old.facts) (comparisons new.facts)) (pin-in old card)
+                (subst (λ (p : Pin). CostsATry a.secret a.shown was p (comparisons old.facts) (comparisons new.facts))
+                (pin-in new exit-card) (costs-told a.secret a.shown old new law (λ none.
+                (ap (λ (l : List ℕ). pin_at l (owner a.secret)) (blocked none).0, (blocked none).1))));
+            others = ap (λ (d : Card). d.pins) card-any
+                ∙ ap (slice_set c.pins k) (sym (pin-is (committed new) a.pin exit-card asks.number));
+          },
+          charged,
+        )
 
   -- the cards that the request passes
   passed : (d : Card) → Contains (c ∷ attempt_commits c a) d → Contains (c ∷ commits c s request) d
@@ -237,6 +247,59 @@ module _ (request : Request) (a : Attempt) (asks : IsAttempt request a) (old : M
       → Contains (c ∷ attempt_commits c a) (card_in b)
   charged-stage b (inl same) = (0, omega arith, sym (ap card_of same))
   charged-stage b (inr charges) = (1, omega arith, sym (charged-card b charges))
+
+  -- the write of a charge, whatever follows it
+  module _ (b : Memory) (charges : Charges a.secret old b) (card-b : IsCard (committed b)) (ready : IsReady b)
+      (reports : Reports old b) (costs : WritesAtMost 1 old.facts b.facts)
+      (made : b.facts.writes ≡ old.facts.writes + 1) where
+    -- the charge changes the card that is found
+    changed : ¬ (committed b ≡ committed old)
+    changed same =
+        let stays : pin_in b a.secret ≡ was = ap (λ (l : List ℕ). pin_at l (owner a.secret)) same in
+        let fewer : tries_left a.secret was ≡ tries_left a.secret was - 1 =
+        ap (tries_left a.secret) (sym stays ∙ charges.charged.becomes) ∙ charged_left a.secret was in
+        let some = charges.left in absurd (omega (arith, fewer, some))
+
+    -- so it made a write, and no more than one
+    one-run : (runs : List Run) → b.facts.words ≡ replayed old.facts.words runs → length runs ≤ 1
+        → (run : Run) × (runs ≡ run ∷ [])
+    one-run [] words few = absurd (changed (ap (λ (m : List ℕ). data_words (undo m)) words))
+    one-run (run ∷ []) words few = (run, refl)
+    one-run (run ∷ more ∷ runs) words few = absurd (omega (arith, few))
+
+    few-runs : length costs.cut.wrote.runs ≤ 1
+    few-runs =
+        let light = (reports.works ready.usable.works).1 in
+        let counted = costs.cut.wrote.counted in
+        omega (arith, counted, made, light.faults, light.cuts)
+
+    -- what is written after it stands behind it
+    pub charge-first : (e : Memory) → AimsOn b.facts e.facts → ChargesFirst a c old.facts e.facts
+    charge-first e cut =
+        let one = one-run costs.cut.wrote.runs costs.cut.wrote.words few-runs in
+        let words : b.facts.words ≡ written old.facts.words one.0.at one.0.words =
+        costs.cut.wrote.words ∙ ap (λ (runs : List Run). replayed old.facts.words runs) one.1 in
+        record {
+          left = subst (λ (p : Pin). 0 < tries_left a.secret p) (pin-in old card) charges.left;
+          wrote = record {
+            runs = one.0 ∷ cut.wrote.runs;
+            words = cut.wrote.words ∙ ap (λ (m : List ℕ). replayed m cut.wrote.runs) words;
+            log = cut.wrote.log ∙ ap (λ (l : Option Log). and_runs l cut.wrote.runs)
+                (costs.cut.wrote.log ∙ ap (λ (runs : List Run). and_runs old.facts.log runs) one.1);
+            counted =
+                let size = ap (λ (runs : List Run). length runs) one.1 in
+                let before = costs.cut.wrote.counted in
+                let behind = cut.wrote.counted in
+                omega (arith, size, before, behind);
+          };
+          charge = one.0;
+          rest = cut.wrote.runs;
+          begins = refl;
+          charged = subst (λ (m : List ℕ). Finds m (charged_card c a)) words (record {
+            has_card = record { journal = sound_shut b.facts.words ready.shut; words = inl card-b };
+            card = charged-card b charges;
+          });
+        }
 
   -- it is refused, or it isn't
   either : {R : Type 0} → (IsSome (refused_at a was) → R) → (refused_at a was ≡ None → R) → R
@@ -297,7 +360,8 @@ module _ (request : Request) (a : Attempt) (asks : IsAttempt request a) (old : M
       (idle b kept (λ free. doing (card_in b) free (charged-stage b exit)))
       (exit-card b size pages law) reports failed (omega arith) writes
       (went-charge b exit kept spends stays)
-      (exit-compares b size pages law (λ none. reads-told b (kept (some-refused none))))
+      (exit-compares b size pages law (λ none. reads-told b (kept (some-refused none)))
+      (inl (compared-none 1 old.facts b.facts spends)))
 
   -- after the charge
   module _ (free : refused_at a was ≡ None) (b : Memory) (charges : Charges a.secret old b)
@@ -350,7 +414,8 @@ module _ (request : Request) (a : Attempt) (asks : IsAttempt request a) (old : M
         (pages : ArePinPages (committed e)) (reports : Reports old e) (stays : StaysShut old b)
         (word : EndsByWord a.renews b e) (settles : Settles a a.secret b e)
         (writes : e.facts.writes ≤ old.facts.writes + most_writes request)
-        (exit : (committed e ≡ committed b) ⊎ SetsByMatch a.secret a.shown (a.becomes (pin_in b a.secret)) b e) where
+        (exit : (committed e ≡ committed b) ⊎ SetsByMatch a.secret a.shown (a.becomes (pin_in b a.secret)) b e)
+        (first : ChargesFirst a c old.facts e.facts) where
       law-end : KeepsPinLaw a.secret a.shown old e
       law-end = end_keeps_law n a.secret a.shown _ old b e ends charges costs exit spends
 
@@ -397,8 +462,8 @@ module _ (request : Request) (a : Attempt) (asks : IsAttempt request a) (old : M
         turns-end,
       )
 
-      compares-end : ComparesBy request c (comparisons old.facts) (card_in e) (comparisons e.facts)
-      compares-end = exit-compares e (ended-size e exit) pages law-end never
+      compares-end : ComparesBy request c old.facts (card_in e) e.facts
+      compares-end = exit-compares e (ended-size e exit) pages law-end never (inr first)
 
       -- the end stopped
       pub exit-end : (err : StoreErr) → e.failed ≡ Some err → Executes request old x e x [] (Err err)
@@ -502,7 +567,7 @@ module _ (request : Request) (a : Attempt) (asks : IsAttempt request a) (old : M
           → EndsByOutcome a.secret a.shown (a.becomes (pin_in b a.secret)) b e end → IsReady e
           → b.facts.writes ≡ old.facts.writes + 1 → Executes request old x e (y end) [] (Ok (end_of_attempt end))
       exit-done end done ready charge =
-          written request old x e (counts-end charge end done) (y end) [] (end_of_attempt end) stage-end
+          exits.written request old x e (counts-end charge end done) (y end) [] (end_of_attempt end) stage-end
           (exit-card e (ended-size e exit) pages law-end)
           reports ready (current-end end)
           (λ _. places_same _ _ (exit-table e (ended-size e exit) pages law-end)) (omega arith) writes went-end
@@ -556,7 +621,7 @@ module _ (request : Request) (a : Attempt) (asks : IsAttempt request a) (n : ℕ
     module _ (b e : Memory) (k : ℕ)
         (taken : (k ≡ secret) × Charges secret old b × (refused_with a.unusable secret (pin_in old secret) ≡ None))
         (pages-b : ArePinPages (committed b)) (costs : WritesAtMost 1 old.facts b.facts) (reports-b : Reports old b)
-        (ends : (p : Pin) → IsEnd a.secret p (a.becomes p))
+        (ready-b : IsReady b) (charge : b.facts.writes ≡ old.facts.writes + 1) (ends : (p : Pin) → IsEnd a.secret p (a.becomes p))
         (exit : (committed e ≡ committed b) ⊎ SetsByMatch k a.shown (a.becomes (pin_in b k)) b e)
         (spends : ComparesOnce n k b.facts e.facts) (pages : ArePinPages (committed e)) (reports : Reports b e)
         (stays : StaysShut old b) (word : EndsByWord a.renews b e) (settles : Settles a k b e) where
@@ -580,21 +645,24 @@ module _ (request : Request) (a : Attempt) (asks : IsAttempt request a) (n : ℕ
       writes : e.facts.writes ≤ old.facts.writes + most_writes request
       writes = let once = costs.writes in let more = spends.writes in omega (arith, once, more, most)
 
+      first : ChargesFirst a (card_in old) old.facts e.facts
+      first =
+          charge-first request a asks old x sized card current b got.1 card-b ready-b reports-b costs charge e spends.cut
+
       pub end-torn : (r : Result Sw StoreErr) (err : StoreErr) → IsErrAnd r (λ f. f ≡ err) → e.failed ≡ Some err
           → Executes request old x e x [] r
       end-torn r err error failed =
           subst (λ (result : Result Sw StoreErr). Executes request old x e x [] result) (sym (err-is r err error))
           (exit-end request a asks old x sized card current got.2 b got.1 card-b e n (ends _) costs spends-told pages
-          (reports_then old b e reports-b reports) stays word settles-told writes exit-told err failed)
+          (reports_then old b e reports-b reports) stays word settles-told writes exit-told first err failed)
 
       pub end-made : (end : AttemptEnd) → EndsByOutcome k a.shown (a.becomes (pin_in b k)) b e end → IsReady e
-          → b.facts.writes ≡ old.facts.writes + 1
           → (y : Current) → y ≡ tried_from x a.pin a.unverifies end → (status : Sw) → status ≡ end_of_attempt end
           → Executes request old x e y [] (Ok status)
-      end-made end ended is-ready charge y at status told =
+      end-made end ended is-ready y at status told =
           let made = exit-done request a asks old x sized card current got.2 b got.1 card-b
           e n (ends _) costs spends-told pages (reports_then old b e reports-b reports) stays word settles-told writes
-          exit-told end
+          exit-told first end
           (subst (λ (k : ℕ). EndsByOutcome k a.shown (a.becomes (pin_in b k)) b e end) got.0 ended) is-ready charge in
           subst (λ (z : Current). Executes request old x e z [] (Ok status)) (sym at)
           (subst (λ (w : Sw). Executes request old x e (tried_from x a.pin a.unverifies end) [] (Ok w)) (sym told) made)

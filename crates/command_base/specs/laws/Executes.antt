@@ -56,9 +56,9 @@ counts-none request c s old new unshown =
 module _ (request : Request) (old : Memory) (x : Current) (new : Memory) where
   -- after reads alone nothing was compared
   pub reads-nothing : OnlyReads old new
-      → ComparesBy request (card_in old) (comparisons old.facts) (card_in new) (comparisons new.facts)
+      → ComparesBy request (card_in old) old.facts (card_in new) new.facts
   reads-nothing reads =
-      compares-none request (card_in old) (comparisons old.facts) (card_in new) (comparisons new.facts)
+      compares-none request (card_in old) old.facts (card_in new) new.facts
       (ap card_of reads.keeps.committed_words) (reads-compared old new reads)
 
   -- an error after reads
@@ -161,7 +161,7 @@ module _ (request : Request) (old : Memory) (x : Current) (new : Memory) where
       → OnlyReads old new ⊎ IsDoing (card_in old) (session_in old x) request (card_in new) → IsCard (committed new)
       → Reports old new → new.failed ≡ Some e → length text ≤ 256
       → new.facts.writes ≤ old.facts.writes + most_writes request → Went request old x new
-      → ComparesBy request (card_in old) (comparisons old.facts) (card_in new) (comparisons new.facts)
+      → ComparesBy request (card_in old) old.facts (card_in new) new.facts
       → Executes request old x new y text (Err e)
   torn y text e stage card reports failed room writes went compares = record {
     step = tt;
@@ -187,7 +187,7 @@ module _ (request : Request) (old : Memory) (x : Current) (new : Memory) where
       → Reports old new → IsReady new → IsCurrent (table_in new) y
       → (moves_files request ≡ false → KeepsPlaces (table_in old) (table_in new)) → length text ≤ 256
       → new.facts.writes ≤ old.facts.writes + most_writes request → Went request old x new
-      → ComparesBy request (card_in old) (comparisons old.facts) (card_in new) (comparisons new.facts)
+      → ComparesBy request (card_in old) old.facts (card_in new) new.facts
       → served (card_in old) (session_in old x) request ≡ outcome (card_in new) (session_in new y) text status
       → Executes request old x new y text (Ok status)
   written counted y text status stage card reports ready current places room writes went compares is = record {

@@ -4,12 +4,13 @@ use Rattle.std.specs.Prelude.{Option, Some, None, Result, Ok, Err}
 use Rattle.std.proofs.Common.{refl, inl, inr}
 use Rattle.std.proofs.lemmas.List.Elements.{All-cons, All-contains}
 use Rattle.card_model.specs.declared.status.Sw.{Sw}
+use Rattle.nvm_board.specs.Facts.{Facts}
 use Rattle.card_model.specs.CommandTable.{asked}
 use Rattle.card_model.specs.Requests.{Request}
 use Rattle.card_model.specs.Cards.{Card}
 use Rattle.card_model.specs.Steps.{attempt_of, IsStage, commits, commits_asked, commits_served, commits_unless}
 use Rattle.card_model.specs.Steps.{refusals_of}
-use Rattle.command_base.specs.Comparing.{Comparisons, ComparesAsked, ComparesAttempt, ComparesShown}
+use Rattle.command_base.specs.Comparing.{Comparisons, ComparesAsked, ComparesAttempt, ComparesShown, comparisons}
 use Rattle.card_model.specs.Behaviours.{refused_by, Attempt}
 use Rattle.card_model.specs.Sessions.{Session}
 use Rattle.card_model.specs.laws.CommandLaws.{lawful}
@@ -18,7 +19,7 @@ use Rattle.card_model.specs.laws.Lawful.{IsOfPin, SamePins, same-none}
 use Rattle.card_model.specs.laws.ProperLaws.{either-if}
 
 -- what a request shows is a secret of the PIN that it names
-shown-of-pin : (request : Request) → IsOfPin (attempt_of request)
+pub shown-of-pin : (request : Request) → IsOfPin (attempt_of request)
 shown-of-pin request = (lawful request).of_pin
 
 module _ (c : Card) (s : Session) where
@@ -43,18 +44,22 @@ module _ (c : Card) (s : Session) where
       All-contains (λ (e : Card). e.pins ≡ c.pins) (c ∷ cards) d
       (All-cons (λ (e : Card). e.pins ≡ c.pins) c cards refl all) there
 
-module _ (c d : Card) (old new : Comparisons) where
-  -- Nothing is compared, and every PIN stays; or a secret of a PIN is shown, and its comparison costs a try.
-  abbrev pub ComparesOrStays : Type 0
-  ComparesOrStays = ((new ≡ old) × (d.pins ≡ c.pins)) ⊎ ((a : Attempt) × IsOfItsPin a × ComparesAttempt a c d old new)
+-- Nothing is compared, and every PIN stays; or a secret of a PIN is shown, and its comparison costs a try.
+abbrev pub ComparesOrStays : Card → Card → Comparisons → Comparisons → Type 0
+ComparesOrStays c d old new =
+    ((new ≡ old) × (d.pins ≡ c.pins)) ⊎ ((a : Attempt) × IsOfItsPin a × ComparesAttempt a c d old new)
+
+module _ (c d : Card) (old new : Facts) where
+  abbrev Stays : Type 0
+  Stays = ComparesOrStays c d (comparisons old) (comparisons new)
 
   by-shown : (shown : Option Attempt) → IsOfPin shown → (shown ≡ None → d.pins ≡ c.pins)
-      → ComparesShown shown c old d new → ComparesOrStays
+      → ComparesShown shown c old d new → Stays
   by-shown None is stays compares = inl (compares, stays refl)
-  by-shown (Some a) is stays compares = inr (a, is, compares)
+  by-shown (Some a) is stays compares = inr (a, is, compares.0)
 
   by-asked : (s : Session) (wanted : Result Request Sw) → Contains (c ∷ commits_asked c s wanted) d
-      → ComparesAsked wanted c old d new → ComparesOrStays
+      → ComparesAsked wanted c old d new → Stays
   by-asked s (Ok request) there compares =
       by-shown (attempt_of request) (shown-of-pin request)
       (λ is. stage-same c s d (commits_asked c s (Ok request)) (served-same c s request is) there) compares
@@ -62,5 +67,5 @@ module _ (c d : Card) (old new : Comparisons) where
 
   -- at each stage of a command
   pub compares-or-stays : (s : Session) (command : List ℕ) → IsStage c s command d
-      → ComparesAsked (asked command) c old d new → ComparesOrStays
+      → ComparesAsked (asked command) c old d new → Stays
   compares-or-stays s command = by-asked s (asked command)

@@ -44,7 +44,8 @@ returns-in_err-outcome g c =
     c.value_of-secret.result c.value_of-secret.ensures.secret b e c.in_ok-charged.charged
     (taken-by c.value_of-secret.result _ _ c.usable_by.ensures was _ _ _ c.in_ok-charged.ensures.done)
     c.use_up_try.ensures.takes.pages c.use_up_try.ensures.takes.store.writes
-    c.use_up_try.ensures.takes.store.reports (λ p. marked_ends (c.args.pin - 1)
+    c.use_up_try.ensures.takes.store.reports c.in_ok-charged.ensures.takes.store.ready
+    c.in_ok-charged.ensures.takes.counted (λ p. marked_ends (c.args.pin - 1)
     (is_enabled_by c.args.change) p small) exit
     c.set_enabled.ensures.spends c.set_enabled.ensures.pages c.set_enabled.ensures.store.reports
     c.use_up_try.ensures.takes.shut
@@ -75,12 +76,13 @@ returns g c =
     c.value_of-secret.result c.value_of-secret.ensures.secret b e c.in_ok-charged.charged
     (taken-by c.value_of-secret.result _ _ c.usable_by.ensures was _ _ _ c.in_ok-charged.ensures.done)
     c.use_up_try.ensures.takes.pages c.use_up_try.ensures.takes.store.writes
-    c.use_up_try.ensures.takes.store.reports (λ p. marked_ends (c.args.pin - 1)
+    c.use_up_try.ensures.takes.store.reports c.in_ok-charged.ensures.takes.store.ready
+    c.in_ok-charged.ensures.takes.counted (λ p. marked_ends (c.args.pin - 1)
     (is_enabled_by c.args.change) p small) exit
     c.set_enabled.ensures.spends c.set_enabled.ensures.pages c.set_enabled.ensures.store.reports
     c.use_up_try.ensures.takes.shut
     c.set_enabled.ensures.by_gate.0 (λ renews. settles) c.in_ok-outcome.outcome
-    ended c.in_ok-outcome.ensures.store.ready c.in_ok-charged.ensures.takes.counted
+    ended c.in_ok-outcome.ensures.store.ready
     c.end_attempt.new.current c.end_attempt.ensures.session
     c.end_attempt.result c.end_attempt.ensures.status
 

@@ -59,7 +59,8 @@ returns-in_err-outcome g c =
     c.unblocking_value_of-secret.result c.unblocking_value_of-secret.ensures.secret c.use_up_try.new.store
     c.reset_counter.new.store c.in_ok-charged.charged
     c.in_ok-charged.ensures.done c.use_up_try.ensures.takes.pages c.use_up_try.ensures.takes.store.writes
-    c.use_up_try.ensures.takes.store.reports (λ p. reset_ends (8 + (c.args.pin - 1)) c.in-Some.values.new.now p large)
+    c.use_up_try.ensures.takes.store.reports c.in_ok-charged.ensures.takes.store.ready
+    c.in_ok-charged.ensures.takes.counted (λ p. reset_ends (8 + (c.args.pin - 1)) c.in-Some.values.new.now p large)
     c.reset_counter.ensures.any_exit c.reset_counter.ensures.spends c.reset_counter.ensures.pages
     c.reset_counter.ensures.store.reports c.use_up_try.ensures.takes.shut c.reset_counter.ensures.by_gate.0 (λ renews.
     c.reset_counter.ensures.by_gate.1) _
@@ -80,11 +81,12 @@ returns g c =
     c.unblocking_value_of-secret.result c.unblocking_value_of-secret.ensures.secret c.use_up_try.new.store
     c.reset_counter.new.store c.in_ok-charged.charged
     c.in_ok-charged.ensures.done c.use_up_try.ensures.takes.pages c.use_up_try.ensures.takes.store.writes
-    c.use_up_try.ensures.takes.store.reports (λ p. reset_ends (8 + (c.args.pin - 1)) c.in-Some.values.new.now p large)
+    c.use_up_try.ensures.takes.store.reports c.in_ok-charged.ensures.takes.store.ready
+    c.in_ok-charged.ensures.takes.counted (λ p. reset_ends (8 + (c.args.pin - 1)) c.in-Some.values.new.now p large)
     c.reset_counter.ensures.any_exit c.reset_counter.ensures.spends
     c.reset_counter.ensures.pages c.reset_counter.ensures.store.reports c.use_up_try.ensures.takes.shut
     c.reset_counter.ensures.by_gate.0 (λ renews. c.reset_counter.ensures.by_gate.1) c.in_ok-outcome.outcome
-    c.in_ok-outcome.ensures.done c.in_ok-outcome.ensures.store.ready c.in_ok-charged.ensures.takes.counted
+    c.in_ok-outcome.ensures.done c.in_ok-outcome.ensures.store.ready
     c.end_attempt.new.current c.end_attempt.ensures.session
     c.end_attempt.result c.end_attempt.ensures.status)
 

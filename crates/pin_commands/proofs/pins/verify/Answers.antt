@@ -56,7 +56,8 @@ returns-in_err-outcome g c =
     c.value_of-secret.result c.value_of-secret.ensures.secret c.use_up_try.new.store c.settle.new.store
     c.in_ok-charged.charged c.in_ok-charged.ensures.done c.use_up_try.ensures.takes.pages
     c.use_up_try.ensures.takes.store.writes
-    c.use_up_try.ensures.takes.store.reports (λ p. verified_ends (c.args.pin - 1) p small) c.settle.ensures.any_exit
+    c.use_up_try.ensures.takes.store.reports c.in_ok-charged.ensures.takes.store.ready
+    c.in_ok-charged.ensures.takes.counted (λ p. verified_ends (c.args.pin - 1) p small) c.settle.ensures.any_exit
     c.settle.ensures.spends c.settle.ensures.pages c.settle.ensures.store.reports c.use_up_try.ensures.takes.shut
     c.settle.ensures.by_gate (λ renews. let never : false ≡ true = renews in cc) _
     c.in_err-outcome.field-0.0 (reply-failed _ _ c.from_residual-in_err-outcome.ensures.1)
@@ -76,10 +77,11 @@ returns g c =
     c.value_of-secret.result c.value_of-secret.ensures.secret c.use_up_try.new.store c.settle.new.store
     c.in_ok-charged.charged c.in_ok-charged.ensures.done c.use_up_try.ensures.takes.pages
     c.use_up_try.ensures.takes.store.writes
-    c.use_up_try.ensures.takes.store.reports (λ p. verified_ends (c.args.pin - 1) p small) c.settle.ensures.any_exit
+    c.use_up_try.ensures.takes.store.reports c.in_ok-charged.ensures.takes.store.ready
+    c.in_ok-charged.ensures.takes.counted (λ p. verified_ends (c.args.pin - 1) p small) c.settle.ensures.any_exit
     c.settle.ensures.spends c.settle.ensures.pages c.settle.ensures.store.reports c.use_up_try.ensures.takes.shut
     c.settle.ensures.by_gate (λ renews. let never : false ≡ true = renews in cc) c.in_ok-outcome.outcome
-    c.in_ok-outcome.ensures.done c.in_ok-outcome.ensures.store.ready c.in_ok-charged.ensures.takes.counted
+    c.in_ok-outcome.ensures.done c.in_ok-outcome.ensures.store.ready
     c.end_attempt.new.current c.end_attempt.ensures.session
     c.end_attempt.result c.end_attempt.ensures.status)
 

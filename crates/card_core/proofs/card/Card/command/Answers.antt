@@ -5,7 +5,7 @@ use Rattle.card_model.specs.CommandTable.{asked}
 use Rattle.card_start.specs.declared.state.CardState.{CardState}
 use Rattle.card_start.specs.declared.state.CardState.TheVariants.{Working, Failed, Dark}
 use Rattle.command_base.specs.declared.spending.TheConstants.{COMMAND_WRITES}
-use Rattle.command_base.specs.Comparing.{comparisons, ComparesAsked}
+use Rattle.command_base.specs.Comparing.{ComparesAsked}
 use Rattle.command_base.specs.Finding.{HasCard}
 use Rattle.card_start.specs.Running.{card_found, CommandFails, CommandIsCut, Running, Steps}
 use Rattle.card_model.specs.Sessions.{Session}
@@ -144,8 +144,8 @@ returns-clause-counted g c =
 pub returns-clause-compares : goal.returns-clause-compares
 returns-clause-compares g c =
     let new = c.run_command-carried.new.parts.store in
-    subst (λ (r : Running). ComparesAsked (asked c.args.command.now) (card_found r) (comparisons r.facts) (card_in new)
-    (comparisons new.facts)) c.self.view_is c.run_command-carried.ensures.carries.compares
+    subst (λ (r : Running). ComparesAsked (asked c.args.command.now) (card_found r) r.facts (card_in new) new.facts)
+    c.self.view_is c.run_command-carried.ensures.carries.compares
 
 pub returns-in-Failed-clause-has_card : goal.returns-in-Failed-clause-has_card
 returns-in-Failed-clause-has_card g c =

@@ -10,7 +10,7 @@ use Rattle.t1_link.specs.CardTable.{answers, reply_bytes, waiting_command, link_
 use Rattle.t1_link.specs.CardTable.{replies, runs}
 use Rattle.command_base.specs.Finding.{HasCard}
 use Rattle.command_base.specs.declared.spending.TheConstants.{COMMAND_WRITES}
-use Rattle.command_base.specs.Comparing.{comparisons, ComparesAsked}
+use Rattle.command_base.specs.Comparing.{ComparesAsked}
 use Rattle.card_start.specs.Running.{card_found}
 use Rattle.command_base.specs.laws.CompareLaws.{asked-none}
 use Rattle.bench_turns.specs.CardBlocks.{BlockChangesNothing, BlockCompares, BlockStands, BlockFails, IsBlockStage}
@@ -24,8 +24,7 @@ use Rattle.card_turns.proofs.powered.Powered.block.Goals as goal
 kept-compares : (p : Powered) (reaction : Reaction) → BlockCompares p reaction p.card.facts
 kept-compares p (replies block) = refl
 kept-compares p (runs command) =
-    asked-none (asked command) (card_found p.card) (comparisons p.card.facts) (card_found p.card)
-    (comparisons p.card.facts) refl refl
+    asked-none (asked command) (card_found p.card) p.card.facts (card_found p.card) p.card.facts refl refl
 
 pub returns-in-Dark-clause-compares : goal.returns-in-Dark-clause-compares
 returns-in-Dark-clause-compares g c =
@@ -33,13 +32,12 @@ returns-in-Dark-clause-compares g c =
 
 -- and where a command waits, the block compares what the command does
 run-compares : (p new : Powered) (reaction : Reaction) (bytes : List ℕ) → waiting_command reaction ≡ Some bytes
-    → ComparesAsked (asked bytes) (card_found p.card) (comparisons p.card.facts) (card_found new.card)
-    (comparisons new.card.facts)
+    → ComparesAsked (asked bytes) (card_found p.card) p.card.facts (card_found new.card) new.card.facts
     → BlockCompares p reaction new.card.facts
 run-compares p new (replies block) bytes waits compares = cc
 run-compares p new (runs command) bytes waits compares =
-    subst (λ (o : Option (List ℕ)). ComparesAsked (asked (unwrap_or o [])) (card_found p.card)
-    (comparisons p.card.facts) (card_found new.card) (comparisons new.card.facts)) (sym waits) compares
+    subst (λ (o : Option (List ℕ)). ComparesAsked (asked (unwrap_or o [])) (card_found p.card) p.card.facts
+    (card_found new.card) new.card.facts) (sym waits) compares
 
 pub returns-in_err-command-in-Run-clause-compares : goal.returns-in_err-command-in-Run-clause-compares
 returns-in_err-command-in-Run-clause-compares g c =
