@@ -182,7 +182,7 @@ module _ (secret : ℕ) (shown : List ℕ) (was now : Pin) (old new : Comparison
         }
 
 -- a PIN that stands for none has no try
-no-tries : (unblocking : Bool) → (if unblocking then no_pin.unblocking_tries else no_pin.tries) ≡ 0
+pub no-tries : (unblocking : Bool) → (if unblocking then no_pin.unblocking_tries else no_pin.tries) ≡ 0
 no-tries true = refl
 no-tries false = refl
 

@@ -7,3 +7,4 @@ pub mod PowerTurns
 pub mod TurnsTold
 pub mod Wearing
 pub mod GuessesPaid
+pub mod StoredGuesses

@@ -19,7 +19,7 @@ use Rattle.bench_turns.specs.declared.turn.Item.TheVariants.{Dark, Mute, Reply}
 use Rattle.bench_turns.specs.BenchStates.{BenchState, off, on, bench_facts}
 use Rattle.bench_turns.specs.CardBlocks.{Powered, BlockChangesNothing, BlockCompares, BlockStands, BlockFails}
 use Rattle.bench_turns.specs.CardBlocks.{BlockIsCut, BlockTurns, IsBlockStage, Replies}
-use Rattle.bench_turns.specs.Guessing.{GuessesFew}
+use Rattle.bench_turns.specs.Guessing.{GuessesFew, PaysAhead}
 use Rattle.bench_turns.specs.Plays.{BringsNoFault, Plays, PlaysAll, PlaysBlock}
 use Rattle.bench_turns.specs.Turns.{CountsLosses, GoodTurn, IsTrace, Runs, Spends, Wears, dark_of, darks}
 use Rattle.bench_turns.proofs.FewGuesses.{pays-nothing, pays-on}
@@ -115,6 +115,7 @@ plays_more old between new turns trace turn item all more =
         counts = more.counts;
         wears = more.wears (all.has_card before) (second good);
         guesses = more.guesses;
+        ahead = more.ahead;
       });
     }
 
@@ -129,8 +130,8 @@ pub plays_cut : (old new : Powered) (got out : List ℕ) → BlockIsCut old got 
     → (old.card.state ≡ Working → BlockTurns old (link_step old.link got).reaction new.card.facts)
     → BlockCompares old (link_step old.link got).reaction new.card.facts
     → (BlockChangesNothing old (link_step old.link got).reaction → KeepsBoard old.card.facts new.card.facts)
-    → PlaysBlock (on old) got Dark (off (record new.card.facts { dark = true }))
-plays_cut old new got out cut found stage paid shown writes advances stands turned compares idle = record {
+    → PaysAhead (on old) (on new) → PlaysBlock (on old) got Dark (off (record new.card.facts { dark = true }))
+plays_cut old new got out cut found stage paid shown writes advances stands turned compares idle ahead = record {
   has_card = λ before. found;
   counts = record {
     cuts = cut.power.cuts;
@@ -143,6 +144,10 @@ plays_cut old new got out cut found stage paid shown writes advances stands turn
   };
   well = λ good. tt;
   guesses = paid-few (on old) (off (record new.card.facts { dark = true })) paid;
+  ahead = let w = ahead.wrote in record {
+    wrote = record { runs = w.runs; words = w.words; log = w.log; counted = w.counted };
+    paid = ahead.paid;
+  };
   one = λ before good. record {
     power = refl;
     run = cut.run;
@@ -195,16 +200,17 @@ replied old new got out answer same =
 pub plays_replied : (old new : Powered) (got out : List ℕ) → old.card.state ≢ state.Dark → HasCard new.card.facts.words
     → (old.card.state ≡ Working → Replies old got new out ⊎ BlockFails old got new out)
     → (old.card.state ≡ state.Failed → new.card ≡ old.card) → Advances old.card.facts new.card.facts
-    → GuessesFew (on old) (on new)
+    → GuessesFew (on old) (on new) → PaysAhead (on old) (on new)
     → (BringsNoFault (on old) (on new) → Wears COMMAND_WRITES old.card.facts new.card.facts)
     → PlaysBlock (on old) got (Reply out) (on new)
-plays_replied old new got out lit found replies failed advances guesses wears = record {
+plays_replied old new got out lit found replies failed advances guesses ahead wears = record {
   has_card = λ before. found;
   counts = answered-counts old.card.state old.card.facts new.card.facts lit
       (λ is. ⊎_elim (λ r. inl r.power) (λ f. inr f.power) (replies is))
       (λ is. ap (λ (r : Running). r.facts) (failed is)) advances;
   well = λ good. (replied old new got out (replies good.well) good.faults).state;
   guesses = guesses;
+  ahead = ahead;
   one = λ before good. replied old new got out (replies good.well) good.faults;
   wears = wears;
 }
@@ -227,6 +233,7 @@ hears_nothing old new facts got is same =
       };
       well = λ good. tt;
       guesses = pays-nothing (off facts) (off facts) refl refl;
+      ahead = record { wrote = wrote_same facts; paid = inl refl };
       one = λ before good. refl;
       wears = λ good. wears-writing COMMAND_WRITES facts facts refl (omega arith) refl;
     }))

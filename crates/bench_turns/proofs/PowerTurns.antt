@@ -40,6 +40,10 @@ turns_off old new is = subst (λ (b : BenchState). Plays old turn.Off item.Quiet
   };
   well = λ good. tt;
   guesses = pays-nothing old (off (record (bench_facts old) { dark = true })) refl refl;
+  ahead = record {
+    wrote = wrote_off (bench_facts old) (bench_facts old) (wrote_same (bench_facts old));
+    paid = inl refl;
+  };
   one = λ before good. refl;
   wears = λ before good.
       wears-writing 0 (bench_facts old) (record (bench_facts old) { dark = true }) refl (omega arith) refl;
@@ -76,6 +80,11 @@ module _ (old : BenchState) (dark : Facts) (darkened : dark ≡ record (bench_fa
         };
         well = λ good. tt;
         guesses = pays-nothing old (off new) (ap found words) (ap comparisons is);
+        ahead = record {
+          wrote = wrote_none (bench_facts old) new words (ap (λ (f : Facts). f.log) is)
+              (omega (arith, writes, cuts, faults));
+          paid = inl (ap comparisons is);
+        };
         one = λ before good. (ap (λ (f : Facts). off f) is, subst IsWornOut (sym same) worn);
         wears = λ before good.
             wears-writing (turn_writes old turn.On) (bench_facts old) new faults
@@ -178,6 +187,7 @@ module _ (old : BenchState) (dark : Facts) (darkened : dark ≡ record (bench_fa
           };
           well = λ good. started.state;
           guesses = pays-nothing old (on p) (found-again p.card.facts.words again) (counts ∙ lit-counts);
+          ahead = record { wrote = lit-wrote p.card.facts spent.cut; paid = inl (counts ∙ lit-counts) };
           one = λ before good. (
             (started.session, link, started.state, power.lit),
             leaves (on p) again kept (counts ∙ lit-counts),
@@ -248,6 +258,7 @@ module _ (old : BenchState) (dark : Facts) (darkened : dark ≡ record (bench_fa
             };
             well = λ good. tt;
             guesses = guesses;
+            ahead = record { wrote = lit-wrote new spent-so.cut; paid = inl same-comparisons };
             one = λ before good.
                 (unlit, rests, let most = spent-so.writes in omega (arith, most, lit-writes, lit-asked));
             wears = λ before good. start-wears new spent-so before good.faults;
@@ -282,6 +293,7 @@ module _ (old : BenchState) (dark : Facts) (darkened : dark ≡ record (bench_fa
             };
             well = λ good. tt;
             guesses = guesses;
+            ahead = record { wrote = lit-wrote new spent-so.cut; paid = inl same-comparisons };
             one = λ before good. absurd (none before (omega (arith, good.faults, faults, lit-faults)));
             wears = λ before good. start-wears new spent-so before good.faults;
           }

@@ -40,6 +40,7 @@ plays-block old new got i plays = record {
   counts = plays.counts;
   well = plays.well;
   guesses = plays.guesses;
+  ahead = plays.ahead;
   one = plays.one;
   wears = λ before good. plays.wears good;
 }
@@ -47,7 +48,13 @@ plays-block old new got i plays = record {
 pub good-block : (old new : BenchState) (got : Bor (List ℕ)) (i : Item) → GoodTurn old (turn.Block got) i new
     → GoodBlock old got.now i new
 good-block old new got i good =
-    record { one = good.one; counts = good.counts; wears = good.wears; guesses = good.guesses }
+    record {
+      one = good.one;
+      counts = good.counts;
+      wears = good.wears;
+      guesses = good.guesses;
+      ahead = good.ahead;
+    }
 
 -- a turn on a board that counts no fault
 module _ (told : TurnResult) (block : List ℕ) (old new : BenchState) (t : Turn) (faults : (bench_facts new).faults ≡ 0)
@@ -65,6 +72,7 @@ module _ (told : TurnResult) (block : List ℕ) (old new : BenchState) (t : Turn
     counts = plays.counts;
     wears = plays.wears good.has_card none;
     guesses = plays.guesses;
+    ahead = plays.ahead;
   }
 
   pub good-turn : TellsItem told block (λ i. Plays old t i new)

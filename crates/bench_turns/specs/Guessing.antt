@@ -1,10 +1,14 @@
 -- The guess law (ISO/IEC 7816-4, clause 11, basic security handling). In any run, whatever loses power or fails,
 -- a comparison of a secret uses up a try, and only a match resets the tries.
-use Rattle.std.specs.Prelude.{◌≤◌, ◌+◌, ◌*◌, ℕ, slice_index}
+use Rattle.std.specs.Prelude.{◌≡◌, ◌⊎◌, ◌≤◌, ◌+◌, ◌*◌, ℕ, List, length, slice_index, take}
+use Rattle.nvm_board.specs.Aims.{WritesRuns}
+use Rattle.nvm_board.specs.History.{Run, replayed}
 use Rattle.card_model.specs.declared.pins.TheConstants.{PINS}
 use Rattle.card_model.specs.declared.limits.TheConstants.{TRIES, UNBLOCKING_TRIES}
 use Rattle.card_model.specs.PinCommands.{pin_of, unblocking_of, value_of}
-use Rattle.bench_turns.specs.BenchStates.{BenchState, bench_card, bench_facts}
+use Rattle.command_base.specs.Comparing.{Comparisons, comparisons}
+use Rattle.command_base.specs.Finding.{HasCard}
+use Rattle.bench_turns.specs.BenchStates.{BenchState, bench_card, bench_facts, off}
 
 -- the counts of a secret: its comparisons, its tries left, and the matches that reset its tries
 pub record Guessed : Type 0 where
@@ -38,3 +42,21 @@ pub record GuessesFew (old new : BenchState) : Type 0 where
   pub values : (n : ℕ) → 1 ≤ n → n ≤ PINS → ArePaidBy TRIES (value_guessed old n) (value_guessed new n)
   pub unblocking_values : (n : ℕ) → 1 ≤ n → n ≤ PINS
       → ArePaidBy UNBLOCKING_TRIES (unblocking_guessed old n) (unblocking_guessed new n)
+
+-- The guess law of a stored memory: it holds from a state of the bench to these words, with these comparisons counted.
+abbrev pub PaysFor : BenchState → List ℕ → Comparisons → Type 0
+PaysFor old image made = GuessesFew old
+    (off (record (bench_facts old) { words = image; compares = made.compares; matches = made.matches }))
+
+-- The first of these device writes pays for these comparisons: power-on with it alone finds a card, and the guess law
+-- holds of this memory.
+pub record FirstWritePays (old : BenchState) (runs : List Run) (made : Comparisons) : Type 0 where
+  pub some : 1 ≤ length runs
+  pub has_card : HasCard (replayed (bench_facts old).words (take 1 runs))
+  pub pays : PaysFor old (replayed (bench_facts old).words (take 1 runs)) made
+
+-- Nothing was compared, or the first device write pays for all comparisons.
+pub record PaysAhead (old new : BenchState) : Type 0 where
+  pub wrote : WritesRuns (bench_facts old) (bench_facts new)
+  pub paid : (comparisons (bench_facts new) ≡ comparisons (bench_facts old))
+      ⊎ FirstWritePays old wrote.runs (comparisons (bench_facts new))

@@ -8,7 +8,7 @@ use Rattle.bench_turns.specs.declared.turn.Item.TheVariants.{Atr, Quiet, Mute, D
 use Rattle.bench_turns.specs.declared.turn_result.TurnResult.{TurnResult}
 use Rattle.bench_turns.specs.declared.turn_result.TurnResult.TheVariants as turned
 use Rattle.bench_turns.specs.BenchStates.{BenchState, bench_facts, BenchHasCard, IsWell}
-use Rattle.bench_turns.specs.Guessing.{GuessesFew}
+use Rattle.bench_turns.specs.Guessing.{GuessesFew, PaysAhead}
 pub use Rattle.bench_turns.specs.BenchStates.{BringsNoFault}
 use Rattle.bench_turns.specs.Turns.{CountsLosses, OneTurn, Runs, Spends, TakesBlock, Wears, dark_of, darks, turn_writes}
 
@@ -33,6 +33,7 @@ pub record Plays (old : BenchState) (turn : Turn) (item : Item) (new : BenchStat
   pub counts : Spends (dark_of item) (bench_facts old) (bench_facts new)
   pub well : BringsNoFault old new → IsWell new
   pub guesses : GuessesFew old new
+  pub ahead : PaysAhead old new
   pub one : BenchHasCard old → BringsNoFault old new → OneTurn old turn item new
   pub wears : BenchHasCard old → BringsNoFault old new
       → Wears (turn_writes old turn) (bench_facts old) (bench_facts new)
@@ -43,6 +44,7 @@ pub record PlaysBlock (old : BenchState) (got : List ℕ) (item : Item) (new : B
   pub counts : Spends (dark_of item) (bench_facts old) (bench_facts new)
   pub well : BringsNoFault old new → IsWell new
   pub guesses : GuessesFew old new
+  pub ahead : PaysAhead old new
   pub one : BenchHasCard old → BringsNoFault old new → TakesBlock old got item new
   pub wears : BringsNoFault old new → Wears COMMAND_WRITES (bench_facts old) (bench_facts new)
 

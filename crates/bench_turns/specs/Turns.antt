@@ -19,7 +19,7 @@ use Rattle.bench_turns.specs.BenchStates.{BenchState, off, on, bench_card, bench
 use Rattle.bench_turns.specs.CardBlocks.{Powered, Replies, IsRun, BlockChangesNothing, BlockCompares, BlockStands}
 use Rattle.bench_turns.specs.CardBlocks.{BlockTurns}
 use Rattle.bench_turns.specs.CardBlocks.{IsBlockStage}
-use Rattle.bench_turns.specs.Guessing.{GuessesFew}
+use Rattle.bench_turns.specs.Guessing.{GuessesFew, PaysAhead}
 
 -- Power-on makes exactly the device writes of the rollback and of the migration to format 2.
 abbrev pub WritesAsAsked : Facts → Facts → Type 0
@@ -160,19 +160,23 @@ pub record Wears (most : ℕ) (old new : Facts) : Type 0 where
   pub compares : RisesAt old.compares secret new.compares
   pub matches : RisesAt old.matches secret new.matches
 
--- One turn without a fault, with its use of the board's counters, and the guess law.
+-- One turn without a fault, with its use of the board's counters, the guess law, and that law of its first device
+-- write.
 pub record GoodTurn (old : BenchState) (turn : Turn) (item : Item) (new : BenchState) : Type 0 where
   pub one : OneTurn old turn item new
   pub counts : Spends (dark_of item) (bench_facts old) (bench_facts new)
   pub wears : Wears (turn_writes old turn) (bench_facts old) (bench_facts new)
   pub guesses : GuessesFew old new
+  pub ahead : PaysAhead old new
 
--- One block without a fault, with its use of the board's counters, and the guess law.
+-- One block without a fault, with its use of the board's counters, the guess law, and that law of its first device
+-- write.
 pub record GoodBlock (old : BenchState) (got : List ℕ) (item : Item) (new : BenchState) : Type 0 where
   pub one : TakesBlock old got item new
   pub counts : Spends (dark_of item) (bench_facts old) (bench_facts new)
   pub wears : Wears COMMAND_WRITES (bench_facts old) (bench_facts new)
   pub guesses : GuessesFew old new
+  pub ahead : PaysAhead old new
 
 -- Several turns in order, with the result of each.
 unfoldable pub Runs : BenchState → List Turn → List Item → BenchState → Type 0

@@ -48,6 +48,7 @@ block_taken old new got prints taken = record {
     counts = taken.turn.counts;
     wears = taken.turn.wears;
     guesses = taken.turn.guesses;
+    ahead = taken.turn.ahead;
   };
   reader = taken.reader ∙ none-started old.bench new.bench got.now taken.outcome taken.turn.one;
   line = taken.line;

@@ -10,7 +10,7 @@ use Rattle.bench_lines.specs.Orders.{IsOrderSized, Order}
 use Rattle.bench_lines.specs.Printouts.{Print}
 use Rattle.bench_lines.specs.Spellings.{IsOrderOfBytes}
 use Rattle.bench_turns.specs.BenchStates.{BenchState, bench_facts}
-use Rattle.bench_turns.specs.Guessing.{GuessesFew}
+use Rattle.bench_turns.specs.Guessing.{GuessesFew, PaysFor}
 use Rattle.bench_turns.specs.Plays.{IsGood}
 use Rattle.card_bench.specs.Charges.{RunsToFirst}
 use Rattle.card_bench.specs.Performing.{Performs}
@@ -19,7 +19,7 @@ use Rattle.card_bench.proofs.WrittenLines.{performs_wrote}
 use Rattle.card_calls.specs.Devices.{AllStored, logs_none}
 use Rattle.card_calls.specs.FirstWrites.{EndsCharge, HasNoCharge, IsFirstOf, IsTold, with_first}
 use Rattle.card_calls.specs.InStep.{IsInStep}
-use Rattle.card_calls.specs.PaidOrders.{IsLedBy, PaidInOrder, PaysFor}
+use Rattle.card_calls.specs.PaidOrders.{IsLedBy, PaidInOrder}
 use Rattle.card_calls.specs.SessionStates.{Announcement, SessionState, session_facts}
 use Rattle.card_calls.specs.Telling.{BeginsAsTold, BeginsOrder, Diverges, HasRun, IsAnnounced, IsPerformed, IsTaken}
 use Rattle.card_calls.specs.Telling.{MayNotRun, MayRun, TellsResult}

@@ -1,10 +1,10 @@
 -- The images that pay for the comparisons of an order: the one with its first write, and the one with all writes.
-use Rattle.std.specs.Prelude.{◌≡◌, ℕ, List, [], ◌∷◌, Option, None, Some, take}
+use Rattle.std.specs.Prelude.{◌≡◌, List, [], ◌∷◌, Option, None, Some, take}
 use Rattle.nvm_board.specs.History.{Run, replayed}
 use Rattle.command_base.specs.Comparing.{Comparisons}
 use Rattle.bench_lines.specs.Orders.{Order}
-use Rattle.bench_turns.specs.BenchStates.{BenchState, bench_facts, off}
-use Rattle.bench_turns.specs.Guessing.{GuessesFew}
+use Rattle.bench_turns.specs.BenchStates.{bench_facts}
+use Rattle.bench_turns.specs.Guessing.{PaysFor}
 use Rattle.card_bench.specs.Charges.{RunsToFirst}
 use Rattle.card_bench.specs.Exchanges.{Desk}
 use Rattle.card_calls.specs.Devices.{logs_none}
@@ -14,11 +14,6 @@ use Rattle.card_calls.specs.declared.device.TheConstants.{TWIN_WRITES}
 abbrev pub IsLedBy : Option Run → List Run → Type 0
 IsLedBy first [] = first ≡ None
 IsLedBy first (run ∷ runs) = first ≡ Some run
-
--- The guess law holds from a state of the bench to an image, with these comparisons made.
-abbrev pub PaysFor : BenchState → List ℕ → Comparisons → Type 0
-PaysFor old image made = GuessesFew old
-    (off (record (bench_facts old) { words = image; compares = made.compares; matches = made.matches }))
 
 -- An order with a charge made these device writes, and these comparisons are counted after it. The image with the first
 -- write is one that a loss of power in that write leaves, and pays for what was compared until then. The image with all

@@ -7,6 +7,7 @@ use Rattle.card_model.specs.declared.status.Sw.{Sw}
 use Rattle.nvm_board.specs.declared.board.Arm.{Arm}
 use Rattle.nvm_board.specs.Aims.{Aim, AimStays, KeepsAim, WritesRuns, aim, due_of}
 use Rattle.nvm_board.specs.Facts.{Facts}
+use Rattle.nvm_board.specs.History.{Run}
 use Rattle.undo_journal.specs.Spending.{KeepsBoard}
 use Rattle.card_model.specs.Behaviours.{Attempt}
 use Rattle.card_model.specs.Cards.{Card}
@@ -16,7 +17,7 @@ use Rattle.card_model.specs.Sessions.{Session}
 use Rattle.card_model.specs.Steps.{attempt_of}
 use Rattle.card_start.specs.Running.{card_found}
 use Rattle.command_base.specs.CommitWords.{TurnsAsked}
-use Rattle.command_base.specs.Comparing.{ComparesAsked, ComparesCharged, ComparesShown}
+use Rattle.command_base.specs.Comparing.{ComparesAsked, ComparesCharged, ComparesShown, Comparisons}
 use Rattle.command_base.specs.Finding.{found}
 use Rattle.command_base.specs.Counting.{CountsAnswered, CountsShown}
 use Rattle.command_base.specs.declared.spending.TheConstants.{COMMAND_WRITES}
@@ -28,7 +29,7 @@ use Rattle.bench_turns.specs.BenchStates.{BenchState, off, on, bench_facts, with
 use Rattle.bench_turns.specs.CardBlocks.{BlockChangesNothing, BlockCompares, BlockCounts, BlockStands, BlockTurns}
 use Rattle.bench_turns.specs.CardBlocks.{IsBlockStage}
 use Rattle.bench_turns.specs.CardBlocks.{Powered, Replies}
-use Rattle.bench_turns.specs.Guessing.{GuessesFew}
+use Rattle.bench_turns.specs.Guessing.{FirstWritePays, GuessesFew, PaysAhead}
 use Rattle.bench_turns.specs.Plays.{IsGood}
 use Rattle.bench_turns.specs.Turns.{GoodBlock, Spends, TakesBlock, TurnIsCut, Wears, dark_of}
 use Rattle.card_sweeps.specs.SweptRuns.{IsUnmade, SparesCommand}
@@ -264,6 +265,39 @@ facts-then mask Holds (off f) (on q) holds = holds
 facts-then mask Holds (on p) (off h) holds = holds
 facts-then mask Holds (on p) (on q) holds = holds
 
+-- the first write pays as before
+pays-masked : (mask : ℕ) (old : BenchState) (wrote : List Run) (made : Comparisons) → FirstWritePays old wrote made
+    → FirstWritePays (bench_masked mask old) wrote made
+pays-masked mask (off f) wrote made first = record {
+  some = first.some;
+  has_card = first.has_card;
+  pays = record { values = first.pays.values; unblocking_values = first.pays.unblocking_values };
+}
+pays-masked mask (on p) wrote made first = record {
+  some = first.some;
+  has_card = first.has_card;
+  pays = record { values = first.pays.values; unblocking_values = first.pays.unblocking_values };
+}
+
+ahead-masked : (mask : ℕ) (old new : BenchState) → PaysAhead old new
+    → PaysAhead (bench_masked mask old) (bench_masked mask new)
+ahead-masked mask (off f) (off h) ahead = record {
+  wrote = wrote-masked mask _ _ ahead.wrote;
+  paid = ⊎_map (λ same. same) (pays-masked mask (off f) ahead.wrote.runs _) ahead.paid;
+}
+ahead-masked mask (off f) (on q) ahead = record {
+  wrote = wrote-masked mask _ _ ahead.wrote;
+  paid = ⊎_map (λ same. same) (pays-masked mask (off f) ahead.wrote.runs _) ahead.paid;
+}
+ahead-masked mask (on p) (off h) ahead = record {
+  wrote = wrote-masked mask _ _ ahead.wrote;
+  paid = ⊎_map (λ same. same) (pays-masked mask (on p) ahead.wrote.runs _) ahead.paid;
+}
+ahead-masked mask (on p) (on q) ahead = record {
+  wrote = wrote-masked mask _ _ ahead.wrote;
+  paid = ⊎_map (λ same. same) (pays-masked mask (on p) ahead.wrote.runs _) ahead.paid;
+}
+
 guesses-masked : (mask : ℕ) (old new : BenchState) → GuessesFew old new
     → GuessesFew (bench_masked mask old) (bench_masked mask new)
 guesses-masked mask (off f) (off h) g = record { values = g.values; unblocking_values = g.unblocking_values }
@@ -288,6 +322,7 @@ block-masked mask old got i new good =
         matches = wears.matches;
       });
       guesses = guesses-masked mask old new good.guesses;
+      ahead = ahead-masked mask old new good.ahead;
     }
 
 good-masked : (mask : ℕ) (b : BenchState) → IsGood b → IsGood (bench_masked mask b)

@@ -6,6 +6,7 @@ use Rattle.bench_turns.specs.BenchStates.{on}
 use Rattle.bench_turns.specs.Plays.{BringsNoFault}
 use Rattle.bench_turns.specs.Turns.{Wears}
 use Rattle.bench_turns.proofs.BlockGuesses.{block-compares, block-counts, block-pays}
+use Rattle.bench_turns.proofs.StoredGuesses.{block-ahead}
 use Rattle.bench_turns.proofs.GuessesPaid.{paid-few}
 use Rattle.bench_turns.proofs.PlayedTurns.{hears_nothing, plays_cut, plays_replied}
 use Rattle.bench_turns.proofs.Wearing.{wears-shown}
@@ -23,7 +24,9 @@ returns-in-Err g c =
     (block-compares c.in-On.powered c.block.new.self (link_step c.in-On.powered.link c.args.block.now).reaction
     c.in-Err.ensures.stage c.in-Err.ensures.compares) c.in-Err.ensures.writes
     c.in-Err.ensures.advances c.in-Err.ensures.stands c.in-Err.ensures.turned c.in-Err.ensures.compares
-    c.in-Err.ensures.idle)
+    c.in-Err.ensures.idle
+    (block-ahead c.in-On.powered c.block.new.self (link_step c.in-On.powered.link c.args.block.now).reaction
+    c.in-Err.ensures.compares kept.1 c.in-Err.ensures.advances.cut.wrote))
 
 pub returns-in-Ok : goal.returns-in-Ok
 returns-in-Ok g c =
@@ -41,7 +44,9 @@ returns-in-Ok g c =
     c.in-Ok.ensures.stage c.in-Ok.ensures.compares) good.faults c.in-Ok.ensures.writes in
     rw (← old) (plays_replied c.in-On.powered c.block.new.self c.args.block.now c.block.new.out lit
     c.in-Ok.ensures.has_card c.in-Ok.ensures.replies (λ is. (c.in-Ok.ensures.failed is).1) c.in-Ok.ensures.advances
-    guesses wears)
+    guesses (block-ahead c.in-On.powered c.block.new.self
+    (link_step c.in-On.powered.link c.args.block.now).reaction c.in-Ok.ensures.compares kept.1
+    c.in-Ok.ensures.advances.cut.wrote) wears)
 
 pub invariant_of-self-in-Ok : goal.invariant_of-self-in-Ok
 invariant_of-self-in-Ok g c =
