@@ -162,11 +162,13 @@ performed (Garble number) old new prints run =
     none-written line_runs old.bench new.bench (ap (λ (d : Desk). d.bench) run.0)
 
 -- each run is a counted event
+pub performs_counted : (order : Order) (old new : Desk) (prints : Print) → Performs order old new prints
+    → (wrote : WritesRuns (bench_facts old.bench) (bench_facts new.bench)) → length wrote.runs ≤ line_runs
+performs_counted order old new prints run wrote =
+    let counted = wrote.counted in let few = (performed order old new prints run).few in omega (arith, counted, few)
+
 pub performs_wrote : (order : Order) (old new : Desk) (prints : Print) → Performs order old new prints
     → WritesFew line_runs old.bench new.bench
 performs_wrote order old new prints run =
-    let counts = performed order old new prints run in
-    record {
-      wrote = counts.wrote;
-      few = let counted = counts.wrote.counted in let few = counts.few in omega (arith, counted, few);
-    }
+    let wrote = (performed order old new prints run).wrote in
+    record { wrote = wrote; few = performs_counted order old new prints run wrote }

@@ -1,3 +1,4 @@
+pub mod AheadLaws
 pub mod AnnouncedLaws
 pub mod FirstWriteLaws
 pub mod ImageLaws
@@ -5,4 +6,5 @@ pub mod InStepLaws
 pub mod LedRuns
 pub mod LogLaws
 pub mod OrderLaws
+pub mod PastRuns
 pub mod PlainRequests

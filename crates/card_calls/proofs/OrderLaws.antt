@@ -10,12 +10,12 @@ use Rattle.bench_lines.specs.Orders.{IsOrderSized, Order}
 use Rattle.bench_lines.specs.Printouts.{Print}
 use Rattle.bench_lines.specs.Spellings.{IsOrderOfBytes}
 use Rattle.bench_turns.specs.BenchStates.{BenchState, bench_facts}
-use Rattle.bench_turns.specs.Guessing.{GuessesFew, PaysFor}
+use Rattle.bench_turns.specs.Guessing.{GuessesFew, PaysAhead, PaysFor}
 use Rattle.bench_turns.specs.Plays.{IsGood}
 use Rattle.card_bench.specs.Charges.{RunsToFirst}
 use Rattle.card_bench.specs.Performing.{Performs}
 use Rattle.card_bench.proofs.GuessedLines.{performs_few}
-use Rattle.card_bench.proofs.WrittenLines.{performs_wrote}
+use Rattle.card_bench.proofs.WrittenLines.{performs_counted}
 use Rattle.card_calls.specs.Devices.{AllStored, logs_none}
 use Rattle.card_calls.specs.FirstWrites.{EndsCharge, HasNoCharge, IsFirstOf, IsTold, with_first}
 use Rattle.card_calls.specs.InStep.{IsInStep}
@@ -26,6 +26,7 @@ use Rattle.card_calls.specs.Telling.{MayNotRun, MayRun, TellsResult}
 use Rattle.card_calls.specs.declared.outcome.CallOutcome.{CallOutcome}
 use Rattle.card_calls.specs.declared.outcome.CallOutcome.TheVariants as outcome
 use Rattle.card_calls.specs.declared.device.TheConstants.{TWIN_WRITES}
+use Rattle.card_calls.proofs.AheadLaws.{order_ahead}
 use Rattle.card_calls.proofs.InStepLaws.{compares-none}
 use Rattle.card_calls.proofs.LedRuns.{led_by}
 
@@ -54,13 +55,18 @@ announced_of order was a is of = record {
 module _ (order : Order) (was now : SessionState) (prints : Print) (run : Performs order was.desk now.desk prints)
     (good : IsGood now.desk.bench) (there : IsInStep was.desk) (sized : IsOrderSized order)
     (bytes : IsOrderOfBytes order) where
+  -- its writes, the first of which pays
+  pub ahead : PaysAhead was.desk.bench now.desk.bench
+  ahead = order_ahead order was.desk now.desk prints there sized bytes run
+
   -- an order that ran
   abbrev pub performed : IsPerformed order was now prints
   performed = record {
     performs = run;
     good = good;
     guesses = performs_few order was.desk now.desk prints run;
-    made = (performs_wrote order was.desk now.desk prints run).wrote;
+    made = ahead.wrote;
+    ahead = ahead.paid;
     still = λ plain. compares-none order was.desk now.desk prints there sized bytes plain run;
   }
 
@@ -68,7 +74,7 @@ module _ (order : Order) (was now : SessionState) (prints : Print) (run : Perfor
   runs = performed.made.runs
 
   few : length runs < 2 ^ 64
-  few = let most = (performs_wrote order was.desk now.desk prints run).few in omega (arith, most)
+  few = let most = performs_counted order was.desk now.desk prints run ahead.wrote in omega (arith, most)
 
   module _ (before : MayRun order was) (told : IsTold was.announced was.desk) where
     first-told : (a : Announcement) → was.announced ≡ Some a → a.order ≡ order → IsFirstOf a.first order was.desk
