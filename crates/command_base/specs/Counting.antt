@@ -9,7 +9,7 @@ use Rattle.card_model.specs.Behaviours.{is_right, refused_by, Attempt}
 use Rattle.card_model.specs.Sessions.{Session}
 
 -- An answered attempt made one comparison, of its secret, and at least one device write. It counted a match if and only
--- if the value shown was right. (No clause says that the write was the charge, or came first.)
+-- if the value shown was right. (`ChargesFirst` says that the charge is the first write.)
 pub record CountsAttempt (right : Bool) (a : Attempt) (old new : Facts) : Type 0 where
   pub compared : new.compares ≡ raised old.compares a.secret
   pub matched : new.matches ≡ (if right then raised old.matches a.secret else old.matches)
