@@ -5,8 +5,8 @@ use Rattle.flash_board.specs.FlashCalls.{AreFilled}
 use Rattle.flash_board.specs.FlashLogs.{find, slot_of}
 
 -- The table has the slot of each page, by the first n slots.
-pub record IsPageTable (m : List ℕ) (base n : ℕ) (table : List ℕ) : Type 0 where
-  pub each : (p : ℕ) → p < 1024 → slice_index table p ≡ find m base n p
+pub record IsPageTable (pages : ℕ) (m : List ℕ) (base n : ℕ) (table : List ℕ) : Type 0 where
+  pub each : (p : ℕ) → p < pages → slice_index table p ≡ find m base n p
 
 -- From a slot on, up to the nth, all are blank.
 pub record AreFree (m : List ℕ) (base next n : ℕ) : Type 0 where

@@ -1,6 +1,5 @@
 -- Where the pages are, as working memory knows it.
 use Rattle.std.specs.Prelude.{◌≡◌, ◌<◌, ℕ, true, List}
-use Rattle.flash_board.specs.declared.layout.TheConstants.{SLOTS}
 use Rattle.flash_board.specs.declared.place.PageMap.{PageMap}
 use Rattle.flash_board.specs.declared.flash_log.FlashFault.{FlashFault}
 use Rattle.flash_board.specs.declared.flash_log.FlashFault.TheVariants.{NoLog, PowerLost, Fault}
@@ -10,24 +9,31 @@ use Rattle.flash_board.specs.FlashLogs.{base_in, turn_of, words_of}
 use Rattle.flash_board.specs.Rings.{IsRing}
 
 -- The place is that of the flash.
-pub record IsPlaceOf (m : List ℕ) (p : PageMap) : Type 0 where
-  pub turn : p.turn ≡ turn_of m
+pub record IsPlaceOf (pages slots : ℕ) (m : List ℕ) (p : PageMap) : Type 0 where
+  pub turn : p.turn ≡ turn_of slots m
   pub small : p.turn < 3
-  pub index : IsPageTable m (base_in p.turn) SLOTS p.table
-  pub free : AreFree m (base_in p.turn) p.next SLOTS
+  pub index : IsPageTable pages m (base_in slots p.turn) slots p.table
+  pub free : AreFree m (base_in slots p.turn) p.next slots
 
 -- The flash stands for words, and the place is its own where it says so.
-pub record IsLog (m : List ℕ) (p : PageMap) : Type 0 where
-  pub ring : IsRing m
-  pub known : p.ready ≡ true → IsPlaceOf m p
+pub record IsLog (pages slots : ℕ) (m : List ℕ) (p : PageMap) : Type 0 where
+  pub ring : IsRing slots m
+  pub known : p.ready ≡ true → IsPlaceOf pages slots m p
 
 -- A flash with the words of its board in place of its own.
-abbrev pub state_of : FlashState → FlashState
-state_of s =
-    record { words = words_of s.words; dark = s.dark; due = s.due; faults = s.faults; operations = s.operations }
+abbrev pub state_of : ℕ → ℕ → FlashState → FlashState
+state_of pages slots s =
+    record {
+      words = words_of pages slots s.words;
+      dark = s.dark;
+      due = s.due;
+      faults = s.faults;
+      operations =
+          s.operations;
+    }
 
 -- Why a flash is not taken: it has no log, and nothing changed; power was lost; or it failed. No word changed.
-abbrev pub OpenStopsBy : FlashFault → FlashState → FlashState → Type 0
-OpenStopsBy NoLog old new = (new ≡ old) × ¬ IsRing old.words
-OpenStopsBy PowerLost old new = GoesOut old new × (new.words ≡ old.words)
-OpenStopsBy Fault old new = HasFailed old new × (new.words ≡ old.words)
+abbrev pub OpenStopsBy : ℕ → FlashFault → FlashState → FlashState → Type 0
+OpenStopsBy slots NoLog old new = (new ≡ old) × ¬ IsRing slots old.words
+OpenStopsBy slots PowerLost old new = GoesOut old new × (new.words ≡ old.words)
+OpenStopsBy slots Fault old new = HasFailed old new × (new.words ≡ old.words)

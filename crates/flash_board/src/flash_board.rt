@@ -3,6 +3,7 @@ ghost use Rattle.std.specs.Prelude.{◌≡◌, ◌+◌, ◌*◌, ◌<◌, ◌≤
 ghost use Rattle.std.specs.Prelude.{All, Contains, IfOk, slice_index};
 ghost use Rattle.nvm_board.specs.declared.board.TheConstants.{SECRETS, COUNT_END};
 ghost use Rattle.nvm_board.specs.Facts.{AreWords};
+ghost use Rattle.flash_board.specs.declared.layout.TheConstants.{PAGES};
 
 use crate::flash::{Flash, FlashSocket};
 use crate::flash_log::FlashLog;
@@ -20,7 +21,7 @@ pub struct FlashBoard<F: Flash> {
     compares: [u64; SECRETS as usize],
     matches: [u64; SECRETS as usize],
     ghost lit: { dark ≡ false → log.dark ≡ false },
-    ghost sized: { length log.words ≡ 16384 },
+    ghost sized: { length log.words ≡ 16 * PAGES },
     ghost words_fit: { AreWords log.words },
     ghost compares_counted: { length compares ≡ SECRETS },
     ghost matches_counted: { length matches ≡ SECRETS },

@@ -3,7 +3,7 @@ ghost use Rattle.std.specs.Prelude.{◌≡◌, ◌⊎◌, ◌<◌, ◌≤◌, �
 ghost use Rattle.nvm_board.specs.Facts.{AreWords};
 ghost use Rattle.nvm_board.specs.Torn.{written};
 ghost use Rattle.flash_board.specs.FlashCalls.{Costs, Lights, Tries};
-ghost use Rattle.flash_board.specs.declared.layout.TheConstants.{TRIES};
+ghost use Rattle.flash_board.specs.declared.layout.TheConstants.{PAGES, TRIES};
 
 use crate::flash::{Flash, FlashSocket};
 use crate::image::blank_table;
@@ -34,12 +34,13 @@ pub struct FlashLog<F: Flash> {
 impl<F: Flash> Model for FlashLog<F> {
     ghost use Rattle.flash_board.specs.FlashCalls.{FlashState};
     ghost use Rattle.flash_board.specs.Places.{IsLog, state_of};
+    ghost use Rattle.flash_board.specs.declared.layout.TheConstants.{PAGES};
 
     ghost Value = { FlashState };
 
-    ghost view = { λ l. state_of (F.state l.flash) };
+    ghost view = { λ l. state_of PAGES F.SLOTS (F.state l.flash) };
 
-    ghost invariant = { λ l. IsLog (F.state l.flash).words l.place };
+    ghost invariant = { λ l. IsLog PAGES F.SLOTS (F.state l.flash).words l.place };
 }
 
 impl<F: Flash> FlashLog<F> {
@@ -48,8 +49,8 @@ impl<F: Flash> FlashLog<F> {
 
     /// The log of a flash that has one.
     pub fn new(flash: F) -> FlashLog<F>
-        requires { IsRing (F.state flash).words }
-        ensures is { result ≡ state_of (F.state flash) }
+        requires { IsRing F.SLOTS (F.state flash).words }
+        ensures is { result ≡ state_of PAGES F.SLOTS (F.state flash) }
     {
         FlashLog {
             flash,
@@ -69,9 +70,9 @@ impl<F: Flash> FlashLog<F> {
     /// The flash has no log, power was lost, or the flash failed.
     pub fn open(flash: F) -> Result<FlashLog<F>, (F, FlashFault)>
         requires { (F.state flash).dark ≡ false }
-        ensures log { IfOk result (λ l. l ≡ state_of (F.state flash)) }
-        ensures has_log { IfOk result (λ _. IsRing (F.state flash).words) }
-        ensures stopped { IfErr result (λ e. OpenStopsBy e.1 (F.state flash) (F.state e.0)) }
+        ensures log { IfOk result (λ l. l ≡ state_of PAGES F.SLOTS (F.state flash)) }
+        ensures has_log { IfOk result (λ _. IsRing F.SLOTS (F.state flash).words) }
+        ensures stopped { IfErr result (λ e. OpenStopsBy F.SLOTS e.1 (F.state flash) (F.state e.0)) }
     {
         let mut flash = flash;
         match has_ring(&mut flash) {
@@ -84,8 +85,8 @@ impl<F: Flash> FlashLog<F> {
 
     /// Gives the flash back, of which a log can be made again.
     pub fn into_flash(self) -> F
-        ensures is { state_of (F.state result) ≡ self }
-        ensures ring { IsRing (F.state result).words }
+        ensures is { state_of PAGES F.SLOTS (F.state result) ≡ self }
+        ensures ring { IsRing F.SLOTS (F.state result).words }
     {
         let FlashLog { flash, place: _ } = self;
         flash
@@ -93,7 +94,7 @@ impl<F: Flash> FlashLog<F> {
 
     /// Proves that there are 16 words a page, of 32 bits.
     pub fn words_fit(&self)
-        ensures size { length self.now.words ≡ 16384 }
+        ensures size { length self.now.words ≡ 16 * PAGES }
         ensures fit { AreWords self.now.words }
     {
         let _ = &self.flash;
@@ -102,7 +103,7 @@ impl<F: Flash> FlashLog<F> {
     /// Reads a word.
     pub fn read(&mut self, at: u16) -> Result<u32, DeviceErr>
         requires lit { self.old.dark ≡ false }
-        requires at { at < 16384 }
+        requires at { at < 16 * PAGES }
         ensures word { IfOk result (λ w. w ≡ slice_index self.old.words at) }
         ensures words { self.new.words ≡ self.old.words }
         ensures work { self.new.operations ≡ self.old.operations }
@@ -114,7 +115,7 @@ impl<F: Flash> FlashLog<F> {
     /// Writes a run of a page. At every exit all words of the run are old, or all are new.
     pub fn write(&mut self, page: u16, first: u8, words: &[u32]) -> Result<(), DeviceErr>
         requires lit { self.old.dark ≡ false }
-        requires page { page < 1024 }
+        requires page { page < PAGES }
         requires run { first + length words.now ≤ 16 }
         ensures whole { (self.new.words ≡ self.old.words)
             ⊎ (self.new.words ≡ written self.old.words (16 * page + first) words.now) }

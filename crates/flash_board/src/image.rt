@@ -2,7 +2,7 @@
 ghost use Rattle.std.specs.Prelude.{◌≡◌, ◌⊎◌, ◌<◌, ◌≤◌, ◌+◌, ℕ, false, length, slice_index, IfOk};
 ghost use Rattle.flash_board.specs.FlashCalls.{Lights};
 ghost use Rattle.flash_board.specs.FlashLogs.{base_in, find, page_word};
-ghost use Rattle.flash_board.specs.declared.layout.TheConstants.{SLOTS};
+ghost use Rattle.flash_board.specs.declared.layout.TheConstants.{PAGES};
 
 use crate::flash::Flash;
 use crate::layout::slot_at;
@@ -14,7 +14,7 @@ pub type PageTable = [u16; 1024];
 
 /// Returns the table of a board that was never written.
 pub fn blank_table() -> PageTable
-    ensures { (p : ℕ) → p < 1024 → slice_index result p ≡ 0 }
+    ensures { (p : ℕ) → p < PAGES → slice_index result p ≡ 0 }
 {
     [0; 1024]
 }
@@ -28,10 +28,11 @@ pub fn read_page_word<F: Flash>(
     place: u16,
 ) -> Result<u32, DeviceErr>
     requires lit { (F.state flash.old).dark ≡ false }
-    requires entry { slice_index table.now page ≡ find (F.state flash.old).words (base_in area) SLOTS page }
-    requires page { page < 1024 }
+    requires entry { slice_index table.now page ≡ find (F.state flash.old).words (base_in F.SLOTS area) F.SLOTS page }
+    requires page { page < PAGES }
     requires place { place < 16 }
-    ensures word { IfOk result (λ w. w ≡ page_word (F.state flash.old).words (base_in area) SLOTS page place) }
+    ensures word { IfOk result (λ w. w ≡ page_word (F.state flash.old).words
+        (base_in F.SLOTS area) F.SLOTS page place) }
     ensures words { (F.state flash.new).words ≡ (F.state flash.old).words }
     ensures work { (F.state flash.new).operations ≡ (F.state flash.old).operations }
     ensures light { Lights (F.state flash.old) (F.state flash.new) result }
@@ -40,7 +41,7 @@ pub fn read_page_word<F: Flash>(
     if found == 0 {
         return Ok(0);
     }
-    let word = flash.read(slot_at(area, found - 1) + u32::from(place))?;
+    let word = flash.read(slot_at::<F>(area, found - 1) + u32::from(place))?;
     Ok(word)
 }
 
@@ -52,10 +53,10 @@ pub fn record_of<F: Flash>(
     page: u16,
 ) -> Result<Record, DeviceErr>
     requires lit { (F.state flash.old).dark ≡ false }
-    requires entry { slice_index table.now page ≡ find (F.state flash.old).words (base_in area) SLOTS page }
-    requires page { page < 1024 }
+    requires entry { slice_index table.now page ≡ find (F.state flash.old).words (base_in F.SLOTS area) F.SLOTS page }
+    requires page { page < PAGES }
     ensures each { IfOk result (λ r. (k : ℕ) → k < 16
-        → slice_index r k ≡ page_word (F.state flash.old).words (base_in area) SLOTS page k) }
+        → slice_index r k ≡ page_word (F.state flash.old).words (base_in F.SLOTS area) F.SLOTS page k) }
     ensures names { IfOk result (λ r. slice_index r 16 ≡ page) }
     ensures words { (F.state flash.new).words ≡ (F.state flash.old).words }
     ensures work { (F.state flash.new).operations ≡ (F.state flash.old).operations }

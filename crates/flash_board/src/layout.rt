@@ -1,13 +1,13 @@
 //! Where things lie in the flash.
-ghost use Rattle.std.specs.Prelude.{◌≡◌, ◌<◌, ◌≤◌};
+ghost use Rattle.std.specs.Prelude.{◌≡◌, ◌+◌, ◌<◌, ◌≤◌};
+ghost use Rattle.flash_board.specs.FlashBlocks.{area_size, flash_size};
 ghost use Rattle.flash_board.specs.FlashLogs.{slot_of, base_in, close_of};
-ghost use Rattle.flash_board.specs.declared.layout.TheConstants.{SLOTS};
+ghost use Rattle.flash_board.specs.declared.flash.TheConstants.{BLOCKS};
+
+use crate::flash::Flash;
 
 /// The number of pages of the board.
 pub const PAGES: u16 = 1024;
-
-/// The number of slots of an area.
-pub const SLOTS: u16 = 1280;
 
 /// The number of slots of an area that a move may pass over, since they fail.
 pub const SPARES: u16 = 255;
@@ -24,41 +24,55 @@ pub const RECORD_WORDS: u32 = 18;
 /// The place of the number of the page in a record.
 pub const NUMBER_PLACE: u32 = 16;
 
-/// The number of words of an area: its slots, and the mark that closes it.
-pub const AREA_WORDS: u32 = 25602;
-
 /// The first word of a mark.
 pub const FIRST_MARK: u32 = 0x436F_6D6D;
 
 /// The second word of a mark.
 pub const SECOND_MARK: u32 = 0x6974_7321;
 
-/// The address of a slot of an area.
-pub fn slot_at(area: u8, slot: u16) -> u32
-    requires { slot < SLOTS }
-    ensures { result ≡ slot_of (base_in area) slot }
+/// The number of words of an area of so many slots, with the mark that closes it.
+pub fn area_words(slots: u16) -> u32
+    ensures is { result ≡ area_size slots }
+    ensures most { result ≤ 1310702 }
 {
-    base_of(area) + SLOT_WORDS * u32::from(slot)
+    SLOT_WORDS * u32::from(slots) + 2
+}
+
+/// The number of words of a flash with so many slots in each area: two areas and the witness.
+pub fn flash_words(slots: u16) -> u32
+    ensures { result ≡ flash_size slots }
+{
+    let area = area_words(slots);
+    area + area + 2
 }
 
 /// The address of an area.
-pub fn base_of(area: u8) -> u32
-    ensures is { result ≡ base_in area }
-    ensures most { result ≤ 25602 }
+fn base_of<F: Flash>(area: u8) -> u32
+    ensures is { result ≡ base_in F.SLOTS area }
+    ensures most { result ≤ 1310702 }
 {
-    if area == 0 { 0 } else { AREA_WORDS }
+    if area == 0 { 0 } else { area_words(F::SLOTS) }
+}
+
+/// The address of a slot of an area.
+pub fn slot_at<F: Flash>(area: u8, slot: u16) -> u32
+    requires { slot < F.SLOTS }
+    ensures is { result ≡ slot_of (base_in F.SLOTS area) slot }
+    ensures within { result + 20 ≤ flash_size F.SLOTS }
+{
+    base_of::<F>(area) + SLOT_WORDS * u32::from(slot)
 }
 
 /// The address of the mark that closes a block.
-pub fn close_at(block: u8) -> u32
-    ensures is { result ≡ close_of block }
-    ensures most { result ≤ 51204 }
+pub fn close_at<F: Flash>(block: u8) -> u32
+    requires { block < BLOCKS }
+    ensures is { result ≡ close_of F.SLOTS block }
+    ensures within { result + 2 ≤ flash_size F.SLOTS }
 {
-    if block == 0 {
-        25600
-    } else if block == 1 {
-        51202
-    } else {
-        51204
+    let area = area_words(F::SLOTS);
+    match block {
+        0 => area - 2,
+        1 => area + area - 2,
+        _ => area + area,
     }
 }

@@ -15,8 +15,8 @@ mod steps;
 mod turns;
 mod writing;
 
-pub use flash::{BLANK, BLOCKS, FLASH_WORDS, Flash, FlashSocket};
+pub use flash::{BLANK, BLOCKS, Flash, FlashSocket};
 pub use flash_board::FlashBoard;
 pub use flash_log::{FlashFault, FlashLog};
-pub use layout::{AREA_WORDS, PAGES, RECORD_WORDS, SLOT_WORDS, SLOTS};
+pub use layout::{PAGES, RECORD_WORDS, SLOT_WORDS, flash_words};
 pub use turns::format_flash;

@@ -1,11 +1,11 @@
 //! Copies of the pages to another area.
-ghost use Rattle.std.specs.Prelude.{◌≡◌, ◌<◌, ◌≤◌, ◌+◌, ◌-◌, false, slice_index, IfOk};
+ghost use Rattle.std.specs.Prelude.{◌≡◌, ◌<◌, ◌≤◌, ◌+◌, ◌-◌, ◌*◌, false, slice_index, IfOk};
 ghost use Rattle.flash_board.specs.FlashCalls.{Costs, SameElsewhere, Tries};
 ghost use Rattle.flash_board.specs.CopyParts.{CopiesPage, HasCopied, KeepsOthers};
 ghost use Rattle.flash_board.specs.PageTables.{IsPageTable, AreFree};
 ghost use Rattle.flash_board.specs.FlashLogs.{base_in, find, slot_of};
 ghost use Rattle.flash_board.specs.SlotParts.{IsPut};
-ghost use Rattle.flash_board.specs.declared.layout.TheConstants.{SLOTS, SPARES};
+ghost use Rattle.flash_board.specs.declared.layout.TheConstants.{PAGES, SPARES};
 
 use crate::flash::Flash;
 use crate::image::{PageTable, record_of};
@@ -23,17 +23,20 @@ fn put_in_spare<F: Flash>(
 ) -> Result<u16, DeviceErr>
     requires lit { (F.state flash.old).dark ≡ false }
     requires some { next < end }
-    requires end { end ≤ SLOTS }
-    requires free { AreFree (F.state flash.old).words (base_in area) next SLOTS }
-    ensures elsewhere { SameElsewhere (F.state flash.old).words (base_in area) 25600 (F.state flash.new).words }
-    ensures put { IfOk result (λ s. s < end × IsPut (F.state flash.new).words (slot_of (base_in area) s) words.now
-        × KeepsOthers (F.state flash.old).words (base_in area) (slice_index words.now 16) (F.state flash.new).words
+    requires end { end ≤ F.SLOTS }
+    requires free { AreFree (F.state flash.old).words (base_in F.SLOTS area) next F.SLOTS }
+    ensures elsewhere { SameElsewhere (F.state flash.old).words (base_in F.SLOTS area) (20 * F.SLOTS)
+        (F.state flash.new).words }
+    ensures put { IfOk result (λ s. s < end
+        × IsPut (F.state flash.new).words (slot_of (base_in F.SLOTS area) s) words.now
+        × KeepsOthers F.SLOTS (F.state flash.old).words (base_in F.SLOTS area) (slice_index words.now 16)
+        (F.state flash.new).words
         (s + 1)) }
     ensures light { Tries (end - next) (F.state flash.old) (F.state flash.new) result }
     ensures work { Costs 2 2 (F.state flash.old) (F.state flash.new) }
 {
     for slot in next..end {
-        match program_record(flash, slot_at(area, slot), words) {
+        match program_record(flash, slot_at::<F>(area, slot), words) {
             Ok(()) => return Ok(slot),
             Err(DeviceErr::PowerLost) => return Err(DeviceErr::PowerLost),
             Err(DeviceErr::Fault) => {}
@@ -53,13 +56,15 @@ fn copy_page<F: Flash>(
     page: u16,
 ) -> Result<u16, DeviceErr>
     requires lit { (F.state flash.old).dark ≡ false }
-    requires page { page < 1024 }
+    requires page { page < PAGES }
     requires next { next ≤ page + SPARES }
-    requires entry { slice_index table.old page ≡ find (F.state flash.old).words (base_in from) SLOTS page }
-    requires left { find (F.state flash.old).words (base_in to) SLOTS page ≡ 0 }
-    requires free { AreFree (F.state flash.old).words (base_in to) next SLOTS }
-    ensures elsewhere { SameElsewhere (F.state flash.old).words (base_in to) 25600 (F.state flash.new).words }
-    ensures copies { IfOk result (λ n. CopiesPage (F.state flash.old).words table.old (base_in from) (base_in to) page
+    requires entry { slice_index table.old page ≡ find (F.state flash.old).words (base_in F.SLOTS from) F.SLOTS page }
+    requires left { find (F.state flash.old).words (base_in F.SLOTS to) F.SLOTS page ≡ 0 }
+    requires free { AreFree (F.state flash.old).words (base_in F.SLOTS to) next F.SLOTS }
+    ensures elsewhere { SameElsewhere (F.state flash.old).words (base_in F.SLOTS to) (20 * F.SLOTS)
+        (F.state flash.new).words }
+    ensures copies { IfOk result (λ n. CopiesPage F.SLOTS (F.state flash.old).words table.old (base_in F.SLOTS from)
+        (base_in F.SLOTS to) page
         (F.state flash.new).words table.new n) }
     ensures more { IfOk result (λ n. n ≤ page + 1 + SPARES) }
     ensures light { Tries 1 (F.state flash.old) (F.state flash.new) result }
@@ -83,10 +88,12 @@ pub fn copy_pages<F: Flash>(
 ) -> Result<u16, DeviceErr>
     requires lit { (F.state flash.old).dark ≡ false }
     requires areas { from + to ≡ 1 }
-    requires index { IsPageTable (F.state flash.old).words (base_in from) SLOTS table.old }
-    requires free { AreFree (F.state flash.old).words (base_in to) 0 SLOTS }
-    ensures elsewhere { SameElsewhere (F.state flash.old).words (base_in to) 25600 (F.state flash.new).words }
-    ensures copied { IfOk result (λ n. HasCopied (F.state flash.old).words table.old (base_in from) (base_in to) 1024
+    requires index { IsPageTable PAGES (F.state flash.old).words (base_in F.SLOTS from) F.SLOTS table.old }
+    requires free { AreFree (F.state flash.old).words (base_in F.SLOTS to) 0 F.SLOTS }
+    ensures elsewhere { SameElsewhere (F.state flash.old).words (base_in F.SLOTS to) (20 * F.SLOTS)
+        (F.state flash.new).words }
+    ensures copied { IfOk result (λ n. HasCopied F.SLOTS (F.state flash.old).words table.old (base_in F.SLOTS from)
+        (base_in F.SLOTS to) PAGES
         (F.state flash.new).words table.new n) }
     ensures light { Tries 1 (F.state flash.old) (F.state flash.new) result }
     ensures work { Costs 2048 2 (F.state flash.old) (F.state flash.new) }

@@ -1,12 +1,13 @@
 //! Records and marks.
 ghost use Rattle.std.specs.Prelude.{◌≡◌, ◌<◌, ◌≤◌, ◌+◌, true, false, IfOk, OnOk, length};
 ghost use Rattle.flash_board.specs.FlashCalls.{Lights, SameElsewhere, IsThere, AreFilled};
-ghost use Rattle.flash_board.specs.FlashLogs.{is_marked as has_mark, is_closed as has_closed};
+ghost use Rattle.flash_board.specs.FlashBlocks.{flash_size};
+ghost use Rattle.flash_board.specs.FlashLogs.{is_marked as has_mark, is_closed as has_closed, close_of};
 ghost use Rattle.flash_board.specs.SlotParts.{PutsInSlot, IsPut};
-ghost use Rattle.flash_board.specs.declared.flash.TheConstants.{BLANK, FLASH_WORDS};
+ghost use Rattle.flash_board.specs.declared.flash.TheConstants.{BLANK, BLOCKS};
 
 use crate::flash::{BLANK, Flash};
-use crate::layout::{FIRST_MARK, RECORD_WORDS, SECOND_MARK, SLOT_WORDS};
+use crate::layout::{FIRST_MARK, RECORD_WORDS, SECOND_MARK, SLOT_WORDS, close_at};
 use nvm_board::DeviceErr;
 
 /// The words of a record.
@@ -15,7 +16,7 @@ pub type Record = [u32; 18];
 /// Returns true if a mark is at the address.
 pub fn is_marked<F: Flash>(flash: &mut F, at: u32) -> Result<bool, DeviceErr>
     requires lit { (F.state flash.old).dark ≡ false }
-    requires within { at + 2 ≤ FLASH_WORDS }
+    requires within { at + 2 ≤ flash_size F.SLOTS }
     ensures marked { IfOk result (λ b. b ≡ has_mark (F.state flash.old).words at) }
     ensures words { (F.state flash.new).words ≡ (F.state flash.old).words }
     ensures work { (F.state flash.new).operations ≡ (F.state flash.old).operations }
@@ -30,7 +31,7 @@ pub fn is_marked<F: Flash>(flash: &mut F, at: u32) -> Result<bool, DeviceErr>
 pub fn program_mark<F: Flash>(flash: &mut F, at: u32) -> Result<(), DeviceErr>
     requires lit { (F.state flash.old).dark ≡ false }
     requires blank { AreFilled (F.state flash.old).words at 2 BLANK }
-    requires within { at + 2 ≤ FLASH_WORDS }
+    requires within { at + 2 ≤ flash_size F.SLOTS }
     ensures done { OnOk result (has_mark (F.state flash.new).words at ≡ true) }
     ensures elsewhere { SameElsewhere (F.state flash.old).words at 2 (F.state flash.new).words }
     ensures work { (F.state flash.new).operations ≤ (F.state flash.old).operations + 1 }
@@ -40,15 +41,16 @@ pub fn program_mark<F: Flash>(flash: &mut F, at: u32) -> Result<(), DeviceErr>
     Ok(())
 }
 
-/// Returns true if the place of a mark is not blank.
-pub fn is_closed<F: Flash>(flash: &mut F, at: u32) -> Result<bool, DeviceErr>
+/// Returns true if a block is closed: the place of its mark is not blank.
+pub fn is_closed<F: Flash>(flash: &mut F, block: u8) -> Result<bool, DeviceErr>
     requires lit { (F.state flash.old).dark ≡ false }
-    requires within { at + 2 ≤ FLASH_WORDS }
-    ensures closed { IfOk result (λ b. b ≡ has_closed (F.state flash.old).words at) }
+    requires block { block < BLOCKS }
+    ensures closed { IfOk result (λ b. b ≡ has_closed (F.state flash.old).words (close_of F.SLOTS block)) }
     ensures words { (F.state flash.new).words ≡ (F.state flash.old).words }
     ensures work { (F.state flash.new).operations ≡ (F.state flash.old).operations }
     ensures light { Lights (F.state flash.old) (F.state flash.new) result }
 {
+    let at = close_at::<F>(block);
     let first = flash.read(at)?;
     let second = flash.read(at + 1)?;
     if first != BLANK {
@@ -58,16 +60,16 @@ pub fn is_closed<F: Flash>(flash: &mut F, at: u32) -> Result<bool, DeviceErr>
 }
 
 /// Closes a block.
-pub fn close<F: Flash>(flash: &mut F, at: u32) -> Result<(), DeviceErr>
+pub fn close<F: Flash>(flash: &mut F, block: u8) -> Result<(), DeviceErr>
     requires lit { (F.state flash.old).dark ≡ false }
-    requires opened { has_closed (F.state flash.old).words at ≡ false }
-    requires within { at + 2 ≤ FLASH_WORDS }
-    ensures done { OnOk result (has_closed (F.state flash.new).words at ≡ true) }
-    ensures elsewhere { SameElsewhere (F.state flash.old).words at 2 (F.state flash.new).words }
+    requires block { block < BLOCKS }
+    requires opened { has_closed (F.state flash.old).words (close_of F.SLOTS block) ≡ false }
+    ensures done { OnOk result (has_closed (F.state flash.new).words (close_of F.SLOTS block) ≡ true) }
+    ensures elsewhere { SameElsewhere (F.state flash.old).words (close_of F.SLOTS block) 2 (F.state flash.new).words }
     ensures work { (F.state flash.new).operations ≤ (F.state flash.old).operations + 1 }
     ensures light { Lights (F.state flash.old) (F.state flash.new) result }
 {
-    flash.program(at, &[FIRST_MARK, SECOND_MARK])?;
+    flash.program(close_at::<F>(block), &[FIRST_MARK, SECOND_MARK])?;
     Ok(())
 }
 
@@ -75,7 +77,7 @@ pub fn close<F: Flash>(flash: &mut F, at: u32) -> Result<(), DeviceErr>
 /// record and its mark.
 pub fn program_record<F: Flash>(flash: &mut F, at: u32, words: &Record) -> Result<(), DeviceErr>
     requires lit { (F.state flash.old).dark ≡ false }
-    requires within { at + 20 ≤ FLASH_WORDS }
+    requires within { at + 20 ≤ flash_size F.SLOTS }
     requires blank { AreFilled (F.state flash.old).words at 20 BLANK }
     ensures puts { PutsInSlot (F.state flash.old).words at words.now (F.state flash.new).words }
     ensures done { OnOk result (IsPut (F.state flash.new).words at words.now) }
@@ -90,7 +92,7 @@ pub fn program_record<F: Flash>(flash: &mut F, at: u32, words: &Record) -> Resul
 /// Returns true if all words of a slot are blank.
 pub fn is_blank<F: Flash>(flash: &mut F, at: u32) -> Result<bool, DeviceErr>
     requires lit { (F.state flash.old).dark ≡ false }
-    requires within { at + 20 ≤ FLASH_WORDS }
+    requires within { at + 20 ≤ flash_size F.SLOTS }
     ensures blank { IfOk result (λ b. b ≡ true → AreFilled (F.state flash.old).words at 20 BLANK) }
     ensures words { (F.state flash.new).words ≡ (F.state flash.old).words }
     ensures work { (F.state flash.new).operations ≡ (F.state flash.old).operations }

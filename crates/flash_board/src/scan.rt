@@ -3,11 +3,11 @@ ghost use Rattle.std.specs.Prelude.{◌≡◌, ◌≤◌, ◌<◌, ◌+◌, fals
 ghost use Rattle.flash_board.specs.FlashCalls.{Lights};
 ghost use Rattle.flash_board.specs.PageTables.{IsPageTable, AreFree};
 ghost use Rattle.flash_board.specs.FlashLogs.{base_in};
-ghost use Rattle.flash_board.specs.declared.layout.TheConstants.{SLOTS};
+ghost use Rattle.flash_board.specs.declared.layout.TheConstants.{PAGES};
 
 use crate::flash::Flash;
 use crate::image::{PageTable, blank_table};
-use crate::layout::{NUMBER_PLACE, PAGES, RECORD_WORDS, SLOTS, slot_at};
+use crate::layout::{NUMBER_PLACE, PAGES, RECORD_WORDS, slot_at};
 use crate::record::{is_blank, is_marked};
 use nvm_board::DeviceErr;
 
@@ -20,16 +20,17 @@ fn scan_slot<F: Flash>(
     table: &mut PageTable,
 ) -> Result<u16, DeviceErr>
     requires lit { (F.state flash.old).dark ≡ false }
-    requires below { slot < SLOTS }
-    requires index { IsPageTable (F.state flash.old).words (base_in area) slot table.old }
-    requires free { AreFree (F.state flash.old).words (base_in area) next slot }
-    ensures index { IfOk result (λ _. IsPageTable (F.state flash.old).words (base_in area) (slot + 1) table.new) }
-    ensures free { IfOk result (λ n. AreFree (F.state flash.old).words (base_in area) n (slot + 1)) }
+    requires below { slot < F.SLOTS }
+    requires index { IsPageTable PAGES (F.state flash.old).words (base_in F.SLOTS area) slot table.old }
+    requires free { AreFree (F.state flash.old).words (base_in F.SLOTS area) next slot }
+    ensures index { IfOk result (λ _. IsPageTable PAGES (F.state flash.old).words (base_in F.SLOTS area)
+        (slot + 1) table.new) }
+    ensures free { IfOk result (λ n. AreFree (F.state flash.old).words (base_in F.SLOTS area) n (slot + 1)) }
     ensures words { (F.state flash.new).words ≡ (F.state flash.old).words }
     ensures work { (F.state flash.new).operations ≡ (F.state flash.old).operations }
     ensures light { Lights (F.state flash.old) (F.state flash.new) result }
 {
-    let at = slot_at(area, slot);
+    let at = slot_at::<F>(area, slot);
     if is_marked(flash, at + RECORD_WORDS)? {
         let number = flash.read(at + NUMBER_PLACE)?;
         if number < u32::from(PAGES) {
@@ -46,15 +47,16 @@ fn scan_slot<F: Flash>(
 /// Finds the slot of each page, and returns the first slot that is free, with all that follow it.
 pub fn scan<F: Flash>(flash: &mut F, area: u8, table: &mut PageTable) -> Result<u16, DeviceErr>
     requires lit { (F.state flash.old).dark ≡ false }
-    ensures index { IfOk result (λ _. IsPageTable (F.state flash.old).words (base_in area) SLOTS table.new) }
-    ensures free { IfOk result (λ n. AreFree (F.state flash.old).words (base_in area) n SLOTS) }
+    ensures index { IfOk result (λ _. IsPageTable PAGES (F.state flash.old).words
+        (base_in F.SLOTS area) F.SLOTS table.new) }
+    ensures free { IfOk result (λ n. AreFree (F.state flash.old).words (base_in F.SLOTS area) n F.SLOTS) }
     ensures words { (F.state flash.new).words ≡ (F.state flash.old).words }
     ensures work { (F.state flash.new).operations ≡ (F.state flash.old).operations }
     ensures light { Lights (F.state flash.old) (F.state flash.new) result }
 {
     *table = blank_table();
     let mut next = 0;
-    for slot in 0..SLOTS {
+    for slot in 0..F::SLOTS {
         next = scan_slot(flash, area, slot, next, table)?;
     }
     Ok(next)

@@ -4,11 +4,11 @@ ghost use Rattle.nvm_board.specs.Torn.{written};
 ghost use Rattle.flash_board.specs.FlashCalls.{Costs, Lights, Tries};
 ghost use Rattle.flash_board.specs.FlashLogs.{words_of};
 ghost use Rattle.flash_board.specs.Places.{IsLog, IsPlaceOf};
-ghost use Rattle.flash_board.specs.declared.layout.TheConstants.{SLOTS, TRIES};
+ghost use Rattle.flash_board.specs.declared.layout.TheConstants.{PAGES, TRIES};
 
 use crate::flash::Flash;
 use crate::image::read_page_word;
-use crate::layout::{SLOTS, TRIES};
+use crate::layout::TRIES;
 use crate::place::PageMap;
 use crate::scan::scan;
 use crate::turns::{find_turn, home, move_to_a, move_to_b, pass_witness};
@@ -16,12 +16,12 @@ use crate::writing::write_run;
 use nvm_board::DeviceErr;
 
 /// Passes over the slots that were tried.
-fn later(next: u16, tried: u16) -> u16
-    requires { next ≤ SLOTS }
+fn later<F: Flash>(next: u16, tried: u16) -> u16
+    requires { next ≤ F.SLOTS }
     ensures least { next ≤ result }
-    ensures most { result ≤ SLOTS }
+    ensures most { result ≤ F.SLOTS }
 {
-    if next < tried && tried <= SLOTS {
+    if next < tried && tried <= F::SLOTS {
         tried
     } else {
         next
@@ -31,10 +31,10 @@ fn later(next: u16, tried: u16) -> u16
 /// Finds the pages, if they are not known.
 pub fn find_pages<F: Flash>(flash: &mut F, place: &mut PageMap) -> Result<(), DeviceErr>
     requires lit { (F.state flash.old).dark ≡ false }
-    requires log { IsLog (F.state flash.old).words place.old }
+    requires log { IsLog PAGES F.SLOTS (F.state flash.old).words place.old }
     ensures words { (F.state flash.new).words ≡ (F.state flash.old).words }
     ensures work { (F.state flash.new).operations ≡ (F.state flash.old).operations }
-    ensures log { IsLog (F.state flash.new).words place.new }
+    ensures log { IsLog PAGES F.SLOTS (F.state flash.new).words place.new }
     ensures ready { OnOk result (place.new.ready ≡ true) }
     ensures light { Lights (F.state flash.old) (F.state flash.new) result }
 {
@@ -44,7 +44,7 @@ pub fn find_pages<F: Flash>(flash: &mut F, place: &mut PageMap) -> Result<(), De
     let turn = find_turn(flash)?;
     let next = scan(flash, home(turn), &mut place.table)?;
     place.turn = turn;
-    place.next = later(next, place.tried);
+    place.next = later::<F>(next, place.tried);
     place.ready = true;
     Ok(())
 }
@@ -52,16 +52,17 @@ pub fn find_pages<F: Flash>(flash: &mut F, place: &mut PageMap) -> Result<(), De
 /// Makes room for a record.
 pub fn make_room<F: Flash>(flash: &mut F, place: &mut PageMap) -> Result<(), DeviceErr>
     requires lit { (F.state flash.old).dark ≡ false }
-    requires log { IsLog (F.state flash.old).words place.old }
+    requires log { IsLog PAGES F.SLOTS (F.state flash.old).words place.old }
     requires ready { place.old.ready ≡ true }
-    ensures words { words_of (F.state flash.new).words ≡ words_of (F.state flash.old).words }
-    ensures log { IsLog (F.state flash.new).words place.new }
+    ensures words { words_of PAGES F.SLOTS (F.state flash.new).words
+        ≡ words_of PAGES F.SLOTS (F.state flash.old).words }
+    ensures log { IsLog PAGES F.SLOTS (F.state flash.new).words place.new }
     ensures ready { OnOk result (place.new.ready ≡ true) }
-    ensures room { OnOk result (place.new.next < SLOTS) }
+    ensures room { OnOk result (place.new.next < F.SLOTS) }
     ensures light { Tries 1 (F.state flash.old) (F.state flash.new) result }
     ensures work { Costs 2052 2 (F.state flash.old) (F.state flash.new) }
 {
-    if place.next < SLOTS {
+    if place.next < F::SLOTS {
         return Ok(());
     }
     place.ready = false;
@@ -86,12 +87,12 @@ pub fn make_room<F: Flash>(flash: &mut F, place: &mut PageMap) -> Result<(), Dev
 /// Reads a word of the board.
 pub fn read_at<F: Flash>(flash: &mut F, place: &mut PageMap, at: u16) -> Result<u32, DeviceErr>
     requires lit { (F.state flash.old).dark ≡ false }
-    requires log { IsLog (F.state flash.old).words place.old }
-    requires at { at < 16384 }
-    ensures word { IfOk result (λ w. w ≡ slice_index (words_of (F.state flash.old).words) at) }
+    requires log { IsLog PAGES F.SLOTS (F.state flash.old).words place.old }
+    requires at { at < 16 * PAGES }
+    ensures word { IfOk result (λ w. w ≡ slice_index (words_of PAGES F.SLOTS (F.state flash.old).words) at) }
     ensures words { (F.state flash.new).words ≡ (F.state flash.old).words }
     ensures work { (F.state flash.new).operations ≡ (F.state flash.old).operations }
-    ensures log { IsLog (F.state flash.new).words place.new }
+    ensures log { IsLog PAGES F.SLOTS (F.state flash.new).words place.new }
     ensures light { Lights (F.state flash.old) (F.state flash.new) result }
 {
     find_pages(flash, place)?;
@@ -108,15 +109,16 @@ fn write_once<F: Flash>(
     words: &[u32],
 ) -> Result<(), DeviceErr>
     requires lit { (F.state flash.old).dark ≡ false }
-    requires log { IsLog (F.state flash.old).words place.old }
-    requires page { page < 1024 }
+    requires log { IsLog PAGES F.SLOTS (F.state flash.old).words place.old }
+    requires page { page < PAGES }
     requires run { first + length words.now ≤ 16 }
-    ensures whole { (words_of (F.state flash.new).words ≡ words_of (F.state flash.old).words)
-        ⊎ (words_of (F.state flash.new).words
-        ≡ written (words_of (F.state flash.old).words) (16 * page + first) words.now) }
-    ensures done { OnOk result (words_of (F.state flash.new).words
-        ≡ written (words_of (F.state flash.old).words) (16 * page + first) words.now) }
-    ensures log { IsLog (F.state flash.new).words place.new }
+    ensures whole { (words_of PAGES F.SLOTS (F.state flash.new).words
+        ≡ words_of PAGES F.SLOTS (F.state flash.old).words)
+        ⊎ (words_of PAGES F.SLOTS (F.state flash.new).words
+        ≡ written (words_of PAGES F.SLOTS (F.state flash.old).words) (16 * page + first) words.now) }
+    ensures done { OnOk result (words_of PAGES F.SLOTS (F.state flash.new).words
+        ≡ written (words_of PAGES F.SLOTS (F.state flash.old).words) (16 * page + first) words.now) }
+    ensures log { IsLog PAGES F.SLOTS (F.state flash.new).words place.new }
     ensures light { Tries 1 (F.state flash.old) (F.state flash.new) result }
     ensures work { Costs 2054 2 (F.state flash.old) (F.state flash.new) }
 {
@@ -148,15 +150,16 @@ pub fn write_at<F: Flash>(
     words: &[u32],
 ) -> Result<(), DeviceErr>
     requires lit { (F.state flash.old).dark ≡ false }
-    requires log { IsLog (F.state flash.old).words place.old }
-    requires page { page < 1024 }
+    requires log { IsLog PAGES F.SLOTS (F.state flash.old).words place.old }
+    requires page { page < PAGES }
     requires run { first + length words.now ≤ 16 }
-    ensures whole { (words_of (F.state flash.new).words ≡ words_of (F.state flash.old).words)
-        ⊎ (words_of (F.state flash.new).words
-        ≡ written (words_of (F.state flash.old).words) (16 * page + first) words.now) }
-    ensures done { OnOk result (words_of (F.state flash.new).words
-        ≡ written (words_of (F.state flash.old).words) (16 * page + first) words.now) }
-    ensures log { IsLog (F.state flash.new).words place.new }
+    ensures whole { (words_of PAGES F.SLOTS (F.state flash.new).words
+        ≡ words_of PAGES F.SLOTS (F.state flash.old).words)
+        ⊎ (words_of PAGES F.SLOTS (F.state flash.new).words
+        ≡ written (words_of PAGES F.SLOTS (F.state flash.old).words) (16 * page + first) words.now) }
+    ensures done { OnOk result (words_of PAGES F.SLOTS (F.state flash.new).words
+        ≡ written (words_of PAGES F.SLOTS (F.state flash.old).words) (16 * page + first) words.now) }
+    ensures log { IsLog PAGES F.SLOTS (F.state flash.new).words place.new }
     ensures light { Tries TRIES (F.state flash.old) (F.state flash.new) result }
     ensures work { Costs 2054 2056 (F.state flash.old) (F.state flash.new) }
 {

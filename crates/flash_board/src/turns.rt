@@ -1,12 +1,13 @@
 //! Whose turn it is: the three blocks stand in a ring, and the turn is that of the open block behind a closed one.
 //! In turn 0 the pages are in area A, in turns 1 and 2 in area B. The block behind that of the turn holds anything.
-ghost use Rattle.std.specs.Prelude.{◌≡◌, ◌≢◌, ◌⊎◌, ◌<◌, ◌≤◌, ◌+◌, ℕ, true, false, IfOk, OnOk, slice_index};
+ghost use Rattle.std.specs.Prelude.{◌≡◌, ◌≢◌, ◌⊎◌, ◌<◌, ◌≤◌, ◌+◌, ◌*◌, ℕ, true, false, IfOk, OnOk, slice_index};
 ghost use Rattle.flash_board.specs.FlashCalls.{Costs, Lights, SameElsewhere, Tries};
 ghost use Rattle.flash_board.specs.PageTables.{IsPageTable, AreFree};
-ghost use Rattle.flash_board.specs.FlashLogs.{base_in, close_of, page_word, turn_by, turn_of, words_of};
+ghost use Rattle.flash_board.specs.FlashBlocks.{area_size};
+ghost use Rattle.flash_board.specs.FlashLogs.{base_in, close_b, close_of, page_word, turn_by, turn_of, words_of};
 ghost use Rattle.flash_board.specs.FlashLogs.{is_closed as has_closed};
 ghost use Rattle.flash_board.specs.Rings.{IsRing};
-ghost use Rattle.flash_board.specs.declared.layout.TheConstants.{SLOTS, SPARES};
+ghost use Rattle.flash_board.specs.declared.layout.TheConstants.{PAGES, SPARES};
 
 use crate::flash::Flash;
 use crate::image::PageTable;
@@ -17,7 +18,7 @@ use nvm_board::DeviceErr;
 /// The area that has the pages.
 pub fn home(turn: u8) -> u8
     requires { turn < 3 }
-    ensures is { base_in result ≡ base_in turn }
+    ensures is { (slots : ℕ) → base_in slots result ≡ base_in slots turn }
     ensures most { result < 2 }
     ensures zero { turn ≡ 0 → result ≡ 0 }
     ensures two { turn ≡ 2 → result ≡ 1 }
@@ -28,46 +29,47 @@ pub fn home(turn: u8) -> u8
 /// Finds the turn.
 pub fn find_turn<F: Flash>(flash: &mut F) -> Result<u8, DeviceErr>
     requires { (F.state flash.old).dark ≡ false }
-    ensures turn { IfOk result (λ t. t ≡ turn_of (F.state flash.old).words) }
+    ensures turn { IfOk result (λ t. t ≡ turn_of F.SLOTS (F.state flash.old).words) }
     ensures small { IfOk result (λ t. t < 3) }
     ensures words { (F.state flash.new).words ≡ (F.state flash.old).words }
     ensures work { (F.state flash.new).operations ≡ (F.state flash.old).operations }
     ensures light { Lights (F.state flash.old) (F.state flash.new) result }
 {
-    let a = is_closed(flash, 25600)?;
-    let b = is_closed(flash, 51202)?;
-    let c = is_closed(flash, 51204)?;
+    let a = is_closed(flash, 0)?;
+    let b = is_closed(flash, 1)?;
+    let c = is_closed(flash, 2)?;
     Ok(turn_by_marks(a, b, c))
 }
 
 /// Returns true if some block is closed and some is open.
 pub fn has_ring<F: Flash>(flash: &mut F) -> Result<bool, DeviceErr>
     requires { (F.state flash.old).dark ≡ false }
-    ensures ring { IfOk result (λ b. b ≡ true → IsRing (F.state flash.old).words) }
-    ensures none { IfOk result (λ b. b ≡ false → ¬ IsRing (F.state flash.old).words) }
+    ensures ring { IfOk result (λ b. b ≡ true → IsRing F.SLOTS (F.state flash.old).words) }
+    ensures none { IfOk result (λ b. b ≡ false → ¬ IsRing F.SLOTS (F.state flash.old).words) }
     ensures words { (F.state flash.new).words ≡ (F.state flash.old).words }
     ensures work { (F.state flash.new).operations ≡ (F.state flash.old).operations }
     ensures light { Lights (F.state flash.old) (F.state flash.new) result }
 {
-    let a = is_closed(flash, 25600)?;
-    let b = is_closed(flash, 51202)?;
-    let c = is_closed(flash, 51204)?;
+    let a = is_closed(flash, 0)?;
+    let b = is_closed(flash, 1)?;
+    let c = is_closed(flash, 2)?;
     Ok(a != b || b != c)
 }
 
 /// From turn 1 to turn 2: the pages stay.
 pub fn pass_witness<F: Flash>(flash: &mut F) -> Result<(), DeviceErr>
     requires lit { (F.state flash.old).dark ≡ false }
-    requires turn { turn_of (F.state flash.old).words ≡ 1 }
-    ensures words { words_of (F.state flash.new).words ≡ words_of (F.state flash.old).words }
-    ensures ring { IsRing (F.state flash.new).words }
-    ensures area { SameElsewhere (F.state flash.old).words 51202 4 (F.state flash.new).words }
-    ensures done { OnOk result (turn_of (F.state flash.new).words ≡ 2) }
+    requires turn { turn_of F.SLOTS (F.state flash.old).words ≡ 1 }
+    ensures words { words_of PAGES F.SLOTS (F.state flash.new).words
+        ≡ words_of PAGES F.SLOTS (F.state flash.old).words }
+    ensures ring { IsRing F.SLOTS (F.state flash.new).words }
+    ensures area { SameElsewhere (F.state flash.old).words (close_b F.SLOTS) 4 (F.state flash.new).words }
+    ensures done { OnOk result (turn_of F.SLOTS (F.state flash.new).words ≡ 2) }
     ensures work { (F.state flash.new).operations ≤ (F.state flash.old).operations + 2 }
     ensures light { Lights (F.state flash.old) (F.state flash.new) result }
 {
     flash.erase(2)?;
-    close(flash, 51202)?;
+    close(flash, 1)?;
     Ok(())
 }
 
@@ -80,15 +82,16 @@ fn erase_and_copy<F: Flash>(
 ) -> Result<u16, DeviceErr>
     requires lit { (F.state flash.old).dark ≡ false }
     requires areas { from + to ≡ 1 }
-    requires index { IsPageTable (F.state flash.old).words (base_in from) SLOTS table.old }
-    ensures elsewhere { SameElsewhere (F.state flash.old).words (base_in to) 25602 (F.state flash.new).words }
-    ensures open { OnOk result (has_closed (F.state flash.new).words (close_of to) ≡ false) }
-    ensures pages { OnOk result ((p k : ℕ) → p < 1024 → k < 16
-        → page_word (F.state flash.new).words (base_in to) SLOTS p k
-        ≡ page_word (F.state flash.old).words (base_in from) SLOTS p k) }
-    ensures index { OnOk result (IsPageTable (F.state flash.new).words (base_in to) SLOTS table.new) }
-    ensures free { IfOk result (λ n. AreFree (F.state flash.new).words (base_in to) n SLOTS) }
-    ensures room { IfOk result (λ n. n ≤ 1024 + SPARES) }
+    requires index { IsPageTable PAGES (F.state flash.old).words (base_in F.SLOTS from) F.SLOTS table.old }
+    ensures elsewhere { SameElsewhere (F.state flash.old).words (base_in F.SLOTS to) (area_size F.SLOTS)
+        (F.state flash.new).words }
+    ensures open { OnOk result (has_closed (F.state flash.new).words (close_of F.SLOTS to) ≡ false) }
+    ensures pages { OnOk result ((p k : ℕ) → p < PAGES → k < 16
+        → page_word (F.state flash.new).words (base_in F.SLOTS to) F.SLOTS p k
+        ≡ page_word (F.state flash.old).words (base_in F.SLOTS from) F.SLOTS p k) }
+    ensures index { OnOk result (IsPageTable PAGES (F.state flash.new).words (base_in F.SLOTS to) F.SLOTS table.new) }
+    ensures free { IfOk result (λ n. AreFree (F.state flash.new).words (base_in F.SLOTS to) n F.SLOTS) }
+    ensures room { IfOk result (λ n. n ≤ PAGES + SPARES) }
     ensures light { Tries 1 (F.state flash.old) (F.state flash.new) result }
     ensures work { Costs 2049 2 (F.state flash.old) (F.state flash.new) }
 {
@@ -100,39 +103,41 @@ fn erase_and_copy<F: Flash>(
 /// From turn 0 to turn 1: the pages move to area B. Returns its first free slot.
 pub fn move_to_b<F: Flash>(flash: &mut F, table: &mut PageTable) -> Result<u16, DeviceErr>
     requires lit { (F.state flash.old).dark ≡ false }
-    requires turn { turn_of (F.state flash.old).words ≡ 0 }
-    requires ring { IsRing (F.state flash.old).words }
-    requires index { IsPageTable (F.state flash.old).words 0 SLOTS table.old }
-    ensures words { words_of (F.state flash.new).words ≡ words_of (F.state flash.old).words }
-    ensures ring { IsRing (F.state flash.new).words }
-    ensures done { OnOk result (turn_of (F.state flash.new).words ≡ 1) }
-    ensures index { OnOk result (IsPageTable (F.state flash.new).words 25602 SLOTS table.new) }
-    ensures free { IfOk result (λ n. AreFree (F.state flash.new).words 25602 n SLOTS) }
-    ensures room { IfOk result (λ n. n ≤ 1024 + SPARES) }
+    requires turn { turn_of F.SLOTS (F.state flash.old).words ≡ 0 }
+    requires ring { IsRing F.SLOTS (F.state flash.old).words }
+    requires index { IsPageTable PAGES (F.state flash.old).words 0 F.SLOTS table.old }
+    ensures words { words_of PAGES F.SLOTS (F.state flash.new).words
+        ≡ words_of PAGES F.SLOTS (F.state flash.old).words }
+    ensures ring { IsRing F.SLOTS (F.state flash.new).words }
+    ensures done { OnOk result (turn_of F.SLOTS (F.state flash.new).words ≡ 1) }
+    ensures index { OnOk result (IsPageTable PAGES (F.state flash.new).words (area_size F.SLOTS) F.SLOTS table.new) }
+    ensures free { IfOk result (λ n. AreFree (F.state flash.new).words (area_size F.SLOTS) n F.SLOTS) }
+    ensures room { IfOk result (λ n. n ≤ PAGES + SPARES) }
     ensures light { Tries 1 (F.state flash.old) (F.state flash.new) result }
     ensures work { Costs 2050 2 (F.state flash.old) (F.state flash.new) }
 {
     let next = erase_and_copy(flash, 0, 1, table)?;
-    close(flash, 25600)?;
+    close(flash, 0)?;
     Ok(next)
 }
 
 /// From turn 2 to turn 0: the pages move to area A. Returns its first free slot.
 pub fn move_to_a<F: Flash>(flash: &mut F, table: &mut PageTable) -> Result<u16, DeviceErr>
     requires lit { (F.state flash.old).dark ≡ false }
-    requires turn { turn_of (F.state flash.old).words ≡ 2 }
-    requires index { IsPageTable (F.state flash.old).words 25602 SLOTS table.old }
-    ensures words { words_of (F.state flash.new).words ≡ words_of (F.state flash.old).words }
-    ensures ring { IsRing (F.state flash.new).words }
-    ensures done { OnOk result (turn_of (F.state flash.new).words ≡ 0) }
-    ensures index { OnOk result (IsPageTable (F.state flash.new).words 0 SLOTS table.new) }
-    ensures free { IfOk result (λ n. AreFree (F.state flash.new).words 0 n SLOTS) }
-    ensures room { IfOk result (λ n. n ≤ 1024 + SPARES) }
+    requires turn { turn_of F.SLOTS (F.state flash.old).words ≡ 2 }
+    requires index { IsPageTable PAGES (F.state flash.old).words (area_size F.SLOTS) F.SLOTS table.old }
+    ensures words { words_of PAGES F.SLOTS (F.state flash.new).words
+        ≡ words_of PAGES F.SLOTS (F.state flash.old).words }
+    ensures ring { IsRing F.SLOTS (F.state flash.new).words }
+    ensures done { OnOk result (turn_of F.SLOTS (F.state flash.new).words ≡ 0) }
+    ensures index { OnOk result (IsPageTable PAGES (F.state flash.new).words 0 F.SLOTS table.new) }
+    ensures free { IfOk result (λ n. AreFree (F.state flash.new).words 0 n F.SLOTS) }
+    ensures room { IfOk result (λ n. n ≤ PAGES + SPARES) }
     ensures light { Tries 1 (F.state flash.old) (F.state flash.new) result }
     ensures work { Costs 2050 2 (F.state flash.old) (F.state flash.new) }
 {
     let next = erase_and_copy(flash, 1, 0, table)?;
-    close(flash, 51204)?;
+    close(flash, 2)?;
     Ok(next)
 }
 
@@ -153,14 +158,15 @@ fn turn_by_marks(a: bool, b: bool, c: bool) -> u8
 /// Makes a flash of which all words of the board are 0.
 pub fn format_flash<F: Flash>(flash: &mut F) -> Result<(), DeviceErr>
     requires { (F.state flash.old).dark ≡ false }
-    ensures ring { OnOk result (IsRing (F.state flash.new).words) }
-    ensures blank { OnOk result ((i : ℕ) → i < 16384 → slice_index (words_of (F.state flash.new).words) i ≡ 0) }
+    ensures ring { OnOk result (IsRing F.SLOTS (F.state flash.new).words) }
+    ensures blank { OnOk result ((i : ℕ) → i < 16 * PAGES
+        → slice_index (words_of PAGES F.SLOTS (F.state flash.new).words) i ≡ 0) }
     ensures work { (F.state flash.new).operations ≤ (F.state flash.old).operations + 4 }
     ensures light { Lights (F.state flash.old) (F.state flash.new) result }
 {
     flash.erase(0)?;
     flash.erase(1)?;
     flash.erase(2)?;
-    close(flash, 51204)?;
+    close(flash, 2)?;
     Ok(())
 }

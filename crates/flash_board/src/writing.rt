@@ -5,7 +5,7 @@ ghost use Rattle.flash_board.specs.FlashCalls.{Lights};
 ghost use Rattle.flash_board.specs.PageTables.{IsPageTable, AreFree};
 ghost use Rattle.flash_board.specs.FlashLogs.{base_in, turn_of, words_of};
 ghost use Rattle.flash_board.specs.Rings.{SameMarks};
-ghost use Rattle.flash_board.specs.declared.layout.TheConstants.{SLOTS};
+ghost use Rattle.flash_board.specs.declared.layout.TheConstants.{PAGES};
 
 use crate::flash::Flash;
 use crate::image::{PageTable, overlay, record_of};
@@ -24,26 +24,27 @@ pub fn write_run<F: Flash>(
     words: &[u32],
 ) -> Result<(), DeviceErr>
     requires lit { (F.state flash.old).dark ≡ false }
-    requires home { base_in area ≡ base_in (turn_of (F.state flash.old).words) }
-    requires index { IsPageTable (F.state flash.old).words (base_in area) SLOTS table.old }
-    requires free { AreFree (F.state flash.old).words (base_in area) next SLOTS }
-    requires room { next < SLOTS }
-    requires page { page < 1024 }
+    requires home { base_in F.SLOTS area ≡ base_in F.SLOTS (turn_of F.SLOTS (F.state flash.old).words) }
+    requires index { IsPageTable PAGES (F.state flash.old).words (base_in F.SLOTS area) F.SLOTS table.old }
+    requires free { AreFree (F.state flash.old).words (base_in F.SLOTS area) next F.SLOTS }
+    requires room { next < F.SLOTS }
+    requires page { page < PAGES }
     requires run { first + length words.now ≤ 16 }
-    ensures whole { (words_of (F.state flash.new).words ≡ words_of (F.state flash.old).words)
-        ⊎ (words_of (F.state flash.new).words
-        ≡ written (words_of (F.state flash.old).words) (16 * page + first) words.now) }
-    ensures done { OnOk result (words_of (F.state flash.new).words
-        ≡ written (words_of (F.state flash.old).words) (16 * page + first) words.now) }
-    ensures index { OnOk result (IsPageTable (F.state flash.new).words (base_in area) SLOTS table.new) }
-    ensures free { OnOk result (AreFree (F.state flash.new).words (base_in area) (next + 1) SLOTS) }
-    ensures marks { SameMarks (F.state flash.old).words (F.state flash.new).words }
+    ensures whole { (words_of PAGES F.SLOTS (F.state flash.new).words
+        ≡ words_of PAGES F.SLOTS (F.state flash.old).words)
+        ⊎ (words_of PAGES F.SLOTS (F.state flash.new).words
+        ≡ written (words_of PAGES F.SLOTS (F.state flash.old).words) (16 * page + first) words.now) }
+    ensures done { OnOk result (words_of PAGES F.SLOTS (F.state flash.new).words
+        ≡ written (words_of PAGES F.SLOTS (F.state flash.old).words) (16 * page + first) words.now) }
+    ensures index { OnOk result (IsPageTable PAGES (F.state flash.new).words (base_in F.SLOTS area) F.SLOTS table.new) }
+    ensures free { OnOk result (AreFree (F.state flash.new).words (base_in F.SLOTS area) (next + 1) F.SLOTS) }
+    ensures marks { SameMarks F.SLOTS (F.state flash.old).words (F.state flash.new).words }
     ensures work { (F.state flash.new).operations ≤ (F.state flash.old).operations + 2 }
     ensures light { Lights (F.state flash.old) (F.state flash.new) result }
 {
     let mut found = record_of(flash, area, table, page)?;
     overlay(&mut found, first, words);
-    program_record(flash, slot_at(area, next), &found)?;
+    program_record(flash, slot_at::<F>(area, next), &found)?;
     table[usize::from(page)] = next + 1;
     Ok(())
 }

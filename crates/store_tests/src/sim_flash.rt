@@ -1,14 +1,21 @@
 //! A flash in working memory that leaves garbage where it loses power or fails.
 ghost use Rattle.std.specs.Prelude.{◌≡◌, ◌≢◌, ◌+◌, ◌≤◌, ◌<◌, length, IfOk, true, false};
 ghost use Rattle.nvm_board.specs.Facts.{AreWords};
-ghost use Rattle.flash_board.specs.FlashBlocks.{block_start, block_size};
+ghost use Rattle.flash_board.specs.FlashBlocks.{block_start, block_size, flash_size};
 ghost use Rattle.flash_board.specs.FlashCalls.{SameElsewhere, IsThere, AreFilled};
-ghost use Rattle.flash_board.specs.declared.flash.TheConstants.{BLOCKS, FLASH_WORDS};
+ghost use Rattle.flash_board.specs.declared.flash.TheConstants.{BLOCKS};
+ghost use Rattle.store_tests.specs.declared.sim_flash.TheConstants.{FLASH_WORDS, SLOTS};
 ghost use Rattle.store_tests.specs.SimCuts.{cuts_set};
 
-use flash_board::{BLANK, FLASH_WORDS, Flash, FlashSocket};
+use flash_board::{BLANK, Flash, FlashSocket};
 use nvm_board::DeviceErr;
 use std::alloc::{AllocError, Global};
+
+/// The number of slots of an area.
+const SLOTS: u16 = 1280;
+
+/// The number of words of the flash.
+const FLASH_WORDS: u32 = 51206;
 
 /// The words of a mark.
 const MARK: [u32; 2] = [0x436F_6D6D, 0x6974_7321];
@@ -113,7 +120,7 @@ fn after_one(fails: bool, left: u32) -> u32
 
 /// The first word of a block.
 fn start(block: u8) -> usize
-    ensures is { result ≡ block_start block }
+    ensures is { result ≡ block_start SLOTS block }
 {
     match block {
         0 => 0,
@@ -125,8 +132,8 @@ fn start(block: u8) -> usize
 /// The number of words of a block.
 fn size(block: u8) -> usize
     requires { block < BLOCKS }
-    ensures is { result ≡ block_size block }
-    ensures fits { block_start block + result ≤ FLASH_WORDS }
+    ensures is { result ≡ block_size SLOTS block }
+    ensures fits { block_start SLOTS block + result ≤ FLASH_WORDS }
 {
     if block == 2 { 2 } else { 25602 }
 }
@@ -189,6 +196,11 @@ impl SimFlash {
 
 impl Flash for SimFlash {
     ghost use Rattle.store_tests.specs.SimStates.{sim_state};
+    ghost use Rattle.std.proofs.Common.{lit<};
+
+    const SLOTS: u16 = SLOTS;
+
+    ghost SLOTS = { 1280 };
 
     ghost state = { sim_state };
 
@@ -253,6 +265,8 @@ impl Flash for SimFlash {
     ghost sized = { λ f. f.sized };
 
     ghost words_fit = { λ f. f.words_fit };
+
+    ghost slots_fit = { (lit< tt, lit< tt) };
 }
 
 impl FlashSocket for SimFlash {

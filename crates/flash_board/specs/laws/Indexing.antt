@@ -4,16 +4,17 @@ use Rattle.std.specs.Prelude.{◌&&◌, nat_eq, slice_index, slice_set, if◌the
 use Rattle.std.proofs.Common.{refl, sym, ◌∙◌, ap, ap₂, subst, ⊎_elim, arith, get_or-set_same}
 use Rattle.std.proofs.Common.{get_or-set_other}
 use Rattle.std.proofs.lemmas.Bool.{cases_eq, cases_lt, eq-eqb, ne_eqb}
+use Rattle.flash_board.specs.FlashBlocks.{area_size}
 use Rattle.flash_board.specs.declared.flash.TheConstants.{BLANK}
 use Rattle.flash_board.specs.FlashCalls.{AreFilled}
 use Rattle.flash_board.specs.PageTables.{IsPageTable, AreFree}
 use Rattle.flash_board.specs.FlashLogs.{holds, find, is_marked, slot_of, word_of, base_in}
 use Rattle.flash_board.specs.laws.Putting.{holds_none}
 
-pub base_most : (a : ℕ) → base_in a ≤ 25602
-base_most a = by_test (nat_eq a 0)
+pub base_most : (slots a : ℕ) → base_in slots a ≤ area_size slots
+base_most slots a = by_test (nat_eq a 0)
   where
-    by_test : (b : Bool) → (if b then 0 else 25602) ≤ 25602
+    by_test : (b : Bool) → (if b then 0 else area_size slots) ≤ area_size slots
     by_test true = omega arith
     by_test false = omega arith
 
@@ -46,18 +47,18 @@ found_word m base (suc f) k some =
     let e : suc f - 1 ≡ f = omega arith in ap (λ (s : ℕ). slice_index m (slot_of base s + k)) e
 
 -- one slot more, which holds nothing
-pub index_past : (m table : List ℕ) (base n : ℕ) → IsPageTable m base n table
+pub index_past : (pages : ℕ) (m table : List ℕ) (base n : ℕ) → IsPageTable pages m base n table
     → is_marked m (slot_of base n + 18) ≡ false
-    → IsPageTable m base (n + 1) table
-index_past m table base n index free = record {
+    → IsPageTable pages m base (n + 1) table
+index_past pages m table base n index free = record {
   each = λ p lt. index.each p lt ∙ sym (find_next m base n p
       ∙ ap (λ (b : Bool). if b then n + 1 else find m base n p) (holds_none m base n p free));
 }
 
 -- one slot more, which names no page
-pub index_beyond : (m table : List ℕ) (base n : ℕ) → IsPageTable m base n table
-    → 1024 ≤ slice_index m (slot_of base n + 16) → IsPageTable m base (n + 1) table
-index_beyond m table base n index far = record {
+pub index_beyond : (pages : ℕ) (m table : List ℕ) (base n : ℕ) → IsPageTable pages m base n table
+    → pages ≤ slice_index m (slot_of base n + 16) → IsPageTable pages m base (n + 1) table
+index_beyond pages m table base n index far = record {
   each = λ p lt.
       let other : slice_index m (slot_of base n + 16) ≢ p = λ e. absurd (omega (arith, e, far, lt)) in
       let none : holds m base n p ≡ false =
@@ -71,15 +72,15 @@ index_beyond m table base n index far = record {
     and_false false = refl
 
 -- one slot more, which holds a page
-pub index_put : (m table : List ℕ) (base n page : ℕ) → IsPageTable m base n table → length table ≡ 1024 → page < 1024
-    → is_marked m (slot_of base n + 18) ≡ true → slice_index m (slot_of base n + 16) ≡ page
-    → IsPageTable m base (n + 1) (slice_set table page (n + 1))
-index_put m table base n page index size below marked names = record {
+pub index_put : (pages : ℕ) (m table : List ℕ) (base n page : ℕ) → IsPageTable pages m base n table
+    → page < length table → is_marked m (slot_of base n + 18) ≡ true → slice_index m (slot_of base n + 16) ≡ page
+    → IsPageTable pages m base (n + 1) (slice_set table page (n + 1))
+index_put pages m table base n page index below marked names = record {
   each = λ p lt. ⊎_elim
       (λ (e : p ≡ page).
       let is : holds m base n p ≡ true = ap₂ (λ (a b : Bool). a && b) marked (eq-eqb _ p (names ∙ sym e)) in
       ap (λ (k : ℕ). slice_index (slice_set table page (n + 1)) k) e
-      ∙ get_or-set_same table page (n + 1) 0 (omega (arith, size, below))
+      ∙ get_or-set_same table page (n + 1) 0 below
       ∙ sym (find_next m base n p ∙ ap (λ (b : Bool). if b then n + 1 else find m base n p) is))
       (λ (other : p ≢ page).
       let is : holds m base n p ≡ false = ap₂ (λ (a b : Bool). a && b) marked

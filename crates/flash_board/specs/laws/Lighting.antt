@@ -1,10 +1,9 @@
 -- What a call of the flash does to power, as the board tells it.
-use Rattle.std.specs.Prelude.{◌≡◌, ◌<◌, ◌≤◌, ◌+◌, ◌/◌, ◌%◌, ◌^◌, ℕ, zero, suc, false, List, length}
+use Rattle.std.specs.Prelude.{◌≡◌, ◌<◌, ◌≤◌, ◌+◌, ◌*◌, ◌/◌, ◌%◌, ◌^◌, ℕ, zero, suc, false, List, length}
 use Rattle.std.proofs.Common.{sym, ◌∙◌, arith, subst}
 use Rattle.std.proofs.lemmas.List.Elements.{All-get_or, All-from_get_or}
 use Rattle.nvm_board.specs.Facts.{AreWords}
-use Rattle.flash_board.specs.declared.flash.TheConstants.{FLASH_WORDS}
-use Rattle.flash_board.specs.declared.layout.TheConstants.{SLOTS}
+use Rattle.flash_board.specs.FlashBlocks.{area_size, flash_size}
 use Rattle.flash_board.specs.FlashCalls.{FlashState, StaysLit}
 use Rattle.flash_board.specs.FlashLogs.{find, word_of, slot_of, base_in, turn_of, words_of}
 use Rattle.flash_board.specs.laws.Indexing.{base_most, find_most}
@@ -22,16 +21,17 @@ state_same old new was stays words operations = λ i. record {
 }
 
 -- the words of the board have 32 bits, since those of the flash do
-pub words_fit : (m : List ℕ) → length m ≡ FLASH_WORDS → AreWords m → AreWords (words_of m)
-words_fit m size all = All-from_get_or (λ w. w < 2 ^ 32) (words_of m) 0 (λ i lt.
-    let inside : i < 16384 = let n = length-words m in omega (arith, lt, n) in
-    let base = base_in (turn_of m) in
-    let low : base ≤ 25602 = base_most (turn_of m) in
-    let most : find m base SLOTS (i / 16) ≤ SLOTS = find_most m base SLOTS (i / 16) in
-    subst (λ (w : ℕ). w < 2 ^ 32) (sym (index-words m i inside))
-    (by_place base low (find m base SLOTS (i / 16)) (i % 16) most (omega arith)))
+pub words_fit : (pages slots : ℕ) (m : List ℕ) → length m ≡ flash_size slots → AreWords m
+    → AreWords (words_of pages slots m)
+words_fit pages slots m size all = All-from_get_or (λ w. w < 2 ^ 32) (words_of pages slots m) 0 (λ i lt.
+    let inside : i < 16 * pages = let n = length-words pages slots m in omega (arith, lt, n) in
+    let base = base_in slots (turn_of slots m) in
+    let low : base ≤ area_size slots = base_most slots (turn_of slots m) in
+    let most : find m base slots (i / 16) ≤ slots = find_most m base slots (i / 16) in
+    subst (λ (w : ℕ). w < 2 ^ 32) (sym (index-words pages slots m i inside))
+    (by_place base low (find m base slots (i / 16)) (i % 16) most (omega arith)))
   where
-    by_place : (base : ℕ) → base ≤ 25602 → (f k : ℕ) → f ≤ SLOTS → k < 16 → word_of m base f k < 2 ^ 32
+    by_place : (base : ℕ) → base ≤ area_size slots → (f k : ℕ) → f ≤ slots → k < 16 → word_of m base f k < 2 ^ 32
     by_place base low zero k most lt = omega arith
     by_place base low (suc f) k most lt =
         let inside : slot_of base f + k < length m = omega (arith, low, most, lt, size) in

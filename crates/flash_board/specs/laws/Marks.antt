@@ -104,6 +104,16 @@ blank_part m at size from few all fits = record {
       ap (λ (j : ℕ). slice_index m j) place ∙ all.each (from + k) (omega (arith, lt, fits));
 }
 
+-- blank words leave a block open
+pub blank_open : (m : List ℕ) (at : ℕ) → slice_index m at ≡ BLANK → slice_index m (at + 1) ≡ BLANK
+    → is_closed m at ≡ false
+unfolding is_closed
+blank_open m at x y = ap₂ (λ (a b : ℕ). not (nat_eq a BLANK && nat_eq b BLANK)) x y
+
+pub filled_open : (m : List ℕ) (at : ℕ) → AreFilled m at 2 BLANK → is_closed m at ≡ false
+filled_open m at all = let here : at ≡ at + 0 = omega arith in
+    blank_open m at (ap (λ (k : ℕ). slice_index m k) here ∙ all.each 0 (omega arith)) (all.each 1 (omega arith))
+
 -- what is blank stays so where nothing changes
 pub blank_same : (m after : List ℕ) (at size from all : ℕ) → SameElsewhere m from all after
     → (at + size ≤ from) ⊎ (from + all ≤ at) → AreFilled m at size BLANK → AreFilled after at size BLANK

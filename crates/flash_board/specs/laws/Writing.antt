@@ -6,7 +6,6 @@ use Rattle.std.proofs.lemmas.Bool.{cases_eq, cases_lt}
 use Rattle.std.proofs.lemmas.Grind.{same_number_lists}
 use Rattle.nvm_board.specs.Torn.{written}
 use Rattle.nvm_board.specs.laws.Torn.{length-written, written-elsewhere, written-inside}
-use Rattle.flash_board.specs.declared.layout.TheConstants.{SLOTS}
 use Rattle.flash_board.specs.FlashCalls.{SameElsewhere}
 use Rattle.flash_board.specs.PageTables.{IsPageTable, AreFree}
 use Rattle.flash_board.specs.FlashLogs.{find, is_marked, slot_of, page_word, words_of, base_in, turn_of}
@@ -16,65 +15,6 @@ use Rattle.flash_board.specs.laws.Putting.{word_kept, none_kept, find_kept, put_
 use Rattle.flash_board.specs.laws.Marks.{blank_slot, blank_same}
 use Rattle.flash_board.specs.laws.Turns.{slot_marks, turn_same}
 use Rattle.flash_board.specs.laws.Words.{words_same, words_written, overlaid}
-
-module _ (m after : List ℕ) (area s : ℕ) (elsewhere : SameElsewhere m (slot_of (base_in area) s) 20 after)
-    (below : s < SLOTS) (home : base_in area ≡ base_in (turn_of m)) (are : AreFree m (base_in area) s SLOTS) where
-  free : is_marked m (slot_of (base_in area) s + 18) ≡ false
-  free = blank_slot m (slot_of (base_in area) s) (are.free s (omega arith) below)
-
-  marks : SameMarks m after
-  marks = slot_marks m after area s below elsewhere
-
-  turn : turn_of after ≡ turn_of m
-  turn = turn_same m after marks
-
-  -- without its mark the record changes nothing
-  pub unmarked_same : is_marked after (slot_of (base_in area) s + 18) ≡ false → words_of after ≡ words_of m
-  unmarked_same none = words_same m after (base_in area) home turn
-      (λ p k small lt. none_kept m after (base_in area) s elsewhere free SLOTS p k (omega (arith, lt)) none)
-
-  module _ (words : List ℕ) (page : ℕ) (size : length words ≡ 18) (within : page < 1024)
-      (names : slice_index words 16 ≡ page) (put : IsPut after (slot_of (base_in area) s) words) where
-    behind : (t : ℕ) → s < t → t < SLOTS → is_marked m (slot_of (base_in area) t + 18) ≡ false
-    behind t from lt = blank_slot m (slot_of (base_in area) t) (are.free t (omega (arith, from)) lt)
-
-    -- with it, it is the write
-    pub put_written : (first : ℕ) (run : List ℕ) → first + length run ≤ 16
-        → ((k : ℕ) → k < 16 → slice_index words k ≡ slice_index (written (words_of m) (16 * page + first) run)
-        (16 * page + k))
-        → words_of after ≡ written (words_of m) (16 * page + first) run
-    put_written first run fits each = words_written m after (base_in area) home turn page first run within fits
-        (λ p k small other lt. word_kept m after (base_in area) s elsewhere free SLOTS p k (omega (arith, lt))
-        (put_other m after (base_in area) s elsewhere words SLOTS page size below names behind put p other))
-        (λ k lt. put_word m after (base_in area) s elsewhere words SLOTS page size below names behind put k lt ∙ each
-        k lt)
-
-    -- and the table has it
-    pub put_index : (table : List ℕ) → length table ≡ 1024 → IsPageTable m (base_in area) SLOTS table
-        → IsPageTable after (base_in area) SLOTS (slice_set table page (s + 1))
-    put_index table all index = record {
-      each = λ p lt. ⊎_elim
-          (λ (e : p ≡ page).
-          let one : s + 1 ≡ suc s = omega arith in
-          ap (λ (k : ℕ). slice_index (slice_set table page (s + 1)) k) e
-          ∙ get_or-set_same table page (s + 1) 0 (omega (arith, all, within)) ∙ one
-          ∙ sym (ap (λ (k : ℕ). find after (base_in area) SLOTS k) e
-          ∙ put_found m after (base_in area) s elsewhere words SLOTS page size below names behind put))
-          (λ (other : p ≢ page).
-          get_or-set_other table page p (s + 1) 0 other ∙ index.each p lt
-          ∙ sym (find_kept m after (base_in area) s elsewhere free SLOTS p
-          (put_other m after (base_in area) s elsewhere words SLOTS page size below names behind put p other)))
-          (cases_eq p page);
-    }
-
-  -- the slots behind it are free
-  pub free_behind : AreFree after (base_in area) (s + 1) SLOTS
-  free_behind = record {
-    within = omega (arith, below);
-    free = λ t from lt. let past : slot_of (base_in area) s + 20 ≤ slot_of (base_in area) t = omega (arith, from) in
-        blank_same m after (slot_of (base_in area) t) 20 (slot_of (base_in area) s) 20 elsewhere (inr past)
-        (are.free t (omega (arith, from)) lt);
-  }
 
 -- a run that is written twice
 written_twice : (m run : List ℕ) (at : ℕ) → at + length run ≤ length m
@@ -114,37 +54,108 @@ whole_again m mid after run at fits was is = ⊎_elim
     (λ (new : mid ≡ written m at run). inr (same ∙ new)) was)
     (λ (done : after ≡ written mid at run). inr (done_again m mid after run at fits was done)) is
 
--- What a run leaves that is put into the record of its page: the words are as before, or it is written.
-module _ (m after : List ℕ) (area s page first : ℕ) (run old words : List ℕ) (below : s < SLOTS)
-    (home : base_in area ≡ base_in (turn_of m)) (are : AreFree m (base_in area) s SLOTS) (size : length words ≡ 18)
-    (within : page < 1024) (fits : first + length run ≤ 16)
-    (was : (k : ℕ) → k < 16 → slice_index old k ≡ page_word m (base_in area) SLOTS page k)
-    (named : slice_index old 16 ≡ page)
-    (other : (k : ℕ) → (k < first) ⊎ (first + length run ≤ k) → slice_index words k ≡ slice_index old k)
-    (over : (k : ℕ) → k < length run → slice_index words (first + k) ≡ slice_index run k) where
-  names : slice_index words 16 ≡ page
-  names = other 16 (inr fits) ∙ named
+module _ (pages slots : ℕ) where
+  module _ (m after : List ℕ) (area s : ℕ) (elsewhere : SameElsewhere m (slot_of (base_in slots area) s) 20 after)
+      (below : s < slots) (home : base_in slots area ≡ base_in slots (turn_of slots m))
+      (are : AreFree m (base_in slots area) s slots) where
+    free : is_marked m (slot_of (base_in slots area) s + 18) ≡ false
+    free = blank_slot m (slot_of (base_in slots area) s) (are.free s (omega arith) below)
 
-  pub run_marks : PutsInSlot m (slot_of (base_in area) s) words after → SameMarks m after
-  run_marks puts = slot_marks m after area s below puts.elsewhere
+    marks : SameMarks slots m after
+    marks = slot_marks slots m after area s below elsewhere
 
-  pub run_done : PutsInSlot m (slot_of (base_in area) s) words after → IsPut after (slot_of (base_in area) s) words
-      → words_of after ≡ written (words_of m) (16 * page + first) run
-  run_done puts put =
-      put_written m after area s puts.elsewhere below home are words page size within names put first run fits
-      (overlaid m after (base_in area) home (turn_same m after (run_marks puts)) page first run within fits old words
-      was other over)
+    turn : turn_of slots after ≡ turn_of slots m
+    turn = turn_same slots m after marks
 
-  pub run_whole : PutsInSlot m (slot_of (base_in area) s) words after
-      → (words_of after ≡ words_of m) ⊎ (words_of after ≡ written (words_of m) (16 * page + first) run)
-  run_whole puts = ⊎_elim
-      (λ (none : is_marked after (slot_of (base_in area) s + 18) ≡ false).
-      inl (unmarked_same m after area s puts.elsewhere below home are none))
-      (λ (put : IsPut after (slot_of (base_in area) s) words). inr (run_done puts put))
-      puts.whole
+    -- without its mark the record changes nothing
+    pub unmarked_same : is_marked after (slot_of (base_in slots area) s + 18) ≡ false
+        → words_of pages slots after ≡ words_of pages slots m
+    unmarked_same none = words_same pages slots m after (base_in slots area) home turn
+        (λ p k small lt. none_kept m after (base_in slots area) s elsewhere free slots p k (omega (arith, lt)) none)
 
-  pub run_index : (table : List ℕ) → length table ≡ 1024 → IsPageTable m (base_in area) SLOTS table
-      → PutsInSlot m (slot_of (base_in area) s) words after → IsPut after (slot_of (base_in area) s) words
-      → IsPageTable after (base_in area) SLOTS (slice_set table page (s + 1))
-  run_index table all index puts put =
-      put_index m after area s puts.elsewhere below home are words page size within names put table all index
+    module _ (words : List ℕ) (page : ℕ) (size : length words ≡ 18) (within : page < pages)
+        (names : slice_index words 16 ≡ page) (put : IsPut after (slot_of (base_in slots area) s) words) where
+      behind : (t : ℕ) → s < t → t < slots → is_marked m (slot_of (base_in slots area) t + 18) ≡ false
+      behind t from lt = blank_slot m (slot_of (base_in slots area) t) (are.free t (omega (arith, from)) lt)
+
+      -- with it, it is the write
+      pub put_written : (first : ℕ) (run : List ℕ) → first + length run ≤ 16
+          → ((k : ℕ) → k < 16 → slice_index words k
+          ≡ slice_index (written (words_of pages slots m) (16 * page + first) run)
+          (16 * page + k))
+          → words_of pages slots after ≡ written (words_of pages slots m) (16 * page + first) run
+      put_written first run fits each = words_written pages slots m after
+          (base_in slots area) home turn page first run within fits
+          (λ p k small other lt. word_kept m after (base_in slots area) s elsewhere free slots p k (omega (arith, lt))
+          (put_other m after (base_in slots area) s elsewhere words slots page size below names behind put p other))
+          (λ k lt. put_word m after (base_in slots area) s elsewhere words slots page size below names behind put k lt
+          ∙ each
+          k lt)
+
+      -- and the table has it
+      pub put_index : (table : List ℕ) → length table ≡ pages → IsPageTable pages m (base_in slots area) slots table
+          → IsPageTable pages after (base_in slots area) slots (slice_set table page (s + 1))
+      put_index table all index = record {
+        each = λ p lt. ⊎_elim
+            (λ (e : p ≡ page).
+            let one : s + 1 ≡ suc s = omega arith in
+            ap (λ (k : ℕ). slice_index (slice_set table page (s + 1)) k) e
+            ∙ get_or-set_same table page (s + 1) 0 (omega (arith, all, within)) ∙ one
+            ∙ sym (ap (λ (k : ℕ). find after (base_in slots area) slots k) e
+            ∙ put_found m after (base_in slots area) s elsewhere words slots page size below names behind put))
+            (λ (other : p ≢ page).
+            get_or-set_other table page p (s + 1) 0 other ∙ index.each p lt
+            ∙ sym (find_kept m after (base_in slots area) s elsewhere free slots p
+            (put_other m after (base_in slots area) s elsewhere words slots page size below names behind put p other)))
+            (cases_eq p page);
+      }
+
+    -- the slots behind it are free
+    pub free_behind : AreFree after (base_in slots area) (s + 1) slots
+    free_behind = record {
+      within = omega (arith, below);
+      free = λ t from lt. let past : slot_of (base_in slots area) s + 20 ≤ slot_of (base_in slots area) t =
+          omega (arith, from) in
+          blank_same m after (slot_of (base_in slots area) t) 20 (slot_of (base_in slots area) s) 20 elsewhere
+          (inr past)
+          (are.free t (omega (arith, from)) lt);
+    }
+
+  -- What a run leaves that is put into the record of its page: the words are as before, or it is written.
+  module _ (m after : List ℕ) (area s page first : ℕ) (run old words : List ℕ) (below : s < slots)
+      (home : base_in slots area ≡ base_in slots (turn_of slots m)) (are : AreFree m (base_in slots area) s slots)
+      (size : length words ≡ 18)
+      (within : page < pages) (fits : first + length run ≤ 16)
+      (was : (k : ℕ) → k < 16 → slice_index old k ≡ page_word m (base_in slots area) slots page k)
+      (named : slice_index old 16 ≡ page)
+      (other : (k : ℕ) → (k < first) ⊎ (first + length run ≤ k) → slice_index words k ≡ slice_index old k)
+      (over : (k : ℕ) → k < length run → slice_index words (first + k) ≡ slice_index run k) where
+    names : slice_index words 16 ≡ page
+    names = other 16 (inr fits) ∙ named
+
+    pub run_marks : PutsInSlot m (slot_of (base_in slots area) s) words after → SameMarks slots m after
+    run_marks puts = slot_marks slots m after area s below puts.elsewhere
+
+    pub run_done : PutsInSlot m (slot_of (base_in slots area) s) words after
+        → IsPut after (slot_of (base_in slots area) s) words
+        → words_of pages slots after ≡ written (words_of pages slots m) (16 * page + first) run
+    run_done puts put =
+        put_written m after area s puts.elsewhere below home are words page size within names put first run fits
+        (overlaid pages slots m after (base_in slots area) home
+        (turn_same slots m after (run_marks puts)) page first run within fits old words
+        was other over)
+
+    pub run_whole : PutsInSlot m (slot_of (base_in slots area) s) words after
+        → (words_of pages slots after ≡ words_of pages slots m)
+        ⊎ (words_of pages slots after ≡ written (words_of pages slots m) (16 * page + first) run)
+    run_whole puts = ⊎_elim
+        (λ (none : is_marked after (slot_of (base_in slots area) s + 18) ≡ false).
+        inl (unmarked_same m after area s puts.elsewhere below home are none))
+        (λ (put : IsPut after (slot_of (base_in slots area) s) words). inr (run_done puts put))
+        puts.whole
+
+    pub run_index : (table : List ℕ) → length table ≡ pages → IsPageTable pages m (base_in slots area) slots table
+        → PutsInSlot m (slot_of (base_in slots area) s) words after → IsPut after (slot_of (base_in slots area) s) words
+        → IsPageTable pages after (base_in slots area) slots (slice_set table page (s + 1))
+    run_index table all index puts put =
+        put_index m after area s puts.elsewhere below home are words page size within names put table all index

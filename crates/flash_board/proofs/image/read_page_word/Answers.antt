@@ -1,31 +1,23 @@
-use Rattle.std.proofs.Common.{◌≡◌, ◌≤◌, ℕ, slice_index, ap, ◌∙◌, arith}
-use Rattle.flash_board.specs.declared.layout.TheConstants.{SLOTS}
+use Rattle.std.proofs.Common.{◌≡◌, ℕ, slice_index, ap, ◌∙◌, arith}
 use Rattle.flash_board.specs.FlashLogs.{base_in, find}
-use Rattle.flash_board.specs.laws.Indexing.{base_most, find_most}
+use Rattle.flash_board.specs.laws.Indexing.{find_most}
 use Rattle.flash_board.proofs.image.read_page_word.Goals as goal
 
 pub slot_at-requires : goal.slot_at-requires
 slot_at-requires g c =
+    let slots = g.F.Flash.SLOTS in
     let m = (g.F.Flash.state c.args.flash.now).words in
-    let base = base_in c.args.area in
+    let base = base_in slots c.args.area in
     let page = c.from.ensures in
-    let found : slice_index c.args.table.now c.from.result ≡ find m base SLOTS c.args.page =
+    let found : slice_index c.args.table.now c.from.result ≡ find m base slots c.args.page =
     ap (λ (k : ℕ). slice_index c.args.table.now k) page ∙ c.requires.entry in
-    let most = find_most m base SLOTS c.args.page in
+    let most = find_most m base slots c.args.page in
     let some = c.if-found-eq0.false in
     omega (arith, found, most, some)
 
 pub read-requires-clause-within : goal.read-requires-clause-within
 read-requires-clause-within g c =
-    let m = (g.F.Flash.state c.args.flash.now).words in
-    let base = base_in c.args.area in
-    let page = c.from.ensures in
-    let found : slice_index c.args.table.now c.from.result ≡ find m base SLOTS c.args.page =
-    ap (λ (k : ℕ). slice_index c.args.table.now k) page ∙ c.requires.entry in
-    let most : find m base SLOTS c.args.page ≤ SLOTS = find_most m base SLOTS c.args.page in
-    let low : base ≤ 25602 = base_most c.args.area in
-    let at = c.slot_at.ensures in
+    let at = c.slot_at.ensures.within in
     let place = c.from-2.ensures in
     let small = c.requires.place in
-    let some = c.if-found-eq0.false in
-    omega (arith, found, most, some, low, at, place, small)
+    omega (arith, at, place, small)

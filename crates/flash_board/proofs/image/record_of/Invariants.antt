@@ -1,7 +1,6 @@
 use Rattle.std.proofs.Common.{◌≡◌, ◌<◌, ℕ, false, length, get_or}
 use Rattle.flash_board.specs.FlashCalls.{StaysLit}
 use Rattle.flash_board.specs.FlashLogs.{base_in, page_word}
-use Rattle.flash_board.specs.declared.layout.TheConstants.{SLOTS}
 use Rattle.flash_board.proofs.image.record_of.Given as goal
 
 abbrev pub invariant-loop-k : goal.invariant-loop-k
@@ -11,5 +10,6 @@ invariant-loop-k g l = let old = g.F.Flash.state l.initial.flash in let new = g.
   lit : new.dark ≡ false;
   steady : StaysLit old new;
   size : length l.found ≡ 18;
-  each : (j : ℕ) → j < l.k → get_or l.found j 0 ≡ page_word old.words (base_in l.area) SLOTS l.page j;
+  each : (j : ℕ) → j < l.k → get_or l.found j 0
+      ≡ page_word old.words (base_in g.F.Flash.SLOTS l.area) g.F.Flash.SLOTS l.page j;
 }

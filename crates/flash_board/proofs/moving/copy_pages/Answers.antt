@@ -1,38 +1,45 @@
 use Rattle.std.proofs.Common.{◌<◌, refl, sym, ◌∙◌, arith}
 use Rattle.flash_board.specs.FlashLogs.{base_in}
 use Rattle.flash_board.specs.laws.Copying.{SameArea, area_found, copied_none, copied_more, other_area}
+use Rattle.flash_board.specs.declared.layout.TheConstants.{PAGES}
 use Rattle.flash_board.proofs.moving.copy_pages.Goals as goal
 
 pub loop-page-init : goal.loop-page-init
 loop-page-init g c =
+    let slots = g.F.Flash.SLOTS in
     let m = (g.F.Flash.state c.args.flash.now).words in record {
       lit = c.requires.lit;
       steady = record { lit = c.requires.lit; due = refl; faults = omega arith };
       operations = omega arith;
-      copied = copied_none m c.args.table.now (base_in c.args.from) (base_in c.args.to) c.requires.free;
+      copied = copied_none slots m c.args.table.now (base_in slots c.args.from)
+          (base_in slots c.args.to) c.requires.free;
     }
 
 pub copy_page-requires-clause-entry : goal.copy_page-requires-clause-entry
 copy_page-requires-clause-entry g c =
+    let slots = g.F.Flash.SLOTS in
     let m = (g.F.Flash.state c.args.flash.now).words in
     let mid = (g.F.Flash.state c.loop-page.flash).words in
-    let from = base_in c.args.from in
+    let from = base_in slots c.args.from in
     let has = c.loop-page.invariant.copied in
     let page = c.loop-page.page in
-    let same : SameArea m mid from = other_area m mid c.args.from c.args.to c.requires.areas has.elsewhere in
-    let lt : page < 1024 = omega arith in
-    has.kept page (omega arith) ∙ c.requires.index.each page lt ∙ sym (area_found m mid from same page)
+    let same : SameArea slots m mid from =
+    other_area slots m mid c.args.from c.args.to c.requires.areas has.elsewhere in
+    let lt : page < PAGES = omega arith in
+    has.kept page (omega arith) ∙ c.requires.index.each page lt ∙ sym (area_found slots m mid from same page)
 
 pub loop-page-preserved : goal.loop-page-preserved
 loop-page-preserved g c =
+    let slots = g.F.Flash.SLOTS in
     let m = (g.F.Flash.state c.args.flash.now).words in
     let mid = (g.F.Flash.state c.loop-page.flash).words in
     let after = (g.F.Flash.state c.copy_page.new.flash).words in
-    let from = base_in c.args.from in
-    let to = base_in c.args.to in
+    let from = base_in slots c.args.from in
+    let to = base_in slots c.args.to in
     let has = c.loop-page.invariant.copied in
     let page = c.loop-page.page in
-    let same : SameArea m mid from = other_area m mid c.args.from c.args.to c.requires.areas has.elsewhere in
+    let same : SameArea slots m mid from =
+    other_area slots m mid c.args.from c.args.to c.requires.areas has.elsewhere in
     let lit = c.in_ok-next.ensures.light.ok refl in
     record {
       lit = lit.lit;
@@ -42,7 +49,7 @@ loop-page-preserved g c =
         faults = omega (arith, lit.faults, c.loop-page.invariant.steady.faults);
       };
       operations = omega (arith, c.loop-page.invariant.operations, c.copy_page.ensures.work.operations);
-      copied = copied_more m c.args.table.now mid c.loop-page.table from to page c.loop-page.next has after
+      copied = copied_more slots m c.args.table.now mid c.loop-page.table from to page c.loop-page.next has after
           c.copy_page.new.table c.in_ok-next.next c.copy_page.ensures.elsewhere c.in_ok-next.ensures.copies
           c.in_ok-next.ensures.more same;
     }

@@ -1,5 +1,4 @@
-use Rattle.std.proofs.Common.{◌≡◌, ◌<◌, ◌+◌, ℕ, length, slice_index, Err, refl, ap, subst, ◌∙◌, arith}
-use Rattle.flash_board.specs.declared.layout.TheConstants.{SLOTS}
+use Rattle.std.proofs.Common.{◌*◌, ◌≡◌, ◌<◌, ◌+◌, ℕ, length, slice_index, Err, refl, ap, subst, ◌∙◌, arith}
 use Rattle.flash_board.specs.FlashCalls.{SameElsewhere}
 use Rattle.flash_board.specs.FlashLogs.{base_in, slot_of}
 use Rattle.flash_board.specs.SlotParts.{IsPut, PutsInSlot}
@@ -9,44 +8,47 @@ use Rattle.flash_board.proofs.moving.put_in_spare.Goals as goal
 
 pub returns-in-Ok-clause-put : goal.returns-in-Ok-clause-put
 returns-in-Ok-clause-put g c =
+    let slots = g.F.Flash.SLOTS in
     let m = (g.F.Flash.state c.args.flash.now).words in
     let mid = (g.F.Flash.state c.loop-slot.flash).words in
     let after = (g.F.Flash.state c.program_record.new.flash).words in
-    let base = base_in c.args.area in
+    let base = base_in slots c.args.area in
     let words = c.args.words.now in
     let page = slice_index words 16 in
     let s = c.loop-slot.slot in
     let kept = c.loop-slot.invariant.kept in
-    let below : s < SLOTS = omega (arith, c.loop-slot-test.true, c.requires.end) in
+    let below : s < slots = omega (arith, c.loop-slot-test.true, c.requires.end) in
     let size : length words ≡ 18 = omega arith in
     let puts : PutsInSlot mid (slot_of base s) words after =
-    subst (λ (k : ℕ). PutsInSlot mid k words after) c.slot_at.ensures c.program_record.ensures.puts in
+    subst (λ (k : ℕ). PutsInSlot mid k words after) c.slot_at.ensures.is c.program_record.ensures.puts in
     let put : IsPut after (slot_of base s) words =
-    subst (λ (k : ℕ). IsPut after k words) c.slot_at.ensures c.in-Ok.ensures.done in (
+    subst (λ (k : ℕ). IsPut after k words) c.slot_at.ensures.is c.in-Ok.ensures.done in (
       c.loop-slot-test.true,
       put,
-      others_then m mid after base page s (s + 1) kept
-          (others_kept mid after base s words puts below kept.free size page refl),
+      others_then slots m mid after base page s (s + 1) kept
+          (others_kept slots mid after base s words puts below kept.free size page refl),
     )
 
 pub loop-slot-preserved : goal.loop-slot-preserved
 loop-slot-preserved g c =
+    let slots = g.F.Flash.SLOTS in
     let m = (g.F.Flash.state c.args.flash.now).words in
     let mid = (g.F.Flash.state c.loop-slot.flash).words in
     let after = (g.F.Flash.state c.program_record.new.flash).words in
-    let base = base_in c.args.area in
+    let base = base_in slots c.args.area in
     let words = c.args.words.now in
     let page = slice_index words 16 in
     let s = c.loop-slot.slot in
     let was = c.loop-slot.invariant in
     let failed = c.in-Err-Fault.ensures.light.fault (ap Err c.in-Err-Fault.field-0-is) in
-    let below : s < SLOTS = omega (arith, c.loop-slot-test.true, c.requires.end) in
+    let below : s < slots = omega (arith, c.loop-slot-test.true, c.requires.end) in
     let size : length words ≡ 18 = omega arith in
     let puts : PutsInSlot mid (slot_of base s) words after =
-    subst (λ (k : ℕ). PutsInSlot mid k words after) c.slot_at.ensures c.program_record.ensures.puts in
+    subst (λ (k : ℕ). PutsInSlot mid k words after) c.slot_at.ensures.is c.program_record.ensures.puts in
     let work = c.program_record.ensures.work in
     let more = failed.faults in
-    let within : SameElsewhere mid base 25600 after = in_area mid after base s words puts below was.kept.free size in
+    let within : SameElsewhere mid base (20 * slots) after =
+    in_area slots mid after base s words puts below was.kept.free size in
     record {
       lit = failed.lit;
       steady = record {
@@ -56,7 +58,7 @@ loop-slot-preserved g c =
       };
       failed = omega (arith, more, was.failed);
       operations = omega (arith, more, work, was.operations);
-      elsewhere = elsewhere_then m mid after base 25600 was.elsewhere within;
-      kept = others_then m mid after base page s (s + 1) was.kept
-          (others_kept mid after base s words puts below was.kept.free size page refl);
+      elsewhere = elsewhere_then m mid after base (20 * slots) was.elsewhere within;
+      kept = others_then slots m mid after base page s (s + 1) was.kept
+          (others_kept slots mid after base s words puts below was.kept.free size page refl);
     }

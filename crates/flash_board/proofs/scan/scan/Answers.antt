@@ -5,8 +5,9 @@ use Rattle.flash_board.proofs.scan.scan.Goals as goal
 
 pub loop-slot-init : goal.loop-slot-init
 loop-slot-init g c =
+    let slots = g.F.Flash.SLOTS in
     let m = (g.F.Flash.state c.args.flash.now).words in
-    let base = base_in c.args.area in
+    let base = base_in slots c.args.area in
     record {
       words = refl;
       work = refl;

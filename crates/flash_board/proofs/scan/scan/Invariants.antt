@@ -2,6 +2,7 @@ use Rattle.std.proofs.Common.{◌≡◌, false}
 use Rattle.flash_board.specs.FlashCalls.{StaysLit}
 use Rattle.flash_board.specs.PageTables.{IsPageTable, AreFree}
 use Rattle.flash_board.specs.FlashLogs.{base_in}
+use Rattle.flash_board.specs.declared.layout.TheConstants.{PAGES}
 use Rattle.flash_board.proofs.scan.scan.Given as goal
 
 abbrev pub invariant-loop-slot : goal.invariant-loop-slot
@@ -10,6 +11,6 @@ invariant-loop-slot g l = let old = g.F.Flash.state l.initial.flash in let new =
   work : new.operations ≡ old.operations;
   lit : new.dark ≡ false;
   steady : StaysLit old new;
-  index : IsPageTable old.words (base_in l.area) l.slot l.table;
-  free : AreFree old.words (base_in l.area) l.next l.slot;
+  index : IsPageTable PAGES old.words (base_in g.F.Flash.SLOTS l.area) l.slot l.table;
+  free : AreFree old.words (base_in g.F.Flash.SLOTS l.area) l.next l.slot;
 }

@@ -5,14 +5,16 @@ use Rattle.flash_board.specs.FlashCalls.{AreFilled}
 use Rattle.flash_board.specs.PageTables.{IsPageTable}
 use Rattle.flash_board.specs.FlashLogs.{base_in, slot_of, is_marked}
 use Rattle.flash_board.specs.laws.Indexing.{index_past, index_beyond, index_put, free_more}
+use Rattle.flash_board.specs.declared.layout.TheConstants.{PAGES}
 use Rattle.flash_board.proofs.scan.scan_slot.Goals as goal
 use Rattle.flash_board.proofs.scan.scan_slot.Goals.{then-number-from, else-number-from}
 
 pub returns-then-branch-clause-index : goal.returns-then-branch-clause-index
 returns-then-branch-clause-index g c =
+    let slots = g.F.Flash.SLOTS in
     let m = (g.F.Flash.state c.args.flash.now).words in
-    let base = base_in c.args.area in
-    let at = c.slot_at-at.ensures in
+    let base = base_in slots c.args.area in
+    let at = c.slot_at-at.ensures.is in
     let marked : is_marked m (slot_of base c.args.slot + 18) ≡ true =
     ap (λ (k : ℕ). is_marked m (k + 18)) (sym at) ∙ sym c.in_ok-is_marked.ensures.marked ∙ c.if-branch.true in
     let number : c.in_ok-number.number ≡ slice_index m (slot_of base c.args.slot + 16) =
@@ -22,42 +24,46 @@ returns-then-branch-clause-index g c =
     let pages = c.from.ensures in
     elim c.if-number-from.branch [
       | then-number-from w ↦
-          let small : c.in_ok-number.number < 1024 = omega (arith, w.if-number-from.true, pages) in
-          subst (λ (t : List ℕ). IsPageTable m base (c.args.slot + 1) t) (sym w.table-is)
-          (index_put m c.args.table.now base c.args.slot c.in_ok-number.number c.requires.index (omega arith) small
+          let small : c.in_ok-number.number < PAGES = omega (arith, w.if-number-from.true, pages) in
+          subst (λ (t : List ℕ). IsPageTable PAGES m base (c.args.slot + 1) t) (sym w.table-is)
+          (index_put PAGES m c.args.table.now base c.args.slot c.in_ok-number.number c.requires.index
+          (omega (arith, small))
           marked
           (sym number))
       | else-number-from w ↦
-          let far : 1024 ≤ slice_index m (slot_of base c.args.slot + 16) =
+          let far : PAGES ≤ slice_index m (slot_of base c.args.slot + 16) =
           omega (arith, w.if-number-from.false, pages, number) in
-          subst (λ (t : List ℕ). IsPageTable m base (c.args.slot + 1) t) (sym w.table-is)
-          (index_beyond m c.args.table.now base c.args.slot c.requires.index far)
+          subst (λ (t : List ℕ). IsPageTable PAGES m base (c.args.slot + 1) t) (sym w.table-is)
+          (index_beyond PAGES m c.args.table.now base c.args.slot c.requires.index far)
     ]
 
 pub returns-then-branch-2-clause-index : goal.returns-then-branch-2-clause-index
 returns-then-branch-2-clause-index g c =
+    let slots = g.F.Flash.SLOTS in
     let m = (g.F.Flash.state c.args.flash.now).words in
-    let base = base_in c.args.area in
-    let at = c.slot_at-at.ensures in
+    let base = base_in slots c.args.area in
+    let at = c.slot_at-at.ensures.is in
     let free : is_marked m (slot_of base c.args.slot + 18) ≡ false =
     ap (λ (k : ℕ). is_marked m (k + 18)) (sym at) ∙ sym c.in_ok-is_marked.ensures.marked ∙ c.if-branch.false in
-    index_past m c.args.table.now base c.args.slot c.requires.index free
+    index_past PAGES m c.args.table.now base c.args.slot c.requires.index free
 
 pub returns-clause-index : goal.returns-clause-index
 returns-clause-index g c =
+    let slots = g.F.Flash.SLOTS in
     let m = (g.F.Flash.state c.args.flash.now).words in
-    let base = base_in c.args.area in
-    let at = c.slot_at-at.ensures in
+    let base = base_in slots c.args.area in
+    let at = c.slot_at-at.ensures.is in
     let free : is_marked m (slot_of base c.args.slot + 18) ≡ false =
     ap (λ (k : ℕ). is_marked m (k + 18)) (sym at) ∙ sym c.in_ok-is_marked.ensures.marked ∙ c.if-branch.false in
-    index_past m c.args.table.now base c.args.slot c.requires.index free
+    index_past PAGES m c.args.table.now base c.args.slot c.requires.index free
 
 pub returns-then-branch-2-clause-free : goal.returns-then-branch-2-clause-free
 returns-then-branch-2-clause-free g c =
+    let slots = g.F.Flash.SLOTS in
     let m = (g.F.Flash.state c.args.flash.now).words in
     let mid = (g.F.Flash.state c.is_marked.new.flash).words in
-    let base = base_in c.args.area in
+    let base = base_in slots c.args.area in
     let blank : AreFilled mid c.slot_at-at.result 20 BLANK = c.in_ok-is_blank.ensures.blank c.if-branch-2.true in
     free_more m base c.args.next c.args.slot c.requires.free
-    (subst (λ (k : ℕ). AreFilled m k 20 BLANK) c.slot_at-at.ensures
+    (subst (λ (k : ℕ). AreFilled m k 20 BLANK) c.slot_at-at.ensures.is
     (subst (λ (l : List ℕ). AreFilled l c.slot_at-at.result 20 BLANK) c.is_marked.ensures.words blank))

@@ -1,26 +1,30 @@
 use Rattle.std.proofs.Common.{ℕ, List, sym, subst, ◌∙◌}
-use Rattle.flash_board.specs.declared.layout.TheConstants.{SLOTS}
 use Rattle.flash_board.specs.PageTables.{IsPageTable}
 use Rattle.flash_board.specs.laws.Copying.{SameArea, area_found}
 use Rattle.flash_board.specs.laws.Moving.{base_other, witness_area}
+use Rattle.flash_board.specs.declared.layout.TheConstants.{PAGES}
+use Rattle.flash_board.specs.FlashBlocks.{area_size}
 use Rattle.flash_board.proofs.steps.make_room.Goals as goal
 use Rattle.flash_board.proofs.steps.make_room.Goals.{then-place-eq1+in_ok-pass_witness, else-place-eq1}
 
 pub move_to_a-requires-clause-index : goal.move_to_a-requires-clause-index
 move_to_a-requires-clause-index g c =
+    let slots = g.F.Flash.SLOTS in
     let m = (g.F.Flash.state c.args.flash.now).words in
     let place = c.args.place.now in
     let known = c.requires.log.known c.requires.ready in
-    let index : IsPageTable m 25602 SLOTS place.table =
-    subst (λ (b : ℕ). IsPageTable m b SLOTS place.table) (base_other place.turn c.if-place-eq0.false) known.index in
+    let index : IsPageTable PAGES m (area_size slots) slots place.table =
+    subst (λ (b : ℕ). IsPageTable PAGES m b slots place.table)
+    (base_other PAGES slots place.turn c.if-place-eq0.false) known.index in
     elim c.if-place-eq1.branch [
       | then-place-eq1+in_ok-pass_witness w ↦
           let after = (g.F.Flash.state w.pass_witness.new.flash).words in
-          let same : SameArea m after 25602 = witness_area m after w.pass_witness.ensures.area in
-          subst (λ (l : List ℕ). IsPageTable l 25602 SLOTS place.table)
+          let same : SameArea slots m after (area_size slots) =
+          witness_area PAGES slots m after w.pass_witness.ensures.area in
+          subst (λ (l : List ℕ). IsPageTable PAGES l (area_size slots) slots place.table)
           (λ i. (g.F.Flash.state ((sym w.flash-is) i)).words)
-          (record { each = λ p lt. index.each p lt ∙ sym (area_found m after 25602 same p) })
+          (record { each = λ p lt. index.each p lt ∙ sym (area_found slots m after (area_size slots) same p) })
       | else-place-eq1 w ↦
-          subst (λ (l : List ℕ). IsPageTable l 25602 SLOTS place.table)
+          subst (λ (l : List ℕ). IsPageTable PAGES l (area_size slots) slots place.table)
           (λ i. (g.F.Flash.state ((sym w.flash-is) i)).words) index
     ]

@@ -3,6 +3,7 @@ use Rattle.std.proofs.lemmas.Result.{on_ok_weaker}
 use Rattle.flash_board.specs.FlashLogs.{words_of}
 use Rattle.flash_board.specs.laws.Words.{length-words}
 use Rattle.flash_board.specs.laws.Writing.{whole_again, done_again}
+use Rattle.flash_board.specs.declared.layout.TheConstants.{PAGES}
 use Rattle.flash_board.proofs.steps.write_at.Goals as goal
 
 pub loop-init : goal.loop-init
@@ -17,11 +18,12 @@ loop-init g c = record {
 
 pub loop-preserved : goal.loop-preserved
 loop-preserved g c =
-    let m = words_of (g.F.Flash.state c.args.flash.now).words in
-    let mid = words_of (g.F.Flash.state c.loop.flash).words in
-    let after = words_of (g.F.Flash.state c.write_once.new.flash).words in
+    let slots = g.F.Flash.SLOTS in
+    let m = words_of PAGES slots (g.F.Flash.state c.args.flash.now).words in
+    let mid = words_of PAGES slots (g.F.Flash.state c.loop.flash).words in
+    let after = words_of PAGES slots (g.F.Flash.state c.write_once.new.flash).words in
     let at = 16 * c.args.page + c.args.first in
-    let all : length m ≡ 16384 = length-words (g.F.Flash.state c.args.flash.now).words in
+    let all : length m ≡ 16 * PAGES = length-words PAGES slots (g.F.Flash.state c.args.flash.now).words in
     let fits : at + length c.args.words.now ≤ length m = omega (arith, all, c.requires.page, c.requires.run) in
     let was = c.loop.invariant in
     let failed = c.in-Err-Fault.ensures.light.fault (ap Err c.in-Err-Fault.field-0-is) in
@@ -42,51 +44,56 @@ loop-preserved g c =
 
 pub returns-in-Ok-clause-whole : goal.returns-in-Ok-clause-whole
 returns-in-Ok-clause-whole g c =
-    let m = words_of (g.F.Flash.state c.args.flash.now).words in
-    let mid = words_of (g.F.Flash.state c.loop.flash).words in
-    let after = words_of (g.F.Flash.state c.write_once.new.flash).words in
+    let slots = g.F.Flash.SLOTS in
+    let m = words_of PAGES slots (g.F.Flash.state c.args.flash.now).words in
+    let mid = words_of PAGES slots (g.F.Flash.state c.loop.flash).words in
+    let after = words_of PAGES slots (g.F.Flash.state c.write_once.new.flash).words in
     let at = 16 * c.args.page + c.args.first in
-    let all : length m ≡ 16384 = length-words (g.F.Flash.state c.args.flash.now).words in
+    let all : length m ≡ 16 * PAGES = length-words PAGES slots (g.F.Flash.state c.args.flash.now).words in
     let fits : at + length c.args.words.now ≤ length m = omega (arith, all, c.requires.page, c.requires.run) in
     whole_again m mid after c.args.words.now at fits c.loop.invariant.whole c.write_once.ensures.whole
 
 pub returns-in-Ok-clause-done : goal.returns-in-Ok-clause-done
 returns-in-Ok-clause-done g c =
-    let m = words_of (g.F.Flash.state c.args.flash.now).words in
-    let mid = words_of (g.F.Flash.state c.loop.flash).words in
-    let after = words_of (g.F.Flash.state c.write_once.new.flash).words in
+    let slots = g.F.Flash.SLOTS in
+    let m = words_of PAGES slots (g.F.Flash.state c.args.flash.now).words in
+    let mid = words_of PAGES slots (g.F.Flash.state c.loop.flash).words in
+    let after = words_of PAGES slots (g.F.Flash.state c.write_once.new.flash).words in
     let at = 16 * c.args.page + c.args.first in
-    let all : length m ≡ 16384 = length-words (g.F.Flash.state c.args.flash.now).words in
+    let all : length m ≡ 16 * PAGES = length-words PAGES slots (g.F.Flash.state c.args.flash.now).words in
     let fits : at + length c.args.words.now ≤ length m = omega (arith, all, c.requires.page, c.requires.run) in
     done_again m mid after c.args.words.now at fits c.loop.invariant.whole c.in-Ok.ensures.done
 
 pub returns-in-Err-PowerLost-clause-whole : goal.returns-in-Err-PowerLost-clause-whole
 returns-in-Err-PowerLost-clause-whole g c =
-    let m = words_of (g.F.Flash.state c.args.flash.now).words in
-    let mid = words_of (g.F.Flash.state c.loop.flash).words in
-    let after = words_of (g.F.Flash.state c.write_once.new.flash).words in
+    let slots = g.F.Flash.SLOTS in
+    let m = words_of PAGES slots (g.F.Flash.state c.args.flash.now).words in
+    let mid = words_of PAGES slots (g.F.Flash.state c.loop.flash).words in
+    let after = words_of PAGES slots (g.F.Flash.state c.write_once.new.flash).words in
     let at = 16 * c.args.page + c.args.first in
-    let all : length m ≡ 16384 = length-words (g.F.Flash.state c.args.flash.now).words in
+    let all : length m ≡ 16 * PAGES = length-words PAGES slots (g.F.Flash.state c.args.flash.now).words in
     let fits : at + length c.args.words.now ≤ length m = omega (arith, all, c.requires.page, c.requires.run) in
     whole_again m mid after c.args.words.now at fits c.loop.invariant.whole c.write_once.ensures.whole
 
 pub returns-clause-whole : goal.returns-clause-whole
 returns-clause-whole g c =
-    let m = words_of (g.F.Flash.state c.args.flash.now).words in
-    let mid = words_of (g.F.Flash.state c.loop.flash).words in
-    let after = words_of (g.F.Flash.state c.write_once-2.new.flash).words in
+    let slots = g.F.Flash.SLOTS in
+    let m = words_of PAGES slots (g.F.Flash.state c.args.flash.now).words in
+    let mid = words_of PAGES slots (g.F.Flash.state c.loop.flash).words in
+    let after = words_of PAGES slots (g.F.Flash.state c.write_once-2.new.flash).words in
     let at = 16 * c.args.page + c.args.first in
-    let all : length m ≡ 16384 = length-words (g.F.Flash.state c.args.flash.now).words in
+    let all : length m ≡ 16 * PAGES = length-words PAGES slots (g.F.Flash.state c.args.flash.now).words in
     let fits : at + length c.args.words.now ≤ length m = omega (arith, all, c.requires.page, c.requires.run) in
     whole_again m mid after c.args.words.now at fits c.loop.invariant.whole c.write_once-2.ensures.whole
 
 pub returns-clause-done : goal.returns-clause-done
 returns-clause-done g c =
-    let m = words_of (g.F.Flash.state c.args.flash.now).words in
-    let mid = words_of (g.F.Flash.state c.loop.flash).words in
-    let after = words_of (g.F.Flash.state c.write_once-2.new.flash).words in
+    let slots = g.F.Flash.SLOTS in
+    let m = words_of PAGES slots (g.F.Flash.state c.args.flash.now).words in
+    let mid = words_of PAGES slots (g.F.Flash.state c.loop.flash).words in
+    let after = words_of PAGES slots (g.F.Flash.state c.write_once-2.new.flash).words in
     let at = 16 * c.args.page + c.args.first in
-    let all : length m ≡ 16384 = length-words (g.F.Flash.state c.args.flash.now).words in
+    let all : length m ≡ 16 * PAGES = length-words PAGES slots (g.F.Flash.state c.args.flash.now).words in
     let fits : at + length c.args.words.now ≤ length m = omega (arith, all, c.requires.page, c.requires.run) in
     on_ok_weaker c.write_once-2.result (done_again m mid after c.args.words.now at fits c.loop.invariant.whole)
     c.write_once-2.ensures.done

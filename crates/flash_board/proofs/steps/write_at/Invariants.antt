@@ -3,6 +3,7 @@ use Rattle.nvm_board.specs.Torn.{written}
 use Rattle.flash_board.specs.FlashCalls.{KeepsPower}
 use Rattle.flash_board.specs.FlashLogs.{words_of}
 use Rattle.flash_board.specs.Places.{IsLog}
+use Rattle.flash_board.specs.declared.layout.TheConstants.{PAGES}
 use Rattle.flash_board.proofs.steps.write_at.Given as goal
 
 abbrev pub invariant-loop : goal.invariant-loop
@@ -11,7 +12,8 @@ invariant-loop g l = let old = g.F.Flash.state l.initial.flash in let new = g.F.
   steady : KeepsPower old new;
   failed : old.faults + l.counter ≤ new.faults + 1;
   operations : new.operations + 2056 * old.faults ≤ old.operations + 2056 * new.faults;
-  log : IsLog new.words l.place;
-  whole : (words_of new.words ≡ words_of old.words)
-      ⊎ (words_of new.words ≡ written (words_of old.words) (16 * l.page + l.first) l.words);
+  log : IsLog PAGES g.F.Flash.SLOTS new.words l.place;
+  whole : (words_of PAGES g.F.Flash.SLOTS new.words ≡ words_of PAGES g.F.Flash.SLOTS old.words)
+      ⊎ (words_of PAGES g.F.Flash.SLOTS new.words
+      ≡ written (words_of PAGES g.F.Flash.SLOTS old.words) (16 * l.page + l.first) l.words);
 }

@@ -5,98 +5,114 @@ use Rattle.flash_board.specs.laws.Copying.{SameArea, area_found, area_free}
 use Rattle.flash_board.specs.laws.Moving.{Passes, Stays, two_stays, two_passes}
 use Rattle.flash_board.specs.laws.Turns.{two_marks}
 use Rattle.flash_board.specs.laws.Marks.{closed_same}
+use Rattle.flash_board.specs.declared.layout.TheConstants.{PAGES}
+use Rattle.flash_board.specs.FlashBlocks.{area_size, witness_start}
 use Rattle.flash_board.proofs.turns.move_to_a.Goals as goal
 
 pub returns-in_err-next-clause-words : goal.returns-in_err-next-clause-words
 returns-in_err-next-clause-words g c =
+    let slots = g.F.Flash.SLOTS in
     let m = (g.F.Flash.state c.args.flash.now).words in
     let mid = (g.F.Flash.state c.erase_and_copy.new.flash).words in
-    let stays : Stays m mid = two_stays m mid c.requires.turn c.erase_and_copy.ensures.elsewhere in
+    let stays : Stays PAGES slots m mid =
+    two_stays PAGES slots m mid c.requires.turn c.erase_and_copy.ensures.elsewhere in
     stays.words
 
 pub returns-in_err-next-clause-ring : goal.returns-in_err-next-clause-ring
 returns-in_err-next-clause-ring g c =
+    let slots = g.F.Flash.SLOTS in
     let m = (g.F.Flash.state c.args.flash.now).words in
     let mid = (g.F.Flash.state c.erase_and_copy.new.flash).words in
-    let stays : Stays m mid = two_stays m mid c.requires.turn c.erase_and_copy.ensures.elsewhere in
+    let stays : Stays PAGES slots m mid =
+    two_stays PAGES slots m mid c.requires.turn c.erase_and_copy.ensures.elsewhere in
     stays.ring
 
 pub returns-in_err-close-clause-words : goal.returns-in_err-close-clause-words
 returns-in_err-close-clause-words g c =
+    let slots = g.F.Flash.SLOTS in
     let m = (g.F.Flash.state c.args.flash.now).words in
     let mid = (g.F.Flash.state c.erase_and_copy.new.flash).words in
     let after = (g.F.Flash.state c.close.new.flash).words in
-    let passes : Passes m after 2 0 =
-    two_passes m mid after c.requires.turn c.erase_and_copy.ensures.elsewhere c.in_ok-next.ensures.open
+    let passes : Passes PAGES slots m after 2 0 =
+    two_passes PAGES slots m mid after c.requires.turn c.erase_and_copy.ensures.elsewhere c.in_ok-next.ensures.open
     c.close.ensures.elsewhere c.in_ok-next.ensures.pages in
     passes.words
 
 pub returns-in_err-close-clause-ring : goal.returns-in_err-close-clause-ring
 returns-in_err-close-clause-ring g c =
+    let slots = g.F.Flash.SLOTS in
     let m = (g.F.Flash.state c.args.flash.now).words in
     let mid = (g.F.Flash.state c.erase_and_copy.new.flash).words in
     let after = (g.F.Flash.state c.close.new.flash).words in
-    let passes : Passes m after 2 0 =
-    two_passes m mid after c.requires.turn c.erase_and_copy.ensures.elsewhere c.in_ok-next.ensures.open
+    let passes : Passes PAGES slots m after 2 0 =
+    two_passes PAGES slots m mid after c.requires.turn c.erase_and_copy.ensures.elsewhere c.in_ok-next.ensures.open
     c.close.ensures.elsewhere c.in_ok-next.ensures.pages in
     passes.ring
 
 pub returns-clause-words : goal.returns-clause-words
 returns-clause-words g c =
+    let slots = g.F.Flash.SLOTS in
     let m = (g.F.Flash.state c.args.flash.now).words in
     let mid = (g.F.Flash.state c.erase_and_copy.new.flash).words in
     let after = (g.F.Flash.state c.close.new.flash).words in
-    let passes : Passes m after 2 0 =
-    two_passes m mid after c.requires.turn c.erase_and_copy.ensures.elsewhere c.in_ok-next.ensures.open
+    let passes : Passes PAGES slots m after 2 0 =
+    two_passes PAGES slots m mid after c.requires.turn c.erase_and_copy.ensures.elsewhere c.in_ok-next.ensures.open
     c.close.ensures.elsewhere c.in_ok-next.ensures.pages in
     passes.words
 
 pub returns-clause-ring : goal.returns-clause-ring
 returns-clause-ring g c =
+    let slots = g.F.Flash.SLOTS in
     let m = (g.F.Flash.state c.args.flash.now).words in
     let mid = (g.F.Flash.state c.erase_and_copy.new.flash).words in
     let after = (g.F.Flash.state c.close.new.flash).words in
-    let passes : Passes m after 2 0 =
-    two_passes m mid after c.requires.turn c.erase_and_copy.ensures.elsewhere c.in_ok-next.ensures.open
+    let passes : Passes PAGES slots m after 2 0 =
+    two_passes PAGES slots m mid after c.requires.turn c.erase_and_copy.ensures.elsewhere c.in_ok-next.ensures.open
     c.close.ensures.elsewhere c.in_ok-next.ensures.pages in
     passes.ring
 
 pub returns-clause-done : goal.returns-clause-done
 returns-clause-done g c =
+    let slots = g.F.Flash.SLOTS in
     let m = (g.F.Flash.state c.args.flash.now).words in
     let mid = (g.F.Flash.state c.erase_and_copy.new.flash).words in
     let after = (g.F.Flash.state c.close.new.flash).words in
-    let passes : Passes m after 2 0 =
-    two_passes m mid after c.requires.turn c.erase_and_copy.ensures.elsewhere c.in_ok-next.ensures.open
+    let passes : Passes PAGES slots m after 2 0 =
+    two_passes PAGES slots m mid after c.requires.turn c.erase_and_copy.ensures.elsewhere c.in_ok-next.ensures.open
     c.close.ensures.elsewhere c.in_ok-next.ensures.pages in
-    ⊎_elim (λ (old : turn_of after ≡ 2). absurd (true≢false (sym c.in_ok-close.ensures.done ∙ (two_marks after old).1)))
-    (λ (new : turn_of after ≡ 0). new) passes.turn
+    ⊎_elim (λ (old : turn_of slots after ≡ 2). absurd
+    (true≢false (sym c.in_ok-close.ensures.done ∙ (two_marks slots after old).1)))
+    (λ (new : turn_of slots after ≡ 0). new) passes.turn
 
 pub returns-clause-index : goal.returns-clause-index
 returns-clause-index g c =
+    let slots = g.F.Flash.SLOTS in
     let mid = (g.F.Flash.state c.erase_and_copy.new.flash).words in
     let after = (g.F.Flash.state c.close.new.flash).words in
-    let same : SameArea mid after 0 =
+    let same : SameArea slots mid after 0 =
     record {
-      each = λ k low high. let x : k < 51204 = omega (arith, high) in
+      each = λ k low high. let x : k < (witness_start slots) = omega (arith, high) in
           c.close.ensures.elsewhere.same k (inl x);
     } in
-    record { each = λ p lt. c.in_ok-next.ensures.index.each p lt ∙ sym (area_found mid after 0 same p) }
+    record { each = λ p lt. c.in_ok-next.ensures.index.each p lt ∙ sym (area_found slots mid after 0 same p) }
 
 pub returns-clause-free : goal.returns-clause-free
 returns-clause-free g c =
+    let slots = g.F.Flash.SLOTS in
     let mid = (g.F.Flash.state c.erase_and_copy.new.flash).words in
     let after = (g.F.Flash.state c.close.new.flash).words in
-    let same : SameArea mid after 0 =
+    let same : SameArea slots mid after 0 =
     record {
-      each = λ k low high. let x : k < 51204 = omega (arith, high) in
+      each = λ k low high. let x : k < (witness_start slots) = omega (arith, high) in
           c.close.ensures.elsewhere.same k (inl x);
     } in
-    area_free mid after 0 same c.in_ok-next.next c.in_ok-next.ensures.free
+    area_free slots mid after 0 same c.in_ok-next.next c.in_ok-next.ensures.free
 
 pub close-requires-clause-opened : goal.close-requires-clause-opened
 close-requires-clause-opened g c =
+    let slots = g.F.Flash.SLOTS in
     let m = (g.F.Flash.state c.args.flash.now).words in
     let mid = (g.F.Flash.state c.erase_and_copy.new.flash).words in
-    let past : 0 + 25602 ≤ 51204 = omega arith in
-    closed_same m mid 51204 0 25602 c.erase_and_copy.ensures.elsewhere (inr past) ∙ (two_marks m c.requires.turn).1
+    let past : 0 + (area_size slots) ≤ (witness_start slots) = omega arith in
+    closed_same m mid (witness_start slots) 0 (area_size slots) c.erase_and_copy.ensures.elsewhere (inr past)
+    ∙ (two_marks slots m c.requires.turn).1

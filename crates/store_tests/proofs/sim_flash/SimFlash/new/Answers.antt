@@ -2,7 +2,8 @@ use Rattle.std.proofs.Common.{◌≡◌, ◌<◌, ◌^◌, ℕ, List, length, re
 use Rattle.std.proofs.Math.ListN.{length-replicate}
 use Rattle.std.proofs.lemmas.List.Elements.{All-replicate}
 use Rattle.nvm_board.specs.Facts.{AreWords}
-use Rattle.flash_board.specs.declared.flash.TheConstants.{BLANK, FLASH_WORDS}
+use Rattle.flash_board.specs.declared.flash.TheConstants.{BLANK}
+use Rattle.store_tests.specs.declared.sim_flash.TheConstants.{FLASH_WORDS}
 use Rattle.store_tests.proofs.sim_flash.SimFlash.new.Goals as goal
 
 pub invariant_of-result : goal.invariant_of-result
