@@ -10,10 +10,11 @@ ghost use Rattle.file_tree.specs.Kinds.{kind_byte};
 ghost use Rattle.file_tree.specs.declared.kinds.EntryKind.TheVariants.{Free, Transparent};
 ghost use Rattle.file_tree.specs.Trees.{tree_of};
 ghost use Rattle.file_tree.specs.Indexes.{IsIndex};
-ghost use Rattle.file_tree.specs.TreeParts.{TellsShort, TellsBeside, TellsAbove};
-ghost use Rattle.file_lookup.specs.StoredFiles.{HasFile, HasIndexed};
+ghost use Rattle.file_tree.specs.TreeParts.{IsShortChild, TellsShort, TellsBeside, TellsAbove};
+ghost use Rattle.file_tree.specs.Entries.{byte_of};
+ghost use Rattle.file_lookup.specs.StoredFiles.{HasEntry, HasFile, HasIndexed};
 
-use crate::reading::{read_entry, read_entry_head};
+use crate::reading::{read_entry, read_entry_head, read_second_word};
 use card_model::identifiers::MASTER_FILE;
 use file_tree::{ENTRIES_END, EntryHead, EntryKind, EntryNumber, Index, Reached};
 use undo_journal::{Board, Store, StoreErr};
@@ -23,6 +24,36 @@ fn is_child(head: EntryHead, df: EntryNumber, short: u8) -> bool
     ensures { IsTrue result ↔ ((head.kind ≢ kind_byte Free) × (head.parent ≡ df) × (head.short ≡ short)) }
 {
     head.is_used() && head.parent == df.get() && head.short == short
+}
+
+/// Returns true if the second word of an entry has this parent and this short identifier. They are its first two bytes,
+/// which one comparison takes together.
+#[tactic(auto, using(crate::proofs::SecondWords::first_two_bytes))]
+fn names_child(second: u32, df: EntryNumber, short: u8) -> bool
+    ensures { IsTrue result ↔ ((byte_of second 0 ≡ df) × (byte_of second 1 ≡ short)) }
+{
+    let wanted = 0x100 * u32::from(df.get()) + u32::from(short);
+    second / 0x1_0000 == wanted
+}
+
+/// An entry is that of the child of a dedicated file with this short identifier. The head is read only where the second
+/// word has both.
+fn is_child_at<B: Board>(
+    store: &mut Store<B>,
+    e: EntryNumber,
+    df: EntryNumber,
+    short: u8,
+) -> Result<bool, StoreErr>
+    requires { HasEntry store.old e }
+    ensures { Learns store.old store.new result (λ is. IsTrue is
+        ↔ IsShortChild (entry_in (table (committed store.old)) e) df short) }
+{
+    let second = read_second_word(store, e)?;
+    if !names_child(second, df, short) {
+        return Ok(false);
+    }
+    let head = read_entry_head(store, e)?;
+    Ok(is_child(head, df, short))
 }
 
 /// Returns the entry of a DF's child by short identifier, if any.
@@ -36,8 +67,8 @@ fn first_child<B: Board>(
 {
     for number in 1..ENTRIES_END {
         let e = EntryNumber::new(number);
-        let head = read_entry_head(store, e)?;
-        if is_child(head, df, short) {
+        let is_child = is_child_at(store, e, df, short)?;
+        if is_child {
             return Ok(Some(e));
         }
     }

@@ -9,12 +9,13 @@ ghost use Rattle.card_model.specs.Selectors.{selected, the_parent, by_name, path
 ghost use Rattle.file_tree.specs.Table.{table, path_of, IsUsed};
 ghost use Rattle.file_tree.specs.Trees.{tree_of, TreeStands};
 ghost use Rattle.file_tree.specs.Indexes.{IsIndex};
+ghost use Rattle.file_tree.specs.Entries.{byte_of};
 ghost use Rattle.file_tree.specs.Naming.{BearsName, BearsNameAt, TellsNamed};
 ghost use Rattle.file_lookup.specs.StoredFiles.{HasFile, HasTree, HasEntry};
 
-use crate::reading::{read_entry, read_entry_head};
+use crate::reading::{read_entry, read_second_word};
 use card_model::limits::MOST_NAME_BYTES;
-use file_tree::{ENTRIES_END, Entry, EntryHead, EntryKind, EntryNumber, Index, Reached};
+use file_tree::{ENTRIES_END, Entry, EntryKind, EntryNumber, Index, Reached};
 use undo_journal::{Board, Store, StoreErr};
 
 /// Returns true for the entry of a DF with this name.
@@ -24,14 +25,16 @@ fn bears_name(entry: &Entry, name: &[u8]) -> bool
     entry.has_kind(EntryKind::Dedicated) && entry.name_length != 0 && entry.name() == name
 }
 
-/// The name that a head tells is as long as this one.
-fn is_as_long(head: EntryHead, name: &[u8]) -> bool
-    ensures { IsTrue result ↔ (min head.name_length 16 ≡ length name.now) }
+/// Returns true if the second word of an entry tells of a name as long as this one.
+fn is_as_long(second: u32, name: &[u8]) -> bool
+    ensures { IsTrue result ↔ (min (byte_of second 2) 16 ≡ length name.now) }
 {
-    usize::from(head.name_length).min(MOST_NAME_BYTES) == name.len()
+    let [_, _, name_length, _] = second.to_be_bytes();
+    usize::from(name_length).min(MOST_NAME_BYTES) == name.len()
 }
 
-/// An entry is a dedicated file's with this name. The whole entry is read only where its head tells as long a name.
+/// An entry is a dedicated file's with this name. The whole entry is read only where its second word tells of a name as
+/// long.
 fn bears_name_at<B: Board>(
     store: &mut Store<B>,
     e: EntryNumber,
@@ -41,8 +44,8 @@ fn bears_name_at<B: Board>(
     ensures { Learns store.old store.new result (λ bears. IsTrue bears
         ↔ BearsNameAt (table (committed store.old)) name.now e) }
 {
-    let head = read_entry_head(store, e)?;
-    if !is_as_long(head, name) {
+    let second = read_second_word(store, e)?;
+    if !is_as_long(second, name) {
         return Ok(false);
     }
     let entry = read_entry(store, e)?;

@@ -105,6 +105,22 @@ pub fn fill_table<B: Board, const N: usize>(
     Ok(())
 }
 
+/// Returns an entry's second word. Its bytes are the parent, the short identifier and the length of the name; in a free
+/// entry they mean nothing.
+///
+/// # Errors
+/// The store's failure: power was lost, or the device failed.
+pub(crate) fn read_second_word<B: Board>(
+    store: &mut Store<B>,
+    e: EntryNumber,
+) -> Result<u32, StoreErr>
+    requires { HasEntry store.old e }
+    ensures word { IfOk result (λ w. w ≡ word (committed store.old) (1 + e) 1) }
+    ensures store { Reads store.old store.new (result_err result) }
+{
+    store.read_committed(entry_address(e) + 1)
+}
+
 /// Returns the head of an entry by its number. It reads two words, where a whole entry takes eleven.
 ///
 /// # Errors

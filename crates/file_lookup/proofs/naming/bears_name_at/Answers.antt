@@ -5,41 +5,41 @@ use Rattle.undo_journal.specs.laws.Told.{reads_handed, reads_on}
 use Rattle.file_tree.specs.declared.entry.Entry.{Entry}
 use Rattle.file_tree.specs.Naming.{BearsName}
 use Rattle.file_tree.specs.Table.{table, entry_in}
-use Rattle.file_tree.specs.laws.Refusing.{head_as_long}
+use Rattle.file_lookup.proofs.SecondWords.{second_as_long}
 use Rattle.file_lookup.proofs.naming.bears_name_at.Goals as goal
 
-pub returns-in_err-head : goal.returns-in_err-head
-returns-in_err-head g c = record {
+pub returns-in_err-second : goal.returns-in_err-second
+returns-in_err-second g c = record {
   told = none_ok _ _ _ c.from_residual.ensures.1;
-  store = reads_handed _ _ _ _ c.from_residual.ensures.1 c.in_err-head.ensures.store;
+  store = reads_handed _ _ _ _ c.from_residual.ensures.1 c.in_err-second.ensures.store;
 }
 
 pub returns-then-not-is_as_long : goal.returns-then-not-is_as_long
 returns-then-not-is_as_long g c = record {
   told = (
     λ is. absurd (true≢false (sym is)),
-    λ bears. absurd (true≢false (sym (c.is_as_long.ensures.1 (head_as_long (committed c.args.store.now) c.args.e
-        c.requires.within c.args.name.now c.in_ok-head.head c.in_ok-head.ensures.head bears))
+    λ bears. absurd (true≢false (sym (c.is_as_long.ensures.1 (second_as_long (committed c.args.store.now) c.args.e
+        c.in_ok-second.second c.requires.within c.args.name.now c.in_ok-second.ensures.word bears))
         ∙ c.if-not-is_as_long.true)),
   );
-  store = c.in_ok-head.ensures.store;
+  store = c.in_ok-second.ensures.store;
 }
 
 pub returns-in_err-entry : goal.returns-in_err-entry
 returns-in_err-entry g c = record {
   told = none_ok _ _ _ c.from_residual-in_err-entry.ensures.1;
   store = reads_handed _ _ _ _ c.from_residual-in_err-entry.ensures.1
-      (reads_on _ _ _ _ c.read_entry_head.ensures.store.only c.in_err-entry.ensures.store);
+      (reads_on _ _ _ _ c.read_second_word.ensures.store.only c.in_err-entry.ensures.store);
 }
 
 pub returns : goal.returns
 returns g c = record {
   told = let m = committed c.args.store.now in
       let is : c.in_ok-entry.entry ≡ entry_in (table m) c.args.e = c.in_ok-entry.ensures.entry
-      ∙ ap (λ (l : List ℕ). entry_in (table l) c.args.e) c.read_entry_head.ensures.store.only.keeps.committed_words in
+      ∙ ap (λ (l : List ℕ). entry_in (table l) c.args.e) c.read_second_word.ensures.store.only.keeps.committed_words in
       let family : Entry → Type 0 = λ x. BearsName x c.args.name.now in (
         λ yes. subst family is (c.bears_name.ensures.0 yes),
         λ bears. c.bears_name.ensures.1 (subst family (sym is) bears),
       );
-  store = reads_on _ _ _ _ c.read_entry_head.ensures.store.only c.in_ok-entry.ensures.store;
+  store = reads_on _ _ _ _ c.read_second_word.ensures.store.only c.in_ok-entry.ensures.store;
 }

@@ -1,0 +1,2 @@
+-- What the answers of several functions use.
+mod SecondWords
