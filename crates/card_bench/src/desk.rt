@@ -225,6 +225,30 @@ where
         if !board.is_followed() || cuts_next(board.pending_cut()) {
             return Ok(());
         }
+        self.charge_followed(order, given)
+    }
+
+    /// Gives the board's follower the first write of an order. This is a function of its own, so that a line without a
+    /// charge, the usual case, has no place for the boards.
+    ///
+    /// # Errors
+    ///
+    /// As `charge`.
+    #[tactic(auto, using(crate::proofs::ChargeLaws::charged_facts, crate::proofs::ChargeLaws::own_facts))]
+    #[inline(never)]
+    fn charge_followed(&mut self, order: Order, given: &[u8]) -> Result<(), RunFault>
+        requires sized { IsOrderSized (order_with order given.now) }
+        requires good { IsGood self.old.desk.bench }
+        requires followed { (board : P.Board) × (P.Board.has_follower board ≡ true)
+            × (P.Board.facts board ≡ bench_facts self.old.desk.bench) }
+        ensures charged { OnOk result (TakesCharge (order_with order given.now) self.old.desk self.new.desk) }
+        ensures kept { OnOk result (LacksNoWrite P.Board P.Board.facts P.Board.has_kept
+            (bench_facts self.new.desk.bench)) }
+        ensures fault { IfErr result (λ fault. fault ≡ RunFault.Unkept) }
+        ensures lacks { OnErr result ((board : P.Board) × ((P.Board.has_follower board ≡ true)
+            ⊎ (P.Board.has_kept board ≡ false)) × IsFactsOf self.old.desk (P.Board.facts board)) }
+    {
+        let board = self.board();
         let Ok(second) = board.unfollowed_copy() else {
             return Err(RunFault::Unkept);
         };
@@ -270,8 +294,8 @@ where
             number: 1,
             mask: ALL_WORDS,
         };
-        self.perform(cut, &[]);
-        self.perform(order, given);
+        self.perform_apart(cut, &[]);
+        self.perform_apart(order, given);
         let left = replace(self, second).into_board();
         let board = next.with_follower_of(left);
         let kept = board.follows();
@@ -281,7 +305,21 @@ where
 }
 
 impl<P: TurnPlayer> Desk<P> {
+    /// Runs an order, as `perform`. This is a function of its own, so that `perform` is compiled into the loop over a
+    /// script's lines as if only that called it.
+    #[inline(never)]
+    fn perform_apart(&mut self, order: Order, given: &[u8]) -> LineResult
+        requires sized { IsOrderSized (order_with order given.now) }
+        requires good { IsGood self.old.desk.bench }
+        ensures good { IsGood self.new.desk.bench }
+        ensures performs { Performs (order_with order given.now) self.old.desk self.new.desk
+            (printed_at result self.new) }
+    {
+        self.perform(order, given)
+    }
+
     /// Runs the order of a line, with its bytes, and returns the result.
+    #[inline(always)]
     #[tactic(auto, using(crate::proofs::DeskTurns::off_taken, crate::proofs::DeskTurns::block_taken))]
     pub fn perform(&mut self, order: Order, given: &[u8]) -> LineResult
         requires sized { IsOrderSized (order_with order given.now) }

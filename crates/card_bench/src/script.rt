@@ -89,7 +89,9 @@ where
     run_lines(&mut desk, reader, writer)
 }
 
-/// Runs the lines of a script on a desk.
+/// Runs the lines of a script on a desk. This is a function of its own, so that its loop doesn't share the registers of
+/// what runs before it.
+#[inline(never)]
 fn run_lines<P: Twinned + Drop, R: BufRead, W: Write>(
     desk: &mut Desk<P>,
     reader: &mut R,
