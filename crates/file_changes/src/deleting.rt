@@ -23,15 +23,15 @@ ghost use Rattle.file_changes.specs.Conditions.{HasLowerFile};
 ghost use Rattle.file_changes.specs.DeletionParts.{IsPart, IsRemoval, CanGive, FreesEntries, GoesWith, Removes};
 ghost use Rattle.file_changes.specs.DeletionParts.{extents_in, entry_if_gone, HasPlaceFor, CanRemove};
 ghost use Rattle.undo_journal.specs.Rooms.{HasRoom};
-ghost use Rattle.file_lookup.specs.StoredFiles.{HasEntry, HasTableEnd};
+ghost use Rattle.file_lookup.specs.StoredFiles.{HasEntry, HasFile, HasTableEnd};
 
 use arrayvec::ArrayVec;
 use block_chain::{Chain, Extent};
 use block_store::give_back;
 use file_lookup::{find_end, read_entry, read_entry_head};
 use file_tree::{
-    ENTRIES_END, Entry, EntryNumber, ExtentList, FreeSpace, Index, TABLE_ROOM, entry_address,
-    is_within,
+    ENTRIES_END, Entry, EntryKind, EntryNumber, ExtentList, FreeSpace, Index, TABLE_ROOM,
+    entry_address, is_within,
 };
 use undo_journal::{Board, Store, StoreErr, Txn};
 
@@ -121,8 +121,22 @@ fn deleted_entry<B: Board>(
     Ok(Some(entry))
 }
 
-/// Returns the subtree of a file. Reads only the entries in it whole.
+/// Returns the subtree of a file. Nothing is below an EF, so that only a DF takes a scan of the table.
 fn part_of<B: Board>(store: &mut Store<B>, top: EntryNumber) -> Result<Part, StoreErr>
+    requires file { HasFile store.old top }
+    ensures { Learns store.old store.new result (IsPart (table (committed store.old)) top) }
+{
+    let entry = read_entry(store, top)?;
+    if entry.has_kind(EntryKind::Dedicated) {
+        return part_of_df(store, top);
+    }
+    let mut part = Part::new();
+    part.add(top, Some(entry));
+    Ok(part)
+}
+
+/// Returns the subtree of a DF. Reads only the entries in it whole.
+fn part_of_df<B: Board>(store: &mut Store<B>, top: EntryNumber) -> Result<Part, StoreErr>
     requires ready { IsReady store.old }
     ensures { Learns store.old store.new result (IsPart (table (committed store.old)) top) }
 {

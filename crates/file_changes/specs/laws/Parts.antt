@@ -1,12 +1,13 @@
 -- The part of a table that goes, entry by entry.
-use Rattle.std.specs.Prelude.{◌≡◌, ◌≢◌, ◌↔◌, ◌==◌, ◌<◌, ◌≤◌, ◌+◌, ◌++◌, ◌&&◌, ℕ, zero, suc, Bool, true, false, not}
-use Rattle.std.specs.Prelude.{cond, if◌then◌else◌, IsTrue, List, [], ◌∷◌}
+use Rattle.std.specs.Prelude.{◌≡◌, ◌≢◌, ◌↔◌, ◌==◌, ◌<◌, ◌≤◌, ◌+◌, ◌++◌, ◌&&◌, ◌||◌, ℕ, zero, suc, Bool, true, false}
+use Rattle.std.specs.Prelude.{◌-◌, not, cond, if◌then◌else◌, IsTrue, List, [], ◌∷◌}
 use Rattle.std.specs.Prelude.{map, length, replicate, slice_index_or, slice_set}
 use Rattle.std.specs.Prelude.{Option, None, Some, is_some}
 use Rattle.std.specs.List.{range_with_len, cons_option}
 use Rattle.std.proofs.Common.{refl, sym, ◌∙◌, ap, subst, arith, inl, inr, below_more, true≢false}
 use Rattle.std.proofs.Common.{append-nil, get_or-set_same, get_or-set_other}
 use Rattle.std.proofs.Math.ListN.{length-set}
+use Rattle.std.proofs.lemmas.Bool.{eq-eqb}
 use Rattle.std.proofs.lemmas.Bool.Decides.{eqb_tells}
 use Rattle.std.proofs.lemmas.List.{get_or-replicate, length-append, length-replicate}
 use Rattle.std.proofs.lemmas.List.Elements.{filter_map-append}
@@ -16,8 +17,10 @@ use Rattle.block_chain.specs.declared.chain.Extent.{Extent}
 use Rattle.file_tree.specs.declared.entry.Entry.{Entry}
 use Rattle.file_changes.specs.declared.deleting.Part.{Part}
 use Rattle.file_tree.specs.Entries.{extent_of, free_entry}
-use Rattle.file_tree.specs.Subtrees.{leads_up}
-use Rattle.file_tree.specs.Table.{entry_in, extents, free_entries}
+use Rattle.file_tree.specs.Kinds.{kind_byte}
+use Rattle.file_tree.specs.Subtrees.{leads, leads_up}
+use Rattle.file_tree.specs.Table.{entry_in, extents, free_entries, IsTable, IsUsed}
+use Rattle.file_tree.specs.declared.kinds.EntryKind.TheVariants.{Dedicated}
 use Rattle.file_tree.specs.laws.Costs.{extent_of-none}
 use Rattle.file_tree.specs.laws.Tables.{index-mapped}
 use Rattle.file_changes.specs.DeletionParts.{is_gone, going, entry_if_gone, extents_in, part_below, IsPart}
@@ -195,3 +198,75 @@ parts_rest t top part e zero all free so_far =
 parts_rest t top part e (suc n) all free so_far = parts_rest t top part (e + 1) n (omega (arith, all))
     (λ f from. free f (omega (arith, from)))
     (part_free t top e part (omega (arith, all)) (free e (omega arith)) so_far)
+
+-- entries that stay, one and a run of them
+part_stays : (t : List Entry) (top e : ℕ) (part : Part) → e < 64 → is_gone t top e ≡ false → IsPartTo t top e part
+    → IsPartTo t top (e + 1) part
+part_stays t top e part small stays so_far =
+    let is : None ≡ entry_if_gone t top e = sym (ap (λ (b : Bool). if b then Some (entry_in t e) else None) stays) in
+    part_more t top e part part None small is refl (omega arith) (sym (append-nil part.extents.items)) so_far
+
+parts_stay : (t : List Entry) (top e n : ℕ) (part : Part) → e + n ≤ 64
+    → ((f : ℕ) → e ≤ f → f < e + n → is_gone t top f ≡ false) → IsPartTo t top e part → IsPartTo t top (e + n) part
+parts_stay t top e zero part most stays so_far =
+    let is : e ≡ e + 0 = omega arith in subst (λ (k : ℕ). IsPartTo t top k part) is so_far
+parts_stay t top e (suc n) part most stays so_far =
+    let is : e + 1 + n ≡ e + suc n = omega arith in
+    subst (λ (k : ℕ). IsPartTo t top k part) is (parts_stay t top (e + 1) n part (omega (arith, most))
+    (λ f from below. stays f (omega (arith, from)) (omega (arith, below)))
+    (part_stays t top e part (omega (arith, most)) (stays e (omega arith) (omega arith)) so_far))
+
+-- a part of one entry
+pub part_alone : (t : List Entry) (top : ℕ) (part one : Part) → top < 64 → is_gone t top top ≡ true
+    → ((f : ℕ) → f ≢ top → is_gone t top f ≡ false) → IsPartTo t top 0 part
+    → one.goes ≡ slice_set part.goes top true → one.count ≡ part.count + 1
+    → one.extents.items ≡ part.extents.items ++ extents_in (Some (entry_in t top)) → IsPart t top one
+part_alone t top part one small gone others none goes count given =
+    let at : 0 + top ≡ top = omega arith in
+    let before : IsPartTo t top top part = subst (λ (k : ℕ). IsPartTo t top k part) at
+    (parts_stay t top 0 top part (omega (arith, small))
+    (λ f from below. others f (λ is. let z : ⊥ = omega (arith, is, below, at) in z)) none) in
+    let is : Some (entry_in t top) ≡ entry_if_gone t top top =
+    sym (ap (λ (b : Bool). if b then Some (entry_in t top) else None) gone) in
+    let here : IsPartTo t top (top + 1) one =
+    part_more t top top part one (Some (entry_in t top)) small is goes count given before in
+    let left : (top + 1) + (63 - top) ≡ 64 = omega (arith, small) in
+    part_whole t top one (subst (λ (k : ℕ). IsPartTo t top k one) left
+    (parts_stay t top (top + 1) (63 - top) one (omega (arith, left))
+    (λ f from below. others f (λ is. let z : ⊥ = omega (arith, is, from) in z)) here))
+
+-- only its own entry goes with an EF
+module _ (t : List Entry) (stands : IsTable t) (top : ℕ) (used_top : IsUsed t top)
+    (no_df : (entry_in t top).kind ≢ kind_byte Dedicated) where
+  parent_df : (f : ℕ) → IsUsed t f → (entry_in t (entry_in t f).parent).kind ≡ kind_byte Dedicated
+  parent_df zero used = ap (λ (k : ℕ). (entry_in t k).kind) stands.master.parent ∙ stands.master.kind
+  parent_df (suc f) used = (stands.below (suc f) (omega arith) used).parent
+
+  another : (f : ℕ) → f ≢ top → (f == top) ≡ false
+  another f other = elim (eqb_tells f top) [
+    | inl same ↦ absurd (other same.1)
+    | inr is ↦ is.0
+  ]
+
+  leads_nowhere : (n f : ℕ) → IsUsed t f → f ≢ top → leads_up t n top f ≡ false
+  unfolding leads
+  leads_nowhere zero f used other = another f other
+  leads_nowhere (suc n) f used other =
+      let above = parent_df f used in
+      ap (λ (b : Bool). b || leads_up t n top (entry_in t f).parent) (another f other)
+      ∙ leads_nowhere n (entry_in t f).parent (λ none. let z : ⊥ = omega (arith, none, above) in z)
+      (λ is. no_df (ap (λ (k : ℕ). (entry_in t k).kind) (sym is) ∙ above))
+
+  pub others_stay : (f : ℕ) → f ≢ top → is_gone t top f ≡ false
+  others_stay f other = elim (eqb_tells (entry_in t f).kind 0) [
+    | inl same ↦ ap (λ (b : Bool). not b && leads_up t 7 top f) same.0
+    | inr used ↦ ap (λ (b : Bool). not b && leads_up t 7 top f) used.0 ∙ leads_nowhere 7 f used.1 other
+  ]
+
+  pub goes_itself : is_gone t top top ≡ true
+  unfolding leads
+  goes_itself = elim (eqb_tells (entry_in t top).kind 0) [
+    | inl same ↦ absurd (used_top same.1)
+    | inr used ↦ ap (λ (b : Bool). not b && leads_up t 7 top top) used.0
+        ∙ ap (λ (b : Bool). b || leads_up t 6 top (entry_in t top).parent) (eq-eqb top top refl)
+  ]
