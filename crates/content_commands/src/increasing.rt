@@ -28,6 +28,8 @@ const INCREASING: Need = Need {
 /// # Errors
 /// Those of `find_file`; then 6700 if the number or the answer is too long, 6A83 without a record, 9850 if the sum
 /// overflows the record, and 6CXX if Le requests less than the answer.
+// It isn't inlined, so that other commands don't pay for its space on the stack.
+#[inline(never)]
 pub fn increase<B: Board>(
     store: &mut Store<B>,
     current: &mut Current,

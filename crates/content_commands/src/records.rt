@@ -154,6 +154,8 @@ pub fn append_record<B: Board>(
 ///
 /// # Errors
 /// Those of `find_file`; then 6A83 without the first record, and 6CXX if Le is below the length of the answer.
+// It isn't inlined, so that other commands don't pay for its space on the stack.
+#[inline(never)]
 pub fn search_record<B: Board>(
     store: &mut Store<B>,
     current: &mut Current,

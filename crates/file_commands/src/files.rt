@@ -37,6 +37,8 @@ use undo_journal::{Board, Store, StoreErr};
 /// 6985 if the current dedicated file is barred; 6A80 by the template; 6982 by its rule; 6A89 if the identifier is
 /// taken; 6A8A if the name is; 6A80 if the short identifier is; 6985 at level 8; 6A84 without room. Or the store
 /// fails.
+// It isn't inlined, so that other commands don't pay for its space on the stack.
+#[inline(never)]
 pub fn create_file<B: Board>(
     store: &mut Store<B>,
     current: &mut Current,
@@ -119,6 +121,8 @@ fn creation_bit(kind: &FileKind<'_>) -> AccessBit
 /// # Errors
 /// 6A82 without the file; 6985 for the master file, or if the parent is barred; 6982 by both rules. Or the store
 /// fails.
+// It isn't inlined, so that other commands don't pay for its space on the stack.
+#[inline(never)]
 pub fn delete_file<B: Board>(
     store: &mut Store<B>,
     current: &mut Current,
