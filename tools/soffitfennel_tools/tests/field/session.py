@@ -501,6 +501,8 @@ class Refusals(Session):
             ["--fresh", "--", *()],
             ["x", "--fresh", "--", "true"],
             ["--cut", "0", "0000", "--fresh", "--", "true"],
+            ["--cut", "0000001", "0000", "--fresh", "--", "true"],
+            ["--cut", "1000000", "0000", "--fresh", "--", "true"],
         ]
         wrong += [
             ["--cut", "1", "00", "--fresh", "--", "true"],
