@@ -45,10 +45,6 @@ IsBlockPlace page = (FIRST_BLOCK_PAGE ≤ page) × (page < MOST_PAGES)
 abbrev pub times_marked : List ℕ → ℕ → ℕ
 times_marked seen page = slice_index seen (page - FIRST_BLOCK_PAGE)
 
--- No page is marked.
-abbrev pub AreBlank : List ℕ → Type 0
-AreBlank seen = (place : ℕ) → slice_index seen place ≡ 0
-
 -- A mark for each block before the page `end`, 0 or 1.
 pub record AreBlockMarks (end : ℕ) (seen : List ℕ) : Type 0 where
   pub room : end ≤ FIRST_BLOCK_PAGE + length seen

@@ -2,7 +2,7 @@
 use Rattle.std.proofs.Common.{refl, sym, ◌∙◌, ap, arith, subst, inl, inr}
 use Rattle.std.proofs.lemmas.Bool.Decides.{eqb_tells}
 use Rattle.std.proofs.lemmas.List.{take-append-drop}
-use Rattle.std.specs.Prelude.{◌≡◌, ◌==◌, ◌<◌, ◌≤◌, ◌+◌, ℕ, zero, suc, Bool, if◌then◌else◌, List, [], ◌∷◌, ◌++◌, length}
+use Rattle.std.specs.Prelude.{◌≡◌, ◌<◌, ◌≤◌, ◌+◌, ℕ, zero, suc, Bool, if◌then◌else◌, List, [], ◌∷◌, ◌++◌, length}
 use Rattle.std.specs.Prelude.{slice_index, take, drop}
 use Rattle.block_chain.specs.Counts.{same_as, count, NoneTwice}
 
@@ -81,67 +81,3 @@ once_take n ps once q = let split = count-split q n ps in let most = once q in o
 
 pub once_drop : (n : ℕ) (ps : List ℕ) → NoneTwice ps → NoneTwice (drop n ps)
 once_drop n ps once q = let split = count-split q n ps in let most = once q in omega (arith, split, most)
-
--- a list without all that stand in it as this number
-abbrev pub without : ℕ → List ℕ → List ℕ
-without q [] = []
-without q (p ∷ ps) = if q == p then without q ps else p ∷ without q ps
-
-length-without : (q : ℕ) (ps : List ℕ) → length ps ≡ count q ps + length (without q ps)
-length-without q [] = let none = count-nil q in omega (arith, none)
-length-without q (p ∷ ps) = let rest = length-without q ps in elim (eqb_tells q p) [
-  | inl same ↦
-      let here = ap (λ (r : ℕ). count r (p ∷ ps)) same.1 ∙ count-here p ps in
-      let there = ap (λ (r : ℕ). count r ps) same.1 in
-      let less = ap (λ (b : Bool). length (if b then without q ps else p ∷ without q ps)) same.0 in
-      omega (arith, rest, here, there, less)
-  | inr other ↦
-      let same = count-other q p ps other.1 in
-      let more = ap (λ (b : Bool). length (if b then without q ps else p ∷ without q ps)) other.0 in
-      omega (arith, rest, same, more)
-]
-
-count-without_same : (q : ℕ) (ps : List ℕ) → count q (without q ps) ≡ 0
-count-without_same q [] = count-nil q
-count-without_same q (p ∷ ps) = let rest = count-without_same q ps in elim (eqb_tells q p) [
-  | inl same ↦ ap (λ (b : Bool). count q (if b then without q ps else p ∷ without q ps)) same.0 ∙ rest
-  | inr other ↦ ap (λ (b : Bool). count q (if b then without q ps else p ∷ without q ps)) other.0
-      ∙ count-other q p (without q ps) other.1 ∙ rest
-]
-
-count-without_other : (q r : ℕ) (ps : List ℕ) → (r ≡ q → ⊥) → count r (without q ps) ≡ count r ps
-count-without_other q r [] apart = refl
-count-without_other q r (p ∷ ps) apart = let rest = count-without_other q r ps apart in elim (eqb_tells q p) [
-  | inl same ↦
-      let differ : r ≡ p → ⊥ = λ e. apart (e ∙ sym same.1) in
-      ap (λ (b : Bool). count r (if b then without q ps else p ∷ without q ps)) same.0
-      ∙ rest ∙ sym (count-other r p ps differ)
-  | inr other ↦
-      ap (λ (b : Bool). count r (if b then without q ps else p ∷ without q ps)) other.0
-      ∙ count-cons r p (without q ps) ∙ ap (λ (n : ℕ). same_as r p + n) rest ∙ sym (count-cons r p ps)
-]
-
--- a list without twins, of n numbers in a row alone, is no longer than n
-pub pages_fit : (a n : ℕ) (ps : List ℕ) → NoneTwice ps
-    → ((q : ℕ) → 1 ≤ count q ps → (a ≤ q) × (q < a + n)) → length ps ≤ n
-pages_fit a zero [] once within = omega arith
-pages_fit a zero (p ∷ ps) once within =
-    let here = count-here p ps in let place = within p (omega (arith, here)) in absurd (omega (arith, place.0, place.1))
-pages_fit a (suc n) ps once within =
-    let last : ℕ = a + n in
-    let none = count-without_same last ps in
-    let rest = pages_fit a n (without last ps)
-    (λ q. elim (eqb_tells q last) [
-      | inl same ↦ let e = ap (λ (r : ℕ). count r (without last ps)) same.1 in omega (arith, e, none)
-      | inr other ↦ let e = count-without_other last q ps other.1 in let most = once q in omega (arith, e, most)
-    ])
-    (λ q some. elim (eqb_tells q last) [
-      | inl same ↦ absurd (let e = ap (λ (r : ℕ). count r (without last ps)) same.1 in omega (arith, e, none, some))
-      | inr other ↦
-          let e = count-without_other last q ps other.1 in
-          let place = within q (omega (arith, e, some)) in
-          let differ = other.1 in
-          (place.0, omega (arith, place.1, differ))
-    ]) in
-    let split = length-without last ps in let most = once last in
-    omega (arith, rest, split, most)

@@ -12,7 +12,7 @@ use Rattle.block_chain.specs.Chains.{Leads, pages_from, free_chain}
 use Rattle.block_chain.specs.Counts.{count}
 use Rattle.nvm_board.specs.Facts.{IsMemory, pages_of}
 use Rattle.block_chain.specs.Layout.{IsOf, blocks_of, laid_out, IsExtent, AreLaid}
-use Rattle.block_chain.specs.ChainParts.{AreBlank, IsBlockPlace, times_marked, AreBlockMarks, Marks, IsUnmarkedChain}
+use Rattle.block_chain.specs.ChainParts.{IsBlockPlace, times_marked, AreBlockMarks, Marks, IsUnmarkedChain}
 use Rattle.block_chain.specs.BlockWords.{link, IsBlock}
 use Rattle.block_chain.specs.declared.chain.Extent.{Extent}
 use Rattle.block_chain.specs.declared.layout.TheConstants.{FREE_HEAD, FIRST_BLOCK_PAGE}
@@ -40,7 +40,7 @@ pages_most m (suc n) page = elim (eqb_tells page 0) [
 ]
 
 -- new marks are blank
-pub blank_marks : (n : ℕ) → AreBlank (replicate n 0)
+pub blank_marks : (n place : ℕ) → slice_index (replicate n 0) place ≡ 0
 blank_marks zero place = get_or_past [] place 0 (omega arith)
 blank_marks (suc n) zero = refl
 blank_marks (suc n) (suc place) = blank_marks n place
