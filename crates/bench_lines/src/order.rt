@@ -145,7 +145,7 @@ fn decimal_number(digits: &[u8]) -> Option<u32>
     if digits.is_empty() || digits.len() > NUMBER_DIGITS || !are_decimal(digits) {
         return None;
     }
-    let number = value_of(digits);
+    let number = decimal_value(digits);
     if number == 0 { None } else { Some(number) }
 }
 
@@ -184,7 +184,7 @@ fn are_decimal(digits: &[u8]) -> bool
 }
 
 /// Returns the number that at most 6 decimal digits spell.
-fn value_of(digits: &[u8]) -> u32
+fn decimal_value(digits: &[u8]) -> u32
     requires decimal { list_all is_ascii_digit digits.now ≡ true }
     requires size { length digits.now ≤ NUMBER_DIGITS }
     ensures value { result ≡ digits_value 10 digits.now }

@@ -1,6 +1,6 @@
 use Rattle.std.proofs.Common.{ℕ, ◌+◌, ◌-◌, ◌*◌, slice_index, ◌∙◌, ap, arith}
 use Rattle.bench_lines.specs.laws.Numbers.{digit-at, digits-more, first_digits-bound}
-use Rattle.bench_lines.proofs.order.value_of.Goals as goal
+use Rattle.bench_lines.proofs.order.decimal_value.Goals as goal
 
 pub overflow_mul-value : goal.overflow_mul-value
 overflow_mul-value c =
