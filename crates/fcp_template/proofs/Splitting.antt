@@ -1,7 +1,6 @@
 -- A text is cut into objects in one way.
-use Rattle.std.proofs.Common.{ℕ, ◌≡◌, ◌<◌, ◌≤◌, ◌*◌, List, [], ◌∷◌, ◌++◌, length, refl, sym, ap, ◌∙◌, append_assoc}
+use Rattle.std.proofs.Common.{ℕ, ◌≡◌, ◌<◌, List, [], ◌∷◌, ◌++◌, length, refl, sym, ap, ◌∙◌, append_assoc}
 use Rattle.std.proofs.Common.{arith}
-use Rattle.std.proofs.lemmas.List.{length-append}
 use Rattle.card_model.specs.TemplateGrammar.{DataObject, object_text, objects_text, IsTemplate}
 
 -- a list is cut in one way at a length
@@ -61,24 +60,3 @@ no_objects front os rest some stuck e = at_others (after_objects front os rest e
     at_others : (others : List DataObject) × (rest ≡ objects_text others) → ⊥
     at_others ([], is) = let none : length rest ≡ 0 = ap (λ (bytes : List ℕ). length bytes) is in omega arith
     at_others (o ∷ others, is) = stuck o (objects_text others) is
-
--- bytes that go on behind some objects are more objects, if any
-pub more_objects : (front os : List DataObject) (rest : List ℕ) → 0 < length rest
-    → objects_text front ++ rest ≡ objects_text os → length front < length os
-more_objects [] [] rest some e =
-    let none : length rest ≡ 0 = ap (λ (bytes : List ℕ). length bytes) e in absurd (omega (arith, none, some))
-more_objects [] (o ∷ os) rest some e = omega arith
-more_objects (o ∷ front) [] rest some e = absurd cc
-more_objects (o ∷ front) (p ∷ os) rest some e =
-    let e' : object_text o ++ (objects_text front ++ rest) ≡ object_text p ++ objects_text os =
-    sym (append_assoc (object_text o) (objects_text front) rest) ∙ e in
-    let more = more_objects front os rest some (same_object o p _ _ e').1 in
-    omega (arith, more)
-
--- each object has at least two bytes
-pub objects_long : (os : List DataObject) → 2 * length os ≤ length (objects_text os)
-objects_long [] = omega arith
-objects_long (o ∷ os) =
-    let rest = objects_long os in
-    let parts = length-append (object_text o) (objects_text os) in
-    omega (arith, rest, parts)
