@@ -5,6 +5,7 @@ ghost use Rattle.nvm_board.specs.declared.board.TheConstants.{SECRETS, COUNT_END
 ghost use Rattle.nvm_board.specs.Facts.{AreWords};
 ghost use Rattle.flash_board.specs.declared.layout.TheConstants.{PAGES};
 
+use crate::cut_flash::CutFlash;
 use crate::flash::{Flash, FlashSocket};
 use crate::flash_log::FlashLog;
 use crate::layout::PAGES;
@@ -213,6 +214,55 @@ impl<F: FlashSocket> Socket for FlashBoard<F> {
     fn power_off(&mut self) {
         self.log.power_off();
         self.dark = true;
+    }
+}
+
+impl<F: CutFlash> FlashBoard<F> {
+    ghost use Rattle.flash_board.specs.FlashFacts.{flash_facts};
+
+    /// Returns true if power is off.
+    pub fn is_dark(&self) -> bool
+        ensures { result ≡ (flash_facts self.now).dark }
+    {
+        self.dark
+    }
+
+    /// Returns the number of writes that were counted.
+    pub fn write_count(&self) -> u64
+        ensures { result ≡ (flash_facts self.now).writes }
+    {
+        self.writes
+    }
+
+    /// Sets program or erase `k` of the flash from now on, counted from 1, to lose power.
+    pub fn set_cut(&mut self, k: u32)
+        requires { 1 ≤ k }
+        ensures { flash_facts self.new ≡ record (flash_facts self.old) { due = 1 } }
+    {
+        self.log.set_cut(k);
+    }
+
+    /// Takes back the power loss that is set, if there is one.
+    pub fn clear_cut(&mut self)
+        ensures { flash_facts self.new ≡ record (flash_facts self.old) { due = 0 } }
+    {
+        self.log.clear_cut();
+    }
+
+    /// Loses power behind a write, which stays whole.
+    pub fn lose_power(&mut self)
+        requires { (flash_facts self.old).dark ≡ false }
+        ensures { flash_facts self.new
+            ≡ record (flash_facts self.old) { dark = true; cuts = (flash_facts self.old).cuts + 1 } }
+    {
+        self.go_dark();
+    }
+
+    /// Proves that the board counted no fault.
+    pub fn has_no_fault(&self)
+        ensures { (flash_facts self.now).faults ≡ 0 }
+    {
+        self.log.has_no_fault();
     }
 }
 

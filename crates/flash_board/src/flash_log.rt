@@ -5,6 +5,7 @@ ghost use Rattle.nvm_board.specs.Torn.{written};
 ghost use Rattle.flash_board.specs.FlashCalls.{Costs, Lights, Tries};
 ghost use Rattle.flash_board.specs.declared.layout.TheConstants.{PAGES, TRIES};
 
+use crate::cut_flash::CutFlash;
 use crate::flash::{Flash, FlashSocket};
 use crate::image::blank_table;
 use crate::place::PageMap;
@@ -142,5 +143,29 @@ impl<F: FlashSocket> FlashLog<F> {
         ensures { self.new ≡ record self.old { dark = true } }
     {
         self.flash.power_off();
+    }
+}
+
+impl<F: CutFlash> FlashLog<F> {
+    /// Sets program or erase `k` of the flash from now on, counted from 1, to lose power.
+    pub fn set_cut(&mut self, k: u32)
+        requires { 1 ≤ k }
+        ensures { self.new ≡ record self.old { due = 1 } }
+    {
+        self.flash.set_cut(k);
+    }
+
+    /// Takes back the power loss that is set, if there is one.
+    pub fn clear_cut(&mut self)
+        ensures { self.new ≡ record self.old { due = 0 } }
+    {
+        self.flash.clear_cut();
+    }
+
+    /// Proves that the flash never failed.
+    pub fn has_no_fault(&self)
+        ensures { self.now.faults ≡ 0 }
+    {
+        let _ = &self.flash;
     }
 }

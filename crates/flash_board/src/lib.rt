@@ -2,6 +2,7 @@
 //! the flash was programming, or in the block that it was erasing.
 #![tactic(auto)]
 
+mod cut_flash;
 mod flash;
 mod flash_board;
 mod flash_log;
@@ -15,6 +16,7 @@ mod steps;
 mod turns;
 mod writing;
 
+pub use cut_flash::CutFlash;
 pub use flash::{BLANK, BLOCKS, Flash, FlashSocket};
 pub use flash_board::FlashBoard;
 pub use flash_log::{FlashFault, FlashLog};
