@@ -1,0 +1,3 @@
+pub mod CutFlashFacts
+pub mod GarblingStates
+pub mod laws
