@@ -8,7 +8,7 @@ use Rattle.nvm_board.specs.declared.board.DeviceErr.{DeviceErr}
 use Rattle.nvm_board.specs.declared.board.DeviceErr.TheVariants.{PowerLost, Fault}
 use Rattle.nvm_board.specs.Facts.{Facts, Answered, IsLostRightly, GoesDark}
 use Rattle.nvm_board.specs.BoardCalls.{Writes}
-use Rattle.nvm_board.specs.Aims.{Aim, aim, due_of, AimStays, AimsAtWrite}
+use Rattle.nvm_board.specs.Aims.{Aim, aim, due_of, AimsAtWrite}
 
 -- the facts of a board, with this arm in place of its own
 abbrev pub armed_with : Option Arm → Facts → Facts
@@ -65,16 +65,6 @@ aimed writes a = option_map (λ x. record { write = writes + x.whole_writes + 1;
 aim-armed : (a : Option Arm) (f : Facts) → aim (armed_with a f) ≡ aimed f.writes a
 aim-armed None f = refl
 aim-armed (Some a) f = refl
-
--- a read leaves where the cut falls
-pub aim_stays_armed : (a : Option Arm) (old new : Facts) → new.writes ≡ old.writes → AimStays old new
-    → AimStays (armed_with a old) (armed_with a new)
-aim_stays_armed a old new same stays = record {
-  off = λ off. ap (armed_with a) (stays.off off);
-  aim = aim-armed a new ∙ ap (λ (n : ℕ). aimed n a) same ∙ sym (aim-armed a old);
-  more = stays.more;
-  log = stays.log;
-}
 
 -- a call that leaves the arm, and makes no write, leaves where the cut falls
 pub aims_armed : (a : Option Arm) (old new : Facts) → new.writes ≡ old.writes → AimsAtWrite old new

@@ -1,6 +1,5 @@
-use Rattle.std.proofs.Common.{refl, ap, rules}
 use Rattle.flash_board.specs.FlashFacts.{flash_facts}
-use Rattle.simulated_flash.proofs.ArmedFlash.{armed_with, answered_armed, lost_armed, aim_stays_armed, none_due}
+use Rattle.simulated_flash.proofs.ArmedFlash.{none_due}
 use Rattle.simulated_flash.proofs.cut_flash_board.CutFlashBoardBoard.read.Goals as goal
 
 pub invariant_of-self : goal.invariant_of-self
