@@ -2,6 +2,8 @@
 //! in the flash.
 #![tactic(auto)]
 
+mod factory;
 mod playing;
 
+pub use factory::factory_on_flash;
 pub use playing::play_on_flash;

@@ -1,0 +1,46 @@
+//! The factory card on a simulated flash.
+ghost use Rattle.std.specs.Prelude.{◌≡◌, IfOk};
+ghost use Rattle.nvm_board.specs.Facts.{new_board};
+ghost use Rattle.nvm_board.specs.declared.board.TheConstants.{LEAST_PAGES};
+ghost use Rattle.simulated_flash.specs.CutFlashFacts.{cut_flash_facts};
+ghost use Rattle.card_start.specs.declared.memory_format.MemoryFormat.TheVariants as MemoryFormat;
+ghost use Rattle.card_start.specs.Factory.{IsFactory, factory_card};
+ghost use Rattle.command_base.specs.Finding.{Finds};
+ghost use Rattle.bench_turns.specs.NewlyWritten.{IsJustWritten};
+
+use card_start::format;
+use flash_board::{FlashBoard, FlashLog, format_flash};
+use simulated_flash::{CutFlashBoard, GarblingFlash};
+use std::alloc::{AllocError, Global};
+
+/// Returns a new board on a simulated flash, with the factory card in format 2. The seed chooses what power losses leave
+/// in the flash. Only the writes of its making are counted, and no cut is pending.
+///
+/// # Errors
+/// There is too little memory for the flash.
+pub fn factory_on_flash(
+    alloc: Global,
+    seed: u64,
+) -> Result<CutFlashBoard<GarblingFlash>, AllocError>
+    ensures card { IfOk result (λ board. Finds (cut_flash_facts board).words (factory_card 896)) }
+    ensures counts { IfOk result (λ board. IsJustWritten (cut_flash_facts board)) }
+    ensures words { IfOk result (λ board. IsFactory MemoryFormat.Two (cut_flash_facts board).words) }
+{
+    let board = blank_board(alloc, seed)?;
+    match format(board) {
+        Ok(written) => Ok(written),
+        // (a new flash takes all writes)
+        Err(_) => Err(AllocError),
+    }
+}
+
+/// Returns a new board on a simulated flash, whose words and counts are all 0.
+fn blank_board(alloc: Global, seed: u64) -> Result<CutFlashBoard<GarblingFlash>, AllocError>
+    ensures { IfOk result (λ board. cut_flash_facts board ≡ new_board LEAST_PAGES) }
+{
+    let mut flash = GarblingFlash::new(alloc, seed)?;
+    match format_flash(&mut flash) {
+        Ok(()) => Ok(CutFlashBoard::new(FlashBoard::new(FlashLog::new(flash)))),
+        Err(_) => Err(AllocError),
+    }
+}
