@@ -1,4 +1,4 @@
-"""The programs of the repository: the bench, and the one that sweeps."""
+"""The programs of the repository: the bench, the one that sweeps, and the bench with a flash."""
 from __future__ import annotations
 
 import os
@@ -8,6 +8,9 @@ import sys
 from functools import cache
 from pathlib import Path
 
+# the variables that name a given program, by the option of tools/program
+NAMED = (("--sweep", "SWEEP_PROGRAM"), ("--flash", "FLASH_PROGRAM"))
+
 
 @cache
 def program(*options: str, given: str | None = None) -> str:
@@ -15,7 +18,7 @@ def program(*options: str, given: str | None = None) -> str:
     none. If it fails, it says why, and the tool ends as for a bad command line.
 
     Later processes don't learn that it is the given one: a wrapper would take itself for it."""
-    named = "SWEEP_PROGRAM" if "--sweep" in options else "BENCH_PROGRAM"
+    named = next((name for option, name in NAMED if option in options), "BENCH_PROGRAM")
     environment = {**os.environ, **({named: given} if given else {})}
     words: list[str | Path] = [Path(__file__).resolve().parent.parent / "program", *options]
     done = subprocess.run(words, stdout=subprocess.PIPE, text=True, check=False, env=environment)
