@@ -23,7 +23,10 @@ from .edits import Unfit, texts_of
 from .trying import Verdict
 
 # programs that tests run, and the words that make tools/program print their paths
-PROGRAMS = {"BENCH_PROGRAM": (), "SWEEP_PROGRAM": ("--sweep",), "SOFFITFENNEL_ARCHIVE": ("--library",)}
+PROGRAMS = {
+    "BENCH_PROGRAM": (), "SWEEP_PROGRAM": ("--sweep",), "FLASH_PROGRAM": ("--flash",),
+    "SOFFITFENNEL_ARCHIVE": ("--library",),
+}
 # seconds after which a test that a mutant holds up is ended
 MOST_SECONDS = 600
 COUNTS = re.compile(r"\b(\d+) passed, (\d+) failed")

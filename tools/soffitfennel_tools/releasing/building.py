@@ -11,7 +11,9 @@ from typing import NamedTuple
 from .tree import TOP, Refused, git, is_changed, tool, words
 
 # the variables that would put another program into a release
-OTHERS = ("BENCH_PROGRAM", "SWEEP_PROGRAM", "SOFFITFENNEL_ARCHIVE", "SOFFITFENNEL_LIB", "SOFFITFENNEL_SO")
+OTHERS = (
+    "BENCH_PROGRAM", "SWEEP_PROGRAM", "FLASH_PROGRAM", "SOFFITFENNEL_ARCHIVE", "SOFFITFENNEL_LIB", "SOFFITFENNEL_SO",
+)
 # how Debian hardens what it compiles
 HARD = ["CFLAGS=-O2 -fstack-protector-strong -D_FORTIFY_SOURCE=2", "LDFLAGS=-Wl,-z,relro,-z,now"]
 PCSC = Path("/usr/include/PCSC/ifdhandler.h")
