@@ -13,8 +13,8 @@ use flash_board::{FlashBoard, FlashLog, format_flash};
 use simulated_flash::{CutFlashBoard, GarblingFlash};
 use std::alloc::{AllocError, Global};
 
-/// Returns a new board on a simulated flash, with the factory card in format 2. The seed chooses what power losses leave
-/// in the flash. Only the writes of its making are counted, and no cut is pending.
+/// Returns a new board on a simulated flash, with the factory card in format 2. The seed chooses what power losses
+/// leave in the flash. Only the writes of its making are counted, and no cut is pending.
 ///
 /// # Errors
 /// There is too little memory for the flash.

@@ -1,5 +1,6 @@
 //! A board on a flash that loses power at a chosen write.
-ghost use Rattle.std.specs.Prelude.{◌≡◌, ◌≤◌, ◌+◌, ◌-◌, ◌⊎◌, ℕ, None, Some, Option, is_some, IsErrOf, IfOk, true, false};
+ghost use Rattle.std.specs.Prelude.{◌≡◌, ◌≤◌, ◌+◌, ◌-◌, ◌⊎◌, ℕ, None, Some, Option, is_some, IsErrOf, IfOk};
+ghost use Rattle.std.specs.Prelude.{true, false};
 ghost use Rattle.nvm_board.specs.declared.board.DeviceErr.TheVariants.{PowerLost};
 ghost use Rattle.nvm_board.specs.Facts.{address};
 ghost use Rattle.nvm_board.specs.BoardCalls.{FitsPage, Writes};
@@ -10,8 +11,8 @@ use nvm_board::{Arm, Armed, Board, DeviceErr, Faultless, Socket, WornOut};
 use simulated_boards::Followed;
 use std::alloc::AllocError;
 
-/// A board on a flash, on which a write can be set to lose power. Bit 0 of the mask says whether the words of this write
-/// are new. If it is clear, the other bits say how many operations of the write come before the one that loses power.
+/// A board on a flash, on which a write can be set to lose power. Bit 0 of the mask says whether the words of this
+/// write are new. If it is clear, the other bits say how many operations of the write come before the one that loses power.
 /// The flash decides what that leaves. The arm survives power-ons until it fires.
 #[derive(Drop)]
 pub struct CutFlashBoard<F: CutFlash> {

@@ -11,7 +11,8 @@ returns-in-Ok-clause-card c =
     let old = cut_flash_facts c.in_ok-board.board in
     let new = cut_flash_facts c.in-Ok.written in
     let done = c.in-Ok.ensures in
-    subst (λ (n : ℕ). Finds new.words (factory_card n)) (new_blocks 1024 old new c.in_ok-board.ensures done.written.size)
+    subst (λ (n : ℕ). Finds new.words (factory_card n))
+    (new_blocks 1024 old new c.in_ok-board.ensures done.written.size)
     done.found
 
 pub returns-in-Ok-clause-counts : goal.returns-in-Ok-clause-counts

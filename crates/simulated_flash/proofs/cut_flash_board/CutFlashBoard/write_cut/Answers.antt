@@ -19,7 +19,8 @@ returns-then-is_ok-clause-writes g c =
     c.write-ended.ensures in
     let last = c.lose_power.ensures
     ∙ ap (λ (f : Facts). record f { dark = true; cuts = f.cuts + 1 }) c.clear_cut.ensures in
-    subst (λ (f : Facts). Writes {T = Unit {0}} at run (armed_with a old) (armed_with None f) (Err PowerLost)) (sym last)
+    subst (λ (f : Facts). Writes {T = Unit {0}} at run (armed_with a old) (armed_with None f) (Err PowerLost))
+    (sym last)
     (fallen_behind at run a c.args.mask first.due old new c.write-ended.result c.requires.fires c.requires.lit
     (sym c.is_ok.ensures.value ∙ c.if-is_ok.true) told)
 

@@ -22,6 +22,7 @@ returns-else-write_count-before g c =
     let new = flash_facts c.write-ended.new.self in
     let before = c.write_count-before.ensures in
     let behind = c.write_count.ensures in
-    let none : ¬ (old.writes < new.writes) = λ more. omega (arith, before, behind, c.if-write_count-before.false, more) in
+    let none : ¬ (old.writes < new.writes) =
+    λ more. omega (arith, before, behind, c.if-write_count-before.false, more) in
     spared_uncounted (address c.args.page c.args.first) c.args.words.now c.args.self.now.arm old new
     c.write-ended.result c.args.self.now.uncut none c.write-ended.ensures
