@@ -9,6 +9,7 @@ ghost use Rattle.card_start.specs.Starting.{power_on_writes};
 ghost use Rattle.card_boards.specs.Images.{IsRefusedRightly};
 
 use card_start::{StartFault, survey_card, survey_of};
+use file_tree::Index;
 use simulated_boards::CutBoard;
 use std::alloc::Global;
 use undo_journal::Store;
@@ -60,7 +61,8 @@ fn power_on(board: CutBoard) -> Result<(), (CutBoard, StartFault)>
         Ok(store) => store,
         Err((board, fault)) => return Err((board, StartFault::from(fault))),
     };
-    match survey_of(survey_card(&mut store)) {
+    let mut index = Index::new();
+    match survey_of(survey_card(&mut store, &mut index)) {
         Ok(_) => Ok(()),
         Err(fault) => Err((store.into_board(), fault)),
     }

@@ -28,9 +28,8 @@ use crate::commands::run_command;
 use apdu_core::{Answer, Sw};
 use card_start::{CardState, PowerLost, StartFault, survey_card, survey_of};
 use command_base::Current;
-use file_tree::FreeSpace;
+use file_tree::{FreeSpace, Index};
 use std::marker::Model;
-use tree_check::Survey;
 use undo_journal::{Armed, Board, Faultless, Store, StoreErr};
 
 /// A powered card: its memory, its session, and its state.
@@ -104,8 +103,9 @@ impl<B: Board> Card<B> {
             Ok(store) => store,
             Err((board, fault)) => return Err((board, StartFault::from(fault))),
         };
-        match survey_of(survey_card(&mut store)) {
-            Ok(Survey { free, index }) => Ok(Card {
+        let mut index = Index::new();
+        match survey_of(survey_card(&mut store, &mut index)) {
+            Ok(free) => Ok(Card {
                 parts: CardParts {
                     store,
                     current: Current::fresh(),

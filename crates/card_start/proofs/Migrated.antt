@@ -16,6 +16,7 @@ use Rattle.file_tree.specs.declared.layout.TheConstants.{MARK_WORD, OLD_END_PAGE
 use Rattle.card_model.specs.Spaces.{free_space}
 use Rattle.file_tree.specs.Trees.{tree_of}
 use Rattle.file_tree.specs.Table.{table}
+use Rattle.file_tree.specs.declared.index.Index.{Index}
 use Rattle.file_tree.specs.Indexes.{IsIndex}
 use Rattle.file_tree.specs.declared.entry.Entry.{Entry}
 use Rattle.card_model.specs.declared.space.FreeSpace.{FreeSpace}
@@ -132,34 +133,36 @@ grown-space m after free n all sized old migrates new is =
     ∙ ap (free_space (block_count after)) (sym tree) ∙ sym (card_space_is after card)
 
 -- what a check told of a card, by its format
-told-one : (m : List ℕ) (checked : Checked) → checked.format ≡ One → TellsCard m (Some checked) → IsOldCard m
-told-one m checked is tells = subst (λ (format : MemoryFormat). IsCardIn format m) is tells.0
+told-one : (m : List ℕ) (files : Index) (checked : Checked) → checked.format ≡ One
+    → TellsCard m files (Some checked) → IsOldCard m
+told-one m files checked is tells = subst (λ (format : MemoryFormat). IsCardIn format m) is tells.0
 
-pub found-one : (m : List ℕ) (told : Option Checked) (checked : Checked) → told ≡ Some checked → checked.format ≡ One
-    → TellsCard m told → IsOldCard m
-found-one m told checked there is tells =
-    told-one m checked is (subst (λ (o : Option Checked). TellsCard m o) there tells)
+pub found-one : (m : List ℕ) (files : Index) (told : Option Checked) (checked : Checked) → told ≡ Some checked
+    → checked.format ≡ One → TellsCard m files told → IsOldCard m
+found-one m files told checked there is tells =
+    told-one m files checked is (subst (λ (o : Option Checked). TellsCard m files o) there tells)
 
-pub found-two : (m : List ℕ) (told : Option Checked) (checked : Checked) → told ≡ Some checked → checked.format ≡ Two
-    → TellsCard m told → IsCard m × (checked.tree.free ≡ card_space (card_of m)) × IsIndex (table m) checked.tree.index
-found-two m told checked there is tells =
-    let says = subst (λ (o : Option Checked). TellsCard m o) there tells in
+pub found-two : (m : List ℕ) (files : Index) (told : Option Checked) (checked : Checked) → told ≡ Some checked
+    → checked.format ≡ Two → TellsCard m files told
+    → IsCard m × (checked.free ≡ card_space (card_of m)) × IsIndex (table m) files
+found-two m files told checked there is tells =
+    let says = subst (λ (o : Option Checked). TellsCard m files o) there tells in
     let card = subst (λ (format : MemoryFormat). IsCardIn format m) is says.0 in
     (card, says.1 ∙ sym (card_space_is m card), says.2)
 
 -- what was told to be free, of a memory that was only read since
-pub found-free : (m mid : List ℕ) (told : Option Checked) (checked : Checked) → mid ≡ m → told ≡ Some checked
-    → TellsCard m told → checked.tree.free ≡ free_space (block_count mid) (tree_of mid)
-found-free m mid told checked same there tells =
-    let says = subst (λ (o : Option Checked). TellsCard m o) there tells in
+pub found-free : (m mid : List ℕ) (files : Index) (told : Option Checked) (checked : Checked) → mid ≡ m
+    → told ≡ Some checked → TellsCard m files told → checked.free ≡ free_space (block_count mid) (tree_of mid)
+found-free m mid files told checked same there tells =
+    let says = subst (λ (o : Option Checked). TellsCard m files o) there tells in
     says.1 ∙ sym (ap (λ (l : List ℕ). free_space (block_count l) (tree_of l)) same)
 
 -- each file is where it was, once the memory was migrated
-pub found-where : (m mid after : List ℕ) (told : Option Checked) (checked : Checked) → mid ≡ m → told ≡ Some checked
-    → TellsCard m told → Migrates mid after → IsIndex (table after) checked.tree.index
-found-where m mid after told checked same there tells migrates =
-    let says = subst (λ (o : Option Checked). TellsCard m o) there tells in
-    subst (λ (t : List Entry). IsIndex t checked.tree.index) (sym (migrates.keeps.table ∙ ap table same)) says.2
+pub found-where : (m mid after : List ℕ) (files : Index) (told : Option Checked) (checked : Checked) → mid ≡ m
+    → told ≡ Some checked → TellsCard m files told → Migrates mid after → IsIndex (table after) files
+found-where m mid after files told checked same there tells migrates =
+    let says = subst (λ (o : Option Checked). TellsCard m files o) there tells in
+    subst (λ (t : List Entry). IsIndex t files) (sym (migrates.keeps.table ∙ ap table same)) says.2
 
 -- the writes of a renewal, of a memory that was only read before
 pub renewal-writes : (m mid : List ℕ) → mid ≡ m → IsOldCard m

@@ -14,7 +14,8 @@ use Rattle.undo_journal.specs.Memory.{committed, FailsBy as StoreFailsBy, IsRead
 use Rattle.undo_journal.specs.StoreCalls.{Changes, UnlessFailed}
 use Rattle.undo_journal.specs.Undo.{IsSound}
 use Rattle.file_tree.specs.Indexes.{IsIndex}
-use Rattle.tree_check.specs.declared.tree.Survey.{Survey}
+use Rattle.card_model.specs.declared.space.FreeSpace.{FreeSpace}
+use Rattle.file_tree.specs.declared.index.Index.{Index}
 use Rattle.card_start.specs.declared.faults.StartFault.TheVariants.{Damaged}
 use Rattle.command_base.specs.Finding.{words_found, HasCard}
 use Rattle.command_base.specs.Standing.{IsAnyCard}
@@ -84,12 +85,12 @@ stops-by Fault stop a b c is before fails =
     subst (λ (f : StartFault). StartStopsBy f a c) (sym is) (fails_then a b c before fails)
 
 -- what a start tells of what it found
-abbrev Found : Result (Option Survey) StoreErr → Result Survey StartFault → Type 0
+abbrev Found : Result (Option FreeSpace) StoreErr → Result FreeSpace StartFault → Type 0
 Found found result = MatchResult found (λ space. MatchOption space (result ≡ Err Damaged) (λ free. result ≡ Ok free))
     (λ e. result ≡ Err (fault_of_store e))
 
 -- a card
-pub found-there : (found : Result (Option Survey) StoreErr) (result : Result Survey StartFault) (free : Survey)
+pub found-there : (found : Result (Option FreeSpace) StoreErr) (result : Result FreeSpace StartFault) (free : FreeSpace)
     → Found found result → result ≡ Ok free → found ≡ Ok (Some free)
 found-there (Ok (Some space)) result free tells is = let same = sym tells ∙ is in cc
 found-there (Ok None) result free tells is = let never = sym tells ∙ is in cc
@@ -98,12 +99,13 @@ found-there (Err e) result free tells is = let never = sym tells ∙ is in cc
 -- or why there is none that starts
 pub stops-found : (first : Facts) (opened last : Memory) → Steady first opened.facts → IsSound first.words
     → committed opened ≡ words_found first.words → opened.failed ≡ None → Reports opened last
-    → (found : Result (Option Survey) StoreErr) (result : Result Survey StartFault) (stop : StartFault)
-    → Found found result → result ≡ Err stop → IfOk found (TellsSurvey (committed opened) (committed last))
+    → (files : Index) (found : Result (Option FreeSpace) StoreErr) (result : Result FreeSpace StartFault)
+    → (stop : StartFault) → Found found result → result ≡ Err stop
+    → IfOk found (TellsSurvey (committed opened) (committed last) files)
     → last.failed ≡ result_err found → StartStopsBy stop first last.facts
-stops-found first opened last light sound words works reports (Ok (Some space)) result stop tells is card failed =
+stops-found first opened last light sound words works reports files (Ok (Some space)) result stop tells is card failed =
     let never = sym tells ∙ is in cc
-stops-found first opened last light sound words works reports (Ok None) result stop tells is card failed =
+stops-found first opened last light sound words works reports files (Ok None) result stop tells is card failed =
     let same = sym tells ∙ is in
     let damaged : Damaged ≡ stop = cc in
     let still = (reports.works failed).1 in
@@ -118,7 +120,7 @@ stops-found first opened last light sound words works reports (Ok None) result s
         due = still.due ∙ light.due;
       },
     )
-stops-found first opened last light sound words works reports (Err e) result stop tells is card failed =
+stops-found first opened last light sound words works reports files (Err e) result stop tells is card failed =
     let same = sym tells ∙ is in
     let stop_is : stop ≡ fault_of_store e = cc in
     stops-by e stop first opened.facts last.facts stop_is light (reports.fails e works failed)
@@ -131,17 +133,16 @@ stops-opening opening.Fault stop a b is stops = subst (λ (f : StartFault). Star
 stops-opening opening.BadJournal stop a b is stops = subst (λ (f : StartFault). StartStopsBy f a b) (sym is) stops
 
 -- the card of a start is found, its store is ready, and its free space and its index are what was told
-pub starts-kept : (opened last : Memory) (n : ℕ) (survey : Survey) (found : Result (Option Survey) StoreErr)
-    → found ≡ Ok (Some survey) → IsSound opened.facts.words
-    → IfOk found (TellsSurvey (committed opened) (committed last)) → Changes n opened last (result_err found)
-    → HasCard last.facts.words × IsKept last fresh_current × (survey.free ≡ space_in last)
-    × IsIndex (table_in last) survey.index
-starts-kept opened last n survey found is sound card changes =
-    let told = subst (λ (r : Result (Option Survey) StoreErr). IfOk r (TellsSurvey (committed opened) (committed last)))
-    is card in (
+pub starts-kept : (opened last : Memory) (n : ℕ) (files : Index) (free : FreeSpace)
+    → (found : Result (Option FreeSpace) StoreErr) → found ≡ Ok (Some free) → IsSound opened.facts.words
+    → IfOk found (TellsSurvey (committed opened) (committed last) files) → Changes n opened last (result_err found)
+    → HasCard last.facts.words × IsKept last fresh_current × (free ≡ space_in last) × IsIndex (table_in last) files
+starts-kept opened last n files free found is sound card changes =
+    let told = subst (λ (r : Result (Option FreeSpace) StoreErr).
+    IfOk r (TellsSurvey (committed opened) (committed last) files)) is card in (
       record { journal = changes.reports.sound sound; words = inl told.1 },
       record {
-        ready = subst (λ (r : Result (Option Survey) StoreErr).
+        ready = subst (λ (r : Result (Option FreeSpace) StoreErr).
             UnlessFailed (result_err r) (IsReady last)) is changes.ready;
         card = told.1;
         current = record { df = told.1.tree.entries.master.kind; ef = tt; marks = refl };

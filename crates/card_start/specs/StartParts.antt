@@ -6,6 +6,7 @@ use Rattle.file_tree.specs.Formats.{block_count}
 use Rattle.card_model.specs.Spaces.{free_space}
 use Rattle.file_tree.specs.Trees.{tree_of}
 use Rattle.file_tree.specs.Table.{table}
+use Rattle.file_tree.specs.declared.index.Index.{Index}
 use Rattle.file_tree.specs.Indexes.{IsIndex}
 use Rattle.file_tree.specs.declared.layout.TheConstants.{CARD_TERMINATED, MARK, OLD_END_PAGE, OLD_MARK}
 use Rattle.pin_store.specs.Pages.{ArePinPages, AreMarks}
@@ -45,7 +46,7 @@ TellsHeader m (Some format) = IsHeaderIn format m
 
 -- The result of the memory check: its format, its free space without migration, and the index of its files; or None if
 -- and only if it is no valid card image.
-abbrev pub TellsCard : List ℕ → Option Checked → Type 0
-TellsCard m None = ¬ IsAnyCard m
-TellsCard m (Some checked) = IsCardIn checked.format m × (checked.tree.free ≡ free_space (block_count m) (tree_of m))
-    × IsIndex (table m) checked.tree.index
+abbrev pub TellsCard : List ℕ → Index → Option Checked → Type 0
+TellsCard m index None = ¬ IsAnyCard m
+TellsCard m index (Some checked) = IsCardIn checked.format m × (checked.free ≡ free_space (block_count m) (tree_of m))
+    × IsIndex (table m) index

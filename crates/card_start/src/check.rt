@@ -2,6 +2,7 @@
 ghost use Rattle.std.specs.Prelude.{◌≡◌, ◌<◌, ◌≤◌, ◌↔◌, IsTrue, MatchOption};
 ghost use Rattle.undo_journal.specs.StoreCalls.{Learns};
 ghost use Rattle.undo_journal.specs.Memory.{committed, IsReady};
+ghost use Rattle.file_tree.specs.Indexes.{IsBlankIndex};
 ghost use Rattle.block_chain.specs.BlockWords.{word};
 ghost use Rattle.block_chain.specs.declared.layout.TheConstants.{HEADER_PAGE};
 ghost use Rattle.nvm_board.specs.declared.board.TheConstants.{PAGE_WORDS};
@@ -9,16 +10,19 @@ ghost use Rattle.card_start.specs.StartParts.{HoldsPins, TellsCard, TellsFormat,
 
 use crate::memory_format::MemoryFormat;
 use block_chain::HEADER_PAGE;
-use file_tree::{CARD_TERMINATED, MARK, MARK_WORD, OLD_END_PAGE, OLD_MARK, PAGES_WORD, STATE_WORD};
+use file_tree::{
+    CARD_TERMINATED, FreeSpace, Index, MARK, MARK_WORD, OLD_END_PAGE, OLD_MARK, PAGES_WORD,
+    STATE_WORD,
+};
 use pin_store::{are_marks, are_pins};
-use tree_check::{Survey, survey_tree};
+use tree_check::survey_tree;
 use undo_journal::{Board, PAGE_WORDS, Store, StoreErr};
 
-/// The result of a check: format, free space, index of files.
+/// The result of a check: format and free space.
 #[derive(Drop)]
 pub(crate) struct Checked {
     pub format: MemoryFormat,
-    pub tree: Survey,
+    pub free: FreeSpace,
 }
 
 /// Returns a word of the header.
@@ -89,12 +93,16 @@ fn has_pins<B: Board>(store: &mut Store<B>, format: MemoryFormat) -> Result<bool
     }
 }
 
-/// Checks header, PINs, files and blocks of a memory.
+/// Checks header, PINs, files and blocks of a memory, and fills an empty index of its files.
 /// Returns `None` if it is no valid card image.
 #[tactic(auto, using(undo_journal::specs::laws::Calls::reads_then))]
-pub(crate) fn find_card<B: Board>(store: &mut Store<B>) -> Result<Option<Checked>, StoreErr>
+pub(crate) fn find_card<B: Board>(
+    store: &mut Store<B>,
+    index: &mut Index,
+) -> Result<Option<Checked>, StoreErr>
     requires ready { IsReady store.old }
-    ensures { Learns store.old store.new result (TellsCard (committed store.old)) }
+    requires blank { IsBlankIndex index.old }
+    ensures { Learns store.old store.new result (TellsCard (committed store.old) index.new) }
 {
     let Some(format) = find_format(store)? else {
         return Ok(None);
@@ -102,8 +110,8 @@ pub(crate) fn find_card<B: Board>(store: &mut Store<B>) -> Result<Option<Checked
     if !has_pins(store, format)? {
         return Ok(None);
     }
-    let Some(tree) = survey_tree(store)? else {
+    let Some(free) = survey_tree(store, index)? else {
         return Ok(None);
     };
-    Ok(Some(Checked { format, tree }))
+    Ok(Some(Checked { format, free }))
 }

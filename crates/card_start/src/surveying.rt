@@ -1,5 +1,6 @@
 //! Checks the card image at power-on, and migrates it to format 2 if needed.
 ghost use Rattle.std.specs.Prelude.{◌≡◌, ◌⊎◌, ◌+◌, ◌≤◌, Ok, Err, IfOk, IsSome, MatchOption, MatchResult, if◌then◌else◌};
+ghost use Rattle.file_tree.specs.Indexes.{IsBlankIndex};
 ghost use Rattle.block_chain.specs.BlockWords.{word};
 ghost use Rattle.block_chain.specs.declared.layout.TheConstants.{HEADER_PAGE};
 ghost use Rattle.file_tree.specs.declared.layout.TheConstants.{MARK_WORD};
@@ -17,21 +18,25 @@ ghost use Rattle.card_start.specs.declared.faults.StartFault.TheVariants as Star
 use crate::check::find_card;
 use crate::faults::StartFault;
 use crate::memory_format::MemoryFormat;
-use file_tree::{FreeSpace, OLD_END_PAGE};
+use file_tree::{FreeSpace, Index, OLD_END_PAGE};
 use migration::migrate;
-use tree_check::Survey;
 use undo_journal::{Board, Store, StoreErr};
 
-/// Checks the card image, and migrates it to format 2 if needed.
-/// Returns `None` if it is no valid card image. At every exit the card state is the same, in the format of its header.
+/// Checks the card image, and migrates it to format 2 if needed. Returns the free space of the card, and fills an empty
+/// index of its files, in place. Returns `None` if it is no valid card image. At every exit the card state is the same,
+/// in the format of its header.
 ///
 /// # Errors
 /// The store fails.
-pub fn survey_card<B: Board>(store: &mut Store<B>) -> Result<Option<Survey>, StoreErr>
+pub fn survey_card<B: Board>(
+    store: &mut Store<B>,
+    index: &mut Index,
+) -> Result<Option<FreeSpace>, StoreErr>
     requires ready { IsReady store.old }
+    requires blank { IsBlankIndex index.old }
     ensures any_exit { (committed store.new ≡ committed store.old)
         ⊎ (IsOldCard (committed store.old) × Migrates (committed store.old) (committed store.new)) }
-    ensures card { IfOk result (TellsSurvey (committed store.old) (committed store.new)) }
+    ensures card { IfOk result (TellsSurvey (committed store.old) (committed store.new) index.new) }
     ensures last { (word (committed store.new) HEADER_PAGE MARK_WORD ≡ word (committed store.old) HEADER_PAGE MARK_WORD)
         ⊎ (store.old.facts.writes + (if is_format_2 (committed store.old) then 0
         else migration_writes (pages_of (committed store.old))) ≤ store.new.facts.writes + 1) }
@@ -41,21 +46,18 @@ pub fn survey_card<B: Board>(store: &mut Store<B>) -> Result<Option<Survey>, Sto
     ensures store { Changes (if is_format_2 (committed store.old) then 0
         else migration_writes (pages_of (committed store.old))) store.old store.new (result_err result) }
 {
-    let Some(found) = find_card(store)? else {
+    let Some(found) = find_card(store, index)? else {
         return Ok(None);
     };
     match found.format {
-        MemoryFormat::Two => Ok(Some(found.tree)),
+        MemoryFormat::Two => Ok(Some(found.free)),
         MemoryFormat::One => {
             migrate(store)?;
-            let FreeSpace { blocks, entries } = found.tree.free;
-            Ok(Some(Survey {
-                // The free space grows by the gained blocks, one a page from page 1,024 on.
-                free: FreeSpace {
-                    blocks: blocks + (store.pages() - OLD_END_PAGE),
-                    entries,
-                },
-                index: found.tree.index,
+            let FreeSpace { blocks, entries } = found.free;
+            // The free space grows by the gained blocks, one a page from page 1,024 on.
+            Ok(Some(FreeSpace {
+                blocks: blocks + (store.pages() - OLD_END_PAGE),
+                entries,
             }))
         }
     }
@@ -65,13 +67,13 @@ pub fn survey_card<B: Board>(store: &mut Store<B>) -> Result<Option<Survey>, Sto
 ///
 /// # Errors
 /// `Damaged` if it found no valid card image; `PowerLost` and `Fault` as the store failed.
-pub fn survey_of(found: Result<Option<Survey>, StoreErr>) -> Result<Survey, StartFault>
+pub fn survey_of(found: Result<Option<FreeSpace>, StoreErr>) -> Result<FreeSpace, StartFault>
     ensures { MatchResult found
-        (λ card. MatchOption card (result ≡ Err StartFault.Damaged) (λ survey. result ≡ Ok survey))
+        (λ card. MatchOption card (result ≡ Err StartFault.Damaged) (λ free. result ≡ Ok free))
         (λ e. result ≡ Err (fault_of_store e)) }
 {
     match found {
-        Ok(Some(survey)) => Ok(survey),
+        Ok(Some(free)) => Ok(free),
         Ok(None) => Err(StartFault::Damaged),
         Err(StoreErr::PowerLost) => Err(StartFault::PowerLost),
         Err(StoreErr::Fault) => Err(StartFault::Fault),

@@ -7,4 +7,4 @@ mod table;
 mod tree;
 mod walk;
 
-pub use tree::{Survey, survey_tree};
+pub use tree::survey_tree;

@@ -4,6 +4,7 @@ ghost use Rattle.std.specs.Prelude.{◌≡◌, ◌≤◌, [], IfOk};
 ghost use Rattle.std.specs.Result.{result_err};
 ghost use Rattle.undo_journal.specs.Memory.{committed, IsReady};
 ghost use Rattle.undo_journal.specs.StoreCalls.{Learns, Reads};
+ghost use Rattle.file_tree.specs.Indexes.{IsBlankIndex};
 ghost use Rattle.file_tree.specs.Table.{table};
 ghost use Rattle.file_tree.specs.Trees.{TellsSpace};
 ghost use Rattle.tree_check.specs.Surveys.{IsBlankListing, TellsListing, TellsTree};
@@ -28,20 +29,9 @@ const FEW_ENTRIES: usize = 46;
 /// A table of few entries.
 type FewEntries = ArrayVec<Entry, FEW_ENTRIES>;
 
-/// The results of the check of a file tree.
-#[derive(Drop)]
-pub struct Survey {
-    /// The space that is free for new files.
-    pub free: FreeSpace,
-    /// The index of the files.
-    pub index: Index,
-}
-
-/// The results of the check of the entries.
+/// The results of the check of the entries, but for the index.
 #[derive(Drop)]
 struct Listing {
-    /// The index of the files.
-    index: Index,
     /// The extents of the EFs, in the order of their entries.
     extents: ExtentList,
     /// The number of free entries.
@@ -54,50 +44,52 @@ impl Listing {
         ensures { IsBlankListing result }
     {
         Listing {
-            index: Index::new(),
             extents: ExtentList::new(),
             free: 0,
         }
     }
 }
 
-/// Checks the file tree, and returns free space and index. It returns `None` for an invalid tree. It builds the index
-/// from the entries that it reads. No clause counts device reads. The code reads the first word of each entry and
-/// eleven more of each used one. It also reads one link per block, and the header's words for the format and for the
-/// first free block.
+/// Checks the file tree, and returns the free space. It returns `None` for an invalid tree. It fills an empty index
+/// from the entries that it reads, in place, since an index is long. No clause counts device reads. The code reads the
+/// first word of each entry and eleven more of each used one. It also reads one link per block, and the header's words
+/// for the format and for the first free block.
 ///
 /// # Errors
 /// The store's failure: power was lost, or the device failed.
-pub fn survey_tree<B: Board>(store: &mut Store<B>) -> Result<Option<Survey>, StoreErr>
+pub fn survey_tree<B: Board>(
+    store: &mut Store<B>,
+    index: &mut Index,
+) -> Result<Option<FreeSpace>, StoreErr>
     requires ready { IsReady store.old }
-    ensures tree { IfOk result (TellsTree (committed store.old)) }
+    requires blank { IsBlankIndex index.old }
+    ensures tree { IfOk result (TellsTree (committed store.old) index.new) }
     ensures store { Reads store.old store.new (result_err result) }
 {
     let mut listing = Listing::new();
-    let listed = list_files(store, &mut listing)?;
+    let listed = list_files(store, index, &mut listing)?;
     if !listed {
         return Ok(None);
     }
-    let Some(free) = find_free(store, listing.extents.as_slice(), listing.free)? else {
-        return Ok(None);
-    };
-    Ok(Some(Survey {
-        free,
-        index: listing.index,
-    }))
+    find_free(store, listing.extents.as_slice(), listing.free)
 }
 
 /// Checks all entries, with a table that is as short as may be. It returns false if they don't satisfy the rules.
-fn list_files<B: Board>(store: &mut Store<B>, listing: &mut Listing) -> Result<bool, StoreErr>
+fn list_files<B: Board>(
+    store: &mut Store<B>,
+    index: &mut Index,
+    listing: &mut Listing,
+) -> Result<bool, StoreErr>
     requires ready { IsReady store.old }
-    requires blank { IsBlankListing listing.old }
-    ensures { Learns store.old store.new result (TellsListing (table (committed store.old)) listing.new) }
+    requires blank { IsBlankIndex index.old }
+    requires unlisted { IsBlankListing listing.old }
+    ensures { Learns store.old store.new result (TellsListing (table (committed store.old)) index.new listing.new) }
 {
     let end = find_end(store)?;
     if usize::from(end) <= FEW_ENTRIES {
-        list_few(store, end, listing)
+        list_few(store, end, index, listing)
     } else {
-        list_many(store, end, listing)
+        list_many(store, end, index, listing)
     }
 }
 
@@ -106,15 +98,17 @@ fn list_files<B: Board>(store: &mut Store<B>, listing: &mut Listing) -> Result<b
 fn list_few<B: Board>(
     store: &mut Store<B>,
     end: u8,
+    index: &mut Index,
     listing: &mut Listing,
 ) -> Result<bool, StoreErr>
     requires end { HasTableEnd store.old end }
     requires few { end ≤ FEW_ENTRIES }
-    requires blank { IsBlankListing listing.old }
-    ensures { Learns store.old store.new result (TellsListing (table (committed store.old)) listing.new) }
+    requires blank { IsBlankIndex index.old }
+    requires unlisted { IsBlankListing listing.old }
+    ensures { Learns store.old store.new result (TellsListing (table (committed store.old)) index.new listing.new) }
 {
     let mut entries = FewEntries::new();
-    list_entries(store, end, &mut entries, listing)
+    list_entries(store, end, &mut entries, index, listing)
 }
 
 /// Checks more entries. It isn't part of `list_few`, which would otherwise clear a long table for few entries too.
@@ -122,14 +116,16 @@ fn list_few<B: Board>(
 fn list_many<B: Board>(
     store: &mut Store<B>,
     end: u8,
+    index: &mut Index,
     listing: &mut Listing,
 ) -> Result<bool, StoreErr>
     requires end { HasTableEnd store.old end }
-    requires blank { IsBlankListing listing.old }
-    ensures { Learns store.old store.new result (TellsListing (table (committed store.old)) listing.new) }
+    requires blank { IsBlankIndex index.old }
+    requires unlisted { IsBlankListing listing.old }
+    ensures { Learns store.old store.new result (TellsListing (table (committed store.old)) index.new listing.new) }
 {
     let mut entries = Table::new();
-    list_entries(store, end, &mut entries, listing)
+    list_entries(store, end, &mut entries, index, listing)
 }
 
 /// Checks the entries before `end`, the last used one among them, by means of an empty table, which it fills.
@@ -137,17 +133,19 @@ fn list_entries<B: Board, const N: usize>(
     store: &mut Store<B>,
     end: u8,
     entries: &mut ArrayVec<Entry, N>,
+    index: &mut Index,
     listing: &mut Listing,
 ) -> Result<bool, StoreErr>
     requires end { HasTableEnd store.old end }
     requires room { end ≤ N }
     requires empty { entries.old.items ≡ [] }
-    requires blank { IsBlankListing listing.old }
-    ensures { Learns store.old store.new result (TellsListing (table (committed store.old)) listing.new) }
+    requires blank { IsBlankIndex index.old }
+    requires unlisted { IsBlankListing listing.old }
+    ensures { Learns store.old store.new result (TellsListing (table (committed store.old)) index.new listing.new) }
 {
     fill_table(store, end, entries)?;
     let all = entries.as_slice();
-    if !listing.index.fill(all) {
+    if !index.fill(all) {
         return Ok(false);
     }
     if !is_table(all) {

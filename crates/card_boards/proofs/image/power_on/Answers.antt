@@ -13,9 +13,9 @@ returns-in-Err-survey_of-clause-stopped c =
     let first = cut_facts c.args.board in
     subst (λ (now : Facts). StartStopsBy c.in-Err-survey_of.fault first now) (sym c.into_board.ensures)
     (stops-found first c.in-Ok.store c.survey_card.new.store c.in-Ok.ensures.light c.in-Ok.ensures.sound
-    c.in-Ok.ensures.found c.in-Ok.ensures.ready.usable.works c.survey_card.ensures.store.reports c.survey_card.result
-    c.survey_of.result c.in-Err-survey_of.fault c.survey_of.ensures c.in-Err-survey_of.is c.survey_card.ensures.card
-    c.survey_card.ensures.store.tells)
+    c.in-Ok.ensures.found c.in-Ok.ensures.ready.usable.works c.survey_card.ensures.store.reports
+    c.survey_card.new.index c.survey_card.result c.survey_of.result c.in-Err-survey_of.fault c.survey_of.ensures
+    c.in-Err-survey_of.is c.survey_card.ensures.card c.survey_card.ensures.store.tells)
 
 pub returns-in-Err-survey_of-clause-writes_err : goal.returns-in-Err-survey_of-clause-writes_err
 returns-in-Err-survey_of-clause-writes_err c =

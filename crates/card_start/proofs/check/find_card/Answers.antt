@@ -4,7 +4,7 @@ use Rattle.undo_journal.specs.laws.Calls.{reads_then}
 use Rattle.undo_journal.specs.laws.Exits.{none_ok}
 use Rattle.undo_journal.specs.laws.Told.{reads_handed, reads_on}
 use Rattle.tree_check.specs.Surveys.{TellsTree}
-use Rattle.tree_check.specs.declared.tree.Survey.{Survey}
+use Rattle.card_model.specs.declared.space.FreeSpace.{FreeSpace}
 use Rattle.card_start.specs.declared.memory_format.MemoryFormat.{MemoryFormat}
 use Rattle.card_start.specs.StartParts.{HoldsPins, TellsHeader}
 use Rattle.card_start.proofs.Entries.{card_told, no_header, no_pins, no_tree}
@@ -41,12 +41,12 @@ returns-then-not-branch g c = record {
   store = reads_on _ _ _ _ c.find_format.ensures.store.only c.in_ok-has_pins.ensures.store;
 }
 
-pub returns-in_err-tree : goal.returns-in_err-tree
-returns-in_err-tree g c = record {
-  told = none_ok _ _ _ c.from_residual-in_err-tree.ensures.1;
-  store = reads_handed _ _ _ _ c.from_residual-in_err-tree.ensures.1
+pub returns-in_err-free : goal.returns-in_err-free
+returns-in_err-free g c = record {
+  told = none_ok _ _ _ c.from_residual-in_err-free.ensures.1;
+  store = reads_handed _ _ _ _ c.from_residual-in_err-free.ensures.1
       (reads_on _ _ _ _ (reads_then _ _ _ c.find_format.ensures.store.only c.has_pins.ensures.store.only)
-      c.in_err-tree.ensures.store);
+      c.in_err-free.ensures.store);
 }
 
 pub returns-in_default-2 : goal.returns-in_default-2
@@ -54,10 +54,11 @@ returns-in_default-2 g c = record {
   told = let m = committed c.args.store.now in
       let second = c.has_pins.ensures.store.only.keeps.committed_words
       ∙ c.find_format.ensures.store.only.keeps.committed_words in
-      no_tree m (subst (λ (o : Option Survey). TellsTree m o) c.in_default-2.is
-      (subst (λ (l : List ℕ). TellsTree l c.in_ok-tree.field-0) second c.in_ok-tree.ensures.tree));
+      let files = c.survey_tree.new.index in
+      no_tree m (subst (λ (o : Option FreeSpace). TellsTree m files o) c.in_default-2.is
+      (subst (λ (l : List ℕ). TellsTree l files c.in_ok-free.field-0) second c.in_ok-free.ensures.tree));
   store = reads_on _ _ _ _ (reads_then _ _ _ c.find_format.ensures.store.only c.has_pins.ensures.store.only)
-      c.in_ok-tree.ensures.store;
+      c.in_ok-free.ensures.store;
 }
 
 pub returns : goal.returns
@@ -68,9 +69,10 @@ returns g c = record {
       let header = subst (λ (o : Option MemoryFormat). TellsHeader m o) c.in-Some.is c.in_ok-format.ensures.told in
       let pins = subst (λ (l : List ℕ). HoldsPins c.in-Some.format l) first
       (c.in_ok-has_pins.ensures.told.0 c.if-not-branch.false) in
-      let tree = subst (λ (o : Option Survey). TellsTree m o) c.in-Some-2.is
-      (subst (λ (l : List ℕ). TellsTree l c.in_ok-tree.field-0) second c.in_ok-tree.ensures.tree) in
+      let files = c.survey_tree.new.index in
+      let tree = subst (λ (o : Option FreeSpace). TellsTree m files o) c.in-Some-2.is
+      (subst (λ (l : List ℕ). TellsTree l files c.in_ok-free.field-0) second c.in_ok-free.ensures.tree) in
       (card_told m c.in-Some.format header pins tree.0, tree.1, tree.2);
   store = reads_on _ _ _ _ (reads_then _ _ _ c.find_format.ensures.store.only c.has_pins.ensures.store.only)
-      c.in_ok-tree.ensures.store;
+      c.in_ok-free.ensures.store;
 }

@@ -24,8 +24,9 @@ use Rattle.card_start.proofs.surveying.survey_card.Goals as goal
 pub returns-in_err-migrate-in-One-clause-store : goal.returns-in_err-migrate-in-One-clause-store
 returns-in_err-migrate-in-One-clause-store g c =
     let m = committed c.args.store.now in
+    let files = c.find_card.new.index in
     let same = c.find_card.ensures.store.only.keeps.committed_words in
-    let old = found-one m _ c.in-Some.found c.in-Some.is c.in-One.is c.in_ok-found.ensures.told in
+    let old = found-one m files _ c.in-Some.found c.in-Some.is c.in-One.is c.in_ok-found.ensures.told in
     let told = Some c.in_err-migrate-in-One.field-0.0 in
     let first = c.args.store.now in
     let last = c.migrate.new.store in
@@ -37,8 +38,9 @@ returns-in_err-migrate-in-One-clause-store g c =
 pub returns-in_err-migrate-in-One-clause-last : goal.returns-in_err-migrate-in-One-clause-last
 returns-in_err-migrate-in-One-clause-last g c =
     let m = committed c.args.store.now in
+    let files = c.find_card.new.index in
     let same = c.find_card.ensures.store.only.keeps.committed_words in
-    let old = found-one m _ c.in-Some.found c.in-Some.is c.in-One.is c.in_ok-found.ensures.told in
+    let old = found-one m files _ c.in-Some.found c.in-Some.is c.in-One.is c.in_ok-found.ensures.told in
     let all = renewal-writes m (committed c.find_card.new.store) same old in
     let read = c.find_card.ensures.store.only.board.writes in
     ⊎_elim
@@ -49,8 +51,9 @@ returns-in_err-migrate-in-One-clause-last g c =
 pub returns-in_ok-migrate-in-One-clause-last : goal.returns-in_ok-migrate-in-One-clause-last
 returns-in_ok-migrate-in-One-clause-last g c =
     let m = committed c.args.store.now in
+    let files = c.find_card.new.index in
     let same = c.find_card.ensures.store.only.keeps.committed_words in
-    let old = found-one m _ c.in-Some.found c.in-Some.is c.in-One.is c.in_ok-found.ensures.told in
+    let old = found-one m files _ c.in-Some.found c.in-Some.is c.in-One.is c.in_ok-found.ensures.told in
     let all = renewal-writes m (committed c.find_card.new.store) same old in
     let read = c.find_card.ensures.store.only.board.writes in
     let made = c.in_ok-migrate-in-One.ensures.counted in
@@ -67,7 +70,8 @@ returns-in_err-found-clause-last g c =
 pub returns-in-Two-clause-counted : goal.returns-in-Two-clause-counted
 returns-in-Two-clause-counted g c =
     let m = committed c.args.store.now in
-    let there = found-two m _ c.in-Some.found c.in-Some.is c.in-Two.is c.in_ok-found.ensures.told in
+    let files = c.find_card.new.index in
+    let there = found-two m files _ c.in-Some.found c.in-Some.is c.in-Two.is c.in_ok-found.ensures.told in
     let none = renewal-none m (card_format m there.0) in
     let same = c.find_card.ensures.store.only.board.writes in
     λ some. omega (arith, none, same)
@@ -75,8 +79,9 @@ returns-in-Two-clause-counted g c =
 pub returns-in_ok-migrate-in-One-clause-counted : goal.returns-in_ok-migrate-in-One-clause-counted
 returns-in_ok-migrate-in-One-clause-counted g c =
     let m = committed c.args.store.now in
+    let files = c.find_card.new.index in
     let same = c.find_card.ensures.store.only.keeps.committed_words in
-    let old = found-one m _ c.in-Some.found c.in-Some.is c.in-One.is c.in_ok-found.ensures.told in
+    let old = found-one m files _ c.in-Some.found c.in-Some.is c.in-One.is c.in_ok-found.ensures.told in
     let all = renewal-writes m (committed c.find_card.new.store) same old in
     let read = c.find_card.ensures.store.only.board.writes in
     let made = c.in_ok-migrate-in-One.ensures.counted in
@@ -85,19 +90,21 @@ returns-in_ok-migrate-in-One-clause-counted g c =
 pub returns-in-Two-clause-card : goal.returns-in-Two-clause-card
 returns-in-Two-clause-card g c =
     let m = committed c.args.store.now in
+    let files = c.find_card.new.index in
     let same = sym c.find_card.ensures.store.only.keeps.committed_words in
-    let there = found-two m _ c.in-Some.found c.in-Some.is c.in-Two.is c.in_ok-found.ensures.told in (
+    let there = found-two m files _ c.in-Some.found c.in-Some.is c.in-Two.is c.in_ok-found.ensures.told in (
       inl there.0,
       subst IsCard same there.0,
       there.1 ∙ ap (λ (l : List ℕ). card_space (card_of l)) same,
-      subst (λ (l : List ℕ). IsIndex (table l) c.in-Some.found.tree.index) same there.2,
+      subst (λ (l : List ℕ). IsIndex (table l) files) same there.2,
     )
 
 pub returns-in_ok-migrate-in-One-clause-store : goal.returns-in_ok-migrate-in-One-clause-store
 returns-in_ok-migrate-in-One-clause-store g c =
     let m = committed c.args.store.now in
+    let files = c.find_card.new.index in
     let same = c.find_card.ensures.store.only.keeps.committed_words in
-    let old = found-one m _ c.in-Some.found c.in-Some.is c.in-One.is c.in_ok-found.ensures.told in
+    let old = found-one m files _ c.in-Some.found c.in-Some.is c.in-One.is c.in_ok-found.ensures.told in
     let first = c.args.store.now in
     let last = c.migrate.new.store in
     let changes = changes_after _ first c.find_card.new.store last None c.find_card.ensures.store.only
@@ -107,20 +114,21 @@ returns-in_ok-migrate-in-One-clause-store g c =
 pub returns-in_ok-migrate-in-One-clause-card : goal.returns-in_ok-migrate-in-One-clause-card
 returns-in_ok-migrate-in-One-clause-card g c =
     let m = committed c.args.store.now in
+    let files = c.find_card.new.index in
     let mid = committed c.find_card.new.store in
     let after = committed c.migrate.new.store in
     let same = c.find_card.ensures.store.only.keeps.committed_words in
     let told = c.in_ok-found.ensures.told in
-    let old = found-one m _ c.in-Some.found c.in-Some.is c.in-One.is told in
+    let old = found-one m files _ c.in-Some.found c.in-Some.is c.in-One.is told in
     let sized = c.in_ok-found.ensures.store.ready.usable.committed_size in
     let was = subst IsOldCard (sym same) old in
     let migrates = c.in_ok-migrate-in-One.ensures.any_exit in
     let new = c.in_ok-migrate-in-One.ensures.done.new in (
       inr old,
       renewed-card mid after sized was migrates new,
-      grown-space mid after c.in-Some.found.tree.free c.pages.result c.pages.ensures.committed sized was migrates new
-          (found-free m mid _ c.in-Some.found same c.in-Some.is told),
-      found-where m mid after _ c.in-Some.found same c.in-Some.is told migrates,
+      grown-space mid after c.in-Some.found.free c.pages.result c.pages.ensures.committed sized was migrates new
+          (found-free m mid files _ c.in-Some.found same c.in-Some.is told),
+      found-where m mid after files _ c.in-Some.found same c.in-Some.is told migrates,
     )
 
 pub returns-in_err-found-clause-any_exit : goal.returns-in_err-found-clause-any_exit
@@ -145,7 +153,8 @@ returns-in_default-clause-any_exit g c = inl c.find_card.ensures.store.only.keep
 
 pub returns-in_default-clause-card : goal.returns-in_default-clause-card
 returns-in_default-clause-card g c =
-    subst (λ (o : Option Checked). TellsCard (committed c.args.store.now) o) c.in_default.is c.in_ok-found.ensures.told
+    subst (λ (o : Option Checked). TellsCard (committed c.args.store.now) c.find_card.new.index o) c.in_default.is
+    c.in_ok-found.ensures.told
 
 pub returns-in_default-clause-last : goal.returns-in_default-clause-last
 returns-in_default-clause-last g c =
@@ -160,7 +169,8 @@ returns-in_default-clause-store g c = reads_change _ _ _ _ c.requires.ready.idle
 pub migrate-requires : goal.migrate-requires
 migrate-requires g c =
     let m = committed c.args.store.now in
-    let old = found-one m _ c.in-Some.found c.in-Some.is c.in-One.is c.in_ok-found.ensures.told in
+    let files = c.find_card.new.index in
+    let old = found-one m files _ c.in-Some.found c.in-Some.is c.in-One.is c.in_ok-found.ensures.told in
     let same = sym c.find_card.ensures.store.only.keeps.committed_words in record {
       ready = c.in_ok-found.ensures.store.ready;
       tree = subst TreeStands same old.tree;
@@ -170,28 +180,30 @@ migrate-requires g c =
 pub returns-in_err-migrate-in-One-clause-any_exit : goal.returns-in_err-migrate-in-One-clause-any_exit
 returns-in_err-migrate-in-One-clause-any_exit g c =
     let m = committed c.args.store.now in
-    let old = found-one m _ c.in-Some.found c.in-Some.is c.in-One.is c.in_ok-found.ensures.told in
+    let files = c.find_card.new.index in
+    let old = found-one m files _ c.in-Some.found c.in-Some.is c.in-One.is c.in_ok-found.ensures.told in
     let migrates = subst (λ (l : List ℕ). Migrates l (committed c.migrate.new.store))
     c.find_card.ensures.store.only.keeps.committed_words c.in_err-migrate-in-One.ensures.any_exit in
     inr (old, migrates)
 
 pub returns-in_err-migrate-in-One-clause-idle : goal.returns-in_err-migrate-in-One-clause-idle
 returns-in_err-migrate-in-One-clause-idle g c =
-    λ new. absurd (new (found-one (committed c.args.store.now) _ c.in-Some.found c.in-Some.is c.in-One.is
-    c.in_ok-found.ensures.told))
+    λ new. absurd (new (found-one (committed c.args.store.now) c.find_card.new.index _ c.in-Some.found c.in-Some.is
+    c.in-One.is c.in_ok-found.ensures.told))
 
 pub returns-in_ok-migrate-in-One-clause-any_exit : goal.returns-in_ok-migrate-in-One-clause-any_exit
 returns-in_ok-migrate-in-One-clause-any_exit g c =
     let m = committed c.args.store.now in
-    let old = found-one m _ c.in-Some.found c.in-Some.is c.in-One.is c.in_ok-found.ensures.told in
+    let files = c.find_card.new.index in
+    let old = found-one m files _ c.in-Some.found c.in-Some.is c.in-One.is c.in_ok-found.ensures.told in
     let migrates = subst (λ (l : List ℕ). Migrates l (committed c.migrate.new.store))
     c.find_card.ensures.store.only.keeps.committed_words c.in_ok-migrate-in-One.ensures.any_exit in
     inr (old, migrates)
 
 pub returns-in_ok-migrate-in-One-clause-idle : goal.returns-in_ok-migrate-in-One-clause-idle
 returns-in_ok-migrate-in-One-clause-idle g c =
-    λ new. absurd (new (found-one (committed c.args.store.now) _ c.in-Some.found c.in-Some.is c.in-One.is
-    c.in_ok-found.ensures.told))
+    λ new. absurd (new (found-one (committed c.args.store.now) c.find_card.new.index _ c.in-Some.found c.in-Some.is
+    c.in-One.is c.in_ok-found.ensures.told))
 
 pub returns-in_err-migrate-in-One-clause-card : goal.returns-in_err-migrate-in-One-clause-card
 returns-in_err-migrate-in-One-clause-card g c = none_ok _ _ _ c.from_residual-in_err-migrate-in-One.ensures.1

@@ -13,7 +13,7 @@ use Rattle.file_tree.specs.laws.TableEnds.{whole_index, whole_table}
 use Rattle.tree_check.proofs.tree.list_entries.Goals as goal
 
 pub fill-requires-clause-empty : goal.fill-requires-clause-empty
-fill-requires-clause-empty g c = c.requires.blank.index
+fill-requires-clause-empty g c = c.requires.blank
 
 pub fill-requires-clause-size : goal.fill-requires-clause-size
 fill-requires-clause-size g c =

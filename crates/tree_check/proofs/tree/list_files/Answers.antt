@@ -4,6 +4,7 @@ use Rattle.undo_journal.specs.declared.error.StoreErr.{StoreErr}
 use Rattle.undo_journal.specs.laws.Exits.{none_ok}
 use Rattle.undo_journal.specs.laws.Told.{reads_handed, reads_on}
 use Rattle.tree_check.specs.declared.tree.Listing.{Listing}
+use Rattle.file_tree.specs.declared.index.Index.{Index}
 use Rattle.tree_check.specs.Surveys.{TellsListing}
 use Rattle.file_tree.specs.Table.{table}
 use Rattle.file_tree.specs.TableEnd.{IsTableEnd}
@@ -29,20 +30,21 @@ returns-in_err-end g c = record {
 }
 
 -- what was told of the words behind the reads, by the words before them
-told_before : (m now : List ℕ) (listing : Listing) (r : Result Bool StoreErr) → now ≡ m
-    → IfOk r (TellsListing (table now) listing) → IfOk r (TellsListing (table m) listing)
-told_before m now listing r same told = subst (λ (l : List ℕ). IfOk r (TellsListing (table l) listing)) same told
+told_before : (m now : List ℕ) (index : Index) (listing : Listing) (r : Result Bool StoreErr) → now ≡ m
+    → IfOk r (TellsListing (table now) index listing) → IfOk r (TellsListing (table m) index listing)
+told_before m now index listing r same told =
+    subst (λ (l : List ℕ). IfOk r (TellsListing (table l) index listing)) same told
 
 pub returns-then-from-le-FEW_ENTRIES : goal.returns-then-from-le-FEW_ENTRIES
 returns-then-from-le-FEW_ENTRIES g c = record {
-  told = told_before _ _ _ c.list_few.result c.find_end.ensures.end.store.only.keeps.committed_words
+  told = told_before _ _ _ _ c.list_few.result c.find_end.ensures.end.store.only.keeps.committed_words
       c.list_few.ensures.told;
   store = reads_on _ _ _ _ c.find_end.ensures.end.store.only c.list_few.ensures.store;
 }
 
 pub returns-else-from-le-FEW_ENTRIES : goal.returns-else-from-le-FEW_ENTRIES
 returns-else-from-le-FEW_ENTRIES g c = record {
-  told = told_before _ _ _ c.list_many.result c.find_end.ensures.end.store.only.keeps.committed_words
+  told = told_before _ _ _ _ c.list_many.result c.find_end.ensures.end.store.only.keeps.committed_words
       c.list_many.ensures.told;
   store = reads_on _ _ _ _ c.find_end.ensures.end.store.only c.list_many.ensures.store;
 }

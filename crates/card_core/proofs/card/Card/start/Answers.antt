@@ -7,7 +7,7 @@ use Rattle.undo_journal.specs.Memory.{committed}
 use Rattle.undo_journal.specs.Spending.{KeepsBoard, WritesAtMost}
 use Rattle.undo_journal.specs.Undo.{data_words}
 use Rattle.command_base.specs.Finding.{FindsAgain}
-use Rattle.tree_check.specs.declared.tree.Survey.{Survey}
+use Rattle.card_model.specs.declared.space.FreeSpace.{FreeSpace}
 use Rattle.command_base.specs.Standing.{IsAnyCard}
 use Rattle.card_start.specs.declared.state.CardState.TheVariants.{Working, Dark}
 use Rattle.command_base.specs.declared.current.Current.{Current}
@@ -38,19 +38,20 @@ returns-in-Err-survey_of-clause-stopped g c =
     let first = g.B.Board.facts c.args.board in
     subst (λ (now : Facts). StartStopsBy c.in-Err-survey_of.fault first now) (sym c.into_board.ensures)
     (stops-found first c.in-Ok.store c.survey_card.new.store c.in-Ok.ensures.light c.in-Ok.ensures.sound
-    c.in-Ok.ensures.found c.in-Ok.ensures.ready.usable.works c.survey_card.ensures.store.reports c.survey_card.result
-    c.survey_of.result c.in-Err-survey_of.fault c.survey_of.ensures c.in-Err-survey_of.is c.survey_card.ensures.card
-    c.survey_card.ensures.store.tells)
+    c.in-Ok.ensures.found c.in-Ok.ensures.ready.usable.works c.survey_card.ensures.store.reports
+    c.survey_card.new.index c.survey_card.result c.survey_of.result c.in-Err-survey_of.fault c.survey_of.ensures
+    c.in-Err-survey_of.is c.survey_card.ensures.card c.survey_card.ensures.store.tells)
 
 pub returns-in-Ok-survey_of-clause-started : goal.returns-in-Ok-survey_of-clause-started
 returns-in-Ok-survey_of-clause-started g c =
-    let there = found-there c.survey_card.result c.survey_of.result c.in-Ok-survey_of.field-0 c.survey_of.ensures
+    let there = found-there c.survey_card.result c.survey_of.result c.in-Ok-survey_of.free c.survey_of.ensures
     c.in-Ok-survey_of.is in
-    let works = c.survey_card.ensures.store.tells ∙ ap (λ (r : Result (Option Survey) StoreErr). result_err r) there in
+    let works = c.survey_card.ensures.store.tells
+    ∙ ap (λ (r : Result (Option FreeSpace) StoreErr). result_err r) there in
     let same = (c.survey_card.ensures.store.reports.works works).1 in
     let steady = c.in-Ok.ensures.light in
-    let told = subst (λ (r : Result (Option Survey) StoreErr). IfOk r (TellsSurvey (committed c.in-Ok.store)
-    (committed c.survey_card.new.store))) there c.survey_card.ensures.card in
+    let told = subst (λ (r : Result (Option FreeSpace) StoreErr). IfOk r (TellsSurvey (committed c.in-Ok.store)
+    (committed c.survey_card.new.store) c.survey_card.new.index)) there c.survey_card.ensures.card in
     let path = master-path (committed c.survey_card.new.store) in
     record {
       has_card = record { journal = c.in-Ok.ensures.sound; words = subst IsAnyCard c.in-Ok.ensures.found told.0 };
@@ -68,9 +69,10 @@ returns-in-Ok-survey_of-clause-started g c =
 
 pub invariant_of-result : goal.invariant_of-result
 invariant_of-result g c =
-    let there = found-there c.survey_card.result c.survey_of.result c.in-Ok-survey_of.field-0 c.survey_of.ensures
+    let there = found-there c.survey_card.result c.survey_of.result c.in-Ok-survey_of.free c.survey_of.ensures
     c.in-Ok-survey_of.is in
-    let kept = starts-kept c.in-Ok.store c.survey_card.new.store _ c.in-Ok-survey_of.field-0 c.survey_card.result there
+    let kept = starts-kept c.in-Ok.store c.survey_card.new.store _ c.survey_card.new.index c.in-Ok-survey_of.free
+    c.survey_card.result there
     c.in-Ok.ensures.defined c.survey_card.ensures.card c.survey_card.ensures.store in (
       kept.0,
       λ works. record {
@@ -148,11 +150,11 @@ returns-in-Err-clause-last g c =
 
 pub returns-in-Ok-survey_of-clause-counted : goal.returns-in-Ok-survey_of-clause-counted
 returns-in-Ok-survey_of-clause-counted g c =
-    let there = found-there c.survey_card.result c.survey_of.result c.in-Ok-survey_of.field-0 c.survey_of.ensures
+    let there = found-there c.survey_card.result c.survey_of.result c.in-Ok-survey_of.free c.survey_of.ensures
     c.in-Ok-survey_of.is in
     spends-all (g.B.Board.facts c.args.board) c.in-Ok.store c.survey_card.new.store c.in-Ok.ensures.found
     c.in-Ok.ensures.counted
-    (subst (λ (r : Result (Option Survey) StoreErr). IfOk r (λ found. IsSome found
+    (subst (λ (r : Result (Option FreeSpace) StoreErr). IfOk r (λ found. IsSome found
     → c.survey_card.new.store.facts.writes ≡ c.in-Ok.store.facts.writes
     + (if is_format_2 (committed c.in-Ok.store) then 0 else migration_writes (pages_of (committed c.in-Ok.store)))))
     there c.survey_card.ensures.counted refl)
