@@ -84,11 +84,19 @@ impl<B: Board> Powered<B> {
             (λ e. WritesAtMost (power_on_writes (B.facts board)) (B.facts board) (B.facts e.0)) }
     {
         let card = Card::start(board)?;
-        Ok(Powered {
+        Ok(Powered::of(card))
+    }
+
+    /// Returns a powered card behind a fresh end of the link.
+    pub fn of(card: Card<B>) -> Powered<B>
+        ensures card { result.card ≡ card }
+        ensures link { result.link ≡ fresh }
+    {
+        Powered {
             card,
             link: CardEnd::new(),
             answer: Answer::new(),
-        })
+        }
     }
 
     /// Takes a block of any bytes, and writes the reply.

@@ -1,13 +1,12 @@
 -- The board of a start that stops is passed on.
-use Rattle.std.proofs.Common.{◌≡◌, ap, subst, sym}
-use Rattle.std.specs.Prelude.{Result, Ok, Err, IfErr, IsErrAnd}
+use Rattle.std.proofs.Common.{◌≡◌, subst, sym}
+use Rattle.std.specs.Prelude.{◌+◌, Result, Ok, Err, IfErr, IsErrAnd}
 use Rattle.undo_journal.specs.Spending.{WritesAtMost}
 use Rattle.undo_journal.specs.laws.Exits.{none_ok}
 use Rattle.command_base.specs.Finding.{FindsAgain}
-use Rattle.card_start.specs.Running.{StartStopsBy}
-use Rattle.card_start.specs.Starting.{KeepsFormat, KeepsFoundUnlessOld, KeepsUnlessOld, RenamesLast}
-use Rattle.card_start.specs.Starting.{RollsBackUnlessOld, power_on_writes}
-use Rattle.t1_link.specs.CardTable.{CardLink}
+use Rattle.card_start.specs.Running.{Running, Starts, StartStopsBy}
+use Rattle.card_start.specs.Starting.{IsNewFound, KeepsFormat, KeepsFoundUnlessOld, KeepsUnlessOld, RenamesLast}
+use Rattle.card_start.specs.Starting.{RollsBackUnlessOld, TakesAllPages, power_on_writes}
 use Rattle.card_turns.proofs.powered.Powered.start.Goals as goal
 
 -- what holds of an error holds of the result that passes it on
@@ -107,30 +106,48 @@ returns-clause-writes_err g c = tt
 pub returns-clause-shut_err : goal.returns-clause-shut_err
 returns-clause-shut_err g c = tt
 
+-- what holds of the card holds of it behind its link
+behind : (P : Running → Type 0) (card held : Running) → held ≡ card → P card → P held
+behind P card held is holds = subst P (sym is) holds
+
 pub returns-clause-found : goal.returns-clause-found
-returns-clause-found g c = c.in_ok-card.ensures.found
+returns-clause-found g c =
+    behind (λ card. FindsAgain (g.B.Board.facts c.args.board).words card.facts.words) _ _ c.of.ensures.card
+    c.in_ok-card.ensures.found
 
 pub returns-clause-format : goal.returns-clause-format
-returns-clause-format g c = c.in_ok-card.ensures.format
+returns-clause-format g c =
+    behind (λ card. IsNewFound card.facts.words) _ _ c.of.ensures.card c.in_ok-card.ensures.format
 
 pub returns-clause-all_pages : goal.returns-clause-all_pages
-returns-clause-all_pages g c = c.in_ok-card.ensures.all_pages
+returns-clause-all_pages g c =
+    behind (λ card. TakesAllPages (g.B.Board.facts c.args.board).words card.facts.words) _ _ c.of.ensures.card
+    c.in_ok-card.ensures.all_pages
 
 pub returns-clause-kept : goal.returns-clause-kept
-returns-clause-kept g c = c.in_ok-card.ensures.kept
+returns-clause-kept g c =
+    behind (λ card. KeepsFoundUnlessOld (g.B.Board.facts c.args.board).words card.facts.words) _ _ c.of.ensures.card
+    c.in_ok-card.ensures.kept
 
 pub returns-clause-shut : goal.returns-clause-shut
-returns-clause-shut g c = c.in_ok-card.ensures.shut
+returns-clause-shut g c =
+    behind (λ card. KeepsUnlessOld (g.B.Board.facts c.args.board) card.facts) _ _ c.of.ensures.card
+    c.in_ok-card.ensures.shut
 
 pub returns-clause-counted : goal.returns-clause-counted
-returns-clause-counted g c = c.in_ok-card.ensures.counted
+returns-clause-counted g c =
+    let first = g.B.Board.facts c.args.board in
+    behind (λ card. card.facts.writes ≡ first.writes + power_on_writes first) _ _ c.of.ensures.card
+    c.in_ok-card.ensures.counted
 
 pub returns-clause-writes : goal.returns-clause-writes
-returns-clause-writes g c = c.in_ok-card.ensures.writes
+returns-clause-writes g c =
+    let first = g.B.Board.facts c.args.board in
+    behind (λ card. WritesAtMost (power_on_writes first) first card.facts) _ _ c.of.ensures.card
+    c.in_ok-card.ensures.writes
 
 pub returns-clause-started : goal.returns-clause-started
-returns-clause-started g c = (c.in_ok-card.ensures.started, ap (λ (l : CardLink). l.link) c.new.ensures)
-
-pub invariant_of-result : goal.invariant_of-result
-invariant_of-result g c =
-    (c.in_ok-card.ensures.has_card, λ lit. ap (λ (l : CardLink). l.waiting) c.new.ensures)
+returns-clause-started g c = (
+  behind (λ card. Starts (g.B.Board.facts c.args.board) card) _ _ c.of.ensures.card c.in_ok-card.ensures.started,
+  c.of.ensures.link,
+)
