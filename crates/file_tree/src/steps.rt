@@ -117,7 +117,7 @@ fn search(places: &[Place], key: &Key) -> (Result<usize, usize>, Steps)
 }
 
 /// Returns true if a key is greater than those of all places.
-fn is_behind(places: &[Place], key: &Key) -> bool
+fn is_greatest(places: &[Place], key: &Key) -> bool
     ensures { AreSorted places.now → (IsTrue result ↔ All (λ place. IsBefore place.key key.now) places.now) }
 {
     let end = places.len();
@@ -154,7 +154,7 @@ impl Index {
         requires { length self.old.places.items < 63 }
         ensures { AreSorted self.old.places.items → TellsPut self.old.places.items place self.new.places.items result }
     {
-        if is_behind(self.places.as_slice(), &place.key) {
+        if is_greatest(self.places.as_slice(), &place.key) {
             self.places.push(place);
             return true;
         }

@@ -15,12 +15,12 @@ no_place = record { key = key_for 0 0; entry = 0 }
 abbrev sorted : List Place → Type 0
 sorted ps = AreSorted ps
 
-pub returns-then-is_behind : goal.returns-then-is_behind
-returns-then-is_behind c = λ up.
+pub returns-then-is_greatest : goal.returns-then-is_greatest
+returns-then-is_greatest c = λ up.
     let old = c.args.self.now.places.items in
     let same = c.as_slice.ensures.value in
     let before : List Place → Type 0 = λ ps. All (λ p. IsBefore p.key c.args.place.key) ps in
-    let all = subst before same ((c.is_behind.ensures (subst sorted (sym same) up)).0 c.if-is_behind.true) in
+    let all = subst before same ((c.is_greatest.ensures (subst sorted (sym same) up)).0 c.if-is_greatest.true) in
     let after : List Place → Type 0 = λ ps. Puts old c.args.place ps in
     subst after (sym c.push.ensures.items) (puts_behind old c.args.place all)
 

@@ -1,6 +1,6 @@
 use Rattle.std.proofs.Common.{◌<◌, ◌≤◌, ◌+◌, ◌-◌, length, refl, arith}
 use Rattle.file_tree.specs.laws.Indexes.{all_before}
-use Rattle.file_tree.proofs.steps.is_behind.Goals as goal
+use Rattle.file_tree.proofs.steps.is_greatest.Goals as goal
 
 pub returns-then-end-eq0 : goal.returns-then-end-eq0
 returns-then-end-eq0 c = λ up. (λ _. λ k d lt. absurd (omega (arith, lt, c.if-end-eq0.true)), λ _. refl)
