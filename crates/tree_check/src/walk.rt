@@ -22,7 +22,7 @@ pub(crate) struct Walked {
 }
 
 /// Returns true if a page is that of a block before the page `end`.
-fn is_block(page: u32, end: u16) -> bool
+fn is_block_page(page: u32, end: u16) -> bool
     requires { FIRST_BLOCK_PAGE ≤ end }
     ensures { IsTrue result ↔ ((FIRST_BLOCK_PAGE ≤ page) × (page < end)) }
 {
@@ -49,7 +49,7 @@ fn walk_over<B: Board>(
     let mut left = most;
     let mut last = 0;
     // Page 0 is no block, so a page that is no block may also be the end of the chain.
-    while is_block(page, end) {
+    while is_block_page(page, end) {
         if left == 0 {
             return Ok(None);
         }

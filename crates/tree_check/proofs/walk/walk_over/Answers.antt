@@ -35,7 +35,7 @@ loop-first-preserved g c =
     let invariant = c.loop-first.invariant in
     let within = invariant.within in
     let some = c.if-left-eq0.false in
-    let fit = c.is_block.ensures.0 c.loop-first-test.true in
+    let fit = c.is_block_page.ensures.0 c.loop-first-test.true in
     let more : n + 1 ≡ c.args.most - (c.loop-first.left - 1) = omega (arith, within, some) in
     let there : page ≢ 0 = λ e. let least = fit.0 in let z : ⊥ = omega (arith, e, least) in z in
     let next : c.in_ok-page.page ≡ link m page =
@@ -58,7 +58,7 @@ returns-then-left-eq0-clause-stale g c = λ _ ends.
     let m = committed c.args.store.now in
     let page = c.loop-first.page in
     let n : ℕ = c.args.most - c.loop-first.left in
-    let fit = c.is_block.ensures.0 c.loop-first-test.true in
+    let fit = c.is_block_page.ensures.0 c.loop-first-test.true in
     let there : page ≢ 0 = λ e. let least = fit.0 in let z : ⊥ = omega (arith, e, least) in z in
     let long = goes_on c.args.end m c.args.first n page c.loop-first.invariant.walked c.args.most ends there in
     let few = ends.few in
@@ -74,7 +74,7 @@ returns-then-page-ne0-clause-stale g c = λ _ ends.
     let n : ℕ = c.args.most - c.loop-first.left in
     let fit = goes_on_within c.args.end m c.args.first n c.loop-first.page c.loop-first.invariant.walked c.args.most
     ends c.if-page-ne0.true in
-    true≢false (sym (c.is_block.ensures.1 fit) ∙ c.loop-first-test.false)
+    true≢false (sym (c.is_block_page.ensures.1 fit) ∙ c.loop-first-test.false)
 
 pub returns-then-page-ne0-clause-walked : goal.returns-then-page-ne0-clause-walked
 returns-then-page-ne0-clause-walked g c = tt
@@ -113,12 +113,12 @@ returns-in_err-page-clause-store g c =
 
 pub overflow_cast-last : goal.overflow_cast-last
 overflow_cast-last g c =
-    let block = c.is_block.ensures.0 c.loop-first-test.true in
+    let block = c.is_block_page.ensures.0 c.loop-first-test.true in
     let most = c.requires.pages.ready.usable.committed_size.most in
     omega (arith, block.1, c.requires.pages.inside, most)
 
 pub overflow_mul-last : goal.overflow_mul-last
 overflow_mul-last g c =
-    let block = c.is_block.ensures.0 c.loop-first-test.true in
+    let block = c.is_block_page.ensures.0 c.loop-first-test.true in
     let most = c.requires.pages.ready.usable.committed_size.most in
     omega (arith, block.1, c.requires.pages.inside, most)
