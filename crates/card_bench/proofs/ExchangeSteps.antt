@@ -309,8 +309,8 @@ known-there start w b false false reached s line = λ command e.
     runs-given tree_machine start reached.counts w b command reached.good line
     (ap (λ (h : Result Block Fault). (card_takes w.card h).reaction) (sym (heard-frame b s.spellable)) ∙ e)
 
-pub known-so : (start : Served) (w : World Served) (way : NextBlock) (pending : Line) → IsReached start w → IsWay way w.line
-    → goes_there way ≡ true → IsKnown w (lines.arriving pending 0 (bytes_under_way way))
+pub known-so : (start : Served) (w : World Served) (way : NextBlock) (pending : Line) → IsReached start w
+    → IsWay way w.line → goes_there way ≡ true → IsKnown w (lines.arriving pending 0 (bytes_under_way way))
 known-so start w (ways.toward_card bytes) pending reached is there =
     subst (λ (x : List ℕ). IsKnown w (lines.arriving pending 0 x)) (sym is.2)
     (known-there start w is.0 (is_due pending.lose 0) (is_due pending.garble 0) reached

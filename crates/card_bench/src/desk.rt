@@ -262,9 +262,9 @@ where
         }
     }
 
-    /// Takes the charge of an order, over the boards of the second desk and of the next one. Returns true if the follower
-    /// took the write. This is a function of its own, so that a line without a charge, the usual case, has no place for a
-    /// second desk.
+    /// Takes the charge of an order, over the boards of the second desk and of the next one. Returns true if the
+    /// follower took the write. This is a function of its own, so that a line without a charge, the usual case, has no
+    /// place for a second desk.
     #[inline(never)]
     fn charge_on(&mut self, second: P::Board, next: P::Board, order: Order, given: &[u8]) -> bool
         requires sized { IsOrderSized (order_with order given.now) }

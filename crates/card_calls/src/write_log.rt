@@ -8,8 +8,8 @@ use circular_buffer::HeapCircularBuffer;
 use simulated_boards::Follower;
 use std::alloc::{AllocError, Global};
 
-/// The device writes that a log has room for until they are stored, on the smallest board. A block makes at most 700, and
-/// a power-on 448. A larger board has room for one more for each page more: so many more may a migration make.
+/// The device writes that a log has room for until they are stored, on the smallest board. A block makes at most 700,
+/// and a power-on 448. A larger board has room for one more for each page more: so many more may a migration make.
 pub const LOG_WRITES: usize = 704;
 
 /// The next device write of a log.

@@ -1,5 +1,6 @@
 //! Followers of the words of a board.
-ghost use Rattle.std.specs.Prelude.{◌≡◌, ◌≤◌, ◌<◌, ◌+◌, ◌*◌, ◌%◌, Bool, true, not, Option, None, IsTrue, is_some, length};
+ghost use Rattle.std.specs.Prelude.{◌≡◌, ◌≤◌, ◌<◌, ◌+◌, ◌*◌, ◌%◌, Bool, true, not, IsTrue};
+ghost use Rattle.std.specs.Prelude.{Option, None, is_some, length};
 ghost use Rattle.nvm_board.specs.declared.board.TheConstants.{MOST_PAGES, PAGE_WORDS};
 ghost use Rattle.nvm_board.specs.History.{Log, and_run};
 
