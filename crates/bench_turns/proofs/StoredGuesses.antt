@@ -6,8 +6,7 @@ use Rattle.std.proofs.lemmas.Bool.{cases_lt}
 use Rattle.std.proofs.lemmas.List.{get_or-set_same, get_or_past}
 use Rattle.nvm_board.specs.Aims.{WritesRuns}
 use Rattle.nvm_board.specs.Facts.{Facts}
-use Rattle.nvm_board.specs.History.{Run}
-use Rattle.nvm_board.specs.Torn.{written}
+use Rattle.nvm_board.specs.History.{Run, written}
 use Rattle.card_model.specs.declared.status.Sw.{Sw}
 use Rattle.card_model.specs.Behaviours.{charged_card}
 use Rattle.card_model.specs.CommandTable.{asked}

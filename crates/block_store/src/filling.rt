@@ -7,7 +7,8 @@ ghost use Rattle.block_chain.specs.declared.layout.TheConstants.{BLOCK_BYTES, BL
 ghost use Rattle.undo_journal.specs.StoreCalls.{Changes};
 ghost use Rattle.block_chain.specs.Chains.{free_chain, bytes_of};
 ghost use Rattle.nvm_board.specs.Facts.{address};
-ghost use Rattle.nvm_board.specs.Torn.{Torn, written};
+ghost use Rattle.nvm_board.specs.History.{written};
+ghost use Rattle.nvm_board.specs.Torn.{Torn};
 ghost use Rattle.block_links.specs.StoredBlocks.{HasBlock, OffersBlocks};
 
 use block_chain::{BLOCK_BYTES, BLOCK_WORDS, Chain, FreeRun};

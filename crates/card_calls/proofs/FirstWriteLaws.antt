@@ -5,8 +5,7 @@ use Rattle.std.specs.Prelude.{is_some, option_map, true, false}
 use Rattle.std.proofs.Common.{◌∙◌, ap, arith, inl, inr, refl, subst, sym}
 use Rattle.std.proofs.lemmas.Bool.{true≢false}
 use Rattle.nvm_board.specs.Facts.{Facts}
-use Rattle.nvm_board.specs.History.{Log, Run, and_runs, logged, replayed}
-use Rattle.nvm_board.specs.Torn.{written}
+use Rattle.nvm_board.specs.History.{Log, Run, and_runs, logged, replayed, written}
 use Rattle.bench_lines.specs.Orders.{Order, Cut}
 use Rattle.bench_lines.specs.Printouts.{Print}
 use Rattle.bench_turns.specs.BenchStates.{bench_facts}

@@ -2,8 +2,7 @@
 use Rattle.std.specs.Prelude.{◌≡◌, ◌⊎◌, ◌+◌, ◌%◌, ◌^◌, ℕ, List, Option, None, Some, Result, Ok, Err, is_some}
 use Rattle.std.specs.Prelude.{option_map}
 use Rattle.std.specs.Prelude.{Bool, true, false}
-use Rattle.nvm_board.specs.History.{Log, Run}
-use Rattle.nvm_board.specs.Torn.{written}
+use Rattle.nvm_board.specs.History.{Log, Run, written}
 use Rattle.bench_lines.specs.Orders.{Apdu, Block, Order}
 use Rattle.bench_turns.specs.BenchStates.{bench_facts}
 use Rattle.card_bench.specs.Charges.{CutsNext, MayCompare, RunsToFirst}

@@ -4,8 +4,7 @@ use Rattle.std.specs.Prelude.{◌≡◌, ◌⊎◌, ◌<◌, ◌+◌, ◌-◌, �
 use Rattle.card_model.specs.declared.status.Sw.{Sw}
 use Rattle.nvm_board.specs.Aims.{WritesRuns}
 use Rattle.nvm_board.specs.Facts.{Facts, RisesAt, raised}
-use Rattle.nvm_board.specs.History.{Run}
-use Rattle.nvm_board.specs.Torn.{written}
+use Rattle.nvm_board.specs.History.{Run, written}
 use Rattle.card_model.specs.Requests.{Request}
 use Rattle.card_model.specs.declared.pins.TheConstants.{PINS}
 use Rattle.card_model.specs.Secrets.{charged_pin, full_tries, kept, tries_left}

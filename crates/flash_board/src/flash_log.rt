@@ -1,7 +1,7 @@
 //! The log of a flash as one value: the words that it stands for, and its power.
 ghost use Rattle.std.specs.Prelude.{◌≡◌, ◌⊎◌, ◌<◌, ◌≤◌, ◌+◌, ◌*◌, true, false, length, slice_index, IfOk, IfErr, OnOk};
 ghost use Rattle.nvm_board.specs.Facts.{AreWords};
-ghost use Rattle.nvm_board.specs.Torn.{written};
+ghost use Rattle.nvm_board.specs.History.{written};
 ghost use Rattle.flash_board.specs.FlashCalls.{Costs, Lights, Tries};
 ghost use Rattle.flash_board.specs.declared.layout.TheConstants.{PAGES, TRIES};
 

@@ -1,6 +1,6 @@
 //! The steps of a read and a write of the log.
 ghost use Rattle.std.specs.Prelude.{◌≡◌, ◌⊎◌, ◌<◌, ◌≤◌, ◌+◌, ◌*◌, true, false, length, slice_index, IfOk, OnOk};
-ghost use Rattle.nvm_board.specs.Torn.{written};
+ghost use Rattle.nvm_board.specs.History.{written};
 ghost use Rattle.flash_board.specs.FlashCalls.{Costs, Lights, Tries};
 ghost use Rattle.flash_board.specs.FlashLogs.{words_of};
 ghost use Rattle.flash_board.specs.Places.{IsLog, IsPlaceOf};

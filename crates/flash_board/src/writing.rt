@@ -1,6 +1,6 @@
 //! A write of the board: a record in a free slot.
 ghost use Rattle.std.specs.Prelude.{◌≡◌, ◌⊎◌, ◌<◌, ◌≤◌, ◌+◌, ◌*◌, false, length, OnOk};
-ghost use Rattle.nvm_board.specs.Torn.{written};
+ghost use Rattle.nvm_board.specs.History.{written};
 ghost use Rattle.flash_board.specs.FlashCalls.{Lights};
 ghost use Rattle.flash_board.specs.PageTables.{IsPageTable, AreFree};
 ghost use Rattle.flash_board.specs.FlashLogs.{base_in, turn_of, words_of};

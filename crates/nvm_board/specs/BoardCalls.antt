@@ -5,8 +5,8 @@ use Rattle.nvm_board.specs.declared.board.DeviceErr.{DeviceErr}
 use Rattle.nvm_board.specs.declared.board.TheConstants.{PAGE_WORDS}
 use Rattle.nvm_board.specs.Facts.{Facts, Answered, IsLostRightly, RisesAt, raised, pages_of}
 use Rattle.nvm_board.specs.Aims.{AimStays, AimsAtWrite}
-use Rattle.nvm_board.specs.History.{and_run, run_in}
-use Rattle.nvm_board.specs.Torn.{Torn, written}
+use Rattle.nvm_board.specs.History.{and_run, run_in, written}
+use Rattle.nvm_board.specs.Torn.{Torn}
 
 -- A read returns the word at an address. Words and counts of writes, comparisons and matches are unchanged.
 pub record TellsWord (at : ℕ) (old new : Facts) (result : Result ℕ DeviceErr) : Type 0 where

@@ -1,7 +1,6 @@
 -- The device writes of a board: the runs of words that it wrote, and the log of the last ones.
 use Rattle.std.specs.Prelude.{◌+◌, ◌-◌, ◌%◌, ◌^◌, ◌++◌, ℕ, List, [], ◌∷◌, Option, Some, None, drop, length}
-use Rattle.std.specs.Prelude.{slice_range}
-use Rattle.nvm_board.specs.Torn.{written}
+use Rattle.std.specs.Prelude.{slice_range, slice_set}
 
 -- Words, from an address on.
 pub record Run : Type 0 where
@@ -36,6 +35,11 @@ and_run (Some log) run = Some (logged log run)
 abbrev pub and_runs : Option Log → List Run → Option Log
 and_runs log [] = log
 and_runs log (run ∷ runs) = and_runs (and_run log run) runs
+
+-- The words after a whole write of the run from this address on.
+abbrev pub written : List ℕ → ℕ → List ℕ → List ℕ
+written m at [] = m
+written m at (w ∷ run) = written (slice_set m at w) (at + 1) run
 
 -- The words after these runs are written, in order.
 abbrev pub replayed : List ℕ → List Run → List ℕ

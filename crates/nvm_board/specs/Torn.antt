@@ -1,11 +1,6 @@
--- Words after a write, whole or torn: each word of its run is old or new, independently of the others.
+-- Words after a torn write: each word of its run is old or new, independently of the others.
 use Rattle.std.specs.Prelude.{◌≡◌, ◌⊎◌, ◌<◌, ◌≤◌, ◌+◌, ℕ, List, [], ◌∷◌, length, slice_index, slice_set}
 use Rattle.std.specs.Int.{IsBitSet}
-
--- The words after a whole write of the run from this address on.
-abbrev pub written : List ℕ → ℕ → List ℕ → List ℕ
-written m at [] = m
-written m at (w ∷ run) = written (slice_set m at w) (at + 1) run
 
 -- Each word of the run is old or new, independently of the others. All other words are old.
 abbrev pub Torn : List ℕ → ℕ → List ℕ → List ℕ → Type 0

@@ -13,8 +13,7 @@ use Rattle.std.specs.FinSet.{FinSet}
 use Rattle.std.specs.Ordering.{nat_cmp}
 use Rattle.nvm_board.specs.Aims.{AimsOn}
 use Rattle.nvm_board.specs.Facts.{IsMemory}
-use Rattle.nvm_board.specs.History.{Log, Run, and_runs, replayed}
-use Rattle.nvm_board.specs.Torn.{written}
+use Rattle.nvm_board.specs.History.{Log, Run, and_runs, replayed, written}
 use Rattle.nvm_board.specs.laws.Sizes.{memory_same}
 use Rattle.nvm_board.specs.Facts.{raised}
 use Rattle.card_model.specs.declared.status.Sw.{Sw}

@@ -1,7 +1,8 @@
 //! Runs of words, written whole or torn.
 ghost use Rattle.std.specs.Prelude.{◌≡◌, ◌+◌, ◌≤◌, length};
 ghost use Rattle.nvm_board.specs.Facts.{AreWords};
-ghost use Rattle.nvm_board.specs.Torn.{written, IsTornBy};
+ghost use Rattle.nvm_board.specs.History.{written};
+ghost use Rattle.nvm_board.specs.Torn.{IsTornBy};
 ghost use Rattle.nvm_board.specs.declared.board.TheConstants.{PAGE_WORDS};
 
 use nvm_board::PAGE_WORDS;

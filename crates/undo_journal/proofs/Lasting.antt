@@ -6,7 +6,8 @@ use Rattle.std.proofs.Math.ListN.{length-set}
 use Rattle.std.proofs.lemmas.Bool.Decides.{eqb_tells}
 use Rattle.std.proofs.lemmas.Grind.{same_number_lists}
 use Rattle.std.proofs.Math.Logic.{⊎_elim, ⊎_map}
-use Rattle.nvm_board.specs.Torn.{Torn, written, IsMixture}
+use Rattle.nvm_board.specs.History.{written}
+use Rattle.nvm_board.specs.Torn.{Torn, IsMixture}
 use Rattle.nvm_board.specs.laws.Torn.{Torn-all, IsMixture-Torn}
 use Rattle.undo_journal.specs.declared.layout.TheConstants.{GATE, JOURNAL_END}
 use Rattle.undo_journal.specs.Undo.{gate, undo, data_words, IsOutside, IsDataAddress, IsDataRun, IsSound}

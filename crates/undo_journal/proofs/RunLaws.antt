@@ -5,7 +5,7 @@ use Rattle.std.proofs.Common.{Some, None, is_some, IsSome, true≢false}
 use Rattle.std.specs.Prelude.{if◌then◌else◌}
 use Rattle.std.proofs.lemmas.Bool.Decides.{eqb_tells}
 use Rattle.nvm_board.specs.declared.board.TheConstants.{PAGE_WORDS}
-use Rattle.nvm_board.specs.Torn.{written}
+use Rattle.nvm_board.specs.History.{written}
 use Rattle.undo_journal.specs.declared.batch.Waiting.{Waiting}
 use Rattle.undo_journal.specs.Undo.{Pair, IsDataAddress}
 use Rattle.undo_journal.specs.Batches.{overlay, look_up, AreSets, begins, runs_from, with_set}

@@ -1,6 +1,7 @@
 -- A turn of the loop that writes the words of sets: their first run is written, and the others are left.
 use Rattle.std.proofs.Common.{◌≡◌, ◌<◌, ◌+◌, ℕ, List, length, drop, get_or, sym, ◌∙◌, ap, ap₂, subst, arith}
-use Rattle.nvm_board.specs.Torn.{Torn, written}
+use Rattle.nvm_board.specs.History.{written}
+use Rattle.nvm_board.specs.Torn.{Torn}
 use Rattle.nvm_board.specs.laws.Torn.{Torn-all}
 use Rattle.undo_journal.specs.declared.batch.Waiting.{Waiting}
 use Rattle.undo_journal.specs.Undo.{Pair, pairs}

@@ -3,7 +3,8 @@ ghost use Rattle.std.specs.Prelude.{◌≡◌, ◌⊎◌, ◌↔◌, ◌+◌, �
 ghost use Rattle.std.specs.Prelude.{drop, false, IsTrue, IfOk, OnOk, slice_set};
 ghost use Rattle.arrayvec.specs.ArrayVec.{array_vec_len};
 ghost use Rattle.nvm_board.specs.Facts.{Answered};
-ghost use Rattle.nvm_board.specs.Torn.{Torn, written};
+ghost use Rattle.nvm_board.specs.History.{written};
+ghost use Rattle.nvm_board.specs.Torn.{Torn};
 ghost use Rattle.undo_journal.specs.declared.batch.TheConstants.{BATCH};
 ghost use Rattle.undo_journal.specs.declared.layout.TheConstants.{JOURNAL, PAIRS};
 ghost use Rattle.undo_journal.specs.Undo.{gate, pairs, undo, data_words, IsDataAddress, IsSound};

@@ -1,7 +1,8 @@
 //! The journal on a board: the gate, the check of the journal, and the rollback.
 ghost use Rattle.std.specs.Prelude.{◌≡◌, ◌↔◌, ◌+◌, ◌*◌, ◌<◌, ◌≤◌, ℕ, false, IsTrue, IfOk, OnOk, MatchOption};
 ghost use Rattle.std.specs.Prelude.{◌%◌, length};
-ghost use Rattle.nvm_board.specs.Torn.{Torn, written};
+ghost use Rattle.nvm_board.specs.History.{written};
+ghost use Rattle.nvm_board.specs.Torn.{Torn};
 ghost use Rattle.undo_journal.specs.declared.batch.TheConstants.{BATCH};
 ghost use Rattle.nvm_board.specs.Facts.{Answered};
 ghost use Rattle.undo_journal.specs.declared.layout.TheConstants.{GATE, JOURNAL, PAIRS};

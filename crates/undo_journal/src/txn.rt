@@ -2,7 +2,7 @@
 ghost use Rattle.std.specs.Prelude.{◌≡◌, ◌⊎◌, ◌+◌, ◌*◌, ◌<◌, ◌≤◌, length, IfOk, OnOk, IsErrOf, IsOk, None, Some};
 ghost use Rattle.std.specs.Prelude.{true, slice_index, slice_set};
 ghost use Rattle.std.specs.Result.{result_err};
-ghost use Rattle.nvm_board.specs.Torn.{written};
+ghost use Rattle.nvm_board.specs.History.{written};
 ghost use Rattle.undo_journal.specs.declared.error.StoreErr.TheVariants.{PowerLost};
 ghost use Rattle.undo_journal.specs.Commits.{TurnedCommits, TurnsGate};
 ghost use Rattle.undo_journal.specs.Endings.{ended, end_writes};

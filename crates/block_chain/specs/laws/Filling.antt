@@ -8,7 +8,8 @@ use Rattle.std.proofs.lemmas.List.{length-take-le, get_or-replicate, length-repl
 use Rattle.std.specs.Prelude.{◌≡◌, ◌≢◌, ◌⊎◌, ◌<◌, ◌≤◌, ◌+◌, ◌-◌, ◌*◌, ◌/◌, ◌%◌, ℕ, zero, suc, List, length}
 use Rattle.std.specs.Prelude.{slice_index, take, replicate}
 use Rattle.nvm_board.specs.Facts.{address, IsMemory}
-use Rattle.nvm_board.specs.Torn.{IsMixture, written}
+use Rattle.nvm_board.specs.History.{written}
+use Rattle.nvm_board.specs.Torn.{IsMixture}
 use Rattle.nvm_board.specs.laws.Torn.{written-inside, written-elsewhere}
 use Rattle.nvm_board.specs.declared.board.TheConstants.{PAGE_WORDS}
 use Rattle.block_chain.specs.Chains.{bytes_of}

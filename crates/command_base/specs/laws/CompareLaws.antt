@@ -5,8 +5,7 @@ use Rattle.std.proofs.Math.Logic.{⊎_map}
 use Rattle.std.proofs.lemmas.List.{set-get_or}
 use Rattle.card_model.specs.declared.status.Sw.{Sw}
 use Rattle.nvm_board.specs.Facts.{Facts}
-use Rattle.nvm_board.specs.History.{Log, Run, and_runs, replayed}
-use Rattle.nvm_board.specs.Torn.{written}
+use Rattle.nvm_board.specs.History.{Log, Run, and_runs, replayed, written}
 use Rattle.undo_journal.specs.Spending.{KeepsBoard}
 use Rattle.card_model.specs.Requests.{Request}
 use Rattle.card_model.specs.Secrets.{tries_left}

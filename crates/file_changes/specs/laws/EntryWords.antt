@@ -6,7 +6,7 @@ use Rattle.std.proofs.Math.Seq.{take-add, take-length}
 use Rattle.std.proofs.lemmas.List.{take-append-drop, length-drop, append-nil}
 use Rattle.std.proofs.lemmas.Bool.{cases_lt}
 use Rattle.nvm_board.specs.Facts.{address, IsMemory}
-use Rattle.nvm_board.specs.Torn.{written}
+use Rattle.nvm_board.specs.History.{written}
 use Rattle.nvm_board.specs.laws.Torn.{written-inside, written-elsewhere, length-written}
 use Rattle.block_chain.specs.BlockWords.{page_words}
 use Rattle.block_chain.specs.laws.Words.{index-page_words}

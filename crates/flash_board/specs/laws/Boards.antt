@@ -3,7 +3,8 @@ use Rattle.std.specs.Prelude.{◌≡◌, ◌⊎◌, ◌+◌, ℕ, true, false, L
 use Rattle.std.proofs.Common.{refl, sym, arith, inl, inr, ⊎_elim, subst}
 use Rattle.nvm_board.specs.declared.board.DeviceErr.TheVariants.{PowerLost, Fault}
 use Rattle.nvm_board.specs.Facts.{Facts, IsBoard, Answered, IsLostRightly, IsWorn}
-use Rattle.nvm_board.specs.Torn.{Torn, written}
+use Rattle.nvm_board.specs.History.{written}
+use Rattle.nvm_board.specs.Torn.{Torn}
 use Rattle.nvm_board.specs.laws.Sizes.{memory_of_pages}
 use Rattle.nvm_board.specs.laws.Torn.{Torn-none, Torn-all}
 use Rattle.flash_board.specs.declared.flash_board.FlashBoard.{FlashBoard}

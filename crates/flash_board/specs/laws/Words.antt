@@ -5,7 +5,7 @@ use Rattle.std.specs.Prelude.{slice_index}
 use Rattle.std.proofs.Common.{sym, ◌∙◌, ap, ap₂, inl, inr, ⊎_elim, arith}
 use Rattle.std.proofs.lemmas.Bool.{cases_eq, cases_lt}
 use Rattle.std.proofs.lemmas.Grind.{same_number_lists}
-use Rattle.nvm_board.specs.Torn.{written}
+use Rattle.nvm_board.specs.History.{written}
 use Rattle.nvm_board.specs.laws.Torn.{length-written, written-elsewhere, written-inside}
 use Rattle.flash_board.specs.FlashLogs.{page_word, word_in, words_of, base_in, turn_of}
 use Rattle.flash_board.specs.laws.Finding.{length-image, index-image}

@@ -4,7 +4,7 @@ use Rattle.std.specs.Prelude.{slice_index, slice_set}
 use Rattle.std.proofs.Common.{sym, ◌∙◌, ap, inl, inr, ⊎_elim, arith, get_or-set_same, get_or-set_other}
 use Rattle.std.proofs.lemmas.Bool.{cases_eq, cases_lt}
 use Rattle.std.proofs.lemmas.Grind.{same_number_lists}
-use Rattle.nvm_board.specs.Torn.{written}
+use Rattle.nvm_board.specs.History.{written}
 use Rattle.nvm_board.specs.laws.Torn.{length-written, written-elsewhere, written-inside}
 use Rattle.flash_board.specs.FlashCalls.{SameElsewhere}
 use Rattle.flash_board.specs.PageTables.{IsPageTable, AreFree}

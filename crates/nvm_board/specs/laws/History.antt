@@ -6,9 +6,9 @@ use Rattle.std.proofs.Common.{get_or-take, get_or-drop}
 use Rattle.std.proofs.lemmas.Bool.{cases_lt}
 use Rattle.std.proofs.lemmas.Grind.{same_number_lists}
 use Rattle.nvm_board.specs.Facts.{Facts}
-use Rattle.nvm_board.specs.Torn.{Torn, written}
+use Rattle.nvm_board.specs.Torn.{Torn}
 use Rattle.nvm_board.specs.laws.Torn.{length-Torn, Torn-elsewhere, length-written, written-elsewhere, written-inside}
-use Rattle.nvm_board.specs.History.{Log, Run, and_run, and_runs, replayed, run_in}
+use Rattle.nvm_board.specs.History.{Log, Run, and_run, and_runs, replayed, run_in, written}
 use Rattle.nvm_board.specs.Aims.{WritesRuns, events}
 
 -- two lists of runs in a row

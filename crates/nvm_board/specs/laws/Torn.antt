@@ -7,7 +7,8 @@ use Rattle.std.proofs.Math.Logic.{⊎_map}
 use Rattle.std.proofs.lemmas.Bool.{cases_lt, cases_order}
 use Rattle.std.proofs.lemmas.Bool.Decides.{eqb_tells}
 use Rattle.std.proofs.lemmas.Grind.{same_number_lists}
-use Rattle.nvm_board.specs.Torn.{written, Torn, IsMixture, IsTornBy}
+use Rattle.nvm_board.specs.History.{written}
+use Rattle.nvm_board.specs.Torn.{Torn, IsMixture, IsTornBy}
 
 -- a written run leaves as many words
 pub length-written : (m run : List ℕ) (at : ℕ) → length (written m at run) ≡ length m

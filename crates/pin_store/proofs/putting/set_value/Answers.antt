@@ -1,6 +1,6 @@
 use Rattle.std.proofs.Common.{◌≡◌, ◌<◌, ℕ, List, [], ◌∷◌, slice_index, slice_set, sym, ◌∙◌, subst, arith, lit<, rules}
 use Rattle.nvm_board.specs.Facts.{address}
-use Rattle.nvm_board.specs.Torn.{written}
+use Rattle.nvm_board.specs.History.{written}
 use Rattle.undo_journal.specs.Lent.{memory_of}
 use Rattle.undo_journal.specs.Memory.{current}
 use Rattle.card_model.specs.declared.pins.TheConstants.{PINS}

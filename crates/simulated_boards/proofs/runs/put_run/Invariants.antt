@@ -1,6 +1,6 @@
 use Rattle.std.proofs.Common.{◌≡◌, length, take}
 use Rattle.nvm_board.specs.Facts.{AreWords}
-use Rattle.nvm_board.specs.Torn.{written}
+use Rattle.nvm_board.specs.History.{written}
 use Rattle.simulated_boards.proofs.runs.put_run.Given as goal
 
 abbrev pub invariant-loop-i : goal.invariant-loop-i

@@ -1,7 +1,8 @@
 use Rattle.std.proofs.Common.{◌++◌, ℕ, List, length, take, drop, refl, ap, ap₂, sym, ◌∙◌, subst, inl, inr, rules}
 use Rattle.std.proofs.Math.Seq.{take-append_seam}
 use Rattle.nvm_board.specs.Facts.{Facts, address}
-use Rattle.nvm_board.specs.Torn.{Torn, written}
+use Rattle.nvm_board.specs.History.{written}
+use Rattle.nvm_board.specs.Torn.{Torn}
 use Rattle.nvm_board.specs.laws.Torn.{Torn-none, Torn-all}
 use Rattle.nvm_board.specs.laws.SteadyCalls.{answered_ok}
 use Rattle.simulated_boards.proofs.Telling.{off_tells, off_rightly, worn_tells, worn_rightly, lit_rightly}

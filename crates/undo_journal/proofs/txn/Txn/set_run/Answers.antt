@@ -5,7 +5,7 @@ use Rattle.undo_journal.specs.Batches.{with_set}
 use Rattle.undo_journal.specs.Lent.{memory_of}
 use Rattle.std.specs.Prelude.{◌≡◌, take}
 use Rattle.std.proofs.lemmas.List.{take_all}
-use Rattle.nvm_board.specs.Torn.{written}
+use Rattle.nvm_board.specs.History.{written}
 use Rattle.std.proofs.Math.Logic.{⊎_map}
 use Rattle.undo_journal.specs.Memory.{current}
 use Rattle.nvm_board.specs.laws.Torn.{length-written, written-more}

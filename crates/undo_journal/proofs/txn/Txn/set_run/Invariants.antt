@@ -1,5 +1,5 @@
 use Rattle.std.proofs.Common.{◌≡◌, ◌<◌, ◌+◌, length, take}
-use Rattle.nvm_board.specs.Torn.{written}
+use Rattle.nvm_board.specs.History.{written}
 use Rattle.undo_journal.specs.Memory.{current, IsOpen, Waits}
 use Rattle.undo_journal.specs.Batches.{joined_run}
 use Rattle.undo_journal.specs.declared.batch.TheConstants.{BATCH}
