@@ -118,7 +118,8 @@ pays-before a b c first still = record {
     counted = let counted = first.wrote.counted in let more = still.more in omega (arith, counted, more);
   };
   paid = ⊎_map (λ same. still.counts ∙ same)
-      (λ pays. subst (λ (made : Comparisons). FirstWritePays a first.wrote.runs made) (sym still.counts) pays) first.paid;
+      (λ pays. subst (λ (made : Comparisons). FirstWritePays a first.wrote.runs made) (sym still.counts) pays)
+      first.paid;
 }
 
 -- the command is behind both ends of a powered bench
@@ -220,7 +221,8 @@ module _ (w : World Served) where
       (ap (λ (l : Link). (link_step l got).reaction) (sym s.link_is) ∙ is)))
 
   -- what arrives of a block on the line
-  arrived-first : (old new : Ends) (way : NextBlock) (o : Option (List ℕ)) (follows : Result NextBlock Ended) (start : Served)
+  arrived-first : (old new : Ends) (way : NextBlock) (o : Option (List ℕ)) (follows : Result NextBlock Ended)
+      (start : Served)
       → (goes_there way ≡ true → ArrivesBy start w o) → StandIn old.bench old.reader w → Arrives old way o new follows
       → RunsOrStill old new follows
   arrived-first old new (ways.toward_card block) None follows start passes s a =
@@ -234,7 +236,8 @@ module _ (w : World Served) where
 
   -- the reader's end turned, and the command stays behind
   turned-behind : (old new : Ends) (follows : Result NextBlock Ended)
-      → ((number : SequenceNumber) → IsPast number old.reader → (next : NextBlock) → follows ≡ Ok next → IsPast number new.reader)
+      → ((number : SequenceNumber) → IsPast number old.reader → (next : NextBlock) → follows ≡ Ok next
+      → IsPast number new.reader)
       → new.bench ≡ old.bench → BehindAt old.bench old.reader → BehindIf follows new.bench new.reader
   turned-behind old new (Err ended) stays same past = tt
   turned-behind old new (Ok next) stays same past =
@@ -244,7 +247,8 @@ module _ (w : World Served) where
       by (off facts) past = past
       by (on p) past = stays p.link.nr past next refl
 
-  arrived-behind : (old new : Ends) (way : NextBlock) (o : Option (List ℕ)) (follows : Result NextBlock Ended) (start : Served)
+  arrived-behind : (old new : Ends) (way : NextBlock) (o : Option (List ℕ)) (follows : Result NextBlock Ended)
+      (start : Served)
       → (goes_there way ≡ true → ArrivesBy start w o) → StandIn old.bench old.reader w
       → BehindAt old.bench old.reader → Arrives old way o new follows → StillBehind old new follows
   arrived-behind old new (ways.toward_card block) None follows start passes s past a = (

@@ -16,8 +16,8 @@ IsLedBy first [] = first ≡ None
 IsLedBy first (run ∷ runs) = first ≡ Some run
 
 -- An order with a charge made these device writes, and these comparisons are counted after it. The image with the first
--- write is one that a loss of power in that write leaves. By `ahead` of `IsPerformed` it pays for all comparisons of the
--- order. So does the image with all writes. (No clause says so of the images between those two.)
+-- write is one that a loss of power in that write leaves. By `ahead` of `IsPerformed` it pays for all comparisons of
+-- the order. So does the image with all writes. (No clause says so of the images between those two.)
 pub record PaidInOrder (order : Order) (was : Desk) (runs : List Run) (made : Comparisons) : Type 0 where
   pub first : RunsToFirst order was (logs_none TWIN_WRITES) (replayed (bench_facts was.bench).words (take 1 runs))
   pub all : PaysFor was.bench (replayed (bench_facts was.bench).words runs) made

@@ -185,8 +185,8 @@ impl<B: Board> Card<B> {
         ensures updated { (target : Target) (offset : ℕ) (bytes : List ℕ)
             → asked command.now ≡ Ok (update_binary target offset bytes)
             → self.new.facts.writes ≤ self.old.facts.writes + update_writes (length bytes) }
-        // A comparison permanently uses up a try. Only commands on PINs with data make one, and the first device write of
-        // such a command is the charge.
+        // A comparison permanently uses up a try. Only commands on PINs with data make one, and the first device write
+        // of such a command is the charge.
         ensures compares { ComparesAsked (asked command.now) (card_found self.old) self.old.facts
             (card_found self.new) self.new.facts }
     {

@@ -129,8 +129,8 @@ impl<B: Board> Powered<B> {
         ensures writes { self.new.card.facts.writes ≤ self.old.card.facts.writes + COMMAND_WRITES }
         // The write counter never decreases, and a set power cut falls into the write that it was set for.
         ensures advances { Advances self.old.card.facts self.new.card.facts }
-        // A comparison permanently uses up a try. Only commands on PINs with data make one, and the first device write of
-        // such a command is the charge.
+        // A comparison permanently uses up a try. Only commands on PINs with data make one, and the first device write
+        // of such a command is the charge.
         ensures compares { BlockCompares self.old (link_step self.old.link got.now).reaction self.new.card.facts }
     {
         out.clear();

@@ -620,7 +620,8 @@ module _ (request : Request) (a : Attempt) (asks : IsAttempt request a) (n : ℕ
     module _ (b e : Memory) (k : ℕ)
         (taken : (k ≡ secret) × Charges secret old b × (refused_with a.unusable secret (pin_in old secret) ≡ None))
         (pages-b : ArePinPages (committed b)) (costs : WritesAtMost 1 old.facts b.facts) (reports-b : Reports old b)
-        (ready-b : IsReady b) (charge : b.facts.writes ≡ old.facts.writes + 1) (ends : (p : Pin) → IsEnd a.secret p (a.becomes p))
+        (ready-b : IsReady b) (charge : b.facts.writes ≡ old.facts.writes + 1)
+        (ends : (p : Pin) → IsEnd a.secret p (a.becomes p))
         (exit : (committed e ≡ committed b) ⊎ SetsByMatch k a.shown (a.becomes (pin_in b k)) b e)
         (spends : ComparesOnce n k b.facts e.facts) (pages : ArePinPages (committed e)) (reports : Reports b e)
         (stays : StaysShut old b) (word : EndsByWord a.renews b e) (settles : Settles a k b e) where
@@ -646,7 +647,8 @@ module _ (request : Request) (a : Attempt) (asks : IsAttempt request a) (n : ℕ
 
       first : ChargesFirst a (card_in old) old.facts e.facts
       first =
-          charge-first request a asks old x sized card current b got.1 card-b ready-b reports-b costs charge e spends.cut
+          charge-first request a asks old x sized card current b got.1 card-b ready-b reports-b costs charge e
+          spends.cut
 
       pub end-torn : (r : Result Sw StoreErr) (err : StoreErr) → IsErrAnd r (λ f. f ≡ err) → e.failed ≡ Some err
           → Executes request old x e x [] r

@@ -12,8 +12,8 @@ use simulated_boards::Followed;
 use std::alloc::AllocError;
 
 /// A board on a flash, on which a write can be set to lose power. Bit 0 of the mask says whether the words of this
-/// write are new. If it is clear, the other bits say how many operations of the write come before the one that loses power.
-/// The flash decides what that leaves. The arm survives power-ons until it fires.
+/// write are new. If it is clear, the other bits say how many operations of the write come before the one that loses
+/// power. The flash decides what that leaves. The arm survives power-ons until it fires.
 #[derive(Drop)]
 pub struct CutFlashBoard<F: CutFlash> {
     board: FlashBoard<F>,
