@@ -16,6 +16,8 @@ from .building import Room
 PAGE = TOP / "docs" / "CHIP.md"
 # a stored number is a little more than what is measured, so that a small change needs no new page, and never far more
 STORED, MORE, STEP = 1.01, 1.03, 100
+# a chip with 8 KiB of RAM and 64 KiB of ROM has room for the card, and for the C below it
+SMALL, MOST_CODE, MOST_STACK = "cortex-m4", 56 * 1024, 7 * 1024
 ROW = re.compile(r"^\| `([\w-]+)` \| ([\d,]+) \| ([\d,]+) \| ([\d,]+) \|$", re.M)
 MOST_WORDS = 600
 WRITES = re.compile(r"at most (\d+) device writes\s+\(`COMMAND_WRITES`\)")
@@ -86,6 +88,9 @@ def compare(room: Room, is_stored: bool) -> None:
             told = " | ".join(f"{ceil(it * STORED / STEP) * STEP:,}" for it in sizes)
             text = text.replace(rows[name][0], f"| `{name}` | {told} |")
             continue
+        if name == SMALL:
+            fits = sizes[0] <= MOST_CODE and sizes[1] <= MOST_STACK
+            room.checks.check(fits, f"the card fits a {name} of 64 KiB of ROM and 8 KiB of RAM", f"{sizes}")
         shown = [int(it.replace(",", "")) for it in rows[name].groups()[1:]]
         is_so = all(size <= it <= size * MORE for size, it in zip(sizes, shown))
         room.checks.check(is_so, f"the sizes of {name} on docs/CHIP.md", f"{shown} on the page, {sizes} measured")
