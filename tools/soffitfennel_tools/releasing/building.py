@@ -18,14 +18,18 @@ OTHERS = (
 HARD = ["CFLAGS=-O2 -fstack-protector-strong -D_FORTIFY_SOURCE=2", "LDFLAGS=-Wl,-z,relro,-z,now"]
 PCSC = Path("/usr/include/PCSC/ifdhandler.h")
 # what is proved: the option of tools/program, and what its sums in tools/words/proved.sum begin with
-PROVED = {"bench_cli": ("", ""), "sweep_cli": ("--sweep", "sweep "), "libsoffitfennel.a": ("--library", "library ")}
+PROVED = {
+    "bench_cli": ("", ""), "sweep_cli": ("--sweep", "sweep "), "flash_cli": ("--flash", "flash "),
+    "libsoffitfennel.a": ("--library", "library "),
+}
 
 
 class Built(NamedTuple):
-    """The built parts: two programs, the folders of library and page, the reader driver, and the libpcsclite."""
+    """The built parts: three programs, the folders of library and page, the reader driver, and the libpcsclite."""
 
     bench: Path
     sweep: Path
+    flash: Path
     library: Path
     page: Path
     driver: Path
@@ -115,17 +119,18 @@ def driver(library: Path, room: Path) -> tuple[Path, Path]:
 
 
 def current(*words: str) -> list[Path]:
-    """The two programs that tools/program takes."""
-    return [Path(run(tool("program"), it, *words, "--quiet")) for it in ("", "--sweep")]
+    """The three programs that tools/program takes."""
+    return [Path(run(tool("program"), it, *words, "--quiet")) for it in ("", "--sweep", "--flash")]
 
 
 def build(room: Path, programs: list[Path]) -> Built:
-    """All parts, with these two programs."""
+    """All parts, with these three programs."""
     library, page = room / "library", room / "page"
     run(tool("library"), library)
     run(tool("page"), page)
     reader, pcsclite = driver(library, room / "reading")
-    return Built(programs[0], programs[1], library, page, reader, pcsclite)
+    bench, sweep, flash = programs[:3]
+    return Built(bench, sweep, flash, library, page, reader, pcsclite)
 
 
 def build_proved(room: Path) -> Built:

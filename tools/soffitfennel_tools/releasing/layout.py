@@ -52,7 +52,8 @@ def install_programs(own: Path, built: Built) -> None:
     for path in [TOP / "bench", TOP / OPENSC, *filter(is_users, files("tools"))]:
         copy(path, own / path.relative_to(TOP))
     write(own / words("commit").relative_to(TOP), f"{commit().split(',')[0]}\n")
-    for name, path in (("bench_cli", built.bench), ("sweep_cli", built.sweep), (built.pcsclite.name, built.pcsclite)):
+    programs = {"bench_cli": built.bench, "sweep_cli": built.sweep, "flash_cli": built.flash}
+    for name, path in (*programs.items(), (built.pcsclite.name, built.pcsclite)):
         copy(path, own / "programs" / name)
 
 

@@ -15,7 +15,7 @@ from .tree import TOP, commit, words
 LICENCE = "Apache-2.0 OR MIT"
 COPYRIGHT = "Copyright 2026 The Soffitfennel authors"
 # the programs that a proof covers whole, and the library that has a proved object
-PROGRAMS = ("bench_cli", "sweep_cli")
+PROGRAMS = ("bench_cli", "sweep_cli", "flash_cli")
 LINK = re.compile(r"\[([^]]*)\]\([^)]*\)")
 HEAD = """Soffitfennel {label}: {claim}
 
@@ -34,7 +34,8 @@ How to check a copy
 How to prove it again
 ---------------------
 In a clone at the commit above, with the kit above on the path, on Linux with 4.5 GB of memory for each job:
-   ./bench --prove; tools/program --sweep --prove; tools/library --prove; tools/page --prove
+   ./bench --prove; tools/program --sweep --prove; tools/program --flash --prove
+   tools/library --prove; tools/page --prove
    tools/dev/proved-sum --check
    tools/release OUT
 The files in OUT have the sums in SHA256SUMS. Programs and the page depend on the kit alone. The parts in C (library,
