@@ -3,11 +3,16 @@ use Rattle.std.specs.Prelude.{◌≡◌, ◌⊎◌, ◌≤◌, ◌<◌, ◌+◌,
 use Rattle.std.proofs.Common.{refl, sym, subst, inl, inr, arith}
 use Rattle.nvm_board.specs.Facts.{Facts}
 use Rattle.bench_turns.specs.declared.turn.Turn.{Turn}
+use Rattle.bench_turns.specs.declared.turn.Item.{Item}
 use Rattle.card_sweeps.specs.declared.tally.Seen.{Seen}
-use Rattle.card_sweeps.specs.Masks.{mask_of}
-use Rattle.card_sweeps.specs.Sweeps.{EndsIn, LeavesUncut}
-use Rattle.card_sweeps.specs.SweptRuns.{AreAllBehind, AreBehindWrite, AreBehindWrites, IsOneLook, MakesWrite}
+use Rattle.card_sweeps.specs.declared.tally.SweepEnd.{SweepEnd}
+use Rattle.card_sweeps.specs.declared.turn_cuts.MadeWrite.{MadeWrite}
+use Rattle.card_sweeps.specs.Masks.{mask_count_of, mask_of}
+use Rattle.card_sweeps.specs.Sweeps.{EndsBefore, EndsIn, PlaysOn, SweptTurn, start_on}
+use Rattle.card_sweeps.specs.SweptRuns.{AreAllBehind, AreFirstOfTurn, AreFirstOfWrite, AreOfMask, AreOfTurn}
+use Rattle.card_sweeps.specs.SweptRuns.{AreOfWrites, ArePrepared, AreRunsFrom, BeginsInTurn, InTurn, IsOneLook}
 use Rattle.card_sweeps.specs.Tallies.{Finding, CountsOne, CountsEach, CountsRuns}
+use Rattle.card_sweeps.specs.TurnCuts.{IsMade, LeavesMasked}
 
 -- runs that are counted, and then others
 pub counts-each-on : (xs ys : List Finding) (old between new : List Seen) → CountsEach xs old between
@@ -40,13 +45,6 @@ unfolding CountsEach
 counts-one probe board given old new end one =
     record { runs = given ∷ []; are = record { given = given; end = end; one = refl }; each = (new, one, refl) }
 
--- no start is to be cut
-pub are-behind-none : (depth : ℕ) (probe : List Turn) (board : Facts) (all : List Finding) → depth ≡ 0
-    → IsOneLook probe board all → AreAllBehind depth probe board all
-unfolding AreAllBehind
-are-behind-none depth probe board all none one =
-    let look : AreAllBehind 0 probe board all = one in subst (λ (d : ℕ). AreAllBehind d probe board all) (sym none) look
-
 -- a mask by what is told of it
 pub mask-is : (words i mask : ℕ) → (i ≡ 0 → mask ≡ 0) → (i ≡ 1 → mask + 1 ≡ 2 ^ words)
     → ((bit : ℕ) → i ≡ bit + 2 → mask ≡ 2 ^ bit) → mask ≡ mask_of words i
@@ -54,89 +52,195 @@ mask-is words zero mask none all single = none refl
 mask-is words (suc zero) mask none all single = omega (arith, all refl)
 mask-is words (suc (suc bit)) mask none all single = single bit (omega arith)
 
--- no write of a power-on yet
-pub counts-none : (Behind : Facts → List Finding → Type 0) (board : Facts) (seen : List Seen)
-    → CountsRuns (AreBehindWrites Behind board 0 board.words) seen seen
-unfolding AreBehindWrites CountsEach
-counts-none Behind board seen = record { runs = []; are = (refl, refl); each = refl }
+-- no part yet
+pub turn-none : (Part : ℕ → List Finding → Type 0) (seen : List Seen) → CountsRuns (InTurn Part 0) seen seen
+unfolding InTurn CountsEach
+turn-none Part seen = record { runs = []; are = refl; each = refl }
 
--- both cuts of a write of a power-on
-pub counts-cuts : (Old New : Facts → List Finding → Type 0) (number : ℕ) (board : Facts) (before : List ℕ)
-    (left later : Facts) (old between new : List Seen) → MakesWrite number board before left later
-    → CountsRuns (Old left) old between → CountsRuns (New later) between new
-    → CountsRuns (AreBehindWrite Old New board number before later.words) old new
-counts-cuts Old New number board before left later old between new made some more =
-    counts-both (Old left) (New later) (AreBehindWrite Old New board number before later.words) old between new
-    (λ first last one two. record {
-      old = left;
-      new = later;
-      made = made;
-      after_is = refl;
-      first = first;
-      last = last;
-      behind_old = one;
-      behind_new = two;
-      all_are = refl;
-    }) some more
-
--- a write of a power-on more
-pub counts-write : (Behind : Facts → List Finding → Type 0) (n : ℕ) (board : Facts) (now after : List ℕ)
-    (old between new : List Seen) → CountsRuns (AreBehindWrites Behind board n now) old between
-    → CountsRuns (AreBehindWrite Behind Behind board (n + 1) now after) between new
-    → CountsRuns (AreBehindWrites Behind board (n + 1) after) old new
-unfolding AreBehindWrites
-counts-write Behind n board now after old between new some next =
-    let more : CountsRuns (AreBehindWrites Behind board (suc n) after) old new =
-    counts-both (AreBehindWrites Behind board n now) (AreBehindWrite Behind Behind board (n + 1) now after)
-    (AreBehindWrites Behind board (suc n) after) old between new
-    (λ earlier last writes it. (now, earlier, last, writes, it, refl)) some next in
+-- a part more
+pub turn-next : (Part : ℕ → List Finding → Type 0) (n : ℕ) (old between new : List Seen)
+    → CountsRuns (InTurn Part n) old between → CountsRuns (Part n) between new
+    → CountsRuns (InTurn Part (n + 1)) old new
+unfolding InTurn
+turn-next Part n old between new some next =
+    let more : CountsRuns (InTurn Part (suc n)) old new =
+    counts-both (InTurn Part n) (Part n) (InTurn Part (suc n)) old between new
+    (λ before last parts it. (before, last, parts, it, refl)) some next in
     let one : suc n ≡ n + 1 = omega arith in
-    subst (λ (m : ℕ). CountsRuns (AreBehindWrites Behind board m after) old new) one more
+    subst (λ (m : ℕ). CountsRuns (InTurn Part m) old new) one more
 
--- the next power-on makes no write
-are-behind-whole : (depth : ℕ) (probe : List Turn) (board : Facts) (all : List Finding) → 0 < depth
-    → LeavesUncut 1 0 board board.words → IsOneLook probe board all → AreAllBehind depth probe board all
-unfolding AreAllBehind
-are-behind-whole depth probe board all more whole one =
-    let look : AreAllBehind (suc (depth - 1)) probe board all = inl (whole, one) in
-    let same : suc (depth - 1) ≡ depth = omega (arith, more) in
-    subst (λ (d : ℕ). AreAllBehind d probe board all) same look
+-- all parts
+pub turn-end : (Part : ℕ → List Finding → Type 0) (n m : ℕ) (old new : List Seen) → n ≡ m
+    → CountsRuns (InTurn Part n) old new → CountsRuns (InTurn Part m) old new
+turn-end Part n m old new same each = subst (λ (k : ℕ). CountsRuns (InTurn Part k) old new) same each
 
--- the next power-on makes no write, and none was cut
-pub counts-whole : (depth writes : ℕ) (Behind : Facts → List Finding → Type 0) (probe : List Turn) (board : Facts)
-    (now : List ℕ) (old between new : List Seen) → 0 < depth → writes ≡ 0 → LeavesUncut (writes + 1) 0 board now
-    → CountsRuns (AreBehindWrites Behind board writes now) old between
-    → CountsRuns (IsOneLook probe board) between new → CountsRuns (AreAllBehind depth probe board) old new
-unfolding AreBehindWrites
-counts-whole depth writes Behind probe board now old between new more first whole none look =
-    let number : writes + 1 ≡ 1 = omega (arith, first) in
-    let uncut : LeavesUncut 1 0 board now = subst (λ (n : ℕ). LeavesUncut n 0 board now) number whole in
-    counts-both (AreBehindWrites Behind board writes now) (IsOneLook probe board) (AreAllBehind depth probe board) old
-    between new
-    (λ before last parts one.
-    let empty : (now ≡ board.words) × (before ≡ []) =
-    subst (λ (n : ℕ). AreBehindWrites Behind board n now before) first parts in
-    let all : AreAllBehind depth probe board last = are-behind-whole depth probe board last more
-    (subst (λ (m : List ℕ). LeavesUncut 1 0 board m) empty.0 uncut) one in
-    subst (λ (l : List Finding). AreAllBehind depth probe board (l ++ last)) (sym empty.1) all)
-    none look
+-- whole parts, and the first runs of the next
+pub turn-begun : (Part First : ℕ → List Finding → Type 0) (n m : ℕ) (old between new : List Seen) → n < m
+    → CountsRuns (InTurn Part n) old between → CountsRuns (First n) between new
+    → CountsRuns (BeginsInTurn m Part First) old new
+turn-begun Part First n m old between new few some begun =
+    counts-both (InTurn Part n) (First n) (BeginsInTurn m Part First) old between new
+    (λ before last parts first. record {
+      parts = n;
+      few = few;
+      before = before;
+      last = last;
+      each = parts;
+      begun = first;
+      all_are = refl;
+    }) some begun
 
--- the next power-on was cut at each of its writes
-are-behind-cuts : (depth writes : ℕ) (probe : List Turn) (board : Facts) (now : List ℕ) (all : List Finding)
-    → 0 < depth → 1 ≤ writes → LeavesUncut (writes + 1) 0 board now ⊎ (writes ≡ 2 ^ 32 - 1)
-    → AreBehindWrites (AreAllBehind (depth - 1) probe) board writes now all → AreAllBehind depth probe board all
-unfolding AreAllBehind
-are-behind-cuts depth writes probe board now all more some done each =
-    let swept : AreAllBehind (suc (depth - 1)) probe board all =
-    inr (record { writes = writes; some = some; now = now; each = each; done = done }) in
-    let same : suc (depth - 1) ≡ depth = omega (arith, more) in
-    subst (λ (d : ℕ). AreAllBehind d probe board all) same swept
+-- runs after the preparation
+pub counts-prepared : (AreFrom : List ℕ → List Finding → Type 0) (swept : SweptTurn) (trace : List Item)
+    (prepared : Facts) (old new : List Seen) → PlaysOn swept.board swept.prepare trace prepared
+    → CountsRuns (AreFrom prepared.words) old new → CountsRuns (ArePrepared AreFrom swept) old new
+counts-prepared AreFrom swept trace prepared old new played each =
+    counts-weaker (AreFrom prepared.words) (ArePrepared AreFrom swept) old new
+    (λ all these. record { trace = trace; prepared = prepared; played = played; are = these }) each
 
--- the same, counted
-pub counts-swept : (depth writes : ℕ) (probe : List Turn) (board : Facts) (now : List ℕ) (old new : List Seen)
-    → 0 < depth → 1 ≤ writes → LeavesUncut (writes + 1) 0 board now ⊎ (writes ≡ 2 ^ 32 - 1)
-    → CountsRuns (AreBehindWrites (AreAllBehind (depth - 1) probe) board writes now) old new
-    → CountsRuns (AreAllBehind depth probe board) old new
-counts-swept depth writes probe board now old new more some done each =
-    counts-weaker (AreBehindWrites (AreAllBehind (depth - 1) probe) board writes now) (AreAllBehind depth probe board)
-    old new (λ all parts. are-behind-cuts depth writes probe board now all more some done parts) each
+-- the runs after a cut with a mask
+pub counts-mask : {B : Type 0} (facts : B → Facts) (Behind : Facts → List Finding → Type 0) (swept : SweptTurn)
+    (number : ℕ) (before : List ℕ) (made : MadeWrite B) (i : ℕ) (left : B) (old new : List Seen)
+    → LeavesMasked facts swept number before made i left → CountsRuns (Behind (facts left)) old new
+    → CountsRuns (AreOfMask facts Behind swept number before made i) old new
+counts-mask facts Behind swept number before made i left old new leaves behind =
+    counts-weaker (Behind (facts left)) (AreOfMask facts Behind swept number before made i) old new
+    (λ all these. record { left = left; leaves = leaves; behind = these }) behind
+
+-- the runs of a turn
+module _ {B : Type 0} (facts : B → Facts) (torn : B → ℕ) (Behind : Facts → List Finding → Type 0) (swept : SweptTurn)
+    (first : List ℕ) where
+  -- no write yet
+  pub writes-none : (seen : List Seen) → CountsRuns (AreOfWrites facts torn Behind swept first 0 first) seen seen
+  unfolding AreOfWrites CountsEach
+  writes-none seen = record { runs = []; are = (refl, refl); each = refl }
+
+  -- a write more
+  pub writes-next : (n : ℕ) (before : List ℕ) (made : MadeWrite B) (old between new : List Seen)
+      → IsMade facts torn swept (n + 1) before made → made.words ≤ 16
+      → CountsRuns (AreOfWrites facts torn Behind swept first n before) old between
+      → CountsRuns (InTurn (AreOfMask facts Behind swept (n + 1) before made) (mask_count_of made.words)) between new
+      → CountsRuns (AreOfWrites facts torn Behind swept first (n + 1) (facts made.after).words) old new
+  unfolding AreOfWrites
+  writes-next n before made old between new made_so fit some next =
+      let more : CountsRuns (AreOfWrites facts torn Behind swept first (suc n) (facts made.after).words) old new =
+      counts-both (AreOfWrites facts torn Behind swept first n before)
+      (InTurn (AreOfMask facts Behind swept (n + 1) before made) (mask_count_of made.words))
+      (AreOfWrites facts torn Behind swept first (suc n) (facts made.after).words) old between new
+      (λ earlier last writes masks. (
+        before,
+        made,
+        earlier,
+        last,
+        writes,
+        record { made_so = made_so; fit = fit; each = masks },
+        refl,
+        refl,
+      )) some next in
+      let one : suc n ≡ n + 1 = omega arith in
+      subst (λ (m : ℕ). CountsRuns (AreOfWrites facts torn Behind swept first m (facts made.after).words) old new)
+      one more
+
+  -- all writes
+  pub writes-end : (n : ℕ) (now : List ℕ) (old new : List Seen)
+      → EndsBefore (n + 1) swept now ⊎ (n ≡ 2 ^ 32 - 1)
+      → CountsRuns (AreOfWrites facts torn Behind swept first n now) old new
+      → CountsRuns (AreOfTurn facts torn Behind swept first n) old new
+  writes-end n now old new done each =
+      counts-weaker (AreOfWrites facts torn Behind swept first n now) (AreOfTurn facts torn Behind swept first n) old
+      new (λ all writes. record { now = now; each = writes; done = done }) each
+
+  -- some writes, and the first runs of the next
+  pub writes-begun : (end : SweepEnd) (First : Facts → List Finding → Type 0) (n : ℕ) (now : List ℕ)
+      (old between new : List Seen)
+      → CountsRuns (AreOfWrites facts torn Behind swept first n now) old between
+      → CountsRuns (AreFirstOfWrite facts torn end Behind First swept (n + 1) now) between new
+      → CountsRuns (AreFirstOfTurn facts torn end Behind First swept first) old new
+  writes-begun end First n now old between new some next =
+      counts-both (AreOfWrites facts torn Behind swept first n now)
+      (AreFirstOfWrite facts torn end Behind First swept (n + 1) now)
+      (AreFirstOfTurn facts torn end Behind First swept first) old between new
+      (λ earlier last writes begun. record {
+        writes = n;
+        now = now;
+        before = earlier;
+        last = last;
+        each = writes;
+        begun = begun;
+        all_are = refl;
+      }) some next
+
+-- all runs of a turn
+pub counts-runs : {B : Type 0} (facts : B → Facts) (torn : B → ℕ) (depth : ℕ) (probe : List Turn) (swept : SweptTurn)
+    (first : List ℕ) (n : ℕ) (old new : List Seen)
+    → CountsRuns (AreOfTurn facts torn (AreAllBehind facts torn depth probe) swept first n) old new
+    → CountsRuns (AreRunsFrom facts torn depth probe swept first) old new
+counts-runs facts torn depth probe swept first n old new some =
+    counts-weaker (AreOfTurn facts torn (AreAllBehind facts torn depth probe) swept first n)
+    (AreRunsFrom facts torn depth probe swept first) old new (λ all these. record { writes = n; are = these }) some
+
+-- a turn without a write
+pub ends-first : {B : Type 0} (facts : B → Facts) (torn : B → ℕ) (Behind : Facts → List Finding → Type 0)
+    (swept : SweptTurn) (first : List ℕ) (n : ℕ) (old new : List Seen) → n ≡ 0
+    → CountsRuns (AreOfTurn facts torn Behind swept first n) old new → (m : List ℕ) × EndsBefore 1 swept m
+ends-first facts torn Behind swept first n old new none counted = (
+  counted.are.now,
+  elim counted.are.done [
+    | inl ends ↦ subst (λ (k : ℕ). EndsBefore k swept counted.are.now) (omega (arith, none)) ends
+    | inr full ↦ absurd (omega (arith, full, none))
+  ],
+)
+
+-- the runs after a cut
+module _ {B : Type 0} (facts : B → Facts) (torn : B → ℕ) (depth : ℕ) (probe : List Turn) (board : Facts) where
+  -- no start is to be cut
+  are-behind-none : (all : List Finding) → depth ≡ 0 → IsOneLook probe board all
+      → AreAllBehind facts torn depth probe board all
+  unfolding AreAllBehind
+  are-behind-none all none one =
+      let look : AreAllBehind facts torn 0 probe board all = one in
+      subst (λ (d : ℕ). AreAllBehind facts torn d probe board all) (sym none) look
+
+  pub counts-behind-none : (old new : List Seen) → depth ≡ 0 → CountsRuns (IsOneLook probe board) old new
+      → CountsRuns (AreAllBehind facts torn depth probe board) old new
+  unfolding are-behind-none
+  counts-behind-none old new none one = counts-weaker (IsOneLook probe board)
+      (AreAllBehind facts torn depth probe board) old new (λ all these. are-behind-none all none these) one
+
+  -- the next power-on makes no write, and none was cut
+  pub counts-whole : (old between new : List Seen) → 0 < depth
+      → CountsRuns (AreOfTurn facts torn (AreAllBehind facts torn (depth - 1) probe) (start_on board) board.words 0)
+      old between
+      → CountsRuns (IsOneLook probe board) between new
+      → CountsRuns (AreAllBehind facts torn depth probe board) old new
+  unfolding AreAllBehind AreOfWrites
+  counts-whole old between new more none look =
+      let same : suc (depth - 1) ≡ depth = omega (arith, more) in
+      let all : CountsRuns (AreAllBehind facts torn (suc (depth - 1)) probe board) old new =
+      counts-both (AreOfTurn facts torn (AreAllBehind facts torn (depth - 1) probe) (start_on board) board.words 0)
+      (IsOneLook probe board) (AreAllBehind facts torn (suc (depth - 1)) probe board) old between new
+      (λ before last parts one.
+      let whole : EndsBefore 1 (start_on board) parts.now = elim parts.done [
+        | inl ends ↦ ends
+        | inr full ↦ absurd (omega (arith, full))
+      ] in
+      subst (λ (l : List Finding). AreAllBehind facts torn (suc (depth - 1)) probe board (l ++ last))
+      (sym parts.each.1)
+      (inl (subst (λ (m : List ℕ). EndsBefore 1 (start_on board) m) parts.each.0 whole, one)))
+      none look in
+      subst (λ (d : ℕ). CountsRuns (AreAllBehind facts torn d probe board) old new) same all
+
+  -- the next power-on was cut at each of its writes
+  pub counts-swept : (writes : ℕ) (old new : List Seen) → 0 < depth → 1 ≤ writes
+      → CountsRuns (AreOfTurn facts torn (AreAllBehind facts torn (depth - 1) probe) (start_on board) board.words
+      writes) old new
+      → CountsRuns (AreAllBehind facts torn depth probe board) old new
+  unfolding AreAllBehind
+  counts-swept writes old new more some each =
+      let same : suc (depth - 1) ≡ depth = omega (arith, more) in
+      let all : CountsRuns (AreAllBehind facts torn (suc (depth - 1)) probe board) old new =
+      counts-weaker
+      (AreOfTurn facts torn (AreAllBehind facts torn (depth - 1) probe) (start_on board) board.words writes)
+      (AreAllBehind facts torn (suc (depth - 1)) probe board) old new
+      (λ all these. inr (writes, some, these)) each in
+      subst (λ (d : ℕ). CountsRuns (AreAllBehind facts torn d probe board) old new) same all

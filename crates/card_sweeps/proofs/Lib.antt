@@ -1,7 +1,6 @@
 pub mod TallyLemmas
 pub mod CompleteSweeps
 pub mod FirstRuns
-pub mod WritesSwept
 pub mod SweepLemmas
 pub mod StageLemmas
 pub mod SparedLemmas
@@ -11,3 +10,6 @@ mod ReadSo
 pub mod Stopped
 mod SweepWords
 pub mod NewWords
+pub mod Addresses
+pub mod Ended
+pub mod KnownCuts

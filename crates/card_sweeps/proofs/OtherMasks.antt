@@ -6,7 +6,7 @@ use Rattle.std.proofs.Math.Logic.{⊎_map}
 use Rattle.card_model.specs.declared.status.Sw.{Sw}
 use Rattle.nvm_board.specs.declared.board.Arm.{Arm}
 use Rattle.nvm_board.specs.Aims.{Aim, AimStays, KeepsAim, WritesRuns, aim, due_of}
-use Rattle.nvm_board.specs.Facts.{Facts}
+use Rattle.nvm_board.specs.Facts.{Facts, IsWornOut}
 use Rattle.nvm_board.specs.History.{Run}
 use Rattle.undo_journal.specs.Spending.{KeepsBoard}
 use Rattle.card_model.specs.Behaviours.{Attempt}
@@ -20,19 +20,21 @@ use Rattle.command_base.specs.CommitWords.{TurnsAsked}
 use Rattle.command_base.specs.Comparing.{ComparesAsked, ComparesCharged, ComparesShown, Comparisons}
 use Rattle.command_base.specs.Finding.{found}
 use Rattle.command_base.specs.Counting.{CountsAnswered, CountsShown}
-use Rattle.command_base.specs.declared.spending.TheConstants.{COMMAND_WRITES}
 use Rattle.t1_link.specs.CardTable.{Reaction, link_step, replies, runs}
 use Rattle.bench_turns.specs.declared.turn.Turn.{Turn}
+use Rattle.bench_turns.specs.declared.turn.Turn.TheVariants as turn
 use Rattle.bench_turns.specs.declared.turn.Item.{Item}
 use Rattle.bench_turns.specs.declared.turn.Item.TheVariants.{Atr, Quiet, Mute, Dark, Reply}
 use Rattle.bench_turns.specs.BenchStates.{BenchState, off, on, bench_facts, with_facts, IsArmed}
+use Rattle.bench_turns.specs.BenchStates.{IsFresh, IsOff, switched_off}
 use Rattle.bench_turns.specs.CardBlocks.{BlockChangesNothing, BlockCompares, BlockCounts, BlockStands, BlockTurns}
 use Rattle.bench_turns.specs.CardBlocks.{IsBlockStage}
 use Rattle.bench_turns.specs.CardBlocks.{Powered, Replies}
 use Rattle.bench_turns.specs.Guessing.{FirstWritePays, GuessesFew, PaysAhead}
 use Rattle.bench_turns.specs.Plays.{IsGood}
-use Rattle.bench_turns.specs.Turns.{GoodBlock, Spends, TakesBlock, TurnIsCut, Wears, dark_of}
-use Rattle.card_sweeps.specs.SweptRuns.{IsUnmade, SparesCommand}
+use Rattle.bench_turns.specs.Turns.{GoodTurn, LeavesCard, OneTurn, Spends, TakesBlock, TurnIsCut, TurnsOff, TurnsOn}
+use Rattle.bench_turns.specs.Turns.{Wears, WritesAsAsked, WritesNoMore, dark_of, turn_writes}
+use Rattle.card_sweeps.specs.Sweeps.{IsUnmade, SparesTurn, SweptTurn}
 
 -- what is set, with another mask
 abbrev set_masked : ℕ → Option Arm → Option Arm
@@ -305,22 +307,93 @@ guesses-masked mask (off f) (on q) g = record { values = g.values; unblocking_va
 guesses-masked mask (on p) (off h) g = record { values = g.values; unblocking_values = g.unblocking_values }
 guesses-masked mask (on p) (on q) g = record { values = g.values; unblocking_values = g.unblocking_values }
 
--- the same block, with another mask set before it
-block-masked : (mask : ℕ) (old : BenchState) (got : List ℕ) (i : Item) (new : BenchState) → GoodBlock old got i new
-    → GoodBlock (bench_masked mask old) got i (bench_masked mask new)
-block-masked mask old got i new good =
+-- the card is the same
+leaves-masked : (mask : ℕ) (old new : BenchState) → LeavesCard old new
+    → LeavesCard (bench_masked mask old) (bench_masked mask new)
+leaves-masked mask (off f) (off h) l =
+    record { card = l.card; words = l.words; compares = l.compares; matches = l.matches }
+leaves-masked mask (off f) (on q) l =
+    record { card = l.card; words = l.words; compares = l.compares; matches = l.matches }
+leaves-masked mask (on p) (off h) l =
+    record { card = l.card; words = l.words; compares = l.compares; matches = l.matches }
+leaves-masked mask (on p) (on q) l =
+    record { card = l.card; words = l.words; compares = l.compares; matches = l.matches }
+
+fresh-masked : (mask : ℕ) (b : BenchState) → IsFresh b → IsFresh (bench_masked mask b)
+fresh-masked mask (off f) fresh = absurd fresh
+fresh-masked mask (on p) fresh = fresh
+
+off-masked : (mask : ℕ) (b : BenchState) → IsOff b → IsOff (bench_masked mask b)
+off-masked mask (off f) is = is
+off-masked mask (on p) is = absurd is
+
+switched-masked : (mask : ℕ) (b : BenchState) → bench_masked mask (switched_off b) ≡ switched_off (bench_masked mask b)
+switched-masked mask (off f) = refl
+switched-masked mask (on p) = refl
+
+worn-masked : (mask : ℕ) (b : BenchState) → IsWornOut (bench_facts b) → IsWornOut (bench_facts (bench_masked mask b))
+worn-masked mask (off f) worn = worn
+worn-masked mask (on p) worn = worn
+
+-- the same power-on
+on-masked : (mask : ℕ) (old : BenchState) (i : Item) (new : BenchState) → TurnsOn old i new
+    → TurnsOn (bench_masked mask old) i (bench_masked mask new)
+on-masked mask old Atr new turned = (
+  fresh-masked mask new turned.0,
+  leaves-masked mask old new turned.1,
+  facts-then mask WritesAsAsked old new turned.2,
+)
+on-masked mask old Quiet new turned = absurd turned
+on-masked mask old Mute new turned =
+    (ap (bench_masked mask) turned.0 ∙ switched-masked mask old, worn-masked mask new turned.1)
+on-masked mask old Dark new turned = (
+  off-masked mask new turned.0,
+  leaves-masked mask old new turned.1,
+  facts-then mask WritesNoMore old new turned.2,
+)
+on-masked mask old (Reply block) new turned = absurd turned
+
+-- the same power-off
+switch-masked : (mask : ℕ) (old : BenchState) (i : Item) (new : BenchState) → TurnsOff old i new
+    → TurnsOff (bench_masked mask old) i (bench_masked mask new)
+switch-masked mask old Atr new turned = absurd turned
+switch-masked mask old Quiet new turned = ap (bench_masked mask) turned ∙ switched-masked mask old
+switch-masked mask old Mute new turned = absurd turned
+switch-masked mask old Dark new turned = absurd turned
+switch-masked mask old (Reply block) new turned = absurd turned
+
+one-masked : (mask : ℕ) (old : BenchState) (t : Turn) (i : Item) (new : BenchState) → OneTurn old t i new
+    → OneTurn (bench_masked mask old) t i (bench_masked mask new)
+one-masked mask old turn.On i new one = on-masked mask old i new one
+one-masked mask old turn.Off i new one = switch-masked mask old i new one
+one-masked mask old (turn.Block got) i new one = takes-masked mask old got.now i new one
+
+most-masked : (mask : ℕ) (old : BenchState) (t : Turn) → turn_writes (bench_masked mask old) t ≡ turn_writes old t
+most-masked mask (off f) turn.On = refl
+most-masked mask (on p) turn.On = refl
+most-masked mask old turn.Off = refl
+most-masked mask old (turn.Block got) = refl
+
+-- the same turn, with another mask set before it
+turn-masked : (mask : ℕ) (old : BenchState) (t : Turn) (i : Item) (new : BenchState) → GoodTurn old t i new
+    → GoodTurn (bench_masked mask old) t i (bench_masked mask new)
+turn-masked mask old t i new good =
     let wears = good.wears in
+    let same : Wears (turn_writes old t) (bench_facts (bench_masked mask old)) (bench_facts (bench_masked mask new)) =
+    facts-then mask (Wears (turn_writes old t)) old new (record {
+      faults = wears.faults;
+      writes = wears.writes;
+      secret = wears.secret;
+      compares = wears.compares;
+      matches = wears.matches;
+    }) in
     record {
-      one = takes-masked mask old got i new good.one;
+      one = one-masked mask old t i new good.one;
       counts = facts-then mask (Spends (dark_of i)) old new
           (spends-masked mask (dark_of i) (bench_facts old) (bench_facts new) good.counts);
-      wears = facts-then mask (Wears COMMAND_WRITES) old new (record {
-        faults = wears.faults;
-        writes = wears.writes;
-        secret = wears.secret;
-        compares = wears.compares;
-        matches = wears.matches;
-      });
+      wears = subst
+          (λ (n : ℕ). Wears n (bench_facts (bench_masked mask old)) (bench_facts (bench_masked mask new)))
+          (sym (most-masked mask old t)) same;
       guesses = guesses-masked mask old new good.guesses;
       ahead = ahead-masked mask old new good.ahead;
     }
@@ -347,9 +420,8 @@ armed-masked number mask other old new arm =
           (sym due);
     }
 
-pub unmade-by : (number mask : ℕ) (board : Facts) (prepare : List Turn) (command : List ℕ)
-    → SparesCommand number mask board prepare command → IsUnmade number board prepare command
-unmade-by number mask board prepare command s = λ other. record {
+pub unmade-by : (number mask : ℕ) (swept : SweptTurn) → SparesTurn number mask swept → IsUnmade number swept
+unmade-by number mask swept s = λ other. record {
   trace = s.trace;
   item = s.item;
   prepared = s.prepared;
@@ -359,7 +431,7 @@ unmade-by number mask board prepare command s = λ other. record {
   arm = armed-masked number mask other s.prepared s.armed s.arm;
   good = good-masked other s.armed s.good;
   good_left = good-masked other s.last s.good_left;
-  sent = block-masked other s.armed command s.item s.last s.sent;
+  played = turn-masked other s.armed swept.turn s.item s.last s.played;
   spared = ⊎_map (λ (other_item : s.item ≢ Dark). other_item)
       (λ (set : is_some (bench_facts s.last).pending ≡ true).
       ap (λ (f : Facts). is_some f.pending) (facts-masked other s.last)

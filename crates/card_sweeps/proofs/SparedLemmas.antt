@@ -2,6 +2,7 @@
 use Rattle.std.specs.Prelude.{◌≡◌, ◌≢◌, ◌⊎◌, ◌≤◌, ◌+◌, ◌-◌, ℕ, List, Bool, Option, None, Some, is_some, true}
 use Rattle.std.specs.Prelude.{if◌then◌else◌}
 use Rattle.std.proofs.Common.{◌∙◌, ap, ap₂, arith, inl, inr, refl, subst, sym, true≢false}
+use Rattle.core.specs.Borrow.{Bor}
 use Rattle.nvm_board.specs.declared.board.Arm.{Arm}
 use Rattle.nvm_board.specs.Aims.{Aim, aim, due_of, KeepsAim}
 use Rattle.nvm_board.specs.Facts.{Facts}
@@ -15,8 +16,9 @@ use Rattle.bench_turns.specs.BenchStates.{BenchState, off, on, bench_facts, with
 use Rattle.bench_turns.specs.Lasting.{HasLeft}
 use Rattle.bench_turns.specs.Turns.{Spends, TurnsOn, WritesAsAsked, dark_of, turn_steps}
 use Rattle.bench_turns.proofs.Wearing.{TURN_STEPS, block-due, due-spent, few-steps, fewer, not-mute}
-use Rattle.card_sweeps.specs.Sweeps.{SparesStart, off_with}
-use Rattle.card_sweeps.specs.SweptRuns.{SparesCommand}
+use Rattle.bench_turns.proofs.TurnsTold.{good-block}
+use Rattle.card_sweeps.specs.Sweeps.{SparesStart, SparesTurn, off_with}
+use Rattle.card_sweeps.proofs.SweepLemmas.{runs-none}
 
 -- what is set on a board
 some-arm : (o : Option Arm) → is_some o ≡ true → (arm : Arm) × (o ≡ Some arm)
@@ -107,33 +109,35 @@ pub spared-start : (number mask : ℕ) (board : Facts) → SparesStart number ma
 spared-start number mask board s left =
     let a = bench_facts s.armed in
     let z = bench_facts s.last in
-    let is = armed-is number mask (off_with board) s.armed s.arm in
+    let from = runs-none (off_with board) s.trace s.prepared s.before in
+    let is = armed-is number mask (off_with board) s.armed (subst (λ (b : BenchState). IsArmed number mask b s.armed) from s.arm) in
     let pending : a.pending ≡ Some (record { whole_writes = number - 1; mask = mask }) =
     ap (λ (f : Facts). f.pending) is in
     let due : a.due ≡ 1 = s.good.due ∙ ap due_of pending in
-    let far : HasLeft TURN_STEPS a = left-of TURN_STEPS number mask (off_with board) s.armed s.arm (record {
+    let far : HasLeft TURN_STEPS a = left-of TURN_STEPS number mask (off_with board) s.armed (subst (λ (b : BenchState). IsArmed number mask b s.armed) from s.arm) (record {
       faults = left.faults;
       cuts = left.cuts;
       writes = left.writes;
       compares = left.compares;
       matches = left.matches;
     }) in
-    let spent = due-spent s.armed s.last turn.On s.item s.start
+    let spent = due-spent s.armed s.last turn.On s.item s.played
     (fewer TURN_STEPS (turn_steps s.armed turn.On) a (few-steps s.armed turn.On) far) in
     let set = still-set a z s.item due s.good_left.due spent s.spared in
     let one : due_of z.pending ≡ 1 = ap (λ (b : Bool). if b then 1 else 0) set in
     let due_left = s.good_left.due in
     let few : z.writes ≤ a.writes + (number - 1) =
     few-written a z (record { whole_writes = number - 1; mask = mask }) s.good.due pending due_left set
-    s.start.counts.cut in
-    let all : z.writes ≡ a.writes + power_on_writes a = started-all s.armed s.last s.item s.start.one
-    (not-mute s.armed s.last s.item s.start (fewer TURN_STEPS COMMAND_WRITES a (omega arith) far))
+    s.played.counts.cut in
+    let all : z.writes ≡ a.writes + power_on_writes a = started-all s.armed s.last s.item s.played.one
+    (not-mute s.armed s.last s.item s.played (fewer TURN_STEPS COMMAND_WRITES a (omega arith) far))
     (λ dark. let lost = ap dark_of dark in omega (arith, lost, spent, due, one, due_left)) in
     let asked : power_on_writes a ≡ power_on_writes board = ap power_on_writes is in
     omega (arith, few, all, asked)
 
-pub spared-command : (number mask : ℕ) (board : Facts) (prepare : List Turn) (command : List ℕ)
-    → (s : SparesCommand number mask board prepare command) → HasLeft COMMAND_WRITES (bench_facts s.prepared)
+pub spared-command : (number mask : ℕ) (board : Facts) (prepare : List Turn) (command : Bor (List ℕ))
+    → (s : SparesTurn number mask (record { board = board; prepare = prepare; turn = turn.Block command }))
+    → HasLeft COMMAND_WRITES (bench_facts s.prepared)
     → (bench_facts s.last).writes ≤ (bench_facts s.prepared).writes + (number - 1)
 spared-command number mask board prepare command s left =
     let a = bench_facts s.armed in
@@ -143,11 +147,12 @@ spared-command number mask board prepare command s left =
     ap (λ (f : Facts). f.pending) is in
     let due : a.due ≡ 1 = s.good.due ∙ ap due_of pending in
     let far = left-of COMMAND_WRITES number mask s.prepared s.armed s.arm left in
-    let spent = block-due s.armed s.last command s.item s.sent far in
+    let sent = good-block s.armed s.last command s.item s.played in
+    let spent = block-due s.armed s.last command.now s.item sent far in
     let set = still-set a z s.item due s.good_left.due spent s.spared in
     let few : z.writes ≤ a.writes + (number - 1) =
     few-written a z (record { whole_writes = number - 1; mask = mask }) s.good.due pending s.good_left.due set
-    s.sent.counts.cut in
+    s.played.counts.cut in
     let same : a.writes ≡ (bench_facts s.prepared).writes = ap (λ (f : Facts). f.writes) is in
     omega (arith, few, same)
 
@@ -168,24 +173,26 @@ start-still mask board s left =
     let a = bench_facts s.armed in
     let z = bench_facts s.last in
     let arm : Arm = record { whole_writes = 0; mask = mask } in
-    let is = armed-is 1 mask (off_with board) s.armed s.arm in
+    let from = runs-none (off_with board) s.trace s.prepared s.before in
+    let is = armed-is 1 mask (off_with board) s.armed (subst (λ (b : BenchState). IsArmed 1 mask b s.armed) from s.arm) in
     let pending : a.pending ≡ Some arm = ap (λ (f : Facts). f.pending) is in
     let due : a.due ≡ 1 = s.good.due ∙ ap due_of pending in
-    let far : HasLeft TURN_STEPS a = left-of TURN_STEPS 1 mask (off_with board) s.armed s.arm (record {
+    let far : HasLeft TURN_STEPS a = left-of TURN_STEPS 1 mask (off_with board) s.armed (subst (λ (b : BenchState). IsArmed 1 mask b s.armed) from s.arm) (record {
       faults = left.faults;
       cuts = left.cuts;
       writes = left.writes;
       compares = left.compares;
       matches = left.matches;
     }) in
-    let spent = due-spent s.armed s.last turn.On s.item s.start
+    let spent = due-spent s.armed s.last turn.On s.item s.played
     (fewer TURN_STEPS (turn_steps s.armed turn.On) a (few-steps s.armed turn.On) far) in
     let set = still-set a z s.item due s.good_left.due spent s.spared in
-    still-words a z s.item arm due s.good.due pending refl s.good_left.due set s.start.counts spent s.good.faults
+    still-words a z s.item arm due s.good.due pending refl s.good_left.due set s.played.counts spent s.good.faults
     s.good_left.faults ∙ ap (λ (f : Facts). f.words) is
 
-pub command-still : (mask : ℕ) (board : Facts) (prepare : List Turn) (command : List ℕ)
-    → (s : SparesCommand 1 mask board prepare command) → HasLeft COMMAND_WRITES (bench_facts s.prepared)
+pub command-still : (mask : ℕ) (board : Facts) (prepare : List Turn) (command : Bor (List ℕ))
+    → (s : SparesTurn 1 mask (record { board = board; prepare = prepare; turn = turn.Block command }))
+    → HasLeft COMMAND_WRITES (bench_facts s.prepared)
     → (bench_facts s.last).words ≡ (bench_facts s.prepared).words
 command-still mask board prepare command s left =
     let a = bench_facts s.armed in
@@ -195,7 +202,8 @@ command-still mask board prepare command s left =
     let pending : a.pending ≡ Some arm = ap (λ (f : Facts). f.pending) is in
     let due : a.due ≡ 1 = s.good.due ∙ ap due_of pending in
     let far = left-of COMMAND_WRITES 1 mask s.prepared s.armed s.arm left in
-    let spent = block-due s.armed s.last command s.item s.sent far in
+    let sent = good-block s.armed s.last command s.item s.played in
+    let spent = block-due s.armed s.last command.now s.item sent far in
     let set = still-set a z s.item due s.good_left.due spent s.spared in
-    still-words a z s.item arm due s.good.due pending refl s.good_left.due set s.sent.counts spent s.good.faults
+    still-words a z s.item arm due s.good.due pending refl s.good_left.due set s.played.counts spent s.good.faults
     s.good_left.faults ∙ ap (λ (f : Facts). f.words) is

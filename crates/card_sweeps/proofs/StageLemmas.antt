@@ -7,9 +7,12 @@ use Rattle.bench_turns.specs.declared.turn.Item.{Item}
 use Rattle.bench_turns.specs.declared.turn.Item.TheVariants.{Atr, Quiet, Mute, Dark, Reply}
 use Rattle.bench_turns.specs.BenchStates.{BenchState, off, on, switched_off, bench_card, IsArmed}
 use Rattle.command_base.specs.Finding.{found}
-use Rattle.bench_turns.specs.Turns.{GoodBlock, TurnsOn}
+use Rattle.core.specs.Borrow.{Bor}
+use Rattle.bench_turns.specs.declared.turn.Turn.TheVariants.{Block}
+use Rattle.bench_turns.specs.Turns.{GoodTurn, TurnsOn}
 use Rattle.card_sweeps.specs.Tallies.{Finding}
 use Rattle.card_sweeps.specs.Sweeps.{CutsStart, CutsStarts, GivenByRun, IsStageOf, off_with}
+use Rattle.card_sweeps.proofs.SweepLemmas.{runs-none}
 
 -- an arm leaves the card
 card-armed : (number mask : ℕ) (old new : BenchState) → IsArmed number mask old new → bench_card new ≡ bench_card old
@@ -21,7 +24,8 @@ card-start : (number mask : ℕ) (board left : Facts) → CutsStart number mask 
     → found left.words ≡ found board.words
 card-start number mask board left cut =
     ap (λ (f : Facts). found f.words) cut.left_is ∙ cut.cut.one.1.card
-    ∙ card-armed number mask (off_with board) cut.armed cut.arm
+    ∙ card-armed number mask cut.prepared cut.armed cut.arm
+    ∙ ap bench_card (runs-none (off_with board) cut.trace cut.prepared cut.before)
 
 -- so do starts that are cut
 card-starts : (n : ℕ) (board left : Facts) → CutsStarts n board left → found left.words ≡ found board.words
@@ -43,17 +47,18 @@ card-on old new Dark turned = turned.1.card
 card-on old new (Reply block) turned = absurd turned
 
 -- where power is lost in a block, the card is a stage of its command
-stage-cut : (old new : BenchState) (command : List ℕ) → GoodBlock old command Dark new
-    → IsStageOf old command (bench_card new)
+stage-cut : (old new : BenchState) (command : Bor (List ℕ)) → GoodTurn old (Block command) Dark new
+    → IsStageOf old command.now (bench_card new)
 stage-cut (off facts) new command cut = absurd cut.one
 stage-cut (on powered) new command cut = cut.one.stage
 
 -- the card that a run shows is a stage of the command that was cut
-pub stage-shown : (board : Facts) (prepare : List Turn) (command : List ℕ)
-    (probe : List Turn) (depth : ℕ) (given : Finding) → (s : GivenByRun board prepare command probe depth given)
-    → IsStageOf s.cut.armed command (bench_card s.rest.end.started)
+pub stage-shown : (board : Facts) (prepare : List Turn) (command : Bor (List ℕ))
+    (probe : List Turn) (depth : ℕ) (given : Finding)
+    → (s : GivenByRun (record { board = board; prepare = prepare; turn = Block command }) probe depth given)
+    → IsStageOf s.cut.armed command.now (bench_card s.rest.end.started)
 stage-shown board prepare command probe depth given s =
     let same : bench_card s.rest.end.started ≡ bench_card s.cut.last =
     card-on (off_with s.rest.left) s.rest.end.started s.rest.end.item s.rest.end.start.one
     ∙ card-starts s.rest.starts s.left s.rest.left s.rest.cut ∙ ap (λ (f : Facts). found f.words) s.cut.left_is in
-    subst (λ card. IsStageOf s.cut.armed command card) (sym same) (stage-cut s.cut.armed s.cut.last command s.cut.cut)
+    subst (λ card. IsStageOf s.cut.armed command.now card) (sym same) (stage-cut s.cut.armed s.cut.last command s.cut.cut)

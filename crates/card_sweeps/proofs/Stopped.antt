@@ -1,6 +1,8 @@
 -- Faults of a script that a function passes on by `?`.
 use Rattle.std.specs.Prelude.{◌≡◌, ℕ, List, Option, Result, Ok, Err, IfErr, IsErrAnd, MatchResult}
-use Rattle.std.proofs.Common.{sym, subst}
+use Rattle.std.proofs.Common.{◌∙◌, sym, subst}
+use Rattle.card_sweeps.specs.declared.stop.SweepStop.{SweepStop}
+use Rattle.card_sweeps.specs.declared.stop.SweepStop.TheVariants.{Differs}
 use Rattle.card_sweeps.specs.declared.fault.LineError.{LineError}
 use Rattle.card_sweeps.specs.declared.fault.LineStop.{LineStop}
 use Rattle.card_sweeps.specs.declared.fault.LineStop.TheVariants as stop
@@ -21,3 +23,9 @@ pub memory-passed : {T : Type 0} (r : Result T SweepFault) (script left : Option
     → IsErrAnd r (λ fault. fault ≡ Memory) → IfErr r (λ fault. ReadingStopsBy fault script left)
 memory-passed (Ok t) script left is = tt
 memory-passed (Err e) script left is = subst (λ (f : SweepFault). ReadingStopsBy f script left) (sym is) tt
+
+-- runs that differ, passed on
+pub differs-on : {T : Type 0} (r : Result T SweepStop) (why : SweepStop) (Was Is : Type 0) → IsErrAnd r (λ s. s ≡ why)
+    → (Was → Is) → (why ≡ Differs → Was) → IfErr r (λ s. s ≡ Differs → Is)
+differs-on (Ok t) why Was Is same then was = tt
+differs-on (Err e) why Was Is same then was = λ is. then (was (sym same ∙ is))

@@ -1,9 +1,8 @@
 -- Runs put together.
-use Rattle.std.specs.Prelude.{◌≡◌, ◌≢◌, ◌⊎◌, ◌-◌, ◌<◌, ℕ, suc, refl, List, Bool, true, false, Option, None}
+use Rattle.std.specs.Prelude.{◌≡◌, ◌≢◌, ◌⊎◌, ◌-◌, ◌<◌, ℕ, suc, refl, List, [], ◌∷◌, Bool, true, false, Option, None}
 use Rattle.std.specs.Prelude.{is_some}
 use Rattle.std.proofs.Common.{ap, arith, inl, inr, sym, subst}
 use Rattle.std.proofs.Math.Logic.{⊎_map}
-use Rattle.core.specs.Borrow.{Bor}
 use Rattle.nvm_board.specs.declared.board.Arm.{Arm}
 use Rattle.nvm_board.specs.Aims.{due_of}
 use Rattle.nvm_board.specs.Facts.{Facts}
@@ -18,11 +17,16 @@ use Rattle.bench_turns.specs.declared.turn_result.TurnResult.{TurnResult}
 use Rattle.bench_turns.specs.declared.turn_result.TurnResult.TheVariants as turned
 use Rattle.bench_turns.specs.Plays.{IsGood, TellsItem}
 use Rattle.bench_turns.specs.Turns.{GoodTurn, Runs}
-use Rattle.card_sweeps.specs.SweptRuns.{EndsUncut}
 use Rattle.card_sweeps.specs.Tallies.{Finding}
-use Rattle.bench_turns.proofs.TurnsTold.{good-block, tells-then}
-use Rattle.card_sweeps.specs.Sweeps.{CutsStart, CutsStarts, LeavesUncut, SparesStart, EndsIn, EndsBehindStarts}
-use Rattle.card_sweeps.specs.Sweeps.{CutsCommand, GivenByRun, PlaysOn, off_with, free_of}
+use Rattle.bench_turns.proofs.TurnsTold.{tells-then}
+use Rattle.card_sweeps.specs.Sweeps.{CutsStarts, CutsTurn, EndsBefore, EndsBehindStarts, EndsIn, EndsUncut, GivenByRun}
+use Rattle.card_sweeps.specs.Sweeps.{PlaysOn, SweptTurn, off_with, free_of, start_on}
+
+-- no turns
+pub runs-none : (old : BenchState) (trace : List Item) (new : BenchState) → Runs old [] trace new → new ≡ old
+unfolding Runs
+runs-none old [] new same = same
+runs-none old (item ∷ items) new run = absurd run
 
 -- no start is to be cut
 pub behind_none : (depth : ℕ) (board : Facts) (probe : List Turn) (given : Finding) → depth ≡ 0
@@ -32,39 +36,29 @@ behind_none depth board probe given none end =
     record { starts = 0; few = omega arith; left = board; cut = refl; done = inl (omega (arith, none)); end = end }
 
 -- the next one makes no write
-pub behind_whole : (depth number : ℕ) (board : Facts) (memory : List ℕ) (probe : List Turn) (given : Finding)
-    → number ≡ 1 → LeavesUncut number 0 board memory → EndsIn board probe given
-    → EndsBehindStarts depth board probe given
+pub behind_whole : (depth : ℕ) (board : Facts) (memory : List ℕ) (probe : List Turn) (given : Finding)
+    → EndsBefore 1 (start_on board) memory → EndsIn board probe given → EndsBehindStarts depth board probe given
 unfolding CutsStarts
-behind_whole depth number board memory probe given first whole end = record {
-  starts = 0;
-  few = omega arith;
-  left = board;
-  cut = refl;
-  done = inr (subst (λ (n : ℕ). SparesStart n 0 board) first whole.0);
-  end = end;
-}
+behind_whole depth board memory probe given whole end =
+    record { starts = 0; few = omega arith; left = board; cut = refl; done = inr whole.uncut.0; end = end }
 
 -- the next one is cut
-pub behind_more : (depth number mask : ℕ) (board between : Facts) (probe : List Turn) (given : Finding) → 0 < depth
-    → CutsStart number mask board between → EndsBehindStarts (depth - 1) between probe given
-    → EndsBehindStarts depth board probe given
+pub behind_more : (depth : ℕ) (board : Facts) (probe : List Turn) (given : Finding) → 0 < depth
+    → GivenByRun (start_on board) probe (depth - 1) given → EndsBehindStarts depth board probe given
 unfolding CutsStarts
-behind_more depth number mask board between probe given more cut rest = record {
-  starts = suc rest.starts;
-  few = omega (arith, rest.few);
-  left = rest.left;
-  cut = (number, mask, between, cut, rest.cut);
-  done = ⊎_map (λ (all : rest.starts ≡ depth - 1). omega (arith, all)) (λ whole. whole) rest.done;
-  end = rest.end;
+behind_more depth board probe given more run = record {
+  starts = suc run.rest.starts;
+  few = omega (arith, run.rest.few);
+  left = run.rest.left;
+  cut = (run.number, run.mask, run.left, run.cut, run.rest.cut);
+  done = ⊎_map (λ (all : run.rest.starts ≡ depth - 1). omega (arith, all)) (λ whole. whole) run.rest.done;
+  end = run.rest.end;
 }
 
--- a run of the command that is cut, and what comes after it
-pub given-by-run : (depth number mask : ℕ) (board left : Facts) (prepare : List Turn)
-    (command : List ℕ) (probe : List Turn) (given : Finding) → CutsCommand number mask board prepare command left
-    → EndsBehindStarts depth left probe given
-    → GivenByRun board prepare command probe depth given
-given-by-run depth number mask board left prepare command probe given cut rest =
+-- a run of the turn that is cut, and what comes after it
+pub given-by-run : (depth number mask : ℕ) (swept : SweptTurn) (left : Facts) (probe : List Turn) (given : Finding)
+    → CutsTurn number mask swept left → EndsBehindStarts depth left probe given → GivenByRun swept probe depth given
+given-by-run depth number mask swept left probe given cut rest =
     record { number = number; mask = mask; left = left; cut = cut; rest = rest }
 
 -- a look at a board
@@ -134,38 +128,17 @@ module _ (board left : Facts) (first armed last : BenchState) (told : TurnResult
   spared-so : (dark ≡ false) ⊎ (is_some (bench_facts last).pending ≡ true)
   spared-so = subst (λ (a : Option Arm). (dark ≡ false) ⊎ (is_some a ≡ true)) (pending-of last left left_is) spared
 
-  -- the start makes fewer writes
-  pub spares-start : (IsGood first → IsGood armed) → IsArmed number mask first armed
-      → (IsGood armed → IsGood last × TellsItem told reply (λ i. GoodTurn armed turn.On i last))
-      → LeavesUncut number mask board left.words
-  spares-start arms arm plays =
-      spares-so told reply (λ i. GoodTurn armed turn.On i last) (is_some (bench_facts last).pending ≡ true)
-      (LeavesUncut number mask board left.words) dark lit spared-so
-      (λ i spares start. (
-        record {
-          item = i;
-          armed = armed;
-          last = last;
-          arm = subst (λ (b : BenchState). IsArmed number mask b armed) is arm;
-          good = arms first-good;
-          good_left = (plays (arms first-good)).0;
-          start = start;
-          spared = spares;
-        },
-        ap (λ (f : Facts). f.words) left_is,
-      )) (plays (arms first-good)).1
-
-  -- the command makes fewer writes
-  pub spares-command : (prepare : List Turn) (trace : List Item) (prepared : BenchState) (command : Bor (List ℕ))
+  -- the turn makes fewer writes
+  pub spares-turn : (prepare : List Turn) (turn : Turn) (trace : List Item) (prepared : BenchState)
       → (IsGood first → IsGood prepared × Runs first prepare trace prepared) → (IsGood prepared → IsGood armed)
       → IsArmed number mask prepared armed
-      → (IsGood armed → IsGood last × TellsItem told reply (λ i. GoodTurn armed (turn.Block command) i last))
-      → EndsUncut number mask board prepare command.now left.words
-  spares-command prepare trace prepared command prepares arms arm plays =
+      → (IsGood armed → IsGood last × TellsItem told reply (λ i. GoodTurn armed turn i last))
+      → EndsUncut number mask (record { board = board; prepare = prepare; turn = turn }) left.words
+  spares-turn prepare turn trace prepared prepares arms arm plays =
       let before = prepares first-good in
-      spares-so told reply (λ i. GoodTurn armed (turn.Block command) i last) (is_some (bench_facts last).pending ≡ true)
-      (EndsUncut number mask board prepare command.now left.words) dark lit spared-so
-      (λ i spares sent. (
+      spares-so told reply (λ i. GoodTurn armed turn i last) (is_some (bench_facts last).pending ≡ true)
+      (EndsUncut number mask (record { board = board; prepare = prepare; turn = turn }) left.words) dark lit spared-so
+      (λ i spares played. (
         record {
           trace = trace;
           item = i;
@@ -176,7 +149,7 @@ module _ (board left : Facts) (first armed last : BenchState) (told : TurnResult
           arm = arm;
           good = arms before.0;
           good_left = (plays (arms before.0)).0;
-          sent = good-block armed last command i sent;
+          played = played;
           spared = spares;
         },
         ap (λ (f : Facts). f.words) left_is,
@@ -194,32 +167,13 @@ module _ (board left : Facts) (first armed last : BenchState) (told : TurnResult
   left-card : IsGood last → HasCard left.words
   left-card good = subst HasCard (sym (ap (λ (f : Facts). f.words) left_is)) good.has_card
 
-  -- the start is cut
-  pub cuts-start : (IsGood first → IsGood armed) → IsArmed number mask first armed
-      → (IsGood armed → IsGood last × TellsItem told reply (λ i. GoodTurn armed turn.On i last))
-      → CutsStart number mask board left
-  cuts-start arms arm plays =
-      let good = arms first-well in
-      let played = plays good in
-      record {
-        armed = armed;
-        last = last;
-        arm = subst (λ (b : BenchState). IsArmed number mask b armed) is arm;
-        good = good;
-        good_left = played.0;
-        cut = subst (λ (t : TurnResult). TellsItem t reply (λ i. GoodTurn armed turn.On i last)) dark played.1;
-        left_is = left_is;
-        fired = fired;
-        has_card = left-card played.0;
-      }
-
-  -- the command is cut
-  pub cuts-command : (prepare : List Turn) (trace : List Item) (prepared : BenchState) (command : Bor (List ℕ))
+  -- the turn is cut
+  pub cuts-turn : (prepare : List Turn) (turn : Turn) (trace : List Item) (prepared : BenchState)
       → (IsGood first → IsGood prepared × Runs first prepare trace prepared) → (IsGood prepared → IsGood armed)
       → IsArmed number mask prepared armed
-      → (IsGood armed → IsGood last × TellsItem told reply (λ i. GoodTurn armed (turn.Block command) i last))
-      → CutsCommand number mask board prepare command.now left
-  cuts-command prepare trace prepared command prepares arms arm plays =
+      → (IsGood armed → IsGood last × TellsItem told reply (λ i. GoodTurn armed turn i last))
+      → CutsTurn number mask (record { board = board; prepare = prepare; turn = turn }) left
+  cuts-turn prepare turn trace prepared prepares arms arm plays =
       let before = prepares first-well in
       let good = arms before.0 in
       let played = plays good in
@@ -232,9 +186,7 @@ module _ (board left : Facts) (first armed last : BenchState) (told : TurnResult
         arm = arm;
         good = good;
         good_left = played.0;
-        cut = good-block armed last command item.Dark
-            (subst (λ (t : TurnResult). TellsItem t reply (λ i. GoodTurn armed (turn.Block command) i last)) dark
-            played.1);
+        cut = subst (λ (t : TurnResult). TellsItem t reply (λ i. GoodTurn armed turn i last)) dark played.1;
         left_is = left_is;
         fired = fired;
         has_card = left-card played.0;

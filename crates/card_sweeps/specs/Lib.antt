@@ -5,8 +5,7 @@ pub mod SweptRuns
 pub mod Tallies
 pub mod PlanParts
 pub mod WrittenRuns
-pub mod CommandCuts
-pub mod CommandSweeps
+pub mod TurnCuts
 pub mod Turning
 pub mod Framing
 pub mod Asking

@@ -1,5 +1,5 @@
 -- The runs of a sweep, and the finding of each.
-use Rattle.std.specs.Prelude.{◌≡◌, ◌⊎◌, ◌≤◌, ◌≢◌, ℕ, zero, suc, true, List, None, is_some}
+use Rattle.std.specs.Prelude.{◌≡◌, ◌⊎◌, ◌≤◌, ◌≢◌, ℕ, zero, suc, true, List, [], None, is_some}
 use Rattle.nvm_board.specs.Facts.{Facts}
 use Rattle.card_model.specs.declared.space.FreeSpace.{FreeSpace}
 use Rattle.bench_turns.specs.declared.turn.Turn.{Turn}
@@ -9,7 +9,7 @@ use Rattle.bench_turns.specs.declared.turn.Item.TheVariants.{Dark}
 use Rattle.bench_turns.specs.BenchStates.{BenchState, off, on, bench_facts, IsArmed}
 use Rattle.command_base.specs.Finding.{HasCard}
 use Rattle.bench_turns.specs.Plays.{IsGood}
-use Rattle.bench_turns.specs.Turns.{GoodBlock, GoodTurn, Runs}
+use Rattle.bench_turns.specs.Turns.{GoodTurn, Runs}
 use Rattle.bench_turns.specs.CardBlocks.{IsBlockStage}
 use Rattle.card_model.specs.Cards.{card_space, Card}
 use Rattle.card_start.specs.Running.{card_found}
@@ -36,49 +36,67 @@ pub record PlaysOn (board : Facts) (turns : List Turn) (trace : List Item) (left
   pub left_is : left ≡ board_left last
   pub has_card : HasCard left.words
 
--- The command is cut at this write, with this mask: the preparation runs on the board, the cut is set, and power is
--- lost while the command runs. No cut is pending afterwards.
-pub record CutsCommand (number mask : ℕ) (board : Facts) (prepare : List Turn) (command : List ℕ)
-    (left : Facts) : Type 0 where
+-- What a sweep cuts: on copies of a board, a turn after a preparation.
+pub record SweptTurn : Type 0 where
+  pub board : Facts
+  pub prepare : List Turn
+  pub turn : Turn
+
+-- power-on of this board, without a preparation
+abbrev pub start_on : Facts → SweptTurn
+start_on board = record { board = board; prepare = []; turn = turn.On }
+
+-- A turn is cut at this write, with this mask: the preparation runs on the board, the cut is set, and power is lost in
+-- the turn. No cut is pending afterwards.
+pub record CutsTurn (number mask : ℕ) (swept : SweptTurn) (left : Facts) : Type 0 where
   pub trace : List Item
   pub prepared : BenchState
   pub armed : BenchState
   pub last : BenchState
-  pub before : Runs (off_with board) prepare trace prepared
+  pub before : Runs (off_with swept.board) swept.prepare trace prepared
   pub arm : IsArmed number mask prepared armed
   pub good : IsGood armed
   pub good_left : IsGood last
-  pub cut : GoodBlock armed command Dark last
+  pub cut : GoodTurn armed swept.turn Dark last
   pub left_is : left ≡ board_left last
   pub fired : left.pending ≡ None
   pub has_card : HasCard left.words
 
--- A power-on is cut at this write, with this mask.
-pub record CutsStart (number mask : ℕ) (board left : Facts) : Type 0 where
-  pub armed : BenchState
-  pub last : BenchState
-  pub arm : IsArmed number mask (off_with board) armed
-  pub good : IsGood armed
-  pub good_left : IsGood last
-  pub cut : GoodTurn armed turn.On Dark last
-  pub left_is : left ≡ board_left last
-  pub fired : left.pending ≡ None
-  pub has_card : HasCard left.words
-
--- Power-on makes fewer writes, so that a cut set for this one doesn't happen in it.
-pub record SparesStart (number mask : ℕ) (board : Facts) : Type 0 where
+-- The turn makes fewer writes, so that a cut set for this one, with this mask, doesn't happen in it.
+pub record SparesTurn (number mask : ℕ) (swept : SweptTurn) : Type 0 where
+  pub trace : List Item
   pub item : Item
+  pub prepared : BenchState
   pub armed : BenchState
   pub last : BenchState
-  pub arm : IsArmed number mask (off_with board) armed
+  pub before : Runs (off_with swept.board) swept.prepare trace prepared
+  pub arm : IsArmed number mask prepared armed
   pub good : IsGood armed
   pub good_left : IsGood last
-  pub start : GoodTurn armed turn.On item last
+  pub played : GoodTurn armed swept.turn item last
   pub spared : (item ≢ Dark) ⊎ (is_some (bench_facts last).pending ≡ true)
 
--- Power-on makes fewer writes, and leaves this memory.
-abbrev pub LeavesUncut : ℕ → ℕ → Facts → List ℕ → Type 0
-LeavesUncut number mask board memory = (s : SparesStart number mask board) × (memory ≡ (bench_facts s.last).words)
+-- The turn doesn't make this write: whatever the mask of a cut at it, a run is allowed in which no cut happens.
+abbrev pub IsUnmade : ℕ → SweptTurn → Type 0
+IsUnmade number swept = (mask : ℕ) → SparesTurn number mask swept
+
+-- The turn makes fewer writes, and leaves this memory.
+abbrev pub EndsUncut : ℕ → ℕ → SweptTurn → List ℕ → Type 0
+EndsUncut number mask swept memory =
+    (s : SparesTurn number mask swept) × (memory ≡ (bench_facts s.last).words)
+
+-- The turn doesn't make this write, and leaves this memory.
+pub record EndsBefore (number : ℕ) (swept : SweptTurn) (memory : List ℕ) : Type 0 where
+  pub unmade : IsUnmade number swept
+  pub uncut : EndsUncut number 0 swept memory
+
+-- a power-on is cut at this write, with this mask
+abbrev pub CutsStart : ℕ → ℕ → Facts → Facts → Type 0
+CutsStart number mask board left = CutsTurn number mask (start_on board) left
+
+-- power-on makes fewer writes, so that a cut set for this one doesn't happen in it
+abbrev pub SparesStart : ℕ → ℕ → Facts → Type 0
+SparesStart number mask board = SparesTurn number mask (start_on board)
 
 -- `n` power-ons are cut in order, each at some write
 unfoldable pub CutsStarts : ℕ → Facts → Facts → Type 0
@@ -106,12 +124,11 @@ pub record EndsBehindStarts (depth : ℕ) (board : Facts) (probe : List Turn) (g
   pub end : EndsIn left probe given
 
 -- A run of a sweep has this finding.
-pub record GivenByRun (board : Facts) (prepare : List Turn) (command : List ℕ) (probe : List Turn) (depth : ℕ)
-    (given : Finding) : Type 0 where
+pub record GivenByRun (swept : SweptTurn) (probe : List Turn) (depth : ℕ) (given : Finding) : Type 0 where
   pub number : ℕ
   pub mask : ℕ
   pub left : Facts
-  pub cut : CutsCommand number mask board prepare command left
+  pub cut : CutsTurn number mask swept left
   pub rest : EndsBehindStarts depth left probe given
 
 -- the card is a stage of this command, which the bench takes as a block

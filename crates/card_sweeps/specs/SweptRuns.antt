@@ -1,39 +1,15 @@
--- All runs after a cut of the command, in order, and the finding of each.
-use Rattle.std.specs.Prelude.{◌≡◌, ◌⊎◌, ◌≤◌, ◌≢◌, ◌+◌, ◌-◌, ◌^◌, ℕ, zero, suc, true, List, [], ◌∷◌, ◌++◌}
-use Rattle.std.specs.Prelude.{is_some, length}
+-- All runs of a sweep, in order, and the finding of each.
+use Rattle.std.specs.Prelude.{◌≡◌, ◌⊎◌, ◌≤◌, ◌<◌, ◌+◌, ◌-◌, ◌^◌, ℕ, zero, suc, List, [], ◌∷◌, ◌++◌}
 use Rattle.nvm_board.specs.Facts.{Facts}
 use Rattle.bench_turns.specs.declared.turn.Turn.{Turn}
 use Rattle.bench_turns.specs.declared.turn.Item.{Item}
-use Rattle.bench_turns.specs.declared.turn.Item.TheVariants.{Dark}
-use Rattle.bench_turns.specs.BenchStates.{BenchState, bench_facts, IsArmed}
-use Rattle.bench_turns.specs.Plays.{IsGood}
-use Rattle.bench_turns.specs.Turns.{GoodBlock, Runs}
-use Rattle.card_sweeps.specs.Sweeps.{CutsStart, EndsIn, LeavesUncut, off_with}
+use Rattle.card_sweeps.specs.declared.tally.SweepEnd.{SweepEnd}
+use Rattle.card_sweeps.specs.declared.tally.SweepEnd.TheVariants.{Full, Differs}
+use Rattle.card_sweeps.specs.declared.turn_cuts.MadeWrite.{MadeWrite}
+use Rattle.card_sweeps.specs.Masks.{mask_count_of}
+use Rattle.card_sweeps.specs.Sweeps.{EndsBefore, EndsIn, PlaysOn, SweptTurn, start_on}
 use Rattle.card_sweeps.specs.Tallies.{Finding}
-use Rattle.card_sweeps.specs.WrittenRuns.{IsMasked}
-
--- The command makes fewer writes, so that a cut set for this one, with this mask, doesn't happen in it.
-pub record SparesCommand (number mask : ℕ) (board : Facts) (prepare : List Turn) (command : List ℕ) : Type 0 where
-  pub trace : List Item
-  pub item : Item
-  pub prepared : BenchState
-  pub armed : BenchState
-  pub last : BenchState
-  pub before : Runs (off_with board) prepare trace prepared
-  pub arm : IsArmed number mask prepared armed
-  pub good : IsGood armed
-  pub good_left : IsGood last
-  pub sent : GoodBlock armed command item last
-  pub spared : (item ≢ Dark) ⊎ (is_some (bench_facts last).pending ≡ true)
-
--- The command doesn't make this write: whatever the mask of a cut at it, a run is allowed in which no cut happens.
-abbrev pub IsUnmade : ℕ → Facts → List Turn → List ℕ → Type 0
-IsUnmade number board prepare command = (mask : ℕ) → SparesCommand number mask board prepare command
-
--- The command makes fewer writes, and leaves this memory.
-abbrev pub EndsUncut : ℕ → ℕ → Facts → List Turn → List ℕ → List ℕ → Type 0
-EndsUncut number mask board prepare command memory =
-    (s : SparesCommand number mask board prepare command) × (memory ≡ (bench_facts s.last).words)
+use Rattle.card_sweeps.specs.TurnCuts.{IsMade, LeavesMasked, MissesCut, MissesWrite, made_run}
 
 -- One run: power-on and the probe on this board.
 pub record IsOneLook (probe : List Turn) (board : Facts) (all : List Finding) : Type 0 where
@@ -41,68 +17,128 @@ pub record IsOneLook (probe : List Turn) (board : Facts) (all : List Finding) : 
   pub end : EndsIn board probe given
   pub one : all ≡ given ∷ []
 
--- Power-on makes this write, of one word, and begins it with the memory `before`. A cut with that word old leaves the
--- board `old`. A cut with it new leaves the board `new`, whose memory is that after the write.
-pub record MakesWrite (number : ℕ) (board : Facts) (before : List ℕ) (old new : Facts) : Type 0 where
-  pub at : ℕ
-  pub inside : at + 1 ≤ length before
-  pub cut_old : CutsStart number 0 board old
-  pub old_word : IsMasked (record { at = at; words = 1; before = before; after = new.words }) 0 old.words
-  pub cut_new : CutsStart number 1 board new
-  pub new_word : IsMasked (record { at = at; words = 1; before = before; after = new.words }) 1 new.words
+-- the concatenated findings of `n` parts, in order
+unfoldable pub InTurn : (ℕ → List Finding → Type 0) → ℕ → List Finding → Type 0
+InTurn Part zero all = all ≡ []
+InTurn Part (suc n) all = (before part : List Finding) × InTurn Part n before × Part n part × (all ≡ before ++ part)
 
--- The runs after cuts of a power-on at this write, between these memories. `Old` and `New` are those on the board with
--- the old word, and on that with the new one.
-pub record AreBehindWrite (Old New : Facts → List Finding → Type 0) (board : Facts) (number : ℕ)
-    (before after : List ℕ) (all : List Finding) : Type 0 where
-  pub old : Facts
-  pub new : Facts
-  pub made : MakesWrite number board before old new
-  pub after_is : after ≡ new.words
-  pub first : List Finding
-  pub last : List Finding
-  pub behind_old : Old old first
-  pub behind_new : New new last
-  pub all_are : all ≡ first ++ last
-
--- The runs after cuts of a power-on at its first `n` writes, in order. The first write begins with the memory of the
--- board. Each other one begins with the memory that the one before it left. The last one leaves the memory `now`.
-unfoldable pub AreBehindWrites : (Facts → List Finding → Type 0) → Facts → ℕ → List ℕ → List Finding → Type 0
-AreBehindWrites Behind board zero now all = (now ≡ board.words) × (all ≡ [])
-AreBehindWrites Behind board (suc n) now all = (between : List ℕ) × (earlier last : List Finding)
-    × AreBehindWrites Behind board n between earlier × AreBehindWrite Behind Behind board (n + 1) between now last
-    × (all ≡ earlier ++ last)
-
--- Power-on is cut at each of its writes. The last one leaves the memory of the uncut power-on. (There are at most
--- 4,294,967,295 of them.)
-pub record AreBehindStart (Behind : Facts → List Finding → Type 0) (board : Facts) (all : List Finding) : Type 0 where
-  pub writes : ℕ
-  pub some : 1 ≤ writes
-  pub now : List ℕ
-  pub each : AreBehindWrites Behind board writes now all
-  pub done : LeavesUncut (writes + 1) 0 board now ⊎ (writes ≡ 2 ^ 32 - 1)
-
--- The first runs after cuts of a power-on, in order: those of some writes, and the first ones of the next write.
-pub record BeginBehindStart (Behind First : Facts → List Finding → Type 0) (board : Facts)
-    (all : List Finding) : Type 0 where
-  pub writes : ℕ
-  pub now : List ℕ
-  pub after : List ℕ
+-- the first findings of `n` parts, in order: those of whole parts, and the first of the next part
+pub record BeginsInTurn (n : ℕ) (Part First : ℕ → List Finding → Type 0) (all : List Finding) : Type 0 where
+  pub parts : ℕ
+  pub few : parts < n
   pub before : List Finding
   pub last : List Finding
-  pub each : AreBehindWrites Behind board writes now before
-  pub begun : AreBehindWrite First (λ _ none. none ≡ []) board (writes + 1) now after last
-      ⊎ AreBehindWrite Behind First board (writes + 1) now after last
+  pub each : InTurn Part parts before
+  pub begun : First parts last
   pub all_are : all ≡ before ++ last
 
--- All runs after a cut: power-ons are cut until the depth is reached, or one makes no write.
-unfoldable pub AreAllBehind : ℕ → List Turn → Facts → List Finding → Type 0
-AreAllBehind zero probe board all = IsOneLook probe board all
-AreAllBehind (suc depth) probe board all = (LeavesUncut 1 0 board board.words × IsOneLook probe board all)
-    ⊎ AreBehindStart (AreAllBehind depth probe) board all
+-- The runs after a cut at this device write with mask number i. `Behind` are the runs on the board that it leaves.
+-- `facts` are those of such a board.
+pub record AreOfMask {B : Type 0} (facts : B → Facts) (Behind : Facts → List Finding → Type 0) (swept : SweptTurn)
+    (number : ℕ) (before : List ℕ) (made : MadeWrite B) (i : ℕ) (all : List Finding) : Type 0 where
+  pub left : B
+  pub leaves : LeavesMasked facts swept number before made i left
+  pub behind : Behind (facts left) all
 
--- The first runs after a cut, in order. (There may be none.)
-unfoldable pub AreFirstBehind : ℕ → List Turn → Facts → List Finding → Type 0
-AreFirstBehind zero probe board all = all ≡ []
-AreFirstBehind (suc depth) probe board all =
-    (all ≡ []) ⊎ BeginBehindStart (AreAllBehind depth probe) (AreFirstBehind depth probe) board all
+-- The first runs after such a cut. `First` are those on the board that it leaves. If runs differ, it may be this cut.
+abbrev pub AreFirstOfMask : {B : Type 0} (facts : B → Facts) → SweepEnd → (Facts → List Finding → Type 0) → SweptTurn
+    → ℕ → List ℕ → MadeWrite B → ℕ → List Finding → Type 0
+AreFirstOfMask facts end First swept number before made i all = AreOfMask facts First swept number before made i all
+    ⊎ ((end ≡ Differs) × MissesCut swept number (made_run facts before made) i × (all ≡ []))
+
+-- The turn makes this device write, and is cut at it with each mask for its number of words. `torn` is the number of
+-- words of a board's last torn write.
+pub record AreOfWrite {B : Type 0} (facts : B → Facts) (torn : B → ℕ) (Behind : Facts → List Finding → Type 0)
+    (swept : SweptTurn) (number : ℕ) (before : List ℕ) (made : MadeWrite B) (all : List Finding) : Type 0 where
+  pub made_so : IsMade facts torn swept number before made
+  pub fit : made.words ≤ 16
+  pub each : InTurn (AreOfMask facts Behind swept number before made) (mask_count_of made.words) all
+
+-- The first runs of such a write, with the masks up to one of them.
+pub record BeginWrite {B : Type 0} (facts : B → Facts) (torn : B → ℕ) (end : SweepEnd)
+    (Behind First : Facts → List Finding → Type 0) (swept : SweptTurn) (number : ℕ) (before : List ℕ)
+    (all : List Finding) : Type 0 where
+  pub made : MadeWrite B
+  pub made_so : IsMade facts torn swept number before made
+  pub fit : made.words ≤ 16
+  pub begun : BeginsInTurn (mask_count_of made.words) (AreOfMask facts Behind swept number before made)
+      (AreFirstOfMask facts end First swept number before made) all
+
+-- The first runs of the next write, which begins with the memory `before`. If runs differ, it may be in this write.
+abbrev pub AreFirstOfWrite : {B : Type 0} (facts : B → Facts) (torn : B → ℕ) → SweepEnd
+    → (Behind First : Facts → List Finding → Type 0) → SweptTurn → ℕ → List ℕ → List Finding → Type 0
+AreFirstOfWrite facts torn end Behind First swept number before all =
+    BeginWrite facts torn end Behind First swept number before all
+    ⊎ ((end ≡ Differs) × MissesWrite facts torn swept number before × (all ≡ []))
+
+-- The runs of the first `n` device writes, in order. The first write begins with the memory `first`. Each other one
+-- begins with the memory that the one before it left. The last one leaves the memory `now`.
+unfoldable pub AreOfWrites : {B : Type 0} (facts : B → Facts) (torn : B → ℕ) → (Facts → List Finding → Type 0)
+    → SweptTurn → List ℕ → ℕ → List ℕ → List Finding → Type 0
+AreOfWrites facts torn Behind swept first zero now all = (now ≡ first) × (all ≡ [])
+AreOfWrites {B} facts torn Behind swept first (suc n) now all = (before : List ℕ) × (made : MadeWrite B)
+    × (earlier last : List Finding) × AreOfWrites facts torn Behind swept first n before earlier
+    × AreOfWrite facts torn Behind swept (n + 1) before made last × (now ≡ (facts made.after).words)
+    × (all ≡ earlier ++ last)
+
+-- All runs of a turn with `n` device writes, from the memory `first` on. The last write leaves the memory of the uncut
+-- turn. (There are at most 4,294,967,295 of them.)
+pub record AreOfTurn {B : Type 0} (facts : B → Facts) (torn : B → ℕ) (Behind : Facts → List Finding → Type 0)
+    (swept : SweptTurn) (first : List ℕ) (n : ℕ) (all : List Finding) : Type 0 where
+  pub now : List ℕ
+  pub each : AreOfWrites facts torn Behind swept first n now all
+  pub done : EndsBefore (n + 1) swept now ⊎ (n ≡ 2 ^ 32 - 1)
+
+-- The first runs of a turn, in order: those of some writes, and the first of the next write.
+pub record AreFirstOfTurn {B : Type 0} (facts : B → Facts) (torn : B → ℕ) (end : SweepEnd)
+    (Behind First : Facts → List Finding → Type 0) (swept : SweptTurn) (first : List ℕ) (all : List Finding) : Type 0
+  where
+    pub writes : ℕ
+    pub now : List ℕ
+    pub before : List Finding
+    pub last : List Finding
+    pub each : AreOfWrites facts torn Behind swept first writes now before
+    pub begun : AreFirstOfWrite facts torn end Behind First swept (writes + 1) now last
+    pub all_are : all ≡ before ++ last
+
+-- All runs after a cut: power-ons are cut until the depth is reached, or one makes no write.
+unfoldable pub AreAllBehind : {B : Type 0} (facts : B → Facts) (torn : B → ℕ) → ℕ → List Turn → Facts → List Finding
+    → Type 0
+AreAllBehind facts torn zero probe board all = IsOneLook probe board all
+AreAllBehind facts torn (suc depth) probe board all =
+    (EndsBefore 1 (start_on board) board.words × IsOneLook probe board all)
+    ⊎ ((n : ℕ) × (1 ≤ n)
+    × AreOfTurn facts torn (AreAllBehind facts torn depth probe) (start_on board) board.words n all)
+
+-- The first runs after a cut, in order, up to this end. (There may be none, if no run can be counted.)
+unfoldable pub AreFirstBehind : {B : Type 0} (facts : B → Facts) (torn : B → ℕ) → SweepEnd → ℕ → List Turn → Facts
+    → List Finding → Type 0
+AreFirstBehind facts torn end zero probe board all = (end ≡ Full) × (all ≡ [])
+AreFirstBehind facts torn end (suc depth) probe board all = ((end ≡ Full) × (all ≡ []))
+    ⊎ AreFirstOfTurn facts torn end (AreAllBehind facts torn depth probe) (AreFirstBehind facts torn end depth probe)
+    (start_on board) board.words all
+
+-- Runs that begin with the memory that the preparation leaves.
+pub record ArePrepared (AreFrom : List ℕ → List Finding → Type 0) (swept : SweptTurn) (all : List Finding) : Type 0
+  where
+    pub trace : List Item
+    pub prepared : Facts
+    pub played : PlaysOn swept.board swept.prepare trace prepared
+    pub are : AreFrom prepared.words all
+
+-- all runs of a turn, whatever the number of its writes
+pub record AreRunsFrom {B : Type 0} (facts : B → Facts) (torn : B → ℕ) (depth : ℕ) (probe : List Turn)
+    (swept : SweptTurn) (first : List ℕ) (all : List Finding) : Type 0 where
+  pub writes : ℕ
+  pub are : AreOfTurn facts torn (AreAllBehind facts torn depth probe) swept first writes all
+
+-- all runs of a sweep, in order
+abbrev pub AreAllRuns : {B : Type 0} (facts : B → Facts) (torn : B → ℕ) → ℕ → List Turn → SweptTurn → List Finding
+    → Type 0
+AreAllRuns facts torn depth probe swept all = ArePrepared (AreRunsFrom facts torn depth probe swept) swept all
+
+-- the first runs of a sweep, in order, up to this end
+abbrev pub AreFirstRuns : {B : Type 0} (facts : B → Facts) (torn : B → ℕ) → ℕ → List Turn → SweptTurn → SweepEnd
+    → List Finding → Type 0
+AreFirstRuns facts torn depth probe swept end all = ArePrepared (AreFirstOfTurn facts torn end
+    (AreAllBehind facts torn depth probe) (AreFirstBehind facts torn end depth probe) swept) swept all

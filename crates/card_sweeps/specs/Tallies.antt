@@ -4,6 +4,8 @@ use Rattle.std.specs.Prelude.{All, AllPairs, slice_get, slice_set}
 use Rattle.card_model.specs.declared.space.FreeSpace.{FreeSpace}
 use Rattle.bench_turns.specs.declared.turn.Item.{Item}
 use Rattle.card_sweeps.specs.declared.tally.Seen.{Seen}
+use Rattle.card_sweeps.specs.declared.tally.SweepEnd.{SweepEnd}
+use Rattle.card_sweeps.specs.declared.tally.SweepEnd.TheVariants.{Whole, Full, Differs}
 
 -- the finding of a run: the trace of the probe, and the free space before it
 pub record Finding : Type 0 where
@@ -67,6 +69,10 @@ pub record CountsRuns (Are : List Finding → Type 0) (old new : List Seen) : Ty
   pub are : Are runs
   pub each : CountsEach runs old new
 
--- Runs were counted in order: all of them, or at the greatest count the first of them.
-abbrev pub CountsToFull : (Are First : List Finding → Type 0) → ℕ → List Seen → Type 0
-CountsToFull Are First runs seen = CountsRuns Are [] seen ⊎ ((runs ≡ 2 ^ 32 - 1) × CountsRuns First [] seen)
+-- Runs were counted in order, up to this end: all of them, at the greatest count the first of them, or the first of
+-- them up to runs that differ.
+abbrev pub CountsToEnd : (Are : List Finding → Type 0) (First : SweepEnd → List Finding → Type 0) → SweepEnd → ℕ
+    → List Seen → Type 0
+CountsToEnd Are First Whole runs seen = CountsRuns Are [] seen
+CountsToEnd Are First Full runs seen = (runs ≡ 2 ^ 32 - 1) × CountsRuns (First Full) [] seen
+CountsToEnd Are First Differs runs seen = CountsRuns (First Differs) [] seen

@@ -1,20 +1,22 @@
 //! Laws of sweeps: each function's contract is one law.
 ghost use Rattle.std.specs.Prelude.{◌≡◌, ◌≤◌, ◌+◌, ◌-◌, ℕ, List};
+ghost use Rattle.core.specs.Borrow.{Bor};
 ghost use Rattle.nvm_board.specs.Facts.{Facts};
 ghost use Rattle.card_start.specs.Starting.{power_on_writes};
 ghost use Rattle.bench_turns.specs.declared.turn.Turn.{Turn};
+ghost use Rattle.bench_turns.specs.declared.turn.Turn.TheVariants.{Block};
 ghost use Rattle.bench_turns.specs.BenchStates.{bench_card, bench_facts};
 ghost use Rattle.bench_turns.specs.Lasting.{HasLeft};
-ghost use Rattle.card_sweeps.specs.Sweeps.{GivenByRun, IsStageOf, SparesStart};
-ghost use Rattle.card_sweeps.specs.SweptRuns.{SparesCommand};
+ghost use Rattle.card_sweeps.specs.Sweeps.{GivenByRun, IsStageOf, SparesStart, SparesTurn};
 ghost use Rattle.card_sweeps.specs.Tallies.{Finding};
 
 /// Each finding of a sweep shows a stage of the command.
 /// The number of cut power-ons after it doesn't matter.
 pub fn swept_cards_are_stages()
-    ensures { (board : Facts) (prepare : List Turn) (command : List ℕ) (probe : List Turn) (depth : ℕ) (given : Finding)
-        → (s : GivenByRun board prepare command probe depth given)
-        → IsStageOf s.cut.armed command (bench_card s.rest.end.started) }
+    ensures { (board : Facts) (prepare : List Turn) (command : Bor (List ℕ)) (probe : List Turn) (depth : ℕ)
+        (given : Finding)
+        → (s : GivenByRun (record { board = board; prepare = prepare; turn = Block command }) probe depth given)
+        → IsStageOf s.cut.armed command.now (bench_card s.rest.end.started) }
 {}
 
 /// A sweep spares a power-on at a write only if its memory asks for fewer writes.
@@ -24,8 +26,9 @@ pub fn swept_cards_are_stages()
 pub fn spared_runs_make_fewer_writes()
     ensures start { (number mask : ℕ) (board : Facts) → SparesStart number mask board → HasLeft 3787 board
         → power_on_writes board ≤ number - 1 }
-    ensures command { (number mask : ℕ) (board : Facts) (prepare : List Turn) (command : List ℕ)
-        → (s : SparesCommand number mask board prepare command) → HasLeft 700 (bench_facts s.prepared)
+    ensures command { (number mask : ℕ) (board : Facts) (prepare : List Turn) (command : Bor (List ℕ))
+        → (s : SparesTurn number mask (record { board = board; prepare = prepare; turn = Block command }))
+        → HasLeft 700 (bench_facts s.prepared)
         → (bench_facts s.last).writes ≤ (bench_facts s.prepared).writes + (number - 1) }
 {}
 
@@ -35,7 +38,8 @@ pub fn spared_runs_make_fewer_writes()
 pub fn runs_spared_at_once_change_no_word()
     ensures start { (mask : ℕ) (board : Facts) → (s : SparesStart 1 mask board) → HasLeft 3787 board
         → (bench_facts s.last).words ≡ board.words }
-    ensures command { (mask : ℕ) (board : Facts) (prepare : List Turn) (command : List ℕ)
-        → (s : SparesCommand 1 mask board prepare command) → HasLeft 700 (bench_facts s.prepared)
+    ensures command { (mask : ℕ) (board : Facts) (prepare : List Turn) (command : Bor (List ℕ))
+        → (s : SparesTurn 1 mask (record { board = board; prepare = prepare; turn = Block command }))
+        → HasLeft 700 (bench_facts s.prepared)
         → (bench_facts s.last).words ≡ (bench_facts s.prepared).words }
 {}

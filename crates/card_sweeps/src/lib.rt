@@ -1,7 +1,6 @@
 //! Sweeps: what their command line and script ask for, and what a sweep tries and counts.
 #![tactic(auto)]
 
-mod command_cuts;
 mod cut_masks;
 mod fault;
 mod frames;
@@ -14,10 +13,10 @@ mod stop;
 mod sweepable;
 mod sweeping;
 mod tally;
+mod turn_cuts;
 mod whole_sweep;
 mod written_runs;
 
-pub use command_cuts::{CommandRuns, MadeWrite, made_write, masked_cut};
 pub use cut_masks::{mask_at, mask_count, words_to_try};
 pub use fault::{LineError, SweepFault};
 pub use options::{Options, parse_sweep_options};
@@ -26,7 +25,8 @@ pub use script::{SweepScript, read_script};
 pub use steps::{OwnBlock, Step, turns_of};
 pub use stop::SweepStop;
 pub use sweepable::Sweepable;
-pub use sweeping::{play_copy, sweep_behind};
-pub use tally::{Seen, Sweep, Trace};
-pub use whole_sweep::sweep;
+pub use sweeping::play_copy;
+pub use tally::{Seen, Sweep, SweepEnd, Trace};
+pub use turn_cuts::{MadeWrite, TurnRuns, made_write, masked_cut};
+pub use whole_sweep::{sweep, sweep_behind};
 pub use written_runs::{first_change, is_same};

@@ -1,22 +1,25 @@
-//! Cuts power-ons at each of their writes, and counts the runs by what they find.
-ghost use Rattle.std.specs.Prelude.{◌≡◌, ◌≢◌, ◌⊎◌, ◌≤◌, [], sum_by, All, AllPairs, None, IfOk, IfErr, IfSome, IfNone};
+//! Sweeps a turn: cuts it at each of its writes, and the power-ons after each cut. Counts the runs by what they find.
+ghost use Rattle.std.specs.Prelude.{◌≡◌, ◌⊎◌, ◌≤◌, ◌<◌, ◌+◌, [], length, None, IfOk, IfErr};
 ghost use Rattle.std.specs.Prelude.{is_some, true, false};
 ghost use Rattle.command_base.specs.Finding.{HasCard};
 ghost use Rattle.bench_turns.specs.Plays.{IsGood};
 ghost use Rattle.bench_turns.specs.BenchStates.{IsWell};
 ghost use Rattle.bench_turns.specs.Turns.{Runs};
-ghost use Rattle.card_sweeps.specs.Tallies.{findings, times_seen, CountsToFull};
-ghost use Rattle.card_sweeps.specs.declared.stop.SweepStop.TheVariants.{Memory};
-ghost use Rattle.card_sweeps.specs.declared.sweeping.Halt.TheVariants.{Stopped};
-ghost use Rattle.card_sweeps.specs.PlanParts.{Sweeps, words_left};
-ghost use Rattle.card_sweeps.specs.SweptRuns.{AreAllBehind, AreFirstBehind, IsOneLook, MakesWrite};
-ghost use Rattle.card_sweeps.specs.Sweeps.{CutsStart, EndsIn, EndsBehindStarts, LeavesUncut, PlaysOn, free_of};
+ghost use Rattle.card_sweeps.specs.Masks.{mask_count_of};
+ghost use Rattle.card_sweeps.specs.declared.sweeping.Halt.TheVariants as halt;
+ghost use Rattle.card_sweeps.specs.declared.tally.SweepEnd.TheVariants.{Full};
+ghost use Rattle.card_sweeps.specs.PlanParts.{Sweeps, AllBehind, FirstBehind, halt_of, IsGivenBy, words_left};
+ghost use Rattle.card_sweeps.specs.SweptRuns.{AreFirstOfMask, AreFirstOfTurn, AreOfMask};
+ghost use Rattle.card_sweeps.specs.SweptRuns.{AreOfTurn, BeginsInTurn, InTurn, IsOneLook};
+ghost use Rattle.card_sweeps.specs.Sweeps.{EndsIn, EndsBehindStarts, PlaysOn, free_of};
+ghost use Rattle.card_sweeps.specs.TurnCuts.{IsMade, swept_by};
 
+use crate::cut_masks::mask_count;
 use crate::stop::SweepStop;
 use crate::sweepable::Sweepable;
 use crate::tally::{Sweep, Trace, blank_trace};
-use crate::written_runs::{first_change, is_same, is_write};
-use bench_turns::{Turn, TurnPlayer, TurnResult};
+use crate::turn_cuts::{MadeWrite, TurnRuns, made_write, masked_cut};
+use bench_turns::{Turn, TurnPlayer};
 use card_model::FreeSpace;
 use std::alloc::{AllocError, Global};
 use t1_link::BlockBytes;
@@ -24,64 +27,40 @@ use t1_link::BlockBytes;
 /// Why the counting of runs stops early.
 #[derive(Clone, Copy)]
 pub(crate) enum Halt {
+    /// There is too little memory.
+    Memory,
     /// No further run can be counted.
     Full,
-    /// The sweep stops.
-    Stopped(SweepStop),
+    /// Runs of the same turn left memories that don't fit together.
+    Differs,
 }
 
 impl From<AllocError> for Halt {
-    ghost from_gives = { λ _ halt. halt ≡ Stopped Memory };
+    ghost from_gives = { λ _ h. h ≡ halt.Memory };
 
     fn from(_: AllocError) -> Halt {
-        Halt::Stopped(SweepStop::Memory)
+        Halt::Memory
     }
 }
 
 impl From<SweepStop> for Halt {
-    ghost from_gives = { λ stop halt. halt ≡ Stopped stop };
+    ghost from_gives = { λ stop h. h ≡ halt_of stop };
 
     fn from(stop: SweepStop) -> Halt {
-        Halt::Stopped(stop)
+        match stop {
+            SweepStop::Memory => Halt::Memory,
+            SweepStop::Differs => Halt::Differs,
+        }
     }
 }
 
-/// A device write of a power-on, which writes one word. Each board is that of a power-on cut at this write.
-#[derive(Drop)]
-struct StartWrite<B: Sweepable + Drop> {
-    /// The board with the old word.
-    old: B,
-    /// The board with the new word.
-    new: B,
-}
-
-/// Tries every run that may follow on a board.
-/// Up to `depth` power-ons are cut, until one makes no write. Each run ends with a power-on for which no cut is set,
-/// and the probe. If no power-on is cut, a cut that was pending on the board may come in this one.
-///
-/// # Errors
-/// There is too little memory, or the memories that cuts of a power-on leave are not those of writes of one word each.
-pub fn sweep_behind<P: TurnPlayer + Drop>(
-    alloc: Global,
-    board: &P::Board,
-    probe: &[Turn<'_>],
-    depth: u8,
-) -> Result<Sweep, SweepStop>
-where
-    P::Board: Sweepable + Drop,
-    ensures sum { IfOk result (λ s. sum_by times_seen s.seen.items ≡ s.runs) }
-    ensures different { IfOk result (λ s. AllPairs (λ a b. a ≢ b) (findings s.seen.items)) }
-    ensures runs { IfOk result (λ s. HasCard (P.Board.facts board.now).words
-        → All (EndsBehindStarts depth (P.Board.facts board.now) probe.now) (findings s.seen.items)) }
-    ensures complete { IfOk result (λ s. HasCard (P.Board.facts board.now).words
-        → CountsToFull (AreAllBehind depth probe.now (P.Board.facts board.now))
-        (AreFirstBehind depth probe.now (P.Board.facts board.now)) s.runs s.seen.items) }
-{
-    let mut sweep = Sweep::new(alloc);
-    match cut_starts::<P>(alloc, board, probe, depth, &mut sweep) {
-        Ok(()) | Err(Halt::Full) => Ok(sweep),
-        Err(Halt::Stopped(stop)) => Err(stop),
-    }
+/// What comes after each cut of a turn.
+#[derive(Clone, Copy, Drop)]
+pub(crate) struct AfterCut<'a> {
+    /// The turns at the end of each run.
+    pub(crate) probe: &'a [Turn<'a>],
+    /// The greatest number of power-ons that are cut in a run.
+    pub(crate) depth: u8,
 }
 
 /// Plays turns on a copy of a board, from power off on.
@@ -119,104 +98,145 @@ pub(crate) fn cut_board<B: Sweepable + Drop>(is_dark: bool, board: B) -> Result<
 
 /// Cuts up to `depth` power-ons, then runs the probe.
 /// It cuts no more after a power-on without writes.
+#[cycle(starts)]
 pub(crate) fn cut_starts<P: TurnPlayer + Drop>(
     alloc: Global,
     board: &P::Board,
-    probe: &[Turn<'_>],
-    depth: u8,
+    after: &AfterCut<'_>,
     sweep: &mut Sweep,
 ) -> Result<(), Halt>
 where
     P::Board: Sweepable + Drop,
-    ensures { Sweeps (P.Board.facts board.now).words (EndsBehindStarts depth (P.Board.facts board.now) probe.now)
-        (λ _. AreAllBehind depth probe.now (P.Board.facts board.now))
-        (AreFirstBehind depth probe.now (P.Board.facts board.now)) sweep.old sweep.new result }
+    ensures { Sweeps (P.Board.facts board.now).words
+        (EndsBehindStarts after.now.depth (P.Board.facts board.now) after.now.probe.now)
+        (λ _. AllBehind P.Board.facts P.Board.torn after.now (P.Board.facts board.now))
+        (λ end. FirstBehind P.Board.facts P.Board.torn end after.now (P.Board.facts board.now))
+        sweep.old sweep.new result }
 {
-    if depth == 0 {
-        return look::<P>(alloc, board, probe, sweep);
+    if after.depth == 0 {
+        return look::<P>(alloc, board, after.probe, sweep);
     }
-    let mut last = None;
-    for writes in 0..u32::MAX {
-        let before = memory_left(board, &last);
-        let Some(made) = start_write::<P>(alloc, board, writes + 1, before)? else {
-            if writes == 0 {
-                return look::<P>(alloc, board, probe, sweep);
-            }
-            return Ok(());
-        };
-        cut_starts::<P>(alloc, &made.old, probe, depth - 1, sweep)?;
-        cut_starts::<P>(alloc, &made.new, probe, depth - 1, sweep)?;
-        last = Some(made.new);
+    let start = TurnRuns {
+        alloc,
+        board,
+        prepare: &[],
+        turn: Turn::On,
+    };
+    let later = AfterCut {
+        probe: after.probe,
+        depth: after.depth - 1,
+    };
+    let writes = sweep_turn::<P>(&start, &later, board.words(), sweep)?;
+    if writes == 0 {
+        return look::<P>(alloc, board, after.probe, sweep);
     }
     Ok(())
 }
 
-/// Returns the memory that the last write left, or that of the board before any write.
-fn memory_left<'a, B: Sweepable + Drop>(board: &'a B, last: &'a Option<B>) -> &'a [u32]
-    ensures { result.now ≡ words_left B.facts board.now last.now }
+/// Cuts the turn at each of its writes, and power-ons after each cut. The first write begins with the memory `first`.
+/// Returns the number of writes.
+#[cycle(starts)]
+pub(crate) fn sweep_turn<P: TurnPlayer + Drop>(
+    runs: &TurnRuns<'_, '_, P::Board>,
+    after: &AfterCut<'_>,
+    first: &[u32],
+    sweep: &mut Sweep,
+) -> Result<u32, Halt>
+where
+    P::Board: Sweepable + Drop,
+    ensures { Sweeps (P.Board.facts runs.now.board.now).words (IsGivenBy P.Board.facts runs.now after.now)
+        (AreOfTurn P.Board.facts P.Board.torn (AllBehind P.Board.facts P.Board.torn after.now)
+        (swept_by P.Board.facts runs.now) first.now)
+        (λ end. AreFirstOfTurn P.Board.facts P.Board.torn end (AllBehind P.Board.facts P.Board.torn after.now)
+        (FirstBehind P.Board.facts P.Board.torn end after.now) (swept_by P.Board.facts runs.now) first.now)
+        sweep.old sweep.new result }
+{
+    let mut last = None;
+    for writes in 0..u32::MAX {
+        let before = memory_left(first, &last);
+        let Some(made) = made_write::<P>(runs, writes + 1, before)? else {
+            return Ok(writes);
+        };
+        sweep_write::<P>(runs, after, writes + 1, before, &made, sweep)?;
+        last = Some(made.after);
+    }
+    Ok(u32::MAX)
+}
+
+/// Cuts the turn at this write with each mask, and power-ons after each cut.
+#[cycle(starts)]
+fn sweep_write<P: TurnPlayer + Drop>(
+    runs: &TurnRuns<'_, '_, P::Board>,
+    after: &AfterCut<'_>,
+    write: u32,
+    before: &[u32],
+    made: &MadeWrite<P::Board>,
+    sweep: &mut Sweep,
+) -> Result<(), Halt>
+where
+    P::Board: Sweepable + Drop,
+    requires write { 1 ≤ write }
+    requires words { made.now.words ≤ 16 }
+    requires inside { made.now.at + made.now.words ≤ length before.now }
+    requires made { HasCard (P.Board.facts runs.now.board.now).words
+        → IsMade P.Board.facts P.Board.torn (swept_by P.Board.facts runs.now) write before.now made.now }
+    ensures { Sweeps (P.Board.facts runs.now.board.now).words (IsGivenBy P.Board.facts runs.now after.now)
+        (λ _. InTurn (AreOfMask P.Board.facts (AllBehind P.Board.facts P.Board.torn after.now)
+        (swept_by P.Board.facts runs.now) write before.now made.now) (mask_count_of made.now.words))
+        (λ end. BeginsInTurn (mask_count_of made.now.words)
+        (AreOfMask P.Board.facts (AllBehind P.Board.facts P.Board.torn after.now)
+        (swept_by P.Board.facts runs.now) write before.now made.now)
+        (AreFirstOfMask P.Board.facts end (FirstBehind P.Board.facts P.Board.torn end after.now)
+        (swept_by P.Board.facts runs.now) write before.now made.now))
+        sweep.old sweep.new result }
+{
+    for i in 0..mask_count(made.words) {
+        sweep_mask::<P>(runs, after, write, before, made, i, sweep)?;
+    }
+    Ok(())
+}
+
+/// Cuts power-ons after a cut of this write with mask number `i`.
+#[cycle(starts)]
+fn sweep_mask<P: TurnPlayer + Drop>(
+    runs: &TurnRuns<'_, '_, P::Board>,
+    after: &AfterCut<'_>,
+    write: u32,
+    before: &[u32],
+    made: &MadeWrite<P::Board>,
+    i: u8,
+    sweep: &mut Sweep,
+) -> Result<(), Halt>
+where
+    P::Board: Sweepable + Drop,
+    requires write { 1 ≤ write }
+    requires words { made.now.words ≤ 16 }
+    requires inside { made.now.at + made.now.words ≤ length before.now }
+    requires place { i < mask_count_of made.now.words }
+    requires made { HasCard (P.Board.facts runs.now.board.now).words
+        → IsMade P.Board.facts P.Board.torn (swept_by P.Board.facts runs.now) write before.now made.now }
+    ensures { Sweeps (P.Board.facts runs.now.board.now).words (IsGivenBy P.Board.facts runs.now after.now)
+        (λ _. AreOfMask P.Board.facts (AllBehind P.Board.facts P.Board.torn after.now)
+        (swept_by P.Board.facts runs.now) write before.now made.now i)
+        (λ end. AreFirstOfMask P.Board.facts end (FirstBehind P.Board.facts P.Board.torn end after.now)
+        (swept_by P.Board.facts runs.now) write before.now made.now i)
+        sweep.old sweep.new result }
+{
+    if let Some(left) = made.known_cut(i) {
+        return cut_starts::<P>(runs.alloc, left, after, sweep);
+    }
+    let left = masked_cut::<P>(runs, write, before, made, i)?;
+    cut_starts::<P>(runs.alloc, &left, after, sweep)
+}
+
+/// Returns the memory that the last write left, or the first one before any write.
+fn memory_left<'a, B: Sweepable + Drop>(first: &'a [u32], last: &'a Option<B>) -> &'a [u32]
+    ensures { result.now ≡ words_left B.facts first.now last.now }
 {
     match last {
         Some(left) => left.words(),
-        None => board.words(),
+        None => first,
     }
-}
-
-/// Returns the boards of a power-on that is cut at write `k`, which begins with the memory `before`.
-/// Returns `None` if power-on makes fewer writes, and leaves this memory.
-fn start_write<P: TurnPlayer + Drop>(
-    alloc: Global,
-    board: &P::Board,
-    k: u32,
-    before: &[u32],
-) -> Result<Option<StartWrite<P::Board>>, SweepStop>
-where
-    P::Board: Sweepable + Drop,
-    requires { 1 ≤ k }
-    ensures made { IfOk result (λ made. IfSome made (λ it. HasCard (P.Board.facts board.now).words
-        → MakesWrite k (P.Board.facts board.now) before.now (P.Board.facts it.old) (P.Board.facts it.new))) }
-    ensures spared { IfOk result (λ made. IfNone made (HasCard (P.Board.facts board.now).words
-        → LeavesUncut k 0 (P.Board.facts board.now) before.now)) }
-{
-    let old = match start_cut::<P>(alloc, board, k, 0)? {
-        Ok(old) => old,
-        Err(whole) => {
-            if is_same(whole.words(), before) {
-                return Ok(None);
-            }
-            return Err(SweepStop::Differs);
-        }
-    };
-    let Ok(new) = start_cut::<P>(alloc, board, k, 1)? else {
-        return Err(SweepStop::Differs);
-    };
-    let at = first_change(before, new.words()).unwrap_or(0);
-    if !is_write(at, 1, before, old.words(), new.words()) {
-        return Err(SweepStop::Differs);
-    }
-    Ok(Some(StartWrite { old, new }))
-}
-
-/// Returns the board after a power-on that was cut at write `k`.
-/// Returns that of the whole power-on as an error if it makes fewer writes.
-fn start_cut<P: TurnPlayer + Drop>(
-    alloc: Global,
-    board: &P::Board,
-    k: u32,
-    mask: u16,
-) -> Result<Result<P::Board, P::Board>, AllocError>
-where
-    P::Board: Sweepable + Drop,
-    requires { 1 ≤ k }
-    ensures cut { IfOk result (λ cut. IfOk cut (λ left. HasCard (P.Board.facts board.now).words
-        → CutsStart k mask (P.Board.facts board.now) (P.Board.facts left))) }
-    ensures spared { IfOk result (λ cut. IfErr cut (λ whole. HasCard (P.Board.facts board.now).words
-        → LeavesUncut k mask (P.Board.facts board.now) (P.Board.facts whole).words)) }
-{
-    let mut bench = P::new(board.copy(alloc)?);
-    bench.arm_well(k, mask);
-    let mut reply = BlockBytes::new();
-    let turned = bench.turn_well(Turn::On, &mut reply);
-    Ok(cut_board(matches!(turned, TurnResult::Dark), bench.into_board()))
 }
 
 /// Counts one run: a power-on for which no cut is set, and the probe.
@@ -229,7 +249,8 @@ fn look<P: TurnPlayer + Drop>(
 where
     P::Board: Sweepable + Drop,
     ensures { Sweeps (P.Board.facts board.now).words (EndsIn (P.Board.facts board.now) probe.now)
-        (λ _. IsOneLook probe.now (P.Board.facts board.now)) (λ all. all ≡ []) sweep.old sweep.new result }
+        (λ _. IsOneLook probe.now (P.Board.facts board.now)) (λ end all. (end ≡ Full) × (all ≡ []))
+        sweep.old sweep.new result }
 {
     if sweep.is_full() {
         return Err(Halt::Full);

@@ -22,9 +22,22 @@ pub struct Seen {
     pub count: u32,
 }
 
+/// How a sweep ends.
+#[derive(Clone, Copy, Drop)]
+pub enum SweepEnd {
+    /// All runs were counted.
+    Whole,
+    /// The greatest number of runs was counted, and there are more.
+    Full,
+    /// Runs of the same turn left memories that don't fit together, so the board is not deterministic.
+    Differs,
+}
+
 /// The tally of a sweep.
 #[derive(Drop)]
 pub struct Sweep {
+    /// How the sweep ended. The tally is that of the runs up to there.
+    pub end: SweepEnd,
     /// The number of runs.
     pub runs: u32,
     /// The different findings, in the order of their first run.
@@ -40,6 +53,7 @@ impl Sweep {
         ensures { result.seen.items ≡ [] }
     {
         Sweep {
+            end: SweepEnd::Whole,
             runs: 0,
             seen: Vec::new(alloc),
         }

@@ -1,32 +1,19 @@
-//! Sweeps a command: cuts it at each of its writes, and the power-ons after each cut.
-ghost use Rattle.std.specs.Prelude.{◌≡◌, ◌≢◌, ◌≤◌, ◌+◌, length, sum_by, All, AllPairs, IfOk};
+//! Sweeps of a command, and of the power-ons after a cut.
+ghost use Rattle.std.specs.Prelude.{◌≡◌, ◌≢◌, ◌≤◌, [], sum_by, All, AllPairs, IfOk, IfErr, Ok};
 ghost use Rattle.command_base.specs.Finding.{HasCard};
-ghost use Rattle.card_sweeps.specs.CommandCuts.{made_run};
-ghost use Rattle.card_sweeps.specs.CommandSweeps.{AreAllOfMask, AreAllRuns, AreFirstFrom, AreFirstOfMask, AreFirstRuns};
-ghost use Rattle.card_sweeps.specs.CommandSweeps.{AreRunsFrom, BeginsInTurn, InTurn};
-ghost use Rattle.card_sweeps.specs.Masks.{mask_count_of};
-ghost use Rattle.card_sweeps.specs.PlanParts.{IsGivenBy, Sweeps, swept_by};
-ghost use Rattle.card_sweeps.specs.Sweeps.{GivenByRun};
-ghost use Rattle.card_sweeps.specs.Tallies.{findings, times_seen, CountsToFull};
+ghost use Rattle.bench_turns.specs.declared.turn.Turn.TheVariants as turn;
+ghost use Rattle.card_sweeps.specs.PlanParts.{IsGivenBy, Sweeps, EndsBy};
+ghost use Rattle.card_sweeps.specs.SweptRuns.{AreAllBehind, AreAllRuns, AreFirstBehind, AreFirstRuns};
+ghost use Rattle.card_sweeps.specs.Sweeps.{EndsBehindStarts, GivenByRun};
+ghost use Rattle.card_sweeps.specs.Tallies.{findings, times_seen, CountsToEnd};
+ghost use Rattle.card_sweeps.specs.TurnCuts.{swept_by};
 
-use crate::command_cuts::{CommandRuns, MadeWrite, made_write, masked_cut};
-use crate::cut_masks::mask_count;
-use crate::stop::SweepStop;
 use crate::sweepable::Sweepable;
-use crate::sweeping::{Halt, cut_starts, play_copy};
-use crate::tally::Sweep;
+use crate::sweeping::{AfterCut, Halt, cut_starts, play_copy, sweep_turn};
+use crate::tally::{Sweep, SweepEnd};
+use crate::turn_cuts::TurnRuns;
 use bench_turns::{Turn, TurnPlayer};
-use std::alloc::Global;
-
-/// A command to sweep, and what comes after each cut of it.
-#[derive(Drop)]
-struct SweepPlan<'a, B: Sweepable> {
-    runs: CommandRuns<'a, B>,
-    /// The turns at the end of each run.
-    probe: &'a [Turn<'a>],
-    /// The greatest number of power-ons that are cut in a run.
-    depth: u8,
-}
+use std::alloc::{AllocError, Global};
 
 /// Runs a command, cut at each of its writes with each mask.
 /// Each run uses a copy of the board.
@@ -34,7 +21,7 @@ struct SweepPlan<'a, B: Sweepable> {
 /// probe. A cut that was pending on the board may come in `prepare`.
 ///
 /// # Errors
-/// There is too little memory, or the memories that the cuts leave are not those of the writes of one command.
+/// There is too little memory.
 pub fn sweep<P: TurnPlayer + Drop>(
     alloc: Global,
     board: &P::Board,
@@ -42,113 +29,93 @@ pub fn sweep<P: TurnPlayer + Drop>(
     command: &[u8],
     probe: &[Turn<'_>],
     depth: u8,
-) -> Result<Sweep, SweepStop>
+) -> Result<Sweep, AllocError>
+where
+    P::Board: Sweepable + Drop,
+    ensures sum { IfOk result (λ s. sum_by times_seen s.seen.items ≡ s.runs) }
+    ensures different { IfOk result (λ s. AllPairs (λ a b. a ≢ b) (findings s.seen.items)) }
+    ensures runs { IfOk result (λ s. HasCard (P.Board.facts board.now).words → All (GivenByRun
+        (record { board = P.Board.facts board.now; prepare = prepare.now; turn = turn.Block command.entry })
+        probe.now depth) (findings s.seen.items)) }
+    // The tally is that of the possible runs, in order, up to the end that it tells.
+    ensures complete { IfOk result (λ s. HasCard (P.Board.facts board.now).words → CountsToEnd
+        (AreAllRuns P.Board.facts P.Board.torn depth probe.now
+        (record { board = P.Board.facts board.now; prepare = prepare.now; turn = turn.Block command.entry }))
+        (AreFirstRuns P.Board.facts P.Board.torn depth probe.now
+        (record { board = P.Board.facts board.now; prepare = prepare.now; turn = turn.Block command.entry }))
+        s.end s.runs s.seen.items) }
+{
+    let runs = TurnRuns {
+        alloc,
+        board,
+        prepare,
+        turn: Turn::Block(command),
+    };
+    let mut sweep = Sweep::new(alloc);
+    let ended = sweep_prepared::<P>(&runs, &AfterCut { probe, depth }, &mut sweep);
+    ended_tally(sweep, ended)
+}
+
+/// Tries every run that may follow on a board.
+/// Up to `depth` power-ons are cut, until one makes no write. Each run ends with a power-on for which no cut is set,
+/// and the probe. If no power-on is cut, a cut that was pending on the board may come in this one.
+///
+/// # Errors
+/// There is too little memory.
+pub fn sweep_behind<P: TurnPlayer + Drop>(
+    alloc: Global,
+    board: &P::Board,
+    probe: &[Turn<'_>],
+    depth: u8,
+) -> Result<Sweep, AllocError>
 where
     P::Board: Sweepable + Drop,
     ensures sum { IfOk result (λ s. sum_by times_seen s.seen.items ≡ s.runs) }
     ensures different { IfOk result (λ s. AllPairs (λ a b. a ≢ b) (findings s.seen.items)) }
     ensures runs { IfOk result (λ s. HasCard (P.Board.facts board.now).words
-        → All (GivenByRun (P.Board.facts board.now) prepare.now command.now probe.now depth) (findings s.seen.items)) }
-    // The tally is that of the possible runs, in order.
-    ensures complete { IfOk result (λ s. HasCard (P.Board.facts board.now).words → CountsToFull
-        (AreAllRuns P.Board.facts P.Board.torn (record {
-          board = P.Board.facts board.now;
-          prepare = prepare.now;
-          command = command.now;
-          probe = probe.now;
-          depth = depth;
-        }))
-        (AreFirstRuns P.Board.facts P.Board.torn (record {
-          board = P.Board.facts board.now;
-          prepare = prepare.now;
-          command = command.now;
-          probe = probe.now;
-          depth = depth;
-        }))
-        s.runs s.seen.items) }
+        → All (EndsBehindStarts depth (P.Board.facts board.now) probe.now) (findings s.seen.items)) }
+    ensures complete { IfOk result (λ s. HasCard (P.Board.facts board.now).words → CountsToEnd
+        (AreAllBehind P.Board.facts P.Board.torn depth probe.now (P.Board.facts board.now))
+        (λ end. AreFirstBehind P.Board.facts P.Board.torn end depth probe.now (P.Board.facts board.now))
+        s.end s.runs s.seen.items) }
 {
-    let plan = SweepPlan {
-        runs: CommandRuns {
-            alloc,
-            board,
-            prepare,
-            command,
-        },
-        probe,
-        depth,
-    };
     let mut sweep = Sweep::new(alloc);
-    match sweep_command::<P>(&plan, &mut sweep) {
-        Ok(()) | Err(Halt::Full) => Ok(sweep),
-        Err(Halt::Stopped(stop)) => Err(stop),
-    }
+    let ended = cut_starts::<P>(alloc, board, &AfterCut { probe, depth }, &mut sweep);
+    ended_tally(sweep, ended)
 }
 
 /// Counts all runs, from the preparation on.
-fn sweep_command<P: TurnPlayer + Drop>(
-    plan: &SweepPlan<'_, P::Board>,
+fn sweep_prepared<P: TurnPlayer + Drop>(
+    runs: &TurnRuns<'_, '_, P::Board>,
+    after: &AfterCut<'_>,
     sweep: &mut Sweep,
 ) -> Result<(), Halt>
 where
     P::Board: Sweepable + Drop,
-    ensures { Sweeps (P.Board.facts plan.now.runs.board.now).words (IsGivenBy P.Board.facts plan.now)
-        (λ _. AreAllRuns P.Board.facts P.Board.torn (swept_by P.Board.facts plan.now))
-        (AreFirstRuns P.Board.facts P.Board.torn (swept_by P.Board.facts plan.now)) sweep.old sweep.new result }
+    ensures { Sweeps (P.Board.facts runs.now.board.now).words (IsGivenBy P.Board.facts runs.now after.now)
+        (λ _. AreAllRuns P.Board.facts P.Board.torn after.now.depth after.now.probe.now
+        (swept_by P.Board.facts runs.now))
+        (AreFirstRuns P.Board.facts P.Board.torn after.now.depth after.now.probe.now
+        (swept_by P.Board.facts runs.now)) sweep.old sweep.new result }
 {
-    let (_, prepared) = play_copy::<P>(plan.runs.alloc, plan.runs.board, plan.runs.prepare)?;
-    sweep_writes::<P>(plan, prepared, sweep)
-}
-
-/// Cuts the command at each of its writes, and continues from there. The first write begins with the memory of
-/// `prepared`.
-fn sweep_writes<P: TurnPlayer + Drop>(
-    plan: &SweepPlan<'_, P::Board>,
-    prepared: P::Board,
-    sweep: &mut Sweep,
-) -> Result<(), Halt>
-where
-    P::Board: Sweepable + Drop,
-    ensures { Sweeps (P.Board.facts plan.now.runs.board.now).words (IsGivenBy P.Board.facts plan.now)
-        (λ _. AreRunsFrom P.Board.facts P.Board.torn (swept_by P.Board.facts plan.now) (P.Board.facts prepared).words)
-        (AreFirstFrom P.Board.facts P.Board.torn (swept_by P.Board.facts plan.now) (P.Board.facts prepared).words)
-        sweep.old sweep.new result }
-{
-    let mut before = prepared;
-    for writes in 0..u32::MAX {
-        let memory = before.words();
-        let Some(made) = made_write::<P>(&plan.runs, writes + 1, memory)? else {
-            return Ok(());
-        };
-        sweep_write::<P>(plan, writes + 1, memory, &made, sweep)?;
-        before = made.after;
-    }
+    let (_, prepared) = play_copy::<P>(runs.alloc, runs.board, runs.prepare)?;
+    let _ = sweep_turn::<P>(runs, after, prepared.words(), sweep)?;
     Ok(())
 }
 
-/// Cuts the command at this write with each mask, and continues from there.
-fn sweep_write<P: TurnPlayer + Drop>(
-    plan: &SweepPlan<'_, P::Board>,
-    write: u32,
-    before: &[u32],
-    made: &MadeWrite<P::Board>,
-    sweep: &mut Sweep,
-) -> Result<(), Halt>
-where
-    P::Board: Sweepable + Drop,
-    requires write { 1 ≤ write }
-    requires words { made.now.words ≤ 16 }
-    requires inside { made.now.at + made.now.words ≤ length before.now }
-    ensures { Sweeps (P.Board.facts plan.now.runs.board.now).words (IsGivenBy P.Board.facts plan.now)
-        (λ _. InTurn (AreAllOfMask (swept_by P.Board.facts plan.now) write
-        (made_run P.Board.facts before.now made.now)) (mask_count_of made.now.words))
-        (BeginsInTurn (mask_count_of made.now.words)
-        (AreAllOfMask (swept_by P.Board.facts plan.now) write (made_run P.Board.facts before.now made.now))
-        (AreFirstOfMask (swept_by P.Board.facts plan.now) write (made_run P.Board.facts before.now made.now)))
-        sweep.old sweep.new result }
+/// Returns the tally of a sweep, with how it ended.
+fn ended_tally(sweep: Sweep, ended: Result<(), Halt>) -> Result<Sweep, AllocError>
+    ensures runs { IfOk result (λ s. s.runs ≡ sweep.runs) }
+    ensures seen { IfOk result (λ s. s.seen.items ≡ sweep.seen.items) }
+    ensures end { IfOk result (λ s. EndsBy ended s.end) }
 {
-    for i in 0..mask_count(made.words) {
-        let left = masked_cut::<P>(&plan.runs, write, before, made, i)?;
-        cut_starts::<P>(plan.runs.alloc, &left, plan.probe, plan.depth, sweep)?;
-    }
-    Ok(())
+    let end = match ended {
+        Ok(()) => SweepEnd::Whole,
+        Err(Halt::Full) => SweepEnd::Full,
+        Err(Halt::Differs) => SweepEnd::Differs,
+        Err(Halt::Memory) => return Err(AllocError),
+    };
+    let mut sweep = sweep;
+    sweep.end = end;
+    Ok(sweep)
 }

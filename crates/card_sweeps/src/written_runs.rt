@@ -1,5 +1,5 @@
 //! Compares the memory that a cut leaves with those before and after the device write.
-ghost use Rattle.std.specs.Prelude.{◌≡◌, ◌≤◌, ◌+◌, length, IsTrue};
+ghost use Rattle.std.specs.Prelude.{◌≡◌, ◌≢◌, ◌⊎◌, ◌≤◌, ◌<◌, ◌+◌, ◌↔◌, length, slice_index, false, IsTrue};
 ghost use Rattle.card_sweeps.specs.WrittenRuns.{IsFirstChange, IsMasked, IsNewWithin, WrittenRun};
 
 /// Returns the lowest address at which two memories differ.
@@ -19,7 +19,7 @@ pub fn first_change(left: &[u32], right: &[u32]) -> Option<usize>
 fn is_new_within(first: usize, end: usize, before: &[u32], after: &[u32], left: &[u32]) -> bool
     requires order { first ≤ end }
     requires inside { end ≤ length before.now }
-    ensures { IsTrue result → IsNewWithin first end before.now after.now left.now }
+    ensures { IsTrue result ↔ IsNewWithin first end before.now after.now left.now }
 {
     if left.len() != before.len() {
         return false;
@@ -40,7 +40,7 @@ fn is_new_within(first: usize, end: usize, before: &[u32], after: &[u32], left: 
 pub fn is_masked(at: usize, words: u8, i: u8, before: &[u32], after: &[u32], left: &[u32]) -> bool
     requires inside { at + words ≤ length before.now }
     requires single { i ≤ words + 1 }
-    ensures { IsTrue result → IsMasked (record { at = at; words = words; before = before.now; after = after.now }) i
+    ensures { IsTrue result ↔ IsMasked (record { at = at; words = words; before = before.now; after = after.now }) i
         left.now }
 {
     let (first, end) = match i {
@@ -59,6 +59,9 @@ pub fn is_write(at: usize, words: u8, before: &[u32], none: &[u32], all: &[u32])
         (record { at = at; words = words; before = before.now; after = all.now }) 0 none.now }
     ensures all { IsTrue result → IsMasked
         (record { at = at; words = words; before = before.now; after = all.now }) 1 all.now }
+    ensures other { result ≡ false → at + words ≤ length before.now
+        → (IsMasked (record { at = at; words = words; before = before.now; after = all.now }) 0 none.now → ⊥)
+        ⊎ (IsMasked (record { at = at; words = words; before = before.now; after = all.now }) 1 all.now → ⊥) }
 {
     at <= before.len()
         && usize::from(words) <= before.len() - at
@@ -66,9 +69,22 @@ pub fn is_write(at: usize, words: u8, before: &[u32], none: &[u32], all: &[u32])
         && is_masked(at, words, 1, before, all, all)
 }
 
+/// Returns true if two memories have the same word at an address, or both have none there.
+pub fn is_same_word(at: usize, left: &[u32], right: &[u32]) -> bool
+    ensures same { IsTrue result → slice_index left.now at ≡ slice_index right.now at }
+    ensures other { result ≡ false → at < length left.now → at < length right.now
+        → slice_index left.now at ≢ slice_index right.now at }
+{
+    if at < left.len().min(right.len()) {
+        left[at] == right[at]
+    } else {
+        left.len() == right.len()
+    }
+}
+
 /// Returns true if two memories are the same.
 pub fn is_same(left: &[u32], right: &[u32]) -> bool
-    ensures { IsTrue result → left.now ≡ right.now }
+    ensures { IsTrue result ↔ (left.now ≡ right.now) }
 {
     left == right
 }

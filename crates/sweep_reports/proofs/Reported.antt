@@ -4,9 +4,9 @@ use Rattle.std.proofs.Common.{refl, sym, ◌∙◌, ap, subst, arith, append-nil
 use Rattle.nvm_board.specs.Facts.{Facts}
 use Rattle.bench_turns.specs.declared.turn.Item.{Item}
 use Rattle.bench_turns.specs.declared.turn.Turn.{Turn}
-use Rattle.card_sweeps.specs.CommandCuts.{IsMade}
+use Rattle.card_sweeps.specs.declared.turn_cuts.MadeWrite.{MadeWrite}
 use Rattle.card_sweeps.specs.Masks.{mask_count_of, mask_of}
-use Rattle.card_sweeps.specs.Sweeps.{CutsCommand}
+use Rattle.card_sweeps.specs.TurnCuts.{IsMade, LeavesMasked}
 use Rattle.card_sweeps.specs.PartTexts.{IsOfPart}
 use Rattle.sweep_reports.specs.declared.device_writes.DeviceWrite.{DeviceWrite}
 use Rattle.sweep_reports.specs.DeviceWrites.{IsWriteKind, kinds_text, write_text}
@@ -15,20 +15,21 @@ use Rattle.sweep_reports.specs.Printing.{cut_head, last_item, look_text, looks_t
 use Rattle.sweep_reports.specs.Reporting.{AreResults, AreWrites, HasSections, IsCutOrNone, IsFound, IsWrite, Sweeping}
 use Rattle.sweep_reports.specs.Reporting.{LacksWrite, TextsInTurn, WritesInTurn}
 use Rattle.sweep_reports.specs.declared.device_writes.WriteKind.{WriteKind}
-use Rattle.card_sweeps.specs.WrittenRuns.{IsMasked, WrittenRun}
 use Rattle.sweep_reports.proofs.Put.{five-parts, puts-both, three-parts}
 
 -- the same results, whose lines begin with a head that is said otherwise
-pub results-under : (looks head other : List ℕ) (depth : ℕ) (probe : List Turn) (board : Facts) (text : List ℕ)
-    → head ≡ other → AreResults looks head depth probe board text → AreResults looks other depth probe board text
-results-under looks head other depth probe board text same results =
-    subst (λ (h : List ℕ). AreResults looks h depth probe board text) same results
+pub results-under : {B : Type 0} (facts : B → Facts) (torn : B → ℕ) (looks head other : List ℕ) (depth : ℕ)
+    (probe : List Turn) (board : Facts) (text : List ℕ) → head ≡ other
+    → AreResults facts torn looks head depth probe board text
+    → AreResults facts torn looks other depth probe board text
+results-under facts torn looks head other depth probe board text same results =
+    subst (λ (h : List ℕ). AreResults facts torn looks h depth probe board text) same results
 
 -- a cut that is none of the part
 pub none-put : {B : Type 0} {facts : B → Facts} {torn : B → ℕ} (sweeping : Sweeping facts torn) (write : ℕ)
-    (run : WrittenRun) (i : ℕ) (old : List ℕ) → (IsOfPart sweeping.part write i → ⊥)
-    → AddsText (IsCutOrNone sweeping write run i) old old
-none-put sweeping write run i old other = record {
+    (before : List ℕ) (made : MadeWrite B) (i : ℕ) (old : List ℕ) → (IsOfPart sweeping.part write i → ⊥)
+    → AddsText (IsCutOrNone sweeping write before made i) old old
+none-put sweeping write before made i old other = record {
   more = [];
   holds = record { own = λ is. absurd (other is); other = λ _. refl };
   all = sym (append-nil old);
@@ -36,22 +37,20 @@ none-put sweeping write run i old other = record {
 
 -- the cut with this mask
 pub cut-put : {B : Type 0} {facts : B → Facts} {torn : B → ℕ} (sweeping : Sweeping facts torn)
-    (write : ℕ) (run : WrittenRun) (i mask : ℕ) (left : Facts) (old new : List ℕ)
-    → mask ≡ mask_of run.words i → IsOfPart sweeping.part write i → IsMasked run i left.words
-    → CutsCommand write (mask_of run.words i) sweeping.board sweeping.prepare sweeping.command left
-    → AddsText (AreResults sweeping.looks (cut_head write i mask) sweeping.depth sweeping.probe left) old new
-    → AddsText (IsCutOrNone sweeping write run i) old new
-cut-put sweeping write run i mask left old new same own masked cut results = record {
+    (write : ℕ) (before : List ℕ) (made : MadeWrite B) (i mask : ℕ) (left : B) (old new : List ℕ)
+    → mask ≡ mask_of made.words i → IsOfPart sweeping.part write i
+    → LeavesMasked facts sweeping.swept write before made i left
+    → AddsText (AreResults facts torn sweeping.looks (cut_head write i mask) sweeping.depth sweeping.probe (facts left))
+    old new
+    → AddsText (IsCutOrNone sweeping write before made i) old new
+cut-put {B} {facts} {torn} sweeping write before made i mask left old new same own leaves results = record {
   more = results.more;
   holds = record {
     own = λ _. record {
       left = left;
-      cut = cut;
-      masked = masked;
-      results = subst
-          (λ (m : ℕ). AreResults sweeping.looks (cut_head write i m) sweeping.depth sweeping.probe left results.more)
-          same
-          results.holds;
+      leaves = leaves;
+      results = subst (λ (m : ℕ). AreResults facts torn sweeping.looks (cut_head write i m) sweeping.depth
+          sweeping.probe (facts left) results.more) same results.holds;
     };
     other = λ others. absurd (others own);
   };
@@ -59,34 +58,29 @@ cut-put sweeping write run i mask left old new same own masked cut results = rec
 }
 
 -- a device write, its kind, and its cuts
-pub write-put : {B : Type 0} {facts : B → Facts} {torn : B → ℕ} (sweeping : Sweeping facts torn) (write at words : ℕ)
-    (kind : WriteKind) (before after given first next old new : List ℕ)
-    → given ≡ before → first ≡ before → next ≡ after
-    → IsMade facts torn sweeping.board sweeping.prepare sweeping.command write
-    (record { at = at; words = words; before = given; after = after })
-    → IsWriteKind words first next kind
-    → AddsText (TextsInTurn
-    (IsCutOrNone sweeping write (record { at = at; words = words; before = given; after = after }))
-    (mask_count_of words)) old new
-    → AddsText (IsWrite sweeping write before after (record { words = words; kind = kind })) old new
-write-put {B} {facts} {torn} sweeping write at words kind before after given first next old new same one two made
-    is_kind texts =
-    let kind_is : IsWriteKind words before after kind =
-    subst (λ (m : List ℕ). IsWriteKind words m after kind) one
-    (subst (λ (m : List ℕ). IsWriteKind words first m kind) two is_kind) in
+pub write-put : {B : Type 0} {facts : B → Facts} {torn : B → ℕ} (sweeping : Sweeping facts torn) (write : ℕ)
+    (made : MadeWrite B) (kind : WriteKind) (before given first next old new : List ℕ)
+    → given ≡ before → first ≡ before → next ≡ (facts made.after).words
+    → IsMade facts torn sweeping.swept write given made
+    → IsWriteKind made.words first next kind
+    → AddsText (TextsInTurn (IsCutOrNone sweeping write given made) (mask_count_of made.words)) old new
+    → AddsText (IsWrite sweeping write before (facts made.after).words (record { words = made.words; kind = kind }))
+    old new
+write-put {B} {facts} {torn} sweeping write made kind before given first next old new same one two made_so is_kind
+    texts =
+    let after = (facts made.after).words in
+    let kind_is : IsWriteKind made.words before after kind =
+    subst (λ (m : List ℕ). IsWriteKind made.words m after kind) one
+    (subst (λ (m : List ℕ). IsWriteKind made.words first m kind) two is_kind) in
     record {
       more = texts.more;
       holds = record {
-        at = at;
-        made = subst
-            (λ (m : List ℕ). IsMade facts torn sweeping.board sweeping.prepare sweeping.command write
-            (record { at = at; words = words; before = m; after = after }))
-            same made;
-        each = subst
-            (λ (m : List ℕ). TextsInTurn
-            (IsCutOrNone sweeping write (record { at = at; words = words; before = m; after = after }))
-            (mask_count_of words) texts.more)
-            same texts.holds;
+        made = made;
+        made_so = subst (λ (m : List ℕ). IsMade facts torn sweeping.swept write m made) same made_so;
+        words_are = refl;
+        after_is = refl;
+        each = subst (λ (m : List ℕ). TextsInTurn (IsCutOrNone sweeping write m made) (mask_count_of made.words)
+            texts.more) same texts.holds;
         kind_is = kind_is;
       };
       all = texts.all;
@@ -134,7 +128,7 @@ writes-end sweeping n first now last all old mid new some counted done same = re
 pub sections-put : {B : Type 0} {facts : B → Facts} {torn : B → ℕ} (sweeping : Sweeping facts torn)
     (whole : List Turn) (prepared ended : Facts) (all shown : List DeviceWrite)
     (last none cuts given old one two new : List ℕ)
-    → AddsText (IsFound sweeping (codes "before") sweeping.prepare prepared) old one
+    → AddsText (IsFound sweeping (codes "before") sweeping.swept.prepare prepared) old one
     → AddsText (IsFound sweeping (codes "after") whole ended) one two
     → last ≡ ended.words → none ≡ [] → shown ≡ all → given ≡ cuts
     → AddsText (AreWrites sweeping prepared.words last all) none cuts

@@ -1,6 +1,7 @@
 -- What the parts of the program append to the report. No public clause names these.
 use Rattle.std.specs.Prelude.{◌≡◌, ℕ, List, ◌++◌, length}
 use Rattle.nvm_board.specs.Facts.{Facts}
+use Rattle.card_sweeps.specs.TurnCuts.{swept_by}
 use Rattle.sweep_reports.specs.declared.plan.ReportPlan.{ReportPlan}
 use Rattle.sweep_reports.specs.Reporting.{AreKindsOrNone, Sweeping}
 use Rattle.sweep_reports.specs.Printing.{total_text}
@@ -9,9 +10,7 @@ use Rattle.sweep_reports.specs.declared.device_writes.DeviceWrite.{DeviceWrite}
 -- the sweep of a plan
 abbrev pub sweeping_of : {B : Type 0} (facts : B → Facts) (torn : B → ℕ) → ReportPlan B → Sweeping facts torn
 sweeping_of facts torn plan = record {
-  board = facts plan.runs.board.now;
-  prepare = plan.runs.prepare.now;
-  command = plan.runs.command.now;
+  swept = swept_by facts plan.runs;
   probe = plan.probe.now;
   looks = plan.looks.now;
   depth = plan.depth;

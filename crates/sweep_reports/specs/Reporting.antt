@@ -1,16 +1,19 @@
 -- The report of a sweep, and its parts.
-use Rattle.std.specs.Prelude.{◌≡◌, ◌⊎◌, ◌≤◌, ◌+◌, ◌-◌, ◌^◌, ℕ, zero, suc, List, [], ◌∷◌}
+use Rattle.std.specs.Prelude.{◌≡◌, ◌≢◌, ◌⊎◌, ◌≤◌, ◌+◌, ◌-◌, ◌^◌, ℕ, zero, suc, List, [], ◌∷◌}
 use Rattle.std.specs.Prelude.{◌++◌, All, codes, length, Option}
 use Rattle.std.specs.Io.KnownBytes.{Appends}
 use Rattle.nvm_board.specs.Facts.{Facts}
 use Rattle.bench_turns.specs.declared.turn.Turn.{Turn}
 use Rattle.bench_turns.specs.declared.turn.Item.{Item}
 use Rattle.card_sweeps.specs.declared.tally.Seen.{Seen}
-use Rattle.card_sweeps.specs.CommandCuts.{IsMade}
+use Rattle.card_sweeps.specs.declared.tally.SweepEnd.{SweepEnd}
+use Rattle.card_sweeps.specs.declared.tally.SweepEnd.TheVariants.{Differs}
+use Rattle.card_sweeps.specs.declared.turn_cuts.MadeWrite.{MadeWrite}
 use Rattle.card_sweeps.specs.Masks.{mask_of, mask_count_of}
-use Rattle.card_sweeps.specs.Sweeps.{CutsCommand, EndsBehindStarts, PlaysOn}
-use Rattle.card_sweeps.specs.SweptRuns.{AreAllBehind, AreFirstBehind, IsUnmade}
-use Rattle.card_sweeps.specs.Tallies.{CountsToFull, IsTally, findings}
+use Rattle.card_sweeps.specs.Sweeps.{EndsBehindStarts, IsUnmade, PlaysOn, SweptTurn}
+use Rattle.card_sweeps.specs.SweptRuns.{AreAllBehind, AreFirstBehind}
+use Rattle.card_sweeps.specs.Tallies.{CountsToEnd, IsTally, findings}
+use Rattle.card_sweeps.specs.TurnCuts.{IsMade, LeavesMasked}
 use Rattle.sweep_reports.specs.declared.device_writes.DeviceWrite.{DeviceWrite}
 use Rattle.card_sweeps.specs.declared.parts.SweepPart.{SweepPart}
 use Rattle.card_sweeps.specs.declared.script.SweepScript.{SweepScript}
@@ -18,47 +21,45 @@ use Rattle.card_sweeps.specs.declared.steps.Step.TheVariants.{Block}
 use Rattle.card_sweeps.specs.Asking.{IsRead, asked_of}
 use Rattle.card_sweeps.specs.PartTexts.{IsFirstPart, IsOfPart}
 use Rattle.sweep_reports.specs.DeviceWrites.{IsWriteKind, kinds_text}
-use Rattle.card_sweeps.specs.WrittenRuns.{IsMasked, WrittenRun}
 use Rattle.sweep_reports.specs.Printing.{cut_head, results_text, stage_head, total_text}
-use Rattle.card_sweeps.specs.Turning.{AreTurns}
+use Rattle.card_sweeps.specs.Turning.{AreTurns, IsTurn}
 
--- What a sweep tries: on copies of a board, a command after a preparation, power-ons that are cut, and a probe. It
--- tries one part of the cuts. `facts` and `torn` are the facts of such a board, and the number of words of its last
+-- What a sweep tries: a command after a preparation, power-ons that are cut, and a probe. It tries one part of the cuts. `facts` and `torn` are the facts of such a board, and the number of words of its last
 -- torn write.
 pub record Sweeping {B : Type 0} (facts : B → Facts) (torn : B → ℕ) : Type 0 where
-  pub board : Facts
-  pub prepare : List Turn
-  pub command : List ℕ
+  pub swept : SweptTurn
   pub probe : List Turn
   pub looks : List ℕ
   pub depth : ℕ
   pub part : SweepPart
 
 -- The results of all runs after a cut that left this board, each with the number of its runs. At the greatest count
--- they are those of the first runs. Each line begins with the head, and has the answer of each line of the probe, by
--- its number of turns.
-pub record AreResults (looks head : List ℕ) (depth : ℕ) (probe : List Turn) (board : Facts) (text : List ℕ) : Type 0
-  where
-    pub runs : ℕ
-    pub seen : List Seen
-    pub tally : IsTally runs seen
-    pub given : All (EndsBehindStarts depth board probe) (findings seen)
-    pub all : CountsToFull (AreAllBehind depth probe board) (AreFirstBehind depth probe board) runs seen
-    pub text_is : text ≡ results_text looks head seen
+-- they are those of the first runs. No runs differ. Each line begins with the head, and has the answer of each line of
+-- the probe, by its number of turns.
+pub record AreResults {B : Type 0} (facts : B → Facts) (torn : B → ℕ) (looks head : List ℕ) (depth : ℕ)
+    (probe : List Turn) (board : Facts) (text : List ℕ) : Type 0 where
+  pub end : SweepEnd
+  pub fits : end ≢ Differs
+  pub runs : ℕ
+  pub seen : List Seen
+  pub tally : IsTally runs seen
+  pub given : All (EndsBehindStarts depth board probe) (findings seen)
+  pub all : CountsToEnd (AreAllBehind facts torn depth probe board)
+      (λ e. AreFirstBehind facts torn e depth probe board) end runs seen
+  pub text_is : text ≡ results_text looks head seen
 
 -- A cut at this device write, with mask number i, counted from 0. It leaves the words of that mask new.
 pub record IsCutText {B : Type 0} {facts : B → Facts} {torn : B → ℕ} (sweeping : Sweeping facts torn)
-    (write : ℕ) (run : WrittenRun) (i : ℕ) (text : List ℕ) : Type 0 where
-  pub left : Facts
-  pub cut : CutsCommand write (mask_of run.words i) sweeping.board sweeping.prepare sweeping.command left
-  pub masked : IsMasked run i left.words
-  pub results : AreResults sweeping.looks (cut_head write i (mask_of run.words i)) sweeping.depth sweeping.probe left
-      text
+    (write : ℕ) (before : List ℕ) (made : MadeWrite B) (i : ℕ) (text : List ℕ) : Type 0 where
+  pub left : B
+  pub leaves : LeavesMasked facts sweeping.swept write before made i left
+  pub results : AreResults facts torn sweeping.looks (cut_head write i (mask_of made.words i)) sweeping.depth
+      sweeping.probe (facts left) text
 
 -- A cut is printed if it is of the part.
 pub record IsCutOrNone {B : Type 0} {facts : B → Facts} {torn : B → ℕ} (sweeping : Sweeping facts torn)
-    (write : ℕ) (run : WrittenRun) (i : ℕ) (text : List ℕ) : Type 0 where
-  pub own : IsOfPart sweeping.part write i → IsCutText sweeping write run i text
+    (write : ℕ) (before : List ℕ) (made : MadeWrite B) (i : ℕ) (text : List ℕ) : Type 0 where
+  pub own : IsOfPart sweeping.part write i → IsCutText sweeping write before made i text
   pub other : (IsOfPart sweeping.part write i → ⊥) → text ≡ []
 
 -- the concatenation of `n` texts, in order
@@ -69,17 +70,16 @@ TextsInTurn IsText (suc n) text =
 
 -- The command doesn't make this device write, so no cut at it happens (IsUnmade).
 abbrev pub LacksWrite : {B : Type 0} {facts : B → Facts} {torn : B → ℕ} → Sweeping facts torn → ℕ → Type 0
-LacksWrite sweeping write = IsUnmade write sweeping.board sweeping.prepare sweeping.command
+LacksWrite sweeping write = IsUnmade write sweeping.swept
 
 -- A device write between these memories: its kind, and each cut of it, with each mask for its number of words.
 pub record IsWrite {B : Type 0} {facts : B → Facts} {torn : B → ℕ} (sweeping : Sweeping facts torn) (write : ℕ)
     (before after : List ℕ) (it : DeviceWrite) (text : List ℕ) : Type 0 where
-  pub at : ℕ
-  pub made : IsMade facts torn sweeping.board sweeping.prepare sweeping.command write
-      (record { at = at; words = it.words; before = before; after = after })
-  pub each : TextsInTurn
-      (IsCutOrNone sweeping write (record { at = at; words = it.words; before = before; after = after }))
-      (mask_count_of it.words) text
+  pub made : MadeWrite B
+  pub made_so : IsMade facts torn sweeping.swept write before made
+  pub words_are : it.words ≡ made.words
+  pub after_is : after ≡ (facts made.after).words
+  pub each : TextsInTurn (IsCutOrNone sweeping write before made) (mask_count_of made.words) text
   pub kind_is : IsWriteKind it.words before after it.kind
 
 -- The first `n` device writes, in order. The first one begins with the memory `first`. Each other one begins with the
@@ -111,8 +111,8 @@ pub record AreKindsOrNone {B : Type 0} {facts : B → Facts} {torn : B → ℕ} 
 pub record IsFound {B : Type 0} {facts : B → Facts} {torn : B → ℕ} (sweeping : Sweeping facts torn) (stage : List ℕ)
     (turns : List Turn) (left : Facts) (text : List ℕ) : Type 0 where
   pub trace : List Item
-  pub played : PlaysOn sweeping.board turns trace left
-  pub results : AreResults sweeping.looks (stage_head stage trace) 0 sweeping.probe left text
+  pub played : PlaysOn sweeping.swept.board turns trace left
+  pub results : AreResults facts torn sweeping.looks (stage_head stage trace) 0 sweeping.probe left text
 
 -- What is found without the command, what is found after it, the kinds of its writes, each cut of it, and the number of
 -- writes. The first write begins with the memory of the prepared board. The last one leaves the memory that the whole
@@ -126,7 +126,7 @@ pub record HasSections {B : Type 0} {facts : B → Facts} {torn : B → ℕ} (sw
   pub after : List ℕ
   pub kinds : List ℕ
   pub cuts : List ℕ
-  pub is_before : IsFound sweeping (codes "before") sweeping.prepare prepared before
+  pub is_before : IsFound sweeping (codes "before") sweeping.swept.prepare prepared before
   pub is_after : IsFound sweeping (codes "after") whole ended after
   pub are_kinds : AreKindsOrNone sweeping all kinds
   pub are_cuts : AreWrites sweeping prepared.words ended.words all cuts
@@ -136,9 +136,9 @@ pub record HasSections {B : Type 0} {facts : B → Facts} {torn : B → ℕ} (sw
 pub record IsReport {B : Type 0} (facts : B → Facts) (torn : B → ℕ) (board : Facts) (script : SweepScript)
     (part : SweepPart) (text : List ℕ) : Type 0 where
   pub sweeping : Sweeping facts torn
-  pub board_is : sweeping.board ≡ board
-  pub prepare : AreTurns script.prepare.items sweeping.prepare
-  pub command : sweeping.command ≡ script.command
+  pub board_is : sweeping.swept.board ≡ board
+  pub prepare : AreTurns script.prepare.items sweeping.swept.prepare
+  pub command : IsTurn (Block script.command) sweeping.swept.turn
   pub probe : AreTurns script.probe.items sweeping.probe
   pub looks : sweeping.looks ≡ script.looks.items
   pub depth : sweeping.depth ≡ script.depth

@@ -1,8 +1,8 @@
 //! The plan of a sweep, and the parts of its report.
 ghost use Rattle.std.specs.Prelude.{◌≡◌, ◌≤◌, ◌<◌, ◌+◌, length, OnOk, IfOk, IfSome, IfNone, string_bytes};
 ghost use Rattle.command_base.specs.Finding.{HasCard};
-ghost use Rattle.card_sweeps.specs.CommandCuts.{IsMade, made_run};
 ghost use Rattle.card_sweeps.specs.Masks.{mask_count_of};
+ghost use Rattle.card_sweeps.specs.TurnCuts.{IsMade, swept_by};
 ghost use Rattle.sweep_reports.specs.Printing.{cut_head};
 ghost use Rattle.sweep_reports.specs.ReportParts.{AddsText, sweeping_of};
 ghost use Rattle.sweep_reports.specs.Reporting.{AreKindsOrNone, AreResults, AreWrites, IsCutOrNone, IsFound};
@@ -12,7 +12,7 @@ use crate::device_writes::{DeviceWrite, WriteKind, push_kinds};
 use crate::lines::{cut_head, push_results, stage_head};
 use bench_turns::{Turn, TurnPlayer};
 use card_sweeps::{
-    CommandRuns, MadeWrite, SweepPart, SweepStop, Sweepable, is_same, made_write, mask_at,
+    MadeWrite, SweepEnd, SweepPart, SweepStop, Sweepable, TurnRuns, is_same, made_write, mask_at,
     mask_count, masked_cut, play_copy, sweep_behind,
 };
 use std::alloc::{AllocError, Global};
@@ -20,7 +20,7 @@ use std::alloc::{AllocError, Global};
 /// The plan of a sweep. Each run uses a copy of the board.
 #[derive(Drop)]
 pub struct ReportPlan<'a, B: Sweepable> {
-    pub runs: CommandRuns<'a, B>,
+    pub runs: TurnRuns<'a, 'a, B>,
     pub probe: &'a [Turn<'a>],
     pub looks: &'a [usize],
     pub depth: u8,
@@ -38,10 +38,13 @@ fn push_behind<P: TurnPlayer + Drop>(
 where
     P::Board: Sweepable + Drop,
     ensures { OnOk result (HasCard (P.Board.facts left.now).words
-        → AddsText (AreResults plan.now.looks.now head.now depth plan.now.probe.now (P.Board.facts left.now))
+        → AddsText (AreResults P.Board.facts P.Board.torn plan.now.looks.now head.now depth plan.now.probe.now (P.Board.facts left.now))
         (string_bytes text.old) (string_bytes text.new)) }
 {
     let found = sweep_behind::<P>(plan.runs.alloc, left, plan.probe, depth)?;
+    if matches!(found.end, SweepEnd::Differs) {
+        return Err(SweepStop::Differs);
+    }
     push_results(plan.runs.alloc, text, plan.looks, head, &found.seen)?;
     Ok(())
 }
@@ -80,7 +83,7 @@ fn push_cut<P: TurnPlayer + Drop>(
 where
     P::Board: Sweepable + Drop,
     ensures { OnOk result (HasCard (P.Board.facts left.now).words
-        → AddsText (AreResults plan.now.looks.now (cut_head write i mask) plan.now.depth plan.now.probe.now
+        → AddsText (AreResults P.Board.facts P.Board.torn plan.now.looks.now (cut_head write i mask) plan.now.depth plan.now.probe.now
         (P.Board.facts left.now))
         (string_bytes text.old) (string_bytes text.new)) }
 {
@@ -103,16 +106,21 @@ where
     requires words { made.now.words ≤ 16 }
     requires inside { made.now.at + made.now.words ≤ length before.now }
     requires place { i < mask_count_of made.now.words }
+    requires made { HasCard (P.Board.facts plan.now.runs.board.now).words
+        → IsMade P.Board.facts P.Board.torn (swept_by P.Board.facts plan.now.runs) write before.now made.now }
     ensures { OnOk result (HasCard (P.Board.facts plan.now.runs.board.now).words
-        → AddsText (IsCutOrNone (sweeping_of P.Board.facts P.Board.torn plan.now) write
-        (made_run P.Board.facts before.now made.now) i)
+        → AddsText (IsCutOrNone (sweeping_of P.Board.facts P.Board.torn plan.now) write before.now made.now i)
         (string_bytes text.old) (string_bytes text.new)) }
 {
     if !plan.part.has(write, i) {
         return Ok(());
     }
+    let mask = mask_at(made.words, i);
+    if let Some(left) = made.known_cut(i) {
+        return push_cut::<P>(plan, write, i, mask, left, text);
+    }
     let left = masked_cut::<P>(&plan.runs, write, before, made, i)?;
-    push_cut::<P>(plan, write, i, mask_at(made.words, i), &left, text)
+    push_cut::<P>(plan, write, i, mask, &left, text)
 }
 
 /// Appends the cuts of a device write that are of the part, and returns the write.
@@ -127,11 +135,10 @@ where
     P::Board: Sweepable + Drop,
     requires { 1 ≤ write }
     ensures made { IfOk result (λ made. IfSome made (λ it. HasCard (P.Board.facts plan.now.runs.board.now).words
-        → IsMade P.Board.facts P.Board.torn (P.Board.facts plan.now.runs.board.now) plan.now.runs.prepare.now
-        plan.now.runs.command.now write (made_run P.Board.facts before.now it))) }
+        → IsMade P.Board.facts P.Board.torn (swept_by P.Board.facts plan.now.runs) write before.now it)) }
     ensures text { IfOk result (λ made. IfSome made (λ it. HasCard (P.Board.facts plan.now.runs.board.now).words
-        → AddsText (TextsInTurn (IsCutOrNone (sweeping_of P.Board.facts P.Board.torn plan.now) write
-        (made_run P.Board.facts before.now it)) (mask_count_of it.words))
+        → AddsText (TextsInTurn (IsCutOrNone (sweeping_of P.Board.facts P.Board.torn plan.now) write before.now it)
+        (mask_count_of it.words))
         (string_bytes text.old) (string_bytes text.new))) }
     ensures unmade { IfOk result (λ made. IfNone made (HasCard (P.Board.facts plan.now.runs.board.now).words
         → LacksWrite (sweeping_of P.Board.facts P.Board.torn plan.now) write)) }

@@ -12,8 +12,7 @@ use crate::plan::{ReportPlan, push_first_part, push_stage, push_writes};
 use bench_lines::write_line;
 use bench_turns::{Turn, TurnPlayer};
 use card_sweeps::{
-    CommandRuns, Step, SweepFault, SweepPart, SweepScript, SweepStop, Sweepable, read_script,
-    turns_of,
+    Step, SweepFault, SweepPart, SweepScript, SweepStop, Sweepable, TurnRuns, read_script, turns_of,
 };
 use std::alloc::{AllocError, Global};
 use std::io::{BufRead, Write};
@@ -108,11 +107,11 @@ where
 {
     let turns = script_turns(alloc, script)?;
     let plan = ReportPlan {
-        runs: CommandRuns {
+        runs: TurnRuns {
             alloc,
             board,
             prepare: &turns.prepare,
-            command: script.command.as_slice(),
+            turn: Turn::Block(script.command.as_slice()),
         },
         probe: &turns.probe,
         looks: &script.looks,

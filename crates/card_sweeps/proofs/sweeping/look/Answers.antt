@@ -3,7 +3,7 @@ use Rattle.card_sweeps.specs.Sweeps.{EndsIn, off_with}
 use Rattle.card_sweeps.proofs.TallyLemmas.{adds-none, adds-weaker}
 use Rattle.card_sweeps.proofs.SweepLemmas.{ends-in}
 use Rattle.card_sweeps.proofs.CompleteSweeps.{counts-one}
-use Rattle.card_sweeps.proofs.FirstRuns.{first-none}
+use Rattle.card_sweeps.proofs.FirstRuns.{full-differs, full-none}
 use Rattle.card_sweeps.proofs.sweeping.look.Goals as goal
 
 pub returns : goal.returns
@@ -21,7 +21,7 @@ returns g c = record {
       (c.new-bench.ensures ∙ ap off_with c.in_ok-copy.ensures) c.turn_well.ensures c.free_space_of-free.ensures
       c.in_ok-trace.ensures card in
       counts-one _ _ _ _ _ end c.in_ok-count.ensures.counts;
-  full = search rules;
+  early = search rules;
 }
 
 pub returns-in_err-count : goal.returns-in_err-count
@@ -33,12 +33,15 @@ returns-in_err-count g c = record {
       (g.met.P.Board.Faultless.faultless c.args.board.now).due (c.new-bench.ensures ∙ ap off_with c.in_ok-copy.ensures)
       c.turn_well.ensures c.free_space_of-free.ensures c.in_ok-trace.ensures card)) c.count.ensures.adds;
   complete = search rules;
-  full = search rules;
+  early = search rules;
 }
 
 pub returns-then-is_full : goal.returns-then-is_full
 returns-then-is_full g c = record {
   given = λ card. adds-none _ _;
   complete = search rules;
-  full = λ _. (c.is_full.ensures.full.0 c.if-is_full.true, λ card. first-none _);
+  early = record {
+    full = λ _. (c.is_full.ensures.full.0 c.if-is_full.true, λ card. full-none _);
+    differs = λ is. absurd (full-differs is);
+  };
 }

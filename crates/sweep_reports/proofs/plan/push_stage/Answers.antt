@@ -12,5 +12,5 @@ returns g c = λ card.
     puts-weaker _ _ _ _ (λ text results. record {
       trace = _;
       played = played;
-      results = results-under _ _ _ _ _ _ text head_is results;
+      results = results-under _ _ _ _ _ _ _ _ text head_is results;
     }) (c.in_ok-push_behind.ensures played.has_card)

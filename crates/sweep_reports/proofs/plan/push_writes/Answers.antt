@@ -13,7 +13,7 @@ pub loop-writes-preserved : goal.loop-writes-preserved
 loop-writes-preserved g c = record {
   counted = grind (arith, common_steps, c.in_ok-push.ensures.items, c.loop-writes.invariant.counted);
   so_far = λ card. writes-next _ _ _ _ _ _ _ _ _ _ _ (c.loop-writes.invariant.so_far card)
-      (write-put _ _ _ _ _ _ _ _ _ _ _ _ c.words-memory.ensures c.words-memory.ensures c.words.ensures
+      (write-put _ _ _ _ _ _ _ _ _ _ c.words-memory.ensures c.words-memory.ensures c.words.ensures
       ((rw c.in-Some.is at c.in_ok-made.ensures.made) card) c.of-kind.ensures
       ((rw c.in-Some.is at c.in_ok-made.ensures.text) card))
       c.in_ok-push.ensures.items;
@@ -23,8 +23,8 @@ pub returns-then-is_same : goal.returns-then-is_same
 returns-then-is_same g c = λ card. writes-end _ _ _ _ _ _ _ _ _ (c.loop-writes.invariant.so_far card)
     c.loop-writes.invariant.counted
     (inl (
-      (rw c.in_default.is at c.in_ok-made.ensures.unmade) card,
-      sym c.words-memory.ensures ∙ c.is_same.ensures c.if-is_same.true,
+      ((rw c.in_default.is at c.in_ok-made.ensures.unmade) card),
+      sym c.words-memory.ensures ∙ c.is_same.ensures.0 c.if-is_same.true,
     ))
     (rw c.in_default.is at c.in_ok-made.ensures.same)
 
