@@ -36,7 +36,8 @@ module _ {T : Type 0} (words : List ℕ) (Is : Finding → Type 0) (Are : List F
       (subst (λ (l : List Seen). CountsRuns (First Differs) l new.seen.items) none (swept.early.differs refl card))
 
   -- the tally that is returned
-  pub counts-ended : {E : Type 0} (ended : Result T Halt) (r : Result Sweep E) → Sweeps words Is (λ _. Are) First old new ended
+  pub counts-ended : {E : Type 0} (ended : Result T Halt) (r : Result Sweep E)
+      → Sweeps words Is (λ _. Are) First old new ended
       → IfOk r (λ s. s.runs ≡ new.runs) → IfOk r (λ s. s.seen.items ≡ new.seen.items) → IfOk r (λ s. EndsBy ended s.end)
       → IfOk r (λ s. HasCard words → CountsToEnd Are First s.end s.runs s.seen.items)
   unfolding to-end
@@ -46,7 +47,8 @@ module _ {T : Type 0} (words : List ℕ) (Is : Finding → Type 0) (Are : List F
   counts-ended ended (Err e) swept runs seen is = tt
 
   -- its findings
-  pub given-ended : {E : Type 0} (ended : Result T Halt) (r : Result Sweep E) → Sweeps words Is (λ _. Are) First old new ended
+  pub given-ended : {E : Type 0} (ended : Result T Halt) (r : Result Sweep E)
+      → Sweeps words Is (λ _. Are) First old new ended
       → IfOk r (λ s. s.seen.items ≡ new.seen.items) → IfOk r (λ s. HasCard words → All Is (findings s.seen.items))
   given-ended ended (Ok s) swept seen = λ card.
       subst (λ (l : List Seen). All Is (findings l)) (sym seen)

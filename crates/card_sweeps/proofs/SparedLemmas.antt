@@ -110,11 +110,13 @@ spared-start number mask board s left =
     let a = bench_facts s.armed in
     let z = bench_facts s.last in
     let from = runs-none (off_with board) s.trace s.prepared s.before in
-    let is = armed-is number mask (off_with board) s.armed (subst (λ (b : BenchState). IsArmed number mask b s.armed) from s.arm) in
+    let armed : IsArmed number mask (off_with board) s.armed =
+    subst (λ (b : BenchState). IsArmed number mask b s.armed) from s.arm in
+    let is = armed-is number mask (off_with board) s.armed armed in
     let pending : a.pending ≡ Some (record { whole_writes = number - 1; mask = mask }) =
     ap (λ (f : Facts). f.pending) is in
     let due : a.due ≡ 1 = s.good.due ∙ ap due_of pending in
-    let far : HasLeft TURN_STEPS a = left-of TURN_STEPS number mask (off_with board) s.armed (subst (λ (b : BenchState). IsArmed number mask b s.armed) from s.arm) (record {
+    let far : HasLeft TURN_STEPS a = left-of TURN_STEPS number mask (off_with board) s.armed armed (record {
       faults = left.faults;
       cuts = left.cuts;
       writes = left.writes;
@@ -174,10 +176,12 @@ start-still mask board s left =
     let z = bench_facts s.last in
     let arm : Arm = record { whole_writes = 0; mask = mask } in
     let from = runs-none (off_with board) s.trace s.prepared s.before in
-    let is = armed-is 1 mask (off_with board) s.armed (subst (λ (b : BenchState). IsArmed 1 mask b s.armed) from s.arm) in
+    let armed : IsArmed 1 mask (off_with board) s.armed =
+    subst (λ (b : BenchState). IsArmed 1 mask b s.armed) from s.arm in
+    let is = armed-is 1 mask (off_with board) s.armed armed in
     let pending : a.pending ≡ Some arm = ap (λ (f : Facts). f.pending) is in
     let due : a.due ≡ 1 = s.good.due ∙ ap due_of pending in
-    let far : HasLeft TURN_STEPS a = left-of TURN_STEPS 1 mask (off_with board) s.armed (subst (λ (b : BenchState). IsArmed 1 mask b s.armed) from s.arm) (record {
+    let far : HasLeft TURN_STEPS a = left-of TURN_STEPS 1 mask (off_with board) s.armed armed (record {
       faults = left.faults;
       cuts = left.cuts;
       writes = left.writes;

@@ -61,4 +61,5 @@ stage-shown board prepare command probe depth given s =
     let same : bench_card s.rest.end.started ≡ bench_card s.cut.last =
     card-on (off_with s.rest.left) s.rest.end.started s.rest.end.item s.rest.end.start.one
     ∙ card-starts s.rest.starts s.left s.rest.left s.rest.cut ∙ ap (λ (f : Facts). found f.words) s.cut.left_is in
-    subst (λ card. IsStageOf s.cut.armed command.now card) (sym same) (stage-cut s.cut.armed s.cut.last command s.cut.cut)
+    subst (λ card. IsStageOf s.cut.armed command.now card) (sym same)
+    (stage-cut s.cut.armed s.cut.last command s.cut.cut)

@@ -24,8 +24,8 @@ use Rattle.sweep_reports.specs.DeviceWrites.{IsWriteKind, kinds_text}
 use Rattle.sweep_reports.specs.Printing.{cut_head, results_text, stage_head, total_text}
 use Rattle.card_sweeps.specs.Turning.{AreTurns, IsTurn}
 
--- What a sweep tries: a command after a preparation, power-ons that are cut, and a probe. It tries one part of the cuts. `facts` and `torn` are the facts of such a board, and the number of words of its last
--- torn write.
+-- What a sweep tries: a command after a preparation, power-ons that are cut, and a probe. It tries one part of the
+-- cuts. `facts` and `torn` are the facts of such a board, and the number of words of its last torn write.
 pub record Sweeping {B : Type 0} (facts : B → Facts) (torn : B → ℕ) : Type 0 where
   pub swept : SweptTurn
   pub probe : List Turn

@@ -38,8 +38,8 @@ fn push_behind<P: TurnPlayer + Drop>(
 where
     P::Board: Sweepable + Drop,
     ensures { OnOk result (HasCard (P.Board.facts left.now).words
-        → AddsText (AreResults P.Board.facts P.Board.torn plan.now.looks.now head.now depth plan.now.probe.now (P.Board.facts left.now))
-        (string_bytes text.old) (string_bytes text.new)) }
+        → AddsText (AreResults P.Board.facts P.Board.torn plan.now.looks.now head.now depth plan.now.probe.now
+        (P.Board.facts left.now)) (string_bytes text.old) (string_bytes text.new)) }
 {
     let found = sweep_behind::<P>(plan.runs.alloc, left, plan.probe, depth)?;
     if matches!(found.end, SweepEnd::Differs) {
@@ -83,9 +83,8 @@ fn push_cut<P: TurnPlayer + Drop>(
 where
     P::Board: Sweepable + Drop,
     ensures { OnOk result (HasCard (P.Board.facts left.now).words
-        → AddsText (AreResults P.Board.facts P.Board.torn plan.now.looks.now (cut_head write i mask) plan.now.depth plan.now.probe.now
-        (P.Board.facts left.now))
-        (string_bytes text.old) (string_bytes text.new)) }
+        → AddsText (AreResults P.Board.facts P.Board.torn plan.now.looks.now (cut_head write i mask) plan.now.depth
+        plan.now.probe.now (P.Board.facts left.now)) (string_bytes text.old) (string_bytes text.new)) }
 {
     let head = cut_head(plan.runs.alloc, write, i, mask)?;
     push_behind::<P>(plan, left, plan.depth, &head, text)

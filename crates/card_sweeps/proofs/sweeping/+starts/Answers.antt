@@ -241,8 +241,8 @@ sweep_mask-returns-in_err-left g t c =
       complete = search rules;
       early = differs-passed c.from_residual.result _ _ _ _ _ _ c.from_residual.ensures.1
           c.in_err-left.ensures.differs
-          (λ card misses. other-mask facts Differs (FirstBehind facts torn Differs after) (swept_by facts c.args.runs.now)
-          c.args.write c.args.before.now c.args.made.now c.args.i _ refl misses);
+          (λ card misses. other-mask facts Differs (FirstBehind facts torn Differs after)
+          (swept_by facts c.args.runs.now) c.args.write c.args.before.now c.args.made.now c.args.i _ refl misses);
     }
 
 pub sweep_mask-returns-in-Some : goal.sweep_mask-returns-in-Some
@@ -253,7 +253,8 @@ sweep_mask-returns-in-Some g t c =
     let swept = swept_by facts c.args.runs.now in
     let left = c.in-Some.left.now in
     let leaves : HasCard (facts c.args.runs.now.board.now).words
-    → LeavesMasked facts swept c.args.write c.args.before.now c.args.made.now c.args.i left = λ card. known-leaves facts torn swept c.args.write c.args.before.now c.args.made.now c.args.i left
+    → LeavesMasked facts swept c.args.write c.args.before.now c.args.made.now c.args.i left =
+    λ card. known-leaves facts torn swept c.args.write c.args.before.now c.args.made.now c.args.i left
     (c.requires.made card) c.in-Some.ensures.known in
     record {
       given = λ card. adds-weaker _ _ _ _ (λ given rest. given-by-run _ _ _ _ _ _ _ (leaves card).cut rest)
@@ -277,7 +278,8 @@ sweep_mask-returns g t c =
     let left = c.in_ok-left.left in
     let cut = c.in_ok-left.ensures in
     let leaves : HasCard (facts c.args.runs.now.board.now).words
-    → LeavesMasked facts swept c.args.write c.args.before.now c.args.made.now c.args.i left = λ card. other-leaves facts swept c.args.write c.args.before.now c.args.made.now c.args.i left
+    → LeavesMasked facts swept c.args.write c.args.before.now c.args.made.now c.args.i left =
+    λ card. other-leaves facts swept c.args.write c.args.before.now c.args.made.now c.args.i left
     c.in_default.ensures.other (cut.cut card) cut.masked in
     record {
       given = λ card. adds-weaker _ _ _ _ (λ given rest. given-by-run _ _ _ _ _ _ _ (leaves card).cut rest)

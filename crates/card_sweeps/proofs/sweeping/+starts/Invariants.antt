@@ -21,7 +21,8 @@ decreases-sweep_mask g l = 4 * l.after.now.depth + 1
 abbrev pub invariant-sweep_turn-loop-writes : goal.invariant-sweep_turn-loop-writes
 invariant-sweep_turn-loop-writes g l = record {
   so_far : HasCard (g.P.Board.Board.facts l.runs.board.now).words
-      → Adds (IsGivenBy g.P.Board.Board.facts l.runs l.after) (findings l.fn.sweep.seen.items) (findings l.sweep.seen.items);
+      → Adds (IsGivenBy g.P.Board.Board.facts l.runs l.after) (findings l.fn.sweep.seen.items)
+      (findings l.sweep.seen.items);
   counted : HasCard (g.P.Board.Board.facts l.runs.board.now).words
       → CountsRuns (AreOfWrites g.P.Board.Board.facts g.P.Board.Sweepable.torn
       (AllBehind g.P.Board.Board.facts g.P.Board.Sweepable.torn l.after)
@@ -32,7 +33,8 @@ invariant-sweep_turn-loop-writes g l = record {
 abbrev pub invariant-sweep_write-loop-i : goal.invariant-sweep_write-loop-i
 invariant-sweep_write-loop-i g l = record {
   so_far : HasCard (g.P.Board.Board.facts l.runs.board.now).words
-      → Adds (IsGivenBy g.P.Board.Board.facts l.runs l.after) (findings l.fn.sweep.seen.items) (findings l.sweep.seen.items);
+      → Adds (IsGivenBy g.P.Board.Board.facts l.runs l.after) (findings l.fn.sweep.seen.items)
+      (findings l.sweep.seen.items);
   counted : HasCard (g.P.Board.Board.facts l.runs.board.now).words
       → CountsRuns (InTurn (AreOfMask g.P.Board.Board.facts
       (AllBehind g.P.Board.Board.facts g.P.Board.Sweepable.torn l.after)

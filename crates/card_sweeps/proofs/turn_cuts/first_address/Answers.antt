@@ -2,7 +2,8 @@ use Rattle.std.proofs.Common.{◌≡◌, ◌≢◌, ◌≤◌, ◌<◌, ◌+◌,
 use Rattle.std.specs.Prelude.{slice_index}
 use Rattle.card_sweeps.specs.Sweeps.{CutsTurn}
 use Rattle.card_sweeps.specs.TurnCuts.{swept_by}
-use Rattle.card_sweeps.proofs.Addresses.{ShowsWord, missed-all, missed-anywhere, missed-beside, missed-found, shows-more}
+use Rattle.card_sweeps.proofs.Addresses.{ShowsWord, missed-all, missed-anywhere, missed-beside, missed-found}
+use Rattle.card_sweeps.proofs.Addresses.{shows-more}
 use Rattle.card_sweeps.proofs.CompleteSweeps.{mask-is}
 use Rattle.card_sweeps.proofs.Stopped.{differs-on}
 use Rattle.card_sweeps.proofs.turn_cuts.first_address.Goals as goal

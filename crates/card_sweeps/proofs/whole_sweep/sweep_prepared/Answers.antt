@@ -19,7 +19,8 @@ returns g c =
       complete = λ card. counts-prepared (AreRunsFrom facts torn after.depth after.probe.now swept) swept _ _ _ _
           (c.in_ok-prepared.ensures card)
           (counts-runs facts torn after.depth after.probe.now swept _ _ _ _
-          (subst (λ (m : List ℕ). CountsRuns (AreOfTurn facts torn (AllBehind facts torn after) swept m c.in_ok-sweep_turn.field-0)
+          (subst (λ (m : List ℕ). CountsRuns
+          (AreOfTurn facts torn (AllBehind facts torn after) swept m c.in_ok-sweep_turn.field-0)
           c.args.sweep.now.seen.items c.sweep_turn.new.sweep.seen.items)
           c.words.ensures (c.in_ok-sweep_turn.ensures.complete card)));
       early = search rules;
