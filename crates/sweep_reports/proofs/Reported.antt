@@ -12,8 +12,8 @@ use Rattle.sweep_reports.specs.declared.device_writes.DeviceWrite.{DeviceWrite}
 use Rattle.sweep_reports.specs.DeviceWrites.{IsWriteKind, kinds_text, write_text}
 use Rattle.sweep_reports.specs.ReportParts.{AddsText, AreRest}
 use Rattle.sweep_reports.specs.Printing.{cut_head, last_item, look_text, looks_text, total_text}
-use Rattle.sweep_reports.specs.Reporting.{AreResults, AreWrites, HasSections, IsCutOrNone, IsFound, IsWrite, Sweeping}
-use Rattle.sweep_reports.specs.Reporting.{LacksWrite, TextsInTurn, WritesInTurn}
+use Rattle.sweep_reports.specs.Reporting.{AreOwnResults, AreResults, AreWrites, HasSections, IsCutText, IsFound}
+use Rattle.sweep_reports.specs.Reporting.{IsWrite, LacksWrite, Sweeping, TextsInTurn, WritesInTurn}
 use Rattle.sweep_reports.specs.declared.device_writes.WriteKind.{WriteKind}
 use Rattle.sweep_reports.proofs.Put.{five-parts, puts-both, three-parts}
 
@@ -25,34 +25,43 @@ pub results-under : {B : Type 0} (facts : B → Facts) (torn : B → ℕ) (looks
 results-under facts torn looks head other depth probe board text same results =
     subst (λ (h : List ℕ). AreResults facts torn looks h depth probe board text) same results
 
--- a cut that is none of the part
-pub none-put : {B : Type 0} {facts : B → Facts} {torn : B → ℕ} (sweeping : Sweeping facts torn) (write : ℕ)
-    (before : List ℕ) (made : MadeWrite B) (i : ℕ) (old : List ℕ) → (IsOfPart sweeping.part write i → ⊥)
-    → AddsText (IsCutOrNone sweeping write before made i) old old
-none-put sweeping write before made i old other = record {
+-- a cut of another part
+pub none-put : {B : Type 0} {facts : B → Facts} {torn : B → ℕ} (sweeping : Sweeping facts torn) (write i mask : ℕ)
+    (board : Facts) (old : List ℕ) → (IsOfPart sweeping.part write i → ⊥)
+    → AddsText (AreOwnResults sweeping write i mask board) old old
+none-put sweeping write i mask board old other = record {
   more = [];
   holds = record { own = λ is. absurd (other is); other = λ _. refl };
   all = sym (append-nil old);
 }
 
+-- a cut of the part
+pub own-put : {B : Type 0} {facts : B → Facts} {torn : B → ℕ} (sweeping : Sweeping facts torn) (write i mask : ℕ)
+    (board : Facts) (head old new : List ℕ) → head ≡ cut_head write i mask → IsOfPart sweeping.part write i
+    → AddsText (AreResults facts torn sweeping.looks head sweeping.depth sweeping.probe board) old new
+    → AddsText (AreOwnResults sweeping write i mask board) old new
+own-put {B} {facts} {torn} sweeping write i mask board head old new same own results = record {
+  more = results.more;
+  holds = record {
+    own = λ _. results-under facts torn sweeping.looks head (cut_head write i mask) sweeping.depth sweeping.probe
+        board results.more same results.holds;
+    other = λ others. absurd (others own);
+  };
+  all = results.all;
+}
+
 -- the cut with this mask
 pub cut-put : {B : Type 0} {facts : B → Facts} {torn : B → ℕ} (sweeping : Sweeping facts torn)
     (write : ℕ) (before : List ℕ) (made : MadeWrite B) (i mask : ℕ) (left : B) (old new : List ℕ)
-    → mask ≡ mask_of made.words i → IsOfPart sweeping.part write i
-    → LeavesMasked facts sweeping.swept write before made i left
-    → AddsText (AreResults facts torn sweeping.looks (cut_head write i mask) sweeping.depth sweeping.probe (facts left))
-    old new
-    → AddsText (IsCutOrNone sweeping write before made i) old new
-cut-put {B} {facts} {torn} sweeping write before made i mask left old new same own leaves results = record {
+    → mask ≡ mask_of made.words i → LeavesMasked facts sweeping.swept write before made i left
+    → AddsText (AreOwnResults sweeping write i mask (facts left)) old new
+    → AddsText (IsCutText sweeping write before made i) old new
+cut-put {B} {facts} {torn} sweeping write before made i mask left old new same leaves results = record {
   more = results.more;
   holds = record {
-    own = λ _. record {
-      left = left;
-      leaves = leaves;
-      results = subst (λ (m : ℕ). AreResults facts torn sweeping.looks (cut_head write i m) sweeping.depth
-          sweeping.probe (facts left) results.more) same results.holds;
-    };
-    other = λ others. absurd (others own);
+    left = left;
+    leaves = leaves;
+    results = subst (λ (m : ℕ). AreOwnResults sweeping write i m (facts left) results.more) same results.holds;
   };
   all = results.all;
 }
@@ -63,7 +72,7 @@ pub write-put : {B : Type 0} {facts : B → Facts} {torn : B → ℕ} (sweeping 
     → given ≡ before → first ≡ before → next ≡ (facts made.after).words
     → IsMade facts torn sweeping.swept write given made
     → IsWriteKind made.words first next kind
-    → AddsText (TextsInTurn (IsCutOrNone sweeping write given made) (mask_count_of made.words)) old new
+    → AddsText (TextsInTurn (IsCutText sweeping write given made) (mask_count_of made.words)) old new
     → AddsText (IsWrite sweeping write before (facts made.after).words (record { words = made.words; kind = kind }))
     old new
 write-put {B} {facts} {torn} sweeping write made kind before given first next old new same one two made_so is_kind
@@ -79,7 +88,7 @@ write-put {B} {facts} {torn} sweeping write made kind before given first next ol
         made_so = subst (λ (m : List ℕ). IsMade facts torn sweeping.swept write m made) same made_so;
         words_are = refl;
         after_is = refl;
-        each = subst (λ (m : List ℕ). TextsInTurn (IsCutOrNone sweeping write m made) (mask_count_of made.words)
+        each = subst (λ (m : List ℕ). TextsInTurn (IsCutText sweeping write m made) (mask_count_of made.words)
             texts.more) same texts.holds;
         kind_is = kind_is;
       };

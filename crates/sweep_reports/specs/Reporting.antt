@@ -48,19 +48,20 @@ pub record AreResults {B : Type 0} (facts : B → Facts) (torn : B → ℕ) (loo
       (λ e. AreFirstBehind facts torn e depth probe board) end runs seen
   pub text_is : text ≡ results_text looks head seen
 
--- A cut at this device write, with mask number i, counted from 0. It leaves the words of that mask new.
+-- The results of a cut that left this board, if the cut is of the part.
+pub record AreOwnResults {B : Type 0} {facts : B → Facts} {torn : B → ℕ} (sweeping : Sweeping facts torn)
+    (write i mask : ℕ) (board : Facts) (text : List ℕ) : Type 0 where
+  pub own : IsOfPart sweeping.part write i → AreResults facts torn sweeping.looks (cut_head write i mask)
+      sweeping.depth sweeping.probe board text
+  pub other : (IsOfPart sweeping.part write i → ⊥) → text ≡ []
+
+-- A cut at this device write, with mask number i, counted from 0. Whatever the part, it leaves the words of that mask
+-- new, so each part shows the whole write. The part has the results of its own cuts alone.
 pub record IsCutText {B : Type 0} {facts : B → Facts} {torn : B → ℕ} (sweeping : Sweeping facts torn)
     (write : ℕ) (before : List ℕ) (made : MadeWrite B) (i : ℕ) (text : List ℕ) : Type 0 where
   pub left : B
   pub leaves : LeavesMasked facts sweeping.swept write before made i left
-  pub results : AreResults facts torn sweeping.looks (cut_head write i (mask_of made.words i)) sweeping.depth
-      sweeping.probe (facts left) text
-
--- A cut is printed if it is of the part.
-pub record IsCutOrNone {B : Type 0} {facts : B → Facts} {torn : B → ℕ} (sweeping : Sweeping facts torn)
-    (write : ℕ) (before : List ℕ) (made : MadeWrite B) (i : ℕ) (text : List ℕ) : Type 0 where
-  pub own : IsOfPart sweeping.part write i → IsCutText sweeping write before made i text
-  pub other : (IsOfPart sweeping.part write i → ⊥) → text ≡ []
+  pub results : AreOwnResults sweeping write i (mask_of made.words i) (facts left) text
 
 -- the concatenation of `n` texts, in order
 unfoldable pub TextsInTurn : (ℕ → List ℕ → Type 0) → ℕ → List ℕ → Type 0
@@ -79,7 +80,7 @@ pub record IsWrite {B : Type 0} {facts : B → Facts} {torn : B → ℕ} (sweepi
   pub made_so : IsMade facts torn sweeping.swept write before made
   pub words_are : it.words ≡ made.words
   pub after_is : after ≡ (facts made.after).words
-  pub each : TextsInTurn (IsCutOrNone sweeping write before made) (mask_count_of made.words) text
+  pub each : TextsInTurn (IsCutText sweeping write before made) (mask_count_of made.words) text
   pub kind_is : IsWriteKind it.words before after it.kind
 
 -- The first `n` device writes, in order. The first one begins with the memory `first`. Each other one begins with the
@@ -115,8 +116,8 @@ pub record IsFound {B : Type 0} {facts : B → Facts} {torn : B → ℕ} (sweepi
   pub results : AreResults facts torn sweeping.looks (stage_head stage trace) 0 sweeping.probe left text
 
 -- What is found without the command, what is found after it, the kinds of its writes, each cut of it, and the number of
--- writes. The first write begins with the memory of the prepared board. The last one leaves the memory that the whole
--- command leaves.
+-- writes. In each part the first write begins with the memory of the prepared board, whose results the part has. The
+-- last one leaves the memory that the whole command leaves.
 pub record HasSections {B : Type 0} {facts : B → Facts} {torn : B → ℕ} (sweeping : Sweeping facts torn)
     (whole : List Turn) (text : List ℕ) : Type 0 where
   pub prepared : Facts

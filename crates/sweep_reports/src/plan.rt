@@ -3,10 +3,9 @@ ghost use Rattle.std.specs.Prelude.{◌≡◌, ◌≤◌, ◌<◌, ◌+◌, leng
 ghost use Rattle.command_base.specs.Finding.{HasCard};
 ghost use Rattle.card_sweeps.specs.Masks.{mask_count_of};
 ghost use Rattle.card_sweeps.specs.TurnCuts.{IsMade, swept_by};
-ghost use Rattle.sweep_reports.specs.Printing.{cut_head};
 ghost use Rattle.sweep_reports.specs.ReportParts.{AddsText, sweeping_of};
-ghost use Rattle.sweep_reports.specs.Reporting.{AreKindsOrNone, AreResults, AreWrites, IsCutOrNone, IsFound};
-ghost use Rattle.sweep_reports.specs.Reporting.{LacksWrite, TextsInTurn};
+ghost use Rattle.sweep_reports.specs.Reporting.{AreKindsOrNone, AreOwnResults, AreResults, AreWrites, IsCutText};
+ghost use Rattle.sweep_reports.specs.Reporting.{IsFound, LacksWrite, TextsInTurn};
 
 use crate::device_writes::{DeviceWrite, WriteKind, push_kinds};
 use crate::lines::{cut_head, push_results, stage_head};
@@ -71,7 +70,7 @@ where
     Ok(left)
 }
 
-/// Appends the results of a cut that left this board.
+/// Appends the results of a cut that left this board, if it is of the part.
 fn push_cut<P: TurnPlayer + Drop>(
     plan: &ReportPlan<'_, P::Board>,
     write: u32,
@@ -83,14 +82,18 @@ fn push_cut<P: TurnPlayer + Drop>(
 where
     P::Board: Sweepable + Drop,
     ensures { OnOk result (HasCard (P.Board.facts left.now).words
-        → AddsText (AreResults P.Board.facts P.Board.torn plan.now.looks.now (cut_head write i mask) plan.now.depth
-        plan.now.probe.now (P.Board.facts left.now)) (string_bytes text.old) (string_bytes text.new)) }
+        → AddsText (AreOwnResults (sweeping_of P.Board.facts P.Board.torn plan.now) write i mask
+        (P.Board.facts left.now)) (string_bytes text.old) (string_bytes text.new)) }
 {
+    if !plan.part.has(write, i) {
+        return Ok(());
+    }
     let head = cut_head(plan.runs.alloc, write, i, mask)?;
     push_behind::<P>(plan, left, plan.depth, &head, text)
 }
 
-/// Appends the cut of a device write with mask number `i`, if it is of the part.
+/// Cuts a device write with mask number `i`, and appends the results if the cut is of the part. Each part makes all
+/// cuts, so each shows the whole write.
 fn push_mask<P: TurnPlayer + Drop>(
     plan: &ReportPlan<'_, P::Board>,
     write: u32,
@@ -108,12 +111,9 @@ where
     requires made { HasCard (P.Board.facts plan.now.runs.board.now).words
         → IsMade P.Board.facts P.Board.torn (swept_by P.Board.facts plan.now.runs) write before.now made.now }
     ensures { OnOk result (HasCard (P.Board.facts plan.now.runs.board.now).words
-        → AddsText (IsCutOrNone (sweeping_of P.Board.facts P.Board.torn plan.now) write before.now made.now i)
+        → AddsText (IsCutText (sweeping_of P.Board.facts P.Board.torn plan.now) write before.now made.now i)
         (string_bytes text.old) (string_bytes text.new)) }
 {
-    if !plan.part.has(write, i) {
-        return Ok(());
-    }
     let mask = mask_at(made.words, i);
     if let Some(left) = made.known_cut(i) {
         return push_cut::<P>(plan, write, i, mask, left, text);
@@ -136,7 +136,7 @@ where
     ensures made { IfOk result (λ made. IfSome made (λ it. HasCard (P.Board.facts plan.now.runs.board.now).words
         → IsMade P.Board.facts P.Board.torn (swept_by P.Board.facts plan.now.runs) write before.now it)) }
     ensures text { IfOk result (λ made. IfSome made (λ it. HasCard (P.Board.facts plan.now.runs.board.now).words
-        → AddsText (TextsInTurn (IsCutOrNone (sweeping_of P.Board.facts P.Board.torn plan.now) write before.now it)
+        → AddsText (TextsInTurn (IsCutText (sweeping_of P.Board.facts P.Board.torn plan.now) write before.now it)
         (mask_count_of it.words))
         (string_bytes text.old) (string_bytes text.new))) }
     ensures unmade { IfOk result (λ made. IfNone made (HasCard (P.Board.facts plan.now.runs.board.now).words

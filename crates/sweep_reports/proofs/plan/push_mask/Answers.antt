@@ -1,9 +1,8 @@
-use Rattle.std.proofs.Common.{◌∙◌, sym, true≢false}
 use Rattle.card_sweeps.proofs.CompleteSweeps.{mask-is}
 use Rattle.card_sweeps.proofs.KnownCuts.{known-leaves, other-leaves}
 use Rattle.sweep_reports.specs.ReportParts.{sweeping_of}
 use Rattle.sweep_reports.proofs.Put.{on-ok}
-use Rattle.sweep_reports.proofs.Reported.{cut-put, none-put}
+use Rattle.sweep_reports.proofs.Reported.{cut-put}
 use Rattle.sweep_reports.proofs.plan.push_mask.Goals as goal
 
 pub returns : goal.returns
@@ -16,7 +15,7 @@ returns g c = on-ok c.push_cut-2.result _ _
     cut-put (sweeping_of g.P.Board.Board.facts g.P.Board.Sweepable.torn c.args.plan.now) c.args.write
     c.args.before.now c.args.made.now c.args.i _ c.in_ok-left.left _ _
     (mask-is c.args.made.now.words c.args.i _ told.none told.all told.single)
-    (c.has.ensures.0 c.if-not-has.false) leaves (results leaves.cut.has_card))
+    leaves (results leaves.cut.has_card))
     c.push_cut-2.ensures
 
 pub returns-in-Some : goal.returns-in-Some
@@ -28,10 +27,5 @@ returns-in-Some g c = on-ok c.push_cut.result _ _
     cut-put (sweeping_of g.P.Board.Board.facts g.P.Board.Sweepable.torn c.args.plan.now) c.args.write
     c.args.before.now c.args.made.now c.args.i _ c.in-Some.left.now _ _
     (mask-is c.args.made.now.words c.args.i _ told.none told.all told.single)
-    (c.has.ensures.0 c.if-not-has.false) leaves (results leaves.cut.has_card))
+    leaves (results leaves.cut.has_card))
     c.push_cut.ensures
-
-pub returns-then-not-has : goal.returns-then-not-has
-returns-then-not-has g c = λ card. none-put (sweeping_of g.P.Board.Board.facts g.P.Board.Sweepable.torn c.args.plan.now)
-    c.args.write _ _ c.args.i _
-    (λ is. true≢false (sym (c.has.ensures.1 is) ∙ c.if-not-has.true))
