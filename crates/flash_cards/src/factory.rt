@@ -2,7 +2,7 @@
 ghost use Rattle.std.specs.Prelude.{◌≡◌, IfOk};
 ghost use Rattle.nvm_board.specs.Facts.{new_board};
 ghost use Rattle.nvm_board.specs.declared.board.TheConstants.{LEAST_PAGES};
-ghost use Rattle.simulated_flash.specs.CutFlashFacts.{cut_flash_facts};
+ghost use Rattle.simulated_boards.specs.CutFlashFacts.{cut_flash_facts};
 ghost use Rattle.card_start.specs.declared.memory_format.MemoryFormat.TheVariants as MemoryFormat;
 ghost use Rattle.card_start.specs.Factory.{IsFactory, factory_card};
 ghost use Rattle.command_base.specs.Finding.{Finds};
@@ -10,7 +10,7 @@ ghost use Rattle.bench_turns.specs.NewlyWritten.{IsJustWritten};
 
 use card_start::format;
 use flash_board::{FlashBoard, FlashLog, format_flash};
-use simulated_flash::{CutFlashBoard, GarblingFlash};
+use simulated_boards::{CutFlashBoard, GarblingFlash};
 use std::alloc::{AllocError, Global};
 
 /// Returns a new board on a simulated flash, with the factory card in format 2. The seed chooses what power losses

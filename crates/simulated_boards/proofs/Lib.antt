@@ -1,3 +1,4 @@
+pub mod ArmedFlash
 pub mod Telling
 pub mod WithArm
 pub mod WithFault

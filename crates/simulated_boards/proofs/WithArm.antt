@@ -40,10 +40,10 @@ answered_armed a old new result none told = record {
 }
 
 -- nor is power lost otherwise
-pub lost_armed : {T : Type 0} (a : Option Arm) (old new : Facts) (result : Result T DeviceErr) → old.due ≡ 0
-    → IsLostRightly old new result → IsLostRightly (with_arm a old) (with_arm a new) result
+pub lost_armed : {T : Type 0} (a b : Option Arm) (old new : Facts) (result : Result T DeviceErr) → old.due ≡ 0
+    → IsLostRightly old new result → IsLostRightly (with_arm a old) (with_arm b new) result
 unfolding IsLostRightly
-lost_armed a old new result none rightly = λ lost lit.
+lost_armed a b old new result none rightly = λ lost lit.
     ⊎_elim (λ cut. absurd (omega (arith, cut, none))) (λ worn. inr worn) (rightly lost lit)
 
 -- the error that is handed on is the one that was told
@@ -161,10 +161,10 @@ arm_spent at run a old new mask fires was_lit torn = record {
 }
 
 -- where a cut falls that is set on a board which counted so many writes
-abbrev aimed : ℕ → Option Arm → Option Aim
+abbrev pub aimed : ℕ → Option Arm → Option Aim
 aimed writes a = option_map (λ x. record { write = writes + x.whole_writes + 1; mask = x.mask }) a
 
-aim-armed : (a : Option Arm) (f : Facts) → aim (with_arm a f) ≡ aimed f.writes a
+pub aim-armed : (a : Option Arm) (f : Facts) → aim (with_arm a f) ≡ aimed f.writes a
 aim-armed None f = refl
 aim-armed (Some a) f = refl
 

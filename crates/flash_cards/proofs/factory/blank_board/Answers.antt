@@ -1,7 +1,7 @@
 use Rattle.std.proofs.Common.{◌≡◌, ◌∙◌, ap, refl}
 use Rattle.flash_board.specs.FlashCalls.{FlashState}
 use Rattle.flash_board.specs.FlashFacts.{made_of}
-use Rattle.simulated_flash.specs.GarblingStates.{garbling_state}
+use Rattle.simulated_boards.specs.GarblingStates.{garbling_state}
 use Rattle.flash_cards.proofs.BlankFlash.{blank_is_new}
 use Rattle.flash_cards.proofs.factory.blank_board.Goals as goal
 

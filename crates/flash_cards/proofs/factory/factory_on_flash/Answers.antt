@@ -2,7 +2,7 @@ use Rattle.std.specs.Prelude.{ℕ}
 use Rattle.std.proofs.Common.{subst}
 use Rattle.card_start.specs.Factory.{factory_card}
 use Rattle.command_base.specs.Finding.{Finds}
-use Rattle.simulated_flash.specs.CutFlashFacts.{cut_flash_facts}
+use Rattle.simulated_boards.specs.CutFlashFacts.{cut_flash_facts}
 use Rattle.flash_cards.proofs.BlankFlash.{just_written, new_blocks}
 use Rattle.flash_cards.proofs.factory.factory_on_flash.Goals as goal
 

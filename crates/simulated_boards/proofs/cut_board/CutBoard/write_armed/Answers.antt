@@ -55,7 +55,7 @@ returns-in_err-write c =
         light = error_armed (λ r. Answered (with_arm a old) (with_arm a new) r) _ _ handed
             (answered_armed a old new _ refl told.writes.light);
         worn = error_armed (λ r. IsLostRightly (with_arm a old) (with_arm a new) r) _ _ handed
-            (lost_armed a old new _ refl told.writes.worn);
+            (lost_armed a a old new _ refl told.writes.worn);
         cut = aims_armed a old new told.uncounted told.writes.cut;
         counted = search rules;
         counted_err = search rules;

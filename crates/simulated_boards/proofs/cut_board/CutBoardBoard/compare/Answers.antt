@@ -8,8 +8,8 @@ returns-clause-compares c = record {
   equal = search rules;
   light = answered_armed c.args.self.now.arm (ram_facts c.args.self.now.ram) (ram_facts c.compare.new.self) _ refl
       c.compare.ensures.light;
-  worn = lost_armed c.args.self.now.arm (ram_facts c.args.self.now.ram) (ram_facts c.compare.new.self) _ refl
-      c.compare.ensures.worn;
+  worn = lost_armed c.args.self.now.arm c.args.self.now.arm (ram_facts c.args.self.now.ram)
+      (ram_facts c.compare.new.self) _ refl c.compare.ensures.worn;
   cut = aim_stays_armed c.args.self.now.arm (ram_facts c.args.self.now.ram) (ram_facts c.compare.new.self)
       c.compare.ensures.writes c.compare.ensures.cut;
   words = search rules;

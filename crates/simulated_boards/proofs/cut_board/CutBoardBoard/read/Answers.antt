@@ -8,8 +8,8 @@ returns-clause-tells c = record {
   word = search rules;
   light = answered_armed c.args.self.now.arm (ram_facts c.args.self.now.ram) (ram_facts c.read.new.self) _ refl
       c.read.ensures.light;
-  worn = lost_armed c.args.self.now.arm (ram_facts c.args.self.now.ram) (ram_facts c.read.new.self) _ refl
-      c.read.ensures.worn;
+  worn = lost_armed c.args.self.now.arm c.args.self.now.arm (ram_facts c.args.self.now.ram)
+      (ram_facts c.read.new.self) _ refl c.read.ensures.worn;
   cut = aim_stays_armed c.args.self.now.arm (ram_facts c.args.self.now.ram) (ram_facts c.read.new.self)
       c.read.ensures.writes c.read.ensures.cut;
   words = search rules;

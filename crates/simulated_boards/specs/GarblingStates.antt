@@ -1,0 +1,26 @@
+-- The state of a flash that leaves garbage.
+use Rattle.std.specs.Prelude.{false, is_some, replicate, if◌then◌else◌}
+use Rattle.flash_board.specs.FlashCalls.{FlashState}
+use Rattle.flash_board.specs.declared.flash.TheConstants.{BLANK}
+use Rattle.simulated_boards.specs.declared.garbling_flash.TheConstants.{FLASH_WORDS}
+use Rattle.simulated_boards.specs.declared.garbling_flash.GarblingFlash.{GarblingFlash}
+
+-- A power loss is due while one is set. The flash never fails.
+abbrev pub garbling_state : GarblingFlash → FlashState
+garbling_state f = record {
+  words = f.words.items;
+  dark = f.dark;
+  due = if is_some f.cut then 1 else 0;
+  faults = 0;
+  operations = f.operations;
+}
+
+-- a powered blank flash, on which no power loss is set
+abbrev pub new_garbling_state : FlashState
+new_garbling_state = record {
+  words = replicate FLASH_WORDS BLANK;
+  dark = false;
+  due = 0;
+  faults = 0;
+  operations = 0;
+}

@@ -1,0 +1,164 @@
+//! A flash in working memory that leaves garbage where it loses power.
+ghost use Rattle.std.specs.Prelude.{◌≡◌, ◌+◌, ◌≤◌, ◌<◌, length, is_some, None, IfOk, true, false};
+ghost use Rattle.nvm_board.specs.Facts.{AreWords};
+ghost use Rattle.flash_board.specs.FlashBlocks.{block_start, block_size};
+ghost use Rattle.flash_board.specs.declared.flash.TheConstants.{BLOCKS};
+ghost use Rattle.simulated_boards.specs.declared.garbling_flash.TheConstants.{FLASH_WORDS, SLOTS};
+
+use crate::garbage::{blank_run, garble_run, next_random, put_run};
+use flash_board::{BLANK, CutFlash, Flash, FlashSocket};
+use nvm_board::DeviceErr;
+use std::alloc::{AllocError, Global};
+
+/// The number of slots of an area.
+const SLOTS: u16 = 1280;
+
+/// The number of words of an area.
+const AREA_WORDS: u32 = 25602;
+
+/// The number of words of the flash.
+const FLASH_WORDS: u32 = 51206;
+
+/// A flash in working memory, which never fails. A program or an erase that loses power leaves garbage in all its
+/// words: noise, old, new, a mixture of them, marks, blank, or whole slots with other words.
+#[derive(Drop)]
+pub struct GarblingFlash {
+    words: Vec<u32>,
+    dark: bool,
+    /// The operations before the one that is set to lose power.
+    cut: Option<u32>,
+    /// What chooses the garbage.
+    random: u64,
+    operations: u64,
+    ghost sized: { length words.items ≡ FLASH_WORDS },
+    ghost words_fit: { AreWords words.items },
+}
+
+impl GarblingFlash {
+    ghost use Rattle.simulated_boards.specs.GarblingStates.{garbling_state, new_garbling_state};
+
+    /// Returns a powered blank flash, whose garbage this seed chooses.
+    ///
+    /// # Errors
+    /// There is too little memory for the words.
+    pub fn new(alloc: Global, seed: u64) -> Result<GarblingFlash, AllocError>
+        ensures { IfOk result (λ flash. garbling_state flash ≡ new_garbling_state) }
+    {
+        Ok(GarblingFlash {
+            words: vec![in alloc; BLANK; FLASH_WORDS as usize]?,
+            dark: false,
+            cut: None,
+            random: next_random(seed),
+            operations: 0,
+        })
+    }
+
+    /// Begins an operation. Returns true if power is to be lost in it.
+    fn begin(&mut self) -> bool
+        ensures words { self.new.words ≡ self.old.words }
+        ensures power { self.new.dark ≡ self.old.dark }
+        ensures lost { result ≡ true → (is_some self.old.cut ≡ true) × (self.new.cut ≡ None) }
+        ensures spared { result ≡ false → is_some self.new.cut ≡ is_some self.old.cut }
+        ensures work { self.new.operations ≤ self.old.operations + 1 }
+    {
+        self.operations = self.operations.saturating_add(1);
+        self.random = next_random(self.random);
+        match self.cut {
+            Some(0) => {
+                self.cut = None;
+                true
+            }
+            Some(before) => {
+                self.cut = Some(before - 1);
+                false
+            }
+            None => false,
+        }
+    }
+}
+
+impl Flash for GarblingFlash {
+    ghost use Rattle.simulated_boards.specs.GarblingStates.{garbling_state};
+    ghost use Rattle.std.proofs.Common.{lit<};
+
+    const SLOTS: u16 = SLOTS;
+
+    ghost SLOTS = { 1280 };
+
+    ghost state = { garbling_state };
+
+    fn read(&mut self, at: u32) -> Result<u32, DeviceErr> {
+        Ok(self.words[at as usize])
+    }
+
+    fn program(&mut self, at: u32, words: &[u32]) -> Result<(), DeviceErr> {
+        let at = at as usize;
+        if self.begin() {
+            garble_run(&mut self.words, at, words.len(), words, self.random);
+            self.dark = true;
+            return Err(DeviceErr::PowerLost);
+        }
+        put_run(&mut self.words, at, words);
+        Ok(())
+    }
+
+    fn erase(&mut self, block: u8) -> Result<(), DeviceErr> {
+        if self.begin() {
+            garble_run(&mut self.words, start(block), size(block), &[], self.random);
+            self.dark = true;
+            return Err(DeviceErr::PowerLost);
+        }
+        blank_run(&mut self.words, start(block), size(block));
+        Ok(())
+    }
+
+    ghost sized = { λ f. f.sized };
+
+    ghost words_fit = { λ f. f.words_fit };
+
+    ghost slots_fit = { (lit< tt, lit< tt) };
+}
+
+impl FlashSocket for GarblingFlash {
+    fn light(&mut self) {
+        self.dark = false;
+    }
+
+    fn power_off(&mut self) {
+        self.dark = true;
+    }
+}
+
+impl CutFlash for GarblingFlash {
+    ghost use Rattle.std.specs.Prelude.{refl};
+
+    fn set_cut(&mut self, k: u32) {
+        self.cut = Some(k - 1);
+    }
+
+    fn clear_cut(&mut self) {
+        self.cut = None;
+    }
+
+    ghost faultless = { λ f. refl };
+}
+
+/// Returns the address of a block.
+fn start(block: u8) -> usize
+    ensures { result ≡ block_start SLOTS block }
+{
+    match block {
+        0 => 0,
+        1 => AREA_WORDS as usize,
+        _ => 2 * AREA_WORDS as usize,
+    }
+}
+
+/// Returns the number of words of a block.
+fn size(block: u8) -> usize
+    requires { block < BLOCKS }
+    ensures is { result ≡ block_size SLOTS block }
+    ensures fits { block_start SLOTS block + result ≤ FLASH_WORDS }
+{
+    if block == 2 { 2 } else { AREA_WORDS as usize }
+}

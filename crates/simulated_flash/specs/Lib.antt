@@ -1,3 +1,0 @@
-pub mod CutFlashFacts
-pub mod GarblingStates
-pub mod laws

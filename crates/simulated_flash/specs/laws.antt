@@ -1,2 +1,0 @@
--- Laws of the definitions, with their proofs.
-pub mod CutBoards
