@@ -12,6 +12,7 @@ use Rattle.nvm_board.specs.laws.Torn.{Torn-all, IsMixture-Torn}
 use Rattle.undo_journal.specs.declared.layout.TheConstants.{GATE, JOURNAL, JOURNAL_END, PAIRS}
 use Rattle.undo_journal.specs.Undo.{Pair, gate, pair_at, pairs_from, pairs, earlier, undo, data_words, IsOutside}
 use Rattle.undo_journal.specs.Undo.{IsDataAddress, IsSound}
+use Rattle.undo_journal.specs.Commits.{StaysCommitted}
 use Rattle.undo_journal.specs.laws.Undo.{committed-same, data_words-same, data_words-set, data_words-outside, undo_shut}
 use Rattle.undo_journal.proofs.Pairs.{length-pairs_from, pairs_from-at, pairs_from-same, pairs_from-add, earlier-append}
 use Rattle.undo_journal.proofs.Pairs.{earlier-named, earlier-pairs_of, all_named-after}
@@ -182,6 +183,9 @@ same-then m n o first rest = record {
   sound = rest.sound;
 }
 
+pub same-committed : (m n : List ℕ) → SameUndo m n → StaysCommitted m n
+same-committed m n same = record { sound = λ _. same.sound; words = same.committed }
+
 pub same-none : (m : List ℕ) → IsSound m → SameUndo m m
 same-none m sound = record { size = refl; gates = refl; journals = refl; committed = refl; sound = sound }
 
@@ -334,6 +338,9 @@ module _ (m r run : List ℕ) (sets : List Waiting) (g : ℕ) (read : r ≡ m) (
         (sound-same m p same_pairs.size same_pairs.gates same_pairs.journals sound))
         (λ new. subst (λ (l : List ℕ). IsSound l) (sym new) sound-raised)
         torn
+
+    pub gate-committed : (n : List ℕ) → (n ≡ p) ⊎ (n ≡ slice_set p GATE (g + length sets)) → StaysCommitted m n
+    gate-committed n torn = record { sound = λ _. gate-sound n torn; words = gate-torn n torn }
 
     -- the words as they are then
     module _ (q : List ℕ) (raised : q ≡ slice_set p GATE (g + length sets)) where

@@ -1,8 +1,22 @@
--- Which word commits a transaction: the gate, turned to 0.
-use Rattle.std.specs.Prelude.{◌≡◌, ◌⊎◌, ◌+◌, ◌≤◌, ◌<◌, ℕ, List, slice_set, None}
+-- Which device write commits: the last one, which turns the gate to 0 in a transaction.
+use Rattle.std.specs.Prelude.{◌≡◌, ◌⊎◌, ◌+◌, ◌≤◌, ◌<◌, ℕ, List, slice_set, None, length, take}
+use Rattle.nvm_board.specs.Aims.{WritesRuns}
+use Rattle.nvm_board.specs.Facts.{Facts}
+use Rattle.nvm_board.specs.History.{replayed}
 use Rattle.undo_journal.specs.declared.layout.TheConstants.{GATE}
 use Rattle.undo_journal.specs.Memory.{Memory, committed, current}
 use Rattle.undo_journal.specs.Undo.{gate, undo, data_words, IsSound}
+
+-- Undo gives the same data words of both memories, and it stays defined.
+pub record StaysCommitted (old new : List ℕ) : Type 0 where
+  pub sound : IsSound old → IsSound new
+  pub words : data_words (undo new) ≡ data_words (undo old)
+
+-- Only the last device write of the calls may change the committed words. With any number of their writes, but not with
+-- all, the committed words are those before the calls.
+pub record CommitsLast (old new : Facts) : Type 0 where
+  pub wrote : WritesRuns old new
+  pub before : (k : ℕ) → k < length wrote.runs → StaysCommitted old.words (replayed old.words (take k wrote.runs))
 
 -- The gate is 0, and its write alone is the commit. With `pairs` in its place, undo would be defined and would give
 -- the words before. One memory can't say that the gate had that value just before.

@@ -3,6 +3,7 @@ use Rattle.std.specs.Prelude.{◌≡◌, ◌⊎◌, ◌==◌, ◌+◌, ◌*◌, 
 use Rattle.nvm_board.specs.declared.board.DeviceErr.{DeviceErr}
 use Rattle.nvm_board.specs.Aims.{AimStays, AimsOn}
 use Rattle.nvm_board.specs.Facts.{Facts, Answered}
+use Rattle.undo_journal.specs.Commits.{CommitsLast}
 use Rattle.undo_journal.specs.Undo.{gate}
 
 -- At most n device writes, which bring a set cut nearer, and no comparison.
@@ -20,6 +21,7 @@ pub record WritesWord {T : Type 0} (at word : ℕ) (old new : Facts) (result : R
   pub light : Answered old new result
   pub counted : OnOk result (new.writes ≡ old.writes + 1)
   pub writes : WritesAtMost 1 old new
+  pub between : CommitsLast old new
 
 -- The count of writes doesn't fall. A set cut stays at its write, or falls.
 pub record Advances (old new : Facts) : Type 0 where

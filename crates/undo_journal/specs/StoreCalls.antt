@@ -3,7 +3,7 @@ use Rattle.std.specs.Prelude.{◌≡◌, ◌+◌, ◌≤◌, ℕ, Option, Some, 
 use Rattle.std.specs.Result.{result_err}
 use Rattle.undo_journal.specs.declared.error.StoreErr.{StoreErr}
 use Rattle.undo_journal.specs.declared.txn.Txn.{Txn}
-use Rattle.undo_journal.specs.Commits.{RisesEarly}
+use Rattle.undo_journal.specs.Commits.{CommitsLast, RisesEarly}
 use Rattle.undo_journal.specs.Lent.{memory_of, store_of}
 use Rattle.undo_journal.specs.Memory.{Memory, KeepsWords, Reports, IsOpen, IsIdle, IsReady, InRuns, committed, taken}
 use Rattle.undo_journal.specs.Memory.{room}
@@ -22,8 +22,8 @@ pub record TxnReads {B : Type 0} (old new : Txn B) : Type 0 where
   pub reads : OnlyReads (memory_of old) (memory_of new)
 
 -- The calls in a transaction make at most n sets, and otherwise only read. The committed words and the store are the
--- same. The sets lie in at most n runs; a contract with fewer runs says so in another clause. Nothing is written before
--- the pairs and the gate.
+-- same, and are so between any two device writes. The sets lie in at most n runs; a contract with fewer runs says so in
+-- another clause. Nothing is written before the pairs and the gate.
 pub record Sets {B : Type 0} (n : ℕ) (old new : Txn B) : Type 0 where
   pub same_store : (store_of new).ghost_name ≡ (store_of old).ghost_name
   pub kept : committed (memory_of new) ≡ committed (memory_of old)
@@ -32,6 +32,7 @@ pub record Sets {B : Type 0} (n : ℕ) (old new : Txn B) : Type 0 where
   pub reports : Reports (memory_of old) (memory_of new)
   pub writes : InRuns n (memory_of old) (memory_of new)
   pub rises : RisesEarly (memory_of old) (memory_of new)
+  pub between : CommitsLast (memory_of old).facts (memory_of new).facts
 
 -- A fact that holds unless a call failed. `told` is the error that was returned, if any.
 abbrev pub UnlessFailed : Option StoreErr → Type 0 → Type 0

@@ -4,6 +4,7 @@ pub mod Undo
 pub mod Words
 pub mod Memory
 pub mod Calls
+pub mod LastWrites
 pub mod Told
 pub mod Exits
 pub mod Transactions

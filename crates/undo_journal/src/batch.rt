@@ -8,7 +8,7 @@ ghost use Rattle.nvm_board.specs.Torn.{Torn};
 ghost use Rattle.undo_journal.specs.declared.batch.TheConstants.{BATCH};
 ghost use Rattle.undo_journal.specs.declared.layout.TheConstants.{JOURNAL, PAIRS};
 ghost use Rattle.undo_journal.specs.Undo.{gate, pairs, undo, data_words, IsDataAddress, IsSound};
-ghost use Rattle.undo_journal.specs.Commits.{TurnsGate};
+ghost use Rattle.undo_journal.specs.Commits.{CommitsLast, TurnsGate};
 ghost use Rattle.undo_journal.specs.Spending.{WritesAtMost, KeepsBoard};
 ghost use Rattle.undo_journal.specs.Batches.{overlay, look_up, batch_writes, runs_from, AreSets, with_set};
 ghost use Rattle.undo_journal.specs.JournalParts.{before, first_words, pair_words, AllNamed, IsLastBelow};
@@ -185,6 +185,7 @@ fn write_words<B: Board>(board: &mut B, sets: &[Waiting]) -> Result<(), DeviceEr
     ensures light { Answered (B.facts board.old) (B.facts board.new) result }
     ensures counted { OnOk result ((B.facts board.new).writes ≡ (B.facts board.old).writes + runs_from 0 sets.now) }
     ensures writes { WritesAtMost (runs_from 0 sets.now) (B.facts board.old) (B.facts board.new) }
+    ensures between { CommitsLast (B.facts board.old) (B.facts board.new) }
 {
     let mut rest = sets;
     while !rest.is_empty() {
@@ -218,6 +219,7 @@ fn save_and_write<B: Board>(board: &mut B, used: u16, sets: &[Waiting]) -> Resul
         → (used ≡ 0) × ((B.facts board.new).writes ≤ (B.facts board.old).writes + 2) }
     ensures counted { OnOk result ((B.facts board.new).writes ≡ (B.facts board.old).writes + batch_writes sets.now) }
     ensures writes { WritesAtMost (batch_writes sets.now) (B.facts board.old) (B.facts board.new) }
+    ensures between { CommitsLast (B.facts board.old) (B.facts board.new) }
 {
     let pairs = saved_pairs(board, sets)?;
     write_pairs(board, used, &pairs)?;
@@ -244,6 +246,7 @@ fn flush<B: Board>(board: &mut B, batch: &mut Batch) -> Result<(), DeviceErr>
     ensures counted { OnOk result ((B.facts board.new).writes
         ≡ (B.facts board.old).writes + batch_writes batch.old.waiting.items) }
     ensures writes { WritesAtMost (batch_writes batch.old.waiting.items) (B.facts board.old) (B.facts board.new) }
+    ensures between { CommitsLast (B.facts board.old) (B.facts board.new) }
     ensures turned { gate (B.facts board.new).words ≡ 0
         → (batch.old.used ≡ 0) × ((B.facts board.new).writes ≤ (B.facts board.old).writes + 2) }
     ensures used { batch.new.used ≡ batch.old.used + array_vec_len batch.old.waiting }
@@ -278,6 +281,7 @@ pub(crate) fn add<B: Board>(board: &mut B, batch: &mut Batch, new: Waiting) -> R
     ensures next { OnOk result (EndsAt (working (B.facts board.new) batch.new) new.at) }
     ensures spends { WritesAtMost (set_writes new (working (B.facts board.old) batch.old)) (B.facts board.old)
         (B.facts board.new) }
+    ensures between { CommitsLast (B.facts board.old) (B.facts board.new) }
     ensures joins { OnOk result
         (Joins new (working (B.facts board.old) batch.old) (working (B.facts board.new) batch.new)) }
     ensures rises { gate (B.facts board.new).words ≡ 0 → (gate (B.facts board.old).words ≡ 0)
@@ -313,6 +317,7 @@ pub(crate) fn finish<B: Board>(board: &mut B, batch: &mut Batch) -> Result<(), D
         ≡ (B.facts board.old).writes + commit_writes (working (B.facts board.old) batch.old)) }
     ensures writes { WritesAtMost (commit_writes (working (B.facts board.old) batch.old)) (B.facts board.old)
         (B.facts board.new) }
+    ensures between { CommitsLast (B.facts board.old) (B.facts board.new) }
 {
     flush(board, batch)?;
     if batch.used == 0 {

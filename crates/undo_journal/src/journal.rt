@@ -8,6 +8,7 @@ ghost use Rattle.nvm_board.specs.Facts.{Answered};
 ghost use Rattle.undo_journal.specs.declared.layout.TheConstants.{GATE, JOURNAL, PAIRS};
 ghost use Rattle.undo_journal.specs.Undo.{gate, pair_at, undo, IsOutside, IsDataAddress, IsSound};
 ghost use Rattle.undo_journal.specs.Undo.{IsBadJournal};
+ghost use Rattle.undo_journal.specs.Commits.{CommitsLast};
 ghost use Rattle.undo_journal.specs.Spending.{WritesAtMost, WritesWord, KeepsBoard, rollback_writes};
 
 use crate::address::Address;
@@ -52,6 +53,7 @@ pub(crate) fn write_pairs<B: Board>(board: &mut B, i: u16, words: &[u32]) -> Res
     ensures light { Answered (B.facts board.old) (B.facts board.new) result }
     ensures counted { OnOk result ((B.facts board.new).writes ≡ (B.facts board.old).writes + 1) }
     ensures writes { WritesAtMost 1 (B.facts board.old) (B.facts board.new) }
+    ensures between { CommitsLast (B.facts board.old) (B.facts board.new) }
 {
     let (page, place) = pair_address(i).page_and_place();
     board.write(page, place, words)
@@ -132,6 +134,7 @@ pub(crate) fn roll_back<B: Board>(board: &mut B, count: u16) -> Result<(), Devic
     ensures none { count ≡ 0 → B.facts board.new ≡ B.facts board.old }
     ensures counted { OnOk result ((B.facts board.new).writes ≡ (B.facts board.old).writes + rollback_writes count) }
     ensures writes { WritesAtMost (rollback_writes count) (B.facts board.old) (B.facts board.new) }
+    ensures between { CommitsLast (B.facts board.old) (B.facts board.new) }
 {
     if count == 0 {
         return Ok(());

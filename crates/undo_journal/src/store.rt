@@ -12,7 +12,7 @@ ghost use Rattle.undo_journal.specs.declared.layout.TheConstants.{PAIRS};
 ghost use Rattle.undo_journal.specs.declared.error.StoreErr.TheVariants.{PowerLost};
 ghost use Rattle.undo_journal.specs.Undo.{undo, data_words, IsDataAddress, IsDataRun, IsSound};
 ghost use Rattle.undo_journal.specs.Spending.{KeepsShut, WritesAtMost, rollback_writes, start_writes};
-ghost use Rattle.undo_journal.specs.Commits.{RisesEarly, StaysShut, TurnedCommits, TurnsGate};
+ghost use Rattle.undo_journal.specs.Commits.{CommitsLast, RisesEarly, StaysShut, TurnedCommits, TurnsGate};
 ghost use Rattle.undo_journal.specs.Memory.{committed, current, commit_writes, room, set_writes};
 ghost use Rattle.undo_journal.specs.Memory.{store_result_of, taken};
 ghost use Rattle.undo_journal.specs.Memory.{EndsAt, ContinuesRun, InRuns, IsIdle, IsOpen, IsReady, Joins, KeepsWords};
@@ -173,6 +173,7 @@ impl<B: Board> Store<B> {
         ensures store { Changes 1 self.old self.new (result_err result) }
         ensures dark { IsErrOf result PowerLost → self.new.facts.dark ≡ true }
         ensures counted { OnOk result (self.new.facts.writes ≡ self.old.facts.writes + 1) }
+        ensures between { CommitsLast self.old.facts self.new.facts }
     {
         self.check()?;
         let answer = write_word(&mut self.board, Address { number: at }, word);
@@ -293,6 +294,7 @@ impl<B: Board> Store<B> {
             self.old.facts self.new.facts }
         ensures joins { OnOk result (Joins (record { at = at; word = word }) self.old self.new) }
         ensures rises { RisesEarly self.old self.new }
+        ensures between { CommitsLast self.old.facts self.new.facts }
     {
         self.check()?;
         let answer = add(&mut self.board, &mut self.batch, Waiting { at, word });
@@ -311,6 +313,7 @@ impl<B: Board> Store<B> {
         ensures store { Changes (commit_writes self.old) self.old self.new (result_err result) }
         ensures counted { OnOk result (self.new.facts.writes ≡ self.old.facts.writes + commit_writes self.old) }
         ensures dark { IsErrOf result PowerLost → self.new.facts.dark ≡ true }
+        ensures between { CommitsLast self.old.facts self.new.facts }
     {
         match self.check() {
             Ok(()) => {
@@ -333,6 +336,7 @@ impl<B: Board> Store<B> {
         ensures store { Changes (rollback_writes self.old.used) self.old self.new (result_err result) }
         ensures counted { OnOk result (self.new.facts.writes ≡ self.old.facts.writes + rollback_writes self.old.used) }
         ensures dark { IsErrOf result PowerLost → self.new.facts.dark ≡ true }
+        ensures between { CommitsLast self.old.facts self.new.facts }
     {
         let checked = self.check();
         // The transaction is over even if the store has failed.

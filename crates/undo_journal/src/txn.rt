@@ -4,7 +4,7 @@ ghost use Rattle.std.specs.Prelude.{true, slice_index, slice_set};
 ghost use Rattle.std.specs.Result.{result_err};
 ghost use Rattle.nvm_board.specs.History.{written};
 ghost use Rattle.undo_journal.specs.declared.error.StoreErr.TheVariants.{PowerLost};
-ghost use Rattle.undo_journal.specs.Commits.{TurnedCommits, TurnsGate};
+ghost use Rattle.undo_journal.specs.Commits.{CommitsLast, TurnedCommits, TurnsGate};
 ghost use Rattle.undo_journal.specs.Endings.{ended, end_writes};
 ghost use Rattle.undo_journal.specs.Undo.{IsDataAddress, IsDataRun};
 ghost use Rattle.undo_journal.specs.Spending.{rollback_writes, WritesAtMost};
@@ -157,6 +157,7 @@ impl<B: Board> Txn<'_, B> {
         ensures counted { self.exit.0.now.failed ≡ None → self.exit.0.now.facts.writes
             ≡ (memory_of self.entry).facts.writes + end_writes work (memory_of self.entry) }
         ensures dark { self.exit.0.now.failed ≡ Some PowerLost → self.exit.0.now.facts.dark ≡ true }
+        ensures between { CommitsLast (memory_of self.entry).facts self.exit.0.now.facts }
     {
         let Txn { store } = self;
         match work {

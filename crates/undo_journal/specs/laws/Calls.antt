@@ -14,6 +14,7 @@ use Rattle.undo_journal.specs.Commits.{RisesEarly}
 use Rattle.undo_journal.specs.Memory.{Memory, InRuns, EndsAt, ContinuesRun, Reports, run_writes}
 use Rattle.undo_journal.specs.Undo.{gate}
 use Rattle.undo_journal.specs.declared.error.StoreErr.{StoreErr}
+use Rattle.undo_journal.specs.laws.LastWrites.{last_none, last_then}
 use Rattle.undo_journal.specs.laws.Memory.{reports_same, reports_then}
 use Rattle.undo_journal.specs.Spending.{Advances, KeepsBoard, WritesAtMost}
 use Rattle.undo_journal.specs.StoreCalls.{OnlyReads, TxnReads, Sets}
@@ -208,6 +209,7 @@ sets_then i k n a b c fits first rest = record {
   reports = reports_then _ _ _ first.reports rest.reports;
   writes = runs_then i k n (memory_of a) (memory_of b) (memory_of c) fits first.writes rest.writes;
   rises = rises_then (memory_of a) (memory_of b) (memory_of c) rest.reports first.rises rest.rises;
+  between = last_then _ _ _ first.between (record { sound = first.reports.sound; words = first.kept }) rest.between;
 }
 
 -- reads are no sets
@@ -220,6 +222,7 @@ reads_sets n a b reads = record {
   reports = reads.reads.reports;
   writes = reads_runs n (memory_of a) (memory_of b) reads.reads;
   rises = reads_rise (memory_of a) (memory_of b) reads.reads;
+  between = last_none _ _ reads.reads.board;
 }
 
 -- fewer sets are at most as many
@@ -232,4 +235,5 @@ sets_weaker i n a b fits sets = record {
   reports = sets.reports;
   writes = runs_weaker i n (memory_of a) (memory_of b) fits sets.writes;
   rises = sets.rises;
+  between = sets.between;
 }

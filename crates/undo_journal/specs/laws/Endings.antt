@@ -10,13 +10,14 @@ use Rattle.nvm_board.specs.Facts.{Facts}
 use Rattle.nvm_board.specs.laws.Aims.{aims_then}
 use Rattle.undo_journal.specs.declared.error.StoreErr.{StoreErr}
 use Rattle.undo_journal.specs.StoreCalls.{Changes}
-use Rattle.undo_journal.specs.Commits.{CommitsByGate, RisesEarly, TurnedCommits, TurnsGate, TurnsTo}
+use Rattle.undo_journal.specs.Commits.{CommitsByGate, CommitsLast, RisesEarly, TurnedCommits, TurnsGate, TurnsTo}
 use Rattle.undo_journal.specs.Endings.{ended, end_writes}
 use Rattle.undo_journal.specs.Batches.{batch_writes}
 use Rattle.undo_journal.specs.Memory.{Memory, committed, current, commit_writes, CountsCommit, InRuns, IsIdle, IsReady}
 use Rattle.undo_journal.specs.Memory.{Reports, taken}
 use Rattle.undo_journal.specs.Spending.{transaction_writes}
 use Rattle.undo_journal.specs.Undo.{gate}
+use Rattle.undo_journal.specs.laws.LastWrites.{last_then}
 use Rattle.undo_journal.specs.laws.Memory.{reports_then}
 use Rattle.undo_journal.specs.laws.Told.{idle_waits}
 use Rattle.undo_journal.specs.laws.Transactions.{begun, stays, stays_spends}
@@ -207,3 +208,11 @@ ends_answered {T} n r k work result a b t c x fits same last ready few first run
         → OnOk w (t.facts.writes + commit_writes t ≤ b.facts.writes + k)
     always (Ok v) all = all
     always (Err e) all = tt
+
+-- only its last device write may commit
+pub ends_last : (a b t c x : Memory) → b ≡ a → x ≡ c → committed t ≡ committed b → Reports b t
+    → CommitsLast b.facts t.facts → CommitsLast t.facts c.facts → CommitsLast a.facts x.facts
+ends_last a b t c x same last kept reports work end =
+    subst (λ (m : Memory). CommitsLast a.facts m.facts) (sym last)
+    (subst (λ (m : Memory). CommitsLast m.facts c.facts) same
+    (last_then b.facts t.facts c.facts work (record { sound = reports.sound; words = kept }) end))

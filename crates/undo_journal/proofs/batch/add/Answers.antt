@@ -15,6 +15,7 @@ use Rattle.undo_journal.specs.Memory.{set_writes}
 use Rattle.undo_journal.specs.Spending.{WritesAtMost}
 use Rattle.undo_journal.specs.BatchParts.{working}
 use Rattle.undo_journal.specs.laws.Calls.{within_more}
+use Rattle.undo_journal.specs.laws.LastWrites.{last_same}
 use Rattle.undo_journal.specs.laws.Transactions.{stays_spends}
 use Rattle.undo_journal.proofs.Telling.{steady_same}
 use Rattle.undo_journal.proofs.batch.add.Goals as goal
@@ -265,3 +266,9 @@ returns-then-is_full-clause-rises g c = λ shut.
 
 pub returns-clause-rises : goal.returns-clause-rises
 returns-clause-rises g c = λ shut. (shut, omega arith, omega arith)
+
+pub returns-then-is_full-clause-between : goal.returns-then-is_full-clause-between
+returns-then-is_full-clause-between g c = c.flush.ensures.between
+
+pub returns-clause-between : goal.returns-clause-between
+returns-clause-between g c = last_same _

@@ -13,6 +13,7 @@ use Rattle.undo_journal.proofs.Costing.{commit-none, commit-some, batch-within}
 use Rattle.nvm_board.specs.laws.Sizes.{least_words}
 use Rattle.nvm_board.specs.laws.SteadyCalls.{answered_ok}
 use Rattle.undo_journal.specs.laws.Exits.{none_ok}
+use Rattle.undo_journal.specs.laws.LastWrites.{last_then}
 use Rattle.undo_journal.proofs.Telling.{answered_after, answered_err}
 use Rattle.undo_journal.proofs.batch.finish.Goals as goal
 
@@ -177,3 +178,15 @@ pub returns-then-batch-eq0-clause-writes : goal.returns-then-batch-eq0-clause-wr
 returns-then-batch-eq0-clause-writes g c =
     within_more _ _ _ _ (batch-within (working (g.B.Board.facts c.args.board.now) c.args.batch.now))
     c.in_ok-flush.ensures.writes
+
+pub returns-in_err-flush-clause-between : goal.returns-in_err-flush-clause-between
+returns-in_err-flush-clause-between g c = c.in_err-flush.ensures.between
+
+pub returns-then-batch-eq0-clause-between : goal.returns-then-batch-eq0-clause-between
+returns-then-batch-eq0-clause-between g c = c.in_ok-flush.ensures.between
+
+pub returns-clause-between : goal.returns-clause-between
+returns-clause-between g c =
+    let flushed = c.in_ok-flush.ensures in
+    last_then _ _ _ flushed.between (record { sound = λ _. flushed.sound; words = flushed.kept })
+    c.write_gate.ensures.between

@@ -8,6 +8,7 @@ use Rattle.undo_journal.specs.Undo.{data_words}
 use Rattle.std.proofs.lemmas.List.{nil_from_length}
 use Rattle.std.proofs.lemmas.Result.{on_ok_weaker}
 use Rattle.undo_journal.proofs.Costing.{is-none, is-some}
+use Rattle.undo_journal.specs.laws.LastWrites.{last_same}
 use Rattle.undo_journal.specs.laws.Transactions.{stays_spends}
 use Rattle.undo_journal.proofs.Telling.{steady_same}
 use Rattle.nvm_board.specs.laws.SteadyCalls.{answered_ok}
@@ -135,3 +136,9 @@ returns-clause-used g c = omega arith
 
 pub returns-clause-empty : goal.returns-clause-empty
 returns-clause-empty g c = c.clear.ensures
+
+pub returns-then-is_empty-clause-between : goal.returns-then-is_empty-clause-between
+returns-then-is_empty-clause-between g c = last_same _
+
+pub returns-clause-between : goal.returns-clause-between
+returns-clause-between g c = c.save_and_write-answer.ensures.between

@@ -1,10 +1,11 @@
-use Rattle.std.proofs.Common.{◌+◌, ◌*◌, ℕ, List, length, inr, sym, ◌∙◌, ap, arith, refl, subst}
+use Rattle.std.proofs.Common.{◌+◌, ◌*◌, ℕ, List, length, inl, inr, sym, ◌∙◌, ap, arith, refl, subst}
 use Rattle.std.proofs.Math.ListN.{length-set}
 use Rattle.nvm_board.specs.laws.Torn.{length-written}
 use Rattle.undo_journal.specs.Batches.{AreSets, runs_from}
 use Rattle.std.proofs.lemmas.Result.{on_ok_weaker}
 use Rattle.undo_journal.proofs.Pairs.{length-pair_words}
-use Rattle.undo_journal.proofs.Saving.{pairs-torn, pairs-sound, gate-torn, gate-sound, named-raised, current-raised}
+use Rattle.undo_journal.proofs.Saving.{pairs-torn, pairs-sound, gate-torn, gate-sound, gate-committed}
+use Rattle.undo_journal.proofs.Saving.{named-raised, current-raised}
 use Rattle.undo_journal.specs.laws.Joining.{writes-some}
 use Rattle.std.specs.Prelude.{◌≤◌}
 use Rattle.nvm_board.specs.Facts.{IsMemory}
@@ -12,6 +13,7 @@ use Rattle.std.proofs.Common.{◌<◌, ◌≡◌, ⊎_elim, get_or-set_same, sli
 use Rattle.undo_journal.specs.Undo.{gate, data_words, undo, IsSound}
 use Rattle.undo_journal.specs.laws.Calls.{keeping_spends, spends_after, within_more}
 use Rattle.undo_journal.specs.laws.Exits.{none_ok}
+use Rattle.undo_journal.specs.laws.LastWrites.{last_after, last_none, last_then}
 use Rattle.undo_journal.specs.laws.Memory.{writes_then}
 use Rattle.undo_journal.proofs.Telling.{answered_after, answered_err, steady_then}
 use Rattle.nvm_board.specs.laws.Sizes.{least_words}
@@ -288,3 +290,30 @@ returns-clause-turned g c =
     let some = c.requires.some in
     let raised = gate_raised g c in
     λ shut. absurd (omega (arith, shut, raised, some))
+
+pub returns-in_err-pairs-clause-between : goal.returns-in_err-pairs-clause-between
+returns-in_err-pairs-clause-between g c = last_none _ _ c.in_err-pairs.ensures.reads
+
+pub returns-in_err-write_pairs-clause-between : goal.returns-in_err-write_pairs-clause-between
+returns-in_err-write_pairs-clause-between g c =
+    last_after _ _ _ c.in_ok-pairs.ensures.reads c.in_err-write_pairs.ensures.between
+
+pub returns-in_err-write_gate-clause-between : goal.returns-in_err-write_gate-clause-between
+returns-in_err-write_gate-clause-between g c =
+    let r = c.requires in
+    let paired = gate-committed _ _ _ c.args.sets.now _ c.in_ok-pairs.ensures.reads.words (c.deref.ensures.0
+    ∙ c.in_ok-pairs.ensures.words) r.sound r.counts r.room r.sets (journal_within _ (g.met.B.Board.is_board _).sized) _
+    c.in_ok-write_pairs.ensures.done _ (inl refl) in
+    last_then _ _ _ (last_after _ _ _ c.in_ok-pairs.ensures.reads c.in_ok-write_pairs.ensures.between) paired
+    c.in_err-write_gate.ensures.between
+
+pub returns-clause-between : goal.returns-clause-between
+returns-clause-between g c =
+    let r = c.requires in
+    let committed = gate-committed _ _ _ c.args.sets.now _ c.in_ok-pairs.ensures.reads.words (c.deref.ensures.0
+    ∙ c.in_ok-pairs.ensures.words) r.sound r.counts r.room r.sets (journal_within _ (g.met.B.Board.is_board _).sized) _
+    c.in_ok-write_pairs.ensures.done in
+    last_then _ _ _
+    (last_then _ _ _ (last_after _ _ _ c.in_ok-pairs.ensures.reads c.in_ok-write_pairs.ensures.between)
+    (committed _ (inl refl)) c.in_ok-write_gate.ensures.between)
+    (committed _ (inr c.in_ok-write_gate.ensures.done)) c.write_words.ensures.between

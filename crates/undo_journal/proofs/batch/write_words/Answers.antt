@@ -7,9 +7,10 @@ use Rattle.nvm_board.specs.laws.SteadyCalls.{answered_ok}
 use Rattle.undo_journal.specs.Batches.{overlay, AreSets, runs_from}
 use Rattle.undo_journal.specs.JournalParts.{first_words}
 use Rattle.undo_journal.specs.laws.Exits.{none_ok}
+use Rattle.undo_journal.specs.laws.LastWrites.{last_same, last_then, last_written}
 use Rattle.std.proofs.lemmas.List.{nil_from_length}
 use Rattle.undo_journal.proofs.Costing.{is-none, is-some}
-use Rattle.undo_journal.proofs.Saving.{same-none}
+use Rattle.undo_journal.proofs.Saving.{same-committed, same-none}
 use Rattle.undo_journal.proofs.Telling.{answered_after, answered_err, steady_then}
 use Rattle.undo_journal.proofs.RunLaws.{turn-few, turn-inside, turn-runs, sets-drop}
 use Rattle.undo_journal.proofs.Turning.{turn-torn, turn-same, turn-named, turn-left}
@@ -132,6 +133,7 @@ loop-rest-preserved g c =
       cut = aims_then _ _ _ kept.cut (aims_written _ _ _ _ _ wrote);
       compares = wrote.compares ∙ kept.compares;
       matches = wrote.matches ∙ kept.matches;
+      between = last_then _ _ _ kept.between (same-committed _ _ kept.same) (last_written _ _ _ _ _ wrote);
     }
 
 pub returns-in_err-write-clause-done : goal.returns-in_err-write-clause-done
@@ -175,6 +177,7 @@ loop-rest-init g c =
       cut = aims_kept _ _ refl (aim_same _);
       compares = refl;
       matches = refl;
+      between = last_same _;
     }
 
 pub first_run-run-requires-clause-some : goal.first_run-run-requires-clause-some
@@ -202,3 +205,11 @@ returns-clause-writes g c =
       compares = kept.compares;
       matches = kept.matches;
     }
+
+pub returns-in_err-write-clause-between : goal.returns-in_err-write-clause-between
+returns-in_err-write-clause-between g c =
+    let kept = c.loop-rest.invariant in
+    last_then _ _ _ kept.between (same-committed _ _ kept.same) (last_written _ _ _ _ _ c.in_err-write.ensures)
+
+pub returns-clause-between : goal.returns-clause-between
+returns-clause-between g c = c.loop-rest.invariant.between

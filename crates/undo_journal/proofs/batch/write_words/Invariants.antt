@@ -2,6 +2,7 @@ use Rattle.std.proofs.Common.{◌≡◌, ◌≤◌, ◌+◌, length}
 use Rattle.nvm_board.specs.Aims.{AimsOn}
 use Rattle.nvm_board.specs.Facts.{Steady}
 use Rattle.undo_journal.specs.declared.batch.TheConstants.{BATCH}
+use Rattle.undo_journal.specs.Commits.{CommitsLast}
 use Rattle.undo_journal.specs.Undo.{pairs}
 use Rattle.undo_journal.specs.Batches.{overlay, runs_from, AreSets}
 use Rattle.undo_journal.specs.JournalParts.{AllNamed}
@@ -21,6 +22,7 @@ invariant-loop-rest g l = let first = g.B.Board.facts l.initial.board in let now
   cut : AimsOn first now;
   compares : now.compares ≡ first.compares;
   matches : now.matches ≡ first.matches;
+  between : CommitsLast first now;
 }
 
 abbrev pub decreases-loop-rest : goal.decreases-loop-rest

@@ -5,7 +5,8 @@ use Rattle.undo_journal.specs.declared.layout.TheConstants.{JOURNAL}
 use Rattle.undo_journal.specs.Undo.{pair_at}
 use Rattle.nvm_board.specs.laws.Aims.{aims_kept, aims_stay, aims_then}
 use Rattle.undo_journal.specs.laws.Exits.{none_ok}
-use Rattle.undo_journal.proofs.Telling.{answered_err, answered_after, steady_then}
+use Rattle.undo_journal.specs.laws.LastWrites.{last_after, last_none}
+use Rattle.undo_journal.proofs.Telling.{answered_err, answered_after, read_keeps, steady_then}
 use Rattle.nvm_board.specs.laws.Sizes.{least_words}
 use Rattle.undo_journal.proofs.journal.put_back.Goals as goal
 
@@ -30,6 +31,7 @@ returns-in_err-at g c =
         compares = told.compares;
         matches = told.matches;
       };
+      between = last_none _ _ (read_keeps _ _ _ _ told);
     }
 
 pub returns-in_err-earlier : goal.returns-in_err-earlier
@@ -49,6 +51,7 @@ returns-in_err-earlier g c =
         compares = second.compares ∙ first.compares;
         matches = second.matches ∙ first.matches;
       };
+      between = last_after _ _ _ (read_keeps _ _ _ _ first) (last_none _ _ (read_keeps _ _ _ _ second));
     }
 
 pub returns : goal.returns
@@ -71,6 +74,8 @@ returns g c =
         compares = told.writes.compares ∙ second.compares ∙ first.compares;
         matches = told.writes.matches ∙ second.matches ∙ first.matches;
       };
+      between = last_after _ _ _ (read_keeps _ _ _ _ first)
+          (last_after _ _ _ (read_keeps _ _ _ _ second) told.between);
     }
 
 pub pair_address-pair-requires : goal.pair_address-pair-requires

@@ -3,12 +3,13 @@ use Rattle.std.proofs.Common.{◌≡◌, ◌-◌, ◌<◌, suc, true, arith, sym
 use Rattle.nvm_board.specs.laws.Aims.{aims_same, aims_then}
 use Rattle.nvm_board.specs.laws.SteadyCalls.{answered_ok}
 use Rattle.undo_journal.specs.declared.layout.TheConstants.{GATE}
-use Rattle.undo_journal.specs.Undo.{gate}
+use Rattle.undo_journal.specs.Undo.{data_words, gate}
 use Rattle.undo_journal.specs.laws.Undo.{undo_shut}
 use Rattle.undo_journal.proofs.Restore.{put_back_from, put_back-none, turn-place, turn-done, turn-kept, turn-sound}
 use Rattle.undo_journal.proofs.Restore.{end-done, end-kept, end-sound, rollback_some}
 use Rattle.undo_journal.specs.Spending.{rollback_writes, WritesAtMost}
 use Rattle.undo_journal.specs.laws.Exits.{none_ok}
+use Rattle.undo_journal.specs.laws.LastWrites.{committed_same, last_same, last_then}
 use Rattle.undo_journal.specs.laws.Transactions.{stays_spends}
 use Rattle.undo_journal.proofs.Telling.{answered_err, answered_after, steady_same}
 use Rattle.std.proofs.lemmas.Result.{on_ok_weaker}
@@ -26,11 +27,13 @@ loop-left-init g c =
       within = omega arith;
       steady = record { was_lit = c.requires.lit; lit = c.requires.lit; faults = refl; cuts = refl; due = refl };
       so_far = sym (ap (λ (i : ℕ). put_back_from m i) (sym c.requires.counts) ∙ put_back-none m c.requires.sound);
+      committed = committed_same m;
       writes = omega arith;
       more = omega arith;
       cut = aims_same _;
       compares = refl;
       matches = refl;
+      between = last_same _;
     }
 
 pub put_back-requires-clause-place : goal.put_back-requires-clause-place
@@ -58,11 +61,18 @@ loop-left-preserved g c =
       };
       so_far = turn-done m _ c.requires.sound c.loop-left.left kept.so_far (c.loop-left.left - 1) _ next lt
           c.in_ok-put_back.ensures.done;
+      committed = record {
+        sound = λ _. turn-sound m _ c.requires.sound c.loop-left.left kept.so_far (c.loop-left.left - 1) _ next lt
+            c.in_ok-put_back.ensures.torn;
+        words = ap data_words (turn-kept m _ c.requires.sound c.loop-left.left kept.so_far (c.loop-left.left - 1) _ next
+            lt c.in_ok-put_back.ensures.torn);
+      };
       writes = omega (arith, c.in_ok-put_back.ensures.counted, kept.writes);
       more = omega (arith, cost.more, kept.more);
       cut = aims_then _ _ _ kept.cut cost.cut;
       compares = cost.compares ∙ kept.compares;
       matches = cost.matches ∙ kept.matches;
+      between = last_then _ _ _ kept.between kept.committed c.in_ok-put_back.ensures.between;
     }
 
 pub returns-in_err-put_back-clause-kept : goal.returns-in_err-put_back-clause-kept
@@ -184,3 +194,16 @@ returns-in_err-put_back-clause-none g c = λ zero. absurd (omega (arith, c.if-co
 
 pub returns-clause-none : goal.returns-clause-none
 returns-clause-none g c = λ zero. absurd (omega (arith, c.if-count-eq0.false, zero))
+
+pub returns-then-count-eq0-clause-between : goal.returns-then-count-eq0-clause-between
+returns-then-count-eq0-clause-between g c = last_same _
+
+pub returns-in_err-put_back-clause-between : goal.returns-in_err-put_back-clause-between
+returns-in_err-put_back-clause-between g c =
+    let kept = c.loop-left.invariant in
+    last_then _ _ _ kept.between kept.committed c.in_err-put_back.ensures.between
+
+pub returns-clause-between : goal.returns-clause-between
+returns-clause-between g c =
+    let kept = c.loop-left.invariant in
+    last_then _ _ _ kept.between kept.committed c.write_gate.ensures.between

@@ -1,6 +1,7 @@
 use Rattle.std.proofs.Common.{◌≡◌, ℕ, [], ◌∷◌, subst, slice_set}
 use Rattle.std.specs.Prelude.{OnOk}
 use Rattle.nvm_board.specs.Torn.{Torn}
+use Rattle.undo_journal.specs.laws.LastWrites.{last_written}
 use Rattle.undo_journal.proofs.Telling.{write_costs}
 use Rattle.undo_journal.proofs.journal.write_word.Goals as goal
 
@@ -16,4 +17,5 @@ returns g c =
       light = told.light;
       counted = told.counted;
       writes = write_costs _ _ _ _ _ told;
+      between = last_written _ _ _ _ _ told;
     }

@@ -2,6 +2,8 @@ use Rattle.std.proofs.Common.{◌+◌, sym, ap, ◌∙◌, subst}
 use Rattle.undo_journal.specs.Undo.{gate, data_words}
 use Rattle.undo_journal.specs.Memory.{Memory, committed}
 use Rattle.undo_journal.specs.Spending.{WritesAtMost, rollback_writes}
+use Rattle.undo_journal.specs.Commits.{CommitsLast}
+use Rattle.undo_journal.specs.laws.LastWrites.{last_still}
 use Rattle.undo_journal.specs.laws.Undo.{gate_undone}
 use Rattle.std.proofs.lemmas.Result.{on_ok_weaker}
 use Rattle.undo_journal.proofs.Standing.{new-idle, new-fits}
@@ -77,3 +79,11 @@ roll_back-answer-requires-clause-lit g c =
 
 pub returns-clause-kept : goal.returns-clause-kept
 returns-clause-kept g c = ap data_words c.roll_back-answer.ensures.kept ∙ ap committed c.self.view_is
+
+pub returns-in_err-checked-clause-between : goal.returns-in_err-checked-clause-between
+returns-in_err-checked-clause-between g c = last_still _ _ (ap (λ (m : Memory). m.facts) c.self.view_is)
+
+pub returns-clause-between : goal.returns-clause-between
+returns-clause-between g c =
+    subst (λ (m : Memory). CommitsLast m.facts (g.B.Board.facts c.roll_back-answer.new.board)) c.self.view_is
+    c.roll_back-answer.ensures.between

@@ -2,6 +2,8 @@ use Rattle.std.proofs.Common.{◌≡◌, ◌+◌, ◌≤◌, ap, inl, refl, sym,
 use Rattle.std.proofs.Math.Logic.{⊎_map}
 use Rattle.undo_journal.specs.Memory.{Memory, committed, current, commit_writes}
 use Rattle.undo_journal.specs.Spending.{WritesAtMost}
+use Rattle.undo_journal.specs.Commits.{CommitsLast}
+use Rattle.undo_journal.specs.laws.LastWrites.{last_still}
 use Rattle.undo_journal.specs.Undo.{gate}
 use Rattle.undo_journal.specs.laws.Exits.{ok_anyway}
 use Rattle.std.proofs.lemmas.Result.{on_ok_weaker}
@@ -95,3 +97,11 @@ returns-in-Err-clause-done g c = tt
 
 pub returns-in-Err-clause-counted : goal.returns-in-Err-clause-counted
 returns-in-Err-clause-counted g c = tt
+
+pub returns-in-Err-clause-between : goal.returns-in-Err-clause-between
+returns-in-Err-clause-between g c = last_still _ _ (ap (λ (m : Memory). m.facts) c.self.view_is)
+
+pub returns-in-Ok-clause-between : goal.returns-in-Ok-clause-between
+returns-in-Ok-clause-between g c =
+    subst (λ (m : Memory). CommitsLast m.facts (g.B.Board.facts c.finish-answer.new.board)) c.self.view_is
+    c.finish-answer.ensures.between

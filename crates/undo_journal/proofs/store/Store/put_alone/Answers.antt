@@ -1,4 +1,6 @@
-use Rattle.std.proofs.Common.{◌+◌, refl, sym, ap, ◌∙◌}
+use Rattle.std.proofs.Common.{◌+◌, refl, sym, ap, ◌∙◌, subst}
+use Rattle.undo_journal.specs.Commits.{CommitsLast}
+use Rattle.undo_journal.specs.laws.LastWrites.{last_same}
 use Rattle.undo_journal.specs.Undo.{gate, IsDataAddress}
 use Rattle.undo_journal.specs.Memory.{Memory}
 use Rattle.undo_journal.specs.laws.Exits.{ok_anyway}
@@ -74,3 +76,11 @@ returns-clause-shut g c = λ shut.
     ⊎_elim (λ old. ap gate old ∙ within)
     (λ new. one-gate _ _ c.self.view_is c.self.invariant works c.requires.idle c.args.at c.args.word c.requires.place
     _ new) c.write_word-answer.ensures.torn
+
+pub returns-in_err-check-clause-between : goal.returns-in_err-check-clause-between
+returns-in_err-check-clause-between g c = last_same _
+
+pub returns-clause-between : goal.returns-clause-between
+returns-clause-between g c =
+    subst (λ (m : Memory). CommitsLast m.facts (g.B.Board.facts c.write_word-answer.new.board)) c.self.view_is
+    c.write_word-answer.ensures.between

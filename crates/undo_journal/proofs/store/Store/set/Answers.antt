@@ -11,6 +11,8 @@ use Rattle.undo_journal.proofs.Standing.{board-place, held-fits}
 use Rattle.undo_journal.proofs.Noted.{done_unfailed, on_ok, on_dark, noted_tells, noted-true, noted-open, noted-reports}
 use Rattle.undo_journal.specs.Memory.{set_writes}
 use Rattle.undo_journal.specs.Spending.{WritesAtMost}
+use Rattle.undo_journal.specs.Commits.{CommitsLast}
+use Rattle.undo_journal.specs.laws.LastWrites.{last_same}
 use Rattle.undo_journal.specs.Undo.{gate}
 use Rattle.undo_journal.specs.laws.Calls.{reads_runs, reads_same, within_more}
 use Rattle.undo_journal.specs.laws.Transactions.{stays_spends}
@@ -184,3 +186,11 @@ returns-clause-rises g c =
     subst (λ (m : Memory). (gate m.facts.words ≡ 0) × (after.writes ≤ m.facts.writes + 2)
     × (c.noted.new.failed ≡ None → after.writes ≤ m.facts.writes)) c.self.view_is
     (early.0, early.1, λ works. done_unfailed _ c.noted.result c.noted.new.failed tells works few)
+
+pub returns-in_err-check-clause-between : goal.returns-in_err-check-clause-between
+returns-in_err-check-clause-between g c = last_same _
+
+pub returns-clause-between : goal.returns-clause-between
+returns-clause-between g c =
+    subst (λ (m : Memory). CommitsLast m.facts (g.B.Board.facts c.add-answer.new.board)) c.self.view_is
+    c.add-answer.ensures.between

@@ -39,6 +39,7 @@ returns-clause-store g c =
         reports = set.reports;
         writes = set.runs;
         rises = set.rises;
+        between = set.between;
       };
       ready = unless_failed (IsOpen c.set.new.self) c.set.result set.ready;
       tells = set.tells;
