@@ -8,6 +8,8 @@ use Rattle.nvm_board.specs.laws.Aims.{aims_kept, aims_stay, aims_then}
 use Rattle.undo_journal.specs.declared.error.StoreErr.{StoreErr}
 use Rattle.undo_journal.specs.StoreCalls.{Changes, Leaves, OnlyReads, UnlessFailed}
 use Rattle.undo_journal.specs.Memory.{Memory, IsIdle, IsReady, KeepsWords, Reports, committed}
+use Rattle.undo_journal.specs.Commits.{CommitsLast}
+use Rattle.undo_journal.specs.laws.LastWrites.{last_then}
 use Rattle.undo_journal.specs.laws.Memory.{reports_then}
 use Rattle.undo_journal.specs.Spending.{WritesAtMost}
 use Rattle.undo_journal.specs.Undo.{gate}
@@ -218,3 +220,9 @@ pub match_counts : (n : ℕ) (told : Outcome) (a b c : ℕ) → told ≡ Matched
     → c ≡ a + trial_end_writes n told
 match_counts n Matched a b c is same made = omega (arith, same, made)
 match_counts n (Wrong left) a b c is same made = absurd (cc)
+
+-- a comparison, and then writes of which only the last one sets the PIN
+pub compares_between : (a b : Memory) (c : Facts) (told : Option StoreErr) → Leaves a b told
+    → committed b ≡ committed a → CommitsLast a.facts b.facts → CommitsLast b.facts c → CommitsLast a.facts c
+compares_between a b c told leaves same first rest =
+    last_then a.facts b.facts c first (record { sound = leaves.reports.sound; words = same }) rest

@@ -3,7 +3,7 @@ use Rattle.std.specs.Prelude.{◌≡◌, ◌⊎◌, ◌+◌, ℕ, Result, OnOk}
 use Rattle.std.specs.Result.{result_err}
 use Rattle.undo_journal.specs.declared.error.StoreErr.{StoreErr}
 use Rattle.undo_journal.specs.declared.txn.Txn.{Txn}
-use Rattle.undo_journal.specs.Commits.{CommitsByGate, TurnsTo}
+use Rattle.undo_journal.specs.Commits.{CommitsByGate, CommitsLast, TurnsTo}
 use Rattle.undo_journal.specs.StoreCalls.{Changes, SetsIn}
 use Rattle.undo_journal.specs.Lent.{memory_of}
 use Rattle.undo_journal.specs.Memory.{Memory, CountsCommit, InRuns, committed, current}
@@ -28,7 +28,7 @@ SetsByGate secret set old new = CommitsByGate old new
     × TurnsTo (SetsPin (committed old) (owner secret) (set (pin_in old secret))) old new
 
 -- The PIN of a secret is changed by `set`, in `writes` device writes. At each exit either that is done, or nothing
--- has changed. `gate` describes the effect on the gate.
+-- has changed, and only the last device write can do it. `gate` describes the effect on the gate.
 pub record PutsIts (gate : Memory → Memory → Type 0) (writes secret : ℕ) (set : Pin → Pin) (old new : Memory)
     (result : Result (Unit {0}) StoreErr) : Type 0 where
   pub any_exit : (committed new ≡ committed old)
@@ -38,3 +38,4 @@ pub record PutsIts (gate : Memory → Memory → Type 0) (writes secret : ℕ) (
   pub pages : ArePinPages (committed old) → ArePinPages (committed new)
   pub store : Changes writes old new (result_err result)
   pub counted : OnOk result (new.facts.writes ≡ old.facts.writes + writes)
+  pub between : CommitsLast old.facts new.facts

@@ -7,7 +7,7 @@ use Rattle.nvm_board.specs.Aims.{AimsOn}
 use Rattle.nvm_board.specs.Facts.{Facts, RisesAt, raised}
 use Rattle.undo_journal.specs.declared.error.StoreErr.{StoreErr}
 use Rattle.undo_journal.specs.StoreCalls.{Changes, Leaves, OnlyReads}
-use Rattle.undo_journal.specs.Commits.{CommitsByGate, StaysShut, TurnsTo}
+use Rattle.undo_journal.specs.Commits.{CommitsByGate, CommitsLast, StaysShut, TurnsTo}
 use Rattle.undo_journal.specs.Memory.{Memory, committed, IsReady}
 use Rattle.pin_store.specs.declared.errors.PinErr.{PinErr}
 use Rattle.pin_store.specs.declared.errors.PinErr.TheVariants as pin_err
@@ -99,7 +99,8 @@ pub record TakesTry {T E : Type 0} (secret : ℕ) (refused : Type 0) (old new : 
   pub counted : OnOk result (new.facts.writes ≡ old.facts.writes + 1)
 
 -- A call that consumes a charge. It compares once, and a match changes the PIN by `set` in `writes` device writes. At
--- each exit either that is done, or nothing has changed. `gate` describes the effect on the gate.
+-- each exit either that is done, or nothing has changed, and only the last device write can do it. `gate` describes the
+-- effect on the gate.
 pub record EndsTrial (gate : Memory → Memory → Type 0) (writes secret : ℕ) (shown : List ℕ) (set : Pin → Pin)
     (old new : Memory) (result : Result Outcome StoreErr) : Type 0 where
   pub any_exit : (committed new ≡ committed old) ⊎ SetsByMatch secret shown (set (pin_in old secret)) old new
@@ -109,6 +110,7 @@ pub record EndsTrial (gate : Memory → Memory → Type 0) (writes secret : ℕ)
   pub store : Leaves old new (result_err result)
   pub spends : ComparesOnce writes secret old.facts new.facts
   pub counted : IfOk result (λ outcome. new.facts.writes ≡ old.facts.writes + trial_end_writes writes outcome)
+  pub between : CommitsLast old.facts new.facts
 
 -- A match was counted, and all tries of the secret are restored.
 pub record FillsByMatch (secret : ℕ) (shown : List ℕ) (old new : Memory) : Type 0 where

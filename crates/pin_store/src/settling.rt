@@ -2,7 +2,7 @@
 ghost use Rattle.std.specs.Prelude.{◌≡◌, ◌<◌, ◌≤◌, if◌then◌else◌, IfOk};
 ghost use Rattle.std.specs.Result.{result_err};
 ghost use Rattle.undo_journal.specs.StoreCalls.{Reads, Leaves};
-ghost use Rattle.undo_journal.specs.Commits.{StaysShut};
+ghost use Rattle.undo_journal.specs.Commits.{CommitsLast, StaysShut};
 ghost use Rattle.undo_journal.specs.Memory.{committed, IsReady};
 ghost use Rattle.card_model.specs.declared.pins.TheConstants.{PINS};
 ghost use Rattle.card_model.specs.Secrets.{changed_pin, kept, marked_pin, reset_pin, verified_pin};
@@ -129,6 +129,7 @@ fn compare<B: Board>(
     ensures shut { StaysShut store.old store.new }
     ensures spends { ComparesOnce 0 charged store.old.facts store.new.facts }
     ensures writes { store.new.facts.writes ≡ store.old.facts.writes }
+    ensures between { CommitsLast store.old.facts store.new.facts }
 {
     let Charged { secret } = charged;
     let left = tries(store, secret)?;

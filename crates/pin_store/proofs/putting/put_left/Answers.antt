@@ -39,4 +39,5 @@ returns g c = record {
       c.put_alone.ensures.any_exit;
   store = search;
   counted = search rules;
+  between = c.put_alone.ensures.between;
 }

@@ -1,7 +1,8 @@
 use Rattle.std.proofs.Common.{sym, ◌∙◌, subst, arith}
 use Rattle.undo_journal.specs.Lent.{memory_of}
 use Rattle.undo_journal.specs.Memory.{Memory, IsOpen}
-use Rattle.undo_journal.specs.laws.Endings.{ends, ends_answered, ends_by_gate, ends_counted, ends_done, ends_turned}
+use Rattle.undo_journal.specs.laws.Endings.{ends, ends_answered, ends_by_gate, ends_counted, ends_done, ends_last}
+use Rattle.undo_journal.specs.laws.Endings.{ends_turned}
 use Rattle.card_model.specs.Secrets.{owner}
 use Rattle.pin_store.specs.RenewalParts.{renewal_runs, renewal_sets, renewing_writes, renewed_pin}
 use Rattle.pin_store.specs.Pages.{pin_at, SetsPin}
@@ -38,6 +39,8 @@ returns g c =
       counted = ends_counted (renewing_writes c.args.renewal) c.set_renewed-work.result c.end.result _ _
           (memory_of c.set_renewed-work.new.txn) _ _ c.begin-txn.ensures.same last c.requires.ready set.counted
           c.end.ensures.answered c.end.ensures.counted;
+      between = ends_last _ _ (memory_of c.set_renewed-work.new.txn) _ _ c.begin-txn.ensures.same last
+          set.store.sets.kept set.store.sets.reports set.store.sets.between c.end.ensures.between;
     }
 
 pub set_renewed-work-requires : goal.set_renewed-work-requires

@@ -35,4 +35,5 @@ returns g c = record {
       (λ done. verified_pages _ _ c.args.secret pages (set g c _ done)) c.put_alone.ensures.any_exit;
   store = search rules;
   counted = search rules;
+  between = c.put_alone.ensures.between;
 }

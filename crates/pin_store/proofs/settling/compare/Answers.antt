@@ -2,6 +2,7 @@ use Rattle.std.proofs.Common.{◌≡◌, List, ℕ, sym, ◌∙◌, ap, inr, sub
 use Rattle.std.specs.Prelude.{if◌then◌else◌}
 use Rattle.nvm_board.specs.Facts.{raised}
 use Rattle.undo_journal.specs.laws.Calls.{reads_then}
+use Rattle.undo_journal.specs.laws.LastWrites.{last_after, last_none, last_unwritten}
 use Rattle.pin_store.specs.declared.errors.Outcome.{Outcome}
 use Rattle.card_model.specs.Secrets.{kept, owner}
 use Rattle.pin_store.specs.Pages.{pin_at}
@@ -90,3 +91,20 @@ returns-clause-done g c =
     ∙ ap (λ (s : ℕ). if c.in_ok-right.right then raised before.matches s else before.matches) c.number.ensures.value)
     c.compare.ensures.writes
     c.compare.ensures.keeps.committed_words)
+
+pub returns-in_err-left-clause-between : goal.returns-in_err-left-clause-between
+returns-in_err-left-clause-between g c = last_none _ _ c.tries.ensures.store.only.board
+
+pub returns-in_err-kept-clause-between : goal.returns-in_err-kept-clause-between
+returns-in_err-kept-clause-between g c =
+    last_after _ _ _ c.tries.ensures.store.only.board (last_none _ _ c.kept.ensures.store.only.board)
+
+pub returns-in_err-right-clause-between : goal.returns-in_err-right-clause-between
+returns-in_err-right-clause-between g c =
+    last_after _ _ _ (reads_then _ _ _ c.tries.ensures.store.only c.kept.ensures.store.only).board
+    (last_unwritten _ _ c.compare.ensures.words c.compare.ensures.cut)
+
+pub returns-clause-between : goal.returns-clause-between
+returns-clause-between g c =
+    last_after _ _ _ (reads_then _ _ _ c.tries.ensures.store.only c.kept.ensures.store.only).board
+    (last_unwritten _ _ c.compare.ensures.words c.compare.ensures.cut)

@@ -1,7 +1,8 @@
 use Rattle.std.proofs.Common.{arith, inl}
 use Rattle.pin_store.specs.RenewalParts.{renewing_writes, renewed_pin}
 use Rattle.pin_store.specs.Trials.{pin_in}
-use Rattle.pin_store.proofs.Settled.{pages_stay, compares_more, compares_then, match_told, matched_sets}
+use Rattle.pin_store.proofs.Settled.{pages_stay, compares_between, compares_more, compares_then, match_told}
+use Rattle.pin_store.proofs.Settled.{matched_sets}
 use Rattle.pin_store.proofs.Settled.{matched_sets_or_not, end_told, match_counts, wrong_counts, wrong_ends}
 use Rattle.undo_journal.specs.laws.Transactions.{by_gate_after}
 use Rattle.undo_journal.specs.laws.Exits.{none_ok}
@@ -20,6 +21,7 @@ returns-in_err-outcome g c = record {
   store = leaves_handed _ _ _ _ c.from_residual.ensures.1 c.in_err-outcome.ensures.store;
   spends = compares_more (renewing_writes c.args.renewal) _ _ _ c.compare.ensures.spends;
   counted = none_ok _ _ _ c.from_residual.ensures.1;
+  between = c.compare.ensures.between;
 }
 
 pub returns-in_err-put_renewed : goal.returns-in_err-put_renewed
@@ -48,6 +50,8 @@ returns-in_err-put_renewed g c = record {
   spends = compares_then (renewing_writes c.args.renewal) _ _ _ _ c.compare.ensures.spends
       c.put_renewed.ensures.store.writes;
   counted = none_ok _ _ _ c.from_residual-in_err-put_renewed.ensures.1;
+  between = compares_between _ _ _ _ c.compare.ensures.store c.compare.ensures.kept c.compare.ensures.between
+      c.put_renewed.ensures.between;
 }
 
 pub returns-in_ok-put_renewed : goal.returns-in_ok-put_renewed
@@ -84,6 +88,8 @@ returns-in_ok-put_renewed g c = record {
       c.put_renewed.ensures.store.writes;
   counted = match_counts (renewing_writes c.args.renewal) c.in_ok-outcome.outcome _ _ _ c.in-Matched.is
       c.compare.ensures.writes c.in_ok-put_renewed.ensures.counted;
+  between = compares_between _ _ _ _ c.compare.ensures.store c.compare.ensures.kept c.compare.ensures.between
+      c.put_renewed.ensures.between;
 }
 
 pub returns-in_default : goal.returns-in_default
@@ -101,4 +107,5 @@ returns-in_default g c = record {
   counted =
       wrong_counts (renewing_writes c.args.renewal) c.in_ok-outcome.outcome _ _ c.in_default.not-Matched
       c.compare.ensures.writes;
+  between = c.compare.ensures.between;
 }

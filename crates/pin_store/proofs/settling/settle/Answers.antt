@@ -1,7 +1,8 @@
 use Rattle.std.proofs.Common.{inl}
 use Rattle.card_model.specs.Secrets.{verified_pin}
 use Rattle.pin_store.specs.Trials.{pin_in}
-use Rattle.pin_store.proofs.Settled.{pages_stay, compares_more, compares_then, match_told, matched_sets}
+use Rattle.pin_store.proofs.Settled.{pages_stay, compares_between, compares_more, compares_then, match_told}
+use Rattle.pin_store.proofs.Settled.{matched_sets}
 use Rattle.pin_store.proofs.Settled.{matched_sets_or_not, end_told, match_counts, wrong_counts, wrong_ends}
 use Rattle.undo_journal.specs.laws.Exits.{none_ok}
 use Rattle.undo_journal.specs.laws.Told.{leaves_on, leaves_handed, changes_leave}
@@ -16,6 +17,7 @@ returns-in_err-outcome g c = record {
   store = leaves_handed _ _ _ _ c.from_residual.ensures.1 c.in_err-outcome.ensures.store;
   spends = compares_more 1 _ _ _ c.compare.ensures.spends;
   counted = none_ok _ _ _ c.from_residual.ensures.1;
+  between = c.compare.ensures.between;
 }
 
 pub returns-in_err-put_tries : goal.returns-in_err-put_tries
@@ -32,6 +34,8 @@ returns-in_err-put_tries g c = record {
       (leaves_on _ _ _ _ c.compare.ensures.store.reports (changes_leave _ _ _ _ c.in_err-put_tries.ensures.store));
   spends = compares_then 1 _ _ _ _ c.compare.ensures.spends c.put_tries.ensures.store.writes;
   counted = none_ok _ _ _ c.from_residual-in_err-put_tries.ensures.1;
+  between = compares_between _ _ _ _ c.compare.ensures.store c.compare.ensures.kept c.compare.ensures.between
+      c.put_tries.ensures.between;
 }
 
 pub returns-in_ok-put_tries : goal.returns-in_ok-put_tries
@@ -55,6 +59,8 @@ returns-in_ok-put_tries g c = record {
   spends = compares_then 1 _ _ _ _ c.compare.ensures.spends c.put_tries.ensures.store.writes;
   counted = match_counts 1 c.in_ok-outcome.outcome _ _ _ c.in-Matched.is
       c.compare.ensures.writes c.in_ok-put_tries.ensures.counted;
+  between = compares_between _ _ _ _ c.compare.ensures.store c.compare.ensures.kept c.compare.ensures.between
+      c.put_tries.ensures.between;
 }
 
 pub returns-in_default : goal.returns-in_default
@@ -67,4 +73,5 @@ returns-in_default g c = record {
   store = c.in_ok-outcome.ensures.store;
   spends = compares_more 1 _ _ _ c.compare.ensures.spends;
   counted = wrong_counts 1 c.in_ok-outcome.outcome _ _ c.in_default.not-Matched c.compare.ensures.writes;
+  between = c.compare.ensures.between;
 }
