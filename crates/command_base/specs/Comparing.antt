@@ -1,10 +1,11 @@
 -- The comparisons of a request, and that each permanently uses up a try, before it is made (ISO/IEC 7816-4,
 -- clause 11, basic security handling).
-use Rattle.std.specs.Prelude.{◌≡◌, ◌⊎◌, ◌<◌, ◌+◌, ◌-◌, ℕ, List, ◌∷◌, slice_set, Option, Some, None, Result, Ok, Err}
+use Rattle.std.specs.Prelude.{◌≡◌, ◌⊎◌, ◌<◌, ◌+◌, ◌-◌, ℕ, List, ◌∷◌, length, slice_set, take}
+use Rattle.std.specs.Prelude.{Option, Some, None, Result, Ok, Err}
 use Rattle.card_model.specs.declared.status.Sw.{Sw}
 use Rattle.nvm_board.specs.Aims.{WritesRuns}
 use Rattle.nvm_board.specs.Facts.{Facts, RisesAt, raised}
-use Rattle.nvm_board.specs.History.{Run, written}
+use Rattle.nvm_board.specs.History.{Run, replayed, written}
 use Rattle.card_model.specs.Requests.{Request}
 use Rattle.card_model.specs.declared.pins.TheConstants.{PINS}
 use Rattle.card_model.specs.Secrets.{charged_pin, full_tries, kept, tries_left}
@@ -62,7 +63,8 @@ pub record ComparesAttempt (a : Attempt) (c d : Card) (old new : Comparisons) : 
   pub others : d.pins ≡ slice_set c.pins (a.pin - 1) (pin_of d a.pin)
 
 -- The device writes of an attempt begin with its charge. Power-on with the first write, and no other, finds the card
--- with one try less of the presented secret, which had one, and otherwise unchanged.
+-- with one try less of the presented secret, which had one, and otherwise unchanged. So does power-on with the charge
+-- and any number of the other writes, but not all.
 pub record ChargesFirst (a : Attempt) (c : Card) (old new : Facts) : Type 0 where
   pub left : 0 < tries_left a.secret (pin_of c a.pin)
   pub wrote : WritesRuns old new
@@ -70,6 +72,8 @@ pub record ChargesFirst (a : Attempt) (c : Card) (old new : Facts) : Type 0 wher
   pub rest : List Run
   pub begins : wrote.runs ≡ charge ∷ rest
   pub charged : Finds (written old.words charge.at charge.words) (charged_card c a)
+  pub between : (k : ℕ) → k < length rest
+      → Finds (replayed (written old.words charge.at charge.words) (take k rest)) (charged_card c a)
 
 -- wherever an attempt stops: nothing was compared, or its first device write was the charge
 abbrev pub ComparesCharged : Attempt → Card → Facts → Facts → Type 0

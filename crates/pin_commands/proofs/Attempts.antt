@@ -7,11 +7,10 @@ use Rattle.std.proofs.Common.{subst, arith, inl, inr}
 use Rattle.std.proofs.lemmas.Bool.{eq-eqb, false_from_ne_true}
 use Rattle.std.proofs.Math.ListN.{length-set}
 use Rattle.std.specs.Cmp.Lexicographic.{bytes_decides, pointwise}
-use Rattle.std.specs.Prelude.{nat_eq, IfOk, IsSome, Result}
+use Rattle.std.specs.Prelude.{nat_eq, take, IfOk, IsSome, Result}
 use Rattle.std.specs.Result.{result_err, IsErrAnd}
 use Rattle.std.specs.FinSet.{FinSet}
 use Rattle.std.specs.Ordering.{nat_cmp}
-use Rattle.nvm_board.specs.Aims.{AimsOn}
 use Rattle.nvm_board.specs.Facts.{IsMemory}
 use Rattle.nvm_board.specs.History.{Log, Run, and_runs, replayed, written}
 use Rattle.nvm_board.specs.laws.Sizes.{memory_same}
@@ -21,10 +20,11 @@ use Rattle.card_model.specs.declared.status.TheConstants.Sw.{DONE, METHOD_BLOCKE
 use Rattle.card_model.specs.Pins.{IsPinNumber, with_pin, without_pin}
 use Rattle.undo_journal.specs.declared.error.StoreErr.{StoreErr}
 use Rattle.undo_journal.specs.StoreCalls.{OnlyReads, Reads}
-use Rattle.undo_journal.specs.Commits.{CommitsByGate, StaysShut, TurnsTo}
+use Rattle.undo_journal.specs.Commits.{CommitsByGate, CommitsLast, StaysCommitted, StaysShut, TurnsTo}
 use Rattle.undo_journal.specs.Undo.{data_words, gate, undo}
 use Rattle.undo_journal.specs.laws.Undo.{sound_shut}
 use Rattle.undo_journal.specs.laws.Calls.{advances_by, advances_then}
+use Rattle.undo_journal.specs.laws.LastWrites.{committed_same}
 use Rattle.undo_journal.specs.Memory.{Memory, committed, IsReady, Reports}
 use Rattle.undo_journal.specs.Spending.{WritesAtMost}
 use Rattle.undo_journal.specs.laws.Memory.{reports_then}
@@ -272,32 +272,42 @@ module _ (request : Request) (a : Attempt) (asks : IsAttempt request a) (old : M
         let counted = costs.cut.wrote.counted in
         omega (arith, counted, made, light.faults, light.cuts)
 
-    -- what is written after it stands behind it
-    pub charge-first : (e : Memory) → AimsOn b.facts e.facts → ChargesFirst a c old.facts e.facts
-    charge-first e cut =
+    -- the charged card is found wherever the words are committed that the charge left
+    charged-found : (m : List ℕ) → StaysCommitted b.facts.words m → Finds m (charged_card c a)
+    charged-found m stays = record {
+      has_card = record {
+        journal = stays.sound (sound_shut b.facts.words ready.shut);
+        words = inl (subst (λ (l : List ℕ). IsCard l) (sym stays.words) card-b);
+      };
+      card = ap card_of stays.words ∙ charged-card b charges;
+    }
+
+    -- what is written after it stands behind it, and only the last write may find another card
+    pub charge-first : (e : Memory) → CommitsLast b.facts e.facts → ChargesFirst a c old.facts e.facts
+    charge-first e after =
         let one = one-run costs.cut.wrote.runs costs.cut.wrote.words few-runs in
         let words : b.facts.words ≡ written old.facts.words one.0.at one.0.words =
         costs.cut.wrote.words ∙ ap (λ (runs : List Run). replayed old.facts.words runs) one.1 in
         record {
           left = subst (λ (p : Pin). 0 < tries_left a.secret p) (pin-in old card) charges.left;
           wrote = record {
-            runs = one.0 ∷ cut.wrote.runs;
-            words = cut.wrote.words ∙ ap (λ (m : List ℕ). replayed m cut.wrote.runs) words;
-            log = cut.wrote.log ∙ ap (λ (l : Option Log). and_runs l cut.wrote.runs)
+            runs = one.0 ∷ after.wrote.runs;
+            words = after.wrote.words ∙ ap (λ (m : List ℕ). replayed m after.wrote.runs) words;
+            log = after.wrote.log ∙ ap (λ (l : Option Log). and_runs l after.wrote.runs)
                 (costs.cut.wrote.log ∙ ap (λ (runs : List Run). and_runs old.facts.log runs) one.1);
             counted =
                 let size = ap (λ (runs : List Run). length runs) one.1 in
                 let before = costs.cut.wrote.counted in
-                let behind = cut.wrote.counted in
+                let behind = after.wrote.counted in
                 omega (arith, size, before, behind);
           };
           charge = one.0;
-          rest = cut.wrote.runs;
+          rest = after.wrote.runs;
           begins = refl;
-          charged = subst (λ (m : List ℕ). Finds m (charged_card c a)) words (record {
-            has_card = record { journal = sound_shut b.facts.words ready.shut; words = inl card-b };
-            card = charged-card b charges;
-          });
+          charged = subst (λ (m : List ℕ). Finds m (charged_card c a)) words
+              (charged-found b.facts.words (committed_same b.facts.words));
+          between = λ k lt. subst (λ (m : List ℕ). Finds (replayed m (take k after.wrote.runs)) (charged_card c a))
+              words (charged-found (replayed b.facts.words (take k after.wrote.runs)) (after.before k lt));
         }
 
   -- it is refused, or it isn't
@@ -624,7 +634,8 @@ module _ (request : Request) (a : Attempt) (asks : IsAttempt request a) (n : ℕ
         (ends : (p : Pin) → IsEnd a.secret p (a.becomes p))
         (exit : (committed e ≡ committed b) ⊎ SetsByMatch k a.shown (a.becomes (pin_in b k)) b e)
         (spends : ComparesOnce n k b.facts e.facts) (pages : ArePinPages (committed e)) (reports : Reports b e)
-        (stays : StaysShut old b) (word : EndsByWord a.renews b e) (settles : Settles a k b e) where
+        (stays : StaysShut old b) (between : CommitsLast b.facts e.facts) (word : EndsByWord a.renews b e)
+        (settles : Settles a k b e) where
       got : (k ≡ a.secret) × Charges a.secret old b × (refused_at a (pin_in old a.secret) ≡ None)
       got = subst (λ (s : ℕ). (k ≡ s) × Charges s old b × (refused_with a.unusable s (pin_in old s) ≡ None)) named taken
 
@@ -648,7 +659,7 @@ module _ (request : Request) (a : Attempt) (asks : IsAttempt request a) (n : ℕ
       first : ChargesFirst a (card_in old) old.facts e.facts
       first =
           charge-first request a asks old x sized card current b got.1 card-b ready-b reports-b costs charge e
-          spends.cut
+          between
 
       pub end-torn : (r : Result Sw StoreErr) (err : StoreErr) → IsErrAnd r (λ f. f ≡ err) → e.failed ≡ Some err
           → Executes request old x e x [] r

@@ -1,6 +1,7 @@
 -- Where nothing was compared.
 use Rattle.std.proofs.Common.{◌≡◌, ◌-◌, ℕ, List, slice_set, Option, Some, None, Result, Ok, Err, sym, ◌∙◌, ap, inl}
 use Rattle.std.proofs.Common.{arith, subst}
+use Rattle.std.specs.Prelude.{take}
 use Rattle.std.proofs.Math.Logic.{⊎_map}
 use Rattle.std.proofs.lemmas.List.{set-get_or}
 use Rattle.card_model.specs.declared.status.Sw.{Sw}
@@ -69,6 +70,9 @@ charged-after a c old mid new reads first = record {
   begins = first.begins;
   charged = subst (λ (m : List ℕ). Finds (written m first.charge.at first.charge.words) (charged_card c a)) reads.words
       first.charged;
+  between = λ k lt. subst
+      (λ (m : List ℕ). Finds (replayed (written m first.charge.at first.charge.words) (take k first.rest))
+      (charged_card c a)) reads.words (first.between k lt);
 }
 
 counts-kept : (old mid : Facts) → KeepsBoard old mid → comparisons mid ≡ comparisons old

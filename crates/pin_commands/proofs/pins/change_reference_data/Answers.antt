@@ -31,7 +31,8 @@ returns-in_err-outcome g c =
     c.use_up_try.ensures.takes.store.reports c.in_ok-charged.ensures.takes.store.ready
     c.in_ok-charged.ensures.takes.counted (λ p. changed_ends (c.args.pin - 1) c.args.values.new.now p small)
     c.change.ensures.any_exit c.change.ensures.spends c.change.ensures.pages c.change.ensures.store.reports
-    c.use_up_try.ensures.takes.shut c.change.ensures.by_gate.0 (λ renews. c.change.ensures.by_gate.1) _
+    c.use_up_try.ensures.takes.shut c.change.ensures.between c.change.ensures.by_gate.0
+    (λ renews. c.change.ensures.by_gate.1) _
     c.in_err-outcome.field-0.0 (reply-failed _ _ c.from_residual-in_err-outcome.ensures.1)
     c.in_err-outcome.ensures.store.tells
 
@@ -50,7 +51,8 @@ returns g c =
     c.use_up_try.ensures.takes.store.reports c.in_ok-charged.ensures.takes.store.ready
     c.in_ok-charged.ensures.takes.counted (λ p. changed_ends (c.args.pin - 1) c.args.values.new.now p small)
     c.change.ensures.any_exit c.change.ensures.spends c.change.ensures.pages c.change.ensures.store.reports
-    c.use_up_try.ensures.takes.shut c.change.ensures.by_gate.0 (λ renews. c.change.ensures.by_gate.1)
+    c.use_up_try.ensures.takes.shut c.change.ensures.between c.change.ensures.by_gate.0
+    (λ renews. c.change.ensures.by_gate.1)
     c.in_ok-outcome.outcome
     c.in_ok-outcome.ensures.done c.in_ok-outcome.ensures.store.ready
     c.end_attempt.new.current c.end_attempt.ensures.session

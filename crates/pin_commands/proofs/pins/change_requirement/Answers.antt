@@ -49,6 +49,7 @@ returns-in_err-outcome g c =
     (is_enabled_by c.args.change) p small) exit
     c.set_enabled.ensures.spends c.set_enabled.ensures.pages c.set_enabled.ensures.store.reports
     c.use_up_try.ensures.takes.shut
+    c.set_enabled.ensures.between
     c.set_enabled.ensures.by_gate.0 (λ renews. settles) _
     c.in_err-outcome.field-0.0 (reply-failed _ _ c.from_residual-in_err-outcome.ensures.1)
     c.in_err-outcome.ensures.store.tells
@@ -81,6 +82,7 @@ returns g c =
     (is_enabled_by c.args.change) p small) exit
     c.set_enabled.ensures.spends c.set_enabled.ensures.pages c.set_enabled.ensures.store.reports
     c.use_up_try.ensures.takes.shut
+    c.set_enabled.ensures.between
     c.set_enabled.ensures.by_gate.0 (λ renews. settles) c.in_ok-outcome.outcome
     ended c.in_ok-outcome.ensures.store.ready
     c.end_attempt.new.current c.end_attempt.ensures.session

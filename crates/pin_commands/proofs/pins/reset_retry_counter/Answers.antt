@@ -62,7 +62,8 @@ returns-in_err-outcome g c =
     c.use_up_try.ensures.takes.store.reports c.in_ok-charged.ensures.takes.store.ready
     c.in_ok-charged.ensures.takes.counted (λ p. reset_ends (8 + (c.args.pin - 1)) c.in-Some.values.new.now p large)
     c.reset_counter.ensures.any_exit c.reset_counter.ensures.spends c.reset_counter.ensures.pages
-    c.reset_counter.ensures.store.reports c.use_up_try.ensures.takes.shut c.reset_counter.ensures.by_gate.0 (λ renews.
+    c.reset_counter.ensures.store.reports c.use_up_try.ensures.takes.shut c.reset_counter.ensures.between
+    c.reset_counter.ensures.by_gate.0 (λ renews.
     c.reset_counter.ensures.by_gate.1) _
     c.in_err-outcome.field-0.0 (reply-failed _ _ c.from_residual-in_err-outcome.ensures.1)
     c.in_err-outcome.ensures.store.tells)
@@ -85,6 +86,7 @@ returns g c =
     c.in_ok-charged.ensures.takes.counted (λ p. reset_ends (8 + (c.args.pin - 1)) c.in-Some.values.new.now p large)
     c.reset_counter.ensures.any_exit c.reset_counter.ensures.spends
     c.reset_counter.ensures.pages c.reset_counter.ensures.store.reports c.use_up_try.ensures.takes.shut
+    c.reset_counter.ensures.between
     c.reset_counter.ensures.by_gate.0 (λ renews. c.reset_counter.ensures.by_gate.1) c.in_ok-outcome.outcome
     c.in_ok-outcome.ensures.done c.in_ok-outcome.ensures.store.ready
     c.end_attempt.new.current c.end_attempt.ensures.session

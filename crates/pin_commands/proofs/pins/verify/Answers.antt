@@ -59,6 +59,7 @@ returns-in_err-outcome g c =
     c.use_up_try.ensures.takes.store.reports c.in_ok-charged.ensures.takes.store.ready
     c.in_ok-charged.ensures.takes.counted (λ p. verified_ends (c.args.pin - 1) p small) c.settle.ensures.any_exit
     c.settle.ensures.spends c.settle.ensures.pages c.settle.ensures.store.reports c.use_up_try.ensures.takes.shut
+    c.settle.ensures.between
     c.settle.ensures.by_gate (λ renews. let never : false ≡ true = renews in cc) _
     c.in_err-outcome.field-0.0 (reply-failed _ _ c.from_residual-in_err-outcome.ensures.1)
     c.in_err-outcome.ensures.store.tells)
@@ -80,6 +81,7 @@ returns g c =
     c.use_up_try.ensures.takes.store.reports c.in_ok-charged.ensures.takes.store.ready
     c.in_ok-charged.ensures.takes.counted (λ p. verified_ends (c.args.pin - 1) p small) c.settle.ensures.any_exit
     c.settle.ensures.spends c.settle.ensures.pages c.settle.ensures.store.reports c.use_up_try.ensures.takes.shut
+    c.settle.ensures.between
     c.settle.ensures.by_gate (λ renews. let never : false ≡ true = renews in cc) c.in_ok-outcome.outcome
     c.in_ok-outcome.ensures.done c.in_ok-outcome.ensures.store.ready
     c.end_attempt.new.current c.end_attempt.ensures.session
