@@ -1,4 +1,4 @@
-use Rattle.std.proofs.Common.{rules, ◌≡◌, ℕ, List, length, slice_set, sym, ◌∙◌, subst, arith}
+use Rattle.std.proofs.Common.{rules, ◌≡◌, ℕ, List, length, slice_set, refl, sym, ◌∙◌, subst, arith}
 use Rattle.std.proofs.lemmas.Result.{on_ok_weaker}
 use Rattle.nvm_board.specs.Facts.{address}
 use Rattle.undo_journal.specs.Memory.{current}
@@ -9,6 +9,7 @@ use Rattle.block_chain.specs.ChainChanges.{GivesBack}
 use Rattle.block_chain.specs.ChainParts.{first_block, joined_chains}
 use Rattle.block_chain.specs.declared.layout.TheConstants.{HEADER_PAGE}
 use Rattle.block_store.proofs.Giving.{gives_back, gives_none}
+use Rattle.undo_journal.specs.laws.Calls.{reads_same, reads_sets}
 use Rattle.block_store.proofs.free.give_back.Goals as goal
 use Rattle.block_chain.specs.declared.layout.TheConstants.{FREE_HEAD_WORD}
 
@@ -48,4 +49,11 @@ pub join_chains-requires-clause-room : goal.join_chains-requires-clause-room
 join_chains-requires-clause-room g c = record {
   ready = c.requires.room.ready;
   enough = omega (arith, c.requires.room.enough);
+}
+
+pub returns-then-is_empty-clause-store : goal.returns-then-is_empty-clause-store
+returns-then-is_empty-clause-store g c = record {
+  sets = reads_sets _ _ _ (record { same_store = refl; reads = reads_same _ });
+  ready = c.requires.room.ready;
+  tells = c.requires.room.ready.works;
 }

@@ -271,3 +271,10 @@ walk-requires-clause-chain g c = record {
   ready = c.requires.room.ready;
   leads = c.requires.lie.chain.leads;
 }
+
+pub returns-then-is_empty-clause-store : goal.returns-then-is_empty-clause-store
+returns-then-is_empty-clause-store g c = record {
+  sets = reads_sets _ _ _ (record { same_store = refl; reads = reads_same _ });
+  ready = c.requires.room.ready;
+  tells = c.requires.room.ready.works;
+}

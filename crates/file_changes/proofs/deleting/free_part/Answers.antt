@@ -1,11 +1,11 @@
 use Rattle.card_model.specs.declared.limits.TheConstants.{ENTRIES}
 use Rattle.std.proofs.Common.{rules, ◌≡◌, ◌≢◌, ◌+◌, ℕ, false, List, slice_index_or, slice_set}
-use Rattle.std.proofs.Common.{sym, ◌∙◌, ap, subst, arith}
+use Rattle.std.proofs.Common.{refl, sym, ◌∙◌, ap, subst, arith}
 use Rattle.nvm_board.specs.Facts.{address}
 use Rattle.undo_journal.specs.Memory.{current, IsOpen}
 use Rattle.undo_journal.specs.Lent.{memory_of}
 use Rattle.undo_journal.specs.StoreCalls.{Sets}
-use Rattle.undo_journal.specs.laws.Calls.{sets_then, sets_weaker}
+use Rattle.undo_journal.specs.laws.Calls.{reads_same, reads_sets, sets_then, sets_weaker}
 use Rattle.file_tree.specs.declared.entry.Entry.{Entry}
 use Rattle.file_tree.specs.declared.layout.TheConstants.{FIRST_ENTRY_PAGE}
 use Rattle.file_tree.specs.Table.{entry_in}
@@ -70,3 +70,14 @@ returns-clause-done g c = λ part told.
     let end : c.loop-number.number ≡ ENTRIES = search rules in
     subst (λ (k : ℕ). FreesUpTo m part k (current (memory_of c.loop-number.txn))) end
     (c.loop-number.invariant.so_far part told)
+
+pub loop-number-init : goal.loop-number-init
+loop-number-init g c = record {
+  ready = c.requires.room.ready;
+  sets = reads_sets _ _ _ (record { same_store = refl; reads = reads_same _ });
+  so_far = λ part told. record {
+    size = refl;
+    freed = λ f lt. absurd (omega (arith, lt));
+    others = λ page place lt apart. refl;
+  };
+}

@@ -1,6 +1,6 @@
 use Rattle.std.proofs.Common.{arith, refl}
-use Rattle.undo_journal.specs.laws.Calls.{sets_then}
-use Rattle.undo_journal.specs.laws.Told.{sets_in_on, sets_in_handed}
+use Rattle.undo_journal.specs.laws.Calls.{reads_same, reads_sets, sets_then}
+use Rattle.undo_journal.specs.laws.Told.{idle_waits, sets_in_on, sets_in_handed}
 use Rattle.migration.proofs.Sets.{marks_more}
 use Rattle.std.specs.Prelude.{◌<◌}
 use Rattle.undo_journal.specs.Lent.{memory_of}
@@ -42,3 +42,15 @@ returns-clause-spends g c = λ idle.
     let fills =
     (c.loop-pin.invariant.waits idle).full (omega (arith, c.loop-pin.invariant.within, c.loop-pin-test.false)) in
     omega (arith, fills.writes)
+
+pub loop-pin-init : goal.loop-pin-init
+loop-pin-init g c = record {
+  within = omega arith;
+  ready = c.requires.ready;
+  sets = reads_sets _ _ _ (record { same_store = refl; reads = reads_same _ });
+  marks = record { size = refl; marked = λ pin lt. absurd (omega (arith, lt)); others = λ page place lt apart. refl };
+  waits = λ idle. record {
+    waits = λ less. (idle_waits (memory_of c.args.txn.now) idle, omega (arith, idle), refl);
+    full = λ eight. absurd (omega (arith, eight));
+  };
+}
