@@ -35,11 +35,13 @@ int32_t soffitfennelcore_next_write(soffitfennel_card **card, uint8_t *out, size
 int32_t soffitfennelcore_fall_behind(soffitfennel_card **card);
 int32_t soffitfennelcore_device(soffitfennel_card **card, int32_t *device);
 
-/* Overwrites bytes that may hold a PIN. (volatile: nobody reads them) */
-static void overwrite(volatile uint8_t *bytes, size_t size)
+/* Overwrites bytes that may hold a PIN. A compiler leaves out the loop if nobody reads the bytes. To it, the last line
+ * reads them. (With volatile bytes it wrote them one by one.) */
+static void overwrite(uint8_t *bytes, size_t size)
 {
     for (size_t i = 0; i < size; i++)
         bytes[i] = 0;
+    __asm__ volatile("" : : "r"(bytes) : "memory");
 }
 
 static bool has_device(soffitfennel_card **card)
