@@ -25,7 +25,8 @@ PrintsLines Stored Kept old (line ∷ others) new out =
     × (order_of line ≡ Some order) × RunsLine Stored Kept order old between prints × IsGood between.bench
     × PrintsLines Stored Kept between others new rest × (out ≡ text_of prints ++ rest)
 
--- There is a board with these facts, whose follower has all writes. Code for any board knows this only by asking one.
+-- There is a board with these facts, whose follower has all writes. Code for any board knows this only by asking the
+-- one that it runs on: a copy without the follower lacks its writes (unfollowed_copy).
 abbrev pub LacksNoWrite : (B : Type 0) → (B → Facts) → (B → Bool) → Facts → Type 0
 LacksNoWrite B facts has_kept f = (board : B) × (facts board ≡ f) × (has_kept board ≡ true)
 

@@ -249,7 +249,11 @@ impl<F: Follower + Drop> Followed for KeptBoard<F> {
 
     fn unfollowed_copy(&self) -> Result<KeptBoard<F>, AllocError> {
         let cut = self.cut.copy(self.cut.allocator())?;
-        Ok(KeptBoard::new(cut, None))
+        Ok(KeptBoard {
+            cut,
+            follower: None,
+            follows: self.follows && !self.is_followed(),
+        })
     }
 
     fn with_follower_of(self, other: KeptBoard<F>) -> KeptBoard<F> {
