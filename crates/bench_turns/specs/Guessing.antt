@@ -48,15 +48,20 @@ abbrev pub PaysFor : BenchState → List ℕ → Comparisons → Type 0
 PaysFor old image made = GuessesFew old
     (off (record (bench_facts old) { words = image; compares = made.compares; matches = made.matches }))
 
--- The first of these device writes pays for these comparisons: power-on with it alone finds a card, and the guess law
--- holds of this memory.
-pub record FirstWritePays (old : BenchState) (runs : List Run) (made : Comparisons) : Type 0 where
-  pub some : 1 ≤ length runs
-  pub has_card : HasCard (replayed (bench_facts old).words (take 1 runs))
-  pub pays : PaysFor old (replayed (bench_facts old).words (take 1 runs)) made
+-- Power-on with this memory finds a card, and the memory pays for these comparisons.
+pub record ImagePays (old : BenchState) (image : List ℕ) (made : Comparisons) : Type 0 where
+  pub has_card : HasCard image
+  pub pays : PaysFor old image made
 
--- Nothing was compared, or the first device write pays for all comparisons.
+-- There are device writes, and for each `k` from 1 on the memory with the first `k` of them pays for these comparisons.
+pub record EachWritePays (old : BenchState) (runs : List Run) (made : Comparisons) : Type 0 where
+  pub some : 1 ≤ length runs
+  pub each : (k : ℕ) → 1 ≤ k → k ≤ length runs
+      → ImagePays old (replayed (bench_facts old).words (take k runs)) made
+
+-- Nothing was compared, or the memory pays for all comparisons from the first device write on: after that write, after
+-- each later one, and at the end.
 pub record PaysAhead (old new : BenchState) : Type 0 where
   pub wrote : WritesRuns (bench_facts old) (bench_facts new)
   pub paid : (comparisons (bench_facts new) ≡ comparisons (bench_facts old))
-      ⊎ FirstWritePays old wrote.runs (comparisons (bench_facts new))
+      ⊎ EachWritePays old wrote.runs (comparisons (bench_facts new))

@@ -1,15 +1,15 @@
--- Each order pays for its comparisons by its first device write: a command runs at most once in an exchange, and before
--- and after it nothing is written.
+-- Each order pays for its comparisons from its first device write on: a command runs at most once in an exchange, and
+-- before and after it nothing is written.
 use Rattle.std.specs.Prelude.{◌≡◌, ◌≤◌, ◌⊎◌, ℕ, zero, suc, true, false, List, [], ◌∷◌, Option, None, Some, Result}
 use Rattle.std.specs.Prelude.{Ok, Err, take}
 use Rattle.std.proofs.Common.{◌∙◌, ap, arith, inl, inr, refl, subst, sym}
 use Rattle.std.proofs.Math.Logic.{⊎_map}
 use Rattle.nvm_board.specs.Aims.{events}
-use Rattle.nvm_board.specs.History.{Log, Run, and_runs, replayed}
+use Rattle.nvm_board.specs.History.{Log, and_runs, replayed}
 use Rattle.nvm_board.specs.laws.History.{wrote_none}
 use Rattle.undo_journal.specs.Spending.{KeepsBoard}
 use Rattle.command_base.specs.Comparing.{Comparisons, comparisons}
-use Rattle.command_base.specs.Finding.{HasCard, found}
+use Rattle.command_base.specs.Finding.{found}
 use Rattle.t1_link.specs.declared.sequence_number.SequenceNumber.{SequenceNumber}
 use Rattle.t1_link.specs.Blocks.{Block as LinkBlock}
 use Rattle.t1_link.specs.CardTable.{Link, Reaction, link_step, replies, runs}
@@ -24,7 +24,7 @@ use Rattle.bench_lines.specs.Printouts.{Print}
 use Rattle.bench_lines.specs.Spellings.{IsOrderOfBytes}
 use Rattle.bench_turns.specs.BenchStates.{BenchState, off, on, bench_facts}
 use Rattle.bench_turns.specs.CardBlocks.{BlockChangesNothing, IsRun, Powered, answering}
-use Rattle.bench_turns.specs.Guessing.{FirstWritePays, PaysAhead, PaysFor}
+use Rattle.bench_turns.specs.Guessing.{EachWritePays, ImagePays, PaysAhead}
 use Rattle.bench_turns.proofs.FewGuesses.{pays-nothing, pays-on}
 use Rattle.card_bench.specs.ExchangeWorlds.{StandIn, fate, bytes_of_line}
 use Rattle.card_bench.specs.Exchanges.{Arrives, CardTakes, Commands, Desk, Ended, Ends, Exchanged, Exchanges}
@@ -83,19 +83,23 @@ still-pays old new still = record {
 
 -- what is still before the first write
 module _ (a b c : BenchState) (still : IsStill a b) (rest : PaysAhead b c) where
-  first-pays : FirstWritePays b rest.wrote.runs (comparisons (bench_facts c))
-      → FirstWritePays a rest.wrote.runs (comparisons (bench_facts c))
-  first-pays first =
-      let runs : List Run = take 1 rest.wrote.runs in
-      let made : Comparisons = comparisons (bench_facts c) in
-      let few = pays-on a b _ (pays-nothing a b (ap found still.words) still.counts) first.pays in
-      let here : PaysFor a (replayed (bench_facts b).words runs) made =
-      record { values = few.values; unblocking_values = few.unblocking_values } in
+  abbrev made : Comparisons
+  made = comparisons (bench_facts c)
+
+  image-pays : (image : List ℕ) → ImagePays b image made → ImagePays a image made
+  image-pays image paid =
+      let few = pays-on a b _ (pays-nothing a b (ap found still.words) still.counts) paid.pays in
       record {
-        some = first.some;
-        has_card = subst (λ (m : List ℕ). HasCard (replayed m runs)) still.words first.has_card;
-        pays = subst (λ (m : List ℕ). PaysFor a (replayed m runs) made) still.words here;
+        has_card = paid.has_card;
+        pays = record { values = few.values; unblocking_values = few.unblocking_values };
       }
+
+  each-pays : EachWritePays b rest.wrote.runs made → EachWritePays a rest.wrote.runs made
+  each-pays all = record {
+    some = all.some;
+    each = λ k some most. subst (λ (m : List ℕ). ImagePays a (replayed m (take k rest.wrote.runs)) made) still.words
+        (image-pays _ (all.each k some most));
+  }
 
   pays-behind : PaysAhead a c
   pays-behind = record {
@@ -105,7 +109,7 @@ module _ (a b c : BenchState) (still : IsStill a b) (rest : PaysAhead b c) where
       log = rest.wrote.log ∙ ap (λ (l : Option Log). and_runs l rest.wrote.runs) still.log;
       counted = let counted = rest.wrote.counted in let more = still.more in omega (arith, counted, more);
     };
-    paid = ⊎_map (λ same. same ∙ still.counts) first-pays rest.paid;
+    paid = ⊎_map (λ same. same ∙ still.counts) each-pays rest.paid;
   }
 
 -- and after it
@@ -118,7 +122,7 @@ pays-before a b c first still = record {
     counted = let counted = first.wrote.counted in let more = still.more in omega (arith, counted, more);
   };
   paid = ⊎_map (λ same. still.counts ∙ same)
-      (λ pays. subst (λ (made : Comparisons). FirstWritePays a first.wrote.runs made) (sym still.counts) pays)
+      (λ pays. subst (λ (made : Comparisons). EachWritePays a first.wrote.runs made) (sym still.counts) pays)
       first.paid;
 }
 

@@ -55,7 +55,7 @@ announced_of order was a is of = record {
 module _ (order : Order) (was now : SessionState) (prints : Print) (run : Performs order was.desk now.desk prints)
     (good : IsGood now.desk.bench) (there : IsInStep was.desk) (sized : IsOrderSized order)
     (bytes : IsOrderOfBytes order) where
-  -- its writes, the first of which pays
+  -- its writes, which pay from the first one on
   pub ahead : PaysAhead was.desk.bench now.desk.bench
   ahead = order_ahead order was.desk now.desk prints there sized bytes run
 

@@ -1,4 +1,4 @@
--- The images that pay for the comparisons of an order: the one with its first write, and the one with all writes.
+-- The images that pay for the comparisons of an order: those with its first write, and the one with all writes.
 use Rattle.std.specs.Prelude.{◌≡◌, List, [], ◌∷◌, Option, None, Some, take}
 use Rattle.nvm_board.specs.History.{Run, replayed}
 use Rattle.command_base.specs.Comparing.{Comparisons}
@@ -17,7 +17,7 @@ IsLedBy first (run ∷ runs) = first ≡ Some run
 
 -- An order with a charge made these device writes, and these comparisons are counted after it. The image with the first
 -- write is one that a loss of power in that write leaves. By `ahead` of `IsPerformed` it pays for all comparisons of
--- the order. So does the image with all writes. (No clause says so of the images between those two.)
+-- the order, and so does each image with more of the writes. Without a comparison the image with all writes pays too.
 pub record PaidInOrder (order : Order) (was : Desk) (runs : List Run) (made : Comparisons) : Type 0 where
   pub first : RunsToFirst order was (logs_none TWIN_WRITES) (replayed (bench_facts was.bench).words (take 1 runs))
   pub all : PaysFor was.bench (replayed (bench_facts was.bench).words runs) made

@@ -12,7 +12,7 @@ use Rattle.command_base.specs.Finding.{HasCard, words_found}
 use Rattle.command_base.specs.Standing.{IsAnyCard}
 use Rattle.bench_lines.specs.Orders.{Order, IsOrderSized, Free}
 use Rattle.bench_turns.specs.BenchStates.{BenchState, off, on}
-use Rattle.bench_turns.specs.Guessing.{FirstWritePays, GuessesFew}
+use Rattle.bench_turns.specs.Guessing.{EachWritePays, GuessesFew}
 use Rattle.bench_turns.specs.Plays.{IsGood}
 use Rattle.card_bench.specs.Charges.{MayCompare}
 use Rattle.card_bench.specs.DeskStates.{print_of}
@@ -70,15 +70,15 @@ is_on (on powered) = true
 
 -- An order runs, and has an output. The memory has a card state after it, the board had no fault, and the guess law
 -- holds. The board made device writes, in order: put into the words before the order, they make the words after it.
--- The log of a card with a device has them. If the order compared a PIN, power-on with the first write alone finds a
--- card, and this image pays for all comparisons. An order that can't compare a PIN counts none.
+-- The log of a card with a device has them. If the order compared a PIN, power-on after any of them, with those before
+-- it, finds a card, and each of these images pays for all comparisons. An order that can't compare a PIN counts none.
 pub record IsPerformed (order : Order) (was now : SessionState) (prints : Print) : Type 0 where
   pub performs : Performs order was.desk now.desk prints
   pub good : IsGood now.desk.bench
   pub guesses : GuessesFew was.desk.bench now.desk.bench
   pub made : WritesRuns (session_facts was) (session_facts now)
   pub ahead : (comparisons (session_facts now) ≡ comparisons (session_facts was))
-      ⊎ FirstWritePays was.desk.bench made.runs (comparisons (session_facts now))
+      ⊎ EachWritePays was.desk.bench made.runs (comparisons (session_facts now))
   pub still : ¬ MayCompare order → comparisons (session_facts now) ≡ comparisons (session_facts was)
 
 -- the first write of an order was announced

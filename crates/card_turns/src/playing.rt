@@ -77,8 +77,8 @@ impl<B: Socket> Bench<B> {
         ensures runs { BringsNoFault self.old self.new
             → IsWell self.new × (BenchHasCard self.old → IsTrace self.old turns.now trace.new self.new) }
 
-        // Each turn of it also keeps to its counts, to the guess law and to the board's log. The memory with the first
-        // device write of a turn pays for all that the turn compares.
+        // Each turn of it also keeps to its counts, to the guess law and to the board's log. From the first device
+        // write of a turn on, after each of its writes, the memory pays for all that the turn compares.
         ensures costs { BenchHasCard self.old → BringsNoFault self.old self.new
             → Runs self.old turns.now trace.new self.new }
     {

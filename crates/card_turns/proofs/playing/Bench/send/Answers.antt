@@ -26,7 +26,8 @@ returns-in-Err g c =
     c.in-Err.ensures.advances c.in-Err.ensures.stands c.in-Err.ensures.turned c.in-Err.ensures.compares
     c.in-Err.ensures.idle
     (block-ahead c.in-On.powered c.block.new.self (link_step c.in-On.powered.link c.args.block.now).reaction
-    c.in-Err.ensures.compares kept.1 c.in-Err.ensures.advances.cut.wrote))
+    c.in-Err.ensures.stage c.in-Err.ensures.compares kept.1 c.in-Err.ensures.has_card
+    c.in-Err.ensures.advances.cut.wrote))
 
 pub returns-in-Ok : goal.returns-in-Ok
 returns-in-Ok g c =
@@ -45,8 +46,8 @@ returns-in-Ok g c =
     rw (← old) (plays_replied c.in-On.powered c.block.new.self c.args.block.now c.block.new.out lit
     c.in-Ok.ensures.has_card c.in-Ok.ensures.replies (λ is. (c.in-Ok.ensures.failed is).1) c.in-Ok.ensures.advances
     guesses (block-ahead c.in-On.powered c.block.new.self
-    (link_step c.in-On.powered.link c.args.block.now).reaction c.in-Ok.ensures.compares kept.1
-    c.in-Ok.ensures.advances.cut.wrote) wears)
+    (link_step c.in-On.powered.link c.args.block.now).reaction c.in-Ok.ensures.stage c.in-Ok.ensures.compares kept.1
+    c.in-Ok.ensures.has_card c.in-Ok.ensures.advances.cut.wrote) wears)
 
 pub invariant_of-self-in-Ok : goal.invariant_of-self-in-Ok
 invariant_of-self-in-Ok g c =
