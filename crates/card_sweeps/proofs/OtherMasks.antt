@@ -30,7 +30,7 @@ use Rattle.bench_turns.specs.BenchStates.{IsFresh, IsOff, switched_off}
 use Rattle.bench_turns.specs.CardBlocks.{BlockChangesNothing, BlockCompares, BlockCounts, BlockStands, BlockTurns}
 use Rattle.bench_turns.specs.CardBlocks.{IsBlockStage}
 use Rattle.bench_turns.specs.CardBlocks.{Powered, Replies}
-use Rattle.bench_turns.specs.Guessing.{FirstWritePays, GuessesFew, PaysAhead}
+use Rattle.bench_turns.specs.Guessing.{EachWritePays, GuessesFew, ImagePays, PaysAhead}
 use Rattle.bench_turns.specs.Plays.{IsGood}
 use Rattle.bench_turns.specs.Turns.{GoodTurn, LeavesCard, OneTurn, Spends, TakesBlock, TurnIsCut, TurnsOff, TurnsOn}
 use Rattle.bench_turns.specs.Turns.{Wears, WritesAsAsked, WritesNoMore, dark_of, turn_writes}
@@ -166,6 +166,7 @@ charged-masked mask a c old new (inr first) =
       rest = first.rest;
       begins = first.begins;
       charged = first.charged;
+      between = first.between;
     })
 
 attempt-masked : (mask : ℕ) (shown : Option Attempt) (c : Card) (old : Facts) (d : Card) (new : Facts)
@@ -267,18 +268,27 @@ facts-then mask Holds (off f) (on q) holds = holds
 facts-then mask Holds (on p) (off h) holds = holds
 facts-then mask Holds (on p) (on q) holds = holds
 
--- the first write pays as before
-pays-masked : (mask : ℕ) (old : BenchState) (wrote : List Run) (made : Comparisons) → FirstWritePays old wrote made
-    → FirstWritePays (bench_masked mask old) wrote made
-pays-masked mask (off f) wrote made first = record {
-  some = first.some;
-  has_card = first.has_card;
-  pays = record { values = first.pays.values; unblocking_values = first.pays.unblocking_values };
+-- each write pays as before
+image-masked : (mask : ℕ) (old : BenchState) (image : List ℕ) (made : Comparisons) → ImagePays old image made
+    → ImagePays (bench_masked mask old) image made
+image-masked mask (off f) image made paid = record {
+  has_card = paid.has_card;
+  pays = record { values = paid.pays.values; unblocking_values = paid.pays.unblocking_values };
 }
-pays-masked mask (on p) wrote made first = record {
-  some = first.some;
-  has_card = first.has_card;
-  pays = record { values = first.pays.values; unblocking_values = first.pays.unblocking_values };
+image-masked mask (on p) image made paid = record {
+  has_card = paid.has_card;
+  pays = record { values = paid.pays.values; unblocking_values = paid.pays.unblocking_values };
+}
+
+pays-masked : (mask : ℕ) (old : BenchState) (wrote : List Run) (made : Comparisons) → EachWritePays old wrote made
+    → EachWritePays (bench_masked mask old) wrote made
+pays-masked mask (off f) wrote made all = record {
+  some = all.some;
+  each = λ k some most. image-masked mask (off f) _ made (all.each k some most);
+}
+pays-masked mask (on p) wrote made all = record {
+  some = all.some;
+  each = λ k some most. image-masked mask (on p) _ made (all.each k some most);
 }
 
 ahead-masked : (mask : ℕ) (old new : BenchState) → PaysAhead old new
