@@ -1,4 +1,6 @@
-"""A memory image in a file: its words, its journal, and the words after undo (docs/MEMORY.md, "Undo")."""
+"""A memory image in a file: its words, its journal, and the words after undo (docs/MEMORY.md, "Undo").
+
+A flash image stands for the memory image of its pages."""
 import fcntl
 import os
 import stat
@@ -7,6 +9,7 @@ from dataclasses import dataclass
 from functools import cached_property
 
 from . import layout
+from .flash import IMAGE_BYTES, Flash, NoLog, flash_of
 
 
 class Unreadable(Exception):
@@ -24,9 +27,10 @@ class Pair:
 
 @dataclass(frozen=True)
 class Image:
-    """The words of a memory, in their order."""
+    """The words of a memory, in their order, and the flash that has its pages, if one does."""
 
     words: tuple[int, ...]
+    flash: Flash | None = None
 
     @property
     def pages(self) -> int:
@@ -76,8 +80,17 @@ def image_of(data: bytes) -> Image:
     return Image(struct.unpack(f">{len(data) // layout.WORD_BYTES}I", data))
 
 
+def image_of_flash(path: str, data: bytes) -> Image:
+    """The memory image of the pages on a flash."""
+    try:
+        found = flash_of(data)
+        return Image(found.pages, found)
+    except NoLog as why:
+        raise Unreadable(f"{path}: {why}") from None
+
+
 def read_image(path: str) -> tuple[Image, bool]:
-    """The image in a file, and whether another program has the file locked."""
+    """The memory image in a file, or of the pages on the flash there, and whether another program has it locked."""
     try:
         with open(path, "rb", opener=without_waiting) as it:
             if not stat.S_ISREG(os.fstat(it.fileno()).st_mode):
@@ -87,10 +100,12 @@ def read_image(path: str) -> tuple[Image, bool]:
             size = os.fstat(it.fileno()).st_size
     except OSError as error:
         raise Unreadable(f"{path}: {error.strerror}") from error
+    if len(data) == IMAGE_BYTES:
+        return image_of_flash(path, data), is_used
     if len(data) % layout.PAGE_BYTES or not layout.LEAST_PAGES <= len(data) // layout.PAGE_BYTES <= layout.MOST_PAGES:
         raise Unreadable(
             f"{path} has {max(size, len(data)):,} bytes; a memory image has {layout.PAGE_BYTES} bytes a page,"
-            f" and {layout.LEAST_PAGES:,} to {layout.MOST_PAGES:,} pages"
+            f" and {layout.LEAST_PAGES:,} to {layout.MOST_PAGES:,} pages; a flash image has {IMAGE_BYTES:,} bytes"
         )
     return image_of(data), is_used
 

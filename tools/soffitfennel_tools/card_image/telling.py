@@ -1,11 +1,13 @@
 """A card for a person: text, and the same as values for JSON."""
 from collections.abc import Iterator
+from dataclasses import asdict
 from itertools import groupby
 from typing import Any
 
 from ..explaining.templates import count as counted
 
 from . import layout
+from .flash import SLOTS, Flash
 from .known import known
 from .rollback import Step, steps
 from .rule_words import allowed, rule_line
@@ -18,6 +20,8 @@ LINE_BYTES = 32
 def text(reading: Reading, has_secrets: bool, has_content: bool, has_names: bool = False) -> Iterator[str]:
     """The lines that show a card, or why there is none."""
     card, image = reading.card, reading.image
+    if image.flash:
+        yield from flash_lines(image.flash)
     yield f"memory   {counted(image.pages, 'page')}" + (f", format {card.format}" if card else "")
     if card:
         yield f"card     {'terminated' if card.is_terminated else 'in use'}"
@@ -31,6 +35,21 @@ def text(reading: Reading, has_secrets: bool, has_content: bool, has_names: bool
     yield from tree_lines(card, card.files[0], "", "", has_content, has_names)
     yield ""
     yield from pin_lines(card.pins, has_secrets)
+
+
+def flash_lines(flash: Flash) -> Iterator[str]:
+    """The blocks of a flash: whose turn it is, and how many slots hold what."""
+    yield f"flash    {len(flash.areas)} areas of {SLOTS:,} slots, turn {flash.turn}: the pages are in area" \
+        f" {flash.areas[flash.home].name}"
+    for area in flash.areas:
+        pages = f"{counted(area.live, 'live page')}, {area.old:,} old, {area.garbage:,} garbage"
+        yield f"area {area.name}   {closed(area.is_closed)}: {area.used:,} slots used ({pages}), {area.free:,} free"
+    yield f"witness  {closed(flash.is_closed(len(flash.areas)))}"
+
+
+def closed(is_closed: bool) -> str:
+    """Whether a block's mark is there."""
+    return "closed" if is_closed else "open"
 
 
 def journal_lines(reading: Reading, has_secrets: bool) -> Iterator[str]:
@@ -150,6 +169,8 @@ def values(reading: Reading, has_secrets: bool, has_names: bool = False) -> dict
             {"address": it.address, "place": it.place} | word_values(it, has_secrets) for it in steps(reading)
         ]
     found: dict[str, Any] = {"pages": image.pages, "journal": journal, "is_card": card is not None}
+    if image.flash:
+        found["flash"] = flash_values(image.flash)
     found["broken"] = [{"rule": it.rule, "place": it.place, "why": it.why} for it in reading.breaks]
     if card:
         found |= {"format": card.format, "is_terminated": card.is_terminated, "blocks": card.blocks}
@@ -157,6 +178,14 @@ def values(reading: Reading, has_secrets: bool, has_names: bool = False) -> dict
         found["files"] = [file_values(it) | (known_values(card, it) if has_names else {}) for it in card.files]
         found["pins"] = [pin_values(it, has_secrets) for it in card.pins]
     return found
+
+
+def flash_values(flash: Flash) -> dict[str, Any]:
+    """The blocks of a flash for JSON."""
+    areas = [asdict(it) | {"free": it.free, "garbage": it.garbage} for it in flash.areas]
+    home = flash.areas[flash.home].name
+    return {"turn": flash.turn, "home": home, "slots": SLOTS, "areas": areas,
+            "is_witness_closed": flash.is_closed(len(flash.areas))}
 
 
 def word_values(step: Step, has_secrets: bool) -> dict[str, str | None]:

@@ -3,13 +3,12 @@ import random
 import signal
 import threading
 from dataclasses import dataclass, field, replace
-from pathlib import Path
+from typing import Any, Protocol
 
 from ...card_image.image import read_image
 from ...card_image.tree import Card, read
 
 from .bench import ATR, Bench, ask
-from .checks import Checks
 
 PIN, TRIES = bytes.fromhex("31323334FFFFFFFF"), 3
 OK = "< 9000"
@@ -19,6 +18,13 @@ MADE = range(0x6F20, 0x6F28)
 COMMANDS = 300
 # seconds until the kill, at most, behind the first command
 LATEST, LATEST_SYNCED = 0.012, 0.3
+
+
+class Compares(Protocol):
+    """What counts comparisons."""
+
+    def compare(self, what: str, wanted: Any, came: Any) -> None:
+        """Counts one."""
 
 
 @dataclass(frozen=True)
@@ -130,7 +136,7 @@ class Tally:
     in_command: int = 0
 
 
-def judge(checks: Checks, bench: Bench, steps: list[Step], answers: list[str], tally: Tally) -> Expected | None:
+def judge(checks: Compares, bench: Bench, steps: list[Step], answers: list[str], tally: Tally) -> Expected | None:
     """The card in the image is one that the first line without an answer passes; nothing acknowledged is lost."""
     checks.compare("the answers before the kill", [it.answer for it in steps[:len(answers)]], answers)
     image, _ = read_image(str(bench.image))
@@ -164,9 +170,9 @@ def restore_tries(bench: Bench, begin: Expected) -> Expected:
     return replace(begin, tries=TRIES)
 
 
-def check(checks: Checks, program: str, folder: Path, rounds: int, chance: random.Random) -> None:
+def check(checks: Compares, bench: Bench, rounds: int, chance: random.Random) -> None:
     """Kills the bench again and again, each time over the card that the kill before left."""
-    bench, tally = Bench(program, folder / "killed.image"), Tally()
+    tally = Tally()
     prepare(bench)
     begin = Expected()
     for number in range(rounds):
