@@ -1,6 +1,6 @@
 -- Steps inside a deletion. No public clause uses these definitions.
 use Rattle.std.specs.Prelude.{◌≡◌, ◌≢◌, ◌↔◌, ◌==◌, ◌⊎◌, ◌<◌, ◌+◌, ◌&&◌, ℕ, Bool, false, not, if◌then◌else◌, List, []}
-use Rattle.std.specs.Prelude.{map, length, slice_index_or, IsTrue, Option, None, Some, ◌≤◌}
+use Rattle.std.specs.Prelude.{map, length, replicate, slice_index_or, IsTrue, Option, None, Some, ◌≤◌}
 use Rattle.std.specs.List.{range_with_len, sum_by, cons_option}
 use Rattle.nvm_board.specs.declared.board.TheConstants.{PAGE_WORDS}
 use Rattle.block_chain.specs.declared.chain.Chain.{Chain}
@@ -36,6 +36,12 @@ part_below t top = map (going t top) (range_with_len 0 64)
 -- an entry, if it goes with another one
 abbrev pub entry_if_gone : List Entry → ℕ → ℕ → Option Entry
 entry_if_gone t top f = if is_gone t top f then Some (entry_in t f) else None
+
+-- A part of no entry.
+pub record IsNoPart (part : Part) : Type 0 where
+  pub goes : part.goes ≡ replicate 64 false
+  pub count : part.count ≡ 0
+  pub extents : part.extents.items ≡ []
 
 -- The number of an entry, for which a part has room.
 pub record HasPlaceFor (part : Part) (e : ℕ) : Type 0 where

@@ -21,7 +21,7 @@ ghost use Rattle.file_tree.specs.TreeChanges.{Deletes, with_freed};
 ghost use Rattle.file_tree.specs.Indexes.{IsIndex};
 ghost use Rattle.file_changes.specs.Conditions.{HasLowerFile};
 ghost use Rattle.file_changes.specs.DeletionParts.{IsPart, IsRemoval, CanGive, FreesEntries, GoesWith, Removes};
-ghost use Rattle.file_changes.specs.DeletionParts.{extents_in, entry_if_gone, HasPlaceFor, CanRemove};
+ghost use Rattle.file_changes.specs.DeletionParts.{IsNoPart, extents_in, entry_if_gone, HasPlaceFor, CanRemove};
 ghost use Rattle.undo_journal.specs.Rooms.{HasRoom};
 ghost use Rattle.file_lookup.specs.StoredFiles.{HasEntry, HasFile, HasTableEnd};
 
@@ -127,28 +127,34 @@ fn part_of<B: Board>(store: &mut Store<B>, top: EntryNumber) -> Result<Part, Sto
     ensures { Learns store.old store.new result (IsPart (table (committed store.old)) top) }
 {
     let entry = read_entry(store, top)?;
-    if entry.has_kind(EntryKind::Dedicated) {
-        return part_of_df(store, top);
-    }
     let mut part = Part::new();
+    if entry.has_kind(EntryKind::Dedicated) {
+        fill_part(store, top, &mut part)?;
+        return Ok(part);
+    }
     part.add(top, Some(entry));
     Ok(part)
 }
 
-/// Returns the subtree of a DF. Reads only the entries in it whole.
-fn part_of_df<B: Board>(store: &mut Store<B>, top: EntryNumber) -> Result<Part, StoreErr>
+/// Fills an empty part with the subtree of a DF. Reads only the entries in it whole.
+// A part of its own would lie on the stack beside its caller's.
+fn fill_part<B: Board>(
+    store: &mut Store<B>,
+    top: EntryNumber,
+    part: &mut Part,
+) -> Result<(), StoreErr>
     requires ready { IsReady store.old }
-    ensures { Learns store.old store.new result (IsPart (table (committed store.old)) top) }
+    requires none { IsNoPart part.old }
+    ensures { Learns store.old store.new result (λ done. IsPart (table (committed store.old)) top part.new) }
 {
     let end = find_end(store)?;
     let parents = read_parents(store, end)?;
-    let mut part = Part::new();
     for number in 0..end {
         let e = EntryNumber::new(number);
         let entry = deleted_entry(store, &parents, top, e)?;
         part.add(e, entry);
     }
-    Ok(part)
+    Ok(())
 }
 
 /// Returns the chains of extents.

@@ -2,7 +2,6 @@ use Rattle.std.proofs.Common.{◌≡◌, ◌≢◌, ◌∙◌, ◌++◌, ℕ, Li
 use Rattle.undo_journal.specs.Memory.{committed}
 use Rattle.undo_journal.specs.laws.Exits.{none_ok}
 use Rattle.undo_journal.specs.laws.Told.{reads_handed, reads_on}
-use Rattle.std.proofs.lemmas.Result.{IfOk-weaker}
 use Rattle.file_tree.specs.declared.entry.Entry.{Entry}
 use Rattle.file_tree.specs.Kinds.{kind_byte}
 use Rattle.file_tree.specs.Table.{table, entry_in}
@@ -31,11 +30,18 @@ returns-in_err-entry g c = record {
   store = reads_handed _ _ _ _ c.from_residual.ensures.1 c.in_err-entry.ensures.store;
 }
 
+pub returns-in_err-fill_part : goal.returns-in_err-fill_part
+returns-in_err-fill_part g c = record {
+  told = none_ok _ _ _ c.from_residual-in_err-fill_part.ensures.1;
+  store = reads_handed _ _ _ _ c.from_residual-in_err-fill_part.ensures.1
+      (reads_on _ _ _ _ c.read_entry.ensures.store.only c.in_err-fill_part.ensures.store);
+}
+
 pub returns-then-has_kind : goal.returns-then-has_kind
 returns-then-has_kind g c = record {
-  told = IfOk-weaker _ _ _ (λ part is. subst (λ (l : List ℕ). IsPart (table l) c.args.top part)
-      c.read_entry.ensures.store.only.keeps.committed_words is) c.part_of_df.ensures.told;
-  store = reads_on _ _ _ _ c.read_entry.ensures.store.only c.part_of_df.ensures.store;
+  told = subst (λ (l : List ℕ). IsPart (table l) c.args.top c.fill_part.new.part)
+      c.read_entry.ensures.store.only.keeps.committed_words c.in_ok-fill_part.ensures.told;
+  store = reads_on _ _ _ _ c.read_entry.ensures.store.only c.in_ok-fill_part.ensures.store;
 }
 
 pub returns : goal.returns

@@ -3,7 +3,7 @@ use Rattle.undo_journal.specs.Memory.{committed, IsReady}
 use Rattle.undo_journal.specs.StoreCalls.{OnlyReads}
 use Rattle.file_tree.specs.Table.{table}
 use Rattle.file_changes.specs.laws.Parts.{IsPartTo}
-use Rattle.file_changes.proofs.deleting.part_of_df.Given as goal
+use Rattle.file_changes.proofs.deleting.fill_part.Given as goal
 
 abbrev pub invariant-loop-number : goal.invariant-loop-number
 invariant-loop-number g l = record {

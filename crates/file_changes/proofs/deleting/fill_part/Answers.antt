@@ -8,7 +8,7 @@ use Rattle.file_tree.specs.Table.{table, entry_in}
 use Rattle.file_tree.specs.TableEnd.{IsTableEnd}
 use Rattle.file_changes.specs.DeletionParts.{entry_if_gone}
 use Rattle.file_changes.specs.laws.Parts.{part_none, part_more, part_whole, parts_rest, few_more}
-use Rattle.file_changes.proofs.deleting.part_of_df.Goals as goal
+use Rattle.file_changes.proofs.deleting.fill_part.Goals as goal
 
 pub find_end-requires : goal.find_end-requires
 find_end-requires g c = record { ready = c.requires.ready }
@@ -30,8 +30,8 @@ pub loop-number-init : goal.loop-number-init
 loop-number-init g c = record {
   ready = c.in_ok-parents.ensures.store.ready;
   reads = reads_then _ _ _ c.find_end.ensures.end.store.only c.read_parents.ensures.store.only;
-  few = (let none = ap (λ l. length l) c.new-part.ensures.extents in omega (arith, none));
-  so_far = part_none _ _ _ c.new-part.ensures.goes c.new-part.ensures.count c.new-part.ensures.extents;
+  few = (let none = ap (λ l. length l) c.requires.none.extents in omega (arith, none));
+  so_far = part_none _ _ _ c.requires.none.goes c.requires.none.count c.requires.none.extents;
 }
 
 pub deleted_entry-requires-clause-parents : goal.deleted_entry-requires-clause-parents
