@@ -3,6 +3,7 @@ from __future__ import annotations
 
 import shutil
 import tempfile
+from collections.abc import Callable
 from pathlib import Path
 
 from ..unproving.kit import Failed
@@ -30,7 +31,7 @@ def uses() -> dict[str, list[str]]:
     return found
 
 
-def needed() -> list[str]:
+def needed(own: dict[str, str] = OWN) -> list[str]:
     """The crates of ours below those of the device, lowest first."""
     known, found = uses(), dict[str, None]()
 
@@ -40,27 +41,32 @@ def needed() -> list[str]:
                 visit(below)
             found[name] = None
 
-    for names in OWN.values():
+    for names in own.values():
         for name in names.split():
             visit(name)
     return list(found)
 
 
-def crates_text(names: list[str]) -> str:
+def crates_text(names: list[str], own: dict[str, str] = OWN) -> str:
     """The list of the crates."""
     known = uses()
     lines = [f"{name}: {' '.join(known[name])}".rstrip() for name in names]
-    return "\n".join([*lines, *(f"{name}: {below}" for name, below in OWN.items()), ""])
+    return "\n".join([*lines, *(f"{name}: {below}" for name, below in own.items()), ""])
 
 
-def fill(folder: Path) -> None:
-    """Puts the files of a port into an empty folder."""
-    names = needed()
+def copy_crates(folder: Path, own: dict[str, str]) -> None:
+    """Puts the crates of ours into an empty folder, and the list of all crates."""
+    names = needed(own)
     for name in names:
         for part in PARTS:
             if (TOP / "crates" / name / part).is_dir():
                 shutil.copytree(TOP / "crates" / name / part, folder / "crates" / name / part)
-    (folder / "crates.txt").write_text(crates_text(names), encoding="utf-8")
+    (folder / "crates.txt").write_text(crates_text(names, own), encoding="utf-8")
+
+
+def fill(folder: Path) -> None:
+    """Puts the files of a port into an empty folder."""
+    copy_crates(folder, OWN)
     for path in sorted(it for it in FILES.rglob("*") if it.is_file()):
         place = folder / path.relative_to(FILES)
         place.parent.mkdir(parents=True, exist_ok=True)
@@ -73,7 +79,7 @@ def fill(folder: Path) -> None:
         shutil.copyfile(TOP / name, folder / name)
 
 
-def write_port(folder: Path) -> None:
+def write_port(folder: Path, fill_it: Callable[[Path], None] = fill) -> None:
     """Writes a port as a new folder, whole or not at all."""
     if folder.is_symlink() or folder.exists():
         raise Failed(f"{folder} is there already: give a new folder")
@@ -82,5 +88,5 @@ def write_port(folder: Path) -> None:
     with tempfile.TemporaryDirectory(prefix=f".{folder.name}-", dir=folder.parent) as name:
         made = Path(name) / "port"
         made.mkdir()
-        fill(made)
+        fill_it(made)
         made.rename(folder)
