@@ -39,16 +39,15 @@ def own_instructions(profile: Iterable[str], program: str) -> int:
     return total
 
 
-def count(program: str, script: str, pages: int | None = None) -> Counts:
-    """The instructions of a program on a script; on a new card of so many pages, if their number is given."""
+def count(program: str, script: str, words: Iterable[str] = ()) -> Counts:
+    """The instructions of a program on a script, with these words behind its name."""
     with tempfile.TemporaryDirectory() as room:
         profile, lines = Path(room, "profile"), Path(room, "script")
-        card = ["--card", f"{room}/card", "--pages", str(pages)] if pages else []
         lines.write_text(script, encoding="utf-8")
         # (of a file the program reads the same parts each time; of a pipe it may not)
         with lines.open() as given:
-            words = [*WORDS, f"--callgrind-out-file={profile}", program, *card]
-            ran = subprocess.run(words, stdin=given, stdout=subprocess.DEVNULL, stderr=subprocess.PIPE, text=True)
+            command = [*WORDS, f"--callgrind-out-file={profile}", program, *words]
+            ran = subprocess.run(command, stdin=given, stdout=subprocess.DEVNULL, stderr=subprocess.PIPE, text=True)
         found = re.search(r"Collected : (\d+)", ran.stderr)
         if not found:
             raise Uncounted("valgrind counts nothing: " + ran.stderr.strip().split("\n")[-1])
@@ -56,8 +55,17 @@ def count(program: str, script: str, pages: int | None = None) -> Counts:
             return Counts(int(found[1]), own_instructions(it, os.path.realpath(program)))
 
 
+def each(few: Counts, many: Counts, more: int) -> Counts:
+    """The instructions of each of the lines or calls that a run has more."""
+    return Counts(*[round((most - least) / more) for least, most in zip(few, many)])
+
+
 def cost(program: str, kind: Kind, pages: int | None = None) -> Counts:
-    """The instructions of a program for one line of a kind."""
-    few, many = (count(program, kind.script(lines), pages) for lines in (kind.few, kind.many))
-    lines = kind.many - kind.few
-    return Counts(*[round((more - less) / lines) for less, more in zip(few, many)])
+    """The instructions of a program for one line of a kind; on a new card of so many pages, if `pages` is given."""
+    with tempfile.TemporaryDirectory() as room:
+
+        def run(lines: int) -> Counts:
+            card = ["--card", f"{room}/{lines}", "--pages", str(pages)] if pages else []
+            return count(program, kind.script(lines), card)
+
+        return each(run(kind.few), run(kind.many), kind.many - kind.few)
