@@ -1,2 +1,3 @@
 mod FormatLemmas
 mod NewBoards
+mod BlankFlash

@@ -1,1 +1,2 @@
 pub mod BenchViews
+pub mod FlashRuns

@@ -1,8 +1,11 @@
-//! A bench that plays turns: power on, power off, and blocks to the card's end of the link.
+//! A bench that plays turns: power on, power off, and blocks to the card's end of the link. The same of a card on a
+//! flash, whatever each power loss leaves in it.
 #![tactic(auto)]
 
 mod playing;
+mod playing_on_flash;
 mod powered;
 
 pub use playing::Bench;
+pub use playing_on_flash::play_on_flash;
 pub use powered::Powered;

@@ -7,8 +7,8 @@ ghost use Rattle.bench_lines.specs.Faults.{status_of};
 
 use bench_lines::RunFault;
 use card_bench::run_on;
+use card_boards::factory_on_flash;
 use card_turns::Bench;
-use flash_cards::factory_on_flash;
 use std::env;
 use std::io::{self, BufReader, ErrorKind};
 use std::process::ExitCode;

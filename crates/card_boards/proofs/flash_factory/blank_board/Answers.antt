@@ -2,8 +2,8 @@ use Rattle.std.proofs.Common.{◌≡◌, ◌∙◌, ap, refl}
 use Rattle.flash_board.specs.FlashCalls.{FlashState}
 use Rattle.flash_board.specs.FlashFacts.{made_of}
 use Rattle.simulated_boards.specs.GarblingStates.{garbling_state}
-use Rattle.flash_cards.proofs.BlankFlash.{blank_is_new}
-use Rattle.flash_cards.proofs.factory.blank_board.Goals as goal
+use Rattle.card_boards.proofs.BlankFlash.{blank_is_new}
+use Rattle.card_boards.proofs.flash_factory.blank_board.Goals as goal
 
 pub returns-in-Ok : goal.returns-in-Ok
 returns-in-Ok c =

@@ -3,8 +3,8 @@ use Rattle.std.proofs.Common.{subst}
 use Rattle.card_start.specs.Factory.{factory_card}
 use Rattle.command_base.specs.Finding.{Finds}
 use Rattle.simulated_boards.specs.CutFlashFacts.{cut_flash_facts}
-use Rattle.flash_cards.proofs.BlankFlash.{just_written, new_blocks}
-use Rattle.flash_cards.proofs.factory.factory_on_flash.Goals as goal
+use Rattle.card_boards.proofs.BlankFlash.{just_written, new_blocks}
+use Rattle.card_boards.proofs.flash_factory.factory_on_flash.Goals as goal
 
 pub returns-in-Ok-clause-card : goal.returns-in-Ok-clause-card
 returns-in-Ok-clause-card c =

@@ -1,10 +1,10 @@
 //! Turns of the card on a flash.
 ghost use Rattle.std.specs.Prelude.{◌≡◌, false, length, IfOk, IfErr, OnErr};
 ghost use Rattle.flash_board.specs.Places.{OpenStopsBy};
-ghost use Rattle.flash_cards.specs.FlashRuns.{PlaysOnFlash};
+ghost use Rattle.card_turns.specs.FlashRuns.{PlaysOnFlash};
 
+use crate::playing::Bench;
 use bench_turns::{Item, Turn};
-use card_turns::Bench;
 use flash_board::{FlashBoard, FlashFault, FlashLog, FlashSocket};
 
 /// Plays turns in order with the card on a flash, and returns the flash. Item i of the trace becomes the result of turn
