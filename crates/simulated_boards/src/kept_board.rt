@@ -248,9 +248,9 @@ impl<F: Follower + Drop> Followed for KeptBoard<F> {
     }
 
     fn unfollowed_copy(&self) -> Result<KeptBoard<F>, AllocError> {
-        let cut = self.cut.copy(self.cut.allocator())?;
+        let second = self.cut.copy(self.cut.allocator())?;
         Ok(KeptBoard {
-            cut,
+            cut: second,
             follower: None,
             follows: self.follows && !self.is_followed(),
         })
