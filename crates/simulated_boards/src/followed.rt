@@ -26,8 +26,8 @@ pub trait Followed: Board {
     fn pending_cut(&self) -> Option<Arm>
         ensures { result ≡ (Self.facts self.now).pending };
 
-    /// Returns a second board in the same state, which nothing follows. If something follows this board, or did until it
-    /// failed, the copy lacks its writes: else code that asks a copy could answer for a follower that fell behind.
+    /// Returns a second board in the same state, which nothing follows. If something follows this board, or did until
+    /// it failed, the copy lacks its writes: else code that asks a copy could answer for a follower that fell behind.
     ///
     /// # Errors
     /// There is too little memory for the words.
