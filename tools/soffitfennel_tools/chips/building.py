@@ -29,6 +29,8 @@ WORDS = (
 )
 SOURCE = "card.ll"
 STARTS = ("card_serve", "card_serve_commands")
+# what a port over a flash has too
+MAKING = "card_make"
 
 
 @dataclass(frozen=True)
@@ -94,7 +96,9 @@ def bounds(target: Target, room: Path) -> dict[str, Bound]:
         return {}
     assembly = room / "card.s"
     compiler(target, room, "-S", "-fstack-usage", "-o", assembly)
-    return {it: read(assembly, assembly.with_suffix(".su"), it) for it in STARTS}
+    defined = set(re.findall(r"^(card_\w+):", assembly.read_text(encoding="utf-8"), re.M))
+    starts = [it for it in (*STARTS, MAKING) if it in defined or it == STARTS[0]]
+    return {it: read(assembly, assembly.with_suffix(".su"), it) for it in starts}
 
 
 def build(port: Path, target: Target, out: Path, is_proved: bool, room: Path) -> Built:

@@ -15,8 +15,8 @@ from ..narrowing.building import KEEPER, kit_folder, run
 from ..unproving.kit import Failed, Kit, Strange, link_all, write_program
 from ..unproving.library import EXPORT, as_library
 
-# the crate with C functions, and the one with the functions that C calls
-BOARD, CARD = "device_board", "card_device"
+# the crate with C functions, over a board or over a flash, and the one with the functions that C calls
+BOARD, FLASH, CARD = "device_board", "device_flash", "card_device"
 TARGET = "x86_64-unknown-linux-gnu"
 ALLOWED = "RT_ALLOW_C"
 # what a proved library's functions for C need of the crates below it
@@ -76,11 +76,16 @@ def empty(crate: Path, room: Path) -> Path:
     return made
 
 
+def with_c(port: Path) -> str:
+    """The one crate of a port with functions of C."""
+    return FLASH if (port / "crates" / FLASH).is_dir() else BOARD
+
+
 @contextmanager
-def allowing_c() -> Iterator[None]:
+def allowing_c(crate: str) -> Iterator[None]:
     """Lets the toolchain take the one crate with functions of C."""
     before = os.environ.get(ALLOWED)
-    os.environ[ALLOWED] = BOARD
+    os.environ[ALLOWED] = crate
     try:
         yield
     finally:
@@ -93,7 +98,7 @@ def allowing_c() -> Iterator[None]:
 def unproved_text(port: Path, room: Path) -> str:
     """The module without a proof."""
     crate = port / "crates" / CARD
-    with allowing_c():
+    with allowing_c(with_c(port)):
         kit, modules = Kit(room), command("bench/unproved").modules
         text, proved = modules(kit, as_program(crate, kit.room), empty(crate, kit.room))
     return as_library(text, proved, crate)
@@ -110,7 +115,7 @@ def proved_text(port: Path, room: Path) -> str:
     for name in ("rt", "rtlib.py"):
         shutil.copy(kit / "bin" / name, copy / "bin" / name)
     write_program(copy / "toolchain/bin/clang", KEEPER.format(kept=kept, compiler=compiler))
-    environment = {**os.environ, ALLOWED: BOARD, "PATH": f"{copy / 'bin'}:{os.environ['PATH']}"}
+    environment = {**os.environ, ALLOWED: with_c(port), "PATH": f"{copy / 'bin'}:{os.environ['PATH']}"}
     crate = port / "crates" / CARD
     # (an archive that is there is taken as it is, and nothing is compiled)
     (crate / f"out/lib{CARD}.a").unlink(missing_ok=True)
