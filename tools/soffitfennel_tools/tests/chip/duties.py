@@ -77,9 +77,9 @@ def compare(room: Room) -> None:
             room.checks.check(is_named, f"a device is broken: {new or 'no ' + old}", text)
 
 
-def printed(port: str) -> str:
+def printed(port: str, patience: float = PATIENCE) -> str:
     """What the program prints on a board, up to its last line."""
-    text, end = b"", time.monotonic() + PATIENCE
+    text, end = b"", time.monotonic() + patience
     file = os.open(port, os.O_RDONLY | os.O_NOCTTY)
     try:
         while not text.endswith(b"failed\r\n") and not text.endswith(b"failed\n") and time.monotonic() < end:

@@ -1,0 +1,76 @@
+"""The programs that the tests run: the C of a port over a flash."""
+from __future__ import annotations
+
+import subprocess
+import tempfile
+from dataclasses import dataclass
+from pathlib import Path
+
+from ...chips.building import build
+from ...chips.stack import Bound
+from ...chips.targets import TARGETS
+from ...narrowing.building import TOP
+from ...porting import over_flash
+from ...porting.over_flash import FLASH_EXAMPLE
+from ...porting.writing import EXAMPLE, write_port
+from ...programs import program
+from ..checks import Checks
+from ..chip.building import run
+
+PROGRAMS = TOP / "tools" / "tests" / "pflash_programs"
+CHIP, HOST = TARGETS["riscv32"], TARGETS["x86-64"]
+# the driver of qemu's board, for make
+DRIVER = "pflash.c bank_virt.c"
+INCLUDED = tuple(f"-I{it}" for it in (PROGRAMS, FLASH_EXAMPLE, EXAMPLE))
+CHECKED = ("-fsanitize=address,undefined", "-fno-sanitize-recover=all")
+
+
+@dataclass
+class Room:
+    """A folder of the tests, with a port over a flash."""
+
+    folder: Path
+    checks: Checks
+    bench: str
+
+    @property
+    def port(self) -> Path:
+        """The port."""
+        return self.folder / "port"
+
+    @property
+    def device(self) -> Path:
+        """Its C."""
+        return self.port / "device"
+
+
+def room_of(folder: Path) -> Room:
+    """A room with a port, and the image of the factory card."""
+    bench = program("--quiet", "--for-cards")
+    write_port(folder / "port", over_flash.fill)
+    subprocess.run([bench, "--card", folder / "factory.card"], stdin=subprocess.DEVNULL, check=True)
+    return Room(folder, Checks(), bench)
+
+
+def library(room: Room, name: str) -> tuple[Path, dict[str, Bound]]:
+    """The card's library for a processor, in a folder with the factory card; and the bounds of its stack."""
+    out = room.folder / name
+    with tempfile.TemporaryDirectory(dir=room.folder) as place:
+        built = build(room.port, TARGETS[name], out, False, Path(place))
+    (out / "factory.card").write_bytes((room.folder / "factory.card").read_bytes())
+    return out, built.bounds
+
+
+def made(room: Room, name: str, out: Path, device: str, what: str) -> Path:
+    """A program of the port, by its Makefile."""
+    folder = room.folder / f"{name}-{device.split('.')[0]}"
+    folder.mkdir(exist_ok=True)
+    run("make", "-s", "-C", room.device, f"CHIP={name}", f"LIBRARY={out}", f"OUT={folder}", f"DEVICE={device}", what)
+    return folder / f"{what}.elf"
+
+
+def by_host(sources: list[Path], program_: Path, *words: str) -> str:
+    """What a C program prints on this machine."""
+    run("cc", *words, "-O1", *INCLUDED, *sources, "-o", program_)
+    ran = subprocess.run([program_], capture_output=True, text=True, check=False)
+    return ran.stdout + ran.stderr

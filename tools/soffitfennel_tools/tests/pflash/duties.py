@@ -1,0 +1,109 @@
+"""The program that tries a flash's duties: it passes the example's flash, and names what a broken one breaks."""
+from __future__ import annotations
+
+import os
+from concurrent.futures import ThreadPoolExecutor
+from pathlib import Path
+
+from ...porting.over_flash import FLASH_EXAMPLE
+from ...porting.writing import EXAMPLE
+from ..chip.building import WARNINGS, Failed, lacks
+from ..chip.duties import CHANGED, WORDS_AT, kept, printed
+from ..chip.playing import board
+from .building import CHECKED, CHIP, DRIVER, Room, by_host, made
+from .emulating import emulator, new_flash, port_of
+
+# (an emulated program of a word takes a twentieth of a millisecond, and more on a busy machine)
+PATIENCE = 300.0
+SOURCES = [FLASH_EXAMPLE / "duties.c", EXAMPLE / "board_host.c"]
+CLEARED = "words[at + i] &= from[i];"
+ERASED = "words[i] = (uint32_t)BLANK;"
+SIZE = "size_t size = block == FLASH_BLOCKS - 1 ? FLASH_WITNESS_WORDS : FLASH_AREA_WORDS;"
+START = "size_t start = (size_t)block * FLASH_AREA_WORDS;"
+# what is changed in the example's flash, and the duty that is then broken
+BROKEN = (
+    ("*word = words[at];", "*word = words[at ^ 1];", "device_program: the words are there"),
+    ("*word = words[at];", "*word = words[at % FLASH_AREA_WORDS];", "device_program: the words are there, in area B"),
+    ("*word = words[at];", "*word = words[at]; words[at] &= ~(at == 77);", "device_read: a read changes no word"),
+    (CLEARED, "words[at + i] &= from[i] | 1;", "device_program: done"),
+    (CLEARED, f"{CLEARED} words[at + i] &= ~(uint32_t)(i == 17);", "device_program: done"),
+    (CLEARED, f"{CLEARED} words[(at + i + 1) % FLASH_WORDS] &= ~1u;", "device_program: done"),
+    (CLEARED, f"{CLEARED} words[(at + FLASH_AREA_WORDS) % FLASH_WORDS] &= ~2u;", "no word changes outside area A"),
+    ("i < (size_t)count", "i < (size_t)count && i < 18", "device_program: a run is there"),
+    ("i < (size_t)count", "i + 1 < (size_t)count || i == 0", "device_program: the words are there"),
+    ("return is_there ? DEVICE_DONE", "return at != 40 ? DEVICE_DONE", "device_program: done, in area A"),
+    (ERASED, "words[i] |= 0xFFFFFF7F;", "device_erase: done"),
+    (ERASED, "words[i] = 0;", "device_erase: done"),
+    (START, START.replace("block", "(block == 2 ? block : block ^ 1)"), "device_erase"),
+    (SIZE, "size_t size = FLASH_AREA_WORDS - (block == FLASH_BLOCKS - 1 ? FLASH_AREA_WORDS - 1 : 0);",
+     "all words are blank, of the witness"),
+    (SIZE, "size_t size = block == FLASH_BLOCKS - 1 ? FLASH_WITNESS_WORDS : FLASH_AREA_WORDS + 1;",
+     "device_erase: no word changes outside"),
+    (SIZE, "size_t size = block == FLASH_BLOCKS - 1 ? FLASH_WITNESS_WORDS : FLASH_AREA_WORDS - 1;",
+     "device_erase: what was programmed is blank"),
+    (SIZE, f"if (block == 1)\n        words[FLASH_WORDS - 1] = (uint32_t)BLANK;\n    {SIZE}",
+     "device_erase: no word changes outside area B"),
+    (SIZE, f"if (block == 1)\n        words[9] = (uint32_t)BLANK;\n    {SIZE}",
+     "device_erase: no word changes outside area B"),
+    (SIZE, f"if (block == 0 && words[0] != (uint32_t)BLANK && words[1000] == (uint32_t)BLANK)\n"
+     f"        return DEVICE_DONE;\n    {SIZE}", "device_erase: of a block that isn't full"),
+)
+
+
+def by_broken(room: Room, number: int) -> str:
+    """What the program prints with a broken flash."""
+    source = (FLASH_EXAMPLE / "flash.c").read_text(encoding="utf-8")
+    old, new, _ = BROKEN[number]
+    if old not in source:
+        raise Failed(f"examples/flash/flash.c has no longer: {old}")
+    flash = room.folder / f"broken{number}.c"
+    flash.write_text(source.replace(old, new, 1), encoding="utf-8")
+    return by_host([*SOURCES, flash], flash.with_suffix(".duties"), "-w")
+
+
+def compare_reset(room: Room, out: Path) -> None:
+    """On a board whose memory survives, the second run finds what the first one wrote, or says that it isn't there."""
+    program, memory = made(room, CHIP.name, out, "flash.c", "duties"), room.folder / "duties.memory"
+    for what, wanted in (("the first run", "no run before"), ("a reset", "duties: "), ("a lost word", "without power")):
+        if what == "a lost word":
+            with memory.open("r+b") as file:
+                file.seek(WORDS_AT + CHANGED)
+                file.write(b"\0\0\0\0")
+        with board(CHIP, program, *kept(memory)) as port:
+            text = printed(port)
+        is_so = wanted in text and text.endswith(" 0 failed\n") == (what != "a lost word")
+        room.checks.check(is_so and ("no run before" in text) == (what == "the first run"), f"duties: {what}", text)
+
+
+def compare_driver(room: Room, out: Path) -> None:
+    """The driver keeps its duties on the flash of qemu."""
+    program = made(room, CHIP.name, out, DRIVER, "duties")
+    with emulator(program, new_flash(room.folder / "duties.flash")) as process:
+        try:
+            text = printed(port_of(process), PATIENCE)
+        finally:
+            process.kill()
+    room.checks.check(text.endswith(" passed, 0 failed\n"), "the driver keeps its duties on qemu's flash", text)
+
+
+def compare_chip(room: Room) -> None:
+    """Tries the duties on a board."""
+    if missing := lacks(CHIP):
+        room.checks.skip("duties on a board", f"{missing} isn't installed")
+        return
+    out = room.folder / "no-library"
+    out.mkdir()
+    compare_reset(room, out)
+    compare_driver(room, out)
+
+
+def compare(room: Room) -> None:
+    """Tries the example's flash, and each broken one."""
+    compare_chip(room)
+    text = by_host([*SOURCES, FLASH_EXAMPLE / "flash.c"], room.folder / "duties", *WARNINGS, *CHECKED)
+    is_first = text.startswith("no run before this one\n")
+    room.checks.check(is_first and text.endswith(" passed, 0 failed\n"), "the example's flash keeps its duties", text)
+    with ThreadPoolExecutor(os.cpu_count()) as pool:
+        for (old, new, duty), text in zip(BROKEN, pool.map(lambda it: by_broken(room, it), range(len(BROKEN)))):
+            is_named = any(it.startswith("broken: ") and duty in it for it in text.splitlines())
+            room.checks.check(is_named, f"a flash is broken: {new or 'no ' + old}", text)

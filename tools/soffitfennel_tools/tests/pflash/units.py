@@ -1,0 +1,88 @@
+"""What tools/port and tools/chip refuse of a port over a flash, and what such a port holds."""
+from __future__ import annotations
+
+import os
+
+from ...chips.module import FLASH as CRATE
+from ...porting.slots import PLACES
+from ...porting.over_flash import OWN_ON_FLASH, code, fill
+from ...porting.writing import needed, write_port
+from ..chip.units import CHIP, PORT, tool
+from .building import Room
+
+
+def compare_port(room: Room) -> None:
+    """A port is whole, with the number of slots that was asked for."""
+    for name in [*needed(OWN_ON_FLASH), *(it.split()[0] for it in OWN_ON_FLASH)]:
+        room.checks.check((room.port / "crates" / name / "src/lib.rt").is_file(), f"the port has the crate {name}")
+    room.checks.same([str(it) for it in room.port.rglob("*.in")], [], "no template is left")
+    came = sorted(it.name for it in room.device.iterdir() if it.is_file())
+    room.checks.same(came, sorted(code()), "the C of the port")
+    room.checks.check("device.c" not in came and "boards.mk" in came, "the C of a board is not there", str(came))
+    larger = room.folder / "larger"
+    ran = tool(PORT, "--flash", "--slots", 2048, larger)
+    room.checks.same((ran.returncode, ran.stdout), (0, f"{larger}\n"), "tools/port --slots")
+    for place, number in PLACES.items():
+        numbers = [number.findall((port / place).read_text(encoding="utf-8")) for port in (room.port, larger)]
+        room.checks.same(numbers, [["1280"], ["2048"]], f"the slots in {place}")
+
+
+def compare_mistakes(room: Room) -> None:
+    """The tools say in one line what is wrong, and nothing is left behind."""
+    link = room.folder / "link"
+    link.symlink_to(room.folder / "elsewhere")
+    before = sorted(os.listdir(room.folder))
+    # (no folder can be made in /proc)
+    cases: tuple[tuple[list[object], str], ...] = (
+        (["--flash", room.port], "is there already"),
+        (["--flash", link], "is there already"),
+        (["--flash", room.folder / "a/b"], "there is no folder"),
+        (["--flash", room.port / "crates.txt/new"], "there is no folder"),
+        (["--flash", "/proc/new"], "No such file"),
+        (["--flash"], "required: FOLDER"),
+        (["--slots", 2048, room.folder / "new"], "give --flash too"),
+        (["--flash", "--slots", 1279, room.folder / "new"], "at least 1,280 slots"),
+        (["--flash", "--slots", 65536, room.folder / "new"], "from 1 to 65535"),
+        (["--flash", "--slots", "many", room.folder / "new"], "from 1 to 65535"),
+    )
+    for words, why in cases:
+        ran = tool(PORT, *words)
+        lines = ran.stderr.splitlines()
+        is_so = ran.returncode in (1, 2) and len(lines) == 1 and why in lines[0]
+        room.checks.check(is_so, f"tools/port {words}", ran.stderr)
+    room.checks.same(sorted(os.listdir(room.folder)), before, "nothing is left of a port that isn't written")
+
+
+def compare_slots(room: Room) -> None:
+    """tools/chip refuses a port whose header and crate have other numbers of slots."""
+    changes = (
+        ("device/card_device.h", "FLASH_SLOTS = 1280", "FLASH_SLOTS = 1281", "two numbers of slots"),
+        (f"crates/{CRATE}/src/slots.rt", "u16 = 1280", "u16 = 2048", "two numbers of slots"),
+        ("device/card_device.h", "FLASH_SLOTS = 1280", "FLASH_SLOTS = 1000", "no number of slots"),
+        ("device/card_device.h", "FLASH_SLOTS = 1280", "FLASH_SLOTS = MANY", "no number of slots"),
+    )
+    for at, (place, old, new, why) in enumerate(changes):
+        port = room.folder / f"slots{at}"
+        write_port(port, fill)
+        text = (port / place).read_text(encoding="utf-8")
+        room.checks.check(old in text, f"{place} has {old}")
+        (port / place).write_text(text.replace(old, new), encoding="utf-8")
+        ran = tool(CHIP, "x86-64", "--port", port)
+        lines = ran.stderr.splitlines()
+        is_so = ran.returncode == 1 and len(lines) == 1 and why in lines[0]
+        room.checks.check(is_so, f"tools/chip over {new}", ran.stderr)
+
+
+def compare_image(room: Room) -> None:
+    """tools/chip refuses an image with more pages than the board on a flash has."""
+    larger = room.folder / "larger.card"
+    larger.write_bytes(bytes(64 * 1025))
+    ran = tool(CHIP, "x86-64", "--port", room.port, "--card", larger)
+    is_so = ran.returncode == 1 and "more pages than the board on a flash, 1,024\n" in ran.stderr
+    room.checks.check(is_so and len(ran.stderr.splitlines()) == 1, "tools/chip --card", ran.stderr)
+
+
+def compare(room: Room) -> None:
+    """All of them."""
+    for it in (compare_port, compare_mistakes, compare_slots, compare_image):
+        it(room)
