@@ -22,9 +22,9 @@ CARDS, PAGE = TOP / "examples" / "cards", TOP / "docs" / "FLASH.md"
 ROOM = SLOTS - PAGES
 MILLION = 1_000_000
 HEAD = """\
-| session | commands | device writes | of the gate | erases | gate writes |
-|---|---|---|---|---|---|"""
-ROW = re.compile(r"\| ([^|]+) \| (\d+) \| (\d+) \| (\d+) \| ([\d,]+) \| ([\d,]+) \|")
+| session | erases of an area | gate without flash |
+|---|---|---|"""
+ROW = re.compile(r"\| (UICC|identity card|purse) \| [\d,]+ \| [\d,]+ \|")
 
 
 class Session(NamedTuple):
@@ -36,20 +36,20 @@ class Session(NamedTuple):
 
 
 SESSIONS = (
-    # PIN 1; location and packet location change; a message is stored, and two files are read
-    Session("UICC: a phone is switched on, and gets a message", "uicc", (
+    # a phone is switched on, and gets a message: PIN 1; keys and two locations change; the message is stored
+    Session("UICC", "uicc", (
         "00A4000C022FE2", "00B000000A", "00A4000C027FF0", "0020000108{1}", "00A4000C026F07",
         "00B0000009", "00A4000C026F08", "00D60000215A{0:064X}", "00A4000C026F7E", "00D600000B0102030462F2100001FF00",
         "00A4000C026F73", "00D600000E010203040506070862F210000100", "00A4000C023F00", "00A4000C027F10",
         "00A4000C026F3C", "00DC0104B0{0:0352X}",
     )),
-    # PIN 1; the certificates' directory is read, and the list of free space is updated
-    Session("identity card: a user signs on", "identity", (
+    # a user signs on: the certificate is read; PIN 1; the list of free space is updated
+    Session("identity card", "identity", (
         "00A4040C0CA000000063504B43532D3135", "00A4000C025031", "00B0000080", "00A4000C024404", "00B0000000",
         "00A4000C024545", "00B0000000", "00B0010000", "0020000108{1}", "00A4000C025033", "00D60008081500440502010080",
     )),
-    # PIN 3; the amount that is spent goes up, and a line of the log is written
-    Session("purse: a terminal debits", "purse", (
+    # a terminal debits: PIN 3; the amount that is spent goes up, and a line of the log is written
+    Session("purse", "purse", (
         "00A4040C0BA0000000F0505552534531", "00A4000C025F01", "00B0000014", "00A4000C026F01", "00B2010404",
         "00A4000C026F02", "0020000308{3}", "803200000400000064", "00A4000C026F03", "00DC000320{0:064X}",
     )),
@@ -76,8 +76,7 @@ class FlashWear(NamedTuple):
 
     def row(self) -> str:
         """The row of docs/FLASH.md."""
-        counts = f"{self.commands} | {self.writes} | {self.gate}"
-        return f"| {self.name} | {counts} | {self.erases:,} | {self.gate_writes:,} |"
+        return f"| {self.name} | {self.erases:,} | {self.gate_writes:,} |"
 
 
 def issued(bench: str, card: str, folder: Path) -> Path:
