@@ -1,4 +1,4 @@
-/* The card over a device of yours. You write the eight functions in the middle, and call one at the end.
+/* The card over a device of yours. You write the functions in the middle, and call those at the end.
  *
  * The card asks for nothing else but memcpy, memmove and memset: it has no heap and no static data. Sizes have 64 bits
  * on each processor. tools/chip refuses a header whose numbers have other widths than the proved code's. */
@@ -17,7 +17,8 @@ struct device {
  * power. DEVICE_FAULT, or any other number: the device failed, and still has power. */
 enum { DEVICE_DONE = 0, DEVICE_LOST = 1, DEVICE_FAULT = 2 };
 
-/* The results of card_serve and card_serve_commands. */
+/* The results of the card's functions. Those from CARD_NO_PLACE on are of card_start, card_block and card_end alone.
+ * After CARD_NO_ROOM and CARD_OUT_OF_TURN nothing has changed. */
 enum {
     CARD_ENDED = 0,
     CARD_LOST = 1,
@@ -25,8 +26,19 @@ enum {
     CARD_START_LOST = 3,
     CARD_START_FAULT = 4,
     CARD_BAD_JOURNAL = 5,
-    CARD_DAMAGED = 6
+    CARD_DAMAGED = 6,
+    CARD_NO_PLACE = 7,
+    CARD_NO_ROOM = 8,
+    CARD_OUT_OF_TURN = 9
 };
+
+/* A card between two calls. It begins with zero; only the card's functions change it. */
+struct card {
+    uint64_t own;
+};
+
+/* The bytes of a card's place, and of the longest reply. */
+enum { CARD_BYTES = 1376, REPLY_BYTES = 258 };
 
 /* The number of pages of 16 words: 1024 to 4096, always the same. */
 uint16_t device_pages(const struct device *device);
@@ -59,5 +71,26 @@ uint32_t card_serve(uint64_t own, uint32_t blocks);
 
 /* The same without T=1: each message is a command, and then its answer. */
 uint32_t card_serve_commands(uint64_t own, uint32_t commands);
+
+/* The card by calls, for a main loop of your own. Then you write port_place and port_place_back below, and neither
+ * port_receive nor port_send. Let the linker drop unused sections (--gc-sections).
+ *
+ * Powers the card of a device on. CARD_OUT_OF_TURN: it is on already. CARD_NO_PLACE: the device still has power. */
+uint32_t card_start(struct card *card, uint64_t own);
+
+/* Sends a block of T=1 to the card. The reply has REPLY_BYTES at most, else CARD_NO_ROOM. CARD_LOST: power was lost in
+ * this block or before, and there is no reply; card_end is next. CARD_OUT_OF_TURN: there is no card. */
+uint32_t card_block(struct card *card, const uint8_t *block, uint64_t size, uint8_t *reply, uint64_t room,
+                    uint64_t *reply_size);
+
+/* Ends the card, and switches its device off. CARD_OUT_OF_TURN: there is no card. */
+uint32_t card_end(struct card *card);
+
+/* Gives the card its place: CARD_BYTES bytes, aligned to 8, that nothing else uses until they come back. Null: there is
+ * none. card_start calls it once. */
+void *port_place(uint32_t size, uint32_t align);
+
+/* Takes the place back. card_end calls it once. */
+void port_place_back(void *place);
 
 #endif

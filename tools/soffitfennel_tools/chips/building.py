@@ -9,8 +9,8 @@ from dataclasses import dataclass
 from pathlib import Path
 
 from ..narrowing.building import OF_KIT, TOP, kit_folder, run
-from ..narrowing.rewriting import Rewriting
-from .interface import compare, imports
+from ..narrowing.rewriting import ALLOCATOR, HEAP, Rewriting
+from .interface import compare, imports, named
 from .module import CARD, TEXTS
 from .stack import Bound, read
 from .targets import Target
@@ -28,7 +28,7 @@ WORDS = (
     *OF_KIT,
 )
 SOURCE = "card.ll"
-STARTS = ("card_serve", "card_serve_commands")
+STARTS = ("card_serve", "card_serve_commands", "card_start", "card_block")
 # what a port over a flash has too
 MAKING = "card_make"
 
@@ -71,10 +71,10 @@ def text_of(port: Path, is_proved: bool, room: Path) -> str:
 def rewritten(text: str, target: Target) -> str:
     """The module for a processor."""
     if target.architecture is None:
-        return text
+        return named(HEAP.sub("", text) + ALLOCATOR)
     made = Rewriting({it: it for it in imports(text)}, target.architecture).module(text)
     # (a jump by a table would look as a call by pointer to the bound of the stack)
-    return re.sub(r"^(attributes #\d+ = \{)", r'\1 "no-jump-tables"="true"', made, flags=re.M)
+    return named(re.sub(r"^(attributes #\d+ = \{)", r'\1 "no-jump-tables"="true"', made, flags=re.M))
 
 
 def compiler(target: Target, room: Path, *words: object) -> None:

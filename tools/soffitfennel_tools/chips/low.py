@@ -8,7 +8,7 @@ import re
 
 from ..narrowing.rewriting import Rewriting
 from ..unproving.kit import Strange
-from .interface import imports
+from .interface import imports, named
 
 WILD = 0xA5A5A5A5 << 32
 LOWER = (1 << 32) - 1
@@ -29,4 +29,4 @@ def low(text: str, work: Rewriting | None = None) -> str:
     made, stores = STORED.subn(rf"\1.high = ptrtoint ptr \2 to i64\n\1 = or i64 \1.high, {wild}\n", made)
     if not loads or not stores:
         raise Strange("no pointer of the module is loaded, or none is stored")
-    return made
+    return named(made)

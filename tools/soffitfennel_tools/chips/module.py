@@ -13,7 +13,7 @@ from pathlib import Path
 from ..commands import command
 from ..narrowing.building import KEEPER, kit_folder, run
 from ..unproving.kit import Failed, Kit, Strange, link_all, write_program
-from ..unproving.library import EXPORT, as_library
+from ..unproving.library import PARAMETER, Export, as_library, exports
 
 # the crate with C functions, over a board or over a flash, and the one with the functions that C calls
 BOARD, FLASH, CARD = "device_board", "device_flash", "card_device"
@@ -22,15 +22,24 @@ ALLOWED = "RT_ALLOW_C"
 # what a proved library's functions for C need of the crates below it
 EMPTY = """//! The functions that C sees. They do nothing.
 #![tactic(auto)]
+use std::alloc::Global;
 /// A device.
 #[derive(Drop)]
 #[repr(C)]
 pub struct Device {
     at: *mut u8,
 }
+/// The pointer behind which C keeps a card.
+#[derive(Drop)]
+#[repr(C)]
+pub struct Handle {
+    at: *mut u8,
+}
 """
-EMPTY_EXPORT = '#[unsafe(no_mangle)]\npub extern "C" fn {}(_device: Device, _most: u32) -> u32 {{\n    0\n}}\n'
-# a program that calls each function that C sees; it has no device, so that it needs nothing that the library doesn't
+EMPTY_EXPORT = '#[unsafe(no_mangle)]\npub extern "C" fn {}({}) -> u32 {{\n    0\n}}\n'
+# a program that calls each function that C sees; it has no device and no card, so that it needs nothing that the
+# library doesn't
+HANDLE = "src/handle.rt"
 MAIN = """
 fn no_device() -> Option<Device> {{
     None
@@ -39,16 +48,36 @@ fn no_device() -> Option<Device> {{
 fn main(_rt: HostRuntime) {{
 {calls}}}
 """
-CALL = "    if let Some(device) = no_device() {{\n        {}(device, 0u32);\n    }}\n"
+MAIN_WITH_CARD = """
+fn no_device() -> Option<Device> {{
+    None
+}}
+
+fn no_card() -> Option<crate::handle::Handle> {{
+    None
+}}
+
+fn main(rt: HostRuntime) {{
+    let Some(mut card) = no_card() else {{
+        return;
+    }};
+{calls}    drop(card.into_session());
+}}
+"""
+CALL = "    if let Some(device) = no_device() {{\n        {}({});\n    }}\n"
+# what is passed for a parameter's type
+ARGUMENTS = {
+    "Global": "rt.alloc()", "&mut Handle": "&mut card", "Device": "device", "u32": "0u32", "&[u8]": "&[0u8; 4]",
+    "&mut [u8]": "&mut [0u8; 4]", "&mut usize": "&mut 0usize",
+}
 
 
-def exports(crate: Path) -> list[str]:
-    """The functions that C calls."""
-    found = EXPORT.findall((crate / "src/lib.rt").read_text(encoding="utf-8"))
-    for name, words, result in found:
-        if not re.fullmatch(r"\w+: Device, \w+: u32", words) or result != " -> u32":
-            raise Strange(f"{name} has other parameters than a device and a number: tools/chip can't build it")
-    return [name for name, _, _ in found]
+def arguments(it: Export) -> str:
+    """What a call of a function that C sees passes."""
+    kinds = PARAMETER.findall(it.words)
+    if it.result != " -> u32" or not set(kinds) <= set(ARGUMENTS):
+        raise Strange(f"{it.name} has other parameters than these, or no u32: {', '.join(ARGUMENTS)}")
+    return ", ".join(ARGUMENTS[kind] for kind in kinds)
 
 
 def as_program(crate: Path, room: Path) -> Path:
@@ -60,8 +89,9 @@ def as_program(crate: Path, room: Path) -> Path:
     listed = (crate.parent.parent / "crates.txt").read_text(encoding="utf-8")
     (top / "crates.txt").write_text(listed.replace(f"{crate.name} staticlib:", f"{crate.name}:"), encoding="utf-8")
     library, program = (top / "crates" / crate.name / "src" / it for it in ("lib.rt", "main.rt"))
-    calls = "".join(CALL.format(name) for name in exports(crate))
-    program.write_text(library.read_text(encoding="utf-8") + MAIN.format(calls=calls), encoding="utf-8")
+    calls = "".join(CALL.format(it.path, arguments(it)) for it in exports(crate))
+    main = MAIN_WITH_CARD if (crate / HANDLE).is_file() else MAIN
+    program.write_text(library.read_text(encoding="utf-8") + main.format(calls=calls), encoding="utf-8")
     library.unlink()
     return program.parent.parent
 
@@ -71,7 +101,9 @@ def empty(crate: Path, room: Path) -> Path:
     made = room / "empty" / "crates" / crate.name
     (made / "src").mkdir(parents=True)
     (room / "empty/crates.txt").write_text(f"{crate.name} staticlib:\n", encoding="utf-8")
-    text = EMPTY + "".join(EMPTY_EXPORT.format(name) for name in exports(crate))
+    text = EMPTY
+    for it in exports(crate):
+        text += EMPTY_EXPORT.format(it.name, re.sub(r"(\w+): ", r"_\1: ", " ".join(it.words.split())))
     (made / "src/lib.rt").write_text(text, encoding="utf-8")
     return made
 

@@ -20,7 +20,7 @@ SHARED = {
 }
 # the C of a board that has another name there, or isn't there
 RENAMED = {"Makefile": "boards.mk"}
-LEFT_OUT = ("device.c",)
+LEFT_OUT = ("device.c", "calls.c")
 
 
 def code() -> dict[str, Path]:

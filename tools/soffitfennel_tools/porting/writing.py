@@ -1,6 +1,7 @@
 """The files of a port: copies of the crates below the card, the two crates of the device, and C to begin with."""
 from __future__ import annotations
 
+import re
 import shutil
 import tempfile
 from collections.abc import Callable
@@ -17,8 +18,16 @@ LICENSES = ("LICENSE-APACHE", "LICENSE-MIT")
 # the crates of the device, and the crates of ours that each uses
 OWN = {
     "device_board": "nvm_board",
-    "card_device staticlib": "nvm_board device_board t1_link card_start card_core card_turns",
+    "card_device staticlib": "nvm_board undo_journal device_board card_model t1_link command_base card_start card_core "
+    "bench_turns card_turns core std_alloc",
 }
+# The pointer behind which C keeps a card is the library's: these files of it, under the port's name. The proof that
+# another thread may use it is not, since a device is an address.
+LIBRARY, CARD = "soffitfennel", "card_device"
+KEPT = (
+    "src/handle.rt", "src/held.rt", "specs/OwningParts.antt", "proofs/Addresses.antt", "proofs/handle", "proofs/held",
+)
+SENT = re.compile(r"\n// [^\n]*thread[^\n]*\nunsafe impl Send for Handle \{\}\n\Z")
 
 
 def uses() -> dict[str, list[str]]:
@@ -54,6 +63,17 @@ def crates_text(names: list[str], own: dict[str, str] = OWN) -> str:
     return "\n".join([*lines, *(f"{name}: {below}" for name, below in own.items()), ""])
 
 
+def keep(crate: Path) -> None:
+    """Puts the library's files of the pointer that C keeps into the crate of the card's calls."""
+    library = TOP / "crates" / LIBRARY
+    for path in (file for it in KEPT for file in [library / it, *(library / it).rglob("*")] if file.is_file()):
+        text = path.read_text(encoding="utf-8").replace(f"Rattle.{LIBRARY}.", f"Rattle.{CARD}.")
+        place = crate / path.relative_to(library)
+        if path.parent.name != "TheSendSync":
+            place.parent.mkdir(parents=True, exist_ok=True)
+            place.write_text(SENT.sub("", text), encoding="utf-8")
+
+
 def copy_crates(folder: Path, own: dict[str, str]) -> None:
     """Puts the crates of ours into an empty folder, and the list of all crates."""
     names = needed(own)
@@ -71,6 +91,7 @@ def fill(folder: Path) -> None:
         place = folder / path.relative_to(FILES)
         place.parent.mkdir(parents=True, exist_ok=True)
         shutil.copyfile(path, place.with_name(place.name.removesuffix(SUFFIX)))
+    keep(folder / "crates" / CARD)
     device = folder / "device"
     device.mkdir()
     for path in sorted(it for it in EXAMPLE.iterdir() if it.is_file()):

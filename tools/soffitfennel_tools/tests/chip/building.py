@@ -10,6 +10,7 @@ from pathlib import Path
 
 from ...chips.building import LIBRARY, bounds, compiled, rewritten, text_of
 from ...chips.low import low
+from ...chips.module import CARD
 from ...chips.stack import Bound
 from ...chips.targets import TARGETS, Target
 from ...narrowing.building import TOP
@@ -20,6 +21,8 @@ from ..checks import Checks
 
 PROGRAMS = TOP / "tools" / "tests" / "chip_programs"
 HOST = TARGETS["x86-64"]
+# the chip with 8 KiB of RAM and 64 KiB of ROM, and what is added to the name of a program with a main loop of its own
+SMALL, BY_CALLS = "cortex-m4", " by calls"
 WARNINGS = ("-std=gnu11", "-Wall", "-Wextra", "-Werror")
 
 
@@ -80,20 +83,20 @@ def chip_program(room: Room, target: Target) -> Path:
     return linked(room, target, made)
 
 
-def linked(room: Room, target: Target, made: Path) -> Path:
+def linked(room: Room, target: Target, made: Path, name: str = "card") -> Path:
     """The card of an object."""
     folder = made.parent
     shutil.copyfile(room.folder / "factory.card", folder / "factory.card")
     shutil.copyfile(made, folder / LIBRARY)
-    words = [f"CHIP={target.name}", f"LIBRARY={folder}", f"DEVICE={PROGRAMS / 'torn.c'}", "card"]
+    words = [f"CHIP={target.name}", f"LIBRARY={folder}", f"DEVICE={PROGRAMS / 'torn.c'}", name]
     run("make", "-s", "-C", EXAMPLE, *words)
-    return folder / "card.elf"
+    return folder / f"{name}.elf"
 
 
 def low_program(room: Room, work: Rewriting | None = None, name: str = "low") -> Path:
     """The rewritten module on this processor, below 4 GiB."""
     made = object_of(room, HOST, low(room.text, work), name)
-    program_, sources = made.with_name("card.elf"), [EXAMPLE / it for it in ("main.c", "image.S")]
+    program_, sources = made.with_name("card.elf"), [EXAMPLE / it for it in ("main.c", "messages.c", "image.S")]
     words = [*WARNINGS, "-Os", "-no-pie", "-fno-pie", f"-I{EXAMPLE}", f"-Wa,-I{room.folder}", "-Wl,--gc-sections"]
     run("cc", *words, *sources, PROGRAMS / "torn.c", PROGRAMS / "low.c", made, "-o", program_)
     return program_
@@ -105,3 +108,12 @@ def programs(room: Room, targets: list[Target]) -> dict[str, tuple[Target, Path]
         made = {it.name: (it, pool.submit(chip_program, room, it)) for it in targets}
         made["low"] = (HOST, pool.submit(low_program, room))
         return {name: (target, it.result()) for name, (target, it) in made.items()}
+
+
+def by_calls(room: Room, made: dict[str, tuple[Target, Path]]) -> dict[str, tuple[Target, Path]]:
+    """The program with a main loop of its own, for this processor and the small chip."""
+    some = {name: it for name, it in made.items() if name in (HOST.name, SMALL)}
+    return {
+        f"{name}{BY_CALLS}": (target, linked(room, target, program_.with_name(f"{CARD}.o"), "calls"))
+        for name, (target, program_) in some.items()
+    }

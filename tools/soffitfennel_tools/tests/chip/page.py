@@ -7,18 +7,21 @@ import tempfile
 from math import ceil
 from pathlib import Path
 
-from ...chips.building import bounds, compiled, rewritten
+from ...chips.building import HEADER, bounds, compiled, rewritten
 from ...chips.module import CARD
 from ...chips.targets import TARGETS
 from ...narrowing.building import TOP
-from .building import Room
+from ...porting.writing import EXAMPLE
+from .building import SMALL, Room
 
 PAGE = TOP / "docs" / "CHIP.md"
 # a stored number is a little more than what is measured, so that a small change needs no new page, and never far more
 STORED, MORE, STEP = 1.01, 1.03, 100
-# a chip with 8 KiB of RAM and 64 KiB of ROM has room for the card, and for the C below it
-SMALL, MOST_CODE, MOST_STACK = "cortex-m4", 56 * 1024, 7 * 1024
+# the small chip has room for the card, and for the C below it
+MOST_CODE, MOST_STACK = 56 * 1024, 7 * 1024
 ROW = re.compile(r"^\| `([\w-]+)` \| ([\d,]+) \| ([\d,]+) \| ([\d,]+) \|$", re.M)
+BLOCK = "card_block"
+PLACE = re.compile(r"a place of ([\d,]+) bytes")
 MOST_WORDS = 600
 WRITES = re.compile(r"at most (\d+) device writes\s+\(`COMMAND_WRITES`\)")
 WAITING = re.compile(r"BWI of (\d+) gives a reply ([\d.]+) s at ([\d.]+) MHz")
@@ -27,7 +30,7 @@ LEAST = re.compile(r"at least ([\d,]+) bytes: ([\d,]+) pages of (\d+) words")
 
 
 def measured(room: Room, name: str) -> list[int]:
-    """Code and constants, and both bounds of the stack."""
+    """Code and constants, the most stack of a call, and that of a block."""
     target = TARGETS[name]
     with tempfile.TemporaryDirectory(dir=room.folder) as folder:
         made = compiled(rewritten(room.text, target), target, Path(folder))
@@ -35,7 +38,8 @@ def measured(room: Room, name: str) -> list[int]:
         text, data, zero = map(int, ran.stdout.splitlines()[1].split()[:3])
         room.checks.same((data, zero), (0, 0), f"static data of {CARD} on {name}")
         room.bounds[name] = bounds(target, Path(folder))
-        return [text, *(it.size for it in room.bounds[name].values())]
+        found = {called: it.size for called, it in room.bounds[name].items()}
+        return [text, max(found.values()), found[BLOCK]]
 
 
 def constant(path: str, name: str) -> int:
@@ -58,6 +62,10 @@ def compare_constants(room: Room, text: str) -> None:
         room.checks.same(pages, constant(board, "LEAST_PAGES"), "the least number of pages")
         room.checks.same(words, constant(board, "PAGE_WORDS"), "the words of a page")
         room.checks.same(size, 4 * pages * words, "the bytes of the least memory")
+    place = PLACE.search(text)
+    header = (EXAMPLE / HEADER).read_text(encoding="utf-8")
+    wanted = f"CARD_BYTES = {place[1].replace(',', '')}," if place else "a place"
+    room.checks.check(wanted in header, "the bytes of a card's place", wanted)
     compare_reset(room, text)
     words = len(text.split())
     room.checks.check(words <= MOST_WORDS, f"docs/CHIP.md has {words} words, and {MOST_WORDS} at most")
@@ -89,7 +97,7 @@ def compare(room: Room, is_stored: bool) -> None:
             text = text.replace(rows[name][0], f"| `{name}` | {told} |")
             continue
         if name == SMALL:
-            fits = sizes[0] <= MOST_CODE and max(sizes[1:]) <= MOST_STACK
+            fits = sizes[0] <= MOST_CODE and sizes[1] <= MOST_STACK
             room.checks.check(fits, f"the card fits a {name} of 64 KiB of ROM and 8 KiB of RAM", f"{sizes}")
         shown = [int(it.replace(",", "")) for it in rows[name].groups()[1:]]
         is_so = all(size <= it <= size * MORE for size, it in zip(sizes, shown))

@@ -13,7 +13,7 @@ from ...chips.targets import Target
 from ...comparing.random_commands import Commands
 from ...comparing.sides import Program
 from ...narrowing.building import TOP
-from .building import HOST, Room
+from .building import BY_CALLS, HOST, Room
 from .playing import play, serial, started
 
 Programs = dict[str, tuple[Target, Path]]
@@ -95,7 +95,8 @@ def compare(room: Room, programs: Programs, scripts: dict[str, list[str]]) -> No
 def compare_stack(room: Room, deepest: dict[str, int]) -> None:
     """No run uses more stack than the bound, and what C takes."""
     for chip, stack in deepest.items():
-        if bounds := room.bounds.get(chip):
-            most = bounds["card_serve"].size + MOST_OF_C
+        if bounds := room.bounds.get(chip.removesuffix(BY_CALLS)):
+            called = ("card_start", "card_block") if chip.endswith(BY_CALLS) else ("card_serve",)
+            most = max(bounds[it].size for it in called) + MOST_OF_C
             what = f"{chip} took {stack} bytes of stack, and the bound is {most}"
             room.checks.check(0 < stack <= most, what)

@@ -71,7 +71,7 @@ def compare_header(room: Room) -> None:
     """Each number of the header has the module's width: another one is refused."""
     header = (EXAMPLE / HEADER).read_text(encoding="utf-8")
     interface.compare(header, room.text)
-    room.checks.same(len(interface.of_header(header)), 10, "the functions of the header")
+    room.checks.same(len(interface.of_header(header)), 15, "the functions of the header")
     places = list(re.finditer(r"\b(uint\d+_t)(?= \w+[,)(])", header))
     room.checks.check(len(places) >= 15, "numbers in prototypes", str(len(places)))
     for it in places:
@@ -81,6 +81,9 @@ def compare_header(room: Room) -> None:
     cases = (
         ("a size_t", "has no width", header.replace("uint64_t room", "size_t room")),
         ("a missing function", "the header lacks port_send", header.replace("port_send", "sent")),
+        ("another place", "aligned to 8", header.replace("CARD_BYTES = 1376", "CARD_BYTES = 1368")),
+        ("a place without a size", "aligned to 8", header.replace("CARD_BYTES = 1376", "CARD_BYTES")),
+        ("a place that isn't told", "has port_place as", header.replace("void *port_place(", "void port_place(")),
         ("one more function", "the module lacks device_more", f"{header}void device_more(void);\n"),
     )
     for what, why, text in cases:
