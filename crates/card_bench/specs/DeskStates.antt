@@ -1,5 +1,5 @@
 -- The state of a `Desk`, from its fields.
-use Rattle.std.specs.Prelude.{ℕ, Bool, true, false, List, Option, None, Some}
+use Rattle.std.specs.Prelude.{ℕ, Bool, true, false, List, [], Option, None, Some}
 use Rattle.t1_link.specs.ReaderTable.{Reader}
 use Rattle.card_bench.specs.declared.line_result.LineResult.{LineResult}
 use Rattle.card_bench.specs.declared.line_result.LineResult.TheVariants.{Nothing, Atr, Mute, Dark, Lost, Answer}
@@ -33,3 +33,14 @@ print_of (Free free) answer block = prints_free free
 -- the output of the result of a desk's last line
 abbrev pub printed_at : LineResult → DeskState → Print
 printed_at r d = print_of r d.answer d.block
+
+-- the bytes of the result of a desk's last line; none if it has none
+abbrev pub bytes_at : LineResult → DeskState → List ℕ
+bytes_at Nothing d = []
+bytes_at Atr d = []
+bytes_at Mute d = []
+bytes_at Dark d = []
+bytes_at Lost d = []
+bytes_at Answer d = d.answer
+bytes_at Block d = d.block
+bytes_at (Free free) d = []

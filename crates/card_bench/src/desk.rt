@@ -1,12 +1,13 @@
 //! The desk of a script: a bench, the reader's end of the link, and the line between the ends.
-ghost use Rattle.std.specs.Prelude.{◌≡◌, ◌≢◌, ◌⊎◌, ◌↔◌, ℕ, None, Err, IsTrue, take, true, false};
+ghost use Rattle.std.specs.Prelude.{◌≡◌, ◌≢◌, ◌≤◌, ◌⊎◌, ◌↔◌, ℕ, None, Err, IsTrue, length, take, true, false};
 ghost use Rattle.std.specs.Prelude.{IfErr, OnErr, OnOk};
 ghost use Rattle.card_bench.specs.Charges.{IsCharged, IsFactsOf, MayCompare, TakesCharge, twin_desk};
 ghost use Rattle.std.specs.Io.KnownBytes.{Appends};
 ghost use Rattle.bench_lines.specs.declared.order.TheConstants.{COMMAND_LIMIT};
 ghost use Rattle.bench_turns.specs.BenchStates.{IsOn, bench_facts, off, with_facts};
 ghost use Rattle.card_model.specs.Requests.{HasBetween};
-ghost use Rattle.card_bench.specs.DeskStates.{print_of, printed_at};
+ghost use Rattle.t1_link.specs.declared.card_end.TheConstants.{LONGEST_ANSWER};
+ghost use Rattle.card_bench.specs.DeskStates.{bytes_at, printed_at};
 ghost use Rattle.bench_lines.specs.OrderViews.{order_with};
 ghost use Rattle.bench_lines.specs.Orders.{IsOrderSized};
 ghost use Rattle.card_bench.specs.Lines.{perfect_line};
@@ -26,7 +27,7 @@ use core::mem::replace;
 use simulated_boards::Followed;
 use std::io::Write;
 use std::marker::Model;
-use t1_link::{AnswerBytes, BlockBytes, ReaderEnd};
+use t1_link::{BlockBytes, ReaderEnd};
 
 /// A bench, the reader's end, and the line. Pending faults of the line survive a power-off.
 #[derive(Drop)]
@@ -116,19 +117,20 @@ impl<P: TurnPlayer> Desk<P> {
         bench.into_board()
     }
 
-    /// Copies the bytes of the last line's result, if it has any, into the buffer.
-    pub fn copy_bytes(&self, line_result: LineResult, bytes: &mut AnswerBytes)
-        ensures { print_of line_result bytes.new.items bytes.new.items ≡ printed_at line_result self.now }
+    /// The bytes of the last line's result. None if it has none.
+    pub fn bytes(&self, line_result: LineResult) -> &[u8]
+        ensures bytes { result.now ≡ bytes_at line_result self.now }
+        ensures fits { length result.now ≤ LONGEST_ANSWER }
     {
-        bytes.clear();
         match line_result {
-            LineResult::Answer => bytes
-                .try_extend_from_slice(self.ends.reader.answer())
-                .unwrap(),
-            LineResult::Block => bytes
-                .try_extend_from_slice(&self.ends.blocks.toward_reader)
-                .unwrap(),
-            _ => {}
+            LineResult::Answer => self.ends.reader.answer(),
+            LineResult::Block => self.ends.blocks.toward_reader.as_slice(),
+            LineResult::Nothing
+            | LineResult::Atr
+            | LineResult::Mute
+            | LineResult::Dark
+            | LineResult::Lost
+            | LineResult::Free(_) => &[],
         }
     }
 }

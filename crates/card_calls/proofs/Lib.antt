@@ -1,5 +1,6 @@
 pub mod AheadLaws
 pub mod AnnouncedLaws
+pub mod CopyLaws
 pub mod FirstWriteLaws
 pub mod ImageLaws
 pub mod InStepLaws

@@ -137,10 +137,10 @@ module _ (order : Order) (was now : SessionState) (prints : Print) (run : Perfor
     }
 
 -- an order that may not run
-pub held_back : (order : Order) (was : SessionState) (why : CallOutcome) → (why ≡ outcome.Unstored)
+pub held_back : (order : Order) (was : SessionState) (out : List ℕ) (why : CallOutcome) → (why ≡ outcome.Unstored)
     × MayNotRun order was
-    → TellsResult order was was (Err why)
-held_back order was why held = (held.0, inl (record { why = held.1; same = refl }))
+    → TellsResult order was was out out (Err why)
+held_back order was out why held = ((held.0, inl (record { why = held.1; same = refl })), refl)
 
 -- an order that may run
 pub begins_order : (order : Order) (was : SessionState) (is_charged : Bool) → was.behind ≡ false

@@ -29,7 +29,7 @@ use Rattle.card_calls.specs.FirstWrites.{HasNoCharge, IsAsAnnounced, and_first, 
 use Rattle.card_calls.specs.PaidOrders.{IsLedBy, PaidInOrder}
 use Rattle.card_calls.specs.declared.outcome.CallOutcome.{CallOutcome}
 use Rattle.card_calls.specs.declared.outcome.CallOutcome.TheVariants as outcome
-use Rattle.card_calls.specs.declared.outcome.Told.{Told}
+use Rattle.card_calls.specs.declared.outcome.OrderResult.{OrderResult}
 use Rattle.card_calls.specs.declared.sizes.TheConstants.{ROOM}
 use Rattle.card_calls.specs.declared.write_log.NextWrite.{NextWrite}
 
@@ -59,9 +59,9 @@ print_outcome prints_lost = outcome.Lost
 print_outcome (prints_bytes bytes) = outcome.Done
 print_outcome (prints_free free) = outcome.Done
 
--- the output that a result and its bytes are
-abbrev pub told_print : Told → Print
-told_print told = print_of told.came told.bytes.items told.bytes.items
+-- the output of a result, with the answer to the last command and the last returned block
+abbrev pub result_print : OrderResult → List ℕ → List ℕ → Print
+result_print result answer block = print_of result.came answer block
 
 -- power is on
 abbrev pub is_on : BenchState → Bool
@@ -148,11 +148,6 @@ pub record HasRun (order : Order) (was now : SessionState) (prints : Print) : Ty
   pub performed : IsPerformed order was now prints
   pub keeps_up : KeepsUp order was now performed.made.runs
 
--- the result of an order is the output, if the device had all earlier writes and the charge
-abbrev pub TellsResult : Order → SessionState → SessionState → Result Told CallOutcome → Type 0
-TellsResult order was now (Ok told) = HasRun order was now (told_print told)
-TellsResult order was now (Err why) = (why ≡ outcome.Unstored) × IsWithheld order was now
-
 -- An order's announcement, if it has a charge.
 abbrev pub IsTaken : Order → SessionState → Option Announcement → Type 0
 IsTaken order was None = HasNoCharge order was
@@ -162,12 +157,6 @@ IsTaken order was (Some told) = (¬ HasNoCharge order was) × (was.announced ≡
 abbrev pub BeginsOrder : Order → SessionState → Result Bool CallOutcome → Type 0
 BeginsOrder order was (Ok is_charged) = MayRun order was × IsTaken order was (charge_of is_charged was.announced)
 BeginsOrder order was (Err why) = (why ≡ outcome.Unstored) × MayNotRun order was
-
--- An order to a card. Without a card nothing is done.
-abbrev pub AnswersOrder : Order → Option SessionState → Option SessionState → Result Told CallOutcome → Type 0
-AnswersOrder order None now result = (now ≡ None) × (result ≡ Err outcome.Absent)
-AnswersOrder order (Some was) None result = ⊥
-AnswersOrder order (Some was) (Some now) result = TellsResult order was now result
 
 -- A call that runs an order: its outcome is that of the output, for which `Holds` is true; or the device is behind, or
 -- there is no card, for which `Fails` is.
@@ -198,6 +187,25 @@ Copies old new size prints_dark = CopiesNothing old new size
 Copies old new size prints_lost = CopiesNothing old new size
 Copies old new size (prints_bytes bytes) = CopiesOut bytes old new size
 Copies old new size (prints_free free) = CopiesNothing old new size
+
+-- An order ran, and this result is its output. A buffer with room for any answer has the bytes.
+pub record HasResult (order : Order) (was now : SessionState) (old new : List ℕ) (result : OrderResult) : Type 0 where
+  pub answer : List ℕ
+  pub block : List ℕ
+  pub ran : HasRun order was now (result_print result answer block)
+  pub copied : ROOM ≤ length old → Copies old new result.size (result_print result answer block)
+
+-- the result of an order, if the device had all earlier writes and the charge; else the buffer is unchanged
+abbrev pub TellsResult : Order → SessionState → SessionState → List ℕ → List ℕ → Result OrderResult CallOutcome → Type 0
+TellsResult order was now old new (Ok result) = HasResult order was now old new result
+TellsResult order was now old new (Err why) = ((why ≡ outcome.Unstored) × IsWithheld order was now) × (new ≡ old)
+
+-- An order to a card. Without a card nothing is done.
+abbrev pub AnswersOrder : Order → Option SessionState → Option SessionState → List ℕ → List ℕ
+    → Result OrderResult CallOutcome → Type 0
+AnswersOrder order None now old new result = (now ≡ None) × (result ≡ Err outcome.Absent) × (new ≡ old)
+AnswersOrder order (Some was) None old new result = ⊥
+AnswersOrder order (Some was) (Some now) old new result = TellsResult order was now old new result
 
 -- the free space is returned, or zeros
 abbrev pub ReportsSpace : ℕ → ℕ → Print → Type 0

@@ -1,5 +1,5 @@
 //! The first write of an order, which is handed out before the order runs.
-ghost use Rattle.std.specs.Prelude.{◌≡◌, ◌≤◌, ◌↔◌, IsTrue, length, option_map};
+ghost use Rattle.std.specs.Prelude.{◌≡◌, ◌≤◌, ◌↔◌, IsTrue, None, length, option_map};
 ghost use Rattle.bench_lines.specs.OrderViews.{order_with};
 ghost use Rattle.bench_lines.specs.declared.order.TheConstants.{BLOCK_LIMIT};
 ghost use Rattle.card_bench.specs.Charges.{MayCompare};
@@ -66,6 +66,24 @@ fn is_block(order: Order) -> bool
     ensures { IsTrue result ↔ order ≡ Order.Block }
 {
     matches!(order, Order::Block)
+}
+
+/// Forgets the announced order, if there is one.
+pub fn forget(announced: &mut Option<Announced>)
+    ensures { announced.new ≡ None }
+{
+    if announced.is_some() {
+        set_none(announced);
+    }
+}
+
+/// Sets it to `None`. This is a function of its own, so that where nothing was announced, the usual case, no place for
+/// an order is blanked.
+#[inline(never)]
+fn set_none(announced: &mut Option<Announced>)
+    ensures { announced.new ≡ None }
+{
+    *announced = None;
 }
 
 /// Returns how many of all writes the device of a board has after an order, modulo 2^64. It had so many before, and the

@@ -15,7 +15,7 @@ mod sizes;
 mod write;
 mod write_log;
 
-pub use announced::{Announced, stored_after};
+pub use announced::{Announced, forget, stored_after};
 pub use boards::{board_from_words, check_words, factory_of};
 pub use copied::copy_write;
 pub use device::{
@@ -23,7 +23,7 @@ pub use device::{
 };
 pub use laws::other_orders_compare_nothing;
 pub use of_bytes::is_of_bytes;
-pub use outcome::{CallOutcome, Told, bit, copy};
+pub use outcome::{CallOutcome, OrderResult, bit, copy, copy_if_fits};
 pub use reader_calls::{begin, receive};
 pub use second_log::first_write;
 pub use sizes::{ROOM, block_fits, command_fits, order_fits};

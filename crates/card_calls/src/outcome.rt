@@ -1,12 +1,10 @@
-//! The outcome of a call, and the result of an order with its bytes.
-ghost use Rattle.std.specs.Prelude.{◌≡◌, ◌≤◌, length};
-ghost use Rattle.card_calls.specs.Telling.{Copies, CopiesOut, ReportsSpace, bit_of, outcome_number, print_outcome};
-ghost use Rattle.card_calls.specs.Telling.{told_print};
-ghost use Rattle.card_calls.specs.declared.sizes.TheConstants.{ROOM};
+//! The outcome of a call, and the result of an order.
+ghost use Rattle.std.specs.Prelude.{◌≡◌, ◌≤◌, ◌<◌, ℕ, List, length};
+ghost use Rattle.card_calls.specs.Telling.{CopiesNothing, CopiesOut, ReportsSpace, bit_of, outcome_number};
+ghost use Rattle.card_calls.specs.Telling.{print_outcome, result_print};
 
 use card_bench::LineResult;
 use card_model::FreeSpace;
-use t1_link::AnswerBytes;
 
 /// The outcome of a call. C sees its number.
 #[derive(Clone, Copy)]
@@ -64,17 +62,17 @@ impl CallOutcome {
     }
 }
 
-/// The result of an order, and its bytes.
-#[derive(Drop)]
-pub struct Told {
+/// The result of an order, and the number of its bytes, which are in the caller's buffer.
+#[derive(Clone, Copy)]
+pub struct OrderResult {
     pub came: LineResult,
-    pub bytes: AnswerBytes,
+    pub size: usize,
 }
 
-impl Told {
+impl OrderResult {
     /// Returns the outcome.
-    pub fn outcome(&self) -> CallOutcome
-        ensures { result ≡ print_outcome (told_print self.now) }
+    pub fn outcome(self) -> CallOutcome
+        ensures { (answer block : List ℕ) → result ≡ print_outcome (result_print self answer block) }
     {
         match self.came {
             LineResult::Mute => CallOutcome::Mute,
@@ -88,25 +86,10 @@ impl Told {
         }
     }
 
-    /// Copies the bytes into the caller's buffer, and returns their number.
-    pub fn copy_out(&self, out: &mut [u8]) -> usize
-        requires { ROOM ≤ length out.old }
-        ensures { Copies out.old out.new result (told_print self.now) }
-    {
-        match self.came {
-            LineResult::Answer | LineResult::Block => copy(&self.bytes, out),
-            LineResult::Nothing
-            | LineResult::Atr
-            | LineResult::Mute
-            | LineResult::Dark
-            | LineResult::Lost
-            | LineResult::Free(_) => 0,
-        }
-    }
-
     /// Returns the free space, or none at all if the result is another one.
-    pub fn space(&self) -> FreeSpace
-        ensures { ReportsSpace result.blocks result.entries (told_print self.now) }
+    pub fn space(self) -> FreeSpace
+        ensures { (answer block : List ℕ) → ReportsSpace result.blocks result.entries
+            (result_print self answer block) }
     {
         match self.came {
             LineResult::Free(free) => free,
@@ -138,4 +121,17 @@ pub fn copy(bytes: &[u8], out: &mut [u8]) -> usize
 {
     out[..bytes.len()].copy_from_slice(bytes);
     bytes.len()
+}
+
+/// Copies bytes to the start of a buffer if it has room for them all, and returns their number. Else it copies nothing,
+/// and returns 0.
+pub fn copy_if_fits(bytes: &[u8], out: &mut [u8]) -> usize
+    ensures fits { length bytes.now ≤ length out.old → CopiesOut bytes.now out.old out.new result }
+    ensures unfit { length out.old < length bytes.now → CopiesNothing out.old out.new result }
+{
+    if bytes.len() <= out.len() {
+        copy(bytes, out)
+    } else {
+        0
+    }
 }

@@ -32,52 +32,30 @@ use crate::session::Session;
 use bench_lines::RunFault;
 use card_bench::Order;
 use card_calls::{
-    CallOutcome, ROOM, Told, block_fits, board_from_words, check_words, command_fits, copy,
+    CallOutcome, OrderResult, ROOM, block_fits, board_from_words, check_words, command_fits, copy,
     copy_write, factory_of, order_fits,
 };
 use core::mem::{replace, replace_with};
 use simulated_boards::CutBoard;
 use std::alloc::Global;
 
-/// An order with its bytes, and the allocator of the card that runs it.
-#[derive(Drop)]
-struct OrderWithBytes<'a> {
-    alloc: Global,
-    order: Order,
-    given: &'a [u8],
-}
-
-/// Runs an order on the card of a handle.
-fn run_on_card(card: Handle, asked: OrderWithBytes<'_>) -> (Handle, Result<Told, CallOutcome>)
-    requires { IsOrderSized (order_with asked.order asked.given.now) }
-    ensures { AnswersOrder (order_with asked.entry.order asked.entry.given.now) card.value result.0.value
-        result.1 }
-{
-    match card.into_session() {
-        Some(mut session) => {
-            let told = session.perform(asked.order, asked.given);
-            (Handle::of(session), told)
-        }
-        None => (Handle::empty(asked.alloc), Err(CallOutcome::Absent)),
-    }
-}
-
-/// Runs an order on the card of a handle that the caller keeps.
+/// Runs an order on the card of a handle that the caller keeps. A buffer with room for any answer has its bytes then.
 fn perform(
     alloc: Global,
     card: &mut Handle,
     order: Order,
     given: &[u8],
-) -> Result<Told, CallOutcome>
+    out: &mut [u8],
+) -> Result<OrderResult, CallOutcome>
     requires { IsOrderSized (order_with order given.now) }
-    ensures { AnswersOrder (order_with order given.now) card.old.value card.new.value result }
+    ensures { AnswersOrder (order_with order given.now) card.old.value card.new.value out.old out.new result }
 {
-    let asked = OrderWithBytes {
-        alloc,
-        order,
-        given,
+    let Some(mut session) = replace(card, Handle::empty(alloc)).into_session() else {
+        return Err(CallOutcome::Absent);
     };
-    replace_with(card, asked, run_on_card)
+    let result = session.perform(order, given, out);
+    replace_with(card, session, exchange_card);
+    result
 }
 
 /// Runs an order without bytes, and returns the number of its outcome. It refuses a number that is out of its range.
@@ -90,8 +68,8 @@ fn run_order(alloc: Global, card: &mut Handle, order: Order) -> i32
     if !order_fits(order) {
         return refuse(alloc, card);
     }
-    match perform(alloc, card, order, &[]) {
-        Ok(told) => told.outcome().number(),
+    match perform(alloc, card, order, &[], &mut []) {
+        Ok(result) => result.outcome().number(),
         Err(outcome) => outcome.number(),
     }
 }
@@ -110,10 +88,10 @@ fn perform_into(
     ensures { TellsBytes (order_with order given.now) card.old.value card.new.value out.old out.new size.new
         result }
 {
-    match perform(alloc, card, order, given) {
-        Ok(told) => {
-            *size = told.copy_out(out);
-            told.outcome().number()
+    match perform(alloc, card, order, given, out) {
+        Ok(result) => {
+            *size = result.size;
+            result.outcome().number()
         }
         Err(outcome) => {
             *size = 0;
@@ -454,12 +432,12 @@ pub extern "C" fn soffitfennel_free_space(
 ) -> i32
     ensures { ReturnsSpace card.old.value card.new.value blocks.new entries.new result }
 {
-    match perform(alloc, card, Order::Free, &[]) {
-        Ok(told) => {
-            let space = told.space();
+    match perform(alloc, card, Order::Free, &[], &mut []) {
+        Ok(result) => {
+            let space = result.space();
             *blocks = space.blocks;
             *entries = space.entries;
-            told.outcome().number()
+            result.outcome().number()
         }
         Err(outcome) => {
             *blocks = 0;

@@ -15,8 +15,9 @@ ghost use Rattle.card_calls.specs.WriteCalls.{TakesNext};
 
 use card_bench::{ALL_WORDS, Desk, Order, cuts_next, may_compare};
 use card_calls::{
-    Announced, CallOutcome, DeviceBoard, NextWrite, Told, Write, bit, first_write, followed,
-    has_device, is_of_bytes, is_stored, next_write, stored_after, twin_board, unfollowed,
+    Announced, CallOutcome, DeviceBoard, NextWrite, OrderResult, Write, bit, copy_if_fits,
+    first_write, followed, forget, has_device, is_of_bytes, is_stored, next_write, stored_after,
+    twin_board, unfollowed,
 };
 use card_turns::Bench;
 use core::mem::replace_with;
@@ -24,7 +25,6 @@ use nvm_board::has_no_fault;
 use simulated_boards::CutBoard;
 use std::alloc::{AllocError, Global};
 use std::marker::Model;
-use t1_link::AnswerBytes;
 
 /// A card at its desk. Its memory always has a card state after recovery, and its board never has a fault.
 #[derive(Drop)]
@@ -89,32 +89,37 @@ impl Session {
         })
     }
 
-    /// Runs an order, and returns its result. The writes of a card with a device are then to be stored, before anybody
-    /// sees the result. Of an order with a charge the device has the first write already.
+    /// Runs an order, and returns its result. A buffer with room for any answer has its bytes then. The writes of a card
+    /// with a device are then to be stored, before anybody sees the result. Of an order with a charge the device has the
+    /// first write already.
     ///
     /// # Errors
     /// `Unstored` if the card's device didn't take a write, or lacks one of an earlier order, or if the order has a
     /// charge that wasn't announced. Then no order runs. Also if the order began with another write than the announced
     /// one. Then the device is behind.
     #[tactic(auto, using(card_calls::proofs::OrderLaws::held_back))]
-    pub fn perform(&mut self, order: Order, given: &[u8]) -> Result<Told, CallOutcome>
+    pub fn perform(
+        &mut self,
+        order: Order,
+        given: &[u8],
+        out: &mut [u8],
+    ) -> Result<OrderResult, CallOutcome>
         requires { IsOrderSized (order_with order given.now) }
-        ensures { TellsResult (order_with order given.now) self.old self.new result }
+        ensures { TellsResult (order_with order given.now) self.old self.new out.old out.new result }
     {
         let is_charged = self.begin(order, given)?;
         is_of_bytes(order, given);
         let came = self.desk.perform(order, given);
         let board = self.desk.board();
         let after = stored_after(board, self.stored, is_charged, &self.announced);
-        self.announced = None;
+        forget(&mut self.announced);
         let Some(stored) = after else {
             self.fall_behind();
             return Err(CallOutcome::Unstored);
         };
         self.stored = stored;
-        let mut bytes = AnswerBytes::new();
-        self.desk.copy_bytes(came, &mut bytes);
-        Ok(Told { came, bytes })
+        let size = copy_if_fits(self.desk.bytes(came), out);
+        Ok(OrderResult { came, size })
     }
 
     /// Returns whether an order has a charge. Then its first write was announced.
@@ -151,7 +156,7 @@ impl Session {
     ///
     /// # Errors
     /// `Memory`: there is too little for the second card.
-    #[tactic(auto, using(card_calls::proofs::FirstWriteLaws::tells_none, card_calls::proofs::FirstWriteLaws::tells_announced))]
+    #[tactic(auto, using(card_calls::proofs::FirstWriteLaws::tells_none))]
     pub fn first_write(
         &mut self,
         alloc: Global,
@@ -161,9 +166,30 @@ impl Session {
         requires { IsOrderSized (order_with order given.now) }
         ensures { TellsFirst (order_with order given.now) self.old self.new result }
     {
-        if !self.has_charge(order, given) {
-            return Ok(None);
+        if self.has_charge(order, given) {
+            self.announce(alloc, order, given)
+        } else {
+            Ok(None)
         }
+    }
+
+    /// Returns the first device write of an order that can compare a PIN, and announces the order with it. This is a
+    /// function of its own, so that where an order has no charge, the usual case, no place for it is blanked.
+    ///
+    /// # Errors
+    /// `Memory`: there is too little for the second card.
+    #[tactic(auto, using(card_calls::proofs::FirstWriteLaws::tells_announced))]
+    #[inline(never)]
+    fn announce(
+        &mut self,
+        alloc: Global,
+        order: Order,
+        given: &[u8],
+    ) -> Result<Option<Write>, CallOutcome>
+        requires sized { IsOrderSized (order_with order given.now) }
+        requires compares { MayCompare (order_with order given.now) }
+        ensures { TellsFirst (order_with order given.now) self.old self.new result }
+    {
         let first = self.run_ahead(alloc, order, given)?;
         self.announced = Some(Announced::new(order, given, first));
         Ok(first)

@@ -1,13 +1,14 @@
-use Rattle.std.specs.Prelude.{◌≡◌, ℕ, None, Option, Some, option_map, true}
-use Rattle.std.proofs.Common.{inr, refl, subst, sym}
+use Rattle.std.specs.Prelude.{◌≡◌, ◌≤◌, ℕ, List, None, Option, Some, length, option_map, true}
+use Rattle.std.proofs.Common.{ap, arith, inr, refl, subst, sym}
 use Rattle.nvm_board.specs.Facts.{Facts}
 use Rattle.bench_lines.specs.OrderViews.{order_with}
-use Rattle.bench_lines.specs.Printouts.{Print}
-use Rattle.card_bench.specs.DeskStates.{print_of, printed_at}
+use Rattle.card_bench.specs.DeskStates.{printed_at}
 use Rattle.card_calls.specs.Devices.{device_facts}
-use Rattle.card_calls.specs.FirstWrites.{EndsCharge, announcement, charge_of}
+use Rattle.card_calls.specs.FirstWrites.{EndsCharge, IsTold, announcement, charge_of}
 use Rattle.card_calls.specs.SessionStates.{SessionState}
-use Rattle.card_calls.specs.Telling.{Diverges, HasRun, IsTaken, IsWithheld, MayRun}
+use Rattle.card_calls.specs.Telling.{CopiesOut, Diverges, HasRun, IsTaken, IsWithheld, MayRun}
+use Rattle.card_calls.specs.declared.announced.Announced.{Announced}
+use Rattle.card_calls.proofs.CopyLaws.{copies_at}
 use Rattle.card_calls.proofs.InStepLaws.{in_step}
 use Rattle.card_calls.proofs.OrderLaws.{diverges, has_run}
 use Rattle.soffitfennel.proofs.session.Session.perform.Goals as goal
@@ -19,7 +20,7 @@ invariant_of-self c =
       in_step (order_with c.args.order c.args.given.now) c.self.inside.desk.desk new.desk
           (printed_at c.perform-came.result new) c.self.invariant.1 c.requires c.is_of_bytes.ensures
           c.perform-came.ensures.good.has_card c.perform-came.ensures.performs,
-      tt,
+      subst (λ (a : Option Announced). IsTold (option_map announcement a) new.desk) (sym c.forget.ensures) tt,
     )
 
 pub returns-in_default : goal.returns-in_default
@@ -34,7 +35,11 @@ returns-in_default c =
       announced = option_map announcement inside.announced;
       device = inside.device;
     } in
-    let now : SessionState = record was { desk = new.desk; behind = true; announced = None } in
+    let now : SessionState = record was {
+      desk = new.desk;
+      behind = true;
+      announced = option_map announcement c.forget.new.announced;
+    } in
     let taken = charge_of c.in_ok-is_charged.is_charged was.announced in
     let begun = subst (λ (s : SessionState). MayRun order s
     × IsTaken order s (charge_of c.in_ok-is_charged.is_charged s.announced)) (sym c.self.view_is)
@@ -44,10 +49,13 @@ returns-in_default c =
     let ends = subst (λ (f : Facts). EndsCharge f.log inside.stored taken None) c.board-board.ensures after in
     let other = diverges order was now (printed_at c.perform-came.result new) c.perform-came.ensures.performs
     c.perform-came.ensures.good c.self.invariant.1 c.requires c.is_of_bytes.ensures begun.0 c.self.invariant.2 taken
-    begun.1 ends refl refl refl refl in (
+    begun.1 ends refl refl (ap (λ (a : Option Announced). option_map announcement a) c.forget.ensures) refl in (
+      (
+        refl,
+        subst (λ (s : SessionState). IsWithheld order s c.fall_behind.new.self) c.self.view_is
+            (inr (subst (λ (n : SessionState). Diverges order was n) (sym c.fall_behind.ensures) other)),
+      ),
       refl,
-      subst (λ (s : SessionState). IsWithheld order s c.fall_behind.new.self) c.self.view_is
-          (inr (subst (λ (n : SessionState). Diverges order was n) (sym c.fall_behind.ensures) other)),
     )
 
 pub invariant_of-self-2 : goal.invariant_of-self-2
@@ -57,7 +65,7 @@ invariant_of-self-2 c =
       in_step (order_with c.args.order c.args.given.now) c.self.inside.desk.desk new.desk
           (printed_at c.perform-came.result new) c.self.invariant.1 c.requires c.is_of_bytes.ensures
           c.perform-came.ensures.good.has_card c.perform-came.ensures.performs,
-      tt,
+      subst (λ (a : Option Announced). IsTold (option_map announcement a) new.desk) (sym c.forget.ensures) tt,
     )
 
 pub returns : goal.returns
@@ -72,7 +80,11 @@ returns c =
       announced = option_map announcement inside.announced;
       device = inside.device;
     } in
-    let now : SessionState = record was { desk = new.desk; stored = c.in-Some.stored; announced = None } in
+    let now : SessionState = record was {
+      desk = new.desk;
+      stored = c.in-Some.stored;
+      announced = option_map announcement c.forget.new.announced;
+    } in
     let taken = charge_of c.in_ok-is_charged.is_charged was.announced in
     let begun = subst (λ (s : SessionState). MayRun order s
     × IsTaken order s (charge_of c.in_ok-is_charged.is_charged s.announced)) (sym c.self.view_is)
@@ -83,8 +95,16 @@ returns c =
     after in
     let ran = has_run order was now (printed_at c.perform-came.result new) c.perform-came.ensures.performs
     c.perform-came.ensures.good c.self.invariant.1 c.requires c.is_of_bytes.ensures begun.0 c.self.invariant.2 taken
-    c.in-Some.stored begun.1 ends refl begun.0.was_up refl refl in
-    let bytes = c.copy_bytes.new.bytes.items in
-    let told = print_of c.perform-came.result bytes bytes in
-    subst (λ (s : SessionState). HasRun order s now told) c.self.view_is
-    (subst (λ (p : Print). HasRun order was now p) (sym c.copy_bytes.ensures) ran)
+    c.in-Some.stored begun.1 ends refl begun.0.was_up
+    (ap (λ (a : Option Announced). option_map announcement a) c.forget.ensures) refl in record {
+      answer = new.answer;
+      block = new.block;
+      ran = subst (λ (s : SessionState). HasRun order s now (printed_at c.perform-came.result new))
+          c.self.view_is ran;
+      copied = λ room.
+          let fits : length c.bytes.result.now ≤ length c.args.out.now = omega (arith, room, c.bytes.ensures.fits) in
+          copies_at c.perform-came.result new c.args.out.now c.copy_if_fits-size.new.out
+          c.copy_if_fits-size.result
+          (subst (λ (l : List ℕ). CopiesOut l c.args.out.now c.copy_if_fits-size.new.out c.copy_if_fits-size.result)
+          c.bytes.ensures.bytes (c.copy_if_fits-size.ensures.fits fits));
+    }
