@@ -76,7 +76,8 @@ failed_tells order was now old new why number answers numbered = record {
 -- bytes are copied out
 pub told_copies : (order : Order) (was now : Option SessionState) (old new : List ℕ) (result : OrderResult)
     (is : CallOutcome) (size : ℕ) (number : ℤ) → ROOM ≤ length old → AnswersOrder order was now old new (Ok result)
-    → size ≡ result.size → OutcomeIs result is → number ≡ outcome_number is → TellsBytes order was now old new size number
+    → size ≡ result.size → OutcomeIs result is → number ≡ outcome_number is
+    → TellsBytes order was now old new size number
 told_copies order was now old new result is size number room answers sized so numbered = record {
   result = is;
   number_is = numbered;

@@ -89,9 +89,9 @@ impl Session {
         })
     }
 
-    /// Runs an order, and returns its result. A buffer with room for any answer has its bytes then. The writes of a card
-    /// with a device are then to be stored, before anybody sees the result. Of an order with a charge the device has the
-    /// first write already.
+    /// Runs an order, and returns its result. A buffer with room for any answer has its bytes then. The writes of a
+    /// card with a device are then to be stored, before anybody sees the result. Of an order with a charge the device
+    /// has the first write already.
     ///
     /// # Errors
     /// `Unstored` if the card's device didn't take a write, or lacks one of an earlier order, or if the order has a

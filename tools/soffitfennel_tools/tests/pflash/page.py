@@ -9,7 +9,8 @@ from pathlib import Path
 from ...chips.building import bounds, compiled, rewritten, text_of
 from ...chips.targets import TARGETS
 from ...narrowing.building import TOP
-from ..chip.page import MORE, SMALL
+from ..chip.building import SMALL
+from ..chip.page import MORE
 from .building import Room
 
 PAGE = TOP / "docs" / "FLASH.md"
