@@ -65,7 +65,8 @@ MUTANTS: dict[str, tuple[str, tuple[str, str], bool]] = {
     "a copy is shorter": ("memory_call", (r"i32 (\d)\d, i1 false", r"i32 \1, i1 false"), False),
     "a length has 3 bits": ("memory_call", (NARROWED, r"\1.x = trunc i64 \2 to i3\n\1 = zext i3 \1.x to i32"), False),
     "a call passes a pair as it was": ("call", (r"\{ i64, i64 \}", "{ ptr, i64 }"), False),
-    "a constant pointer has no upper half": ("constant pointer", (r", i32(?: 0)? \}", " }"), False),
+    # (32 bytes, so that each second entry of a table is read from zeros, wherever the table lies)
+    "a constant pointer takes 32 bytes": ("constant pointer", (r", i32( 0)? \}", r", i192\1 }"), False),
 }
 
 
