@@ -33,7 +33,7 @@ pub record Writes {T : Type 0} (at : ℕ) (run : List ℕ) (old new : Facts) (re
   pub torn : Torn old.words at run new.words
   pub light : Answered old new result
   pub worn : IsLostRightly old new result
-  pub cut : AimsAtWrite old new
+  pub cut : AimsAtWrite at run old new
   pub counted : OnOk result (new.writes ≡ old.writes + 1)
   pub counted_err : OnErr result ((new.writes ≡ old.writes) ⊎ (new.writes ≡ old.writes + 1))
   pub log : old.dark ≡ false → new.log ≡ and_run old.log (run_in new.words at (length run))

@@ -9,13 +9,15 @@ use Rattle.nvm_board.specs.declared.board.TheConstants.{COUNT_END, PAGE_WORDS, L
 use Rattle.nvm_board.specs.History.{Log}
 
 -- The facts of a board: all that contracts say about it. `dark` is true if power is off. `due` is the number of cuts
--- that may still come. `pending` is the cut or fault that is set. `log` has the last device writes, on a board that
--- logs them. The other fields are counts; `compares` and `matches` have one per secret.
+-- that may still come. `pending` is the cut or fault that is set. `masks` is true if a cut leaves the words of its
+-- mask. `log` has the last device writes, on a board that logs them. The other fields are counts; `compares` and
+-- `matches` have one per secret.
 pub record Facts : Type 0 where
   pub words : List ℕ
   pub dark : Bool
   pub due : ℕ
   pub pending : Option Arm
+  pub masks : Bool
   pub faults : ℕ
   pub cuts : ℕ
   pub writes : ℕ
@@ -37,13 +39,15 @@ pub record IsMemory (words : List ℕ) : Type 0 where
   pub least : LEAST_PAGES ≤ pages_of words
   pub most : pages_of words ≤ MOST_PAGES
 
--- A new board with this number of pages: powered, all words and counts 0, no cut set, no log.
+-- A new board with this number of pages: powered, all words and counts 0, no cut set, no log. A cut leaves the words
+-- of its mask.
 abbrev pub new_board : ℕ → Facts
 new_board pages = record {
   words = replicate (PAGE_WORDS * pages) 0;
   dark = false;
   due = 0;
   pending = None;
+  masks = true;
   faults = 0;
   cuts = 0;
   writes = 0;

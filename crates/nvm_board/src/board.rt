@@ -88,7 +88,8 @@ pub trait Socket: Board {
 }
 
 /// A board on which a cut or a fault can be set. It comes at a later write. On a board that fails at its calls, it is
-/// a fault at call `k` that changes no word, whatever the mask.
+/// a fault at call `k` that changes no word, whatever the mask. On a board whose facts don't have `masks`, the cut may
+/// leave other words than those of its mask.
 pub trait Armed: Socket {
     /// Sets write `k` from now on, counted from 1, to be torn. Bit i of the mask is set if the ith word of the write
     /// is to be new, from bit 0. It replaces what was set before.

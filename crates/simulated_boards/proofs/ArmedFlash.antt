@@ -9,8 +9,7 @@ use Rattle.nvm_board.specs.declared.board.DeviceErr.TheVariants.{PowerLost, Faul
 use Rattle.nvm_board.specs.Facts.{Facts, Answered, IsLostRightly, GoesDark}
 use Rattle.nvm_board.specs.BoardCalls.{Writes}
 use Rattle.nvm_board.specs.Aims.{due_of, AimsAtWrite}
-use Rattle.simulated_boards.proofs.WithArm.{with_arm, fires_by, aim-armed, aimed, aims_armed, aims_nearer}
-use Rattle.simulated_boards.proofs.WithArm.{lost_armed}
+use Rattle.simulated_boards.proofs.WithArm.{with_arm, fires_by, aims_armed, aims_fallen, aims_nearer, lost_armed}
 
 -- what an answer tells stays, where as many cuts are to come; a board without power is unchanged, and so is the arm
 answered_armed : {T : Type 0} (a b : Option Arm) (old new : Facts) (result : Result T DeviceErr) → old.due ≡ 0
@@ -78,7 +77,7 @@ spared_counted at run a b old new result none same unarmed before never more tol
       torn = told.torn;
       light = answered_armed a b old new result none same (λ dark is. absurd (still is)) told.light;
       worn = lost_armed a b old new result none told.worn;
-      cut = aims_nearer a b old new lit one unarmed before never;
+      cut = aims_nearer at run a b old new lit told.cut.masks one unarmed before never;
       counted = told.counted;
       counted_err = told.counted_err;
       log = told.log;
@@ -97,7 +96,7 @@ spared_uncounted at run a old new result none more told =
       torn = told.torn;
       light = answered_armed a a old new result none refl (λ dark is. ap (with_arm a) is) told.light;
       worn = lost_armed a a old new result none told.worn;
-      cut = aims_armed a old new same told.cut;
+      cut = aims_armed at run a old new same told.cut;
       counted = told.counted;
       counted_err = told.counted_err;
       log = told.log;
@@ -105,19 +104,12 @@ spared_uncounted at run a old new result none more told =
       matches = told.matches;
     }
 
--- the write that the cut falls into
-pub aims_fallen : (a : Option Arm) (mask : ℕ) (old new : Facts) → a ≡ fires_by mask → old.dark ≡ false
-    → new.dark ≡ true → AimsAtWrite (with_arm a old) (with_arm None new)
-aims_fallen a mask old new falls lit dark = record {
-  off = λ off. absurd (true≢false (sym off ∙ lit));
-  cut = inr (record {
-    dark = dark;
-    none = refl;
-    cut = record { write = old.writes + 0 + 1; mask = mask };
-    was = aim-armed a old ∙ ap (aimed old.writes) falls;
-    next = omega arith;
-  });
-}
+-- the write that the cut falls into, on a flash, whose cuts leave all words or none
+aims-flash : (at : ℕ) (run : List ℕ) (a : Option Arm) (mask : ℕ) (old new : Facts) → a ≡ fires_by mask
+    → old.dark ≡ false → new.dark ≡ true → new.masks ≡ old.masks → old.masks ≡ false
+    → AimsAtWrite at run (with_arm a old) (with_arm None new)
+aims-flash at run a mask old new falls lit dark masks none =
+    aims_fallen at run a mask old new falls lit dark masks (λ is. absurd (true≢false (sym is ∙ none)))
 
 -- the power loss was due
 pub answered_fallen : {T : Type 0} (a : Option Arm) (mask : ℕ) (old new : Facts) → a ≡ fires_by mask
@@ -137,11 +129,11 @@ rightly_fallen T a mask old new falls = λ lost lit. inl (ap due_of falls)
 
 -- a write that was whole before power was lost
 pub fallen_behind : {S : Type 0} (at : ℕ) (run : List ℕ) (a : Option Arm) (mask due : ℕ) (old new : Facts)
-    (result : Result S DeviceErr) → a ≡ fires_by mask → old.dark ≡ false → is_ok result ≡ true
+    (result : Result S DeviceErr) → old.masks ≡ false → a ≡ fires_by mask → old.dark ≡ false → is_ok result ≡ true
     → Writes at run (record old { due = due }) new result
     → Writes {T = Unit {0}} at run (with_arm a old)
     (with_arm None (record new { due = 0; dark = true; cuts = new.cuts + 1 })) (Err PowerLost)
-fallen_behind at run a mask due old new (Ok x) falls lit ok told =
+fallen_behind at run a mask due old new (Ok x) flash falls lit ok told =
     let last : Facts = record new { due = 0; dark = true; cuts = new.cuts + 1 } in
     let light = told.light.ok refl in
     record {
@@ -149,14 +141,14 @@ fallen_behind at run a mask due old new (Ok x) falls lit ok told =
       torn = told.torn;
       light = answered_fallen a mask old last falls lit refl light.faults (ap (λ (n : ℕ). n + 1) light.cuts);
       worn = rightly_fallen (Unit {0}) a mask old last falls;
-      cut = aims_fallen a mask old last falls lit refl;
+      cut = aims-flash at run a mask old last falls lit refl told.cut.masks flash;
       counted = search rules;
       counted_err = inr told.counted;
       log = told.log;
       compares = told.compares;
       matches = told.matches;
     }
-fallen_behind at run a mask due old new (Err e) falls lit ok told = absurd (true≢false (sym ok))
+fallen_behind at run a mask due old new (Err e) flash falls lit ok told = absurd (true≢false (sym ok))
 
 -- a board that had power, and lost it
 went_dark : (old new : Facts) → old.dark ≡ false → GoesDark old new ⊎ ((old.dark ≡ true) × (new ≡ old))
@@ -165,11 +157,12 @@ went_dark old new lit lost = ⊎_elim (λ dark. dark) (λ off. absurd (true≢fa
 
 -- a write in which power was lost
 pub fallen_within : {S : Type 0} (at : ℕ) (run : List ℕ) (a : Option Arm) (mask due : ℕ) (old new : Facts)
-    (result : Result S DeviceErr) → a ≡ fires_by mask → old.dark ≡ false → is_ok result ≡ false → new.faults ≡ 0
+    (result : Result S DeviceErr) → old.masks ≡ false → a ≡ fires_by mask → old.dark ≡ false
+    → is_ok result ≡ false → new.faults ≡ 0
     → Writes at run (record old { due = due }) new result
     → Writes {T = Unit {0}} at run (with_arm a old) (with_arm None (record new { due = 0 })) (Err PowerLost)
-fallen_within at run a mask due old new (Ok x) falls lit err fine told = absurd (true≢false err)
-fallen_within at run a mask due old new (Err PowerLost) falls lit err fine told =
+fallen_within at run a mask due old new (Ok x) flash falls lit err fine told = absurd (true≢false err)
+fallen_within at run a mask due old new (Err PowerLost) flash falls lit err fine told =
     let last : Facts = record new { due = 0 } in
     let dark = went_dark (record old { due = due }) new lit (told.light.lost refl) in
     record {
@@ -177,12 +170,12 @@ fallen_within at run a mask due old new (Err PowerLost) falls lit err fine told 
       torn = told.torn;
       light = answered_fallen a mask old last falls lit dark.dark dark.faults dark.cuts;
       worn = rightly_fallen (Unit {0}) a mask old last falls;
-      cut = aims_fallen a mask old last falls lit dark.dark;
+      cut = aims-flash at run a mask old last falls lit dark.dark told.cut.masks flash;
       counted = search rules;
       counted_err = told.counted_err;
       log = told.log;
       compares = told.compares;
       matches = told.matches;
     }
-fallen_within at run a mask due old new (Err Fault) falls lit err fine told =
+fallen_within at run a mask due old new (Err Fault) flash falls lit err fine told =
     let failed = (told.light.fault refl).faults in absurd (omega (arith, failed, fine))

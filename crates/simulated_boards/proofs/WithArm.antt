@@ -1,7 +1,7 @@
 -- A board of which a cut may be set to come, over one of which none can.
 use Rattle.std.specs.Prelude.{ℕ, zero, suc, ◌≡◌, ◌+◌, Bool, true, false, if◌then◌else◌, is_some, List, Option}
 use Rattle.std.specs.Prelude.{Some, None, option_map, Result, Ok, Err, IsErrAnd}
-use Rattle.std.proofs.Common.{refl, sym, ◌∙◌, ap, inl, inr, subst, arith}
+use Rattle.std.proofs.Common.{refl, sym, ◌∙◌, ap, inl, inr, subst, arith, true≢false}
 use Rattle.std.proofs.Math.Logic.{⊎_map, ⊎_elim}
 use Rattle.nvm_board.specs.declared.board.Arm.{Arm}
 use Rattle.nvm_board.specs.declared.board.DeviceErr.{DeviceErr}
@@ -173,16 +173,18 @@ pub aim_stays_armed : (a : Option Arm) (old new : Facts) → new.writes ≡ old.
     → AimStays (with_arm a old) (with_arm a new)
 aim_stays_armed a old new same stays = record {
   off = λ off. ap (with_arm a) (stays.off off);
+  masks = stays.masks;
   aim = aim-armed a new ∙ ap (λ (n : ℕ). aimed n a) same ∙ sym (aim-armed a old);
   more = stays.more;
   log = stays.log;
 }
 
 -- a call that leaves the arm, and makes no write, leaves where the cut falls
-pub aims_armed : (a : Option Arm) (old new : Facts) → new.writes ≡ old.writes → AimsAtWrite old new
-    → AimsAtWrite (with_arm a old) (with_arm a new)
-aims_armed a old new same aims = record {
+pub aims_armed : (at : ℕ) (run : List ℕ) (a : Option Arm) (old new : Facts) → new.writes ≡ old.writes
+    → AimsAtWrite at run old new → AimsAtWrite at run (with_arm a old) (with_arm a new)
+aims_armed at run a old new same aims = record {
   off = λ off. ap (with_arm a) (aims.off off);
+  masks = aims.masks;
   cut = inl (aim-armed a new ∙ ap (λ (n : ℕ). aimed n a) same ∙ sym (aim-armed a old));
 }
 
@@ -203,23 +205,43 @@ nearer-aimed (Some a) b n none before never = from a.whole_writes refl
         let sum : n + 1 + left + 1 ≡ n + a.whole_writes + 1 = omega (arith, is) in
         ap (aimed (n + 1)) (before left a.mask armed) ∙ ap (λ (k : ℕ). Some (record { write = k; mask = a.mask })) sum
 
-pub aims_nearer : (a b : Option Arm) (old new : Facts) → old.dark ≡ false → new.writes ≡ old.writes + 1
-    → (a ≡ None → b ≡ None)
+pub aims_nearer : (at : ℕ) (run : List ℕ) (a b : Option Arm) (old new : Facts) → old.dark ≡ false
+    → new.masks ≡ old.masks → new.writes ≡ old.writes + 1 → (a ≡ None → b ≡ None)
     → ((left mask : ℕ) → a ≡ Some (record { whole_writes = left + 1; mask = mask })
     → b ≡ Some (record { whole_writes = left; mask = mask }))
     → ((mask : ℕ) → old.dark ≡ false → ¬ (a ≡ fires_by mask))
-    → AimsAtWrite (with_arm a old) (with_arm b new)
-aims_nearer a b old new lit counted none before never =
+    → AimsAtWrite at run (with_arm a old) (with_arm b new)
+aims_nearer at run a b old new lit masks counted none before never =
     record {
       off = λ off. absurd (let dark : old.dark ≡ true = off in cc);
+      masks = masks;
       cut = inl (aim-armed b new ∙ ap (λ (n : ℕ). aimed n b) counted
           ∙ nearer-aimed a b old.writes none before (λ mask. never mask lit) ∙ sym (aim-armed a old));
     }
 
 -- with no cut set to come there is none before a write, and none behind it
-pub aims_unarmed : (a : Option Arm) (old new : Facts) → a ≡ None → AimsAtWrite old new
-    → AimsAtWrite (with_arm a old) (with_arm a new)
-aims_unarmed a old new none aims = record {
+pub aims_unarmed : (at : ℕ) (run : List ℕ) (a : Option Arm) (old new : Facts) → a ≡ None → AimsAtWrite at run old new
+    → AimsAtWrite at run (with_arm a old) (with_arm a new)
+aims_unarmed at run a old new none aims = record {
   off = λ off. ap (with_arm a) (aims.off off);
+  masks = aims.masks;
   cut = inl (aim-armed a new ∙ ap (aimed new.writes) none ∙ sym (aim-armed a old ∙ ap (aimed old.writes) none));
+}
+
+-- the write that the cut falls into
+pub aims_fallen : (at : ℕ) (run : List ℕ) (a : Option Arm) (mask : ℕ) (old new : Facts) → a ≡ fires_by mask
+    → old.dark ≡ false → new.dark ≡ true → new.masks ≡ old.masks
+    → (old.masks ≡ true → IsTornBy mask old.words at run new.words)
+    → AimsAtWrite at run (with_arm a old) (with_arm None new)
+aims_fallen at run a mask old new falls lit dark masks masked = record {
+  off = λ off. absurd (true≢false (sym off ∙ lit));
+  masks = masks;
+  cut = inr (record {
+    dark = dark;
+    none = refl;
+    cut = record { write = old.writes + 0 + 1; mask = mask };
+    was = aim-armed a old ∙ ap (aimed old.writes) falls;
+    next = omega arith;
+    masked = masked;
+  });
 }

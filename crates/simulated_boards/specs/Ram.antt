@@ -1,5 +1,5 @@
 -- The facts of a board in working memory, which has no faults and no cuts to come.
-use Rattle.std.specs.Prelude.{None}
+use Rattle.std.specs.Prelude.{None, true}
 use Rattle.simulated_boards.specs.declared.ram_board.RamBoard.{RamBoard}
 use Rattle.nvm_board.specs.Facts.{Facts}
 
@@ -9,6 +9,7 @@ ram_facts b = record {
   dark = b.dark;
   due = 0;
   pending = None;
+  masks = true;
   faults = 0;
   cuts = b.cuts;
   writes = b.writes;

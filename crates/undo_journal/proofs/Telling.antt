@@ -1,10 +1,11 @@
 -- What an answer tells of a board and of a store, at the exits of their calls.
-use Rattle.std.specs.Prelude.{Result, Ok, Err, IsErrAnd}
+use Rattle.std.specs.Prelude.{◌≤◌, length, Result, Ok, Err, IsErrAnd}
 use Rattle.std.proofs.Common.{◌≡◌, ◌+◌, ℕ, List, true, false, refl, sym, ◌∙◌, ap, subst, inl, arith}
 use Rattle.undo_journal.specs.declared.batch.Waiting.{Waiting}
 use Rattle.std.proofs.Math.Logic.{⊎_elim, ⊎_map}
 use Rattle.nvm_board.specs.declared.board.DeviceErr.{DeviceErr}
 use Rattle.nvm_board.specs.declared.board.DeviceErr.TheVariants as device
+use Rattle.nvm_board.specs.declared.board.TheConstants.{PAGE_WORDS}
 use Rattle.nvm_board.specs.BoardCalls.{TellsWord, Writes}
 use Rattle.nvm_board.specs.Facts.{Facts, Answered, Steady, GoesDark}
 use Rattle.nvm_board.specs.laws.Aims.{aims_written}
@@ -76,18 +77,18 @@ read_keeps at old new result read = record {
 
 -- what a write costs
 pub write_costs : {T : Type 0} (at : ℕ) (run : List ℕ) (old new : Facts) (result : Result T DeviceErr)
-    → Writes at run old new result → WritesAtMost 1 old new
-write_costs at run old new (Ok x) wrote = let ok : new.writes ≡ old.writes + 1 = wrote.counted in record {
+    → length run ≤ PAGE_WORDS → Writes at run old new result → WritesAtMost 1 old new
+write_costs at run old new (Ok x) few wrote = let ok : new.writes ≡ old.writes + 1 = wrote.counted in record {
   writes = omega (arith, ok);
   more = omega (arith, ok);
-  cut = aims_written at run old new (Ok x) wrote;
+  cut = aims_written at run old new (Ok x) few wrote;
   compares = wrote.compares;
   matches = wrote.matches;
 }
-write_costs at run old new (Err e) wrote = let err = wrote.counted_err in record {
+write_costs at run old new (Err e) few wrote = let err = wrote.counted_err in record {
   writes = omega (arith, err);
   more = omega (arith, err);
-  cut = aims_written at run old new (Err e) wrote;
+  cut = aims_written at run old new (Err e) few wrote;
   compares = wrote.compares;
   matches = wrote.matches;
 }

@@ -65,16 +65,16 @@ written-Torn m run after at torn =
     ])
 
 -- no call at all
-pub wrote_same : (f : Facts) → WritesRuns f f
+unfoldable pub wrote_same : (f : Facts) → WritesRuns f f
 wrote_same f = record { runs = []; words = refl; log = refl; counted = omega arith }
 
 -- calls that write nothing
-pub wrote_none : (old new : Facts) → new.words ≡ old.words → new.log ≡ old.log → events old ≤ events new
+unfoldable pub wrote_none : (old new : Facts) → new.words ≡ old.words → new.log ≡ old.log → events old ≤ events new
     → WritesRuns old new
 wrote_none old new words log more = record { runs = []; words = words; log = log; counted = omega (arith, more) }
 
 -- a write that is an event
-pub wrote_one : (at : ℕ) (run : List ℕ) (old new : Facts) → Torn old.words at run new.words
+unfoldable pub wrote_one : (at : ℕ) (run : List ℕ) (old new : Facts) → Torn old.words at run new.words
     → new.log ≡ and_run old.log (run_in new.words at (length run)) → events old < events new → WritesRuns old new
 wrote_one at run old new torn log event = record {
   runs = run_in new.words at (length run) ∷ [];
@@ -84,7 +84,7 @@ wrote_one at run old new torn log event = record {
 }
 
 -- calls in a row
-pub wrote_then : (a b c : Facts) → WritesRuns a b → WritesRuns b c → WritesRuns a c
+unfoldable pub wrote_then : (a b c : Facts) → WritesRuns a b → WritesRuns b c → WritesRuns a c
 wrote_then a b c first rest = record {
   runs = first.runs ++ rest.runs;
   words = rest.words ∙ ap (λ (m : List ℕ). replayed m rest.runs) first.words
@@ -95,7 +95,7 @@ wrote_then a b c first rest = record {
 }
 
 -- calls, and then power off
-pub wrote_off : (old new : Facts) → WritesRuns old new → WritesRuns old (record new { dark = true })
+unfoldable pub wrote_off : (old new : Facts) → WritesRuns old new → WritesRuns old (record new { dark = true })
 wrote_off old new wrote = record {
   runs = wrote.runs;
   words = wrote.words;

@@ -54,12 +54,20 @@ module _ (before after : Option Log) (old new : Facts) (off_same : old.dark ≡ 
   unfolding IsLostRightly
   lost_logged result rightly = rightly
 
-  aims_logged : AimsAtWrite old new → AimsAtWrite (with_log before old) (with_log after new)
-  aims_logged aims = record {
+  aims_logged : (at : ℕ) (run : List ℕ) → AimsAtWrite at run old new
+      → AimsAtWrite at run (with_log before old) (with_log after new)
+  aims_logged at run aims = record {
     off = λ off. logged_off off (aims.off off);
+    masks = aims.masks;
     cut = ⊎_map (λ same. same)
-        (λ (falls : FallsNext old new). record
-        { dark = falls.dark; none = falls.none; cut = falls.cut; was = falls.was; next = falls.next })
+        (λ (falls : FallsNext at run old new). record {
+          dark = falls.dark;
+          none = falls.none;
+          cut = falls.cut;
+          was = falls.was;
+          next = falls.next;
+          masked = falls.masked;
+        })
         aims.cut;
   }
 
@@ -72,7 +80,7 @@ module _ (before after : Option Log) (old new : Facts) (off_same : old.dark ≡ 
     torn = wrote.torn;
     light = answered_logged result wrote.light;
     worn = lost_logged result wrote.worn;
-    cut = aims_logged wrote.cut;
+    cut = aims_logged at run wrote.cut;
     counted = wrote.counted;
     counted_err = wrote.counted_err;
     log = log;
@@ -84,6 +92,7 @@ module _ (log : Option Log) (old new : Facts) where
   aim_logged : AimStays old new → AimStays (with_log log old) (with_log log new)
   aim_logged stays = record {
     off = λ off. ap (with_log log) (stays.off off);
+    masks = stays.masks;
     aim = stays.aim;
     more = stays.more;
     log = refl;

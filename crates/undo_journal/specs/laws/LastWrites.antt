@@ -15,7 +15,6 @@ use Rattle.nvm_board.specs.Torn.{Torn}
 use Rattle.nvm_board.specs.laws.History.{and_runs-append, replayed-append, written-Torn}
 use Rattle.undo_journal.specs.Commits.{CommitsLast, StaysCommitted}
 use Rattle.undo_journal.specs.Spending.{KeepsBoard}
-use Rattle.undo_journal.specs.Undo.{undo, data_words, IsSound}
 
 -- the same words
 pub committed_same : (m : List ℕ) → StaysCommitted m m

@@ -83,10 +83,12 @@ returns-in_err-write-clause-writes g c =
     let wrote = c.in_err-write.ensures in
     let ps = c.loop-rest.rest.now in
     let some = some-left _ c.loop-rest-test.ensures in
+    let run = ap (λ (l : List ℕ). length l) (c.deref.ensures.0 ∙ c.first_run-run.ensures) in
+    let inside = turn-inside ps (record { at = 0; word = 0 }) some in
     record {
       writes = omega (arith, wrote.counted_err, turn-runs ps some, kept.writes);
       more = omega (arith, wrote.counted_err, kept.more);
-      cut = aims_then _ _ _ kept.cut (aims_written _ _ _ _ _ wrote);
+      cut = aims_then _ _ _ kept.cut (aims_written _ _ _ _ _ (omega (arith, run, inside)) wrote);
       compares = wrote.compares ∙ kept.compares;
       matches = wrote.matches ∙ kept.matches;
     }
@@ -111,6 +113,8 @@ loop-rest-preserved g c =
     c.split_at.ensures.back ∙ ap (λ (k : ℕ). drop k ps) count in
     let d : Waiting = record { at = 0; word = 0 } in
     let wrote = c.in_ok-write.ensures in
+    let run = ap (λ (l : List ℕ). length l) is in
+    let inside = turn-inside ps d some in
     record {
       steady = steady_then _ _ _ kept.steady (wrote.light.ok refl);
       few = omega (arith, c.split_at.ensures.back_len, kept.few);
@@ -130,7 +134,7 @@ loop-rest-preserved g c =
         kept.writes,
       );
       more = omega (arith, wrote.counted, kept.more);
-      cut = aims_then _ _ _ kept.cut (aims_written _ _ _ _ _ wrote);
+      cut = aims_then _ _ _ kept.cut (aims_written _ _ _ _ _ (omega (arith, run, inside)) wrote);
       compares = wrote.compares ∙ kept.compares;
       matches = wrote.matches ∙ kept.matches;
       between = last_then _ _ _ kept.between (same-committed _ _ kept.same) (last_written _ _ _ _ _ wrote);

@@ -1,4 +1,4 @@
-use Rattle.std.proofs.Common.{◌≡◌, ℕ, [], ◌∷◌, subst, slice_set}
+use Rattle.std.proofs.Common.{◌≡◌, ℕ, [], ◌∷◌, arith, subst, slice_set}
 use Rattle.std.specs.Prelude.{OnOk}
 use Rattle.nvm_board.specs.Torn.{Torn}
 use Rattle.undo_journal.specs.laws.LastWrites.{last_written}
@@ -16,6 +16,6 @@ returns g c =
       torn = subst (λ (k : ℕ). Torn before k (c.args.word ∷ []) after) same told.torn;
       light = told.light;
       counted = told.counted;
-      writes = write_costs _ _ _ _ _ told;
+      writes = write_costs _ _ _ _ _ (omega arith) told;
       between = last_written _ _ _ _ _ told;
     }

@@ -6,7 +6,7 @@ use Rattle.nvm_board.specs.laws.Torn.{Torn-IsTornBy}
 use Rattle.simulated_boards.specs.Ram.{ram_facts}
 use Rattle.simulated_boards.proofs.WithArm.{with_arm, answered_armed, lost_armed, error_armed, spared_err}
 use Rattle.simulated_boards.proofs.WithArm.{answered_spared}
-use Rattle.simulated_boards.proofs.WithArm.{spared_ok, answered_torn, arm_spent, aims_armed, aims_nearer}
+use Rattle.simulated_boards.proofs.WithArm.{spared_ok, answered_torn, arm_spent, aims_armed, aims_fallen, aims_nearer}
 use Rattle.simulated_boards.proofs.cut_board.CutBoard.write_armed.Goals as goal
 
 pub returns-in-Some : goal.returns-in-Some
@@ -28,7 +28,8 @@ returns-in-Some c =
         light = answered_torn a old new mask fires lit (ap (λ (f : Facts). f.dark) same)
             (ap (λ (f : Facts). f.faults) same) (ap (λ (f : Facts). f.cuts) same);
         worn = search rules;
-        cut = search rules;
+        cut = aims_fallen _ _ a mask old new fires lit (ap (λ (f : Facts). f.dark) same)
+            (ap (λ (f : Facts). f.masks) same) (λ masks. c.tear.ensures.torn);
         counted = search rules;
         counted_err = search rules;
         log = λ lit. refl;
@@ -56,7 +57,7 @@ returns-in_err-write c =
             (answered_armed a old new _ refl told.writes.light);
         worn = error_armed (λ r. IsLostRightly (with_arm a old) (with_arm a new) r) _ _ handed
             (lost_armed a a old new _ refl told.writes.worn);
-        cut = aims_armed a old new told.uncounted told.writes.cut;
+        cut = aims_armed at run a old new told.uncounted told.writes.cut;
         counted = search rules;
         counted_err = search rules;
         log = λ lit. refl;
@@ -87,7 +88,7 @@ returns c =
         torn = told.torn;
         light = answered_spared a b old new _ nearer.due (told.light.ok refl);
         worn = search rules;
-        cut = aims_nearer a b old new was_lit told.counted nearer.none nearer.before never;
+        cut = aims_nearer _ _ a b old new was_lit told.cut.masks told.counted nearer.none nearer.before never;
         counted = told.counted;
         counted_err = search rules;
         log = λ lit. refl;

@@ -1,4 +1,4 @@
-use Rattle.std.proofs.Common.{sym, ◌∙◌, ap, subst}
+use Rattle.std.proofs.Common.{refl, sym, ◌∙◌, ap, subst}
 use Rattle.std.specs.Prelude.{None, Err, true, ◌+◌}
 use Rattle.nvm_board.specs.declared.board.DeviceErr.TheVariants.{PowerLost}
 use Rattle.nvm_board.specs.Facts.{Facts, address}
@@ -22,7 +22,7 @@ returns-then-is_ok-clause-writes g c =
     ∙ ap (λ (f : Facts). record f { dark = true; cuts = f.cuts + 1 }) c.clear_cut.ensures in
     subst (λ (f : Facts). Writes {T = Unit {0}} at run (with_arm a old) (with_arm None f) (Err PowerLost))
     (sym last)
-    (fallen_behind at run a c.args.mask first.due old new c.write-ended.result c.requires.fires c.requires.lit
+    (fallen_behind at run a c.args.mask first.due old new c.write-ended.result refl c.requires.fires c.requires.lit
     (sym c.is_ok.ensures.value ∙ c.if-is_ok.true) told)
 
 pub returns-else-is_ok-clause-writes : goal.returns-else-is_ok-clause-writes
@@ -38,5 +38,5 @@ returns-else-is_ok-clause-writes g c =
     let fine = sym (ap (λ (f : Facts). f.faults) c.clear_cut.ensures) ∙ c.has_no_fault.ensures in
     subst (λ (f : Facts). Writes {T = Unit {0}} at run (with_arm a old) (with_arm None f) (Err PowerLost))
     (sym c.clear_cut.ensures)
-    (fallen_within at run a c.args.mask first.due old new c.write-ended.result c.requires.fires c.requires.lit
+    (fallen_within at run a c.args.mask first.due old new c.write-ended.result refl c.requires.fires c.requires.lit
     (sym c.is_ok.ensures.value ∙ c.if-is_ok.false) fine told)

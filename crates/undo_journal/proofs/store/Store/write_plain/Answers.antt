@@ -1,4 +1,4 @@
-use Rattle.std.proofs.Common.{◌+◌, length, refl, sym, ap, ◌∙◌}
+use Rattle.std.proofs.Common.{◌+◌, length, refl, sym, ap, ◌∙◌, arith}
 use Rattle.nvm_board.specs.Facts.{address}
 use Rattle.nvm_board.specs.laws.Torn.{Torn-none}
 use Rattle.nvm_board.specs.laws.Sizes.{page_of_run}
@@ -67,7 +67,7 @@ returns-clause-store g c =
     (ok_anyway _ _ (run-gate _ _ c.self.view_is c.self.invariant works c.requires.idle at c.args.words.now
     c.requires.place _ c.write-answer.ensures.torn))
     (idle-within _ _ c.self.view_is c.self.invariant works c.requires.idle)
-    (write_costs _ _ _ _ _ answered)
+    (let run = c.requires.run in write_costs _ _ _ _ _ (omega (arith, run)) answered)
 
 pub returns-clause-dark : goal.returns-clause-dark
 returns-clause-dark g c = on_dark _ _ c.noted.ensures.answer _ _ c.write-answer.ensures.light
