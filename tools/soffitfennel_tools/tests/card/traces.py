@@ -34,10 +34,12 @@ class Call:
         return self.words.partition(",")[0]
 
 
-def run(bench: Bench, script: list[str], *options: str, inject: str = "") -> tuple[int, list[str], str, list[Call]]:
+def run(
+    bench: Bench, script: list[str], *options: str, inject: str = "", traced: str = TRACED
+) -> tuple[int, list[str], str, list[Call]]:
     """Runs a script under strace: the exit status, the lines printed, standard error, and the calls."""
     log = bench.image.parent / "calls"
-    words = ["strace", "-qq", "-o", str(log), "-e", f"trace={TRACED}"]
+    words = ["strace", "-qq", "-o", str(log), "-e", f"trace={traced}"]
     if inject:
         words += ["-e", f"inject={inject}"]
     ran = subprocess.run([*words, *bench.words(*options)], input="\n".join(script), capture_output=True, text=True)
@@ -163,6 +165,16 @@ def of_writes(checks: Checks, bench: Bench) -> None:
         checks.compare(f"writes within a page, {options}", [], across)
 
 
+def of_looks(checks: Checks, bench: Bench) -> None:
+    """The bench looks at the file before each device write and behind it, and else never: so it finds what another
+    program did to the file between two writes."""
+    bench.image.write_bytes(data_of(factory()))
+    _, _, _, calls = run(bench, SCRIPT, traced="statx,pwrite64,write")
+    for number, part in enumerate(answers(calls)[1:], 1):
+        names, each = [it.name for it in part], ["statx", "pwrite64", "statx"]
+        checks.compare(f"looks at the file before answer {number}", each * (len(names) // len(each)), names)
+
+
 def of_a_removal(checks: Checks, bench: Bench) -> None:
     """A file that is removed while a write is under way: no answer, and status 7."""
     before = data_of(factory())
@@ -218,4 +230,5 @@ def check(checks: Checks, program: str, folder: Path) -> None:
     of_writes(checks, bench)
     of_charges(checks, bench)
     of_failing_writes(checks, bench)
+    of_looks(checks, bench)
     of_a_removal(checks, bench)
