@@ -30,6 +30,10 @@ fn next_candidate(text: &[u8], bytes: &[u8], from: usize) -> usize
     let Some(first) = text.first() else {
         return from;
     };
+    // (where the text may begin at once, a search by memchr would cost more than it passes over)
+    if from < bytes.len() && bytes[from] == *first {
+        return from;
+    }
     match memchr(*first, &bytes[from..]) {
         Some(place) => from + place,
         None => bytes.len(),
