@@ -5,8 +5,8 @@ ghost use Rattle.bench_turns.specs.BenchStates.{off, bench_facts, BenchHasCard, 
 ghost use Rattle.bench_turns.specs.BenchStates.{with_facts};
 ghost use Rattle.card_turns.specs.BenchViews.{power_state, IsPowerKept};
 ghost use Rattle.bench_turns.specs.Guessing.{GuessesFew};
-ghost use Rattle.bench_turns.specs.Plays.{Plays, PlaysBlock, BringsNoFault, IsGood, TellsItem};
-ghost use Rattle.bench_turns.specs.Turns.{CountsLosses, GoodTurn, IsTrace, Runs, darks};
+ghost use Rattle.bench_turns.specs.Plays.{Plays, PlaysBlock, BringsNoFault, TellsItem};
+ghost use Rattle.bench_turns.specs.Turns.{CountsLosses, IsTrace, Runs, darks};
 
 use crate::powered::Powered;
 use bench_turns::{Item, Turn, TurnPlayer, TurnResult, Twinned};
@@ -102,7 +102,7 @@ impl<B: Socket> Bench<B> {
     }
 
     /// Plays a turn, and writes a returned block into the buffer.
-    // Inlined into its callers, like the two calls below, so that a known turn needs no branch at run time.
+    // Inlined into its callers, like `turn_well` and `send`, so that a known turn needs no branch at run time.
     #[inline(always)]
     fn turn(&mut self, turn: Turn<'_>, reply: &mut BlockBytes) -> TurnResult
         ensures { TellsItem result reply.new (λ item. Plays self.old turn.entry item self.new) }
@@ -211,39 +211,7 @@ impl<B: Armed> Bench<B> {
     }
 }
 
-impl<B: Armed + Faultless> Bench<B> {
-    /// Sets a power cut for a later write, without faults.
-    pub fn arm_well(&mut self, k: u32, mask: u16)
-        requires { 1 ≤ k }
-        ensures good { IsGood self.old → IsGood self.new }
-        ensures armed { IsArmed k mask self.old self.new }
-    {
-        self.arm(k, mask);
-        self.has_no_fault();
-    }
-}
-
 impl<B: Socket + Faultless> Bench<B> {
-    /// Plays turns on a board without faults (`play`).
-    pub fn play_well(&mut self, turns: &[Turn<'_>], trace: &mut [Item])
-        requires { length turns.now ≡ length trace.old }
-        ensures { IsGood self.old → IsGood self.new × Runs self.old turns.now trace.new self.new }
-    {
-        self.play(turns, trace);
-        self.has_no_fault();
-    }
-
-    /// Plays a turn on a board without faults (`turn`).
-    #[inline(always)]
-    pub fn turn_well(&mut self, turn: Turn<'_>, reply: &mut BlockBytes) -> TurnResult
-        ensures { IsGood self.old
-            → IsGood self.new × TellsItem result reply.new (λ item. GoodTurn self.old turn.entry item self.new) }
-    {
-        let turned = self.turn(turn, reply);
-        self.has_no_fault();
-        turned
-    }
-
     /// Proves that the board has no fault, and set cuts are due.
     fn has_no_fault(&self)
         ensures faults { (bench_facts self.now).faults ≡ 0 }
@@ -266,16 +234,20 @@ impl<B: Armed + Faultless> TurnPlayer for Bench<B> {
     }
 
     fn play_well(&mut self, turns: &[Turn<'_>], trace: &mut [Item]) {
-        Bench::play_well(self, turns, trace);
+        self.play(turns, trace);
+        self.has_no_fault();
     }
 
     #[inline(always)]
     fn turn_well(&mut self, turn: Turn<'_>, reply: &mut BlockBytes) -> TurnResult {
-        Bench::turn_well(self, turn, reply)
+        let turned = self.turn(turn, reply);
+        self.has_no_fault();
+        turned
     }
 
     fn arm_well(&mut self, k: u32, mask: u16) {
-        Bench::arm_well(self, k, mask);
+        self.arm(k, mask);
+        self.has_no_fault();
     }
 
     fn free(&self) -> Option<FreeSpace> {

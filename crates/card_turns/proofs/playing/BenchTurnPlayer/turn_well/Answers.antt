@@ -1,5 +1,5 @@
 use Rattle.bench_turns.proofs.TurnsTold.{good-turn}
-use Rattle.card_turns.proofs.playing.Bench.turn_well.Goals as goal
+use Rattle.card_turns.proofs.playing.BenchTurnPlayer.turn_well.Goals as goal
 
 pub returns : goal.returns
 returns g c = λ good.
