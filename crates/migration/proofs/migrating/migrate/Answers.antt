@@ -1,15 +1,16 @@
 use Rattle.std.specs.Prelude.{◌≡◌, ◌-◌, ℕ, List, slice_index}
 use Rattle.std.proofs.Common.{sym, ◌∙◌, ap, subst, inl, inr, ⊎_elim, arith}
 use Rattle.std.proofs.lemmas.Result.{on_ok_weaker}
+use Rattle.nvm_board.specs.Facts.{pages_of}
 use Rattle.undo_journal.specs.Memory.{committed}
-use Rattle.undo_journal.specs.laws.Told.{changes_after, changes_on, changes_handed, changes_within}
+use Rattle.undo_journal.specs.laws.Told.{changes_after, changes_on, changes_handed, changes_within, reads_change}
 use Rattle.block_chain.specs.Chains.{free_chain}
 use Rattle.block_chain.specs.BlockWords.{word}
 use Rattle.block_chain.specs.ChainChanges.{LinksAlone, AreLinked}
 use Rattle.block_chain.specs.declared.layout.TheConstants.{HEADER_PAGE, FREE_HEAD_WORD}
 use Rattle.block_chain.specs.laws.Chains.{head_small}
 use Rattle.file_tree.specs.declared.layout.TheConstants.{MARK_WORD, OLD_END_PAGE}
-use Rattle.migration.specs.Migrating.{Migrates}
+use Rattle.migration.specs.Migrating.{Migrates, migration_writes}
 use Rattle.migration.proofs.Sets.{links_migrate, all_migrated}
 use Rattle.migration.proofs.migrating.migrate.Goals as goal
 
@@ -20,6 +21,13 @@ overflow_cast-free g c =
     let free : c.in_ok-free.free ≡ slice_index m 1 =
     c.in_ok-free.ensures.word ∙ sym (ap (λ (l : List ℕ). slice_index l 1) c.requires.ready.same) in
     omega (arith, free, small)
+
+pub returns-in_err-free-clause-store : goal.returns-in_err-free-clause-store
+returns-in_err-free-clause-store g c =
+    let idle = c.requires.ready.idle in
+    changes_handed _ _ _ _ _ c.from_residual.ensures.1
+    (reads_change (migration_writes (pages_of (committed c.args.store.now))) _ _ _ idle
+    (c.in_err-free.ensures.store idle))
 
 pub returns-in_err-link_pages-clause-any_exit : goal.returns-in_err-link_pages-clause-any_exit
 returns-in_err-link_pages-clause-any_exit g c =
