@@ -62,7 +62,7 @@ returns-clause-counts g c =
     record {
       writes = let rest = c.write_pages.ensures.writes in omega (arith, one, rest);
       more = let rest = c.write_pages.ensures.more in omega (arith, one, rest);
-      cut = aims_then _ _ _ (aims_written _ _ _ _ _ c.in_ok-write.ensures) c.write_pages.ensures.cut;
+      cut = aims_then _ _ _ (aims_written _ _ _ _ _ (omega arith) c.in_ok-write.ensures) c.write_pages.ensures.cut;
       compares = c.write_pages.ensures.compares ∙ c.write.ensures.compares;
       matches = c.write_pages.ensures.matches ∙ c.write.ensures.matches;
     }
@@ -75,7 +75,7 @@ returns-in_err-write-clause-counts g c = record {
   writes = ⊎_elim (λ e. omega (arith, e, c.requires.least)) (λ e. omega (arith, e, c.requires.least))
       c.in_err-write.ensures.counted_err;
   more = ⊎_elim (λ e. omega (arith, e)) (λ e. omega (arith, e)) c.in_err-write.ensures.counted_err;
-  cut = aims_written _ _ _ _ _ c.in_err-write.ensures;
+  cut = aims_written _ _ _ _ _ (omega arith) c.in_err-write.ensures;
   compares = c.write.ensures.compares;
   matches = c.write.ensures.matches;
 }

@@ -1,9 +1,11 @@
-use Rattle.std.proofs.Common.{◌≡◌, ◌≢◌, ◌≤◌, ℕ, List, length, refl, rules, ap, ◌∙◌, arith, below_more}
+use Rattle.std.proofs.Common.{◌≡◌, ◌≢◌, ◌≤◌, ℕ, List, length, refl, rules, ap, subst, sym, ◌∙◌, arith, below_more}
 use Rattle.nvm_board.specs.Facts.{address}
-use Rattle.nvm_board.specs.laws.Aims.{aims_then, aims_written}
+use Rattle.nvm_board.specs.laws.Aims.{aims_same, aims_then, aims_written}
 use Rattle.nvm_board.specs.laws.Sizes.{page_within, pages_same}
 use Rattle.nvm_board.specs.laws.Torn.{length-written}
 use Rattle.block_chain.specs.BlockWords.{page_words}
+use Rattle.block_chain.specs.declared.layout.TheConstants.{HEADER_PAGE}
+use Rattle.card_start.specs.Factory.{factory_page}
 use Rattle.card_start.proofs.FactoryPages.{page_words-written, page_words-written_other}
 use Rattle.card_start.proofs.Powers.{answered_after, steady_then}
 use Rattle.card_start.proofs.FactoryPages.{length-factory_page}
@@ -12,6 +14,23 @@ use Rattle.card_start.proofs.factory.write_pages.Goals as goal
 pub returns-in_err-write-clause-power : goal.returns-in_err-write-clause-power
 returns-in_err-write-clause-power g c =
     let h = answered_after _ _ _ c.loop-page.invariant.steady _ c.in_err-write.ensures.light in search (rules, h)
+
+pub loop-page-init : goal.loop-page-init
+loop-page-init g c =
+    let m = (g.B.Board.facts c.args.board.now).words in
+    let lit = c.requires.lit in
+    record {
+      steady = record { was_lit = lit; lit = lit; faults = refl; cuts = refl; due = refl };
+      cut = aims_same _;
+      writes = refl;
+      compares = refl;
+      matches = refl;
+      size = refl;
+      so_far = λ page below.
+          let first : page ≡ HEADER_PAGE = omega (arith, below) in
+          subst (λ (p : ℕ). page_words m p ≡ factory_page c.args.format c.args.end p) (sym first) c.requires.header;
+      behind = λ page high. refl;
+    }
 
 pub loop-page-preserved : goal.loop-page-preserved
 loop-page-preserved g c =
@@ -26,7 +45,7 @@ loop-page-preserved g c =
     record {
       steady = steady_then _ _ _ c.loop-page.invariant.steady (c.in_ok-write.ensures.light.ok refl);
       cut = aims_then _ _ _ c.loop-page.invariant.cut
-          (aims_written _ _ _ _ _ c.in_ok-write.ensures);
+          (aims_written _ _ _ _ _ (omega (arith, fits)) c.in_ok-write.ensures);
       writes = omega (arith, c.in_ok-write.ensures.counted);
       compares = c.in_ok-write.ensures.compares ∙ c.loop-page.invariant.compares;
       matches = c.in_ok-write.ensures.matches ∙ c.loop-page.invariant.matches;
@@ -50,7 +69,7 @@ loop-page-preserved g c =
 
 pub returns-in_err-write-clause-cut : goal.returns-in_err-write-clause-cut
 returns-in_err-write-clause-cut g c = aims_then _ _ _ c.loop-page.invariant.cut
-    (aims_written _ _ _ _ _ c.in_err-write.ensures)
+    (aims_written _ _ _ _ _ (omega arith) c.in_err-write.ensures)
 
 pub returns-clause-cut : goal.returns-clause-cut
 returns-clause-cut g c = c.loop-page.invariant.cut
