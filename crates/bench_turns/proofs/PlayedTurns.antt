@@ -2,6 +2,7 @@
 use Rattle.std.specs.Prelude.{◌≡◌, ◌≢◌, ◌⊎◌, ◌+◌, ◌≤◌, ℕ, Bool, true, List, [], ◌∷◌, ◌++◌, refl}
 use Rattle.std.proofs.Common.{ap, arith, sym, subst, inl, inr, ⊎_elim}
 use Rattle.nvm_board.specs.Facts.{Facts, Fails, Steady}
+use Rattle.nvm_board.specs.laws.Aims.{pages_none, torn_none, torn_off}
 use Rattle.nvm_board.specs.laws.History.{wrote_off, wrote_same}
 use Rattle.bench_turns.specs.declared.turn.Turn.{Turn}
 use Rattle.bench_turns.specs.declared.turn.Item.{Item}
@@ -131,6 +132,7 @@ pub plays_cut : (old new : Powered) (got out : List ℕ) → BlockIsCut old got 
     → BlockCompares old (link_step old.link got).reaction new.card.facts
     → (BlockChangesNothing old (link_step old.link got).reaction → KeepsBoard old.card.facts new.card.facts)
     → PaysAhead (on old) (on new) → PlaysBlock (on old) got Dark (off (record new.card.facts { dark = true }))
+unfolding wrote_off
 plays_cut old new got out cut found stage paid shown writes advances stands turned compares idle ahead = record {
   has_card = λ before. found;
   counts = record {
@@ -141,6 +143,9 @@ plays_cut old new got out cut found stage paid shown writes advances stands turn
     cut = aims-off old.card.facts new.card.facts advances.cut.cut;
     still = λ none fine same. absurd (omega (arith, none));
     wrote = wrote_off old.card.facts new.card.facts advances.cut.wrote;
+    pages = advances.cut.pages;
+    masks = advances.cut.masks;
+    torn = torn_off old.card.facts new.card.facts advances.cut.wrote.runs advances.cut.torn;
   };
   well = λ good. tt;
   guesses = paid-few (on old) (off (record new.card.facts { dark = true })) paid;
@@ -176,6 +181,9 @@ keeps_power a b cuts due faults advances = record {
   cut = advances.cut.cut;
   still = λ none fine same. advances.cut.still (omega (arith, cuts, fine, same));
   wrote = advances.cut.wrote;
+  pages = advances.cut.pages;
+  masks = advances.cut.masks;
+  torn = advances.cut.torn;
 }
 
 -- the counts of a card that isn't dark, after a block that it answers
@@ -218,6 +226,7 @@ plays_replied old new got out lit found replies failed advances guesses ahead we
 -- a block to a card without power
 pub hears_nothing : (old new : BenchState) (facts : Facts) (got : List ℕ) → old ≡ off facts → new ≡ old
     → PlaysBlock old got Mute new
+unfolding wrote_same
 hears_nothing old new facts got is same =
     subst (λ (b : BenchState). PlaysBlock old got Mute b) (sym same)
     (subst (λ (b : BenchState). PlaysBlock b got Mute b) (sym is) (record {
@@ -230,6 +239,9 @@ hears_nothing old new facts got is same =
         cut = inl refl;
         still = λ none fine same. refl;
         wrote = wrote_same facts;
+        pages = pages_none;
+        masks = refl;
+        torn = torn_none _ _ _ refl;
       };
       well = λ good. tt;
       guesses = pays-nothing (off facts) (off facts) refl refl;

@@ -1,8 +1,9 @@
 -- A power-on, by how the start of the card ended.
 use Rattle.std.specs.Prelude.{◌≡◌, ◌≤◌, ◌+◌, ◌⊎◌, ℕ, true, false, List, Option, IfSome}
 use Rattle.std.proofs.Common.{arith, ap, ap₂, inl, inr, refl, subst, sym, ◌∙◌, true≢false}
-use Rattle.nvm_board.specs.Aims.{Aim, aim, AimsOn, KeepsAim, WritesRuns, events}
+use Rattle.nvm_board.specs.Aims.{Aim, aim, AimsOn, FitPages, KeepsAim, TearsLast, WritesRuns, events}
 use Rattle.nvm_board.specs.Facts.{Facts, GoesDark, IsMemory, IsWorn, IsWornOut, Steady}
+use Rattle.nvm_board.specs.laws.Aims.{pages_none, torn_lit, torn_none, torn_off}
 use Rattle.nvm_board.specs.laws.History.{wrote_none, wrote_off, wrote_same, wrote_then}
 use Rattle.undo_journal.specs.declared.layout.TheConstants.{PAIRS}
 use Rattle.undo_journal.specs.Spending.{WritesAtMost, rollback_writes, start_writes}
@@ -27,6 +28,7 @@ use Rattle.bench_turns.proofs.Wearing.{aims-off, few-renewal, few-start, wears-w
 -- power goes off
 pub turns_off : (old new : BenchState) → new ≡ off (record (bench_facts old) { dark = true })
     → Plays old turn.Off item.Quiet new
+unfolding wrote_off wrote_same
 turns_off old new is = subst (λ (b : BenchState). Plays old turn.Off item.Quiet b) (sym is) (record {
   has_card = λ before. before;
   counts = record {
@@ -37,6 +39,9 @@ turns_off old new is = subst (λ (b : BenchState). Plays old turn.Off item.Quiet
     cut = inl refl;
     still = λ none fine same. refl;
     wrote = wrote_off (bench_facts old) (bench_facts old) (wrote_same (bench_facts old));
+    pages = pages_none;
+    masks = refl;
+    torn = torn_none _ _ _ refl;
   };
   well = λ good. tt;
   guesses = pays-nothing old (off (record (bench_facts old) { dark = true })) refl refl;
@@ -59,6 +64,7 @@ module _ (old : BenchState) (dark : Facts) (darkened : dark ≡ record (bench_fa
 
   -- a count of the board stands at its end, so that the card stays mute
   pub stays_mute : (new : Facts) → IsWornOut dark → new ≡ dark → Plays old turn.On item.Mute (off new)
+  unfolding wrote_none
   stays_mute new worn same =
       let is : new ≡ record (bench_facts old) { dark = true } = same ∙ darkened in
       let words : new.words ≡ (bench_facts old).words = ap (λ (f : Facts). f.words) is in
@@ -77,6 +83,9 @@ module _ (old : BenchState) (dark : Facts) (darkened : dark ≡ record (bench_fa
           still = λ none fine same. words;
           wrote = wrote_none (bench_facts old) new words (ap (λ (f : Facts). f.log) is)
               (omega (arith, writes, cuts, faults));
+          pages = pages_none;
+          masks = ap (λ (f : Facts). f.masks) is;
+          torn = torn_none _ _ _ (ap aim is);
         };
         well = λ good. tt;
         guesses = pays-nothing old (off new) (ap found words) (ap comparisons is);
@@ -143,6 +152,22 @@ module _ (old : BenchState) (dark : Facts) (darkened : dark ≡ record (bench_fa
         (omega (arith, lit-writes, lit-cuts, lit-faults)))
         aims.wrote
 
+    lit-masks : lit.masks ≡ (bench_facts old).masks
+    lit-masks = ap (λ (f : Facts). f.masks) lights ∙ ap (λ (f : Facts). f.masks) darkened
+
+    lit-pages : (new : Facts) → (aims : AimsOn lit new) → FitPages (lit-wrote new aims).runs
+    unfolding lit-wrote wrote_then wrote_none
+    lit-pages new aims = aims.pages
+
+    -- a cut that falls after the power-on falls into the same write
+    lit-torn : (new : Facts) → (aims : AimsOn lit new) → TearsLast (bench_facts old) new (lit-wrote new aims).runs
+    unfolding lit-wrote wrote_then wrote_none
+    lit-torn new aims =
+        let on : lit ≡ record (bench_facts old) { dark = false } =
+        lights ∙ ap (λ (f : Facts). record f { dark = false }) darkened in
+        torn_lit (bench_facts old) new false aims.wrote.runs
+        (subst (λ (f : Facts). TearsLast f new aims.wrote.runs) on aims.torn)
+
     -- what a start takes of the board's counts
     start-wears : (new : Facts) → WritesAtMost (power_on_writes lit) lit new → HasCard (bench_facts old).words
         → new.faults ≡ (bench_facts old).faults → Wears (turn_writes old turn.On) (bench_facts old) new
@@ -184,6 +209,9 @@ module _ (old : BenchState) (dark : Facts) (darkened : dark ≡ record (bench_fa
             still = λ none fine same. lit-still p.card.facts spent.cut
                 (omega (arith, power.cuts, lit-cuts, fine, lit-faults, same, lit-writes));
             wrote = lit-wrote p.card.facts spent.cut;
+            pages = lit-pages p.card.facts spent.cut;
+            masks = spent.cut.masks ∙ lit-masks;
+            torn = lit-torn p.card.facts spent.cut;
           };
           well = λ good. started.state;
           guesses = pays-nothing old (on p) (found-again p.card.facts.words again) (counts ∙ lit-counts);
@@ -223,15 +251,19 @@ module _ (old : BenchState) (dark : Facts) (darkened : dark ≡ record (bench_fa
       guesses = pays-nothing old (off new) rests.card same-comparisons
 
       spent-so : WritesAtMost (power_on_writes lit) lit new
+      unfolding wrote_off
       spent-so = subst (λ (f : Facts). WritesAtMost (power_on_writes lit) lit f) (sym turned) (record {
         writes = spent.writes;
         more = spent.more;
         cut = record {
           off = λ is. absurd (dark-lit is);
+          masks = spent.cut.masks;
           cut = aims-off lit stopped spent.cut.cut;
           more = spent.cut.more;
           still = spent.cut.still;
           wrote = wrote_off lit stopped spent.cut.wrote;
+          pages = spent.cut.pages;
+          torn = torn_off lit stopped spent.cut.wrote.runs spent.cut.torn;
         };
         compares = spent.compares;
         matches = spent.matches;
@@ -255,6 +287,9 @@ module _ (old : BenchState) (dark : Facts) (darkened : dark ≡ record (bench_fa
               cut = lit-aims new spent-so.cut.cut;
               still = λ none fine same. absurd (omega (arith, none));
               wrote = lit-wrote new spent-so.cut;
+              pages = lit-pages new spent-so.cut;
+              masks = spent-so.cut.masks ∙ lit-masks;
+              torn = lit-torn new spent-so.cut;
             };
             well = λ good. tt;
             guesses = guesses;
@@ -290,6 +325,9 @@ module _ (old : BenchState) (dark : Facts) (darkened : dark ≡ record (bench_fa
               still = λ none fine same. lit-still new spent-so.cut
                   (omega (arith, same_cuts, cuts, fine, lit-faults, same, lit-writes));
               wrote = lit-wrote new spent-so.cut;
+              pages = lit-pages new spent-so.cut;
+              masks = spent-so.cut.masks ∙ lit-masks;
+              torn = lit-torn new spent-so.cut;
             };
             well = λ good. tt;
             guesses = guesses;

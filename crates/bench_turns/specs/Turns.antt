@@ -1,6 +1,6 @@
 -- The effect and the result of each turn at a bench, and of several turns.
 use Rattle.std.specs.Prelude.{◌≡◌, ◌⊎◌, ◌≤◌, ◌+◌, ℕ, if◌then◌else◌, List, [], ◌∷◌}
-use Rattle.nvm_board.specs.Aims.{KeepsAim, WritesRuns}
+use Rattle.nvm_board.specs.Aims.{FitPages, KeepsAim, TearsLast, WritesRuns}
 use Rattle.nvm_board.specs.Facts.{Facts, IsWorn, IsWornOut, RisesAt}
 use Rattle.undo_journal.specs.Spending.{KeepsBoard}
 use Rattle.undo_journal.specs.declared.layout.TheConstants.{PAIRS}
@@ -115,7 +115,8 @@ darks (item ∷ items) = dark_of item + darks items
 -- The counters of the board after a turn with one power loss (1) or none (0). Each loss is counted, and uses up one of
 -- the due cuts, unless a counter is at its limit. The counters of faults and writes never decrease, and a set power cut
 -- falls into the write that it was set for. Words change only if a write, a power loss or a fault is counted, by the
--- runs that the board wrote.
+-- runs that the board wrote, each within a page. If the cut falls, exactly the words of its mask are new in the last of
+-- them, on a board whose cuts leave those.
 pub record Spends (lost : ℕ) (old new : Facts) : Type 0 where
   pub cuts : new.cuts ≡ old.cuts + lost
   pub due : (old.due ≡ new.due + lost) ⊎ (IsWorn new × (new.due ≡ old.due))
@@ -124,6 +125,9 @@ pub record Spends (lost : ℕ) (old new : Facts) : Type 0 where
   pub cut : KeepsAim old new
   pub still : lost ≡ 0 → new.faults ≡ old.faults → new.writes ≡ old.writes → new.words ≡ old.words
   pub wrote : WritesRuns old new
+  pub pages : FitPages wrote.runs
+  pub masks : new.masks ≡ old.masks
+  pub torn : TearsLast old new wrote.runs
 
 -- The counters of the board after turns with `lost` power losses. The counter of cuts rises by `lost`. No cut became
 -- due, and at most `lost` due cuts are used up. The counters of faults and writes never decrease.
