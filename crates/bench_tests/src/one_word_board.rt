@@ -82,6 +82,8 @@ impl Sweepable for OneWordBoard {
     fn words(&self) -> &[u32] {
         CutBoard::words(&self.board)
     }
+
+    ghost masked = { λ b. refl };
 }
 
 // The first write has two words. The cut with all of its one reported word new leaves the second one old.

@@ -5,6 +5,7 @@ pub mod SweepLemmas
 pub mod StageLemmas
 pub mod SparedLemmas
 pub mod OtherMasks
+mod MaskedCuts
 pub mod Turned
 mod ReadSo
 pub mod Stopped

@@ -3,9 +3,10 @@ use Rattle.std.specs.Prelude.{◌≡◌, ◌≢◌, ◌≤◌, ◌+◌, ◌-◌,
 use Rattle.std.specs.Prelude.{is_some, option_map, if◌then◌else◌, IfSome, Result, Ok, Err}
 use Rattle.std.proofs.Common.{◌∙◌, ap, inl, inr, refl, subst, sym}
 use Rattle.std.proofs.Math.Logic.{⊎_map}
+use Rattle.std.proofs.lemmas.Option.{none-some}
 use Rattle.card_model.specs.declared.status.Sw.{Sw}
 use Rattle.nvm_board.specs.declared.board.Arm.{Arm}
-use Rattle.nvm_board.specs.Aims.{Aim, AimStays, KeepsAim, WritesRuns, aim, due_of}
+use Rattle.nvm_board.specs.Aims.{Aim, AimStays, KeepsAim, TearsLast, WritesRuns, aim, due_of}
 use Rattle.nvm_board.specs.Facts.{Facts, IsWornOut}
 use Rattle.nvm_board.specs.History.{Run}
 use Rattle.undo_journal.specs.Spending.{KeepsBoard}
@@ -35,6 +36,7 @@ use Rattle.bench_turns.specs.Plays.{IsGood}
 use Rattle.bench_turns.specs.Turns.{GoodTurn, LeavesCard, OneTurn, Spends, TakesBlock, TurnIsCut, TurnsOff, TurnsOn}
 use Rattle.bench_turns.specs.Turns.{Wears, WritesAsAsked, WritesNoMore, dark_of, turn_writes}
 use Rattle.card_sweeps.specs.Sweeps.{IsUnmade, SparesTurn, SweptTurn}
+use Rattle.card_sweeps.proofs.SparedLemmas.{still-aimed}
 
 -- what is set, with another mask
 abbrev set_masked : ℕ → Option Arm → Option Arm
@@ -107,6 +109,7 @@ keeps-masked mask old new (inr fell) = inr (record {
 stays-masked : (mask : ℕ) (old new : Facts) → AimStays old new → AimStays (masked mask old) (masked mask new)
 stays-masked mask old new stays = record {
   off = λ off. ap (masked mask) (stays.off off);
+  masks = stays.masks;
   aim = aim-masked mask new ∙ ap (aim_masked mask) stays.aim ∙ sym (aim-masked mask old);
   more = stays.more;
   log = stays.log;
@@ -124,9 +127,19 @@ board-masked mask old new kept = record {
 abbrev wrote-masked : (mask : ℕ) (old new : Facts) → WritesRuns old new → WritesRuns (masked mask old) (masked mask new)
 wrote-masked mask old new w = record { runs = w.runs; words = w.words; log = w.log; counted = w.counted }
 
-spends-masked : (mask lost : ℕ) (old new : Facts) → Spends lost old new
+aim-unmasked : (mask : ℕ) (aimed : Option Aim) → aim_masked mask aimed ≡ None → aimed ≡ None
+aim-unmasked mask None none = refl
+aim-unmasked mask (Some a) none = absurd (none-some (record a { mask = mask }) (sym none))
+
+-- a cut that is still set tore nothing
+torn-masked : (mask : ℕ) (old new : Facts) (told : List Run) → (aim new ≡ None → ⊥)
+    → TearsLast (masked mask old) (masked mask new) told
+torn-masked mask old new told set = λ masks cut was none.
+    absurd (set (aim-unmasked mask (aim new) (sym (aim-masked mask new) ∙ none)))
+
+spends-masked : (mask lost : ℕ) (old new : Facts) → (aim new ≡ None → ⊥) → Spends lost old new
     → Spends lost (masked mask old) (masked mask new)
-spends-masked mask lost old new s = record {
+spends-masked mask lost old new set s = record {
   cuts = s.cuts;
   due = s.due;
   faults = s.faults;
@@ -134,6 +147,9 @@ spends-masked mask lost old new s = record {
   cut = keeps-masked mask old new s.cut;
   still = s.still;
   wrote = wrote-masked mask old new s.wrote;
+  pages = s.pages;
+  masks = s.masks;
+  torn = torn-masked mask old new s.wrote.runs set;
 }
 
 -- the command that runs is the same
@@ -384,10 +400,11 @@ most-masked mask (on p) turn.On = refl
 most-masked mask old turn.Off = refl
 most-masked mask old (turn.Block got) = refl
 
--- the same turn, with another mask set before it
-turn-masked : (mask : ℕ) (old : BenchState) (t : Turn) (i : Item) (new : BenchState) → GoodTurn old t i new
+-- the same turn, with another mask set before it, where the cut doesn't fall
+turn-masked : (mask : ℕ) (old : BenchState) (t : Turn) (i : Item) (new : BenchState)
+    → (aim (bench_facts new) ≡ None → ⊥) → GoodTurn old t i new
     → GoodTurn (bench_masked mask old) t i (bench_masked mask new)
-turn-masked mask old t i new good =
+turn-masked mask old t i new set good =
     let wears = good.wears in
     let same : Wears (turn_writes old t) (bench_facts (bench_masked mask old)) (bench_facts (bench_masked mask new)) =
     facts-then mask (Wears (turn_writes old t)) old new (record {
@@ -400,7 +417,7 @@ turn-masked mask old t i new good =
     record {
       one = one-masked mask old t i new good.one;
       counts = facts-then mask (Spends (dark_of i)) old new
-          (spends-masked mask (dark_of i) (bench_facts old) (bench_facts new) good.counts);
+          (spends-masked mask (dark_of i) (bench_facts old) (bench_facts new) set good.counts);
       wears = subst
           (λ (n : ℕ). Wears n (bench_facts (bench_masked mask old)) (bench_facts (bench_masked mask new)))
           (sym (most-masked mask old t)) same;
@@ -441,7 +458,7 @@ unmade-by number mask swept s = λ other. record {
   arm = armed-masked number mask other s.prepared s.armed s.arm;
   good = good-masked other s.armed s.good;
   good_left = good-masked other s.last s.good_left;
-  played = turn-masked other s.armed swept.turn s.item s.last s.played;
+  played = turn-masked other s.armed swept.turn s.item s.last (still-aimed number mask swept s) s.played;
   spared = ⊎_map (λ (other_item : s.item ≢ Dark). other_item)
       (λ (set : is_some (bench_facts s.last).pending ≡ true).
       ap (λ (f : Facts). is_some f.pending) (facts-masked other s.last)

@@ -2,10 +2,11 @@
 use Rattle.std.specs.Prelude.{◌≡◌, ◌≢◌, ◌⊎◌, ◌≤◌, ◌+◌, ◌-◌, ℕ, List, Bool, Option, None, Some, is_some, true}
 use Rattle.std.specs.Prelude.{if◌then◌else◌}
 use Rattle.std.proofs.Common.{◌∙◌, ap, ap₂, arith, inl, inr, refl, subst, sym, true≢false}
+use Rattle.std.proofs.lemmas.Option.{none-some}
 use Rattle.core.specs.Borrow.{Bor}
 use Rattle.nvm_board.specs.declared.board.Arm.{Arm}
 use Rattle.nvm_board.specs.Aims.{Aim, aim, due_of, KeepsAim}
-use Rattle.nvm_board.specs.Facts.{Facts}
+use Rattle.nvm_board.specs.Facts.{Facts, IsWorn}
 use Rattle.command_base.specs.declared.spending.TheConstants.{COMMAND_WRITES}
 use Rattle.card_start.specs.Starting.{power_on_writes}
 use Rattle.bench_turns.specs.declared.turn.Turn.{Turn}
@@ -17,7 +18,7 @@ use Rattle.bench_turns.specs.Lasting.{HasLeft}
 use Rattle.bench_turns.specs.Turns.{Spends, TurnsOn, WritesAsAsked, dark_of, turn_steps}
 use Rattle.bench_turns.proofs.Wearing.{TURN_STEPS, block-due, due-spent, few-steps, fewer, not-mute}
 use Rattle.bench_turns.proofs.TurnsTold.{good-block}
-use Rattle.card_sweeps.specs.Sweeps.{SparesStart, SparesTurn, off_with}
+use Rattle.card_sweeps.specs.Sweeps.{SparesStart, SparesTurn, SweptTurn, off_with}
 use Rattle.card_sweeps.proofs.SweepLemmas.{runs-none}
 
 -- what is set on a board
@@ -31,7 +32,7 @@ set-by-due None is = absurd (omega (arith, is))
 set-by-due (Some arm) is = refl
 
 -- where it falls
-set-aim : (f : Facts) (arm : Arm) → f.due ≡ due_of f.pending → f.pending ≡ Some arm
+pub set-aim : (f : Facts) (arm : Arm) → f.due ≡ due_of f.pending → f.pending ≡ Some arm
     → aim f ≡ Some (record { write = f.writes + arm.whole_writes + 1; mask = arm.mask })
 set-aim f arm due is =
     ap₂ (λ (n : ℕ) (o : Option Arm). aim (record f { due = n; pending = o })) (due ∙ ap due_of is) is
@@ -72,17 +73,36 @@ still-set a z i due due_left spent (inl other) =
     set-by-due z.pending (sym due_left ∙ one)
 still-set a z i due due_left spent (inr set) = set
 
+-- so it is where a count is at its end
+left-set : (a z : Facts) (i : Item) → a.due ≡ 1 → z.due ≡ due_of z.pending
+    → (a.due ≡ z.due + dark_of i) ⊎ (IsWorn z × (z.due ≡ a.due)) → (i ≢ Dark) ⊎ (is_some z.pending ≡ true)
+    → is_some z.pending ≡ true
+left-set a z i due due_left (inl spent) spared = still-set a z i due due_left spent spared
+left-set a z i due due_left (inr worn) spared = set-by-due z.pending (sym due_left ∙ worn.1 ∙ due)
+
 with-facts : (old : BenchState) (f : Facts) → bench_facts (with_facts old f) ≡ f
 with-facts (off facts) f = refl
 with-facts (on powered) f = refl
 
 -- the board on which it is set
-armed-is : (number mask : ℕ) (old new : BenchState) → IsArmed number mask old new
+pub armed-is : (number mask : ℕ) (old new : BenchState) → IsArmed number mask old new
     → bench_facts new ≡ record (bench_facts old) {
       due = (bench_facts new).due;
       pending = Some (record { whole_writes = number - 1; mask = mask });
     }
 armed-is number mask old new arm = ap bench_facts arm.same ∙ with-facts old _
+
+-- a cut that doesn't come falls into some write yet
+pub still-aimed : (number mask : ℕ) (swept : SweptTurn) → (s : SparesTurn number mask swept)
+    → aim (bench_facts s.last) ≡ None → ⊥
+still-aimed number mask swept s none =
+    let a = bench_facts s.armed in
+    let z = bench_facts s.last in
+    let is = armed-is number mask s.prepared s.armed s.arm in
+    let due : a.due ≡ 1 = s.good.due ∙ ap (λ (f : Facts). due_of f.pending) is in
+    let left = some-arm z.pending
+    (left-set a z s.item due s.good_left.due s.played.counts.due s.spared) in
+    none-some _ (sym none ∙ set-aim z left.0 s.good_left.due left.1)
 
 -- how many writes a start makes that comes to its end
 started-all : (old new : BenchState) (i : Item) → TurnsOn old i new → i ≢ Mute → i ≢ Dark

@@ -1,6 +1,9 @@
 -- The runs of a sweep, and the finding of each.
-use Rattle.std.specs.Prelude.{◌≡◌, ◌⊎◌, ◌≤◌, ◌≢◌, ℕ, zero, suc, true, List, [], None, is_some}
+use Rattle.std.specs.Prelude.{◌≡◌, ◌⊎◌, ◌≤◌, ◌≢◌, ◌-◌, ℕ, zero, suc, true, List, [], None, is_some, length}
+use Rattle.nvm_board.specs.Aims.{FitPages}
 use Rattle.nvm_board.specs.Facts.{Facts}
+use Rattle.nvm_board.specs.History.{Run, replayed}
+use Rattle.nvm_board.specs.Torn.{IsTornBy}
 use Rattle.card_model.specs.declared.space.FreeSpace.{FreeSpace}
 use Rattle.bench_turns.specs.declared.turn.Turn.{Turn}
 use Rattle.bench_turns.specs.declared.turn.Turn.TheVariants as turn
@@ -61,6 +64,16 @@ pub record CutsTurn (number mask : ℕ) (swept : SweptTurn) (left : Facts) : Typ
   pub left_is : left ≡ board_left last
   pub fired : left.pending ≡ None
   pub has_card : HasCard left.words
+
+-- A cut at this write leaves this memory: that of whole runs, each within a page and no more than the writes before it,
+-- with exactly the words of the mask new in one run more.
+pub record LeavesTorn (number mask : ℕ) (before left : List ℕ) : Type 0 where
+  pub whole : List Run
+  pub few : length whole ≤ number - 1
+  pub pages : FitPages whole
+  pub at : ℕ
+  pub run : List ℕ
+  pub torn : IsTornBy mask (replayed before whole) at run left
 
 -- The turn makes fewer writes, so that a cut set for this one, with this mask, doesn't happen in it.
 pub record SparesTurn (number mask : ℕ) (swept : SweptTurn) : Type 0 where

@@ -1,13 +1,15 @@
 //! Laws of sweeps: each function's contract is one law.
-ghost use Rattle.std.specs.Prelude.{◌≡◌, ◌≤◌, ◌+◌, ◌-◌, ℕ, List};
+ghost use Rattle.std.specs.Prelude.{◌≡◌, ◌≤◌, ◌+◌, ◌-◌, ℕ, List, true};
 ghost use Rattle.core.specs.Borrow.{Bor};
 ghost use Rattle.nvm_board.specs.Facts.{Facts};
+ghost use Rattle.nvm_board.specs.History.{replayed};
 ghost use Rattle.card_start.specs.Starting.{power_on_writes};
 ghost use Rattle.bench_turns.specs.declared.turn.Turn.{Turn};
 ghost use Rattle.bench_turns.specs.declared.turn.Turn.TheVariants.{Block};
 ghost use Rattle.bench_turns.specs.BenchStates.{bench_card, bench_facts};
 ghost use Rattle.bench_turns.specs.Lasting.{HasLeft};
-ghost use Rattle.card_sweeps.specs.Sweeps.{GivenByRun, IsStageOf, SparesStart, SparesTurn};
+ghost use Rattle.card_sweeps.specs.Sweeps.{CutsTurn, GivenByRun, IsStageOf, LeavesTorn, SparesStart, SparesTurn};
+ghost use Rattle.card_sweeps.specs.Sweeps.{SweptTurn};
 ghost use Rattle.card_sweeps.specs.Tallies.{Finding};
 
 /// Each finding of a sweep shows a stage of the command.
@@ -17,6 +19,15 @@ pub fn swept_cards_are_stages()
         (given : Finding)
         → (s : GivenByRun (record { board = board; prepare = prepare; turn = Block command }) probe depth given)
         → IsStageOf s.cut.armed command.now (bench_card s.rest.end.started) }
+{}
+
+/// A cut leaves exactly the words of its mask new in the write that it falls into, on a board whose cuts do. With mask
+/// 0 it leaves the memory before that write.
+pub fn cuts_leave_the_words_of_their_masks()
+    ensures words { (number mask : ℕ) (swept : SweptTurn) (left : Facts) → (cut : CutsTurn number mask swept left)
+        → swept.board.masks ≡ true → LeavesTorn number mask (bench_facts cut.prepared).words left.words }
+    ensures none { (number : ℕ) (before left : List ℕ) → (torn : LeavesTorn number 0 before left)
+        → left ≡ replayed before torn.whole }
 {}
 
 /// A sweep spares a power-on at a write only if its memory asks for fewer writes.

@@ -1,12 +1,13 @@
 //! Boards whose writes a sweep cuts, and whose memories it compares.
-ghost use Rattle.std.specs.Prelude.{◌≡◌, ◌≤◌, ℕ, is_some, IfOk};
+ghost use Rattle.std.specs.Prelude.{◌≡◌, ◌≤◌, ℕ, true, is_some, IfOk};
 ghost use Rattle.nvm_board.specs.declared.board.TheConstants.{PAGE_WORDS};
 
 use nvm_board::{Armed, Faultless};
 use simulated_boards::CutBoard;
 use std::alloc::{AllocError, Global};
 
-/// A board without faults that can be copied, and reports on the power cut that is set on it.
+/// A board without faults that can be copied, and reports on the power cut that is set on it. A cut leaves the words of
+/// its mask.
 pub trait Sweepable: Armed + Faultless {
     /// The number of words of its last torn write.
     ghost torn: { Self → ℕ };
@@ -30,9 +31,13 @@ pub trait Sweepable: Armed + Faultless {
     /// Returns the words, with power on or off.
     fn words(&self) -> &[u32]
         ensures { result.now ≡ (Self.facts self.now).words };
+
+    /// A cut leaves the words of its mask.
+    ghost masked: { (board : Self) → (Self.facts board).masks ≡ true };
 }
 
 impl Sweepable for CutBoard {
+    ghost use Rattle.std.specs.Prelude.{refl};
     ghost use Rattle.simulated_boards.specs.Cut.{last_torn};
 
     ghost torn = { last_torn };
@@ -52,4 +57,6 @@ impl Sweepable for CutBoard {
     fn words(&self) -> &[u32] {
         CutBoard::words(self)
     }
+
+    ghost masked = { λ b. refl };
 }
