@@ -1,5 +1,5 @@
 -- A formatted flash is a new board, and what is written to one.
-use Rattle.std.specs.Prelude.{◌≡◌, ◌<◌, ◌-◌, ◌*◌, ℕ, List, length, replicate, slice_index}
+use Rattle.std.specs.Prelude.{◌≡◌, ◌<◌, ◌-◌, ◌*◌, ℕ, false, List, length, replicate, slice_index}
 use Rattle.std.proofs.Common.{arith, sym, ap, ◌∙◌}
 use Rattle.std.proofs.lemmas.List.{ext_get_or, get_or-replicate, length-replicate}
 use Rattle.nvm_board.specs.declared.board.TheConstants.{PAGE_WORDS}
@@ -15,6 +15,10 @@ use Rattle.flash_board.specs.Places.{state_of}
 use Rattle.flash_board.specs.declared.layout.TheConstants.{PAGES}
 use Rattle.flash_board.specs.laws.Words.{length-words}
 
+-- a new board whose cuts leave all words of a write or none
+abbrev new_flash : ℕ → Facts
+new_flash pages = record (new_board pages) { masks = false }
+
 -- words that are all 0
 zeros : (l : List ℕ) (n : ℕ) → length l ≡ n → ((i : ℕ) → i < n → slice_index l i ≡ 0) → l ≡ replicate n 0
 zeros l n size blank =
@@ -24,21 +28,21 @@ zeros l n size blank =
 -- the board of a formatted flash, on which no power loss is set, is a new one
 pub blank_is_new : (slots : ℕ) (flash : FlashState)
     → ((i : ℕ) → i < 16 * PAGES → slice_index (words_of PAGES slots flash.words) i ≡ 0)
-    → flash.due ≡ 0 → made_of (state_of PAGES slots flash) ≡ new_board PAGES
+    → flash.due ≡ 0 → made_of (state_of PAGES slots flash) ≡ new_flash PAGES
 blank_is_new slots flash blank due =
     let words = zeros (words_of PAGES slots flash.words) (16 * PAGES) (length-words PAGES slots flash.words) blank in
-    let of_words : List ℕ → Facts = λ l. record (new_board PAGES) { words = l; due = flash.due } in
-    let of_due : ℕ → Facts = λ n. record (new_board PAGES) { due = n } in
+    let of_words : List ℕ → Facts = λ l. record (new_flash PAGES) { words = l; due = flash.due } in
+    let of_due : ℕ → Facts = λ n. record (new_flash PAGES) { due = n } in
     ap of_words words ∙ ap of_due due
 
 -- a new board has room for as many blocks as it has pages from page 128 on
-new_pages : (n : ℕ) (old : Facts) → old ≡ new_board n → pages_of old.words ≡ n
+new_pages : (n : ℕ) (old : Facts) → old ≡ new_flash n → pages_of old.words ≡ n
 new_pages n old is =
     let size : length old.words ≡ PAGE_WORDS * n =
     ap (λ (f : Facts). length f.words) is ∙ length-replicate {A = ℕ} (PAGE_WORDS * n) 0 in
     omega (arith, size)
 
-pub new_blocks : (n : ℕ) (old new : Facts) → old ≡ new_board n → length new.words ≡ length old.words
+pub new_blocks : (n : ℕ) (old new : Facts) → old ≡ new_flash n → length new.words ≡ length old.words
     → board_blocks new.words ≡ n - 128
 new_blocks n old new is size =
     let pages = new_pages n old is in
@@ -46,7 +50,7 @@ new_blocks n old new is size =
     omega (arith, pages, same)
 
 -- a new board on which the factory's card was written
-pub just_written : (n : ℕ) (old new : Facts) → old ≡ new_board n → Steady old new
+pub just_written : (n : ℕ) (old new : Facts) → old ≡ new_flash n → Steady old new
     → WritesAtMost (pages_of old.words) old new → IsNewlyWritten n new
 just_written n old new is steady spent =
     let pages = new_pages n old is in

@@ -1,5 +1,5 @@
 //! The factory card on a simulated flash.
-ghost use Rattle.std.specs.Prelude.{◌≡◌, IfOk};
+ghost use Rattle.std.specs.Prelude.{◌≡◌, false, IfOk};
 ghost use Rattle.nvm_board.specs.Facts.{new_board};
 ghost use Rattle.nvm_board.specs.declared.board.TheConstants.{LEAST_PAGES};
 ghost use Rattle.simulated_boards.specs.CutFlashFacts.{cut_flash_facts};
@@ -36,7 +36,7 @@ pub fn factory_on_flash(
 
 /// Returns a new board on a simulated flash, whose words and counts are all 0.
 fn blank_board(alloc: Global, seed: u64) -> Result<CutFlashBoard<GarblingFlash>, AllocError>
-    ensures { IfOk result (λ board. cut_flash_facts board ≡ new_board LEAST_PAGES) }
+    ensures { IfOk result (λ board. cut_flash_facts board ≡ record (new_board LEAST_PAGES) { masks = false }) }
 {
     let mut flash = GarblingFlash::new(alloc, seed)?;
     match format_flash(&mut flash) {
