@@ -1,11 +1,13 @@
-use Rattle.std.specs.Prelude.{◌≡◌, ◌⊎◌}
+use Rattle.std.specs.Prelude.{◌≡◌, ◌⊎◌, Option}
 use Rattle.std.proofs.Common.{rules, ◌∙◌, List, ℕ, ap, inl, sym, subst, length}
 use Rattle.undo_journal.specs.StoreCalls.{Changes}
 use Rattle.undo_journal.specs.Memory.{committed}
-use Rattle.undo_journal.specs.laws.Told.{changes_after}
+use Rattle.undo_journal.specs.laws.Told.{changes_after, reads_change, told_is}
 use Rattle.ef_body.specs.declared.layout.TheConstants.{RECORD_WRITES}
 use Rattle.ef_body.specs.declared.cyclic.Cyclic.{Cyclic}
 use Rattle.ef_body.specs.Bodies.{cyclic_body_records}
+use Rattle.ef_contents.specs.Refusals.{why_failed}
+use Rattle.ef_contents.specs.declared.error.BodyErr.{BodyErr}
 use Rattle.card_model.specs.RecordLists.{raised_number}
 use Rattle.std.proofs.Math.Logic.{⊎_map}
 use Rattle.std.proofs.lemmas.Result.{on_ok_weaker}
@@ -20,6 +22,12 @@ returns-clause-store g c =
     store_told c.replace_oldest.result c.from_store.result c.from_store.ensures
     (Changes RECORD_WRITES c.args.store.now c.replace_oldest.new.store)
     (changes_after _ _ _ _ _ c.raise.ensures.store.only c.replace_oldest.ensures.commits.store)
+
+pub returns-in_err-newest-clause-store : goal.returns-in_err-newest-clause-store
+returns-in_err-newest-clause-store g c =
+    subst (λ (told : Option BodyErr). Changes RECORD_WRITES c.args.store.now c.raise.new.store (why_failed told))
+    (told_is _ _ c.from_residual.ensures.1)
+    (reads_change RECORD_WRITES _ _ _ c.requires.body.ready.idle c.in_err-newest.ensures.store)
 
 pub replace_oldest-requires : goal.replace_oldest-requires
 replace_oldest-requires g c = record {

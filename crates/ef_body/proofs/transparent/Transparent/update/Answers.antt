@@ -1,7 +1,7 @@
 use Rattle.std.proofs.Common.{length, arith, refl}
 use Rattle.card_model.specs.declared.status.TheConstants.Sw.{NO_ROOM, WRONG_OFFSET}
 use Rattle.undo_journal.specs.Memory.{committed}
-use Rattle.undo_journal.specs.laws.Calls.{within_more}
+use Rattle.undo_journal.specs.laws.Calls.{boards_same, keeping_spends, within_more}
 use Rattle.undo_journal.specs.Spending.{transaction_writes}
 use Rattle.block_chain.specs.Chains.{chain_of}
 use Rattle.block_chain.specs.ChainChanges.{Overwrites, touched_words, touched_blocks}
@@ -56,6 +56,12 @@ returns-clause-commits g c =
     (bytes_put m n c.args.self c.args.offset c.args.bytes.now c.requires.body.ready.usable.committed_size
     c.requires.body.body
     within) put)
+
+pub returns-then-ends_at-clause-writes : goal.returns-then-ends_at-clause-writes
+returns-then-ends_at-clause-writes g c = keeping_spends _ _ _ (boards_same _)
+
+pub returns-then-ends_before-clause-writes : goal.returns-then-ends_before-clause-writes
+returns-then-ends_before-clause-writes g c = keeping_spends _ _ _ (boards_same _)
 
 pub returns-clause-writes : goal.returns-clause-writes
 returns-clause-writes g c =
