@@ -45,23 +45,31 @@ def compiler() -> str | None:
     return shutil.which(os.environ.get("CC") or "cc")
 
 
-def build(room: str) -> str:
-    """The path of the program that makes calls, built into a folder over the library."""
-    library, program = f"{room}/library", f"{room}/calls"
+def build_library(room: str) -> str:
+    """The path of the library, built into a folder."""
+    if not compiler():
+        raise Unbuilt("there is no C compiler, which the calls of the library need")
+    library = f"{room}/library"
     ran = subprocess.run([f"{TOP}/tools/library", library], stdout=subprocess.DEVNULL)
     if ran.returncode:
         raise Unbuilt("the library is not built")
-    words = [compiler() or "cc", *C_WORDS, str(SOURCE), f"{library}/libsoffitfennel.a", "-o", program]
-    if subprocess.run(words).returncode:
-        raise Unbuilt(f"the C compiler doesn't build {SOURCE.name}")
+    return f"{library}/libsoffitfennel.a"
+
+
+def build(library: str, source: Path, *words: str) -> str:
+    """The path of a program in C, built over the library, beside it."""
+    program = f"{os.path.dirname(library)}/{source.stem}"
+    ran = subprocess.run([compiler() or "cc", *C_WORDS, str(source), library, *words, "-o", program])
+    if ran.returncode:
+        raise Unbuilt(f"the C compiler doesn't build {source.name}")
     return program
 
 
 def call_cost(program: str, call: Call) -> Counts:
     """The instructions of a call."""
     kind, device = call.kind, ["device"] if call.has_device else []
-    few, many = (count(program, kind.script(1), [str(calls), *device]) for calls in (kind.few, kind.many))
-    return each(few, many, kind.many - kind.few)
+    none, many = (count(program, kind.script(1), str(calls), *device) for calls in (0, kind.many))
+    return each(none, many, kind.more)
 
 
 def rows(counts: dict[str, Counts]) -> str:

@@ -3,18 +3,22 @@ from typing import Callable, NamedTuple
 
 
 class Kind(NamedTuple):
-    """A kind of line: its name, as docs/COST.md has it, the lines before it, and the line. Two scripts count it, which
-    have `few` and `many` of it."""
+    """A kind of line: its name, as docs/COST.md has it, the lines before it, and the line, or lines that come in turn.
+    Two scripts count it: one has none of it, the other many."""
 
     name: str
     head: list[str]
     line: str
-    few: int = 100
-    many: int = 400
+    many: int = 200
 
     def script(self, count: int) -> str:
-        """A script of `count` lines of the kind."""
+        """A script of `count` lines of the kind, or turns of its lines."""
         return "".join(line + "\n" for line in [*self.head, *[self.line] * count])
+
+    @property
+    def more(self) -> int:
+        """How many lines one script has more than the other."""
+        return self.many * (self.line.count("\n") + 1)
 
 
 class Curve(NamedTuple):
@@ -27,7 +31,7 @@ class Curve(NamedTuple):
 
 def once(name: str, head: list[str], line: str) -> Kind:
     """A kind of line that can't be repeated: the script without it is compared with the script with it."""
-    return Kind(name, head, line, 0, 1)
+    return Kind(name, head, line, 1)
 
 
 def apdu(header: str, data: str = "", expected: str = "") -> str:
@@ -174,7 +178,7 @@ def curve(command: str, growing: str, places: tuple[int, ...], make: Callable[[i
 
 def power_on(name: str, head: list[str]) -> Kind:
     """A power-on of a card."""
-    return Kind(f"`on`, {name}", head, "on", 20, 60)
+    return Kind(f"`on`, {name}", head, "on", 30)
 
 
 CURVES = [
@@ -237,7 +241,7 @@ CURVES = [
         "SEARCH RECORD",
         "records",
         (2, 100, 254),
-        lambda n: Kind(f"SEARCH RECORD, {n} records of 129 bytes", records(n), SEARCH, 5, 15),
+        lambda n: Kind(f"SEARCH RECORD, {n} records of 129 bytes", records(n), SEARCH, 10),
     ),
     curve("CREATE FILE", "files", (3, 20, 57), creating),
     curve("CREATE FILE", "bytes", (60, 16_000, 32_767), sized),
@@ -249,7 +253,7 @@ SINGLE = [
     Kind("empty", ["on"], ""),
     Kind("a comment of 44 bytes", ["on"], "# a comment of forty-four bytes, and a space"),
     Kind("free", ["on"], "free"),
-    Kind("`on`", ["on"], "on", 20, 60),
+    Kind("`on`", ["on"], "on", 30),
     power_on("62 DFs with names of 16 bytes", ["on", *make_named(62)]),
     power_on("59 EFs with a short identifier", ["on", *make_numbered(59)]),
     Kind("a block that is refused", ["on"], "block 00000500B000000AB5"),
@@ -288,6 +292,5 @@ WRITING = [
 # kinds whose counts stand in sentences of docs/COST.md alone
 ONE_SUM = power_on("62 DFs whose names have one sum", ["on", *make_named(62, 31)])
 
-KINDS = [*SINGLE, *[kind for curve in CURVES for _, kind in curve.points]]
 # what the table of docs/COST.md shows: of each curve the last kind, as the picture has the others
 TABLE = [*SINGLE, *[curve.points[-1][1] for curve in CURVES]]

@@ -7,11 +7,30 @@ from pathlib import Path
 from typing import NamedTuple
 
 from .callgrind import cost
-from .kinds import KINDS, ONE_SUM, Kind
+from .decoding import decoding
+from .kinds import ONE_SUM, Kind
+from .other_kinds import KINDS
 
 TOP = Path(__file__).resolve().parents[3]
 PAGE = TOP / "docs" / "COST.md"
 ROW = re.compile(r"\| (.+) \| ([\d,]+) \| ([\d,]+) \| (\d+\.\d\d) \|")
+# the kinds of line in the page's first table
+SHOWN = (
+    "empty",
+    "free",
+    "`on`",
+    "`on`, a card of 57 files",
+    "SELECT",
+    "SELECT of a file at level 8",
+    "READ BINARY of 10 bytes",
+    "READ BINARY of 256 bytes",
+    "READ BINARY of 10 bytes at 32,000",
+    "UPDATE BINARY of 10 bytes",
+    "READ RECORD of 10 bytes",
+    "SEARCH RECORD, 254 records of 129 bytes",
+    "VERIFY, the right value",
+    "CREATE FILE of 10 bytes, a card of 57 files",
+)
 # what a count may differ by: the C library chooses its functions by the processor
 MOST = 0.03
 VERSIONS = {"rustc": ["rustc", "--version"], "glibc": ["ldd", "--version"], "valgrind": ["valgrind", "--version"]}
@@ -23,6 +42,8 @@ SENTENCES = {
     "a block": r"every block, (\d+) instructions",
     "a block of CREATE FILE": r"A block takes (\d+) instructions",
     "a block of CREATE FILE, plain": r"A block takes \d+ instructions, for (\d+)",
+    "a byte in digits": r"a byte\s+in\s+(\d+) instructions",
+    "a byte in digits, plain": r"instructions,\s+the\s+plain\s+core\s+in\s+(\d+)",
     "the lines of the plain core": r"without a contract: ([\d,]+) lines",
 }
 
@@ -105,6 +126,8 @@ class Counted:
         yield "a block", self.block(1024, 2048)
         yield "a block of CREATE FILE", self.created(self.program)
         yield "a block of CREATE FILE, plain", self.created(self.plain_core)
+        yield "a byte in digits", round(decoding(self.program))
+        yield "a byte in digits, plain", round(decoding(self.plain_core))
         sources = sorted((TOP / "tools" / "plain_core").glob("*.rs"))
         yield "the lines of the plain core", sum(len(it.read_text(encoding="utf-8").splitlines()) for it in sources)
 
