@@ -1,2 +1,3 @@
 -- What the answers of several functions use.
+mod NameWords
 mod SecondWords

@@ -14,7 +14,7 @@ use Rattle.file_tree.specs.laws.Tables.{entry_of-free, entry_of-used, entry_in-t
 
 -- the words of a used entry encode it
 module _ (m : List ℕ) (e : ℕ) (small : e < 64) (used : IsUsed (table m) e) where
-  entry_encoded : entry_in (table m) e ≡ entry_told (page_words m (1 + e))
+  pub entry_encoded : entry_in (table m) e ≡ entry_told (page_words m (1 + e))
   entry_encoded = let words = page_words m (1 + e) in
       let is : entry_in (table m) e ≡ entry_of words = entry_in-table m e small in
       elim (eqb_tells (slice_index words 0) 0) [

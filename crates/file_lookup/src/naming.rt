@@ -1,6 +1,7 @@
 //! Lookups by name and by path (ISO/IEC 7816-4, 7.3.1 and 11.2.2).
 
-ghost use Rattle.std.specs.Prelude.{◌≡◌, ◌↔◌, ◌<◌, min, length, option_map, IfOk, IfSome, IsTrue, List, ℕ};
+ghost use Rattle.std.specs.Prelude.{◌≡◌, ◌↔◌, ◌<◌, ◌-◌, ◌%◌, min, length, option_map, slice_index, List, ℕ};
+ghost use Rattle.std.specs.Prelude.{IfOk, IfSome, IsTrue};
 ghost use Rattle.std.specs.Result.{result_err};
 ghost use Rattle.undo_journal.specs.Memory.{committed, IsReady};
 ghost use Rattle.undo_journal.specs.StoreCalls.{Learns, Reads};
@@ -13,10 +14,13 @@ ghost use Rattle.file_tree.specs.Entries.{byte_of};
 ghost use Rattle.file_tree.specs.Naming.{BearsName, BearsNameAt, TellsNamed};
 ghost use Rattle.file_lookup.specs.StoredFiles.{HasFile, HasTree, HasEntry};
 
-use crate::reading::{read_entry, read_second_word};
+use crate::reading::{read_entry, read_entry_word, read_second_word};
 use card_model::limits::MOST_NAME_BYTES;
 use file_tree::{ENTRIES_END, Entry, EntryKind, EntryNumber, Index, Reached};
 use undo_journal::{Board, Store, StoreErr};
+
+/// The first word of an entry's name.
+const NAME_WORD: u16 = 4;
 
 /// Returns true for the entry of a DF with this name.
 fn bears_name(entry: &Entry, name: &[u8]) -> bool
@@ -33,19 +37,34 @@ fn is_as_long(second: u32, name: &[u8]) -> bool
     usize::from(name_length).min(MOST_NAME_BYTES) == name.len()
 }
 
-/// An entry is a dedicated file's with this name. The whole entry is read only where its second word tells of a name as
-/// long.
+/// Returns true if a word has the last byte of a name at its place.
+fn ends_alike(word: u32, name: &[u8]) -> bool
+    requires { 0 < length name.now }
+    ensures { IsTrue result ↔ (byte_of word ((length name.now - 1) % 4)
+        ≡ slice_index name.now (length name.now - 1)) }
+{
+    let last = name.len() - 1;
+    word.to_be_bytes()[last % 4] == name[last]
+}
+
+/// An entry is a dedicated file's with this name. The whole entry is read only where the name is as long, and ends with
+/// the same byte: names that one issuer gives differ at the end.
 fn bears_name_at<B: Board>(
     store: &mut Store<B>,
     e: EntryNumber,
     name: &[u8],
 ) -> Result<bool, StoreErr>
-    requires { HasEntry store.old e }
+    requires entry { HasEntry store.old e }
+    requires some { 0 < length name.now }
     ensures { Learns store.old store.new result (λ bears. IsTrue bears
         ↔ BearsNameAt (table (committed store.old)) name.now e) }
 {
     let second = read_second_word(store, e)?;
     if !is_as_long(second, name) {
+        return Ok(false);
+    }
+    let last = read_entry_word(store, e, NAME_WORD + (name.len() - 1) as u16 / 4)?;
+    if !ends_alike(last, name) {
         return Ok(false);
     }
     let entry = read_entry(store, e)?;

@@ -121,6 +121,23 @@ pub(crate) fn read_second_word<B: Board>(
     store.read_committed(entry_address(e) + 1)
 }
 
+/// Returns a word of an entry.
+///
+/// # Errors
+/// The store's failure: power was lost, or the device failed.
+pub(crate) fn read_entry_word<B: Board>(
+    store: &mut Store<B>,
+    e: EntryNumber,
+    place: u16,
+) -> Result<u32, StoreErr>
+    requires entry { HasEntry store.old e }
+    requires place { place < 11 }
+    ensures word { IfOk result (λ w. w ≡ word (committed store.old) (1 + e) place) }
+    ensures store { Reads store.old store.new (result_err result) }
+{
+    store.read_committed(entry_address(e) + place)
+}
+
 /// Returns the head of an entry by its number. It reads two words, where a whole entry takes eleven.
 ///
 /// # Errors
