@@ -9,10 +9,13 @@ from collections.abc import Callable, Iterator
 from dataclasses import dataclass
 from pathlib import Path
 
+from ..chips.module import ALLOWED
 from .batches import batches_of
-from .edits import Edit, merged
+from .edits import Edit, Unfit, merged, read
 
 PARTS = ("src", "specs", "proofs")
+# the libraries of a crate, as earlier checks have built them
+BUILT = "out/rlib"
 # how the files of these parts are copied; what a build replaces, and never changes, is linked
 COPIES: dict[str, Callable[[str, str], object]] = dict.fromkeys(PARTS, shutil.copy2)
 # an error, with the goal that it is about, or a note that a goal is not proved, or that the search for it gave up
@@ -36,6 +39,17 @@ class Verdict:
     edit: str
     is_refused: bool
     said: str
+
+
+def read_folder(folder: Path, crate: Path) -> tuple[list[Edit], list[Verdict]]:
+    """The mutants of a folder, over the sources of a crate, and what is said of those that don't apply."""
+    edits, unfit = [], []
+    for path in sorted(folder.glob("*.edit")):
+        try:
+            edits.append(read(path, crate))
+        except Unfit as why:
+            unfit.append(Verdict(path.stem, False, f"doesn't apply: {why}"))
+    return edits, unfit
 
 
 def stands_on(top: Path, name: str) -> set[str]:
@@ -62,16 +76,22 @@ def copy_crate(top: Path, room: Path, name: str) -> None:
     shutil.copy(top / "HANDLES", room)
     subprocess.run(["git", "init", "--quiet", str(room)], check=True)
     for crate in copied:
-        for part in (*PARTS, "out/rlib"):
-            source = top / "crates" / crate / part
-            if source.is_dir():
-                shutil.copytree(source, room / "crates" / crate / part, copy_function=COPIES.get(part, link))
+        for part in (*PARTS, BUILT):
+            copy_part(top, room, crate, part)
 
 
-def run(folder: Path, *words: str) -> str:
-    """What a command of the toolchain prints, run in a folder."""
-    out, err = subprocess.PIPE, subprocess.STDOUT
-    return subprocess.run(["rt", *words], cwd=folder, check=False, text=True, stdout=out, stderr=err).stdout
+def copy_part(top: Path, room: Path, crate: str, part: str) -> None:
+    """Copies a folder of a crate, if it is there."""
+    source = top / "crates" / crate / part
+    if source.is_dir():
+        shutil.copytree(source, room / "crates" / crate / part, copy_function=COPIES.get(part, link))
+
+
+def run(folder: Path, *words: str, allowed: str = "") -> str:
+    """What a command of the toolchain prints, run in a folder. A crate may be allowed to declare functions of C."""
+    environment = {**os.environ, ALLOWED: allowed} if allowed else None
+    out, err, command = subprocess.PIPE, subprocess.STDOUT, ["rt", *words]
+    return subprocess.run(command, cwd=folder, env=environment, check=False, text=True, stdout=out, stderr=err).stdout
 
 
 def link(one: str, other: str) -> str:
@@ -89,18 +109,20 @@ def link_proof(one: str, other: str) -> str:
 
 
 class Crate:
-    """A crate in the copy, and what a check of its unchanged sources has proved."""
+    """A crate in the copy, and what a check of its unchanged sources has proved. It may stand on a crate of the copy
+    that declares functions of C, or be that crate."""
 
-    def __init__(self, room: Path, name: str) -> None:
+    def __init__(self, room: Path, name: str, allowed: str = "") -> None:
         self.name = name
         self.room = room
+        self.allowed = allowed
         self.folder = room / "crates" / name
         self.kept = self.folder / "out" / "incremental"
         self.seed = room / "seed" / name
 
     def prove(self) -> bool:
         """Proves the unchanged crate, and keeps its proofs for each of the tries."""
-        said = run(self.folder, "check", "--jobs", "1")
+        said = run(self.folder, "check", "--jobs", "1", allowed=self.allowed)
         if not re.search(r"^logic=proved", said, re.M):
             print(said, end="")
             return False
@@ -125,7 +147,7 @@ class Crate:
         only = [] if "" in modules else [word for module in modules for word in ("--only", module)]
         self.write(merged(self.folder, edits) if len(edits) > 1 else edits[0].texts)
         try:
-            return run(self.folder, "check", "--jobs", "1", *only).split("\n")
+            return run(self.folder, "check", "--jobs", "1", *only, allowed=self.allowed).split("\n")
         finally:
             self.write(old)
 
@@ -136,7 +158,7 @@ class Crate:
         tried.mkdir()
         for edit in edits:
             shutil.copy(edit.path, tried)
-        said = run(self.room, "must-fail", self.name)
+        said = run(self.room, "must-fail", self.name, allowed=self.allowed)
         shutil.rmtree(tried)
         return [alone_verdict(edit, said) for edit in edits]
 
