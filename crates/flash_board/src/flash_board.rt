@@ -189,7 +189,7 @@ impl<F: Flash> Board for FlashBoard<F> {
             return Err(DeviceErr::PowerLost);
         }
         let place = usize::from(secret);
-        let equal = kept == shown;
+        let equal = are_equal(kept, shown);
         if self.counts_end(place, equal) {
             self.go_dark();
             return Err(DeviceErr::PowerLost);
@@ -271,4 +271,15 @@ fn has_ended(counts: &[u64]) -> bool
     ensures { IsTrue result ↔ Contains counts.now COUNT_END }
 {
     counts.contains(&COUNT_END)
+}
+
+/// Returns true if two secrets are equal. How long that takes does not depend on their bytes.
+fn are_equal(kept: &[u8; 8], shown: &[u8; 8]) -> bool
+    ensures { IsTrue result ↔ (kept.now ≡ shown.now) }
+{
+    let mut differences = 0u8;
+    for k in 0..8 {
+        differences |= kept[k] ^ shown[k];
+    }
+    differences == 0
 }
