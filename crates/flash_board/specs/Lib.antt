@@ -7,4 +7,5 @@ pub mod PageTables
 pub mod Places
 pub mod Rings
 pub mod SlotParts
+pub mod Spares
 pub mod laws

@@ -1,9 +1,9 @@
 //! Flash devices, with what they promise.
-ghost use Rattle.std.specs.Prelude.{◌≡◌, ◌<◌, ◌≤◌, ◌+◌, ℕ, true, false, length, slice_index, IfOk, OnOk};
+ghost use Rattle.std.specs.Prelude.{◌≡◌, ◌<◌, ◌≤◌, ◌+◌, ◌-◌, ◌*◌, ℕ, true, false, length, slice_index, IfOk, OnOk};
 ghost use Rattle.nvm_board.specs.Facts.{AreWords};
 ghost use Rattle.flash_board.specs.FlashCalls.{FlashState, Lights, SameElsewhere, IsThere, AreFilled};
-ghost use Rattle.flash_board.specs.FlashBlocks.{block_start, block_size, flash_size};
-ghost use Rattle.flash_board.specs.declared.flash.TheConstants.{BLANK, BLOCKS};
+ghost use Rattle.flash_board.specs.FlashBlocks.{area_size, witness_start, flash_size};
+ghost use Rattle.flash_board.specs.declared.flash.TheConstants.{BLANK};
 ghost use Rattle.flash_board.specs.declared.layout.TheConstants.{PAGES, SPARES};
 
 use nvm_board::DeviceErr;
@@ -14,13 +14,21 @@ pub const BLANK: u32 = 0xFFFF_FFFF;
 /// The number of blocks of a flash.
 pub const BLOCKS: u8 = 3;
 
-/// A flash device of three blocks: area A, area B and the witness. A block is what `erase` erases, one or more sectors
-/// of the chip. The number of slots of an area is the device's.
+/// A flash device of three blocks: area A, area B and the witness. A block has one or more sectors, of any size: a
+/// sector is what `erase` erases. The numbers of slots and of sectors of an area are the device's.
 pub trait Flash {
     /// The number of slots of an area.
     const SLOTS: u16;
 
+    /// The number of sectors of an area. The witness has one.
+    const SECTORS: u16;
+
     ghost SLOTS: { ℕ };
+
+    ghost SECTORS: { ℕ };
+
+    /// Where each sector begins: those of area A, those of area B, and the witness.
+    ghost sector_start: { ℕ → ℕ };
 
     /// All that contracts know of the flash.
     ghost state: { Self → FlashState };
@@ -45,14 +53,14 @@ pub trait Flash {
         ensures work { (state self.new).operations ≤ (state self.old).operations + 1 }
         ensures light { Lights (state self.old) (state self.new) result };
 
-    /// Erases a block. After an error each of its words holds anything. No other word changes.
-    fn erase(&mut self, block: u8) -> Result<(), DeviceErr>
+    /// Erases a sector. After an error each of its words holds anything. No other word changes.
+    fn erase(&mut self, sector: u16) -> Result<(), DeviceErr>
         requires lit { (state self.old).dark ≡ false }
-        requires block { block < BLOCKS }
-        ensures done { OnOk result (AreFilled (state self.new).words (block_start SLOTS block)
-            (block_size SLOTS block) BLANK) }
-        ensures elsewhere { SameElsewhere (state self.old).words (block_start SLOTS block) (block_size SLOTS block)
-            (state self.new).words }
+        requires sector { sector ≤ 2 * SECTORS }
+        ensures done { OnOk result (AreFilled (state self.new).words (sector_start sector)
+            (sector_start (sector + 1) - sector_start sector) BLANK) }
+        ensures elsewhere { SameElsewhere (state self.old).words (sector_start sector)
+            (sector_start (sector + 1) - sector_start sector) (state self.new).words }
         ensures work { (state self.new).operations ≤ (state self.old).operations + 1 }
         ensures light { Lights (state self.old) (state self.new) result };
 
@@ -63,6 +71,14 @@ pub trait Flash {
 
     /// An area takes each page once, with slots to pass over. The slots have numbers of 16 bits.
     ghost slots_fit: { (PAGES + SPARES < SLOTS) × (SLOTS < 65536) };
+
+    /// The sectors lie one behind the other, and their numbers have 15 bits.
+    ghost sectors_rise: { (s : ℕ) → sector_start s ≤ sector_start (s + 1) };
+
+    /// Each block has sectors of its own.
+    ghost sectors_fit: { (sector_start 0 ≡ 0) × (sector_start SECTORS ≡ area_size SLOTS)
+        × (sector_start (2 * SECTORS) ≡ witness_start SLOTS) × (sector_start (2 * SECTORS + 1) ≡ flash_size SLOTS)
+        × (0 < SECTORS) × (SECTORS < 32768) };
 }
 
 /// A flash whose power can be switched.

@@ -41,7 +41,7 @@ impl<F: Flash> Model for FlashLog<F> {
 
     ghost view = { λ l. state_of PAGES F.SLOTS (F.state l.flash) };
 
-    ghost invariant = { λ l. IsLog PAGES F.SLOTS (F.state l.flash).words l.place };
+    ghost invariant = { λ l. IsLog PAGES F.SLOTS F.SECTORS F.sector_start (F.state l.flash).words l.place };
 }
 
 impl<F: Flash> FlashLog<F> {
@@ -61,6 +61,9 @@ impl<F: Flash> FlashLog<F> {
                 turn: 0,
                 next: 0,
                 tried: 0,
+                erased: 0,
+                copied: 0,
+                behind: 0,
             },
         }
     }
@@ -122,7 +125,7 @@ impl<F: Flash> FlashLog<F> {
             ⊎ (self.new.words ≡ written self.old.words (16 * page + first) words.now) }
         ensures done { OnOk result (self.new.words ≡ written self.old.words (16 * page + first) words.now) }
         ensures light { Tries TRIES self.old self.new result }
-        ensures work { Costs 2054 2056 self.old self.new }
+        ensures work { Costs (2088 + F.SECTORS) (2090 + F.SECTORS) self.old self.new }
     {
         write_at(&mut self.flash, &mut self.place, page, first, words)
     }

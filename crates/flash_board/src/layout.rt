@@ -15,6 +15,12 @@ pub const SPARES: u16 = 255;
 /// The number of times that a write is tried, until a Fault of the flash is returned.
 pub const TRIES: u8 = 8;
 
+/// The number of pages that one step of a move copies.
+pub const STEP_PAGES: u16 = 16;
+
+/// The number of steps that copy all pages.
+pub const COPY_STEPS: u16 = 64;
+
 /// The number of words of a slot: a record, and its mark.
 pub const SLOT_WORDS: u32 = 20;
 

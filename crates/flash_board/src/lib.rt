@@ -2,7 +2,9 @@
 //! the flash was programming, or in the block that it was erasing.
 #![tactic(auto)]
 
+mod ahead;
 mod cut_flash;
+mod erasing;
 mod flash;
 mod flash_board;
 mod flash_log;

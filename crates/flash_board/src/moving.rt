@@ -14,7 +14,7 @@ use crate::record::{Record, program_record};
 use nvm_board::DeviceErr;
 
 /// Puts a record into the first slot from `next` on that takes it, below `end`. A slot that fails is passed over.
-fn put_in_spare<F: Flash>(
+pub fn put_in_spare<F: Flash>(
     flash: &mut F,
     area: u8,
     next: u16,

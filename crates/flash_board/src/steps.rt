@@ -6,13 +6,14 @@ ghost use Rattle.flash_board.specs.FlashLogs.{words_of};
 ghost use Rattle.flash_board.specs.Places.{IsLog, IsPlaceOf};
 ghost use Rattle.flash_board.specs.declared.layout.TheConstants.{PAGES, TRIES};
 
+use crate::ahead::take_step;
 use crate::flash::Flash;
 use crate::image::read_page_word;
 use crate::layout::TRIES;
 use crate::place::PageMap;
 use crate::scan::scan;
 use crate::turns::{find_turn, home, move_to_a, move_to_b, pass_witness};
-use crate::writing::write_run;
+use crate::writing::{write_ahead, write_run};
 use nvm_board::DeviceErr;
 
 /// Passes over the slots that were tried.
@@ -31,10 +32,10 @@ fn later<F: Flash>(next: u16, tried: u16) -> u16
 /// Finds the pages, if they are not known.
 pub fn find_pages<F: Flash>(flash: &mut F, place: &mut PageMap) -> Result<(), DeviceErr>
     requires lit { (F.state flash.old).dark ≡ false }
-    requires log { IsLog PAGES F.SLOTS (F.state flash.old).words place.old }
+    requires log { IsLog PAGES F.SLOTS F.SECTORS F.sector_start (F.state flash.old).words place.old }
     ensures words { (F.state flash.new).words ≡ (F.state flash.old).words }
     ensures work { (F.state flash.new).operations ≡ (F.state flash.old).operations }
-    ensures log { IsLog PAGES F.SLOTS (F.state flash.new).words place.new }
+    ensures log { IsLog PAGES F.SLOTS F.SECTORS F.sector_start (F.state flash.new).words place.new }
     ensures ready { OnOk result (place.new.ready ≡ true) }
     ensures light { Lights (F.state flash.old) (F.state flash.new) result }
 {
@@ -45,6 +46,9 @@ pub fn find_pages<F: Flash>(flash: &mut F, place: &mut PageMap) -> Result<(), De
     let next = scan(flash, home(turn), &mut place.table)?;
     place.turn = turn;
     place.next = later::<F>(next, place.tried);
+    place.erased = 0;
+    place.copied = 0;
+    place.behind = 0;
     place.ready = true;
     Ok(())
 }
@@ -52,47 +56,74 @@ pub fn find_pages<F: Flash>(flash: &mut F, place: &mut PageMap) -> Result<(), De
 /// Makes room for a record.
 pub fn make_room<F: Flash>(flash: &mut F, place: &mut PageMap) -> Result<(), DeviceErr>
     requires lit { (F.state flash.old).dark ≡ false }
-    requires log { IsLog PAGES F.SLOTS (F.state flash.old).words place.old }
+    requires log { IsLog PAGES F.SLOTS F.SECTORS F.sector_start (F.state flash.old).words place.old }
     requires ready { place.old.ready ≡ true }
     ensures words { words_of PAGES F.SLOTS (F.state flash.new).words
         ≡ words_of PAGES F.SLOTS (F.state flash.old).words }
-    ensures log { IsLog PAGES F.SLOTS (F.state flash.new).words place.new }
+    ensures log { IsLog PAGES F.SLOTS F.SECTORS F.sector_start (F.state flash.new).words place.new }
     ensures ready { OnOk result (place.new.ready ≡ true) }
     ensures room { OnOk result (place.new.next < F.SLOTS) }
     ensures light { Tries 1 (F.state flash.old) (F.state flash.new) result }
-    ensures work { Costs 2052 2 (F.state flash.old) (F.state flash.new) }
+    ensures work { Costs (2051 + F.SECTORS) 2 (F.state flash.old) (F.state flash.new) }
 {
     if place.next < F::SLOTS {
         return Ok(());
     }
     place.ready = false;
     place.tried = 0;
+    place.erased = 0;
+    place.copied = 0;
+    place.behind = 0;
     if place.turn == 0 {
-        let next = move_to_b(flash, &mut place.table)?;
+        let free_in_b = move_to_b(flash, &mut place.table)?;
         place.turn = 1;
-        place.next = next;
+        place.next = free_in_b;
         place.ready = true;
         return Ok(());
     }
     if place.turn == 1 {
         pass_witness(flash)?;
     }
-    let next = move_to_a(flash, &mut place.table)?;
+    let free_in_a = move_to_a(flash, &mut place.table)?;
     place.turn = 0;
-    place.next = next;
+    place.next = free_in_a;
     place.ready = true;
+    Ok(())
+}
+
+/// Makes ready for a write: finds the pages, takes a step of the move, and makes room.
+fn prepare<F: Flash>(flash: &mut F, place: &mut PageMap) -> Result<(), DeviceErr>
+    requires lit { (F.state flash.old).dark ≡ false }
+    requires log { IsLog PAGES F.SLOTS F.SECTORS F.sector_start (F.state flash.old).words place.old }
+    ensures words { words_of PAGES F.SLOTS (F.state flash.new).words
+        ≡ words_of PAGES F.SLOTS (F.state flash.old).words }
+    ensures log { IsLog PAGES F.SLOTS F.SECTORS F.sector_start (F.state flash.new).words place.new }
+    ensures ready { OnOk result (place.new.ready ≡ true) }
+    ensures room { OnOk result ((place.new.next < F.SLOTS) × (place.new.behind < F.SLOTS)) }
+    ensures light { Tries 1 (F.state flash.old) (F.state flash.new) result }
+    ensures work { Costs (2084 + F.SECTORS) 2 (F.state flash.old) (F.state flash.new) }
+{
+    find_pages(flash, place)?;
+    take_step(flash, place)?;
+    make_room(flash, place)?;
+    if place.behind < F::SLOTS {
+        return Ok(());
+    }
+    place.erased = 0;
+    place.copied = 0;
+    place.behind = 0;
     Ok(())
 }
 
 /// Reads a word of the board.
 pub fn read_at<F: Flash>(flash: &mut F, place: &mut PageMap, at: u16) -> Result<u32, DeviceErr>
     requires lit { (F.state flash.old).dark ≡ false }
-    requires log { IsLog PAGES F.SLOTS (F.state flash.old).words place.old }
+    requires log { IsLog PAGES F.SLOTS F.SECTORS F.sector_start (F.state flash.old).words place.old }
     requires at { at < 16 * PAGES }
     ensures word { IfOk result (λ w. w ≡ slice_index (words_of PAGES F.SLOTS (F.state flash.old).words) at) }
     ensures words { (F.state flash.new).words ≡ (F.state flash.old).words }
     ensures work { (F.state flash.new).operations ≡ (F.state flash.old).operations }
-    ensures log { IsLog PAGES F.SLOTS (F.state flash.new).words place.new }
+    ensures log { IsLog PAGES F.SLOTS F.SECTORS F.sector_start (F.state flash.new).words place.new }
     ensures light { Lights (F.state flash.old) (F.state flash.new) result }
 {
     find_pages(flash, place)?;
@@ -109,7 +140,7 @@ fn write_once<F: Flash>(
     words: &[u32],
 ) -> Result<(), DeviceErr>
     requires lit { (F.state flash.old).dark ≡ false }
-    requires log { IsLog PAGES F.SLOTS (F.state flash.old).words place.old }
+    requires log { IsLog PAGES F.SLOTS F.SECTORS F.sector_start (F.state flash.old).words place.old }
     requires page { page < PAGES }
     requires run { first + length words.now ≤ 16 }
     ensures whole { (words_of PAGES F.SLOTS (F.state flash.new).words
@@ -118,14 +149,14 @@ fn write_once<F: Flash>(
         ≡ written (words_of PAGES F.SLOTS (F.state flash.old).words) (16 * page + first) words.now) }
     ensures done { OnOk result (words_of PAGES F.SLOTS (F.state flash.new).words
         ≡ written (words_of PAGES F.SLOTS (F.state flash.old).words) (16 * page + first) words.now) }
-    ensures log { IsLog PAGES F.SLOTS (F.state flash.new).words place.new }
+    ensures log { IsLog PAGES F.SLOTS F.SECTORS F.sector_start (F.state flash.new).words place.new }
     ensures light { Tries 1 (F.state flash.old) (F.state flash.new) result }
-    ensures work { Costs 2054 2 (F.state flash.old) (F.state flash.new) }
+    ensures work { Costs (2088 + F.SECTORS) 2 (F.state flash.old) (F.state flash.new) }
 {
-    find_pages(flash, place)?;
-    make_room(flash, place)?;
+    prepare(flash, place)?;
     place.ready = false;
     place.tried = place.next + 1;
+    let behind = write_ahead(flash, place, page, first, words)?;
     write_run(
         flash,
         home(place.turn),
@@ -136,6 +167,7 @@ fn write_once<F: Flash>(
         words,
     )?;
     place.next += 1;
+    place.behind = behind;
     place.ready = true;
     Ok(())
 }
@@ -150,7 +182,7 @@ pub fn write_at<F: Flash>(
     words: &[u32],
 ) -> Result<(), DeviceErr>
     requires lit { (F.state flash.old).dark ≡ false }
-    requires log { IsLog PAGES F.SLOTS (F.state flash.old).words place.old }
+    requires log { IsLog PAGES F.SLOTS F.SECTORS F.sector_start (F.state flash.old).words place.old }
     requires page { page < PAGES }
     requires run { first + length words.now ≤ 16 }
     ensures whole { (words_of PAGES F.SLOTS (F.state flash.new).words
@@ -159,9 +191,9 @@ pub fn write_at<F: Flash>(
         ≡ written (words_of PAGES F.SLOTS (F.state flash.old).words) (16 * page + first) words.now) }
     ensures done { OnOk result (words_of PAGES F.SLOTS (F.state flash.new).words
         ≡ written (words_of PAGES F.SLOTS (F.state flash.old).words) (16 * page + first) words.now) }
-    ensures log { IsLog PAGES F.SLOTS (F.state flash.new).words place.new }
+    ensures log { IsLog PAGES F.SLOTS F.SECTORS F.sector_start (F.state flash.new).words place.new }
     ensures light { Tries TRIES (F.state flash.old) (F.state flash.new) result }
-    ensures work { Costs 2054 2056 (F.state flash.old) (F.state flash.new) }
+    ensures work { Costs (2088 + F.SECTORS) (2090 + F.SECTORS) (F.state flash.old) (F.state flash.new) }
 {
     for _ in 1..TRIES {
         match write_once(flash, place, page, first, words) {

@@ -7,8 +7,10 @@ ghost use Rattle.flash_board.specs.FlashBlocks.{area_size};
 ghost use Rattle.flash_board.specs.FlashLogs.{base_in, close_b, close_of, page_word, turn_by, turn_of, words_of};
 ghost use Rattle.flash_board.specs.FlashLogs.{is_closed as has_closed};
 ghost use Rattle.flash_board.specs.Rings.{IsRing};
+ghost use Rattle.flash_board.specs.Spares.{spare_in};
 ghost use Rattle.flash_board.specs.declared.layout.TheConstants.{PAGES, SPARES};
 
+use crate::erasing::{erase_area, erase_flash, erase_witness};
 use crate::flash::Flash;
 use crate::image::PageTable;
 use crate::moving::copy_pages;
@@ -24,6 +26,17 @@ pub fn home(turn: u8) -> u8
     ensures two { turn ≡ 2 → result ≡ 1 }
 {
     if turn == 0 { 0 } else { 1 }
+}
+
+/// The area that the pages move to.
+pub fn spare(turn: u8) -> u8
+    requires { turn < 3 }
+    ensures is { (slots : ℕ) → base_in slots result ≡ spare_in slots turn }
+    ensures most { result < 2 }
+    ensures zero { turn ≡ 0 → result ≡ 1 }
+    ensures other { turn ≢ 0 → result ≡ 0 }
+{
+    if turn == 0 { 1 } else { 0 }
 }
 
 /// Finds the turn.
@@ -68,7 +81,7 @@ pub fn pass_witness<F: Flash>(flash: &mut F) -> Result<(), DeviceErr>
     ensures work { (F.state flash.new).operations ≤ (F.state flash.old).operations + 2 }
     ensures light { Lights (F.state flash.old) (F.state flash.new) result }
 {
-    flash.erase(2)?;
+    erase_witness(flash)?;
     close(flash, 1)?;
     Ok(())
 }
@@ -93,9 +106,9 @@ fn erase_and_copy<F: Flash>(
     ensures free { IfOk result (λ n. AreFree (F.state flash.new).words (base_in F.SLOTS to) n F.SLOTS) }
     ensures room { IfOk result (λ n. n ≤ PAGES + SPARES) }
     ensures light { Tries 1 (F.state flash.old) (F.state flash.new) result }
-    ensures work { Costs 2049 2 (F.state flash.old) (F.state flash.new) }
+    ensures work { Costs (2048 + F.SECTORS) 2 (F.state flash.old) (F.state flash.new) }
 {
-    flash.erase(to)?;
+    erase_area(flash, to)?;
     let next = copy_pages(flash, from, to, table)?;
     Ok(next)
 }
@@ -114,7 +127,7 @@ pub fn move_to_b<F: Flash>(flash: &mut F, table: &mut PageTable) -> Result<u16, 
     ensures free { IfOk result (λ n. AreFree (F.state flash.new).words (area_size F.SLOTS) n F.SLOTS) }
     ensures room { IfOk result (λ n. n ≤ PAGES + SPARES) }
     ensures light { Tries 1 (F.state flash.old) (F.state flash.new) result }
-    ensures work { Costs 2050 2 (F.state flash.old) (F.state flash.new) }
+    ensures work { Costs (2049 + F.SECTORS) 2 (F.state flash.old) (F.state flash.new) }
 {
     let next = erase_and_copy(flash, 0, 1, table)?;
     close(flash, 0)?;
@@ -134,7 +147,7 @@ pub fn move_to_a<F: Flash>(flash: &mut F, table: &mut PageTable) -> Result<u16, 
     ensures free { IfOk result (λ n. AreFree (F.state flash.new).words 0 n F.SLOTS) }
     ensures room { IfOk result (λ n. n ≤ PAGES + SPARES) }
     ensures light { Tries 1 (F.state flash.old) (F.state flash.new) result }
-    ensures work { Costs 2050 2 (F.state flash.old) (F.state flash.new) }
+    ensures work { Costs (2049 + F.SECTORS) 2 (F.state flash.old) (F.state flash.new) }
 {
     let next = erase_and_copy(flash, 1, 0, table)?;
     close(flash, 2)?;
@@ -161,12 +174,10 @@ pub fn format_flash<F: Flash>(flash: &mut F) -> Result<(), DeviceErr>
     ensures ring { OnOk result (IsRing F.SLOTS (F.state flash.new).words) }
     ensures blank { OnOk result ((i : ℕ) → i < 16 * PAGES
         → slice_index (words_of PAGES F.SLOTS (F.state flash.new).words) i ≡ 0) }
-    ensures work { (F.state flash.new).operations ≤ (F.state flash.old).operations + 4 }
+    ensures work { (F.state flash.new).operations ≤ (F.state flash.old).operations + 2 * F.SECTORS + 2 }
     ensures light { Lights (F.state flash.old) (F.state flash.new) result }
 {
-    flash.erase(0)?;
-    flash.erase(1)?;
-    flash.erase(2)?;
+    erase_flash(flash)?;
     close(flash, 2)?;
     Ok(())
 }

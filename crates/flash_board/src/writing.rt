@@ -1,16 +1,21 @@
 //! A write of the board: a record in a free slot.
-ghost use Rattle.std.specs.Prelude.{◌≡◌, ◌⊎◌, ◌<◌, ◌≤◌, ◌+◌, ◌*◌, false, length, OnOk};
+ghost use Rattle.std.specs.Prelude.{◌≡◌, ◌⊎◌, ◌<◌, ◌≤◌, ◌+◌, ◌*◌, false, length, IfOk, OnOk};
 ghost use Rattle.nvm_board.specs.History.{written};
-ghost use Rattle.flash_board.specs.FlashCalls.{Lights};
+ghost use Rattle.flash_board.specs.FlashCalls.{Costs, Lights, SameElsewhere, Tries};
 ghost use Rattle.flash_board.specs.PageTables.{IsPageTable, AreFree};
 ghost use Rattle.flash_board.specs.FlashLogs.{base_in, turn_of, words_of};
-ghost use Rattle.flash_board.specs.Rings.{SameMarks};
-ghost use Rattle.flash_board.specs.declared.layout.TheConstants.{PAGES};
+ghost use Rattle.flash_board.specs.Places.{IsPlaceOf};
+ghost use Rattle.flash_board.specs.Rings.{IsRing, SameMarks};
+ghost use Rattle.flash_board.specs.Spares.{IsSpare, spare_in};
+ghost use Rattle.flash_board.specs.declared.layout.TheConstants.{PAGES, STEP_PAGES};
 
 use crate::flash::Flash;
 use crate::image::{PageTable, overlay, record_of};
-use crate::layout::slot_at;
+use crate::layout::{STEP_PAGES, slot_at};
+use crate::moving::put_in_spare;
+use crate::place::PageMap;
 use crate::record::program_record;
+use crate::turns::{home, spare};
 use nvm_board::DeviceErr;
 
 /// Writes a run of a page. At every exit all words of the run are old, or all are new.
@@ -38,6 +43,8 @@ pub fn write_run<F: Flash>(
         ≡ written (words_of PAGES F.SLOTS (F.state flash.old).words) (16 * page + first) words.now) }
     ensures index { OnOk result (IsPageTable PAGES (F.state flash.new).words (base_in F.SLOTS area) F.SLOTS table.new) }
     ensures free { OnOk result (AreFree (F.state flash.new).words (base_in F.SLOTS area) (next + 1) F.SLOTS) }
+    ensures elsewhere { SameElsewhere (F.state flash.old).words (base_in F.SLOTS area) (20 * F.SLOTS)
+        (F.state flash.new).words }
     ensures marks { SameMarks F.SLOTS (F.state flash.old).words (F.state flash.new).words }
     ensures work { (F.state flash.new).operations ≤ (F.state flash.old).operations + 2 }
     ensures light { Lights (F.state flash.old) (F.state flash.new) result }
@@ -47,4 +54,38 @@ pub fn write_run<F: Flash>(
     program_record(flash, slot_at::<F>(area, next), &found)?;
     table[usize::from(page)] = next + 1;
     Ok(())
+}
+
+/// Puts the record of a write into the other area too, if its page was copied there. Returns the first slot there that
+/// is free.
+pub fn write_ahead<F: Flash>(
+    flash: &mut F,
+    place: &PageMap,
+    page: u16,
+    first: u8,
+    words: &[u32],
+) -> Result<u16, DeviceErr>
+    requires lit { (F.state flash.old).dark ≡ false }
+    requires place { IsRing F.SLOTS (F.state flash.old).words
+        × IsPlaceOf PAGES F.SLOTS F.SECTORS F.sector_start (F.state flash.old).words place.now }
+    requires room { place.now.behind < F.SLOTS }
+    requires page { page < PAGES }
+    requires run { first + length words.now ≤ 16 }
+    ensures elsewhere { SameElsewhere (F.state flash.old).words (spare_in F.SLOTS place.now.turn) (20 * F.SLOTS)
+        (F.state flash.new).words }
+    ensures same { place.now.turn ≡ 1 → (F.state flash.new).words ≡ (F.state flash.old).words }
+    ensures spare { IfOk result (λ n. IsSpare PAGES F.SLOTS F.SECTORS F.sector_start (F.state flash.new).words
+        (written (words_of PAGES F.SLOTS (F.state flash.old).words) (16 * page + first) words.now)
+        place.now.turn place.now.erased place.now.copied n) }
+    ensures light { Tries 1 (F.state flash.old) (F.state flash.new) result }
+    ensures work { Costs 2 2 (F.state flash.old) (F.state flash.new) }
+{
+    let copied = STEP_PAGES * place.copied;
+    if page >= copied {
+        return Ok(place.behind);
+    }
+    let mut found = record_of(flash, home(place.turn), &place.table, page)?;
+    overlay(&mut found, first, words);
+    let slot = put_in_spare(flash, spare(place.turn), place.behind, F::SLOTS, &found)?;
+    Ok(slot + 1)
 }

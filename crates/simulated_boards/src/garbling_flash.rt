@@ -1,9 +1,8 @@
 //! A flash in working memory that leaves garbage where it loses power.
-ghost use Rattle.std.specs.Prelude.{◌≡◌, ◌+◌, ◌≤◌, ◌<◌, length, is_some, None, IfOk, true, false};
+ghost use Rattle.std.specs.Prelude.{◌≡◌, ◌+◌, ◌-◌, ◌*◌, ◌≤◌, ◌<◌, length, is_some, None, IfOk, true, false};
 ghost use Rattle.nvm_board.specs.Facts.{AreWords};
-ghost use Rattle.flash_board.specs.FlashBlocks.{block_start, block_size};
-ghost use Rattle.flash_board.specs.declared.flash.TheConstants.{BLOCKS};
-ghost use Rattle.simulated_boards.specs.declared.garbling_flash.TheConstants.{FLASH_WORDS, SLOTS};
+ghost use Rattle.simulated_boards.specs.GarbledSectorParts.{garbling_sector};
+ghost use Rattle.simulated_boards.specs.declared.garbling_flash.TheConstants.{FLASH_WORDS, SECTORS};
 
 use crate::garbage::{blank_run, garble_run, next_random, put_run};
 use flash_board::{BLANK, CutFlash, Flash, FlashSocket};
@@ -13,8 +12,8 @@ use std::alloc::{AllocError, Global};
 /// The number of slots of an area.
 const SLOTS: u16 = 1280;
 
-/// The number of words of an area.
-const AREA_WORDS: u32 = 25602;
+/// The number of sectors of an area.
+const SECTORS: u16 = 51;
 
 /// The number of words of the flash.
 const FLASH_WORDS: u32 = 51206;
@@ -78,12 +77,19 @@ impl GarblingFlash {
 }
 
 impl Flash for GarblingFlash {
+    ghost use Rattle.simulated_boards.specs.GarbledSectorParts.{garbling_sector, garbling_sectors_rise};
     ghost use Rattle.simulated_boards.specs.GarblingStates.{garbling_state};
-    ghost use Rattle.std.proofs.Common.{lit<};
+    ghost use Rattle.std.proofs.Common.{lit<, refl};
 
     const SLOTS: u16 = SLOTS;
 
+    const SECTORS: u16 = SECTORS;
+
     ghost SLOTS = { 1280 };
+
+    ghost SECTORS = { 51 };
+
+    ghost sector_start = { garbling_sector };
 
     ghost state = { garbling_state };
 
@@ -102,13 +108,19 @@ impl Flash for GarblingFlash {
         Ok(())
     }
 
-    fn erase(&mut self, block: u8) -> Result<(), DeviceErr> {
+    fn erase(&mut self, sector: u16) -> Result<(), DeviceErr> {
         if self.begin() {
-            garble_run(&mut self.words, start(block), size(block), &[], self.random);
+            garble_run(
+                &mut self.words,
+                start(sector),
+                size(sector),
+                &[],
+                self.random,
+            );
             self.dark = true;
             return Err(DeviceErr::PowerLost);
         }
-        blank_run(&mut self.words, start(block), size(block));
+        blank_run(&mut self.words, start(sector), size(sector));
         Ok(())
     }
 
@@ -117,6 +129,10 @@ impl Flash for GarblingFlash {
     ghost words_fit = { λ f. f.words_fit };
 
     ghost slots_fit = { (lit< tt, lit< tt) };
+
+    ghost sectors_rise = { garbling_sectors_rise };
+
+    ghost sectors_fit = { (refl, refl, refl, refl, lit< tt, lit< tt) };
 }
 
 impl FlashSocket for GarblingFlash {
@@ -143,22 +159,22 @@ impl CutFlash for GarblingFlash {
     ghost faultless = { λ f. refl };
 }
 
-/// Returns the address of a block.
-fn start(block: u8) -> usize
-    ensures { result ≡ block_start SLOTS block }
+/// Returns the address of a sector.
+fn start(sector: u16) -> usize
+    ensures { result ≡ garbling_sector sector }
 {
-    match block {
-        0 => 0,
-        1 => AREA_WORDS as usize,
-        _ => 2 * AREA_WORDS as usize,
+    if sector <= 2 * SECTORS {
+        502 * usize::from(sector)
+    } else {
+        FLASH_WORDS as usize
     }
 }
 
-/// Returns the number of words of a block.
-fn size(block: u8) -> usize
-    requires { block < BLOCKS }
-    ensures is { result ≡ block_size SLOTS block }
-    ensures fits { block_start SLOTS block + result ≤ FLASH_WORDS }
+/// Returns the number of words of a sector.
+fn size(sector: u16) -> usize
+    requires { sector ≤ 2 * SECTORS }
+    ensures is { result ≡ garbling_sector (sector + 1) - garbling_sector sector }
+    ensures fits { garbling_sector sector + result ≤ FLASH_WORDS }
 {
-    if block == 2 { 2 } else { AREA_WORDS as usize }
+    start(sector + 1) - start(sector)
 }

@@ -1,2 +1,3 @@
 pub mod SimCuts
+pub mod SimSectorParts
 pub mod SimStates

@@ -1,10 +1,9 @@
 //! A flash in working memory that leaves garbage where it loses power or fails.
-ghost use Rattle.std.specs.Prelude.{◌≡◌, ◌≢◌, ◌+◌, ◌≤◌, ◌<◌, length, IfOk, true, false};
+ghost use Rattle.std.specs.Prelude.{◌≡◌, ◌≢◌, ◌+◌, ◌-◌, ◌*◌, ◌≤◌, ◌<◌, length, IfOk, true, false};
 ghost use Rattle.nvm_board.specs.Facts.{AreWords};
-ghost use Rattle.flash_board.specs.FlashBlocks.{block_start, block_size, flash_size};
 ghost use Rattle.flash_board.specs.FlashCalls.{SameElsewhere, IsThere, AreFilled};
-ghost use Rattle.flash_board.specs.declared.flash.TheConstants.{BLOCKS};
-ghost use Rattle.store_tests.specs.declared.sim_flash.TheConstants.{FLASH_WORDS, SLOTS};
+ghost use Rattle.store_tests.specs.SimSectorParts.{sim_sector};
+ghost use Rattle.store_tests.specs.declared.sim_flash.TheConstants.{FLASH_WORDS};
 ghost use Rattle.store_tests.specs.SimCuts.{cuts_set};
 
 use flash_board::{BLANK, Flash, FlashSocket};
@@ -13,6 +12,9 @@ use std::alloc::{AllocError, Global};
 
 /// The number of slots of an area.
 const SLOTS: u16 = 1280;
+
+/// The number of sectors of an area.
+const SECTORS: u16 = 2;
 
 /// The number of words of the flash.
 const FLASH_WORDS: u32 = 51206;
@@ -118,24 +120,24 @@ fn after_one(fails: bool, left: u32) -> u32
     left.saturating_sub(1)
 }
 
-/// The first word of a block.
-fn start(block: u8) -> usize
-    ensures is { result ≡ block_start SLOTS block }
+/// The first word of a sector.
+fn start(sector: u16) -> usize
+    ensures is { result ≡ sim_sector sector }
 {
-    match block {
-        0 => 0,
-        1 => 25602,
-        _ => 51204,
+    if sector <= 2 * SECTORS {
+        12801 * usize::from(sector)
+    } else {
+        FLASH_WORDS as usize
     }
 }
 
-/// The number of words of a block.
-fn size(block: u8) -> usize
-    requires { block < BLOCKS }
-    ensures is { result ≡ block_size SLOTS block }
-    ensures fits { block_start SLOTS block + result ≤ FLASH_WORDS }
+/// The number of words of a sector.
+fn size(sector: u16) -> usize
+    requires { sector ≤ 4 }
+    ensures is { result ≡ sim_sector (sector + 1) - sim_sector sector }
+    ensures fits { sim_sector sector + result ≤ FLASH_WORDS }
 {
-    if block == 2 { 2 } else { 25602 }
+    start(sector + 1) - start(sector)
 }
 
 impl SimFlash {
@@ -195,12 +197,19 @@ impl SimFlash {
 }
 
 impl Flash for SimFlash {
+    ghost use Rattle.store_tests.specs.SimSectorParts.{sim_sector, sim_sectors_rise};
     ghost use Rattle.store_tests.specs.SimStates.{sim_state};
-    ghost use Rattle.std.proofs.Common.{lit<};
+    ghost use Rattle.std.proofs.Common.{lit<, refl};
 
     const SLOTS: u16 = SLOTS;
 
+    const SECTORS: u16 = SECTORS;
+
     ghost SLOTS = { 1280 };
+
+    ghost SECTORS = { 2 };
+
+    ghost sector_start = { sim_sector };
 
     ghost state = { sim_state };
 
@@ -242,23 +251,35 @@ impl Flash for SimFlash {
         Ok(())
     }
 
-    fn erase(&mut self, block: u8) -> Result<(), DeviceErr> {
+    fn erase(&mut self, sector: u16) -> Result<(), DeviceErr> {
         self.operations = self.operations.saturating_add(1);
         self.random = next_random(self.random);
         let stops = self.left == 1;
         if stops && !self.fails {
             self.left = 0;
-            garble_run(&mut self.words, start(block), size(block), &[], self.random);
+            garble_run(
+                &mut self.words,
+                start(sector),
+                size(sector),
+                &[],
+                self.random,
+            );
             self.dark = true;
             return Err(DeviceErr::PowerLost);
         }
         self.left = after_one(self.fails, self.left);
         if stops && self.faults < u64::MAX {
-            garble_run(&mut self.words, start(block), size(block), &[], self.random);
+            garble_run(
+                &mut self.words,
+                start(sector),
+                size(sector),
+                &[],
+                self.random,
+            );
             self.faults += 1;
             return Err(DeviceErr::Fault);
         }
-        blank_run(&mut self.words, start(block), size(block));
+        blank_run(&mut self.words, start(sector), size(sector));
         Ok(())
     }
 
@@ -267,6 +288,10 @@ impl Flash for SimFlash {
     ghost words_fit = { λ f. f.words_fit };
 
     ghost slots_fit = { (lit< tt, lit< tt) };
+
+    ghost sectors_rise = { sim_sectors_rise };
+
+    ghost sectors_fit = { (refl, refl, refl, refl, lit< tt, lit< tt) };
 }
 
 impl FlashSocket for SimFlash {

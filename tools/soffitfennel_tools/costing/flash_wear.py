@@ -18,11 +18,12 @@ from .wear import GATE, PROBE, Uncut
 
 TOP = Path(__file__).resolve().parents[3]
 CARDS, PAGE = TOP / "examples" / "cards", TOP / "docs" / "FLASH.md"
-# writes that an area takes behind a move to it; two moves erase each area once
-ROOM = SLOTS - PAGES
+# The writes that an area takes behind a move to it, at least, if no power is lost: a move copies each page, a write may
+# go to both areas in its 64 steps with copies, and at most two slots are left. Two moves erase each sector once.
+ROOM = SLOTS - PAGES - 64 - 2
 MILLION = 1_000_000
 HEAD = """\
-| session | erases of an area | gate without flash |
+| session | erases of a sector | gate without flash |
 |---|---|---|"""
 ROW = re.compile(r"\| (UICC|identity card|purse) \| [\d,]+ \| [\d,]+ \|")
 
@@ -66,7 +67,7 @@ class FlashWear(NamedTuple):
 
     @property
     def erases(self) -> int:
-        """How often each area is erased in a million commands."""
+        """How often each sector is erased in a million commands, at most."""
         return round(MILLION * self.writes / self.commands / (2 * ROOM))
 
     @property

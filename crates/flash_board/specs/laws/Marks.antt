@@ -66,6 +66,12 @@ closed_same m after at from size h out =
     out in
     ap₂ (λ (a b : ℕ). not (nat_eq a BLANK && nat_eq b BLANK)) first second
 
+-- a block is closed or open by its two words
+pub closed_by : (m after : List ℕ) (at : ℕ) → slice_index after at ≡ slice_index m at
+    → slice_index after (at + 1) ≡ slice_index m (at + 1) → is_closed after at ≡ is_closed m at
+unfolding is_closed
+closed_by m after at first second = ap₂ (λ (a b : ℕ). not (nat_eq a BLANK && nat_eq b BLANK)) first second
+
 -- a blank word is no mark
 pub blank_mark : (m : List ℕ) (at : ℕ) → slice_index m at ≡ BLANK → is_marked m at ≡ false
 unfolding is_marked

@@ -4,7 +4,7 @@ use Rattle.std.specs.Prelude.{slice_index, if◌then◌else◌}
 use Rattle.std.proofs.Common.{refl, sym, ◌∙◌, ap, inl, inr, ⊎_elim, arith, true≢false}
 use Rattle.std.proofs.lemmas.Bool.{cases_eq, ne_eqb}
 use Rattle.std.proofs.lemmas.Grind.{same_number_lists}
-use Rattle.flash_board.specs.FlashBlocks.{area_size, witness_start, block_start, block_size}
+use Rattle.flash_board.specs.FlashBlocks.{area_size, flash_size, witness_start}
 use Rattle.flash_board.specs.declared.flash.TheConstants.{BLANK}
 use Rattle.flash_board.specs.FlashCalls.{SameElsewhere, AreFilled}
 use Rattle.flash_board.specs.PageTables.{AreFree}
@@ -18,8 +18,6 @@ use Rattle.flash_board.specs.laws.Words.{length-words, index-words}
 
 -- the blocks of the two areas
 pub record IsArea (slots to : ℕ) : Type 0 where
-  pub start : block_start slots to ≡ base_in slots to
-  pub size : block_size slots to ≡ area_size slots
   pub close : close_of slots to ≡ base_in slots to + 20 * slots
 
 -- Whatever stands in the block behind that of the turn: the turn stays, and so do the words.
@@ -71,14 +69,10 @@ module _ (pages slots : ℕ) where
   pub is_area : (to : ℕ) → to < 2 → IsArea slots to
   is_area to lt = ⊎_elim
       (λ (z : to ≡ 0). record {
-        start = ap (block_start slots) z ∙ sym (ap (base_in slots) z);
-        size = ap (block_size slots) z;
         close = let here : 20 * slots ≡ 0 + 20 * slots = omega arith in
             ap (close_of slots) z ∙ here ∙ sym (ap (λ (t : ℕ). base_in slots t + 20 * slots) z);
       })
       (λ (n : to ≢ 0). let o : to ≡ 1 = omega (arith, n, lt) in record {
-        start = ap (block_start slots) o ∙ sym (ap (base_in slots) o);
-        size = ap (block_size slots) o;
         close = ap (close_of slots) o ∙ sym (ap (λ (t : ℕ). base_in slots t + 20 * slots) o);
       })
       (cases_eq to 0)
@@ -280,34 +274,27 @@ module _ (pages slots : ℕ) where
   }
 
   -- a flash that was formatted
-  module _ (a b c m : List ℕ) (first : AreFilled a 0 (area_size slots) BLANK)
-      (second : AreFilled b (area_size slots) (area_size slots) BLANK)
-      (behind : SameElsewhere a (area_size slots) (area_size slots) b)
-      (third : AreFilled c (witness_start slots) 2 BLANK) (after : SameElsewhere b (witness_start slots) 2 c)
+  module _ (c m : List ℕ) (all : AreFilled c 0 (flash_size slots) BLANK)
       (closed : is_closed m (witness_start slots) ≡ true) (last : SameElsewhere c (witness_start slots) 2 m) where
-    area_a : SameArea slots a m 0
+    area_a : SameArea slots c m 0
     area_a = record {
-      each = λ k low high.
-          let x : k < witness_start slots = omega (arith, high) in let y : k < area_size slots = omega (arith, high) in
-          last.same k (inl x) ∙ after.same k (inl x) ∙ behind.same k (inl y);
+      each = λ k low high. let x : k < witness_start slots = omega (arith, high) in last.same k (inl x);
     }
 
+    blank_a : AreFilled c 0 (area_size slots) BLANK
+    blank_a = record { each = λ k lt. all.each k (omega (arith, lt)) }
+
+    is_open : (at : ℕ) → at + 2 ≤ witness_start slots → is_closed m at ≡ false
+    is_open at before = closed_same c m at (witness_start slots) 2 last (inl before)
+        ∙ (let here : at ≡ 0 + at = omega arith in let next : at + 1 ≡ 0 + (at + 1) = omega arith in
+        blank_open c at (ap (λ (k : ℕ). slice_index c k) here ∙ all.each at (omega (arith, before)))
+        (ap (λ (k : ℕ). slice_index c k) next ∙ all.each (at + 1) (omega (arith, before))))
+
     is_open_a : is_closed m (20 * slots) ≡ false
-    is_open_a =
-        let x : 20 * slots + 2 ≤ witness_start slots = omega arith in
-        let y : 20 * slots + 2 ≤ area_size slots = omega arith in
-        let here : 20 * slots ≡ 0 + 20 * slots = omega arith in
-        closed_same c m (20 * slots) (witness_start slots) 2 last (inl x)
-        ∙ closed_same b c (20 * slots) (witness_start slots) 2 after (inl x)
-        ∙ closed_same a b (20 * slots) (area_size slots) (area_size slots) behind (inl y)
-        ∙ ap (λ (k : ℕ). is_closed a k) here ∙ erased_open a 0 first
+    is_open_a = is_open (20 * slots) (omega arith)
 
     is_open_b : is_closed m (close_b slots) ≡ false
-    is_open_b =
-        let x : close_b slots + 2 ≤ witness_start slots = omega arith in
-        closed_same c m (close_b slots) (witness_start slots) 2 last (inl x)
-        ∙ closed_same b c (close_b slots) (witness_start slots) 2 after (inl x) ∙ erased_open b (area_size slots)
-        second
+    is_open_b = is_open (close_b slots) (omega arith)
 
     pub formatted_turn : turn_of slots m ≡ 0
     formatted_turn = turn_marks slots m false false true is_open_a is_open_b closed
@@ -318,7 +305,7 @@ module _ (pages slots : ℕ) where
     pub formatted_words : (i : ℕ) → i < 16 * pages → slice_index (words_of pages slots m) i ≡ 0
     formatted_words i lt =
         let none : find m 0 slots (i / 16) ≡ 0 =
-        none_found slots m 0 (i / 16) (area_free slots a m 0 area_a 0 (erased_free a 0 first)) in
+        none_found slots m 0 (i / 16) (area_free slots c m 0 area_a 0 (erased_free c 0 blank_a)) in
         let base : base_in slots (turn_of slots m) ≡ 0 = ap (base_in slots) formatted_turn in
         index-words pages slots m i lt ∙ ap (λ (q : ℕ). page_word m q slots (i / 16) (i % 16)) base
         ∙ ap (λ (f : ℕ). word_of m 0 f (i % 16)) none

@@ -10,6 +10,15 @@ use Rattle.nvm_board.specs.laws.Torn.{length-written, written-elsewhere, written
 use Rattle.flash_board.specs.FlashLogs.{page_word, word_in, words_of, base_in, turn_of}
 use Rattle.flash_board.specs.laws.Finding.{length-image, index-image}
 
+-- a run that is written leaves the words of the other pages
+pub written_other : (words run : List ℕ) (page first p k : ℕ) → p ≢ page → k < 16 → first + length run ≤ 16
+    → slice_index (written words (16 * page + first) run) (16 * p + k) ≡ slice_index words (16 * p + k)
+written_other words run page first p k other few fits =
+    written-elsewhere words run (16 * page + first) (16 * p + k) (⊎_elim
+    (λ (lt : p < page). let x : 16 * p + k < 16 * page + first = omega (arith, lt, few) in inl x)
+    (λ (ge : page ≤ p). let x : 16 * page + first + length run ≤ 16 * p + k = omega (arith, ge, other, fits) in inr x)
+    (cases_lt p page))
+
 module _ (pages slots : ℕ) where
   pub length-words : (m : List ℕ) → length (words_of pages slots m) ≡ 16 * pages
   unfolding words_of

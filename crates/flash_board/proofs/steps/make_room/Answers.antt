@@ -1,7 +1,9 @@
-use Rattle.std.proofs.Common.{ℕ, List, sym, subst, ◌∙◌}
+use Rattle.std.proofs.Common.{ℕ, List, sym, subst, ◌∙◌, arith}
 use Rattle.flash_board.specs.PageTables.{IsPageTable}
 use Rattle.flash_board.specs.laws.Copying.{SameArea, area_found}
+use Rattle.flash_board.specs.FlashLogs.{words_of}
 use Rattle.flash_board.specs.laws.Moving.{base_other, witness_area}
+use Rattle.flash_board.specs.laws.Sparing.{spare_none}
 use Rattle.flash_board.specs.declared.layout.TheConstants.{PAGES}
 use Rattle.flash_board.specs.FlashBlocks.{area_size}
 use Rattle.flash_board.proofs.steps.make_room.Goals as goal
@@ -28,3 +30,35 @@ move_to_a-requires-clause-index g c =
           subst (λ (l : List ℕ). IsPageTable PAGES l (area_size slots) slots place.table)
           (λ i. (g.F.Flash.state ((sym w.flash-is) i)).words) index
     ]
+
+pub returns-then-place-eq0-clause-log : goal.returns-then-place-eq0-clause-log
+returns-then-place-eq0-clause-log g c =
+    let fit = g.met.F.Flash.sectors_fit in
+    let after = (g.F.Flash.state c.move_to_b.new.flash).words in
+    record {
+      ring = c.move_to_b.ensures.ring;
+      known = λ _. record {
+        turn = sym c.in_ok-free_in_b.ensures.done;
+        small = omega arith;
+        index = c.in_ok-free_in_b.ensures.index;
+        free = c.in_ok-free_in_b.ensures.free;
+        spare = spare_none PAGES g.F.Flash.SLOTS g.F.Flash.SECTORS g.F.Flash.sector_start
+            g.met.F.Flash.sectors_rise fit.0 fit.1 fit.2 fit.4 after (words_of PAGES g.F.Flash.SLOTS after) 1;
+      };
+    }
+
+pub returns-clause-log : goal.returns-clause-log
+returns-clause-log g c =
+    let fit = g.met.F.Flash.sectors_fit in
+    let after = (g.F.Flash.state c.move_to_a.new.flash).words in
+    record {
+      ring = c.move_to_a.ensures.ring;
+      known = λ _. record {
+        turn = sym c.in_ok-free_in_a.ensures.done;
+        small = omega arith;
+        index = c.in_ok-free_in_a.ensures.index;
+        free = c.in_ok-free_in_a.ensures.free;
+        spare = spare_none PAGES g.F.Flash.SLOTS g.F.Flash.SECTORS g.F.Flash.sector_start
+            g.met.F.Flash.sectors_rise fit.0 fit.1 fit.2 fit.4 after (words_of PAGES g.F.Flash.SLOTS after) 0;
+      };
+    }

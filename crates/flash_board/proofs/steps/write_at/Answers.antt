@@ -1,6 +1,7 @@
 use Rattle.std.proofs.Common.{◌≡◌, ◌≤◌, ◌+◌, ◌*◌, length, Err, refl, ap, inl, ◌∙◌, arith}
 use Rattle.std.proofs.lemmas.Result.{on_ok_weaker}
 use Rattle.flash_board.specs.FlashLogs.{words_of}
+use Rattle.flash_board.specs.laws.Lighting.{failed_costs, last_costs, tries_faults}
 use Rattle.flash_board.specs.laws.Words.{length-words}
 use Rattle.flash_board.specs.laws.Writing.{whole_again, done_again}
 use Rattle.flash_board.specs.declared.layout.TheConstants.{PAGES}
@@ -37,7 +38,8 @@ loop-preserved g c =
         faults = omega (arith, was.steady.faults, more);
       };
       failed = omega (arith, was.failed, more);
-      operations = omega (arith, was.operations, work, more);
+      operations = failed_costs (2090 + g.F.Flash.SECTORS) (2088 + g.F.Flash.SECTORS) (omega arith) _ _ _ _ _ _
+          was.operations (omega (arith, more)) work more;
       log = c.write_once.ensures.log;
       whole = whole_again m mid after c.args.words.now at fits was.whole c.write_once.ensures.whole;
     }
@@ -97,3 +99,33 @@ returns-clause-done g c =
     let fits : at + length c.args.words.now ≤ length m = omega (arith, all, c.requires.page, c.requires.run) in
     on_ok_weaker c.write_once-2.result (done_again m mid after c.args.words.now at fits c.loop.invariant.whole)
     c.write_once-2.ensures.done
+
+pub returns-clause-work : goal.returns-clause-work
+returns-clause-work g c =
+    let sectors = g.F.Flash.SECTORS in
+    let more = tries_faults 1 (g.F.Flash.state c.loop.flash) (g.F.Flash.state c.write_once-2.new.flash)
+    c.write_once-2.result c.write_once-2.ensures.light in
+    record {
+      operations = last_costs (2090 + sectors) (2088 + sectors) (omega arith) _ _ _ _ _ _
+          c.loop.invariant.operations more c.write_once-2.ensures.work.operations;
+    }
+
+pub returns-in-Ok-clause-work : goal.returns-in-Ok-clause-work
+returns-in-Ok-clause-work g c =
+    let sectors = g.F.Flash.SECTORS in
+    let more = tries_faults 1 (g.F.Flash.state c.loop.flash) (g.F.Flash.state c.write_once.new.flash)
+    c.write_once.result c.write_once.ensures.light in
+    record {
+      operations = last_costs (2090 + sectors) (2088 + sectors) (omega arith) _ _ _ _ _ _
+          c.loop.invariant.operations more c.write_once.ensures.work.operations;
+    }
+
+pub returns-in-Err-PowerLost-clause-work : goal.returns-in-Err-PowerLost-clause-work
+returns-in-Err-PowerLost-clause-work g c =
+    let sectors = g.F.Flash.SECTORS in
+    let more = tries_faults 1 (g.F.Flash.state c.loop.flash) (g.F.Flash.state c.write_once.new.flash)
+    c.write_once.result c.write_once.ensures.light in
+    record {
+      operations = last_costs (2090 + sectors) (2088 + sectors) (omega arith) _ _ _ _ _ _
+          c.loop.invariant.operations more c.write_once.ensures.work.operations;
+    }

@@ -11,8 +11,9 @@ invariant-loop g l = let old = g.F.Flash.state l.initial.flash in let new = g.F.
   lit : new.dark ≡ false;
   steady : KeepsPower old new;
   failed : old.faults + l.counter ≤ new.faults + 1;
-  operations : new.operations + 2056 * old.faults ≤ old.operations + 2056 * new.faults;
-  log : IsLog PAGES g.F.Flash.SLOTS new.words l.place;
+  operations : new.operations + (2090 + g.F.Flash.SECTORS) * old.faults
+      ≤ old.operations + (2090 + g.F.Flash.SECTORS) * new.faults;
+  log : IsLog PAGES g.F.Flash.SLOTS g.F.Flash.SECTORS g.F.Flash.sector_start new.words l.place;
   whole : (words_of PAGES g.F.Flash.SLOTS new.words ≡ words_of PAGES g.F.Flash.SLOTS old.words)
       ⊎ (words_of PAGES g.F.Flash.SLOTS new.words
       ≡ written (words_of PAGES g.F.Flash.SLOTS old.words) (16 * l.page + l.first) l.words);

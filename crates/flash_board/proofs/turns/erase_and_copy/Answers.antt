@@ -1,7 +1,6 @@
-use Rattle.std.proofs.Common.{◌*◌, ◌≤◌, ◌<◌, ◌+◌, ℕ, inr, sym, ap, subst, ◌∙◌, arith}
+use Rattle.std.proofs.Common.{◌*◌, ◌≤◌, ◌<◌, ◌+◌, ℕ, inr, sym, ap, ◌∙◌, arith}
 use Rattle.flash_board.specs.declared.flash.TheConstants.{BLANK}
-use Rattle.flash_board.specs.FlashBlocks.{block_start}
-use Rattle.flash_board.specs.FlashCalls.{SameElsewhere, AreFilled}
+use Rattle.flash_board.specs.FlashCalls.{AreFilled}
 use Rattle.flash_board.specs.FlashLogs.{base_in, is_closed as has_closed}
 use Rattle.flash_board.specs.laws.Copying.{SameArea, area_found, area_page}
 use Rattle.flash_board.specs.laws.Marks.{closed_same}
@@ -14,15 +13,11 @@ pub copy_pages-requires-clause-index : goal.copy_pages-requires-clause-index
 copy_pages-requires-clause-index g c =
     let slots = g.F.Flash.SLOTS in
     let m = (g.F.Flash.state c.args.flash.now).words in
-    let mid = (g.F.Flash.state c.erase.new.self).words in
+    let mid = (g.F.Flash.state c.erase_area.new.flash).words in
     let to = c.args.to in
     let small : to < 2 = omega (arith, c.requires.areas) in
-    let area = is_area PAGES slots to small in
-    let erased : SameElsewhere m (base_in slots to) (area_size slots) mid =
-    subst (λ (k : ℕ). SameElsewhere m k (area_size slots) mid) area.start
-    (subst (λ (n : ℕ). SameElsewhere m (block_start slots to) n mid) area.size c.erase.ensures.elsewhere) in
     let same : SameArea slots m mid (base_in slots c.args.from) =
-    whole_area PAGES slots m mid c.args.from to c.requires.areas erased in
+    whole_area PAGES slots m mid c.args.from to c.requires.areas c.erase_area.ensures.elsewhere in
     record {
       each = λ p lt. c.requires.index.each p lt
           ∙ sym (area_found slots m mid (base_in slots c.args.from) same p);
@@ -31,25 +26,20 @@ copy_pages-requires-clause-index g c =
 pub copy_pages-requires-clause-free : goal.copy_pages-requires-clause-free
 copy_pages-requires-clause-free g c =
     let slots = g.F.Flash.SLOTS in
-    let mid = (g.F.Flash.state c.erase.new.self).words in
+    let mid = (g.F.Flash.state c.erase_area.new.flash).words in
     let to = c.args.to in
     let small : to < 2 = omega (arith, c.requires.areas) in
-    let area = is_area PAGES slots to small in
-    erased_free PAGES slots mid (base_in slots to)
-    (subst (λ (k : ℕ). AreFilled mid k (area_size slots) BLANK) area.start
-    (subst (λ (n : ℕ). AreFilled mid (block_start slots to) n BLANK) area.size c.in_ok-erase.ensures.done))
+    erased_free PAGES slots mid (base_in slots to) c.in_ok-erase_area.ensures.done
 
 pub returns-clause-open : goal.returns-clause-open
 returns-clause-open g c =
     let slots = g.F.Flash.SLOTS in
-    let mid = (g.F.Flash.state c.erase.new.self).words in
+    let mid = (g.F.Flash.state c.erase_area.new.flash).words in
     let after = (g.F.Flash.state c.copy_pages.new.flash).words in
     let to = c.args.to in
     let small : to < 2 = omega (arith, c.requires.areas) in
     let area = is_area PAGES slots to small in
-    let all : AreFilled mid (base_in slots to) (area_size slots) BLANK =
-    subst (λ (k : ℕ). AreFilled mid k (area_size slots) BLANK) area.start
-    (subst (λ (n : ℕ). AreFilled mid (block_start slots to) n BLANK) area.size c.in_ok-erase.ensures.done) in
+    let all : AreFilled mid (base_in slots to) (area_size slots) BLANK = c.in_ok-erase_area.ensures.done in
     let past : base_in slots to + (20 * slots) ≤ base_in slots to + (20 * slots) = omega arith in
     ap (λ (k : ℕ). has_closed after k) area.close
     ∙ closed_same mid after (base_in slots to + (20 * slots)) (base_in slots to)
@@ -60,14 +50,10 @@ pub returns-clause-pages : goal.returns-clause-pages
 returns-clause-pages g c =
     let slots = g.F.Flash.SLOTS in
     let m = (g.F.Flash.state c.args.flash.now).words in
-    let mid = (g.F.Flash.state c.erase.new.self).words in
+    let mid = (g.F.Flash.state c.erase_area.new.flash).words in
     let to = c.args.to in
     let small : to < 2 = omega (arith, c.requires.areas) in
-    let area = is_area PAGES slots to small in
-    let erased : SameElsewhere m (base_in slots to) (area_size slots) mid =
-    subst (λ (k : ℕ). SameElsewhere m k (area_size slots) mid) area.start
-    (subst (λ (n : ℕ). SameElsewhere m (block_start slots to) n mid) area.size c.erase.ensures.elsewhere) in
     let same : SameArea slots m mid (base_in slots c.args.from) =
-    whole_area PAGES slots m mid c.args.from to c.requires.areas erased in
+    whole_area PAGES slots m mid c.args.from to c.requires.areas c.erase_area.ensures.elsewhere in
     λ p k lt few. c.in_ok-next.ensures.copied.words p k lt few
     ∙ area_page slots m mid (base_in slots c.args.from) same p k few

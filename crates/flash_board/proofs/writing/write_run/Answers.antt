@@ -1,8 +1,9 @@
-use Rattle.std.proofs.Common.{◌≡◌, ◌+◌, ℕ, List, length, slice_set, sym, subst}
+use Rattle.std.proofs.Common.{◌≡◌, ◌+◌, ◌*◌, ℕ, List, length, slice_set, sym, subst}
 use Rattle.std.proofs.Common.{arith}
 use Rattle.flash_board.specs.PageTables.{IsPageTable}
 use Rattle.flash_board.specs.FlashLogs.{base_in, slot_of}
 use Rattle.flash_board.specs.SlotParts.{IsPut, PutsInSlot}
+use Rattle.flash_board.specs.laws.Marks.{elsewhere_wider}
 use Rattle.flash_board.specs.laws.Writing.{run_marks, run_done, run_whole, run_index, free_behind}
 use Rattle.flash_board.specs.declared.layout.TheConstants.{PAGES}
 use Rattle.flash_board.proofs.writing.write_run.Goals as goal
@@ -130,3 +131,33 @@ returns-clause-marks g c =
     c.requires.home
     c.requires.free size c.requires.page c.requires.run c.in_ok-found.ensures.each c.in_ok-found.ensures.names
     c.overlay.ensures.other c.overlay.ensures.run puts
+
+pub returns-in_err-program_record-clause-elsewhere : goal.returns-in_err-program_record-clause-elsewhere
+returns-in_err-program_record-clause-elsewhere g c =
+    let slots = g.F.Flash.SLOTS in
+    let a = c.args in
+    let m = (g.F.Flash.state a.flash.now).words in
+    let after = (g.F.Flash.state c.program_record.new.flash).words in
+    let words = c.overlay.new.found in
+    let base = base_in slots a.area in
+    let at = slot_of base a.next in
+    let puts : PutsInSlot m at words after = subst (λ (k : ℕ). PutsInSlot m k words after) c.slot_at.ensures.is
+    (subst (λ (l : List ℕ). PutsInSlot l c.slot_at.result words after) c.record_of.ensures.words
+    c.program_record.ensures.puts) in
+    let room = c.requires.room in
+    elsewhere_wider m after at 20 base (20 * slots) (omega arith) (omega (arith, room)) puts.elsewhere
+
+pub returns-clause-elsewhere : goal.returns-clause-elsewhere
+returns-clause-elsewhere g c =
+    let slots = g.F.Flash.SLOTS in
+    let a = c.args in
+    let m = (g.F.Flash.state a.flash.now).words in
+    let after = (g.F.Flash.state c.program_record.new.flash).words in
+    let words = c.overlay.new.found in
+    let base = base_in slots a.area in
+    let at = slot_of base a.next in
+    let puts : PutsInSlot m at words after = subst (λ (k : ℕ). PutsInSlot m k words after) c.slot_at.ensures.is
+    (subst (λ (l : List ℕ). PutsInSlot l c.slot_at.result words after) c.record_of.ensures.words
+    c.program_record.ensures.puts) in
+    let room = c.requires.room in
+    elsewhere_wider m after at 20 base (20 * slots) (omega arith) (omega (arith, room)) puts.elsewhere

@@ -1,0 +1,185 @@
+use Rattle.std.proofs.Common.{◌≡◌, ◌+◌, ◌*◌, ℕ, sym, subst, ◌∙◌, true≢false, arith}
+use Rattle.flash_board.specs.FlashBlocks.{area_size}
+use Rattle.flash_board.specs.FlashCalls.{SameElsewhere}
+use Rattle.flash_board.specs.FlashLogs.{base_in, words_of}
+use Rattle.flash_board.specs.Spares.{HasCopies, spare_in}
+use Rattle.flash_board.specs.laws.Copying.{area_free}
+use Rattle.flash_board.specs.laws.Marks.{elsewhere_wider}
+use Rattle.flash_board.specs.laws.Moving.{Stays}
+use Rattle.flash_board.specs.laws.Sparing.{index_same, log_anew, spare_copied, spare_leaves, spare_stays}
+use Rattle.flash_board.specs.declared.layout.TheConstants.{PAGES}
+use Rattle.flash_board.proofs.ahead.copy_next.Goals as goal
+
+pub returns-in_err-behind-clause-words : goal.returns-in_err-behind-clause-words
+returns-in_err-behind-clause-words g c =
+    let slots = g.F.Flash.SLOTS in
+    let m = (g.F.Flash.state c.args.flash.now).words in
+    let after = (g.F.Flash.state c.copy_step.new.flash).words in
+    let place = c.args.place.now in
+    let turn = place.turn in
+    let base = spare_in slots turn in
+    let known = c.requires.log.known c.requires.ready in
+    let wide : SameElsewhere m base (area_size slots) after =
+    elsewhere_wider m after base (20 * slots) base (area_size slots) (omega arith) (omega arith)
+    c.copy_step.ensures.elsewhere in
+    let stays : Stays PAGES slots m after =
+    spare_stays PAGES slots m after turn c.requires.log.ring known.turn known.small c.requires.moves.0 wide in
+    stays.words
+
+pub returns-in_err-behind-clause-log : goal.returns-in_err-behind-clause-log
+returns-in_err-behind-clause-log g c =
+    let slots = g.F.Flash.SLOTS in
+    let m = (g.F.Flash.state c.args.flash.now).words in
+    let after = (g.F.Flash.state c.copy_step.new.flash).words in
+    let place = c.args.place.now in
+    let turn = place.turn in
+    let base = spare_in slots turn in
+    let known = c.requires.log.known c.requires.ready in
+    let wide : SameElsewhere m base (area_size slots) after =
+    elsewhere_wider m after base (20 * slots) base (area_size slots) (omega arith) (omega arith)
+    c.copy_step.ensures.elsewhere in
+    let stays : Stays PAGES slots m after =
+    spare_stays PAGES slots m after turn c.requires.log.ring known.turn known.small c.requires.moves.0 wide in
+    record { ring = stays.ring; known = λ e. absurd (true≢false (sym e)) }
+
+pub returns-clause-words : goal.returns-clause-words
+returns-clause-words g c =
+    let slots = g.F.Flash.SLOTS in
+    let m = (g.F.Flash.state c.args.flash.now).words in
+    let after = (g.F.Flash.state c.copy_step.new.flash).words in
+    let place = c.args.place.now in
+    let turn = place.turn in
+    let base = spare_in slots turn in
+    let known = c.requires.log.known c.requires.ready in
+    let wide : SameElsewhere m base (area_size slots) after =
+    elsewhere_wider m after base (20 * slots) base (area_size slots) (omega arith) (omega arith)
+    c.copy_step.ensures.elsewhere in
+    let stays : Stays PAGES slots m after =
+    spare_stays PAGES slots m after turn c.requires.log.ring known.turn known.small c.requires.moves.0 wide in
+    stays.words
+
+pub returns-clause-log : goal.returns-clause-log
+returns-clause-log g c =
+    let slots = g.F.Flash.SLOTS in
+    let m = (g.F.Flash.state c.args.flash.now).words in
+    let after = (g.F.Flash.state c.copy_step.new.flash).words in
+    let place = c.args.place.now in
+    let turn = place.turn in
+    let base = spare_in slots turn in
+    let known = c.requires.log.known c.requires.ready in
+    let wide : SameElsewhere m base (area_size slots) after =
+    elsewhere_wider m after base (20 * slots) base (area_size slots) (omega arith) (omega arith)
+    c.copy_step.ensures.elsewhere in
+    let stays : Stays PAGES slots m after =
+    spare_stays PAGES slots m after turn c.requires.log.ring known.turn known.small c.requires.moves.0 wide in
+    let area = spare_leaves slots m after turn wide in
+    let home = base_in slots turn in
+    let last = c.if-place-eq-COPY_STEPS.false in
+    let most = known.spare.most in
+    record {
+      ring = stays.ring;
+      known = λ _. record {
+        turn = known.turn ∙ sym stays.turn;
+        small = known.small;
+        index = index_same slots PAGES m after place.table home area known.index;
+        free = area_free slots m after home area place.next known.free;
+        spare = spare_copied PAGES slots g.F.Flash.SECTORS g.F.Flash.sector_start m after (words_of PAGES slots m)
+            (words_of PAGES slots after) turn place.erased place.copied place.behind c.in_ok-behind.behind
+            c.requires.moves.1 (omega (arith, last, most)) known.spare c.in_ok-behind.ensures.copies;
+      };
+    }
+
+pub copy_step-requires-clause-index : goal.copy_step-requires-clause-index
+copy_step-requires-clause-index g c =
+    let known = c.requires.log.known c.requires.ready in
+    let most = known.spare.most in
+    (omega (arith, most), known.index)
+
+pub copy_step-requires-clause-copies : goal.copy_step-requires-clause-copies
+copy_step-requires-clause-copies g c =
+    let known = c.requires.log.known c.requires.ready in
+    let fits = g.met.F.Flash.slots_fit.0 in
+    let room = c.if-place-most.false in
+    (omega (arith, fits, room), known.spare.copies c.requires.moves.1)
+
+pub copy_step-requires-clause-moves : goal.copy_step-requires-clause-moves
+copy_step-requires-clause-moves g c =
+    let known = c.requires.log.known c.requires.ready in
+    (known.small, c.requires.moves.0, c.requires.log.ring)
+
+pub pass_turn-requires-clause-turn : goal.pass_turn-requires-clause-turn
+pass_turn-requires-clause-turn g c =
+    let slots = g.F.Flash.SLOTS in
+    let m = (g.F.Flash.state c.args.flash.now).words in
+    let after = (g.F.Flash.state c.copy_step.new.flash).words in
+    let place = c.args.place.now in
+    let turn = place.turn in
+    let base = spare_in slots turn in
+    let known = c.requires.log.known c.requires.ready in
+    let wide : SameElsewhere m base (area_size slots) after =
+    elsewhere_wider m after base (20 * slots) base (area_size slots) (omega arith) (omega arith)
+    c.copy_step.ensures.elsewhere in
+    let stays : Stays PAGES slots m after =
+    spare_stays PAGES slots m after turn c.requires.log.ring known.turn known.small c.requires.moves.0 wide in
+    known.turn ∙ sym stays.turn
+
+pub pass_turn-requires-clause-moves : goal.pass_turn-requires-clause-moves
+pass_turn-requires-clause-moves g c =
+    let slots = g.F.Flash.SLOTS in
+    let m = (g.F.Flash.state c.args.flash.now).words in
+    let after = (g.F.Flash.state c.copy_step.new.flash).words in
+    let place = c.args.place.now in
+    let turn = place.turn in
+    let base = spare_in slots turn in
+    let known = c.requires.log.known c.requires.ready in
+    let wide : SameElsewhere m base (area_size slots) after =
+    elsewhere_wider m after base (20 * slots) base (area_size slots) (omega arith) (omega arith)
+    c.copy_step.ensures.elsewhere in
+    let stays : Stays PAGES slots m after =
+    spare_stays PAGES slots m after turn c.requires.log.ring known.turn known.small c.requires.moves.0 wide in
+    (known.small, c.requires.moves.0, stays.ring)
+
+pub pass_turn-requires-clause-copies : goal.pass_turn-requires-clause-copies
+pass_turn-requires-clause-copies g c =
+    let slots = g.F.Flash.SLOTS in
+    let m = (g.F.Flash.state c.args.flash.now).words in
+    let after = (g.F.Flash.state c.copy_step.new.flash).words in
+    let place = c.args.place.now in
+    let turn = place.turn in
+    let base = spare_in slots turn in
+    let known = c.requires.log.known c.requires.ready in
+    let wide : SameElsewhere m base (area_size slots) after =
+    elsewhere_wider m after base (20 * slots) base (area_size slots) (omega arith) (omega arith)
+    c.copy_step.ensures.elsewhere in
+    let stays : Stays PAGES slots m after =
+    spare_stays PAGES slots m after turn c.requires.log.ring known.turn known.small c.requires.moves.0 wide in
+    let last = c.if-place-eq-COPY_STEPS.true in
+    let all : 16 * place.copied + 16 ≡ PAGES = omega (arith, last) in
+    subst (λ (n : ℕ). HasCopies PAGES slots after (words_of PAGES slots after) base n c.in_ok-behind.behind) all
+    c.in_ok-behind.ensures.copies
+
+pub returns-then-place-eq-COPY_STEPS-clause-words : goal.returns-then-place-eq-COPY_STEPS-clause-words
+returns-then-place-eq-COPY_STEPS-clause-words g c =
+    let slots = g.F.Flash.SLOTS in
+    let m = (g.F.Flash.state c.args.flash.now).words in
+    let after = (g.F.Flash.state c.copy_step.new.flash).words in
+    let place = c.args.place.now in
+    let turn = place.turn in
+    let base = spare_in slots turn in
+    let known = c.requires.log.known c.requires.ready in
+    let wide : SameElsewhere m base (area_size slots) after =
+    elsewhere_wider m after base (20 * slots) base (area_size slots) (omega arith) (omega arith)
+    c.copy_step.ensures.elsewhere in
+    let stays : Stays PAGES slots m after =
+    spare_stays PAGES slots m after turn c.requires.log.ring known.turn known.small c.requires.moves.0 wide in
+    c.pass_turn.ensures.words ∙ stays.words
+
+pub returns-then-place-most-clause-log : goal.returns-then-place-most-clause-log
+returns-then-place-most-clause-log g c =
+    let slots = g.F.Flash.SLOTS in
+    let sectors = g.F.Flash.SECTORS in
+    let start = g.F.Flash.sector_start in
+    let fit = g.met.F.Flash.sectors_fit in
+    let m = (g.F.Flash.state c.args.flash.now).words in
+    log_anew PAGES slots sectors start g.met.F.Flash.sectors_rise fit.0 fit.1 fit.2 fit.4 m c.args.place.now
+    c.requires.log

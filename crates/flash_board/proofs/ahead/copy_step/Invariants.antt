@@ -1,0 +1,20 @@
+use Rattle.std.proofs.Common.{◌≡◌, ◌≤◌, ◌+◌, ◌*◌, false}
+use Rattle.flash_board.specs.declared.layout.TheConstants.{PAGES, STEP_PAGES}
+use Rattle.flash_board.specs.FlashCalls.{KeepsPower, SameElsewhere}
+use Rattle.flash_board.specs.FlashLogs.{words_of}
+use Rattle.flash_board.specs.Spares.{HasCopies, spare_in}
+use Rattle.flash_board.proofs.ahead.copy_step.Given as goal
+
+abbrev pub invariant-loop-k : goal.invariant-loop-k
+invariant-loop-k g l =
+    let slots = g.F.Flash.SLOTS in
+    let old = g.F.Flash.state l.initial.flash in
+    let new = g.F.Flash.state l.flash in record {
+      lit : new.dark ≡ false;
+      steady : KeepsPower old new;
+      operations : new.operations + 2 * old.faults ≤ old.operations + 2 * l.k + 2 * new.faults;
+      room : l.next + STEP_PAGES ≤ slots + l.k;
+      elsewhere : SameElsewhere old.words (spare_in slots l.turn) (20 * slots) new.words;
+      copies : HasCopies PAGES slots new.words (words_of PAGES slots new.words) (spare_in slots l.turn) (l.first + l.k)
+          l.next;
+    }

@@ -1,0 +1,224 @@
+//! The move to the other area, a step at each write: so that no write has to move all pages.
+ghost use Rattle.std.specs.Prelude.{◌≡◌, ◌≢◌, ◌<◌, ◌≤◌, ◌+◌, ◌*◌, true, false, length, slice_index, IfOk, OnOk};
+ghost use Rattle.flash_board.specs.FlashBlocks.{area_size};
+ghost use Rattle.flash_board.specs.FlashCalls.{Costs, SameElsewhere, Tries};
+ghost use Rattle.flash_board.specs.FlashLogs.{base_in, find, turn_of, words_of};
+ghost use Rattle.flash_board.specs.PageTables.{IsPageTable};
+ghost use Rattle.flash_board.specs.Places.{IsLog};
+ghost use Rattle.flash_board.specs.Rings.{IsRing};
+ghost use Rattle.flash_board.specs.Spares.{HasCopies, spare_in};
+ghost use Rattle.flash_board.specs.declared.layout.TheConstants.{COPY_STEPS, PAGES, STEP_PAGES};
+
+use crate::erasing::first_sector_of_spare;
+use crate::flash::Flash;
+use crate::image::{PageTable, record_of};
+use crate::layout::{COPY_STEPS, STEP_PAGES};
+use crate::moving::put_in_spare;
+use crate::place::PageMap;
+use crate::record::close;
+use crate::scan::scan;
+use crate::turns::{home, pass_witness, spare};
+use nvm_board::DeviceErr;
+
+/// Copies a page to a free slot of the other area below `end`, and returns the first one that is free after it.
+fn copy_ahead<F: Flash>(
+    flash: &mut F,
+    turn: u8,
+    table: &PageTable,
+    next: u16,
+    end: u16,
+    page: u16,
+) -> Result<u16, DeviceErr>
+    requires lit { (F.state flash.old).dark ≡ false }
+    requires turn { turn ≡ turn_of F.SLOTS (F.state flash.old).words }
+    requires moves { (turn < 3) × (turn ≢ 1) × IsRing F.SLOTS (F.state flash.old).words }
+    requires entry { (page < PAGES)
+        × (slice_index table.now page ≡ find (F.state flash.old).words (base_in F.SLOTS turn) F.SLOTS page) }
+    requires copies { (next < end) × (end ≤ F.SLOTS)
+        × HasCopies PAGES F.SLOTS (F.state flash.old).words
+        (words_of PAGES F.SLOTS (F.state flash.old).words) (spare_in F.SLOTS turn) page next }
+    ensures elsewhere { SameElsewhere (F.state flash.old).words (spare_in F.SLOTS turn) (20 * F.SLOTS)
+        (F.state flash.new).words }
+    ensures copies { IfOk result (λ n. HasCopies PAGES F.SLOTS (F.state flash.new).words
+        (words_of PAGES F.SLOTS (F.state flash.new).words) (spare_in F.SLOTS turn)
+        (page + 1) n) }
+    ensures most { IfOk result (λ n. n ≤ end) }
+    ensures light { Tries 1 (F.state flash.old) (F.state flash.new) result }
+    ensures work { Costs 2 2 (F.state flash.old) (F.state flash.new) }
+{
+    if table[usize::from(page)] == 0 {
+        return Ok(next);
+    }
+    let found = record_of(flash, home(turn), table, page)?;
+    let slot = put_in_spare(flash, spare(turn), next, end, &found)?;
+    Ok(slot + 1)
+}
+
+/// Copies the pages of a step, and returns the first slot of the other area that is free.
+fn copy_step<F: Flash>(
+    flash: &mut F,
+    turn: u8,
+    table: &PageTable,
+    next: u16,
+    first: u16,
+) -> Result<u16, DeviceErr>
+    requires lit { (F.state flash.old).dark ≡ false }
+    requires turn { turn ≡ turn_of F.SLOTS (F.state flash.old).words }
+    requires moves { (turn < 3) × (turn ≢ 1) × IsRing F.SLOTS (F.state flash.old).words }
+    requires index { (first + STEP_PAGES ≤ PAGES)
+        × IsPageTable PAGES (F.state flash.old).words (base_in F.SLOTS turn) F.SLOTS table.now }
+    requires copies { (next + STEP_PAGES ≤ F.SLOTS)
+        × HasCopies PAGES F.SLOTS (F.state flash.old).words
+        (words_of PAGES F.SLOTS (F.state flash.old).words) (spare_in F.SLOTS turn) first next }
+    ensures elsewhere { SameElsewhere (F.state flash.old).words (spare_in F.SLOTS turn) (20 * F.SLOTS)
+        (F.state flash.new).words }
+    ensures copies { IfOk result (λ n. HasCopies PAGES F.SLOTS (F.state flash.new).words
+        (words_of PAGES F.SLOTS (F.state flash.new).words) (spare_in F.SLOTS turn)
+        (first + STEP_PAGES) n) }
+    ensures light { Tries 1 (F.state flash.old) (F.state flash.new) result }
+    ensures work { Costs 32 2 (F.state flash.old) (F.state flash.new) }
+{
+    let mut next = next;
+    for k in 0..STEP_PAGES {
+        let end = F::SLOTS - STEP_PAGES + k + 1;
+        next = copy_ahead(flash, turn, table, next, end, first + k)?;
+    }
+    Ok(next)
+}
+
+/// The number of free slots at which the move begins: those that are written while it goes on.
+fn lead<F: Flash>() -> u16
+    ensures { result ≡ F.SECTORS + COPY_STEPS + 1 }
+{
+    F::SECTORS + COPY_STEPS + 1
+}
+
+/// Passes the turn to the other area, which has all pages.
+fn pass_turn<F: Flash>(flash: &mut F, place: &mut PageMap) -> Result<(), DeviceErr>
+    requires lit { (F.state flash.old).dark ≡ false }
+    requires turn { place.old.turn ≡ turn_of F.SLOTS (F.state flash.old).words }
+    requires moves { (place.old.turn < 3) × (place.old.turn ≢ 1) × IsRing F.SLOTS (F.state flash.old).words }
+    requires copies { HasCopies PAGES F.SLOTS (F.state flash.old).words
+        (words_of PAGES F.SLOTS (F.state flash.old).words) (spare_in F.SLOTS place.old.turn) PAGES
+        place.old.behind }
+    requires unready { place.old.ready ≡ false }
+    ensures words { words_of PAGES F.SLOTS (F.state flash.new).words
+        ≡ words_of PAGES F.SLOTS (F.state flash.old).words }
+    ensures log { IsLog PAGES F.SLOTS F.SECTORS F.sector_start (F.state flash.new).words place.new }
+    ensures ready { OnOk result (place.new.ready ≡ true) }
+    ensures light { Tries 1 (F.state flash.old) (F.state flash.new) result }
+    ensures work { Costs 1 2 (F.state flash.old) (F.state flash.new) }
+{
+    let next = spare(place.turn);
+    close(flash, place.turn)?;
+    scan(flash, next, &mut place.table)?;
+    place.turn = next;
+    place.next = place.behind;
+    place.tried = 0;
+    place.erased = 0;
+    place.copied = 0;
+    place.behind = 0;
+    place.ready = true;
+    Ok(())
+}
+
+/// Passes the turn to the witness.
+fn pass_on<F: Flash>(flash: &mut F, place: &mut PageMap) -> Result<(), DeviceErr>
+    requires lit { (F.state flash.old).dark ≡ false }
+    requires log { IsLog PAGES F.SLOTS F.SECTORS F.sector_start (F.state flash.old).words place.old }
+    requires ready { place.old.ready ≡ true }
+    requires turn { place.old.turn ≡ 1 }
+    ensures words { words_of PAGES F.SLOTS (F.state flash.new).words
+        ≡ words_of PAGES F.SLOTS (F.state flash.old).words }
+    ensures log { IsLog PAGES F.SLOTS F.SECTORS F.sector_start (F.state flash.new).words place.new }
+    ensures ready { OnOk result (place.new.ready ≡ true) }
+    ensures light { Tries 1 (F.state flash.old) (F.state flash.new) result }
+    ensures work { Costs 2 2 (F.state flash.old) (F.state flash.new) }
+{
+    place.ready = false;
+    place.erased = 0;
+    place.copied = 0;
+    place.behind = 0;
+    pass_witness(flash)?;
+    place.turn = 2;
+    place.ready = true;
+    Ok(())
+}
+
+/// Erases the next sector of the other area.
+fn erase_next<F: Flash>(flash: &mut F, place: &mut PageMap) -> Result<(), DeviceErr>
+    requires lit { (F.state flash.old).dark ≡ false }
+    requires log { IsLog PAGES F.SLOTS F.SECTORS F.sector_start (F.state flash.old).words place.old }
+    requires ready { place.old.ready ≡ true }
+    requires moves { (place.old.turn ≢ 1) × (place.old.erased < F.SECTORS) }
+    ensures words { words_of PAGES F.SLOTS (F.state flash.new).words
+        ≡ words_of PAGES F.SLOTS (F.state flash.old).words }
+    ensures log { IsLog PAGES F.SLOTS F.SECTORS F.sector_start (F.state flash.new).words place.new }
+    ensures ready { OnOk result (place.new.ready ≡ true) }
+    ensures light { Tries 1 (F.state flash.old) (F.state flash.new) result }
+    ensures work { Costs 1 2 (F.state flash.old) (F.state flash.new) }
+{
+    place.ready = false;
+    flash.erase(first_sector_of_spare::<F>(place.turn) + place.erased)?;
+    place.erased += 1;
+    place.ready = true;
+    Ok(())
+}
+
+/// Copies the next pages to the other area. Behind the last it passes the turn. Where there is no room it begins the
+/// move anew.
+fn copy_next<F: Flash>(flash: &mut F, place: &mut PageMap) -> Result<(), DeviceErr>
+    requires lit { (F.state flash.old).dark ≡ false }
+    requires log { IsLog PAGES F.SLOTS F.SECTORS F.sector_start (F.state flash.old).words place.old }
+    requires ready { place.old.ready ≡ true }
+    requires moves { (place.old.turn ≢ 1) × (place.old.erased ≡ F.SECTORS) }
+    ensures words { words_of PAGES F.SLOTS (F.state flash.new).words
+        ≡ words_of PAGES F.SLOTS (F.state flash.old).words }
+    ensures log { IsLog PAGES F.SLOTS F.SECTORS F.sector_start (F.state flash.new).words place.new }
+    ensures ready { OnOk result (place.new.ready ≡ true) }
+    ensures light { Tries 1 (F.state flash.old) (F.state flash.new) result }
+    ensures work { Costs 33 2 (F.state flash.old) (F.state flash.new) }
+{
+    let most = F::SLOTS - STEP_PAGES;
+    if place.behind > most {
+        place.erased = 0;
+        place.copied = 0;
+        place.behind = 0;
+        return Ok(());
+    }
+    place.ready = false;
+    let first = STEP_PAGES * place.copied;
+    let behind = copy_step(flash, place.turn, &place.table, place.behind, first)?;
+    place.behind = behind;
+    place.copied += 1;
+    if place.copied == COPY_STEPS {
+        return pass_turn(flash, place);
+    }
+    place.ready = true;
+    Ok(())
+}
+
+/// Takes a step of the move, if the area is nearly full.
+pub fn take_step<F: Flash>(flash: &mut F, place: &mut PageMap) -> Result<(), DeviceErr>
+    requires lit { (F.state flash.old).dark ≡ false }
+    requires log { IsLog PAGES F.SLOTS F.SECTORS F.sector_start (F.state flash.old).words place.old }
+    requires ready { place.old.ready ≡ true }
+    ensures words { words_of PAGES F.SLOTS (F.state flash.new).words
+        ≡ words_of PAGES F.SLOTS (F.state flash.old).words }
+    ensures log { IsLog PAGES F.SLOTS F.SECTORS F.sector_start (F.state flash.new).words place.new }
+    ensures ready { OnOk result (place.new.ready ≡ true) }
+    ensures light { Tries 1 (F.state flash.old) (F.state flash.new) result }
+    ensures work { Costs 33 2 (F.state flash.old) (F.state flash.new) }
+{
+    if F::SLOTS - place.next > lead::<F>() {
+        return Ok(());
+    }
+    if place.turn == 1 {
+        return pass_on(flash, place);
+    }
+    let sectors = F::SECTORS;
+    if place.erased < sectors {
+        return erase_next(flash, place);
+    }
+    copy_next(flash, place)
+}
