@@ -28,14 +28,17 @@ enum {
     CARD_TOO_LARGE = 8
 };
 
-/* The flash has three blocks, each of which is erased as one: area A, area B and the witness. Their words have the
- * addresses from 0 on. A word is blank if all its bits are set. */
+/* The flash has three blocks: area A, area B and the witness. Their words have the addresses from 0 on. A word is blank
+ * if all its bits are set. An erase is one of a sector. Those of area A have the numbers from 0 on, those of area B
+ * follow, and the witness is the last. A sector of an area has FLASH_SECTOR_WORDS, and its last one what is left. */
 enum {
     FLASH_SLOTS = 1280,
+    FLASH_SECTOR_WORDS = 65536,
     FLASH_AREA_WORDS = 20 * FLASH_SLOTS + 2,
     FLASH_WITNESS_WORDS = 2,
     FLASH_WORDS = 2 * FLASH_AREA_WORDS + FLASH_WITNESS_WORDS,
-    FLASH_BLOCKS = 3
+    FLASH_BLOCKS = 3,
+    FLASH_SECTORS = (FLASH_AREA_WORDS + FLASH_SECTOR_WORDS - 1) / FLASH_SECTOR_WORDS
 };
 
 /* Reads a word. The address is below FLASH_WORDS. A word that an interrupted call left reads the same each time. */
@@ -45,9 +48,9 @@ uint32_t device_read(struct device *device, uint32_t at, uint32_t *word);
  * Else they may hold anything. No other word changes. */
 uint32_t device_program(struct device *device, uint32_t at, const uint32_t *words, uint64_t count);
 
-/* Erases a block, below FLASH_BLOCKS. DEVICE_DONE: all its words were read back as blank. Else they may hold anything.
- * No other word changes. */
-uint32_t device_erase(struct device *device, uint8_t block);
+/* Erases a sector, at most 2 * FLASH_SECTORS. DEVICE_DONE: all its words were read back as blank. Else they may hold
+ * anything. No other word changes. */
+uint32_t device_erase(struct device *device, uint16_t sector);
 
 /* Waits for a message, puts it into the buffer, and returns its size; 0 ends the session. */
 uint64_t port_receive(uint8_t *message, uint64_t room);

@@ -18,6 +18,8 @@ static struct device device;
 static uint32_t passed, failed;
 /* the round that put its words into each block, or 0 for a blank one, and up to where it came */
 static uint32_t rounds[FLASH_BLOCKS], ends[FLASH_BLOCKS];
+/* the words of the sectors that were erased alone */
+static uint32_t hole, hole_end;
 
 static void print(const char *text)
 {
@@ -67,7 +69,7 @@ static bool reads(uint32_t at, uint32_t wanted)
 static bool is_kept(uint32_t block)
 {
     for (uint32_t at = starts[block]; at < starts[block + 1]; at++)
-        if (!reads(at, at < ends[block] ? pattern(at, rounds[block]) : blank))
+        if (!reads(at, at < ends[block] && (at < hole || at >= hole_end) ? pattern(at, rounds[block]) : blank))
             return false;
     return true;
 }
@@ -91,11 +93,28 @@ static bool programs(uint32_t block, uint32_t count)
     return device_program(&device, at, words, count) == DEVICE_DONE;
 }
 
+/* Where a sector of an area begins, or the witness. */
+static uint32_t start_of(uint32_t sector)
+{
+    return starts[sector / FLASH_SECTORS] + sector % FLASH_SECTORS * FLASH_SECTOR_WORDS;
+}
+
+static bool erases_sector(uint32_t sector)
+{
+    return device_erase(&device, (uint16_t)sector) == DEVICE_DONE;
+}
+
+/* Erases the sectors of a block. */
 static bool erases(uint32_t block)
 {
+    uint32_t first = block * FLASH_SECTORS, count = block == FLASH_BLOCKS - 1 ? 1 : FLASH_SECTORS;
+    bool is_done = true;
+
     rounds[block] = 0;
     ends[block] = starts[block];
-    return device_erase(&device, (uint8_t)block) == DEVICE_DONE;
+    for (uint32_t i = 0; i < count; i++)
+        is_done &= erases_sector(first + i);
+    return is_done;
 }
 
 /* Programs a blank block as the card does: records and their marks, and the mark that closes the block. */
@@ -125,6 +144,25 @@ static void try_blocks(void)
         holds(are_others_kept(block), "device_erase: no word changes outside ", names[block]);
         holds(fills(block, block + 4) && is_kept(block), "device_program: behind an erase, in ", names[block]);
     }
+}
+
+/* The sectors of an area one by one, in area A from the first on and in area B from the last on: no other changes. */
+static void try_sectors(uint32_t block)
+{
+    bool is_done = erases(block) && fills(block, block + 8), is_alone = true;
+
+    hole = hole_end = block == 0 ? starts[0] : starts[2];
+    for (uint32_t i = 0; i < FLASH_SECTORS; i++) {
+        uint32_t sector = block == 0 ? i : 2 * FLASH_SECTORS - 1 - i;
+        is_done &= erases_sector(sector);
+        hole = block == 0 ? hole : start_of(sector);
+        hole_end = block == 0 ? start_of(sector + 1) : hole_end;
+        is_alone &= is_kept(block) && are_others_kept(block);
+    }
+    holds(is_done, "device_erase: sector by sector, of ", names[block]);
+    holds(is_alone, "device_erase: no word changes outside the sector, in ", names[block]);
+    hole = hole_end = 0;
+    ends[block] = starts[block];
 }
 
 /* Runs of each length, one behind the other: what is around a run stays. */
@@ -192,6 +230,8 @@ void run(void)
     board_begin();
     try_reset();
     try_blocks();
+    for (uint32_t block = 0; block < FLASH_BLOCKS - 1 && FLASH_SECTORS > 1; block++)
+        try_sectors(block);
     try_runs();
     try_bits();
     try_erases();

@@ -33,14 +33,21 @@ uint32_t device_program(struct device *device, uint32_t at, const uint32_t *from
     return is_there ? DEVICE_DONE : DEVICE_FAULT;
 }
 
-uint32_t device_erase(struct device *device, uint8_t block)
+/* Where a sector begins. */
+static size_t start_of(size_t sector)
 {
-    size_t start = (size_t)block * FLASH_AREA_WORDS;
-    size_t size = block == FLASH_BLOCKS - 1 ? FLASH_WITNESS_WORDS : FLASH_AREA_WORDS;
+    size_t area = sector / FLASH_SECTORS * FLASH_AREA_WORDS;
+
+    return sector > 2 * FLASH_SECTORS ? FLASH_WORDS : area + sector % FLASH_SECTORS * FLASH_SECTOR_WORDS;
+}
+
+uint32_t device_erase(struct device *device, uint16_t sector)
+{
+    size_t start = start_of(sector), end = start_of((size_t)sector + 1);
     bool is_blank = true;
 
     (void)device;
-    for (size_t i = start; i < start + size; i++) {
+    for (size_t i = start; i < end; i++) {
         words[i] = (uint32_t)BLANK;
         is_blank &= words[i] == (uint32_t)BLANK;
     }

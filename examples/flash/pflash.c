@@ -1,7 +1,8 @@
 /* A driver for a parallel flash with Intel's commands, which it names by its common flash interface (CFI, command set
  * 1). Two chips of 16 bits are side by side, so each command goes to both halves of a word, and both report a status.
  *
- * Area A, area B, the witness and the factory's note have a sector each, or several in a row. */
+ * The sectors of the card are the first of the bank, and the factory's note has the one behind them. A chip whose
+ * sectors have another size than FLASH_SECTOR_WORDS is left alone. */
 #include "bank.h"
 #include "card_device.h"
 #include "device.h"
@@ -12,9 +13,8 @@
 #define BOTH(number) ((uint32_t)(number) << 16 | (uint32_t)(number))
 
 enum {
-    SECTOR_WORDS = 0x10000,
-    AREA_SECTORS = (FLASH_AREA_WORDS + SECTOR_WORDS - 1) / SECTOR_WORDS,
-    WITNESS_SECTOR = 2 * AREA_SECTORS,
+    SECTOR_WORDS = FLASH_SECTOR_WORDS,
+    WITNESS_SECTOR = 2 * FLASH_SECTORS,
     NOTE_SECTOR = WITNESS_SECTOR + 1,
     SECTORS = NOTE_SECTOR + 1
 };
@@ -45,7 +45,7 @@ static uint32_t place_of(uint32_t at)
         return at;
     at -= FLASH_AREA_WORDS;
     if (at < FLASH_AREA_WORDS)
-        return start_of(AREA_SECTORS) + at;
+        return start_of(FLASH_SECTORS) + at;
     return start_of(WITNESS_SECTOR) + at - FLASH_AREA_WORDS;
 }
 
@@ -162,15 +162,10 @@ uint32_t device_program(struct device *device, uint32_t at, const uint32_t *word
     return is_done ? DEVICE_DONE : DEVICE_FAULT;
 }
 
-uint32_t device_erase(struct device *device, uint8_t block)
+uint32_t device_erase(struct device *device, uint16_t sector)
 {
-    uint32_t first = block * AREA_SECTORS, count = block == FLASH_BLOCKS - 1 ? 1 : AREA_SECTORS;
-    bool is_done = is_ready();
-
     (void)device;
-    for (uint32_t i = 0; i < count && is_done; i++)
-        is_done = erase_sector(first + i);
-    return is_done ? DEVICE_DONE : DEVICE_FAULT;
+    return is_ready() && erase_sector(sector) ? DEVICE_DONE : DEVICE_FAULT;
 }
 
 bool device_is_new(void)

@@ -73,9 +73,9 @@ static bool programs(uint32_t at, uint32_t count)
     return device_program(&device, at, run, count) == DEVICE_DONE;
 }
 
-static bool erases(uint32_t block)
+static bool erases(uint32_t sector)
 {
-    return device_erase(&device, (uint8_t)block) == DEVICE_DONE;
+    return device_erase(&device, (uint16_t)sector) == DEVICE_DONE;
 }
 
 static void try_places(void)
@@ -105,9 +105,9 @@ static void try_changes(void)
     holds(model_changes == RUN, "program: each word once");
     for (uint32_t block = 0; block < FLASH_BLOCKS; block++) {
         begin(0x12345678);
-        uint32_t count = block < 2 ? AREA_SECTORS : 1;
-        holds(erases(block) && are_others(0x12345678, 0, 0, block * AREA_SECTORS, count), "erase: that block alone");
-        holds(model_changes == count && reads(block * FLASH_AREA_WORDS, blank), "erase: each sector once");
+        uint32_t sector = block * FLASH_SECTORS;
+        holds(erases(sector) && are_others(0x12345678, 0, 0, sector, 1), "erase: that sector alone");
+        holds(model_changes == 1 && reads(block * FLASH_AREA_WORDS, blank), "erase: once, where the card reads");
     }
     holds(model_strange == 0, "no command that the chips don't know, and none while they are busy");
 }

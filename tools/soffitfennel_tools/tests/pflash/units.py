@@ -4,7 +4,7 @@ from __future__ import annotations
 import os
 
 from ...chips.module import FLASH as CRATE
-from ...porting.slots import PLACES
+from ...porting.slots import SECTOR_WORDS, SLOTS
 from ...porting.over_flash import OWN_ON_FLASH, code, fill
 from ...porting.writing import needed, write_port
 from ..chip.units import CHIP, PORT, tool
@@ -12,7 +12,7 @@ from .building import Room
 
 
 def compare_port(room: Room) -> None:
-    """A port is whole, with the number of slots that was asked for."""
+    """A port is whole, with the numbers that were asked for."""
     for name in [*needed(OWN_ON_FLASH), *(it.split()[0] for it in OWN_ON_FLASH)]:
         room.checks.check((room.port / "crates" / name / "src/lib.rt").is_file(), f"the port has the crate {name}")
     room.checks.same([str(it) for it in room.port.rglob("*.in")], [], "no template is left")
@@ -20,11 +20,12 @@ def compare_port(room: Room) -> None:
     room.checks.same(came, sorted(code()), "the C of the port")
     room.checks.check("device.c" not in came and "boards.mk" in came, "the C of a board is not there", str(came))
     larger = room.folder / "larger"
-    ran = tool(PORT, "--flash", "--slots", 2048, larger)
-    room.checks.same((ran.returncode, ran.stdout), (0, f"{larger}\n"), "tools/port --slots")
-    for place, number in PLACES.items():
-        numbers = [number.findall((port / place).read_text(encoding="utf-8")) for port in (room.port, larger)]
-        room.checks.same(numbers, [["1280"], ["2048"]], f"the slots in {place}")
+    ran = tool(PORT, "--flash", "--slots", 2048, "--sector-words", 1024, larger)
+    room.checks.same((ran.returncode, ran.stdout), (0, f"{larger}\n"), "tools/port --slots --sector-words")
+    for size, wanted in ((SLOTS, [["1280"], ["2048"]]), (SECTOR_WORDS, [["65536"], ["1024"]])):
+        for place, number in size.places.items():
+            numbers = [number.findall((port / place).read_text(encoding="utf-8")) for port in (room.port, larger)]
+            room.checks.same(numbers, wanted, f"the {size.what} in {place}")
 
 
 def compare_mistakes(room: Room) -> None:
@@ -41,6 +42,9 @@ def compare_mistakes(room: Room) -> None:
         (["--flash", "/proc/new"], "No such file"),
         (["--flash"], "required: FOLDER"),
         (["--slots", 2048, room.folder / "new"], "give --flash too"),
+        (["--sector-words", 1024, room.folder / "new"], "give --flash too"),
+        (["--flash", "--sector-words", 63, room.folder / "new"], "at least 64 words"),
+        (["--flash", "--sector-words", "many", room.folder / "new"], "from 1 to 16777216"),
         (["--flash", "--slots", 1279, room.folder / "new"], "at least 1,280 slots"),
         (["--flash", "--slots", 65536, room.folder / "new"], "from 1 to 65535"),
         (["--flash", "--slots", "many", room.folder / "new"], "from 1 to 65535"),
@@ -54,12 +58,14 @@ def compare_mistakes(room: Room) -> None:
 
 
 def compare_slots(room: Room) -> None:
-    """tools/chip refuses a port whose header and crate have other numbers of slots."""
+    """tools/chip refuses a port whose header and crate have other numbers."""
     changes = (
         ("device/card_device.h", "FLASH_SLOTS = 1280", "FLASH_SLOTS = 1281", "two numbers of slots"),
         (f"crates/{CRATE}/src/slots.rt", "u16 = 1280", "u16 = 2048", "two numbers of slots"),
         ("device/card_device.h", "FLASH_SLOTS = 1280", "FLASH_SLOTS = 1000", "no number of slots"),
         ("device/card_device.h", "FLASH_SLOTS = 1280", "FLASH_SLOTS = MANY", "no number of slots"),
+        ("device/card_device.h", "SECTOR_WORDS = 65536", "SECTOR_WORDS = 1024", "two numbers of words of a sector"),
+        ("device/card_device.h", "SECTOR_WORDS = 65536", "SECTOR_WORDS = 32", "no number of words of a sector"),
     )
     for at, (place, old, new, why) in enumerate(changes):
         port = room.folder / f"slots{at}"
