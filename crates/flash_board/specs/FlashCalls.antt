@@ -5,13 +5,14 @@ use Rattle.nvm_board.specs.declared.board.DeviceErr.{DeviceErr}
 use Rattle.nvm_board.specs.declared.board.DeviceErr.TheVariants.{PowerLost, Fault}
 
 -- All that contracts know of a flash: its words, whether it has no power, how many power losses may still come, how
--- often it has failed, and how many programs and erases were begun.
+-- often it has failed, how many programs and erases were begun, and how many of these were erases.
 pub record FlashState : Type 0 where
   pub words : List ℕ
   pub dark : Bool
   pub due : ℕ
   pub faults : ℕ
   pub operations : ℕ
+  pub erases : ℕ
 
 -- The flash has power as before, and didn't fail.
 pub record StaysLit (old new : FlashState) : Type 0 where

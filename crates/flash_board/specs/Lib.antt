@@ -1,8 +1,10 @@
+pub mod BoardLogs
 pub mod CopyParts
 pub mod FlashBlocks
 pub mod FlashCalls
 pub mod FlashFacts
 pub mod FlashLogs
+pub mod Paces
 pub mod PageTables
 pub mod Places
 pub mod Rings

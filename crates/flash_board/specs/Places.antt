@@ -1,9 +1,10 @@
 -- Where the pages are, as working memory knows it.
-use Rattle.std.specs.Prelude.{◌≡◌, ◌<◌, ℕ, true, List}
+use Rattle.std.specs.Prelude.{◌≡◌, ◌<◌, ℕ, true, false, List}
 use Rattle.flash_board.specs.declared.place.PageMap.{PageMap}
 use Rattle.flash_board.specs.declared.flash_log.FlashFault.{FlashFault}
 use Rattle.flash_board.specs.declared.flash_log.FlashFault.TheVariants.{NoLog, PowerLost, Fault}
 use Rattle.flash_board.specs.FlashCalls.{FlashState, GoesOut, HasFailed}
+use Rattle.flash_board.specs.Paces.{LogState}
 use Rattle.flash_board.specs.PageTables.{IsPageTable, AreFree}
 use Rattle.flash_board.specs.FlashLogs.{base_in, turn_of, words_of}
 use Rattle.flash_board.specs.Rings.{IsRing}
@@ -30,9 +31,13 @@ state_of pages slots s =
       dark = s.dark;
       due = s.due;
       faults = s.faults;
-      operations =
-          s.operations;
+      operations = s.operations;
+      erases = s.erases;
     }
+
+-- The log of a flash whose pages are not found yet.
+abbrev pub new_log : ℕ → ℕ → FlashState → LogState
+new_log pages slots s = record { flash = state_of pages slots s; paced = false }
 
 -- Why a flash is not taken: it has no log, and nothing changed; power was lost; or it failed. No word changed.
 abbrev pub OpenStopsBy : ℕ → FlashFault → FlashState → FlashState → Type 0

@@ -3,6 +3,7 @@ ghost use Rattle.std.specs.Prelude.{◌≡◌, ◌≢◌, ◌<◌, ◌≤◌, �
 ghost use Rattle.flash_board.specs.FlashBlocks.{area_size};
 ghost use Rattle.flash_board.specs.FlashCalls.{Costs, SameElsewhere, Tries};
 ghost use Rattle.flash_board.specs.FlashLogs.{base_in, find, turn_of, words_of};
+ghost use Rattle.flash_board.specs.Paces.{HasStepped, IsFresh, IsRoomy, KeepsPace, lead_of};
 ghost use Rattle.flash_board.specs.PageTables.{IsPageTable};
 ghost use Rattle.flash_board.specs.Places.{IsLog};
 ghost use Rattle.flash_board.specs.Rings.{IsRing};
@@ -43,8 +44,10 @@ fn copy_ahead<F: Flash>(
         (words_of PAGES F.SLOTS (F.state flash.new).words) (spare_in F.SLOTS turn)
         (page + 1) n) }
     ensures most { IfOk result (λ n. n ≤ end) }
+    ensures passes { IfOk result (λ n. n + (F.state flash.old).faults ≤ next + 1 + (F.state flash.new).faults) }
     ensures light { Tries 1 (F.state flash.old) (F.state flash.new) result }
     ensures work { Costs 2 2 (F.state flash.old) (F.state flash.new) }
+    ensures erases { (F.state flash.new).erases ≡ (F.state flash.old).erases }
 {
     if table[usize::from(page)] == 0 {
         return Ok(next);
@@ -75,20 +78,23 @@ fn copy_step<F: Flash>(
     ensures copies { IfOk result (λ n. HasCopies PAGES F.SLOTS (F.state flash.new).words
         (words_of PAGES F.SLOTS (F.state flash.new).words) (spare_in F.SLOTS turn)
         (first + STEP_PAGES) n) }
+    ensures passes { IfOk result (λ n. n + (F.state flash.old).faults
+        ≤ next + STEP_PAGES + (F.state flash.new).faults) }
     ensures light { Tries 1 (F.state flash.old) (F.state flash.new) result }
     ensures work { Costs 32 2 (F.state flash.old) (F.state flash.new) }
+    ensures erases { (F.state flash.new).erases ≡ (F.state flash.old).erases }
 {
-    let mut next = next;
+    let mut free = next;
     for k in 0..STEP_PAGES {
         let end = F::SLOTS - STEP_PAGES + k + 1;
-        next = copy_ahead(flash, turn, table, next, end, first + k)?;
+        free = copy_ahead(flash, turn, table, free, end, first + k)?;
     }
-    Ok(next)
+    Ok(free)
 }
 
 /// The number of free slots at which the move begins: those that are written while it goes on.
 fn lead<F: Flash>() -> u16
-    ensures { result ≡ F.SECTORS + COPY_STEPS + 1 }
+    ensures { result ≡ lead_of F.SECTORS }
 {
     F::SECTORS + COPY_STEPS + 1
 }
@@ -106,8 +112,10 @@ fn pass_turn<F: Flash>(flash: &mut F, place: &mut PageMap) -> Result<(), DeviceE
         ≡ words_of PAGES F.SLOTS (F.state flash.old).words }
     ensures log { IsLog PAGES F.SLOTS F.SECTORS F.sector_start (F.state flash.new).words place.new }
     ensures ready { OnOk result (place.new.ready ≡ true) }
+    ensures fresh { OnOk result (IsFresh place.new place.old.behind) }
     ensures light { Tries 1 (F.state flash.old) (F.state flash.new) result }
     ensures work { Costs 1 2 (F.state flash.old) (F.state flash.new) }
+    ensures erases { (F.state flash.new).erases ≡ (F.state flash.old).erases }
 {
     let next = spare(place.turn);
     close(flash, place.turn)?;
@@ -132,8 +140,11 @@ fn pass_on<F: Flash>(flash: &mut F, place: &mut PageMap) -> Result<(), DeviceErr
         ≡ words_of PAGES F.SLOTS (F.state flash.old).words }
     ensures log { IsLog PAGES F.SLOTS F.SECTORS F.sector_start (F.state flash.new).words place.new }
     ensures ready { OnOk result (place.new.ready ≡ true) }
+    ensures step { OnOk result (place.new
+        ≡ record place.old { ready = true; turn = 2; erased = 0; copied = 0; behind = 0 }) }
     ensures light { Tries 1 (F.state flash.old) (F.state flash.new) result }
     ensures work { Costs 2 2 (F.state flash.old) (F.state flash.new) }
+    ensures erases { (F.state flash.new).erases ≤ (F.state flash.old).erases + 1 }
 {
     place.ready = false;
     place.erased = 0;
@@ -155,8 +166,10 @@ fn erase_next<F: Flash>(flash: &mut F, place: &mut PageMap) -> Result<(), Device
         ≡ words_of PAGES F.SLOTS (F.state flash.old).words }
     ensures log { IsLog PAGES F.SLOTS F.SECTORS F.sector_start (F.state flash.new).words place.new }
     ensures ready { OnOk result (place.new.ready ≡ true) }
+    ensures step { OnOk result (place.new ≡ record place.old { ready = true; erased = place.old.erased + 1 }) }
     ensures light { Tries 1 (F.state flash.old) (F.state flash.new) result }
     ensures work { Costs 1 2 (F.state flash.old) (F.state flash.new) }
+    ensures erases { (F.state flash.new).erases ≤ (F.state flash.old).erases + 1 }
 {
     place.ready = false;
     flash.erase(first_sector_of_spare::<F>(place.turn) + place.erased)?;
@@ -176,8 +189,12 @@ fn copy_next<F: Flash>(flash: &mut F, place: &mut PageMap) -> Result<(), DeviceE
         ≡ words_of PAGES F.SLOTS (F.state flash.old).words }
     ensures log { IsLog PAGES F.SLOTS F.SECTORS F.sector_start (F.state flash.new).words place.new }
     ensures ready { OnOk result (place.new.ready ≡ true) }
+    ensures pace { OnOk result (IsRoomy F.SLOTS F.SECTORS → F.SLOTS ≤ place.old.next + lead_of F.SECTORS
+        → KeepsPace F.SLOTS F.SECTORS place.old → (F.state flash.new).faults ≡ (F.state flash.old).faults
+        → HasStepped F.SLOTS F.SECTORS place.new) }
     ensures light { Tries 1 (F.state flash.old) (F.state flash.new) result }
     ensures work { Costs 33 2 (F.state flash.old) (F.state flash.new) }
+    ensures erases { (F.state flash.new).erases ≡ (F.state flash.old).erases }
 {
     let most = F::SLOTS - STEP_PAGES;
     if place.behind > most {
@@ -207,8 +224,12 @@ pub fn take_step<F: Flash>(flash: &mut F, place: &mut PageMap) -> Result<(), Dev
         ≡ words_of PAGES F.SLOTS (F.state flash.old).words }
     ensures log { IsLog PAGES F.SLOTS F.SECTORS F.sector_start (F.state flash.new).words place.new }
     ensures ready { OnOk result (place.new.ready ≡ true) }
+    ensures pace { OnOk result (IsRoomy F.SLOTS F.SECTORS → KeepsPace F.SLOTS F.SECTORS place.old
+        → (F.state flash.new).faults ≡ (F.state flash.old).faults
+        → HasStepped F.SLOTS F.SECTORS place.new) }
     ensures light { Tries 1 (F.state flash.old) (F.state flash.new) result }
     ensures work { Costs 33 2 (F.state flash.old) (F.state flash.new) }
+    ensures erases { (F.state flash.new).erases ≤ (F.state flash.old).erases + 1 }
 {
     if F::SLOTS - place.next > lead::<F>() {
         return Ok(());

@@ -66,6 +66,7 @@ pub fn erase_witness<F: Flash>(flash: &mut F) -> Result<(), DeviceErr>
     ensures done { OnOk result (AreFilled (F.state flash.new).words (witness_start F.SLOTS) 2 BLANK) }
     ensures elsewhere { SameElsewhere (F.state flash.old).words (witness_start F.SLOTS) 2 (F.state flash.new).words }
     ensures work { (F.state flash.new).operations ≤ (F.state flash.old).operations + 1 }
+    ensures erases { (F.state flash.new).erases ≤ (F.state flash.old).erases + 1 }
     ensures light { Lights (F.state flash.old) (F.state flash.new) result }
 {
     flash.erase(2 * F::SECTORS)

@@ -40,6 +40,7 @@ pub trait Flash {
         ensures word { IfOk result (λ w. w ≡ slice_index (state self.old).words at) }
         ensures words { (state self.new).words ≡ (state self.old).words }
         ensures work { (state self.new).operations ≡ (state self.old).operations }
+        ensures erases { (state self.new).erases ≡ (state self.old).erases }
         ensures light { Lights (state self.old) (state self.new) result };
 
     /// Programs words from an address on, where all words are blank. After an error each word of the run holds
@@ -51,6 +52,7 @@ pub trait Flash {
         ensures done { OnOk result (IsThere (state self.new).words at words.now) }
         ensures elsewhere { SameElsewhere (state self.old).words at (length words.now) (state self.new).words }
         ensures work { (state self.new).operations ≤ (state self.old).operations + 1 }
+        ensures erases { (state self.new).erases ≡ (state self.old).erases }
         ensures light { Lights (state self.old) (state self.new) result };
 
     /// Erases a sector. After an error each of its words holds anything. No other word changes.
@@ -62,6 +64,7 @@ pub trait Flash {
         ensures elsewhere { SameElsewhere (state self.old).words (sector_start sector)
             (sector_start (sector + 1) - sector_start sector) (state self.new).words }
         ensures work { (state self.new).operations ≤ (state self.old).operations + 1 }
+        ensures erases { (state self.new).erases ≤ (state self.old).erases + 1 }
         ensures light { Lights (state self.old) (state self.new) result };
 
     /// Each flash has all its words, of 32 bits.

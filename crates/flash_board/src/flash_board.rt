@@ -21,9 +21,9 @@ pub struct FlashBoard<F: Flash> {
     writes: u64,
     compares: [u64; SECRETS as usize],
     matches: [u64; SECRETS as usize],
-    ghost lit: { dark ≡ false → log.dark ≡ false },
-    ghost sized: { length log.words ≡ 16 * PAGES },
-    ghost words_fit: { AreWords log.words },
+    ghost lit: { dark ≡ false → log.flash.dark ≡ false },
+    ghost sized: { length log.flash.words ≡ 16 * PAGES },
+    ghost words_fit: { AreWords log.flash.words },
     ghost compares_counted: { length compares ≡ SECRETS },
     ghost matches_counted: { length matches ≡ SECRETS },
     ghost faults_fit: { faults ≤ COUNT_END },
@@ -32,7 +32,7 @@ pub struct FlashBoard<F: Flash> {
     ghost compares_fit: { All (λ n. n ≤ COUNT_END) compares },
     ghost matches_fit: { All (λ n. n ≤ COUNT_END) matches },
     ghost may_go: { dark ≡ false → cuts < COUNT_END },
-    ghost faults_are_its_own: { faults ≤ log.faults },
+    ghost faults_are_its_own: { faults ≤ log.flash.faults },
 }
 
 impl<F: Flash> FlashBoard<F> {
@@ -41,8 +41,8 @@ impl<F: Flash> FlashBoard<F> {
 
     /// The board of a log that has power. Its counts are 0.
     pub fn new(log: FlashLog<F>) -> FlashBoard<F>
-        requires { log.dark ≡ false }
-        ensures { flash_facts result ≡ made_of log }
+        requires { log.flash.dark ≡ false }
+        ensures { flash_facts result ≡ made_of log.flash }
     {
         log.words_fit();
         FlashBoard {
@@ -58,10 +58,10 @@ impl<F: Flash> FlashBoard<F> {
 
     /// Gives the log back.
     pub fn into_log(self) -> FlashLog<F>
-        ensures words { result.words ≡ (flash_facts self).words }
-        ensures due { result.due ≡ (flash_facts self).due }
+        ensures words { result.flash.words ≡ (flash_facts self).words }
+        ensures due { result.flash.due ≡ (flash_facts self).due }
         // A fault of the board is one of its flash.
-        ensures faults { (flash_facts self).faults ≤ result.faults }
+        ensures faults { (flash_facts self).faults ≤ result.flash.faults }
     {
         self.log
     }
@@ -117,8 +117,12 @@ impl<F: Flash> FlashBoard<F> {
 }
 
 impl<F: Flash> Board for FlashBoard<F> {
+    ghost use Rattle.flash_board.specs.BoardLogs.{log_of};
     ghost use Rattle.flash_board.specs.FlashFacts.{flash_facts};
+    ghost use Rattle.flash_board.specs.Paces.{IsRoomy, Pauses};
     ghost use Rattle.flash_board.specs.laws.Boards.{flash_is_board};
+    ghost use Rattle.nvm_board.specs.BoardCalls.{FitsPage, Writes};
+    ghost use Rattle.nvm_board.specs.Facts.{address};
 
     ghost facts = { flash_facts };
 
@@ -151,12 +155,19 @@ impl<F: Flash> Board for FlashBoard<F> {
     }
 
     #[tactic(auto, unfolding(nvm_board::specs::Facts::IsLostRightly))]
-    fn write(&mut self, page: u16, first: u8, words: &[u32]) -> Result<(), DeviceErr> {
+    fn write(&mut self, page: u16, first: u8, words: &[u32]) -> Result<(), DeviceErr>
+        requires { FitsPage page first words.now (flash_facts self.old) }
+        ensures writes { Writes (address page first) words.now (flash_facts self.old) (flash_facts self.new) result }
+        // Behind a power-on or a fault of the flash, all writes but one are short.
+        ensures pause { IsRoomy F.SLOTS F.SECTORS → Pauses 37 (log_of self.old).flash (log_of self.new).flash
+            ((log_of self.old).paced ≡ true) ((log_of self.new).paced ≡ true) result }
+    {
         if self.dark {
             return Err(DeviceErr::PowerLost);
         }
         if self.writes == COUNT_END {
-            self.go_dark();
+            self.cuts += 1;
+            self.dark = true;
             return Err(DeviceErr::PowerLost);
         }
         let ended = self.log.write(page, first, words);

@@ -3,6 +3,7 @@ ghost use Rattle.std.specs.Prelude.{◌≡◌, ◌⊎◌, ◌<◌, ◌≤◌, �
 ghost use Rattle.nvm_board.specs.Facts.{AreWords};
 ghost use Rattle.nvm_board.specs.History.{written};
 ghost use Rattle.flash_board.specs.FlashCalls.{Costs, Lights, Tries};
+ghost use Rattle.flash_board.specs.Paces.{IsRoomy, Pauses};
 ghost use Rattle.flash_board.specs.declared.layout.TheConstants.{PAGES, TRIES};
 
 use crate::cut_flash::CutFlash;
@@ -33,25 +34,28 @@ pub struct FlashLog<F: Flash> {
 }
 
 impl<F: Flash> Model for FlashLog<F> {
-    ghost use Rattle.flash_board.specs.FlashCalls.{FlashState};
+    ghost use Rattle.flash_board.specs.Paces.{LogState, is_paced};
     ghost use Rattle.flash_board.specs.Places.{IsLog, state_of};
     ghost use Rattle.flash_board.specs.declared.layout.TheConstants.{PAGES};
 
-    ghost Value = { FlashState };
+    ghost Value = { LogState };
 
-    ghost view = { λ l. state_of PAGES F.SLOTS (F.state l.flash) };
+    ghost view = { λ l. record {
+      flash = state_of PAGES F.SLOTS (F.state l.flash);
+      paced = is_paced F.SLOTS F.SECTORS l.place;
+    } };
 
     ghost invariant = { λ l. IsLog PAGES F.SLOTS F.SECTORS F.sector_start (F.state l.flash).words l.place };
 }
 
 impl<F: Flash> FlashLog<F> {
-    ghost use Rattle.flash_board.specs.Places.{OpenStopsBy, state_of};
+    ghost use Rattle.flash_board.specs.Places.{OpenStopsBy, new_log, state_of};
     ghost use Rattle.flash_board.specs.Rings.{IsRing};
 
     /// The log of a flash that has one.
     pub fn new(flash: F) -> FlashLog<F>
         requires { IsRing F.SLOTS (F.state flash).words }
-        ensures is { result ≡ state_of PAGES F.SLOTS (F.state flash) }
+        ensures is { result ≡ new_log PAGES F.SLOTS (F.state flash) }
     {
         FlashLog {
             flash,
@@ -74,7 +78,7 @@ impl<F: Flash> FlashLog<F> {
     /// The flash has no log, power was lost, or the flash failed.
     pub fn open(flash: F) -> Result<FlashLog<F>, (F, FlashFault)>
         requires { (F.state flash).dark ≡ false }
-        ensures log { IfOk result (λ l. l ≡ state_of PAGES F.SLOTS (F.state flash)) }
+        ensures log { IfOk result (λ l. l ≡ new_log PAGES F.SLOTS (F.state flash)) }
         ensures has_log { IfOk result (λ _. IsRing F.SLOTS (F.state flash).words) }
         ensures stopped { IfErr result (λ e. OpenStopsBy F.SLOTS e.1 (F.state flash) (F.state e.0)) }
     {
@@ -89,7 +93,7 @@ impl<F: Flash> FlashLog<F> {
 
     /// Gives the flash back, of which a log can be made again.
     pub fn into_flash(self) -> F
-        ensures is { state_of PAGES F.SLOTS (F.state result) ≡ self }
+        ensures is { state_of PAGES F.SLOTS (F.state result) ≡ self.flash }
         ensures ring { IsRing F.SLOTS (F.state result).words }
     {
         let FlashLog { flash, place: _ } = self;
@@ -98,34 +102,40 @@ impl<F: Flash> FlashLog<F> {
 
     /// Proves that there are 16 words a page, of 32 bits.
     pub fn words_fit(&self)
-        ensures size { length self.now.words ≡ 16 * PAGES }
-        ensures fit { AreWords self.now.words }
+        ensures size { length self.now.flash.words ≡ 16 * PAGES }
+        ensures fit { AreWords self.now.flash.words }
     {
         let _ = &self.flash;
     }
 
     /// Reads a word.
     pub fn read(&mut self, at: u16) -> Result<u32, DeviceErr>
-        requires lit { self.old.dark ≡ false }
+        requires lit { self.old.flash.dark ≡ false }
         requires at { at < 16 * PAGES }
-        ensures word { IfOk result (λ w. w ≡ slice_index self.old.words at) }
-        ensures words { self.new.words ≡ self.old.words }
-        ensures work { self.new.operations ≡ self.old.operations }
-        ensures light { Lights self.old self.new result }
+        ensures word { IfOk result (λ w. w ≡ slice_index self.old.flash.words at) }
+        ensures words { self.new.flash.words ≡ self.old.flash.words }
+        ensures work { self.new.flash.operations ≡ self.old.flash.operations }
+        ensures erases { self.new.flash.erases ≡ self.old.flash.erases }
+        ensures light { Lights self.old.flash self.new.flash result }
+        ensures paced { self.old.paced ≡ true → self.new.paced ≡ true }
     {
         read_at(&mut self.flash, &mut self.place, at)
     }
 
     /// Writes a run of a page. At every exit all words of the run are old, or all are new.
     pub fn write(&mut self, page: u16, first: u8, words: &[u32]) -> Result<(), DeviceErr>
-        requires lit { self.old.dark ≡ false }
+        requires lit { self.old.flash.dark ≡ false }
         requires page { page < PAGES }
         requires run { first + length words.now ≤ 16 }
-        ensures whole { (self.new.words ≡ self.old.words)
-            ⊎ (self.new.words ≡ written self.old.words (16 * page + first) words.now) }
-        ensures done { OnOk result (self.new.words ≡ written self.old.words (16 * page + first) words.now) }
-        ensures light { Tries TRIES self.old self.new result }
-        ensures work { Costs (2088 + F.SECTORS) (2090 + F.SECTORS) self.old self.new }
+        ensures whole { (self.new.flash.words ≡ self.old.flash.words)
+            ⊎ (self.new.flash.words ≡ written self.old.flash.words (16 * page + first) words.now) }
+        ensures done { OnOk result (self.new.flash.words
+            ≡ written self.old.flash.words (16 * page + first) words.now) }
+        ensures light { Tries TRIES self.old.flash self.new.flash result }
+        ensures work { Costs (2088 + F.SECTORS) (2090 + F.SECTORS) self.old.flash self.new.flash }
+        // At most one write after each power-on, or after a Fault, takes more than 37 programs and erases.
+        ensures pause { IsRoomy F.SLOTS F.SECTORS → Pauses 37 self.old.flash self.new.flash
+            (self.old.paced ≡ true) (self.new.paced ≡ true) result }
     {
         write_at(&mut self.flash, &mut self.place, page, first, words)
     }
@@ -134,7 +144,7 @@ impl<F: Flash> FlashLog<F> {
 impl<F: FlashSocket> FlashLog<F> {
     /// Switches power on. The next call finds the pages again.
     pub fn light(&mut self)
-        ensures { self.new ≡ record self.old { dark = false } }
+        ensures { self.new ≡ record { flash = record self.old.flash { dark = false }; paced = false } }
     {
         self.place.ready = false;
         self.place.tried = 0;
@@ -143,7 +153,7 @@ impl<F: FlashSocket> FlashLog<F> {
 
     /// Switches power off.
     pub fn power_off(&mut self)
-        ensures { self.new ≡ record self.old { dark = true } }
+        ensures { self.new ≡ record self.old { flash = record self.old.flash { dark = true } } }
     {
         self.flash.power_off();
     }
@@ -153,21 +163,21 @@ impl<F: CutFlash> FlashLog<F> {
     /// Sets program or erase `k` of the flash from now on, counted from 1, to lose power.
     pub fn set_cut(&mut self, k: u32)
         requires { 1 ≤ k }
-        ensures { self.new ≡ record self.old { due = 1 } }
+        ensures { self.new ≡ record self.old { flash = record self.old.flash { due = 1 } } }
     {
         self.flash.set_cut(k);
     }
 
     /// Takes back the power loss that is set, if there is one.
     pub fn clear_cut(&mut self)
-        ensures { self.new ≡ record self.old { due = 0 } }
+        ensures { self.new ≡ record self.old { flash = record self.old.flash { due = 0 } } }
     {
         self.flash.clear_cut();
     }
 
     /// Proves that the flash never failed.
     pub fn has_no_fault(&self)
-        ensures { self.now.faults ≡ 0 }
+        ensures { self.now.flash.faults ≡ 0 }
     {
         let _ = &self.flash;
     }

@@ -35,6 +35,7 @@ pub fn read_page_word<F: Flash>(
         (base_in F.SLOTS area) F.SLOTS page place) }
     ensures words { (F.state flash.new).words ≡ (F.state flash.old).words }
     ensures work { (F.state flash.new).operations ≡ (F.state flash.old).operations }
+    ensures erases { (F.state flash.new).erases ≡ (F.state flash.old).erases }
     ensures light { Lights (F.state flash.old) (F.state flash.new) result }
 {
     let found = table[usize::from(page)];
@@ -60,6 +61,7 @@ pub fn record_of<F: Flash>(
     ensures names { IfOk result (λ r. slice_index r 16 ≡ page) }
     ensures words { (F.state flash.new).words ≡ (F.state flash.old).words }
     ensures work { (F.state flash.new).operations ≡ (F.state flash.old).operations }
+    ensures erases { (F.state flash.new).erases ≡ (F.state flash.old).erases }
     ensures light { Lights (F.state flash.old) (F.state flash.new) result }
 {
     let mut found: Record = [0; 18];

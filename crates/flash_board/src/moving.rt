@@ -32,8 +32,10 @@ pub fn put_in_spare<F: Flash>(
         × KeepsOthers F.SLOTS (F.state flash.old).words (base_in F.SLOTS area) (slice_index words.now 16)
         (F.state flash.new).words
         (s + 1)) }
+    ensures passes { IfOk result (λ n. n + (F.state flash.old).faults ≤ next + (F.state flash.new).faults) }
     ensures light { Tries (end - next) (F.state flash.old) (F.state flash.new) result }
     ensures work { Costs 2 2 (F.state flash.old) (F.state flash.new) }
+    ensures erases { (F.state flash.new).erases ≡ (F.state flash.old).erases }
 {
     for slot in next..end {
         match program_record(flash, slot_at::<F>(area, slot), words) {
@@ -67,6 +69,7 @@ fn copy_page<F: Flash>(
         (base_in F.SLOTS to) page
         (F.state flash.new).words table.new n) }
     ensures more { IfOk result (λ n. n ≤ page + 1 + SPARES) }
+    ensures passes { IfOk result (λ n. n + (F.state flash.old).faults ≤ next + 1 + (F.state flash.new).faults) }
     ensures light { Tries 1 (F.state flash.old) (F.state flash.new) result }
     ensures work { Costs 2 2 (F.state flash.old) (F.state flash.new) }
 {
@@ -95,6 +98,7 @@ pub fn copy_pages<F: Flash>(
     ensures copied { IfOk result (λ n. HasCopied F.SLOTS (F.state flash.old).words table.old (base_in F.SLOTS from)
         (base_in F.SLOTS to) PAGES
         (F.state flash.new).words table.new n) }
+    ensures passes { IfOk result (λ n. n + (F.state flash.old).faults ≤ PAGES + (F.state flash.new).faults) }
     ensures light { Tries 1 (F.state flash.old) (F.state flash.new) result }
     ensures work { Costs 2048 2 (F.state flash.old) (F.state flash.new) }
 {

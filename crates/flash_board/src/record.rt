@@ -20,6 +20,7 @@ pub fn is_marked<F: Flash>(flash: &mut F, at: u32) -> Result<bool, DeviceErr>
     ensures marked { IfOk result (λ b. b ≡ has_mark (F.state flash.old).words at) }
     ensures words { (F.state flash.new).words ≡ (F.state flash.old).words }
     ensures work { (F.state flash.new).operations ≡ (F.state flash.old).operations }
+    ensures erases { (F.state flash.new).erases ≡ (F.state flash.old).erases }
     ensures light { Lights (F.state flash.old) (F.state flash.new) result }
 {
     let first = flash.read(at)?;
@@ -35,6 +36,7 @@ pub fn program_mark<F: Flash>(flash: &mut F, at: u32) -> Result<(), DeviceErr>
     ensures done { OnOk result (has_mark (F.state flash.new).words at ≡ true) }
     ensures elsewhere { SameElsewhere (F.state flash.old).words at 2 (F.state flash.new).words }
     ensures work { (F.state flash.new).operations ≤ (F.state flash.old).operations + 1 }
+    ensures erases { (F.state flash.new).erases ≡ (F.state flash.old).erases }
     ensures light { Lights (F.state flash.old) (F.state flash.new) result }
 {
     flash.program(at, &[FIRST_MARK, SECOND_MARK])?;
@@ -48,6 +50,7 @@ pub fn is_closed<F: Flash>(flash: &mut F, block: u8) -> Result<bool, DeviceErr>
     ensures closed { IfOk result (λ b. b ≡ has_closed (F.state flash.old).words (close_of F.SLOTS block)) }
     ensures words { (F.state flash.new).words ≡ (F.state flash.old).words }
     ensures work { (F.state flash.new).operations ≡ (F.state flash.old).operations }
+    ensures erases { (F.state flash.new).erases ≡ (F.state flash.old).erases }
     ensures light { Lights (F.state flash.old) (F.state flash.new) result }
 {
     let at = close_at::<F>(block);
@@ -67,6 +70,7 @@ pub fn close<F: Flash>(flash: &mut F, block: u8) -> Result<(), DeviceErr>
     ensures done { OnOk result (has_closed (F.state flash.new).words (close_of F.SLOTS block) ≡ true) }
     ensures elsewhere { SameElsewhere (F.state flash.old).words (close_of F.SLOTS block) 2 (F.state flash.new).words }
     ensures work { (F.state flash.new).operations ≤ (F.state flash.old).operations + 1 }
+    ensures erases { (F.state flash.new).erases ≡ (F.state flash.old).erases }
     ensures light { Lights (F.state flash.old) (F.state flash.new) result }
 {
     flash.program(close_at::<F>(block), &[FIRST_MARK, SECOND_MARK])?;
@@ -82,6 +86,7 @@ pub fn program_record<F: Flash>(flash: &mut F, at: u32, words: &Record) -> Resul
     ensures puts { PutsInSlot (F.state flash.old).words at words.now (F.state flash.new).words }
     ensures done { OnOk result (IsPut (F.state flash.new).words at words.now) }
     ensures work { (F.state flash.new).operations ≤ (F.state flash.old).operations + 2 }
+    ensures erases { (F.state flash.new).erases ≡ (F.state flash.old).erases }
     ensures light { Lights (F.state flash.old) (F.state flash.new) result }
 {
     flash.program(at, words)?;
@@ -96,6 +101,7 @@ pub fn is_blank<F: Flash>(flash: &mut F, at: u32) -> Result<bool, DeviceErr>
     ensures blank { IfOk result (λ b. b ≡ true → AreFilled (F.state flash.old).words at 20 BLANK) }
     ensures words { (F.state flash.new).words ≡ (F.state flash.old).words }
     ensures work { (F.state flash.new).operations ≡ (F.state flash.old).operations }
+    ensures erases { (F.state flash.new).erases ≡ (F.state flash.old).erases }
     ensures light { Lights (F.state flash.old) (F.state flash.new) result }
 {
     for k in 0..SLOT_WORDS {

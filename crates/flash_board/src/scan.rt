@@ -28,6 +28,7 @@ fn scan_slot<F: Flash>(
     ensures free { IfOk result (λ n. AreFree (F.state flash.old).words (base_in F.SLOTS area) n (slot + 1)) }
     ensures words { (F.state flash.new).words ≡ (F.state flash.old).words }
     ensures work { (F.state flash.new).operations ≡ (F.state flash.old).operations }
+    ensures erases { (F.state flash.new).erases ≡ (F.state flash.old).erases }
     ensures light { Lights (F.state flash.old) (F.state flash.new) result }
 {
     let at = slot_at::<F>(area, slot);
@@ -52,6 +53,7 @@ pub fn scan<F: Flash>(flash: &mut F, area: u8, table: &mut PageTable) -> Result<
     ensures free { IfOk result (λ n. AreFree (F.state flash.old).words (base_in F.SLOTS area) n F.SLOTS) }
     ensures words { (F.state flash.new).words ≡ (F.state flash.old).words }
     ensures work { (F.state flash.new).operations ≡ (F.state flash.old).operations }
+    ensures erases { (F.state flash.new).erases ≡ (F.state flash.old).erases }
     ensures light { Lights (F.state flash.old) (F.state flash.new) result }
 {
     *table = blank_table();

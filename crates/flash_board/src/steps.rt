@@ -3,6 +3,7 @@ ghost use Rattle.std.specs.Prelude.{◌≡◌, ◌⊎◌, ◌<◌, ◌≤◌, �
 ghost use Rattle.nvm_board.specs.History.{written};
 ghost use Rattle.flash_board.specs.FlashCalls.{Costs, Lights, Tries};
 ghost use Rattle.flash_board.specs.FlashLogs.{words_of};
+ghost use Rattle.flash_board.specs.Paces.{HasStepped, IsFresh, IsRoomy, KeepsPace, Pauses};
 ghost use Rattle.flash_board.specs.Places.{IsLog, IsPlaceOf};
 ghost use Rattle.flash_board.specs.declared.layout.TheConstants.{PAGES, TRIES};
 
@@ -35,8 +36,10 @@ pub fn find_pages<F: Flash>(flash: &mut F, place: &mut PageMap) -> Result<(), De
     requires log { IsLog PAGES F.SLOTS F.SECTORS F.sector_start (F.state flash.old).words place.old }
     ensures words { (F.state flash.new).words ≡ (F.state flash.old).words }
     ensures work { (F.state flash.new).operations ≡ (F.state flash.old).operations }
+    ensures erases { (F.state flash.new).erases ≡ (F.state flash.old).erases }
     ensures log { IsLog PAGES F.SLOTS F.SECTORS F.sector_start (F.state flash.new).words place.new }
     ensures ready { OnOk result (place.new.ready ≡ true) }
+    ensures known { place.old.ready ≡ true → place.new ≡ place.old }
     ensures light { Lights (F.state flash.old) (F.state flash.new) result }
 {
     if place.ready {
@@ -63,6 +66,10 @@ pub fn make_room<F: Flash>(flash: &mut F, place: &mut PageMap) -> Result<(), Dev
     ensures log { IsLog PAGES F.SLOTS F.SECTORS F.sector_start (F.state flash.new).words place.new }
     ensures ready { OnOk result (place.new.ready ≡ true) }
     ensures room { OnOk result (place.new.next < F.SLOTS) }
+    ensures same { place.old.next < F.SLOTS → (place.new ≡ place.old) × (F.state flash.new ≡ F.state flash.old) }
+    ensures fresh { OnOk result (F.SLOTS ≤ place.old.next
+        → (F.state flash.new).faults ≡ (F.state flash.old).faults
+        → IsFresh place.new place.new.next × (place.new.next ≤ PAGES)) }
     ensures light { Tries 1 (F.state flash.old) (F.state flash.new) result }
     ensures work { Costs (2051 + F.SECTORS) 2 (F.state flash.old) (F.state flash.new) }
 {
@@ -102,6 +109,8 @@ fn prepare<F: Flash>(flash: &mut F, place: &mut PageMap) -> Result<(), DeviceErr
     ensures room { OnOk result ((place.new.next < F.SLOTS) × (place.new.behind < F.SLOTS)) }
     ensures light { Tries 1 (F.state flash.old) (F.state flash.new) result }
     ensures work { Costs (2084 + F.SECTORS) 2 (F.state flash.old) (F.state flash.new) }
+    ensures pause { IsRoomy F.SLOTS F.SECTORS → Pauses 33 (F.state flash.old) (F.state flash.new)
+        (KeepsPace F.SLOTS F.SECTORS place.old) (HasStepped F.SLOTS F.SECTORS place.new) result }
 {
     find_pages(flash, place)?;
     take_step(flash, place)?;
@@ -123,7 +132,9 @@ pub fn read_at<F: Flash>(flash: &mut F, place: &mut PageMap, at: u16) -> Result<
     ensures word { IfOk result (λ w. w ≡ slice_index (words_of PAGES F.SLOTS (F.state flash.old).words) at) }
     ensures words { (F.state flash.new).words ≡ (F.state flash.old).words }
     ensures work { (F.state flash.new).operations ≡ (F.state flash.old).operations }
+    ensures erases { (F.state flash.new).erases ≡ (F.state flash.old).erases }
     ensures log { IsLog PAGES F.SLOTS F.SECTORS F.sector_start (F.state flash.new).words place.new }
+    ensures known { place.old.ready ≡ true → place.new ≡ place.old }
     ensures light { Lights (F.state flash.old) (F.state flash.new) result }
 {
     find_pages(flash, place)?;
@@ -152,6 +163,8 @@ fn write_once<F: Flash>(
     ensures log { IsLog PAGES F.SLOTS F.SECTORS F.sector_start (F.state flash.new).words place.new }
     ensures light { Tries 1 (F.state flash.old) (F.state flash.new) result }
     ensures work { Costs (2088 + F.SECTORS) 2 (F.state flash.old) (F.state flash.new) }
+    ensures pause { IsRoomy F.SLOTS F.SECTORS → Pauses 37 (F.state flash.old) (F.state flash.new)
+        (KeepsPace F.SLOTS F.SECTORS place.old) (KeepsPace F.SLOTS F.SECTORS place.new) result }
 {
     prepare(flash, place)?;
     place.ready = false;
@@ -194,6 +207,8 @@ pub fn write_at<F: Flash>(
     ensures log { IsLog PAGES F.SLOTS F.SECTORS F.sector_start (F.state flash.new).words place.new }
     ensures light { Tries TRIES (F.state flash.old) (F.state flash.new) result }
     ensures work { Costs (2088 + F.SECTORS) (2090 + F.SECTORS) (F.state flash.old) (F.state flash.new) }
+    ensures pause { IsRoomy F.SLOTS F.SECTORS → Pauses 37 (F.state flash.old) (F.state flash.new)
+        (KeepsPace F.SLOTS F.SECTORS place.old) (KeepsPace F.SLOTS F.SECTORS place.new) result }
 {
     for _ in 1..TRIES {
         match write_once(flash, place, page, first, words) {

@@ -46,6 +46,7 @@ pub fn find_turn<F: Flash>(flash: &mut F) -> Result<u8, DeviceErr>
     ensures small { IfOk result (λ t. t < 3) }
     ensures words { (F.state flash.new).words ≡ (F.state flash.old).words }
     ensures work { (F.state flash.new).operations ≡ (F.state flash.old).operations }
+    ensures erases { (F.state flash.new).erases ≡ (F.state flash.old).erases }
     ensures light { Lights (F.state flash.old) (F.state flash.new) result }
 {
     let a = is_closed(flash, 0)?;
@@ -61,6 +62,7 @@ pub fn has_ring<F: Flash>(flash: &mut F) -> Result<bool, DeviceErr>
     ensures none { IfOk result (λ b. b ≡ false → ¬ IsRing F.SLOTS (F.state flash.old).words) }
     ensures words { (F.state flash.new).words ≡ (F.state flash.old).words }
     ensures work { (F.state flash.new).operations ≡ (F.state flash.old).operations }
+    ensures erases { (F.state flash.new).erases ≡ (F.state flash.old).erases }
     ensures light { Lights (F.state flash.old) (F.state flash.new) result }
 {
     let a = is_closed(flash, 0)?;
@@ -79,6 +81,7 @@ pub fn pass_witness<F: Flash>(flash: &mut F) -> Result<(), DeviceErr>
     ensures area { SameElsewhere (F.state flash.old).words (close_b F.SLOTS) 4 (F.state flash.new).words }
     ensures done { OnOk result (turn_of F.SLOTS (F.state flash.new).words ≡ 2) }
     ensures work { (F.state flash.new).operations ≤ (F.state flash.old).operations + 2 }
+    ensures erases { (F.state flash.new).erases ≤ (F.state flash.old).erases + 1 }
     ensures light { Lights (F.state flash.old) (F.state flash.new) result }
 {
     erase_witness(flash)?;
@@ -105,6 +108,7 @@ fn erase_and_copy<F: Flash>(
     ensures index { OnOk result (IsPageTable PAGES (F.state flash.new).words (base_in F.SLOTS to) F.SLOTS table.new) }
     ensures free { IfOk result (λ n. AreFree (F.state flash.new).words (base_in F.SLOTS to) n F.SLOTS) }
     ensures room { IfOk result (λ n. n ≤ PAGES + SPARES) }
+    ensures passes { IfOk result (λ n. n + (F.state flash.old).faults ≤ PAGES + (F.state flash.new).faults) }
     ensures light { Tries 1 (F.state flash.old) (F.state flash.new) result }
     ensures work { Costs (2048 + F.SECTORS) 2 (F.state flash.old) (F.state flash.new) }
 {
@@ -126,6 +130,7 @@ pub fn move_to_b<F: Flash>(flash: &mut F, table: &mut PageTable) -> Result<u16, 
     ensures index { OnOk result (IsPageTable PAGES (F.state flash.new).words (area_size F.SLOTS) F.SLOTS table.new) }
     ensures free { IfOk result (λ n. AreFree (F.state flash.new).words (area_size F.SLOTS) n F.SLOTS) }
     ensures room { IfOk result (λ n. n ≤ PAGES + SPARES) }
+    ensures passes { IfOk result (λ n. n + (F.state flash.old).faults ≤ PAGES + (F.state flash.new).faults) }
     ensures light { Tries 1 (F.state flash.old) (F.state flash.new) result }
     ensures work { Costs (2049 + F.SECTORS) 2 (F.state flash.old) (F.state flash.new) }
 {
@@ -146,6 +151,7 @@ pub fn move_to_a<F: Flash>(flash: &mut F, table: &mut PageTable) -> Result<u16, 
     ensures index { OnOk result (IsPageTable PAGES (F.state flash.new).words 0 F.SLOTS table.new) }
     ensures free { IfOk result (λ n. AreFree (F.state flash.new).words 0 n F.SLOTS) }
     ensures room { IfOk result (λ n. n ≤ PAGES + SPARES) }
+    ensures passes { IfOk result (λ n. n + (F.state flash.old).faults ≤ PAGES + (F.state flash.new).faults) }
     ensures light { Tries 1 (F.state flash.old) (F.state flash.new) result }
     ensures work { Costs (2049 + F.SECTORS) 2 (F.state flash.old) (F.state flash.new) }
 {

@@ -47,6 +47,7 @@ pub fn write_run<F: Flash>(
         (F.state flash.new).words }
     ensures marks { SameMarks F.SLOTS (F.state flash.old).words (F.state flash.new).words }
     ensures work { (F.state flash.new).operations ≤ (F.state flash.old).operations + 2 }
+    ensures erases { (F.state flash.new).erases ≡ (F.state flash.old).erases }
     ensures light { Lights (F.state flash.old) (F.state flash.new) result }
 {
     let mut found = record_of(flash, area, table, page)?;
@@ -77,8 +78,12 @@ pub fn write_ahead<F: Flash>(
     ensures spare { IfOk result (λ n. IsSpare PAGES F.SLOTS F.SECTORS F.sector_start (F.state flash.new).words
         (written (words_of PAGES F.SLOTS (F.state flash.old).words) (16 * page + first) words.now)
         place.now.turn place.now.erased place.now.copied n) }
+    ensures passes { IfOk result (λ n. n + (F.state flash.old).faults
+        ≤ place.now.behind + 1 + (F.state flash.new).faults) }
+    ensures idle { IfOk result (λ n. place.now.copied ≡ 0 → n ≡ place.now.behind) }
     ensures light { Tries 1 (F.state flash.old) (F.state flash.new) result }
     ensures work { Costs 2 2 (F.state flash.old) (F.state flash.new) }
+    ensures erases { (F.state flash.new).erases ≡ (F.state flash.old).erases }
 {
     let copied = STEP_PAGES * place.copied;
     if page >= copied {

@@ -13,6 +13,7 @@ garbling_state f = record {
   due = if is_some f.cut then 1 else 0;
   faults = 0;
   operations = f.operations;
+  erases = f.erases;
 }
 
 -- a powered blank flash, on which no power loss is set
@@ -23,4 +24,5 @@ new_garbling_state = record {
   due = 0;
   faults = 0;
   operations = 0;
+  erases = 0;
 }

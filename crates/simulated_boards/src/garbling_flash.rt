@@ -29,6 +29,7 @@ pub struct GarblingFlash {
     /// What chooses the garbage.
     random: u64,
     operations: u64,
+    erases: u64,
     ghost sized: { length words.items ≡ FLASH_WORDS },
     ghost words_fit: { AreWords words.items },
 }
@@ -49,6 +50,7 @@ impl GarblingFlash {
             cut: None,
             random: next_random(seed),
             operations: 0,
+            erases: 0,
         })
     }
 
@@ -59,6 +61,7 @@ impl GarblingFlash {
         ensures lost { result ≡ true → (is_some self.old.cut ≡ true) × (self.new.cut ≡ None) }
         ensures spared { result ≡ false → is_some self.new.cut ≡ is_some self.old.cut }
         ensures work { self.new.operations ≤ self.old.operations + 1 }
+        ensures erases { self.new.erases ≡ self.old.erases }
     {
         self.operations = self.operations.saturating_add(1);
         self.random = next_random(self.random);
@@ -109,6 +112,7 @@ impl Flash for GarblingFlash {
     }
 
     fn erase(&mut self, sector: u16) -> Result<(), DeviceErr> {
+        self.erases = self.erases.saturating_add(1);
         if self.begin() {
             garble_run(
                 &mut self.words,

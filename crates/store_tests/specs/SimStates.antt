@@ -10,4 +10,5 @@ sim_state f = record {
   due = cuts_set f.fails f.left;
   faults = f.faults;
   operations = f.operations;
+  erases = f.erases;
 }

@@ -37,6 +37,7 @@ pub struct SimFlash {
     random: u64,
     faults: u64,
     operations: u64,
+    erases: u64,
     ghost sized: { length words.items ≡ FLASH_WORDS },
     ghost words_fit: { AreWords words.items },
 }
@@ -156,6 +157,7 @@ impl SimFlash {
             random: next_random(seed),
             faults: 0,
             operations: 0,
+            erases: 0,
         })
     }
 
@@ -252,6 +254,7 @@ impl Flash for SimFlash {
     }
 
     fn erase(&mut self, sector: u16) -> Result<(), DeviceErr> {
+        self.erases = self.erases.saturating_add(1);
         self.operations = self.operations.saturating_add(1);
         self.random = next_random(self.random);
         let stops = self.left == 1;

@@ -12,7 +12,7 @@ use Rattle.flash_board.specs.FlashFacts.{flash_facts}
 
 pub flash_is_board : {F : Type 0} {g : _} (b : FlashBoard F g) → IsBoard (flash_facts b)
 flash_is_board b = record {
-  sized = (memory_of_pages b.log.words 1024 (omega arith) (omega arith) b.sized).0;
+  sized = (memory_of_pages b.log.flash.words 1024 (omega arith) (omega arith) b.sized).0;
   words_fit = b.words_fit;
   counted = (b.compares_counted, b.matches_counted);
   counts_fit = record {

@@ -8,20 +8,21 @@ use Rattle.std.proofs.Math.Nat.{add-mul, mul-add, mul-le-mul_left}
 use Rattle.std.proofs.lemmas.List.Elements.{All-get_or, All-from_get_or}
 use Rattle.nvm_board.specs.Facts.{AreWords}
 use Rattle.flash_board.specs.FlashBlocks.{area_size, flash_size}
-use Rattle.flash_board.specs.FlashCalls.{FlashState, StaysLit, Tries}
+use Rattle.flash_board.specs.FlashCalls.{FlashState, Lights, StaysLit, Tries}
 use Rattle.flash_board.specs.FlashLogs.{find, word_of, slot_of, base_in, turn_of, words_of}
 use Rattle.flash_board.specs.laws.Indexing.{base_most, find_most}
 use Rattle.flash_board.specs.laws.Words.{length-words, index-words}
 
 -- calls that only read leave the flash as it was
 pub state_same : (old new : FlashState) → old.dark ≡ false → StaysLit old new → new.words ≡ old.words
-    → new.operations ≡ old.operations → new ≡ old
-state_same old new was stays words operations = λ i. record {
+    → new.operations ≡ old.operations → new.erases ≡ old.erases → new ≡ old
+state_same old new was stays words operations erases = λ i. record {
   words = words i;
   dark = (stays.lit ∙ sym was) i;
   due = stays.due i;
   faults = stays.faults i;
   operations = operations i;
+  erases = erases i;
 }
 
 -- the words of the board have 32 bits, since those of the flash do
@@ -47,6 +48,12 @@ pub tries_faults : {T : Type 0} (least : ℕ) (old new : FlashState) (r : Result
 tries_faults least old new (Ok x) tries = (tries.ok refl).faults
 tries_faults least old new (Err PowerLost) tries = (tries.lost refl).faults
 tries_faults least old new (Err Fault) tries = (tries.fault refl).0.faults
+
+pub lights_faults : {T : Type 0} (old new : FlashState) (r : Result T DeviceErr) → Lights old new r
+    → old.faults ≤ new.faults
+lights_faults old new (Ok x) lights = let same = (lights.ok refl).faults in omega (arith, same)
+lights_faults old new (Err PowerLost) lights = let same = (lights.lost refl).faults in omega (arith, same)
+lights_faults old new (Err Fault) lights = let more = (lights.fault refl).faults in omega (arith, more)
 
 -- What one try more costs, by the faults: n for each fault of those before it, c for this one, and 2 for each of its
 -- own faults.

@@ -1,11 +1,15 @@
-use Rattle.std.proofs.Common.{◌≡◌, ◌+◌, ◌*◌, ℕ, sym, subst, ◌∙◌, true≢false, arith}
+use Rattle.std.proofs.Common.{◌≡◌, ◌+◌, ◌*◌, ℕ, refl, sym, subst, ◌∙◌, true≢false, arith}
+use Rattle.std.proofs.lemmas.Result.{on_ok_weaker}
 use Rattle.flash_board.specs.FlashBlocks.{area_size}
 use Rattle.flash_board.specs.FlashCalls.{SameElsewhere}
 use Rattle.flash_board.specs.FlashLogs.{base_in, words_of}
+use Rattle.flash_board.specs.Paces.{IsFresh}
 use Rattle.flash_board.specs.Spares.{HasCopies, spare_in}
 use Rattle.flash_board.specs.laws.Copying.{area_free}
 use Rattle.flash_board.specs.laws.Marks.{elsewhere_wider}
 use Rattle.flash_board.specs.laws.Moving.{Stays}
+use Rattle.flash_board.specs.laws.Lighting.{tries_faults}
+use Rattle.flash_board.specs.laws.Pacing.{paced_behind, stepped_copied, stepped_fresh}
 use Rattle.flash_board.specs.laws.Sparing.{index_same, log_anew, spare_copied, spare_leaves, spare_stays}
 use Rattle.flash_board.specs.declared.layout.TheConstants.{PAGES}
 use Rattle.flash_board.proofs.ahead.copy_next.Goals as goal
@@ -183,3 +187,34 @@ returns-then-place-most-clause-log g c =
     let m = (g.F.Flash.state c.args.flash.now).words in
     log_anew PAGES slots sectors start g.met.F.Flash.sectors_rise fit.0 fit.1 fit.2 fit.4 m c.args.place.now
     c.requires.log
+
+pub returns-then-place-most-clause-pace : goal.returns-then-place-most-clause-pace
+returns-then-place-most-clause-pace g c = λ roomy due pace same.
+    let known = c.requires.log.known c.requires.ready in
+    let below = paced_behind g.F.Flash.SLOTS g.F.Flash.SECTORS c.args.place.now roomy known.spare.most pace in
+    let past = c.if-place-most.true in absurd (omega (arith, below, past, roomy))
+
+pub returns-then-place-eq-COPY_STEPS-clause-pace : goal.returns-then-place-eq-COPY_STEPS-clause-pace
+returns-then-place-eq-COPY_STEPS-clause-pace g c =
+    let slots = g.F.Flash.SLOTS in
+    let sectors = g.F.Flash.SECTORS in
+    let known = c.requires.log.known c.requires.ready in
+    let n = c.in_ok-behind.behind in
+    let passes = c.in_ok-behind.ensures.passes in
+    let before = (c.in_ok-behind.ensures.light.ok refl).faults in
+    let after = tries_faults 1 (g.F.Flash.state c.copy_step.new.flash) (g.F.Flash.state c.pass_turn.new.flash)
+    c.pass_turn.result c.pass_turn.ensures.light in
+    on_ok_weaker c.pass_turn.result
+    (λ (fresh : IsFresh c.pass_turn.new.place n). λ roomy due pace same.
+    let below = paced_behind slots sectors c.args.place.now roomy known.spare.most pace in
+    stepped_fresh slots sectors c.pass_turn.new.place n roomy (omega (arith, below, passes, before, after, same)) fresh)
+    c.pass_turn.ensures.fresh
+
+pub returns-clause-pace : goal.returns-clause-pace
+returns-clause-pace g c = λ roomy due pace same.
+    let known = c.requires.log.known c.requires.ready in
+    let last = c.if-place-eq-COPY_STEPS.false in
+    let most = known.spare.most in
+    let passes = c.in_ok-behind.ensures.passes in
+    stepped_copied g.F.Flash.SLOTS g.F.Flash.SECTORS c.args.place.now c.in_ok-behind.behind
+    (omega (arith, last, most)) due (omega (arith, passes, same)) pace

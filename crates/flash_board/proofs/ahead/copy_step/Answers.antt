@@ -19,6 +19,8 @@ loop-k-init g c =
       lit = c.requires.lit;
       steady = record { lit = c.requires.lit; due = refl; faults = omega arith };
       operations = omega arith;
+      erases = refl;
+      passes = omega arith;
       room = omega (arith, room);
       elsewhere = record { same = λ k out. refl };
       copies = subst (λ (n : ℕ). HasCopies PAGES slots m (words_of PAGES slots m) (spare_in slots c.args.turn) n
@@ -34,11 +36,11 @@ loop-k-preserved g c =
     let base = spare_in slots c.args.turn in
     let was = c.loop-k.invariant in
     let k = c.loop-k.k in
-    let lit = c.in_ok-next.ensures.light.ok refl in
-    let most = c.in_ok-next.ensures.most in
+    let lit = c.in_ok-free.ensures.light.ok refl in
+    let most = c.in_ok-free.ensures.most in
     let fits = g.met.F.Flash.slots_fit.0 in
     let there : c.args.first + k + 1 ≡ c.args.first + (k + 1) = omega arith in
-    let n = c.in_ok-next.next in
+    let n = c.in_ok-free.free in
     let work = c.copy_ahead.ensures.work.operations in
     let before = was.operations in
     let a = lit.faults in
@@ -47,10 +49,12 @@ loop-k-preserved g c =
       lit = lit.lit;
       steady = record { lit = lit.lit; due = lit.due ∙ was.steady.due; faults = omega (arith, a, b) };
       operations = omega (arith, before, work);
+      erases = c.copy_ahead.ensures.erases ∙ was.erases;
+      passes = omega (arith, was.passes, c.in_ok-free.ensures.passes);
       room = omega (arith, most, fits);
       elsewhere = elsewhere_then m mid after base (20 * slots) was.elsewhere c.copy_ahead.ensures.elsewhere;
       copies = subst (λ (j : ℕ). HasCopies PAGES slots after (words_of PAGES slots after) base j n) there
-          c.in_ok-next.ensures.copies;
+          c.in_ok-free.ensures.copies;
     }
 
 pub copy_ahead-requires-clause-turn : goal.copy_ahead-requires-clause-turn

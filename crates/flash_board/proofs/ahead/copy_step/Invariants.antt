@@ -13,8 +13,10 @@ invariant-loop-k g l =
       lit : new.dark ≡ false;
       steady : KeepsPower old new;
       operations : new.operations + 2 * old.faults ≤ old.operations + 2 * l.k + 2 * new.faults;
-      room : l.next + STEP_PAGES ≤ slots + l.k;
+      erases : new.erases ≡ old.erases;
+      passes : l.free + old.faults ≤ l.next + l.k + new.faults;
+      room : l.free + STEP_PAGES ≤ slots + l.k;
       elsewhere : SameElsewhere old.words (spare_in slots l.turn) (20 * slots) new.words;
       copies : HasCopies PAGES slots new.words (words_of PAGES slots new.words) (spare_in slots l.turn) (l.first + l.k)
-          l.next;
+          l.free;
     }

@@ -7,6 +7,7 @@ abbrev pub invariant-loop-k : goal.invariant-loop-k
 invariant-loop-k g l = let old = g.F.Flash.state l.initial.flash in let new = g.F.Flash.state l.flash in record {
   words : new.words ≡ old.words;
   work : new.operations ≡ old.operations;
+  erases : new.erases ≡ old.erases;
   lit : new.dark ≡ false;
   steady : StaysLit old new;
   size : length l.found ≡ 18;

@@ -11,6 +11,7 @@ loop-page-init g c =
       lit = c.requires.lit;
       steady = record { lit = c.requires.lit; due = refl; faults = omega arith };
       operations = omega arith;
+      passes = omega arith;
       copied = copied_none slots m c.args.table.now (base_in slots c.args.from)
           (base_in slots c.args.to) c.requires.free;
     }
@@ -49,6 +50,7 @@ loop-page-preserved g c =
         faults = omega (arith, lit.faults, c.loop-page.invariant.steady.faults);
       };
       operations = omega (arith, c.loop-page.invariant.operations, c.copy_page.ensures.work.operations);
+      passes = omega (arith, c.loop-page.invariant.passes, c.in_ok-next.ensures.passes);
       copied = copied_more slots m c.args.table.now mid c.loop-page.table from to page c.loop-page.next has after
           c.copy_page.new.table c.in_ok-next.next c.copy_page.ensures.elsewhere c.in_ok-next.ensures.copies
           c.in_ok-next.ensures.more same;

@@ -9,6 +9,7 @@ invariant-loop-page g l = let old = g.F.Flash.state l.initial.flash in let new =
   lit : new.dark ≡ false;
   steady : KeepsPower old new;
   operations : new.operations + 2 * old.faults ≤ old.operations + 2 * l.page + 2 * new.faults;
+  passes : l.next + old.faults ≤ l.page + new.faults;
   copied : HasCopied g.F.Flash.SLOTS old.words l.initial.table (base_in g.F.Flash.SLOTS l.from)
       (base_in g.F.Flash.SLOTS l.to) l.page new.words l.table l.next;
 }

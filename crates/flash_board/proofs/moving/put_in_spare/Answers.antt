@@ -58,6 +58,7 @@ loop-slot-preserved g c =
       };
       failed = omega (arith, more, was.failed);
       operations = omega (arith, more, work, was.operations);
+      erases = c.program_record.ensures.erases ∙ was.erases;
       elsewhere = elsewhere_then m mid after base (20 * slots) was.elsewhere within;
       kept = others_then slots m mid after base page s (s + 1) was.kept
           (others_kept slots mid after base s words puts below was.kept.free size page refl);

@@ -10,6 +10,7 @@ invariant-loop-slot g l = let old = g.F.Flash.state l.initial.flash in let new =
   steady : KeepsPower old new;
   failed : old.faults + l.slot ≤ new.faults + l.next;
   operations : new.operations + 2 * old.faults ≤ old.operations + 2 * new.faults;
+  erases : new.erases ≡ old.erases;
   elsewhere : SameElsewhere old.words (base_in g.F.Flash.SLOTS l.area) (20 * g.F.Flash.SLOTS) new.words;
   kept : KeepsOthers g.F.Flash.SLOTS old.words (base_in g.F.Flash.SLOTS l.area)
       (slice_index l.words 16) new.words l.slot;

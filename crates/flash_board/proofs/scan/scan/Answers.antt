@@ -11,6 +11,7 @@ loop-slot-init g c =
     record {
       words = refl;
       work = refl;
+      erases = refl;
       lit = c.requires.lit;
       steady = record { lit = c.requires.lit; due = refl; faults = refl };
       index = record { each = λ p lt. c.blank_table.ensures p lt ∙ sym (find_zero m base p) };

@@ -9,6 +9,7 @@ abbrev pub invariant-loop-slot : goal.invariant-loop-slot
 invariant-loop-slot g l = let old = g.F.Flash.state l.initial.flash in let new = g.F.Flash.state l.flash in record {
   words : new.words ≡ old.words;
   work : new.operations ≡ old.operations;
+  erases : new.erases ≡ old.erases;
   lit : new.dark ≡ false;
   steady : StaysLit old new;
   index : IsPageTable PAGES old.words (base_in g.F.Flash.SLOTS l.area) l.slot l.table;

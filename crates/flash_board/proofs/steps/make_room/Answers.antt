@@ -1,4 +1,4 @@
-use Rattle.std.proofs.Common.{ℕ, List, sym, subst, ◌∙◌, arith}
+use Rattle.std.proofs.Common.{ℕ, List, refl, sym, subst, ◌∙◌, arith}
 use Rattle.flash_board.specs.PageTables.{IsPageTable}
 use Rattle.flash_board.specs.laws.Copying.{SameArea, area_found}
 use Rattle.flash_board.specs.FlashLogs.{words_of}
@@ -62,3 +62,34 @@ returns-clause-log g c =
             g.met.F.Flash.sectors_rise fit.0 fit.1 fit.2 fit.4 after (words_of PAGES g.F.Flash.SLOTS after) 0;
       };
     }
+
+pub returns-in_err-free_in_b-clause-same : goal.returns-in_err-free_in_b-clause-same
+returns-in_err-free_in_b-clause-same g c = λ lt.
+    let full = c.if-place-SLOTS.false in absurd (omega (arith, lt, full))
+
+pub returns-in_err-pass_witness-clause-same : goal.returns-in_err-pass_witness-clause-same
+returns-in_err-pass_witness-clause-same g c = λ lt.
+    let full = c.if-place-SLOTS.false in absurd (omega (arith, lt, full))
+
+pub returns-in_err-free_in_a-clause-same : goal.returns-in_err-free_in_a-clause-same
+returns-in_err-free_in_a-clause-same g c = λ lt.
+    let full = c.if-place-SLOTS.false in absurd (omega (arith, lt, full))
+
+pub returns-then-place-eq0-clause-same : goal.returns-then-place-eq0-clause-same
+returns-then-place-eq0-clause-same g c = λ lt.
+    let full = c.if-place-SLOTS.false in absurd (omega (arith, lt, full))
+
+pub returns-clause-same : goal.returns-clause-same
+returns-clause-same g c = λ lt.
+    let full = c.if-place-SLOTS.false in absurd (omega (arith, lt, full))
+
+pub returns-then-place-SLOTS-clause-fresh : goal.returns-then-place-SLOTS-clause-fresh
+returns-then-place-SLOTS-clause-fresh g c = λ full same.
+    let lt = c.if-place-SLOTS.true in absurd (omega (arith, lt, full))
+
+pub returns-then-place-eq0-clause-fresh : goal.returns-then-place-eq0-clause-fresh
+returns-then-place-eq0-clause-fresh g c = λ full same.
+    let passes = c.in_ok-free_in_b.ensures.passes in (
+      record { ready = refl; free = refl; erased = refl; copied = refl; behind = refl },
+      omega (arith, passes, same),
+    )

@@ -1,7 +1,9 @@
-use Rattle.std.proofs.Common.{◌≡◌, ◌≤◌, ◌+◌, ◌*◌, length, Err, refl, ap, inl, ◌∙◌, arith}
+use Rattle.std.proofs.Common.{◌≡◌, ◌≤◌, ◌+◌, ◌*◌, length, Err, refl, sym, ap, inl, ◌∙◌, true≢false, arith}
 use Rattle.std.proofs.lemmas.Result.{on_ok_weaker}
 use Rattle.flash_board.specs.FlashLogs.{words_of}
+use Rattle.flash_board.specs.Paces.{KeepsPace}
 use Rattle.flash_board.specs.laws.Lighting.{failed_costs, last_costs, tries_faults}
+use Rattle.flash_board.specs.laws.Pacing.{pauses_since}
 use Rattle.flash_board.specs.laws.Words.{length-words}
 use Rattle.flash_board.specs.laws.Writing.{whole_again, done_again}
 use Rattle.flash_board.specs.declared.layout.TheConstants.{PAGES}
@@ -13,6 +15,7 @@ loop-init g c = record {
   steady = record { lit = c.requires.lit; due = refl; faults = omega arith };
   failed = omega arith;
   operations = omega arith;
+  first = λ same. (refl, refl);
   log = c.requires.log;
   whole = inl refl;
 }
@@ -40,6 +43,7 @@ loop-preserved g c =
       failed = omega (arith, was.failed, more);
       operations = failed_costs (2090 + g.F.Flash.SECTORS) (2088 + g.F.Flash.SECTORS) (omega arith) _ _ _ _ _ _
           was.operations (omega (arith, more)) work more;
+      first = λ same. let before = was.steady.faults in absurd (omega (arith, same, before, more));
       log = c.write_once.ensures.log;
       whole = whole_again m mid after c.args.words.now at fits was.whole c.write_once.ensures.whole;
     }
@@ -128,4 +132,42 @@ returns-in-Err-PowerLost-clause-work g c =
     record {
       operations = last_costs (2090 + sectors) (2088 + sectors) (omega arith) _ _ _ _ _ _
           c.loop.invariant.operations more c.write_once.ensures.work.operations;
+    }
+
+pub returns-clause-pause : goal.returns-clause-pause
+returns-clause-pause g c = λ roomy.
+    let slots = g.F.Flash.SLOTS in
+    let sectors = g.F.Flash.SECTORS in
+    let mid = g.F.Flash.state c.loop.flash in
+    let new = g.F.Flash.state c.write_once-2.new.flash in
+    let more = tries_faults 1 mid new c.write_once-2.result c.write_once-2.ensures.light in
+    pauses_since slots sectors 37 (g.F.Flash.state c.args.flash.now) mid new c.args.place.now c.loop.place
+    (KeepsPace slots sectors c.write_once-2.new.place) _ c.loop.invariant.steady.faults more c.loop.invariant.first
+    (c.write_once-2.ensures.pause roomy)
+
+pub returns-in-Ok-clause-pause : goal.returns-in-Ok-clause-pause
+returns-in-Ok-clause-pause g c = λ roomy.
+    let slots = g.F.Flash.SLOTS in
+    let sectors = g.F.Flash.SECTORS in
+    let mid = g.F.Flash.state c.loop.flash in
+    let new = g.F.Flash.state c.write_once.new.flash in
+    let more = tries_faults 1 mid new c.write_once.result c.write_once.ensures.light in
+    pauses_since slots sectors 37 (g.F.Flash.state c.args.flash.now) mid new c.args.place.now c.loop.place
+    (KeepsPace slots sectors c.write_once.new.place) _ c.loop.invariant.steady.faults more c.loop.invariant.first
+    (c.in-Ok.ensures.pause roomy)
+
+pub returns-in-Err-PowerLost-clause-pause : goal.returns-in-Err-PowerLost-clause-pause
+returns-in-Err-PowerLost-clause-pause g c = λ roomy.
+    let slots = g.F.Flash.SLOTS in
+    let sectors = g.F.Flash.SECTORS in
+    let mid = g.F.Flash.state c.loop.flash in
+    let new = g.F.Flash.state c.write_once.new.flash in
+    let more = tries_faults 1 mid new c.write_once.result c.write_once.ensures.light in
+    let pause = pauses_since slots sectors 37 (g.F.Flash.state c.args.flash.now) mid new c.args.place.now c.loop.place
+    (KeepsPace slots sectors c.write_once.new.place) _ c.loop.invariant.steady.faults more c.loop.invariant.first
+    (c.in-Err-PowerLost.ensures.pause roomy) in
+    record {
+      short = pause.short;
+      stays = λ same pace ok. absurd (true≢false (sym ok));
+      long = λ same ok. absurd (true≢false (sym ok));
     }

@@ -13,6 +13,7 @@ invariant-loop g l = let old = g.F.Flash.state l.initial.flash in let new = g.F.
   failed : old.faults + l.counter ≤ new.faults + 1;
   operations : new.operations + (2090 + g.F.Flash.SECTORS) * old.faults
       ≤ old.operations + (2090 + g.F.Flash.SECTORS) * new.faults;
+  first : new.faults ≡ old.faults → (l.place ≡ l.initial.place) × (new ≡ old);
   log : IsLog PAGES g.F.Flash.SLOTS g.F.Flash.SECTORS g.F.Flash.sector_start new.words l.place;
   whole : (words_of PAGES g.F.Flash.SLOTS new.words ≡ words_of PAGES g.F.Flash.SLOTS old.words)
       ⊎ (words_of PAGES g.F.Flash.SLOTS new.words

@@ -1,10 +1,14 @@
-use Rattle.std.proofs.Common.{◌≡◌, ◌⊎◌, ◌+◌, ◌*◌, ℕ, List, sym, ap, subst, inl, ◌∙◌, true≢false}
+use Rattle.std.proofs.Common.{◌≡◌, ◌⊎◌, ◌+◌, ◌*◌, ℕ, List, refl, sym, ap, subst, inl, inr, ⊎_elim, ◌∙◌, true≢false}
+use Rattle.std.proofs.Common.{arith}
 use Rattle.nvm_board.specs.History.{written}
 use Rattle.flash_board.specs.FlashCalls.{SameElsewhere}
 use Rattle.flash_board.specs.FlashLogs.{base_in, words_of}
 use Rattle.flash_board.specs.PageTables.{IsPageTable, AreFree}
+use Rattle.flash_board.specs.Paces.{HasStepped, IsShort}
 use Rattle.flash_board.specs.Spares.{IsSpare}
 use Rattle.flash_board.specs.laws.Copying.{area_free}
+use Rattle.flash_board.specs.laws.Lighting.{lights_faults, tries_faults}
+use Rattle.flash_board.specs.laws.Pacing.{failed_not_ok, paced_put, short_then}
 use Rattle.flash_board.specs.laws.Sparing.{LeavesHome, leaves_home, index_same, home_leaves, spare_same}
 use Rattle.flash_board.specs.laws.Turns.{turn_same, ring_same}
 use Rattle.flash_board.specs.declared.layout.TheConstants.{PAGES}
@@ -166,3 +170,89 @@ returns-clause-done g c =
     let at = 16 * c.args.page + c.args.first in
     c.in_ok-write_run.ensures.done
     ∙ ap (λ (l : List ℕ). written l at c.args.words.now) (home.words ∙ c.prepare.ensures.words)
+
+pub returns-in_err-prepare-clause-pause : goal.returns-in_err-prepare-clause-pause
+returns-in_err-prepare-clause-pause g c = λ roomy.
+    let no_value = failed_not_ok c.from_residual.result c.from_residual.ensures.0 in
+    let pause = c.prepare.ensures.pause roomy in
+    record {
+      short = λ same pace. let short = pause.short same pace in let work = short.operations in record {
+        operations = omega (arith, work);
+        erases = short.erases;
+      };
+      stays = λ same pace ok. absurd (no_value ok);
+      long = λ same ok. absurd (no_value ok);
+    }
+
+pub returns-in_err-behind-clause-pause : goal.returns-in_err-behind-clause-pause
+returns-in_err-behind-clause-pause g c = λ roomy.
+    let no_value = failed_not_ok c.from_residual-in_err-behind.result c.from_residual-in_err-behind.ensures.0 in
+    let old = g.F.Flash.state c.args.flash.now in
+    let mid = g.F.Flash.state c.prepare.new.flash in
+    let ahead = g.F.Flash.state c.write_ahead.new.flash in
+    let less = (c.in_ok-prepare.ensures.light.ok refl).faults in
+    let more = tries_faults 1 mid ahead c.write_ahead.result c.write_ahead.ensures.light in
+    let work = c.write_ahead.ensures.work.operations in
+    record {
+      short = λ same pace.
+          let none : mid.faults ≡ old.faults = omega (arith, same, less, more) in
+          short_then 33 2 37 old mid ahead (omega arith) ((c.in_ok-prepare.ensures.pause roomy).short none pace)
+          (omega (arith, work, same, none)) c.write_ahead.ensures.erases;
+      stays = λ same pace ok. absurd (no_value ok);
+      long = λ same ok. absurd (no_value ok);
+    }
+
+pub returns-in_err-write_run-clause-pause : goal.returns-in_err-write_run-clause-pause
+returns-in_err-write_run-clause-pause g c = λ roomy.
+    let no_value = failed_not_ok c.from_residual-in_err-write_run.result c.from_residual-in_err-write_run.ensures.0 in
+    let old = g.F.Flash.state c.args.flash.now in
+    let mid = g.F.Flash.state c.prepare.new.flash in
+    let ahead = g.F.Flash.state c.write_ahead.new.flash in
+    let new = g.F.Flash.state c.write_run.new.flash in
+    let less = (c.in_ok-prepare.ensures.light.ok refl).faults in
+    let more = (c.in_ok-behind.ensures.light.ok refl).faults in
+    let most = lights_faults ahead new c.write_run.result c.write_run.ensures.light in
+    let work = c.write_ahead.ensures.work.operations in
+    record {
+      short = λ same pace.
+          let none : mid.faults ≡ old.faults = omega (arith, same, less, more, most) in
+          let here : ahead.faults ≡ mid.faults = omega (arith, same, less, more, most) in
+          short_then 35 2 37 old ahead new (omega arith)
+          (short_then 33 2 35 old mid ahead (omega arith) ((c.in_ok-prepare.ensures.pause roomy).short none pace)
+          (omega (arith, work, here)) c.write_ahead.ensures.erases)
+          c.write_run.ensures.work c.write_run.ensures.erases;
+      stays = λ same pace ok. absurd (no_value ok);
+      long = λ same ok. absurd (no_value ok);
+    }
+
+pub returns-clause-pause : goal.returns-clause-pause
+returns-clause-pause g c = λ roomy.
+    let old = g.F.Flash.state c.args.flash.now in
+    let mid = g.F.Flash.state c.prepare.new.flash in
+    let ahead = g.F.Flash.state c.write_ahead.new.flash in
+    let new = g.F.Flash.state c.write_run.new.flash in
+    let slots = g.F.Flash.SLOTS in
+    let sectors = g.F.Flash.SECTORS in
+    let less = (c.in_ok-prepare.ensures.light.ok refl).faults in
+    let more = (c.in_ok-behind.ensures.light.ok refl).faults in
+    let most = (c.in_ok-write_run.ensures.light.ok refl).faults in
+    let work = c.write_ahead.ensures.work.operations in
+    let pause = c.in_ok-prepare.ensures.pause roomy in
+    let passes = c.in_ok-behind.ensures.passes in
+    let short_again : new.faults ≡ old.faults → IsShort 33 old mid → IsShort 37 old new = λ same short.
+    let here : ahead.faults ≡ mid.faults = omega (arith, same, less, more, most) in
+    short_then 35 2 37 old ahead new (omega arith)
+    (short_then 33 2 35 old mid ahead (omega arith) short (omega (arith, work, here)) c.write_ahead.ensures.erases)
+    c.write_run.ensures.work c.write_run.ensures.erases in
+    record {
+      short = λ same pace. short_again same (pause.short (omega (arith, same, less, more, most)) pace);
+      stays = λ same pace ok. paced_put slots sectors c.prepare.new.place _ refl refl refl refl refl
+          (omega (arith, passes, same, less, more, most)) c.in_ok-behind.ensures.idle
+          (pause.stays (omega (arith, same, less, more, most)) pace refl);
+      long = λ same ok. ⊎_elim
+          (λ (short : IsShort 33 old mid). inl (short_again same short))
+          (λ (stepped : HasStepped slots sectors c.prepare.new.place).
+          inr (paced_put slots sectors c.prepare.new.place _ refl refl refl refl refl
+          (omega (arith, passes, same, less, more, most)) c.in_ok-behind.ensures.idle stepped))
+          (pause.long (omega (arith, same, less, more, most)) refl);
+    }

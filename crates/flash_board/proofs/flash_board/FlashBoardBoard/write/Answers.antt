@@ -1,13 +1,12 @@
-use Rattle.std.proofs.Common.{ℕ, List, refl, sym, ap, subst, rules}
-use Rattle.nvm_board.specs.Facts.{Facts, address, IsLostRightly}
-use Rattle.nvm_board.specs.Torn.{Torn}
+use Rattle.std.proofs.Common.{refl, sym, rules, true≢false, arith}
+use Rattle.nvm_board.specs.Facts.{address, IsLostRightly}
 use Rattle.nvm_board.specs.laws.Torn.{Torn-none}
 use Rattle.flash_board.specs.laws.Boards.{whole_torn}
 use Rattle.flash_board.proofs.flash_board.FlashBoardBoard.write.Goals as goal
 
-pub returns-then-self : goal.returns-then-self
+pub returns-then-self-clause-writes : goal.returns-then-self-clause-writes
 unfolding IsLostRightly
-returns-then-self g c = record {
+returns-then-self-clause-writes g c = record {
   done = search rules;
   torn = Torn-none _ _ _;
   light = search rules;
@@ -20,13 +19,11 @@ returns-then-self g c = record {
   matches = search rules;
 }
 
-pub returns-then-self-2 : goal.returns-then-self-2
+pub returns-then-self-2-clause-writes : goal.returns-then-self-2-clause-writes
 unfolding IsLostRightly
-returns-then-self-2 g c = record {
+returns-then-self-2-clause-writes g c = record {
   done = search rules;
-  torn = let at = address c.args.page c.args.first in
-      let torn : List ℕ → Type 0 = Torn c.args.self.now.log.words at c.args.words.now in
-      subst torn (sym (ap (λ (f : Facts). f.words) c.go_dark.ensures)) (Torn-none _ _ _);
+  torn = Torn-none _ _ _;
   light = search rules;
   worn = search rules;
   cut = search rules;
@@ -37,12 +34,12 @@ returns-then-self-2 g c = record {
   matches = search rules;
 }
 
-pub returns-then-self-3 : goal.returns-then-self-3
+pub returns-then-self-3-clause-writes : goal.returns-then-self-3-clause-writes
 unfolding IsLostRightly
-returns-then-self-3 g c = record {
+returns-then-self-3-clause-writes g c = record {
   done = search rules;
   torn =
-      whole_torn c.args.self.now.log.words c.args.words.now c.write-ended.new.self.words
+      whole_torn c.args.self.now.log.flash.words c.args.words.now c.write-ended.new.self.flash.words
       (address c.args.page c.args.first)
       c.write-ended.ensures.whole;
   light = search rules;
@@ -55,12 +52,12 @@ returns-then-self-3 g c = record {
   matches = search rules;
 }
 
-pub returns-in-Ok : goal.returns-in-Ok
+pub returns-in-Ok-clause-writes : goal.returns-in-Ok-clause-writes
 unfolding IsLostRightly
-returns-in-Ok g c = record {
+returns-in-Ok-clause-writes g c = record {
   done = search rules;
   torn =
-      whole_torn c.args.self.now.log.words c.args.words.now c.write-ended.new.self.words
+      whole_torn c.args.self.now.log.flash.words c.args.words.now c.write-ended.new.self.flash.words
       (address c.args.page c.args.first)
       c.write-ended.ensures.whole;
   light = search rules;
@@ -73,12 +70,12 @@ returns-in-Ok g c = record {
   matches = search rules;
 }
 
-pub returns-in-Err-PowerLost : goal.returns-in-Err-PowerLost
+pub returns-in-Err-PowerLost-clause-writes : goal.returns-in-Err-PowerLost-clause-writes
 unfolding IsLostRightly
-returns-in-Err-PowerLost g c = record {
+returns-in-Err-PowerLost-clause-writes g c = record {
   done = search rules;
   torn =
-      whole_torn c.args.self.now.log.words c.args.words.now c.write-ended.new.self.words
+      whole_torn c.args.self.now.log.flash.words c.args.words.now c.write-ended.new.self.flash.words
       (address c.args.page c.args.first)
       c.write-ended.ensures.whole;
   light = search rules;
@@ -91,12 +88,12 @@ returns-in-Err-PowerLost g c = record {
   matches = search rules;
 }
 
-pub returns-else-self-3 : goal.returns-else-self-3
+pub returns-else-self-3-clause-writes : goal.returns-else-self-3-clause-writes
 unfolding IsLostRightly
-returns-else-self-3 g c = record {
+returns-else-self-3-clause-writes g c = record {
   done = search rules;
   torn =
-      whole_torn c.args.self.now.log.words c.args.words.now c.write-ended.new.self.words
+      whole_torn c.args.self.now.log.flash.words c.args.words.now c.write-ended.new.self.flash.words
       (address c.args.page c.args.first)
       c.write-ended.ensures.whole;
   light = search rules;
@@ -108,3 +105,41 @@ returns-else-self-3 g c = record {
   compares = search rules;
   matches = search rules;
 }
+
+pub returns-then-self-clause-pause : goal.returns-then-self-clause-pause
+returns-then-self-clause-pause g c = λ roomy. record {
+  short = λ same pace. record { operations = omega arith; erases = omega arith };
+  stays = λ same pace ok. absurd (true≢false (sym ok));
+  long = λ same ok. absurd (true≢false (sym ok));
+}
+
+pub returns-then-self-2-clause-pause : goal.returns-then-self-2-clause-pause
+returns-then-self-2-clause-pause g c = λ roomy. record {
+  short = λ same pace. record { operations = omega arith; erases = omega arith };
+  stays = λ same pace ok. absurd (true≢false (sym ok));
+  long = λ same ok. absurd (true≢false (sym ok));
+}
+
+pub returns-then-self-3-clause-pause : goal.returns-then-self-3-clause-pause
+returns-then-self-3-clause-pause g c = λ roomy. record {
+  short = (c.write-ended.ensures.pause roomy).short;
+  stays = λ same pace ok. absurd (true≢false (sym ok));
+  long = λ same ok. absurd (true≢false (sym ok));
+}
+
+pub returns-in-Err-PowerLost-clause-pause : goal.returns-in-Err-PowerLost-clause-pause
+returns-in-Err-PowerLost-clause-pause g c = λ roomy. record {
+  short = (c.write-ended.ensures.pause roomy).short;
+  stays = λ same pace ok. absurd (true≢false (sym ok));
+  long = λ same ok. absurd (true≢false (sym ok));
+}
+
+pub returns-else-self-3-clause-pause : goal.returns-else-self-3-clause-pause
+returns-else-self-3-clause-pause g c = λ roomy. record {
+  short = (c.write-ended.ensures.pause roomy).short;
+  stays = λ same pace ok. absurd (true≢false (sym ok));
+  long = λ same ok. absurd (true≢false (sym ok));
+}
+
+pub returns-in-Ok-clause-pause : goal.returns-in-Ok-clause-pause
+returns-in-Ok-clause-pause g c = λ roomy. c.in-Ok.ensures.pause roomy

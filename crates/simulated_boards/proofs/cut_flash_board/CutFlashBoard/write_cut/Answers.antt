@@ -17,7 +17,7 @@ returns-then-is_ok-clause-writes g c =
     let run = c.args.words.now in
     let a = c.args.self.now.arm in
     let told = subst (λ (f : Facts). Writes at run f new c.write-ended.result) c.set_operation.ensures.same
-    c.write-ended.ensures in
+    c.write-ended.ensures.writes in
     let last = c.lose_power.ensures
     ∙ ap (λ (f : Facts). record f { dark = true; cuts = f.cuts + 1 }) c.clear_cut.ensures in
     subst (λ (f : Facts). Writes {T = Unit {0}} at run (with_arm a old) (with_arm None f) (Err PowerLost))
@@ -34,7 +34,7 @@ returns-else-is_ok-clause-writes g c =
     let run = c.args.words.now in
     let a = c.args.self.now.arm in
     let told = subst (λ (f : Facts). Writes at run f new c.write-ended.result) c.set_operation.ensures.same
-    c.write-ended.ensures in
+    c.write-ended.ensures.writes in
     let fine = sym (ap (λ (f : Facts). f.faults) c.clear_cut.ensures) ∙ c.has_no_fault.ensures in
     subst (λ (f : Facts). Writes {T = Unit {0}} at run (with_arm a old) (with_arm None f) (Err PowerLost))
     (sym c.clear_cut.ensures)

@@ -14,7 +14,7 @@ returns-then-write_count-before g c =
     let more : old.writes < new.writes = omega (arith, before, behind, c.if-write_count-before.true) in
     spared_counted (address c.args.page c.args.first) c.args.words.now c.args.self.now.arm c.nearer-self.result old new
     c.write-ended.result c.args.self.now.uncut c.nearer-self.ensures.due c.nearer-self.ensures.none
-    c.nearer-self.ensures.before c.requires.spared more c.write-ended.ensures
+    c.nearer-self.ensures.before c.requires.spared more c.write-ended.ensures.writes
 
 pub returns-else-write_count-before : goal.returns-else-write_count-before
 returns-else-write_count-before g c =
@@ -25,4 +25,4 @@ returns-else-write_count-before g c =
     let none : ¬ (old.writes < new.writes) =
     λ more. omega (arith, before, behind, c.if-write_count-before.false, more) in
     spared_uncounted (address c.args.page c.args.first) c.args.words.now c.args.self.now.arm old new
-    c.write-ended.result c.args.self.now.uncut none c.write-ended.ensures
+    c.write-ended.result c.args.self.now.uncut none c.write-ended.ensures.writes

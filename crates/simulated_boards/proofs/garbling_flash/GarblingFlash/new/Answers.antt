@@ -23,5 +23,5 @@ returns c =
     let same : c.in_ok-vec.field-0.items ≡ replicate FLASH_WORDS BLANK =
     c.in_ok-vec.ensures.items_if_clones_equal (λ y is_blank. is_blank) in
     let state : List ℕ → FlashState = λ words. record
-    { words = words; dark = false; due = 0; faults = 0; operations = 0 } in
+    { words = words; dark = false; due = 0; faults = 0; operations = 0; erases = 0 } in
     ap state same
