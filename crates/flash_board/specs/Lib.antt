@@ -1,4 +1,3 @@
-pub mod BoardLogs
 pub mod CopyParts
 pub mod FlashBlocks
 pub mod FlashCalls

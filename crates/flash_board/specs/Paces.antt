@@ -41,7 +41,7 @@ pub record HasStepped (slots sectors : ℕ) (p : PageMap) : Type 0 where
   pub goes_on : 0 < p.copied → slots ≤ p.next + lead_of sectors
 
 -- A move has ended, and the next one has not begun. The slots from one on are free.
-pub record IsFresh (p : PageMap) (next : ℕ) : Type 0 where
+pub record HasMoved (p : PageMap) (next : ℕ) : Type 0 where
   pub ready : p.ready ≡ true
   pub free : p.next ≡ next
   pub erased : p.erased ≡ 0
@@ -54,7 +54,7 @@ is_paced slots sectors p = p.ready && (nat_le (steps_left sectors p + p.next) sl
     && (nat_eq p.copied 0 || nat_le slots (p.next + lead_of sectors))))
 
 -- At most so many programs and erases are begun, and at most one of them is an erase, of one sector.
-pub record IsShort (most : ℕ) (old new : FlashState) : Type 0 where
+pub record IsBrief (most : ℕ) (old new : FlashState) : Type 0 where
   pub operations : new.operations ≤ old.operations + most
   pub erases : new.erases ≤ old.erases + 1
 
@@ -62,6 +62,6 @@ pub record IsShort (most : ℕ) (old new : FlashState) : Type 0 where
 -- Out of pace it is short too, or the log is in pace behind it.
 pub record Pauses {T : Type 0} (most : ℕ) (old new : FlashState) (before after : Type 0) (result : Result T DeviceErr)
     : Type 0 where
-  pub short : new.faults ≡ old.faults → before → IsShort most old new
+  pub short : new.faults ≡ old.faults → before → IsBrief most old new
   pub stays : new.faults ≡ old.faults → before → IsOk result → after
-  pub long : new.faults ≡ old.faults → IsOk result → IsShort most old new ⊎ after
+  pub long : new.faults ≡ old.faults → IsOk result → IsBrief most old new ⊎ after

@@ -3,7 +3,7 @@ ghost use Rattle.std.specs.Prelude.{◌≡◌, ◌≢◌, ◌<◌, ◌≤◌, �
 ghost use Rattle.flash_board.specs.FlashBlocks.{area_size};
 ghost use Rattle.flash_board.specs.FlashCalls.{Costs, SameElsewhere, Tries};
 ghost use Rattle.flash_board.specs.FlashLogs.{base_in, find, turn_of, words_of};
-ghost use Rattle.flash_board.specs.Paces.{HasStepped, IsFresh, IsRoomy, KeepsPace, lead_of};
+ghost use Rattle.flash_board.specs.Paces.{HasStepped, HasMoved, IsRoomy, KeepsPace, lead_of};
 ghost use Rattle.flash_board.specs.PageTables.{IsPageTable};
 ghost use Rattle.flash_board.specs.Places.{IsLog};
 ghost use Rattle.flash_board.specs.Rings.{IsRing};
@@ -112,7 +112,7 @@ fn pass_turn<F: Flash>(flash: &mut F, place: &mut PageMap) -> Result<(), DeviceE
         ≡ words_of PAGES F.SLOTS (F.state flash.old).words }
     ensures log { IsLog PAGES F.SLOTS F.SECTORS F.sector_start (F.state flash.new).words place.new }
     ensures ready { OnOk result (place.new.ready ≡ true) }
-    ensures fresh { OnOk result (IsFresh place.new place.old.behind) }
+    ensures fresh { OnOk result (HasMoved place.new place.old.behind) }
     ensures light { Tries 1 (F.state flash.old) (F.state flash.new) result }
     ensures work { Costs 1 2 (F.state flash.old) (F.state flash.new) }
     ensures erases { (F.state flash.new).erases ≡ (F.state flash.old).erases }

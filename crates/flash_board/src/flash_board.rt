@@ -117,8 +117,7 @@ impl<F: Flash> FlashBoard<F> {
 }
 
 impl<F: Flash> Board for FlashBoard<F> {
-    ghost use Rattle.flash_board.specs.BoardLogs.{log_of};
-    ghost use Rattle.flash_board.specs.FlashFacts.{flash_facts};
+    ghost use Rattle.flash_board.specs.FlashFacts.{flash_facts, log_state};
     ghost use Rattle.flash_board.specs.Paces.{IsRoomy, Pauses};
     ghost use Rattle.flash_board.specs.laws.Boards.{flash_is_board};
     ghost use Rattle.nvm_board.specs.BoardCalls.{FitsPage, Writes};
@@ -159,8 +158,8 @@ impl<F: Flash> Board for FlashBoard<F> {
         requires { FitsPage page first words.now (flash_facts self.old) }
         ensures writes { Writes (address page first) words.now (flash_facts self.old) (flash_facts self.new) result }
         // Behind a power-on or a fault of the flash, all writes but one are short.
-        ensures pause { IsRoomy F.SLOTS F.SECTORS → Pauses 37 (log_of self.old).flash (log_of self.new).flash
-            ((log_of self.old).paced ≡ true) ((log_of self.new).paced ≡ true) result }
+        ensures pause { IsRoomy F.SLOTS F.SECTORS → Pauses 37 (log_state self.old).flash (log_state self.new).flash
+            ((log_state self.old).paced ≡ true) ((log_state self.new).paced ≡ true) result }
     {
         if self.dark {
             return Err(DeviceErr::PowerLost);

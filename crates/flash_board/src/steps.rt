@@ -3,7 +3,7 @@ ghost use Rattle.std.specs.Prelude.{◌≡◌, ◌⊎◌, ◌<◌, ◌≤◌, �
 ghost use Rattle.nvm_board.specs.History.{written};
 ghost use Rattle.flash_board.specs.FlashCalls.{Costs, Lights, Tries};
 ghost use Rattle.flash_board.specs.FlashLogs.{words_of};
-ghost use Rattle.flash_board.specs.Paces.{HasStepped, IsFresh, IsRoomy, KeepsPace, Pauses};
+ghost use Rattle.flash_board.specs.Paces.{HasStepped, HasMoved, IsRoomy, KeepsPace, Pauses};
 ghost use Rattle.flash_board.specs.Places.{IsLog, IsPlaceOf};
 ghost use Rattle.flash_board.specs.declared.layout.TheConstants.{PAGES, TRIES};
 
@@ -69,7 +69,7 @@ pub fn make_room<F: Flash>(flash: &mut F, place: &mut PageMap) -> Result<(), Dev
     ensures same { place.old.next < F.SLOTS → (place.new ≡ place.old) × (F.state flash.new ≡ F.state flash.old) }
     ensures fresh { OnOk result (F.SLOTS ≤ place.old.next
         → (F.state flash.new).faults ≡ (F.state flash.old).faults
-        → IsFresh place.new place.new.next × (place.new.next ≤ PAGES)) }
+        → HasMoved place.new place.new.next × (place.new.next ≤ PAGES)) }
     ensures light { Tries 1 (F.state flash.old) (F.state flash.new) result }
     ensures work { Costs (2051 + F.SECTORS) 2 (F.state flash.old) (F.state flash.new) }
 {

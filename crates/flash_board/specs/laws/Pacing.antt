@@ -8,7 +8,7 @@ use Rattle.std.proofs.lemmas.Bool.{cases_eq, eq-eqb, le-leb, leb-true, ne_eqb}
 use Rattle.flash_board.specs.declared.place.PageMap.{PageMap}
 use Rattle.flash_board.specs.declared.layout.TheConstants.{COPY_STEPS, PAGES, STEP_PAGES}
 use Rattle.flash_board.specs.FlashCalls.{Costs, FlashState}
-use Rattle.flash_board.specs.Paces.{HasStepped, IsFresh, IsRoomy, IsShort, KeepsPace, Pauses, is_paced, lead_of}
+use Rattle.flash_board.specs.Paces.{HasStepped, HasMoved, IsRoomy, IsBrief, KeepsPace, Pauses, is_paced, lead_of}
 use Rattle.flash_board.specs.Paces.{steps_left}
 use Rattle.flash_board.specs.Places.{state_of}
 
@@ -25,8 +25,8 @@ failed_not_ok (Ok x) failed ok = absurd (true≢false (sym failed))
 failed_not_ok (Err e) failed ok = absurd (true≢false (sym ok))
 
 -- what a short call and others without an erase come to
-pub short_then : (most n more : ℕ) (old mid new : FlashState) → most + n ≤ more → IsShort most old mid
-    → new.operations ≤ mid.operations + n → new.erases ≡ mid.erases → IsShort more old new
+pub short_then : (most n more : ℕ) (old mid new : FlashState) → most + n ≤ more → IsBrief most old mid
+    → new.operations ≤ mid.operations + n → new.erases ≡ mid.erases → IsBrief more old new
 short_then most n more old mid new fits short operations erases =
     let a = short.operations in let b = short.erases in record {
       operations = omega (arith, a, operations, fits);
@@ -89,7 +89,7 @@ module _ (slots sectors : ℕ) where
   stepped_behind p roomy more h = let few = h.few in omega (arith, few, more, roomy)
 
   -- behind a move
-  pub stepped_fresh : (p : PageMap) (next : ℕ) → IsRoomy slots sectors → next < PAGES + COPY_STEPS → IsFresh p next
+  pub stepped_fresh : (p : PageMap) (next : ℕ) → IsRoomy slots sectors → next < PAGES + COPY_STEPS → HasMoved p next
       → HasStepped slots sectors p
   stepped_fresh p next roomy below fresh =
       let most = steps_most p in
@@ -208,7 +208,7 @@ module _ (slots sectors : ℕ) where
     };
     stays = λ same pace ok. is_paced_by q (h.stays same (paced_is p pace) ok);
     long = λ same ok. ⊎_elim
-        (λ (z : IsShort most old new). inl (record { operations = z.operations; erases = z.erases }))
+        (λ (z : IsBrief most old new). inl (record { operations = z.operations; erases = z.erases }))
         (λ (z : KeepsPace slots sectors q). inr (is_paced_by q z))
         (h.long same ok);
   }
@@ -223,7 +223,7 @@ module _ (slots sectors : ℕ) where
     short = λ same pace.
         let none : mid.faults ≡ old.faults = omega (arith, less, more, same) in
         let is = first none in
-        subst (λ (s : FlashState). IsShort most s new) is.1
+        subst (λ (s : FlashState). IsBrief most s new) is.1
         (h.short (same ∙ sym none) (subst (KeepsPace slots sectors) (sym is.0) pace));
     stays = λ same pace ok.
         let none : mid.faults ≡ old.faults = omega (arith, less, more, same) in
@@ -232,7 +232,7 @@ module _ (slots sectors : ℕ) where
     long = λ same ok.
         let none : mid.faults ≡ old.faults = omega (arith, less, more, same) in
         let is = first none in
-        subst (λ (s : FlashState). IsShort most s new ⊎ after) is.1 (h.long (same ∙ sym none) ok);
+        subst (λ (s : FlashState). IsBrief most s new ⊎ after) is.1 (h.long (same ∙ sym none) ok);
   }
 
   -- A write is made ready: the pages are found, a step is taken, and room is made if there is none.
@@ -250,16 +250,16 @@ module _ (slots sectors : ℕ) where
         let here : KeepsPace slots sectors q = subst (KeepsPace slots sectors) (sym (known pace.ready)) pace in
         step here (omega (arith, same, found_faults, step_faults, faults))
 
-    pub ready_short : last.faults ≡ first.faults → s.next < slots → IsShort 33 first last
+    pub ready_short : last.faults ≡ first.faults → s.next < slots → IsBrief 33 first last
     ready_short same lt =
         let work = step_work.operations in
         let none : stepped.faults ≡ found.faults = omega (arith, same, found_faults, step_faults, faults) in
-        subst (λ (z : FlashState). IsShort 33 first z) (sym (room lt).1) (record {
+        subst (λ (z : FlashState). IsBrief 33 first z) (sym (room lt).1) (record {
           operations = omega (arith, work, none, found_work);
           erases = omega (arith, step_erases, found_erases);
         })
 
-    pub ready_in_pace : last.faults ≡ first.faults → KeepsPace slots sectors p → IsShort 33 first last
+    pub ready_in_pace : last.faults ≡ first.faults → KeepsPace slots sectors p → IsBrief 33 first last
     ready_in_pace same pace = ready_short same (stepped_room s (ready_stepped same pace))
 
     pub ready_stays : last.faults ≡ first.faults → KeepsPace slots sectors p → HasStepped slots sectors t

@@ -3,7 +3,7 @@ use Rattle.std.proofs.lemmas.Result.{on_ok_weaker}
 use Rattle.flash_board.specs.FlashBlocks.{area_size}
 use Rattle.flash_board.specs.FlashCalls.{SameElsewhere}
 use Rattle.flash_board.specs.FlashLogs.{base_in, words_of}
-use Rattle.flash_board.specs.Paces.{IsFresh}
+use Rattle.flash_board.specs.Paces.{HasMoved}
 use Rattle.flash_board.specs.Spares.{HasCopies, spare_in}
 use Rattle.flash_board.specs.laws.Copying.{area_free}
 use Rattle.flash_board.specs.laws.Marks.{elsewhere_wider}
@@ -205,7 +205,7 @@ returns-then-place-eq-COPY_STEPS-clause-pace g c =
     let after = tries_faults 1 (g.F.Flash.state c.copy_step.new.flash) (g.F.Flash.state c.pass_turn.new.flash)
     c.pass_turn.result c.pass_turn.ensures.light in
     on_ok_weaker c.pass_turn.result
-    (λ (fresh : IsFresh c.pass_turn.new.place n). λ roomy due pace same.
+    (λ (fresh : HasMoved c.pass_turn.new.place n). λ roomy due pace same.
     let below = paced_behind slots sectors c.args.place.now roomy known.spare.most pace in
     stepped_fresh slots sectors c.pass_turn.new.place n roomy (omega (arith, below, passes, before, after, same)) fresh)
     c.pass_turn.ensures.fresh

@@ -4,7 +4,7 @@ use Rattle.nvm_board.specs.History.{written}
 use Rattle.flash_board.specs.FlashCalls.{SameElsewhere}
 use Rattle.flash_board.specs.FlashLogs.{base_in, words_of}
 use Rattle.flash_board.specs.PageTables.{IsPageTable, AreFree}
-use Rattle.flash_board.specs.Paces.{HasStepped, IsShort}
+use Rattle.flash_board.specs.Paces.{HasStepped, IsBrief}
 use Rattle.flash_board.specs.Spares.{IsSpare}
 use Rattle.flash_board.specs.laws.Copying.{area_free}
 use Rattle.flash_board.specs.laws.Lighting.{lights_faults, tries_faults}
@@ -239,7 +239,7 @@ returns-clause-pause g c = λ roomy.
     let work = c.write_ahead.ensures.work.operations in
     let pause = c.in_ok-prepare.ensures.pause roomy in
     let passes = c.in_ok-behind.ensures.passes in
-    let short_again : new.faults ≡ old.faults → IsShort 33 old mid → IsShort 37 old new = λ same short.
+    let short_again : new.faults ≡ old.faults → IsBrief 33 old mid → IsBrief 37 old new = λ same short.
     let here : ahead.faults ≡ mid.faults = omega (arith, same, less, more, most) in
     short_then 35 2 37 old ahead new (omega arith)
     (short_then 33 2 35 old mid ahead (omega arith) short (omega (arith, work, here)) c.write_ahead.ensures.erases)
@@ -250,7 +250,7 @@ returns-clause-pause g c = λ roomy.
           (omega (arith, passes, same, less, more, most)) c.in_ok-behind.ensures.idle
           (pause.stays (omega (arith, same, less, more, most)) pace refl);
       long = λ same ok. ⊎_elim
-          (λ (short : IsShort 33 old mid). inl (short_again same short))
+          (λ (short : IsBrief 33 old mid). inl (short_again same short))
           (λ (stepped : HasStepped slots sectors c.prepare.new.place).
           inr (paced_put slots sectors c.prepare.new.place _ refl refl refl refl refl
           (omega (arith, passes, same, less, more, most)) c.in_ok-behind.ensures.idle stepped))
