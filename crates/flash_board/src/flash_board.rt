@@ -157,7 +157,7 @@ impl<F: Flash> Board for FlashBoard<F> {
     fn write(&mut self, page: u16, first: u8, words: &[u32]) -> Result<(), DeviceErr>
         requires { FitsPage page first words.now (flash_facts self.old) }
         ensures writes { Writes (address page first) words.now (flash_facts self.old) (flash_facts self.new) result }
-        // Behind a power-on or a fault of the flash, all writes but one are short.
+        // A write that meets no fault of the flash is short, or its log is in pace behind it.
         ensures pause { IsRoomy F.SLOTS F.SECTORS → Pauses 37 (log_state self.old).flash (log_state self.new).flash
             ((log_state self.old).paced ≡ true) ((log_state self.new).paced ≡ true) result }
     {
