@@ -1,4 +1,5 @@
-//! Random writes with power losses and faults, beside a board in working memory.
+//! Random writes with power losses and faults, beside a board in working memory; and what writes cost on a flash that
+//! is half full.
 ghost use Rattle.std.specs.Prelude.{◌<◌, ◌≤◌, ◌+◌};
 
 use crate::SimFlash;
@@ -116,5 +117,35 @@ fn writes_are_whole_or_not_begun(rt: HostRuntime) -> Result<(), Fail> {
         flash = play_round(flash, &mut ram, &mut random)?;
     }
     assert!(rt; flash.faults() > 0 && flash.operations() > 100_000);
+    Ok(())
+}
+
+/// Writes one word to a random page below 512, so many times.
+fn write_half(
+    board: FlashBoard<SimFlash>,
+    random: &mut Random,
+    times: u32,
+) -> Result<SimFlash, Fail> {
+    let mut board = board;
+    for k in 0..times {
+        board.write(random.below(512) as u16, 0, &[k])?;
+    }
+    Ok(board.into_log().into_flash())
+}
+
+#[test]
+fn half_full_log_writes_less_than_two_records_a_write(rt: HostRuntime) -> Result<(), Fail> {
+    let mut flash = SimFlash::new(rt.alloc(), 1)?;
+    format_flash(&mut flash)?;
+    let mut board = powered(flash)?;
+    for page in 0..512 {
+        board.write(page, 0, &[1])?;
+    }
+    let mut random = Random(3);
+    let half = board.into_log().into_flash();
+    let before = half.operations();
+    let worn = write_half(powered(half)?, &mut random, 100_000)?;
+    // A record takes two programs.
+    assert!(rt; worn.operations() > before + 200_000 && worn.operations() - before < 400_000);
     Ok(())
 }
