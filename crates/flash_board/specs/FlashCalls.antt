@@ -5,7 +5,8 @@ use Rattle.nvm_board.specs.declared.board.DeviceErr.{DeviceErr}
 use Rattle.nvm_board.specs.declared.board.DeviceErr.TheVariants.{PowerLost, Fault}
 
 -- All that contracts know of a flash: its words, whether it has no power, how many power losses may still come, how
--- often it has failed, how many programs and erases were begun, and how many of these were erases.
+-- often it has failed, how many programs and erases were begun, how many of these were erases, and whether what
+-- follows it has them all, which is so where nothing follows it.
 pub record FlashState : Type 0 where
   pub words : List ℕ
   pub dark : Bool
@@ -13,6 +14,7 @@ pub record FlashState : Type 0 where
   pub faults : ℕ
   pub operations : ℕ
   pub erases : ℕ
+  pub kept : Bool
 
 -- The flash has power as before, and didn't fail.
 pub record StaysLit (old new : FlashState) : Type 0 where

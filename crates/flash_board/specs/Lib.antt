@@ -2,6 +2,7 @@ pub mod CopyParts
 pub mod FlashBlocks
 pub mod FlashCalls
 pub mod FlashFacts
+pub mod FlashFollowers
 pub mod FlashLogs
 pub mod Paces
 pub mod PageTables

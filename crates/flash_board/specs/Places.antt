@@ -33,6 +33,7 @@ state_of pages slots s =
       faults = s.faults;
       operations = s.operations;
       erases = s.erases;
+      kept = s.kept;
     }
 
 -- The log of a flash whose pages are not found yet.

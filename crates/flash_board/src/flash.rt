@@ -41,6 +41,7 @@ pub trait Flash {
         ensures words { (state self.new).words ≡ (state self.old).words }
         ensures work { (state self.new).operations ≡ (state self.old).operations }
         ensures erases { (state self.new).erases ≡ (state self.old).erases }
+        ensures kept { (state self.new).kept ≡ (state self.old).kept }
         ensures light { Lights (state self.old) (state self.new) result };
 
     /// Programs words from an address on, where all words are blank. After an error each word of the run holds

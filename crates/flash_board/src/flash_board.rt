@@ -8,6 +8,7 @@ ghost use Rattle.flash_board.specs.declared.layout.TheConstants.{PAGES};
 use crate::cut_flash::CutFlash;
 use crate::flash::{Flash, FlashSocket};
 use crate::flash_log::FlashLog;
+use crate::followed_flash::FollowedFlash;
 use crate::layout::PAGES;
 use nvm_board::{Board, COUNT_END, DeviceErr, SECRETS, Socket, WornOut};
 
@@ -38,11 +39,13 @@ pub struct FlashBoard<F: Flash> {
 impl<F: Flash> FlashBoard<F> {
     ghost use Rattle.nvm_board.specs.Facts.{IsWorn, IsWornOut, raised};
     ghost use Rattle.flash_board.specs.FlashFacts.{flash_facts, made_of};
+    ghost use Rattle.flash_board.specs.FlashFollowers.{board_is_kept};
 
     /// The board of a log that has power. Its counts are 0.
     pub fn new(log: FlashLog<F>) -> FlashBoard<F>
         requires { log.flash.dark ≡ false }
-        ensures { flash_facts result ≡ made_of log.flash }
+        ensures facts { flash_facts result ≡ made_of log.flash }
+        ensures kept { board_is_kept result ≡ log.flash.kept }
     {
         log.words_fit();
         FlashBoard {
@@ -60,6 +63,8 @@ impl<F: Flash> FlashBoard<F> {
     pub fn into_log(self) -> FlashLog<F>
         ensures words { result.flash.words ≡ (flash_facts self).words }
         ensures due { result.flash.due ≡ (flash_facts self).due }
+        ensures lit { (flash_facts self).dark ≡ false → result.flash.dark ≡ false }
+        ensures kept { result.flash.kept ≡ board_is_kept self }
         // A fault of the board is one of its flash.
         ensures faults { (flash_facts self).faults ≤ result.flash.faults }
     {
@@ -273,6 +278,26 @@ impl<F: CutFlash> FlashBoard<F> {
         ensures { (flash_facts self.now).faults ≡ 0 }
     {
         self.log.has_no_fault();
+    }
+}
+
+impl<F: FollowedFlash> FlashBoard<F> {
+    ghost use Rattle.flash_board.specs.FlashFacts.{flash_facts};
+    ghost use Rattle.flash_board.specs.FlashFollowers.{board_is_kept};
+
+    /// Returns true if the follower of the flash has all its operations, or if there was never one.
+    pub fn is_kept(&self) -> bool
+        ensures { result ≡ board_is_kept self.now }
+    {
+        self.log.is_kept()
+    }
+
+    /// Takes the follower of another board's flash in place of its own.
+    pub fn take_follower_of(&mut self, other: FlashBoard<F>)
+        ensures facts { flash_facts self.new ≡ flash_facts self.old }
+        ensures kept { board_is_kept self.new ≡ board_is_kept other }
+    {
+        self.log.take_follower_of(other.into_log());
     }
 }
 

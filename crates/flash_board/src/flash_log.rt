@@ -8,6 +8,7 @@ ghost use Rattle.flash_board.specs.declared.layout.TheConstants.{PAGES, TRIES};
 
 use crate::cut_flash::CutFlash;
 use crate::flash::{Flash, FlashSocket};
+use crate::followed_flash::FollowedFlash;
 use crate::image::blank_table;
 use crate::place::PageMap;
 use crate::steps::{read_at, write_at};
@@ -180,5 +181,21 @@ impl<F: CutFlash> FlashLog<F> {
         ensures { self.now.flash.faults ≡ 0 }
     {
         let _ = &self.flash;
+    }
+}
+
+impl<F: FollowedFlash> FlashLog<F> {
+    /// Returns true if the follower of the flash has all its operations, or if there was never one.
+    pub fn is_kept(&self) -> bool
+        ensures { result ≡ self.now.flash.kept }
+    {
+        self.flash.is_kept()
+    }
+
+    /// Takes the follower of another log's flash in place of its own.
+    pub fn take_follower_of(&mut self, other: FlashLog<F>)
+        ensures { self.new ≡ record self.old { flash = record self.old.flash { kept = other.flash.kept } } }
+    {
+        self.flash.take_follower_of(other.into_flash());
     }
 }

@@ -51,6 +51,7 @@ pub fn is_closed<F: Flash>(flash: &mut F, block: u8) -> Result<bool, DeviceErr>
     ensures words { (F.state flash.new).words ≡ (F.state flash.old).words }
     ensures work { (F.state flash.new).operations ≡ (F.state flash.old).operations }
     ensures erases { (F.state flash.new).erases ≡ (F.state flash.old).erases }
+    ensures kept { (F.state flash.new).kept ≡ (F.state flash.old).kept }
     ensures light { Lights (F.state flash.old) (F.state flash.new) result }
 {
     let at = close_at::<F>(block);

@@ -63,6 +63,7 @@ pub fn has_ring<F: Flash>(flash: &mut F) -> Result<bool, DeviceErr>
     ensures words { (F.state flash.new).words ≡ (F.state flash.old).words }
     ensures work { (F.state flash.new).operations ≡ (F.state flash.old).operations }
     ensures erases { (F.state flash.new).erases ≡ (F.state flash.old).erases }
+    ensures kept { (F.state flash.new).kept ≡ (F.state flash.old).kept }
     ensures light { Lights (F.state flash.old) (F.state flash.new) result }
 {
     let a = is_closed(flash, 0)?;

@@ -1,11 +1,11 @@
 -- The state of a flash that leaves garbage.
-use Rattle.std.specs.Prelude.{false, is_some, replicate, if◌then◌else◌}
+use Rattle.std.specs.Prelude.{true, false, is_some, replicate, if◌then◌else◌}
 use Rattle.flash_board.specs.FlashCalls.{FlashState}
 use Rattle.flash_board.specs.declared.flash.TheConstants.{BLANK}
 use Rattle.simulated_boards.specs.declared.garbling_flash.TheConstants.{FLASH_WORDS}
 use Rattle.simulated_boards.specs.declared.garbling_flash.GarblingFlash.{GarblingFlash}
 
--- A power loss is due while one is set. The flash never fails.
+-- A power loss is due while one is set. The flash never fails, and nothing follows it.
 abbrev pub garbling_state : GarblingFlash → FlashState
 garbling_state f = record {
   words = f.words.items;
@@ -14,6 +14,7 @@ garbling_state f = record {
   faults = 0;
   operations = f.operations;
   erases = f.erases;
+  kept = true;
 }
 
 -- a powered blank flash, on which no power loss is set
@@ -25,4 +26,5 @@ new_garbling_state = record {
   faults = 0;
   operations = 0;
   erases = 0;
+  kept = true;
 }

@@ -1,4 +1,5 @@
 -- The state of a simulated flash.
+use Rattle.std.specs.Prelude.{true}
 use Rattle.flash_board.specs.FlashCalls.{FlashState}
 use Rattle.store_tests.specs.SimCuts.{cuts_set}
 use Rattle.store_tests.specs.declared.sim_flash.SimFlash.{SimFlash}
@@ -11,4 +12,5 @@ sim_state f = record {
   faults = f.faults;
   operations = f.operations;
   erases = f.erases;
+  kept = true;
 }

@@ -15,14 +15,15 @@ use Rattle.flash_board.specs.laws.Words.{length-words, index-words}
 
 -- calls that only read leave the flash as it was
 pub state_same : (old new : FlashState) → old.dark ≡ false → StaysLit old new → new.words ≡ old.words
-    → new.operations ≡ old.operations → new.erases ≡ old.erases → new ≡ old
-state_same old new was stays words operations erases = λ i. record {
+    → new.operations ≡ old.operations → new.erases ≡ old.erases → new.kept ≡ old.kept → new ≡ old
+state_same old new was stays words operations erases kept = λ i. record {
   words = words i;
   dark = (stays.lit ∙ sym was) i;
   due = stays.due i;
   faults = stays.faults i;
   operations = operations i;
   erases = erases i;
+  kept = kept i;
 }
 
 -- the words of the board have 32 bits, since those of the flash do

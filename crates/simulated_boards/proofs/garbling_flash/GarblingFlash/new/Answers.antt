@@ -1,4 +1,4 @@
-use Rattle.std.proofs.Common.{◌≡◌, ◌<◌, ◌^◌, ℕ, List, false, length, replicate, ap, sym, subst, ◌∙◌, arith}
+use Rattle.std.proofs.Common.{◌≡◌, ◌<◌, ◌^◌, ℕ, List, true, false, length, replicate, ap, sym, subst, ◌∙◌, arith}
 use Rattle.std.proofs.Math.ListN.{length-replicate}
 use Rattle.std.proofs.lemmas.List.Elements.{All-replicate}
 use Rattle.nvm_board.specs.Facts.{AreWords}
@@ -23,5 +23,5 @@ returns c =
     let same : c.in_ok-vec.field-0.items ≡ replicate FLASH_WORDS BLANK =
     c.in_ok-vec.ensures.items_if_clones_equal (λ y is_blank. is_blank) in
     let state : List ℕ → FlashState = λ words. record
-    { words = words; dark = false; due = 0; faults = 0; operations = 0; erases = 0 } in
+    { words = words; dark = false; due = 0; faults = 0; operations = 0; erases = 0; kept = true } in
     ap state same
