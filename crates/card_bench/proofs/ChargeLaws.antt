@@ -1,8 +1,9 @@
 -- What a second desk wrote that ran an order up to its first write.
-use Rattle.std.specs.Prelude.{◌≡◌, ◌⊎◌, ◌<◌, ◌^◌, ℕ, List, Option, None, is_some, length}
+use Rattle.std.specs.Prelude.{◌≡◌, ◌⊎◌, ◌<◌, ◌^◌, ℕ, Bool, List, [], ◌∷◌, Option, None, Some, is_some, length}
 use Rattle.std.proofs.Common.{◌∙◌, ap, arith, inl, inr, refl, subst, sym, true≢false}
 use Rattle.nvm_board.specs.Facts.{Facts}
-use Rattle.nvm_board.specs.History.{Log, Run, and_runs, replayed}
+use Rattle.nvm_board.specs.History.{Log, Run, and_runs, replayed, written}
+use Rattle.nvm_board.specs.laws.Torn.{length-written}
 use Rattle.bench_lines.specs.Orders.{Order, Cut}
 use Rattle.bench_lines.specs.Printouts.{Print}
 use Rattle.bench_turns.specs.BenchStates.{BenchState, off, on, bench_facts, with_facts}
@@ -10,8 +11,8 @@ use Rattle.bench_turns.specs.Guessing.{GuessesFew}
 use Rattle.bench_turns.specs.Lasting.{HasLeft}
 use Rattle.bench_turns.specs.Plays.{IsGood}
 use Rattle.bench_turns.proofs.FewGuesses.{pays-nothing, pays-on}
-use Rattle.card_bench.specs.Charges.{CutsNext, IsCharged, IsFactsOf, MayCompare, RunsToFirst, TakesCharge}
-use Rattle.card_bench.specs.Charges.{twin_desk}
+use Rattle.card_bench.specs.Charges.{CutsNext, HasSecond, IsCharged, IsUncharged, MayCompare, RunsToFirst}
+use Rattle.card_bench.specs.Charges.{TakesCharge, twin_desk}
 use Rattle.card_bench.specs.Exchanges.{Desk}
 use Rattle.card_bench.specs.Performing.{Performs}
 use Rattle.card_bench.specs.declared.charge.TheConstants.{ALL_WORDS}
@@ -92,19 +93,36 @@ pub twin_facts : (d : Desk) (log : Option Log)
     → bench_facts (twin_desk d log).bench ≡ record (bench_facts d.bench) { log = log }
 twin_facts d log = facts-with d.bench _
 
--- its board may have another one's log, on the same facts
-pub is_facts : (d : Desk) (f : Facts) (log : Option Log) → f ≡ record (bench_facts d.bench) { log = log }
-    → IsFactsOf d f
-is_facts d f log is = is ∙ ap (λ (l : Option Log). record (bench_facts d.bench) { log = l })
-    (sym (ap (λ (g : Facts). g.log) is))
+-- a desk with this board in place of its own
+pub twin_is : (was new : Desk) (f : Facts) (log : Option Log) → f ≡ record (bench_facts was.bench) { log = log }
+    → new ≡ record was { bench = with_facts was.bench f } → new ≡ twin_desk was log
+twin_is was new f log facts twin = twin ∙ ap (λ (g : Facts). record was { bench = with_facts was.bench g }) facts
 
-pub own_facts : (d : Desk) (f : Facts) → f ≡ bench_facts d.bench → IsFactsOf d f
-own_facts d f is = is_facts d f (bench_facts d.bench).log is
+-- a memory has as many words after runs, and a log is none where there was none
+length-replayed : (m : List ℕ) (runs : List Run) → length (replayed m runs) ≡ length m
+length-replayed m [] = refl
+length-replayed m (run ∷ runs) =
+    length-replayed (written m run.at run.words) runs ∙ length-written m run.words run.at
 
--- a board with the memory of a second desk fits it
-pub fits_twin : (was second : Desk) (f : Facts) → second ≡ twin_desk was None → IsFactsOf was f → IsFactsOf second f
-fits_twin was second f is fits = fits ∙ ap (λ (g : Facts). record g { log = f.log })
-    (sym (ap (λ (d : Desk). bench_facts d.bench) is ∙ twin_facts was None))
+none-logged : (runs : List Run) → and_runs None runs ≡ None
+none-logged [] = refl
+none-logged (run ∷ runs) = none-logged runs
+
+pub as_many_words : (order : Order) (old new : Desk) (prints : Print) → Performs order old new prints
+    → length (bench_facts new.bench).words ≡ length (bench_facts old.bench).words
+as_many_words order old new prints run =
+    let wrote = (performs_wrote order old new prints run).wrote in
+    ap length wrote.words ∙ length-replayed (bench_facts old.bench).words wrote.runs
+
+-- a second board fits the desk after an order too
+pub second_stays : {B : Type 0} (facts : B → Facts) (can_copy : Bool) (second : Option B) (order : Order)
+    (old new : Desk) (prints : Print) → Performs order old new prints
+    → HasSecond facts can_copy second (bench_facts old.bench) → HasSecond facts can_copy second (bench_facts new.bench)
+second_stays facts can_copy None order old new prints run fits =
+    let wrote = (performs_wrote order old new prints run).wrote in
+    wrote.log ∙ ap (λ (l : Option Log). and_runs l wrote.runs) fits ∙ none-logged wrote.runs
+second_stays facts can_copy (Some second) order old new prints run fits =
+    (fits.0, fits.1 ∙ sym (as_many_words order old new prints run), fits.2)
 
 -- a second desk with this board in place of its own
 pub second_twin : (was second new : Desk) (f : Facts) (log : Option Log) → second ≡ twin_desk was None
@@ -168,8 +186,7 @@ is_unlogged order was none = inl (refl, λ owes. true≢false (sym owes.1 ∙ ap
 pub is_cut_next : (order : Order) (was : Desk) → CutsNext (bench_facts was.bench).pending → IsCharged order was was
 is_cut_next order was cuts = inl (refl, λ owes. owes.2 cuts)
 
--- the board of a desk that is charged has the facts that it had
-pub charged_facts : (order : Order) (was now : Desk) (f : Facts) → TakesCharge order was now
-    → f ≡ bench_facts now.bench → IsFactsOf was f
-charged_facts order was now f takes is = is_facts was f _
-    (is ∙ ap (λ (d : Desk). bench_facts d.bench) takes.same ∙ twin_facts was _)
+-- the follower did not take the charge
+pub is_uncharged : (order : Order) (was now : Desk) (f : Facts) → TakesCharge order was now
+    → f ≡ bench_facts now.bench → IsUncharged order was f
+is_uncharged order was now f takes is = inr (now, takes, is)

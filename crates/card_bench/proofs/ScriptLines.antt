@@ -29,7 +29,7 @@ use Rattle.bench_lines.specs.laws.TextLines.{IsLong, lines-last, lines-line, lin
 use Rattle.bench_lines.specs.laws.TextLines.{order_of-none, orders-more, strip-within}
 use Rattle.card_bench.specs.ScriptEndings.{HasWritten, IsReadInto, IsRunInto, IsRunToEnd, IsRunToLine, IsRunUnkept}
 use Rattle.card_bench.specs.Exchanges.{Desk}
-use Rattle.card_bench.specs.Charges.{AnyFacts, IsFactsOf, MayCompare, RunsLine}
+use Rattle.card_bench.specs.Charges.{AnyFacts, IsUncharged, MayCompare, RunsLine}
 use Rattle.card_bench.specs.Performing.{Performs}
 use Rattle.bench_turns.specs.Plays.{IsGood}
 use Rattle.bench_lines.specs.Printouts.{Print, text_of}
@@ -642,7 +642,7 @@ held-compares order asks compares =
 pub is_held : (facts : Facts) (Keeps : Facts → Type 0) (first : Desk) (script old new : Option (List ℕ)) (n taken
     taken' : ℕ)
     (line : List ℕ) (end : LineEnd) (desk : Desk) (held before : Option (List ℕ)) (order : Order)
-    → IsFactsOf desk facts → HasRun Keeps first script old n taken desk held before → TakesLine old new line end
+    → IsUncharged order desk facts → HasRun Keeps first script old n taken desk held before → TakesLine old new line end
     → CountsTaken old new taken taken' → taken' ≤ SCRIPT_LIMIT → order_of line ≡ Some order → MayCompare order
     → StopsUncharged Keeps first facts script new held before
 is_held facts Keeps first None old new n taken taken' line end desk held before order is run takes counted most asks

@@ -67,6 +67,19 @@ pub record TakesCharge (order : Order) (was now : Desk) : Type 0 where
 abbrev pub IsCharged : Order → Desk → Desk → Type 0
 IsCharged order was now = ((now ≡ was) × ¬ Owes order was) ⊎ TakesCharge order was now
 
+-- These are the facts of the board of a desk at which the charge of an order is not stored: those before the order, or
+-- those with its charge, which the follower of this board did not take.
+abbrev pub IsUncharged : Order → Desk → Facts → Type 0
+IsUncharged order was f = (f ≡ bench_facts was.bench)
+    ⊎ ((charged : Desk) × TakesCharge order was charged × (f ≡ bench_facts charged.bench))
+
+-- A board for the second desk of a charge, if there is one: it has as many words as these, and no log. Boards of its
+-- kind can be copied. Without one there is no log.
+abbrev pub HasSecond : {B : Type 0} → (B → Facts) → Bool → Option B → Facts → Type 0
+HasSecond facts can_copy None f = f.log ≡ None
+HasSecond facts can_copy (Some second) f = (can_copy ≡ true) × (length (facts second).words ≡ length f.words)
+    × ((facts second).log ≡ None)
+
 -- no statement about facts
 abbrev pub AnyFacts : Facts → Type 0
 AnyFacts f = Unit {0}
@@ -79,7 +92,3 @@ pub record RunsLine (Stored Kept : Facts → Type 0) (order : Order) (old new : 
   pub stored : MayCompare order → Stored (bench_facts charged.bench)
   pub performs : Performs order charged new prints
   pub kept : prints ≢ prints_nothing → Kept (bench_facts new.bench)
-
--- the facts of a desk's board, which may have another log
-abbrev pub IsFactsOf : Desk → Facts → Type 0
-IsFactsOf d f = f ≡ record (bench_facts d.bench) { log = f.log }

@@ -1,5 +1,5 @@
 -- How the run of a script ends, and what it has written by then.
-use Rattle.std.specs.Prelude.{◌≡◌, ◌≢◌, ◌⊎◌, ◌≤◌, ℕ, Bool, true, false, List, [], ◌∷◌, ◌++◌, length, take}
+use Rattle.std.specs.Prelude.{◌≡◌, ◌≢◌, ◌⊎◌, ◌≤◌, ℕ, List, [], ◌∷◌, ◌++◌, length, take}
 use Rattle.std.specs.Prelude.{Option, Some, IfSome}
 use Rattle.std.specs.Io.KnownBytes.{Appends}
 use Rattle.std.specs.Str.Lines.{lines}
@@ -11,7 +11,7 @@ use Rattle.bench_lines.specs.declared.reading.TheConstants.{SCRIPT_LIMIT}
 use Rattle.card_bench.specs.Exchanges.{Desk}
 use Rattle.card_bench.specs.Prints.{LinesPrint, PrintsLines}
 use Rattle.bench_lines.specs.Orders.{Order, order_of}
-use Rattle.card_bench.specs.Charges.{AnyFacts, IsFactsOf, MayCompare}
+use Rattle.card_bench.specs.Charges.{AnyFacts, IsUncharged, MayCompare}
 use Rattle.bench_lines.specs.Scripts.{EndsLine, FailsAtLine, IsInLine, IsScript, IsTooLong, WhereKnown}
 
 -- The writer contains the output of these lines from a desk on, appended to its former contents.
@@ -89,13 +89,13 @@ pub record IsRunBefore (Keeps : Facts → Type 0) (first : Desk) (script left : 
   pub prior : PrintsLines Keeps Keeps first before between out
   pub same : Appends old new out
 
--- The run stopped since the charge of a line is not stored. The facts of the board are those before this line, but for
--- the log, if the script's bytes are known.
+-- The run stopped since the follower of a board with these facts failed, and the charge of a line is not stored. They
+-- are those before this line, or those with its charge, if the script's bytes are known.
 abbrev pub StopsUncharged : (Facts → Type 0) → Desk → Facts → Option (List ℕ) → Option (List ℕ) → Option (List ℕ)
     → Option (List ℕ)
     → Type 0
 StopsUncharged Keeps first facts script left old new = WhereKnown script left (λ bytes rest.
-    (stop : IsRunBefore Keeps first bytes rest old new) × IsFactsOf stop.between facts)
+    (stop : IsRunBefore Keeps first bytes rest old new) × IsUncharged stop.order stop.between facts)
 
 -- The run stopped since the follower of a board with these facts failed. They are those after the line without an
 -- answer, if the script's bytes are known.
@@ -104,14 +104,12 @@ abbrev pub StopsUnkept : (Facts → Type 0) → Desk → Facts → Option (List 
 StopsUnkept Keeps first facts script left old new = WhereKnown script left (λ bytes rest.
     (stop : IsRunUnkept Keeps first bytes rest old new) × (bench_facts stop.into.last.bench ≡ facts))
 
--- The run stopped as Unkept at a board with these facts: its follower lacks a write of the last line, or the charge of
--- the last line is not stored, as the follower failed, or there was no memory for a second board.
-abbrev pub StopsBehind : Bool → Bool → (Facts → Type 0) → Desk → Facts → Option (List ℕ) → Option (List ℕ)
-    → Option (List ℕ)
+-- The run stopped since the follower of a board with these facts failed: it lacks a write of the last line, or the
+-- charge of the last line.
+abbrev pub StopsBehind : (Facts → Type 0) → Desk → Facts → Option (List ℕ) → Option (List ℕ) → Option (List ℕ)
     → Option (List ℕ) → Type 0
-StopsBehind has_kept has_follower Keeps first facts script left old new =
-    ((has_kept ≡ false) × StopsUnkept Keeps first facts script left old new)
-    ⊎ (((has_follower ≡ true) ⊎ (has_kept ≡ false)) × StopsUncharged Keeps first facts script left old new)
+StopsBehind Keeps first facts script left old new =
+    StopsUnkept Keeps first facts script left old new ⊎ StopsUncharged Keeps first facts script left old new
 
 -- The end of a run by its fault, if the script's bytes are known. A bad line is the first one, and the lines before it
 -- ran. A failing reader stops within a line, and a failing writer within the output of a line. If the follower of the

@@ -1,7 +1,7 @@
 //! The desk of a script: a bench, the reader's end of the link, and the line between the ends.
-ghost use Rattle.std.specs.Prelude.{◌≡◌, ◌≢◌, ◌≤◌, ◌⊎◌, ◌↔◌, ℕ, None, Err, IsTrue, length, take, true, false};
+ghost use Rattle.std.specs.Prelude.{◌≡◌, ◌≢◌, ◌≤◌, ◌⊎◌, ◌↔◌, ℕ, None, Some, Err, IsTrue, length, take, true, false};
 ghost use Rattle.std.specs.Prelude.{IfErr, OnErr, OnOk};
-ghost use Rattle.card_bench.specs.Charges.{IsCharged, IsFactsOf, MayCompare, TakesCharge, twin_desk};
+ghost use Rattle.card_bench.specs.Charges.{HasSecond, IsCharged, IsUncharged, MayCompare, TakesCharge};
 ghost use Rattle.std.specs.Io.KnownBytes.{Appends};
 ghost use Rattle.bench_lines.specs.declared.order.TheConstants.{COMMAND_LIMIT};
 ghost use Rattle.bench_turns.specs.BenchStates.{IsOn, bench_facts, off, with_facts};
@@ -199,23 +199,29 @@ where
     P::Board: Followed + Drop,
 {
     /// Gives the board's follower the first write of an order that can compare a PIN. The order is to run after it.
-    /// The desk runs the order up to this write, and a second desk in the state before it takes its place.
+    /// The desk runs the order up to this write, and a second desk in the state before it, on the second board, takes
+    /// its place. It asks for no memory.
     ///
     /// # Errors
     ///
-    /// `Unkept` if the follower did not take the write, or there is too little memory for a second board. Then nothing
-    /// was compared.
-    #[tactic(auto, using(crate::proofs::ChargeLaws::charged_facts, crate::proofs::ChargeLaws::is_unlogged, crate::proofs::ChargeLaws::is_cut_next, crate::proofs::ChargeLaws::never_compares, crate::proofs::ChargeLaws::own_facts))]
-    pub(crate) fn charge(&mut self, order: Order, given: &[u8]) -> Result<(), RunFault>
+    /// `Unkept` if the follower did not take the write, or an earlier one. Then nothing was compared.
+    #[tactic(auto, using(crate::proofs::ChargeLaws::is_unlogged, crate::proofs::ChargeLaws::is_uncharged, crate::proofs::ChargeLaws::is_cut_next, crate::proofs::ChargeLaws::never_compares))]
+    pub(crate) fn charge(
+        &mut self,
+        second: &mut Option<P::Board>,
+        order: Order,
+        given: &[u8],
+    ) -> Result<(), RunFault>
         requires sized { IsOrderSized (order_with order given.now) }
         requires good { IsGood self.old.desk.bench }
+        requires second { HasSecond P.Board.facts P.Board.can_copy second.old (bench_facts self.old.desk.bench) }
         ensures charged { OnOk result (IsCharged (order_with order given.now) self.old.desk self.new.desk) }
         ensures kept { OnOk result (MayCompare (order_with order given.now)
             → LacksNoWrite P.Board P.Board.facts P.Board.has_kept (bench_facts self.new.desk.bench)) }
-        ensures fault { IfErr result (λ fault. fault ≡ RunFault.Unkept) }
-        ensures compares { OnErr result (MayCompare (order_with order given.now)) }
-        ensures lacks { OnErr result ((board : P.Board) × ((P.Board.has_follower board ≡ true)
-            ⊎ (P.Board.has_kept board ≡ false)) × IsFactsOf self.old.desk (P.Board.facts board)) }
+        ensures fault { IfErr result (λ fault. (fault ≡ RunFault.Unkept) × MayCompare (order_with order given.now)) }
+        ensures lacks { OnErr result ((board : P.Board) × (P.Board.has_kept board ≡ false)
+            × IsUncharged (order_with order given.now) self.old.desk (P.Board.facts board)) }
+        ensures second { HasSecond P.Board.facts P.Board.can_copy second.new (bench_facts self.new.desk.bench) }
     {
         if !may_compare(order, given) {
             return Ok(());
@@ -224,85 +230,70 @@ where
         if !board.follows() {
             return Err(RunFault::Unkept);
         }
-        if !board.is_followed() || cuts_next(board.pending_cut()) {
+        if cuts_next(board.pending_cut()) {
             return Ok(());
         }
-        self.charge_followed(order, given)
+        match replace(second, None) {
+            Some(own) => self.charge_followed(second, own, order, given),
+            None => Ok(()),
+        }
     }
 
-    /// Gives the board's follower the first write of an order. This is a function of its own, so that a line without a
-    /// charge, the usual case, has no place for the boards.
+    /// Gives the board's follower the first write of an order, over the second board. This is a function of its own, so
+    /// that a line without a charge, the usual case, has no place for the boards.
     ///
     /// # Errors
     ///
     /// As `charge`.
-    #[tactic(auto, using(crate::proofs::ChargeLaws::charged_facts, crate::proofs::ChargeLaws::own_facts))]
     #[inline(never)]
-    fn charge_followed(&mut self, order: Order, given: &[u8]) -> Result<(), RunFault>
+    fn charge_followed(
+        &mut self,
+        second: &mut Option<P::Board>,
+        own: P::Board,
+        order: Order,
+        given: &[u8],
+    ) -> Result<(), RunFault>
         requires sized { IsOrderSized (order_with order given.now) }
         requires good { IsGood self.old.desk.bench }
-        requires followed { (board : P.Board) × (P.Board.has_follower board ≡ true)
-            × (P.Board.facts board ≡ bench_facts self.old.desk.bench) }
-        ensures charged { OnOk result (TakesCharge (order_with order given.now) self.old.desk self.new.desk) }
+        requires second { HasSecond P.Board.facts P.Board.can_copy (Some own) (bench_facts self.old.desk.bench) }
+        ensures charged { TakesCharge (order_with order given.now) self.old.desk self.new.desk }
         ensures kept { OnOk result (LacksNoWrite P.Board P.Board.facts P.Board.has_kept
             (bench_facts self.new.desk.bench)) }
         ensures fault { IfErr result (λ fault. fault ≡ RunFault.Unkept) }
-        ensures lacks { OnErr result ((board : P.Board) × ((P.Board.has_follower board ≡ true)
-            ⊎ (P.Board.has_kept board ≡ false)) × IsFactsOf self.old.desk (P.Board.facts board)) }
+        ensures lacks { OnErr result ((board : P.Board) × (P.Board.has_kept board ≡ false)
+            × (P.Board.facts board ≡ bench_facts self.new.desk.bench)) }
+        ensures second { HasSecond P.Board.facts P.Board.can_copy second.new (bench_facts self.new.desk.bench) }
     {
-        let board = self.board();
-        let Ok(second) = board.unfollowed_copy() else {
-            return Err(RunFault::Unkept);
-        };
-        let Ok(next) = board.unfollowed_copy() else {
-            return Err(RunFault::Unkept);
-        };
-        if self.charge_on(second, next, order, given) {
-            Ok(())
-        } else {
-            Err(RunFault::Unkept)
-        }
+        let (left, kept) = self.take_charge(own, order, given);
+        *second = Some(left);
+        if kept { Ok(()) } else { Err(RunFault::Unkept) }
     }
 
-    /// Takes the charge of an order, over the boards of the second desk and of the next one. Returns true if the
-    /// follower took the write. This is a function of its own, so that a line without a charge, the usual case, has no
-    /// place for a second desk.
-    #[inline(never)]
-    fn charge_on(&mut self, second: P::Board, next: P::Board, order: Order, given: &[u8]) -> bool
+    /// Runs an order up to its first write, which the follower gets. Then a second desk in the state before it, on the
+    /// second board, takes this one's place, and gives it back to the board with the follower. Returns the second board,
+    /// and true if the follower took the write.
+    fn take_charge(&mut self, mut second: P::Board, order: Order, given: &[u8]) -> (P::Board, bool)
         requires sized { IsOrderSized (order_with order given.now) }
         requires good { IsGood self.old.desk.bench }
-        requires second { P.Board.facts second ≡ record (bench_facts self.old.desk.bench) { log = None } }
-        requires next { P.Board.facts next ≡ record (bench_facts self.old.desk.bench) { log = None } }
+        requires second { HasSecond P.Board.facts P.Board.can_copy (Some second) (bench_facts self.old.desk.bench) }
         ensures charged { TakesCharge (order_with order given.now) self.old.desk self.new.desk }
         ensures kept { (board : P.Board) × (P.Board.facts board ≡ bench_facts self.new.desk.bench)
-            × (P.Board.has_kept board ≡ result) }
+            × (P.Board.has_kept board ≡ result.1) }
+        ensures second { HasSecond P.Board.facts P.Board.can_copy (Some result.0) (bench_facts self.new.desk.bench) }
     {
-        let second = self.twin(second);
-        self.take_charge(second, next, order, given)
-    }
-
-    /// Runs an order up to its first write, which the follower gets. Then a second desk in the state before it takes
-    /// this one's place, and `next`, which has its memory, the follower. Returns true if the follower took the write.
-    fn take_charge(&mut self, second: Desk<P>, next: P::Board, order: Order, given: &[u8]) -> bool
-        requires sized { IsOrderSized (order_with order given.now) }
-        requires good { IsGood self.old.desk.bench }
-        requires second { second.desk ≡ twin_desk self.old.desk None }
-        requires next { P.Board.facts next ≡ record (bench_facts self.old.desk.bench) { log = None } }
-        ensures charged { TakesCharge (order_with order given.now) self.old.desk self.new.desk }
-        ensures kept { (board : P.Board) × (P.Board.facts board ≡ bench_facts self.new.desk.bench)
-            × (P.Board.has_kept board ≡ result) }
-    {
+        second.copy_from(self.board());
+        let before = self.twin(second);
         let cut = Order::Cut {
             number: 1,
             mask: ALL_WORDS,
         };
         self.perform_apart(cut, &[]);
         self.perform_apart(order, given);
-        let left = replace(self, second).into_board();
-        let board = next.with_follower_of(left);
+        let mut board = replace(self, before).into_board();
+        board.copy_from(self.board());
         let kept = board.follows();
-        *self = self.twin(board);
-        kept
+        let charged = self.twin(board);
+        (replace(self, charged).into_board(), kept)
     }
 }
 

@@ -1,6 +1,8 @@
 //! Runs a script, from its first line to its last.
-ghost use Rattle.std.specs.Prelude.{◌≡◌, ◌≢◌, Err, IfSome, IfErr, OnOk};
+ghost use Rattle.std.specs.Prelude.{◌≡◌, ◌≢◌, Err, IfOk, IfSome, IfErr, OnErr, OnOk, true, false};
 ghost use Rattle.card_bench.specs.ScriptEndings.{IsRunToEnd, RunStopsBy, StopsBehind};
+ghost use Rattle.bench_turns.specs.BenchStates.{bench_facts};
+ghost use Rattle.card_bench.specs.Charges.{HasSecond};
 ghost use Rattle.card_bench.specs.Exchanges.{Desk as DeskValue};
 ghost use Rattle.card_bench.specs.Prints.{IsFirstDesk, LacksNoWrite, IsUnfollowed, desk_of};
 ghost use Rattle.bench_turns.specs.Plays.{IsGood};
@@ -14,7 +16,7 @@ use bench_turns::Twinned;
 use card_boards::factory_board;
 use nvm_board::has_no_fault;
 use simulated_boards::{CutBoard, Followed};
-use std::alloc::Global;
+use std::alloc::{AllocError, Global};
 use std::io::{BufRead, Write};
 
 /// Runs a script on the factory card, with power off at first.
@@ -56,12 +58,14 @@ pub fn run<P: Twinned<Board = CutBoard> + Drop, R: BufRead, W: Write>(
 }
 
 /// Runs a script on the card in a board's memory.
-/// Power is off at the start. A line has an answer only if the board's follower has all writes.
+/// Power is off at the start. A line has an answer only if the board's follower has all writes. It allocates the memory
+/// for a second board, if something follows this one, before it reads the first byte.
 ///
 /// # Errors
 ///
-/// Those of `run` but `Memory`, and `Unkept` if the follower did not take a write: then the line has no answer, and no
-/// line after it runs. If it did not take the charge of a PIN, the line itself does not run, and nothing is compared.
+/// Those of `run`, and `Unkept` if the follower did not take a write: then the line has no answer, and no line after it
+/// runs. If it did not take the charge of a PIN, the line itself does not run, and nothing is compared. `Memory` only if
+/// something follows the board.
 pub fn run_on<P: Twinned + Drop, R: BufRead, W: Write>(
     board: P::Board,
     reader: &mut R,
@@ -76,17 +80,36 @@ where
     ensures stopped { IfErr result (λ fault.
         RunStopsBy (LacksNoWrite P.Board P.Board.facts P.Board.has_kept) (desk_of (P.Board.facts board)) fault
         (R.remaining reader.old) (R.remaining reader.new) (W.contents writer.old) (W.contents writer.new)) }
-    ensures memory { result ≢ Err RunFault.Memory }
-    // The board that lacks a write is that of the line without an answer, or that before the line without a charge.
-    ensures behind { result ≡ Err RunFault.Unkept → (left : P.Board)
-        × StopsBehind (P.Board.has_kept left) (P.Board.has_follower left)
-        (LacksNoWrite P.Board P.Board.facts P.Board.has_kept) (desk_of (P.Board.facts board)) (P.Board.facts left)
-        (R.remaining reader.old) (R.remaining reader.new) (W.contents writer.old)
+    // With too little memory nothing was read or written.
+    ensures memory { result ≡ Err RunFault.Memory → (P.Board.has_follower board ≡ true)
+        × (R.remaining reader.new ≡ R.remaining reader.old) × (W.contents writer.new ≡ W.contents writer.old) }
+    // The board whose follower failed is that of the line without an answer, or that of the line without a charge.
+    ensures behind { result ≡ Err RunFault.Unkept → (left : P.Board) × (P.Board.has_kept left ≡ false)
+        × StopsBehind (LacksNoWrite P.Board P.Board.facts P.Board.has_kept) (desk_of (P.Board.facts board))
+        (P.Board.facts left) (R.remaining reader.old) (R.remaining reader.new) (W.contents writer.old)
         (W.contents writer.new) }
 {
     has_no_fault(&board);
+    let Ok(second) = second_board(&board) else {
+        return Err(RunFault::Memory);
+    };
     let mut desk: Desk<P> = Desk::new(board);
-    run_lines(&mut desk, reader, writer)
+    run_lines(&mut desk, second, reader, writer)
+}
+
+/// Returns a board for the second desk of a charge, if something follows this board.
+///
+/// # Errors
+/// There is too little memory for it.
+fn second_board<B: Followed>(board: &B) -> Result<Option<B>, AllocError>
+    ensures second { IfOk result (λ second. HasSecond B.facts B.can_copy second (B.facts board.now)) }
+    ensures memory { OnErr result (B.has_follower board.now ≡ true) }
+{
+    if board.is_followed() {
+        Ok(Some(board.unfollowed_copy()?))
+    } else {
+        Ok(None)
+    }
 }
 
 /// Runs the lines of a script on a desk. This is a function of its own, so that its loop doesn't share the registers of
@@ -94,12 +117,14 @@ where
 #[inline(never)]
 fn run_lines<P: Twinned + Drop, R: BufRead, W: Write>(
     desk: &mut Desk<P>,
+    mut second: Option<P::Board>,
     reader: &mut R,
     writer: &mut W,
 ) -> Result<(), RunFault>
 where
     P::Board: Followed + Drop,
-    requires { IsGood desk.old.desk.bench }
+    requires good { IsGood desk.old.desk.bench }
+    requires second { HasSecond P.Board.facts P.Board.can_copy second (bench_facts desk.old.desk.bench) }
     ensures done { OnOk result (IfSome (R.remaining reader.old)
         (λ script. IsRunToEnd (LacksNoWrite P.Board P.Board.facts P.Board.has_kept) desk.old.desk script
         (W.contents writer.old) (W.contents writer.new))) }
@@ -107,9 +132,8 @@ where
         RunStopsBy (LacksNoWrite P.Board P.Board.facts P.Board.has_kept) desk.old.desk fault
         (R.remaining reader.old) (R.remaining reader.new) (W.contents writer.old) (W.contents writer.new)) }
     ensures memory { result ≢ Err RunFault.Memory }
-    ensures behind { result ≡ Err RunFault.Unkept → (left : P.Board)
-        × StopsBehind (P.Board.has_kept left) (P.Board.has_follower left)
-        (LacksNoWrite P.Board P.Board.facts P.Board.has_kept) desk.old.desk (P.Board.facts left)
+    ensures behind { result ≡ Err RunFault.Unkept → (left : P.Board) × (P.Board.has_kept left ≡ false)
+        × StopsBehind (LacksNoWrite P.Board P.Board.facts P.Board.has_kept) desk.old.desk (P.Board.facts left)
         (R.remaining reader.old) (R.remaining reader.new) (W.contents writer.old) (W.contents writer.new) }
 {
     let mut line = LineBytes::new();
@@ -128,7 +152,7 @@ where
             return Err(RunFault::BadLine(number));
         };
         let bytes = given.as_slice();
-        desk.charge(order, bytes)?;
+        desk.charge(&mut second, order, bytes)?;
         let line_result = desk.perform(order, bytes);
         desk.answer(line_result, writer, &mut text)?;
         match end {

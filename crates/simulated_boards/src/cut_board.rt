@@ -19,7 +19,7 @@ pub struct CutBoard {
 }
 
 impl CutBoard {
-    ghost use Rattle.std.specs.Prelude.{◌≡◌, ◌≤◌, is_some, IfOk, IfSome, IsNone, None};
+    ghost use Rattle.std.specs.Prelude.{◌≡◌, ◌≤◌, is_some, length, IfOk, IfSome, IsNone, None};
     ghost use Rattle.nvm_board.specs.BoardCalls.{FitsPage};
     ghost use Rattle.simulated_boards.specs.Cut.{cut_facts, last_torn, IsNewCutBoard, WritesOrTears};
     ghost use Rattle.nvm_board.specs.Facts.{IsMemory, address};
@@ -69,6 +69,17 @@ impl CutBoard {
             arm: self.arm,
             torn_words: self.torn_words,
         })
+    }
+
+    /// Takes the words, power, counts and cut of another board with as many pages. It asks for no memory.
+    pub(crate) fn copy_from(&mut self, other: &CutBoard)
+        requires { length (cut_facts self.old).words ≡ length (cut_facts other.now).words }
+        ensures facts { cut_facts self.new ≡ cut_facts other.now }
+        ensures torn { last_torn self.new ≡ last_torn other.now }
+    {
+        self.ram.copy_from(&other.ram);
+        self.arm = other.arm;
+        self.torn_words = other.torn_words;
     }
 
     /// A lit board with these words, whose counts are 0 and on which no cut is to come.

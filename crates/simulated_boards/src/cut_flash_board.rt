@@ -151,6 +151,8 @@ impl<F: CutFlash + Drop> Followed for CutFlashBoard<F> {
 
     ghost has_follower = { λ b. false };
 
+    ghost can_copy = { false };
+
     fn follows(&self) -> bool {
         true
     }
@@ -168,7 +170,6 @@ impl<F: CutFlash + Drop> Followed for CutFlashBoard<F> {
         Err(AllocError)
     }
 
-    fn with_follower_of(self, _: CutFlashBoard<F>) -> CutFlashBoard<F> {
-        self
-    }
+    // No board of this kind is copied.
+    fn copy_from(&mut self, _: &CutFlashBoard<F>) {}
 }

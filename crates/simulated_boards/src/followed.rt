@@ -1,5 +1,5 @@
 //! Boards whose words something outside may follow.
-ghost use Rattle.std.specs.Prelude.{◌≡◌, ◌&&◌, Bool, true, false, not, None, IfOk};
+ghost use Rattle.std.specs.Prelude.{◌≡◌, ◌&&◌, Bool, true, false, not, length, None, IfOk};
 
 use crate::cut_board::CutBoard;
 use nvm_board::{Arm, Board};
@@ -12,6 +12,9 @@ pub trait Followed: Board {
 
     /// True if there is a follower that has all writes up to now.
     ghost has_follower: { Self → Bool };
+
+    /// True if boards of this kind can be copied.
+    ghost can_copy: { Bool };
 
     /// Returns true if the follower has all writes up to now, or if there was never one.
     fn follows(&self) -> bool
@@ -30,15 +33,20 @@ pub trait Followed: Board {
     /// it failed, the copy lacks its writes: else code that asks a copy could answer for a follower that fell behind.
     ///
     /// # Errors
-    /// There is too little memory for the words.
+    /// There is too little memory for the words, or boards of this kind can't be copied.
     fn unfollowed_copy(&self) -> Result<Self, AllocError>
+        ensures copies { IfOk result (λ copy. can_copy ≡ true) }
         ensures facts { IfOk result (λ copy. Self.facts copy ≡ record (Self.facts self.now) { log = None }) }
         ensures kept { IfOk result (λ copy. has_kept copy ≡ (has_kept self.now && not (has_follower self.now))) };
 
-    /// Returns the board with the follower of another one in place of its own.
-    fn with_follower_of(self, other: Self) -> Self
-        ensures facts { Self.facts result ≡ record (Self.facts self) { log = (Self.facts other).log } }
-        ensures kept { has_kept result ≡ has_kept other };
+    /// Takes the state of another board with as many pages, but its follower, if boards of this kind can be copied. It
+    /// asks for no memory, and hands nothing to its own follower, which stays.
+    fn copy_from(&mut self, other: &Self)
+        requires pages { length (Self.facts self.old).words ≡ length (Self.facts other.now).words }
+        ensures facts { can_copy ≡ true → Self.facts self.new
+            ≡ record (Self.facts other.now) { log = (Self.facts self.old).log } }
+        ensures kept { has_kept self.new ≡ has_kept self.old }
+        ensures follower { has_follower self.new ≡ has_follower self.old };
 }
 
 // Nothing follows it, so nothing falls behind.
@@ -46,6 +54,8 @@ impl Followed for CutBoard {
     ghost has_kept = { λ b. true };
 
     ghost has_follower = { λ b. false };
+
+    ghost can_copy = { true };
 
     fn follows(&self) -> bool {
         true
@@ -63,7 +73,7 @@ impl Followed for CutBoard {
         self.copy(self.allocator())
     }
 
-    fn with_follower_of(self, _: CutBoard) -> CutBoard {
-        self
+    fn copy_from(&mut self, other: &CutBoard) {
+        CutBoard::copy_from(self, other);
     }
 }

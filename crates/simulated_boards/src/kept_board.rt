@@ -229,11 +229,13 @@ impl<F: Follower> Faultless for KeptBoard<F> {
 }
 
 impl<F: Follower + Drop> Followed for KeptBoard<F> {
-    ghost use Rattle.std.specs.Prelude.{◌&&◌, is_some};
+    ghost use Rattle.std.specs.Prelude.{◌&&◌, is_some, true};
 
     ghost has_kept = { λ b. b.follows };
 
     ghost has_follower = { λ b. b.follows && is_some b.follower };
+
+    ghost can_copy = { true };
 
     fn follows(&self) -> bool {
         self.follows
@@ -256,21 +258,7 @@ impl<F: Follower + Drop> Followed for KeptBoard<F> {
         })
     }
 
-    fn with_follower_of(self, other: KeptBoard<F>) -> KeptBoard<F> {
-        let KeptBoard {
-            cut: own,
-            follower: _,
-            follows: _,
-        } = self;
-        let KeptBoard {
-            cut: _,
-            follower: theirs,
-            follows: has_all,
-        } = other;
-        KeptBoard {
-            cut: own,
-            follower: theirs,
-            follows: has_all,
-        }
+    fn copy_from(&mut self, other: &KeptBoard<F>) {
+        self.cut.copy_from(&other.cut);
     }
 }

@@ -121,6 +121,20 @@ impl RamBoard {
         })
     }
 
+    /// Takes the words, light and counts of another board with as many pages. It asks for no memory.
+    pub(crate) fn copy_from(&mut self, other: &RamBoard)
+        requires { length (ram_facts self.old).words ≡ length (ram_facts other.now).words }
+        ensures { ram_facts self.new ≡ ram_facts other.now }
+    {
+        self.pages = other.pages;
+        self.words.as_mut_slice().copy_from_slice(&other.words);
+        self.dark = other.dark;
+        self.cuts = other.cuts;
+        self.writes = other.writes;
+        self.compares = other.compares;
+        self.matches = other.matches;
+    }
+
     /// Returns the allocator of the words.
     pub(crate) fn allocator(&self) -> Global {
         *self.words.allocator()

@@ -1,4 +1,4 @@
-use Rattle.std.proofs.Common.{refl, sym, true≢false, ⊎_elim}
+use Rattle.std.proofs.Common.{refl, true≢false}
 use Rattle.std.proofs.lemmas.Result.{IfErr-weaker, on_ok_weaker}
 use Rattle.simulated_boards.specs.Cut.{cut_facts}
 use Rattle.card_bench.specs.Prints.{IsFirstDesk, desk_of}
@@ -23,5 +23,4 @@ returns-clause-stopped g c =
     λ other. IfErr-weaker c.run_on.result _ _ (λ fault stops. (desk_of facts, begins, stops)) c.run_on.ensures.stopped
 
 pub returns-clause-kept : goal.returns-clause-kept
-returns-clause-kept g c = λ unkept. ⊎_elim (λ stops. true≢false stops.0)
-    (λ stops. ⊎_elim (λ followed. true≢false (sym followed)) true≢false stops.0) (c.run_on.ensures.behind unkept).1
+returns-clause-kept g c = λ unkept. true≢false (c.run_on.ensures.behind unkept).1

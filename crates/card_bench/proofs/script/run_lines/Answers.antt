@@ -10,7 +10,7 @@ use Rattle.bench_lines.specs.Scripts.{TakesLine, WhereKnown}
 use Rattle.card_bench.proofs.ScriptLines.{begins_run, goes_on, is_done, is_bad, is_too_long, is_unread}
 use Rattle.card_bench.proofs.ScriptLines.{is_unanswered, is_unanswered_by, is_unwritten}
 use Rattle.card_bench.proofs.ScriptLines.{speaks, held_stops, is_held, unkept_stops, HasRun}
-use Rattle.card_bench.proofs.ChargeLaws.{good_charged}
+use Rattle.card_bench.proofs.ChargeLaws.{good_charged, second_stays}
 use Rattle.card_bench.specs.Charges.{AnyFacts, RunsLine}
 use Rattle.card_bench.specs.Prints.{LacksNoWrite}
 use Rattle.nvm_board.specs.Facts.{Facts}
@@ -166,14 +166,12 @@ returns-in_err-answer-clause-behind g c = λ returned.
       kept = λ loud. tt;
     } in (
       behind.0,
-      inl (
-        behind.2,
-        subst (λ (w : Option (List ℕ)). StopsUnkept K c.args.desk.now.desk (g.P.Board.Board.facts behind.0) script left
-            held w) (sym (c.in_err-answer.ensures.unkept unkept))
-            (is_unanswered_by _ _ _ _ _ _ _ _ _ _ c.in-Ok.end _ _ _ _ _ _ behind.1 c.loop-number.invariant.so_far
-            c.in-Ok.ensures.line c.in-Ok.ensures.counted c.read_line.ensures.taken good ran
-            c.perform-line_result.ensures.good loud),
-      ),
+      behind.2,
+      inl (subst (λ (w : Option (List ℕ)). StopsUnkept K c.args.desk.now.desk (g.P.Board.Board.facts behind.0) script
+          left held w) (sym (c.in_err-answer.ensures.unkept unkept))
+          (is_unanswered_by _ _ _ _ _ _ _ _ _ _ c.in-Ok.end _ _ _ _ _ _ behind.1 c.loop-number.invariant.so_far
+          c.in-Ok.ensures.line c.in-Ok.ensures.counted c.read_line.ensures.taken good ran
+          c.perform-line_result.ensures.good loud)),
     )
 
 -- the charge is not stored
@@ -192,10 +190,10 @@ returns-in_err-charge-clause-stopped g c =
     let lacks = c.in_err-charge.ensures.lacks in
     let stops = held_stops (g.P.Board.Board.facts lacks.0) K first script left held before
     (is_held _ _ _ _ _ _ _ _ _ _ c.in-Ok.end _ _ _ _ lacks.2 c.loop-number.invariant.so_far c.in-Ok.ensures.line
-    c.in-Ok.ensures.counted c.read_line.ensures.taken good c.in_err-charge.ensures.compares) in
+    c.in-Ok.ensures.counted c.read_line.ensures.taken good c.in_err-charge.ensures.fault.1) in
     passed_on _ c.in_err-charge.field-0.0 (λ (f : RunFault). RunStopsBy K first f script left held before)
     c.from_residual.ensures.1
-    (subst (λ (f : RunFault). RunStopsBy K first f script left held before) (sym c.in_err-charge.ensures.fault) stops)
+    (subst (λ (f : RunFault). RunStopsBy K first f script left held before) (sym c.in_err-charge.ensures.fault.0) stops)
 
 pub returns-in_err-charge-clause-behind : goal.returns-in_err-charge-clause-behind
 returns-in_err-charge-clause-behind g c = λ returned.
@@ -205,11 +203,10 @@ returns-in_err-charge-clause-behind g c = λ returned.
     ∙ ap (λ (l : List ℕ). Some (order_with c.in-Some.order l)) (sym c.as_slice-bytes.ensures) in
     let lacks = c.in_err-charge.ensures.lacks in (
       lacks.0,
-      inr (
-        lacks.1,
-        is_held _ _ _ _ _ _ _ _ _ _ c.in-Ok.end _ _ _ _ lacks.2 c.loop-number.invariant.so_far c.in-Ok.ensures.line
-            c.in-Ok.ensures.counted c.read_line.ensures.taken good c.in_err-charge.ensures.compares,
-      ),
+      lacks.1,
+      inr (is_held _ _ _ _ _ _ _ _ _ _ c.in-Ok.end _ _ _ _ lacks.2 c.loop-number.invariant.so_far
+          c.in-Ok.ensures.line c.in-Ok.ensures.counted c.read_line.ensures.taken good
+          c.in_err-charge.ensures.fault.1),
     )
 
 pub charge-requires-clause-sized : goal.charge-requires-clause-sized
@@ -258,7 +255,13 @@ returns-in-EndOfScript-clause-done g c =
 
 pub loop-number-init : goal.loop-number-init
 loop-number-init g c =
-    record { taken = omega arith; turns = omega arith; good = c.requires; so_far = begins_run _ _ _ _ }
+    record {
+      taken = omega arith;
+      turns = omega arith;
+      good = c.requires.good;
+      second = c.requires.second;
+      so_far = begins_run _ _ _ _;
+    }
 
 pub loop-number-preserved : goal.loop-number-preserved
 loop-number-preserved g c =
@@ -290,6 +293,8 @@ loop-number-preserved g c =
           let turns = c.loop-number.invariant.turns in
           omega (arith, fed, turns);
       good = c.perform-line_result.ensures.good;
+      second = second_stays g.P.Board.Board.facts g.P.Board.Followed.can_copy c.charge.new.second _ _ _ _
+          c.perform-line_result.ensures.performs c.in_ok-charge.ensures.second;
       so_far = subst (λ (n : ℕ). HasRun K c.args.desk.now.desk first new n c.read_line.new.taken
           desk held after) number
           (goes_on _ _ first old new _ _ _ _ _ _ _ _ _ _ _ c.loop-number.invariant.so_far

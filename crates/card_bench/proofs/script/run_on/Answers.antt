@@ -31,9 +31,8 @@ returns-clause-behind g c = λ unkept.
     c.new-desk.ensures.reader c.new-desk.ensures.line in
     let behind = c.run_lines.ensures.behind unkept in (
       behind.0,
-      subst (λ (d : Desk). StopsBehind (g.P.Board.Followed.has_kept behind.0) (g.P.Board.Followed.has_follower
-          behind.0)
-          K d (g.P.Board.Board.facts behind.0) (g.R.Read.remaining c.args.reader.now)
+      behind.1,
+      subst (λ (d : Desk). StopsBehind K d (g.P.Board.Board.facts behind.0) (g.R.Read.remaining c.args.reader.now)
           (g.R.Read.remaining c.run_lines.new.reader) (g.W.Write.contents c.args.writer.now)
-          (g.W.Write.contents c.run_lines.new.writer)) first behind.1,
+          (g.W.Write.contents c.run_lines.new.writer)) first behind.2,
     )
