@@ -282,7 +282,6 @@ impl<F: CutFlash> FlashBoard<F> {
 }
 
 impl<F: FollowedFlash> FlashBoard<F> {
-    ghost use Rattle.flash_board.specs.FlashFacts.{flash_facts};
     ghost use Rattle.flash_board.specs.FlashFollowers.{board_is_kept};
 
     /// Returns true if the follower of the flash has all its operations, or if there was never one.
@@ -290,14 +289,6 @@ impl<F: FollowedFlash> FlashBoard<F> {
         ensures { result ≡ board_is_kept self.now }
     {
         self.log.is_kept()
-    }
-
-    /// Takes the follower of another board's flash in place of its own.
-    pub fn take_follower_of(&mut self, other: FlashBoard<F>)
-        ensures facts { flash_facts self.new ≡ flash_facts self.old }
-        ensures kept { board_is_kept self.new ≡ board_is_kept other }
-    {
-        self.log.take_follower_of(other.into_log());
     }
 }
 

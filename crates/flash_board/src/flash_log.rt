@@ -191,11 +191,4 @@ impl<F: FollowedFlash> FlashLog<F> {
     {
         self.flash.is_kept()
     }
-
-    /// Takes the follower of another log's flash in place of its own.
-    pub fn take_follower_of(&mut self, other: FlashLog<F>)
-        ensures { self.new ≡ record self.old { flash = record self.old.flash { kept = other.flash.kept } } }
-    {
-        self.flash.take_follower_of(other.into_flash());
-    }
 }

@@ -9,8 +9,4 @@ pub trait FollowedFlash: CutFlash {
     /// Returns true if the follower has all operations up to now, or if there was never one.
     fn is_kept(&self) -> bool
         ensures { result ≡ (Self.state self.now).kept };
-
-    /// Takes the follower of another flash in place of its own.
-    fn take_follower_of(&mut self, other: Self)
-        ensures { Self.state self.new ≡ record (Self.state self.old) { kept = (Self.state other).kept } };
 }
