@@ -1,5 +1,5 @@
 -- The state of a flash that leaves garbage.
-use Rattle.std.specs.Prelude.{true, false, is_some, replicate, if◌then◌else◌}
+use Rattle.std.specs.Prelude.{ℕ, List, true, false, is_some, replicate, if◌then◌else◌}
 use Rattle.flash_board.specs.FlashCalls.{FlashState}
 use Rattle.flash_board.specs.declared.flash.TheConstants.{BLANK}
 use Rattle.simulated_boards.specs.declared.garbling_flash.TheConstants.{FLASH_WORDS}
@@ -14,6 +14,18 @@ garbling_state f = record {
   faults = 0;
   operations = f.operations;
   erases = f.erases;
+  kept = true;
+}
+
+-- a powered flash with these words, on which no power loss is set
+abbrev pub given_garbling_state : List ℕ → FlashState
+given_garbling_state words = record {
+  words = words;
+  dark = false;
+  due = 0;
+  faults = 0;
+  operations = 0;
+  erases = 0;
   kept = true;
 }
 

@@ -8,4 +8,5 @@ pub mod CutFlashFacts
 pub mod Faulty
 pub mod Handed
 pub mod Kept
+pub mod KeptFlashes
 pub mod laws

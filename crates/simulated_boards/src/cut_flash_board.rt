@@ -5,10 +5,11 @@ ghost use Rattle.nvm_board.specs.declared.board.DeviceErr.TheVariants.{PowerLost
 ghost use Rattle.nvm_board.specs.Facts.{address};
 ghost use Rattle.nvm_board.specs.BoardCalls.{FitsPage, Writes};
 ghost use Rattle.flash_board.specs.FlashFacts.{flash_facts};
+ghost use Rattle.flash_board.specs.FlashFollowers.{board_is_kept};
 
 use crate::arming::{arm_at, nearer};
 use crate::followed::Followed;
-use flash_board::{CutFlash, FlashBoard};
+use flash_board::{CutFlash, FlashBoard, FlashLog, FollowedFlash};
 use nvm_board::{Arm, Armed, Board, DeviceErr, Faultless, Socket, WornOut};
 use std::alloc::AllocError;
 
@@ -34,15 +35,40 @@ fn set_operation<F: CutFlash>(board: &mut FlashBoard<F>, mask: u16)
 }
 
 impl<F: CutFlash> CutFlashBoard<F> {
+    ghost use Rattle.flash_board.specs.FlashFacts.{made_of};
+    ghost use Rattle.flash_board.specs.Places.{state_of};
+    ghost use Rattle.flash_board.specs.Rings.{IsRing};
+    ghost use Rattle.flash_board.specs.declared.layout.TheConstants.{PAGES};
     ghost use Rattle.simulated_boards.specs.CutFlashFacts.{cut_flash_facts};
+
+    /// Returns the board on a powered flash that has a log and no cut set. It is the board of this flash, since code
+    /// for any type of flash has no other.
+    pub fn on(flash: F) -> CutFlashBoard<F>
+        requires lit { (F.state flash).dark ≡ false }
+        requires uncut { (F.state flash).due ≡ 0 }
+        requires log { IsRing F.SLOTS (F.state flash).words }
+        ensures facts { cut_flash_facts result ≡ made_of (state_of PAGES F.SLOTS (F.state flash)) }
+        ensures kept { board_is_kept result.board ≡ (F.state flash).kept }
+    {
+        CutFlashBoard::new(FlashBoard::new(FlashLog::new(flash)))
+    }
 
     /// Returns the board of a flash without a cut set.
     pub fn new(board: FlashBoard<F>) -> CutFlashBoard<F>
         requires { (flash_facts board).due ≡ 0 }
-        ensures { cut_flash_facts result ≡ flash_facts board }
+        ensures facts { cut_flash_facts result ≡ flash_facts board }
+        ensures kept { board_is_kept result.board ≡ board_is_kept board }
     {
         board.has_no_fault();
         CutFlashBoard { board, arm: None }
+    }
+
+    /// Gives the board back that no write is set to lose power on.
+    pub fn into_board(self) -> FlashBoard<F>
+        ensures facts { flash_facts result ≡ record (cut_flash_facts self) { due = 0; pending = None } }
+        ensures kept { board_is_kept result ≡ board_is_kept self.board }
+    {
+        self.board
     }
 
     /// Writes, and loses power in the write or behind it.
@@ -145,16 +171,17 @@ impl<F: CutFlash> Faultless for CutFlashBoard<F> {
     ghost faultless = { λ b. record { faults = b.unfailed; due = refl } };
 }
 
-// Nothing follows it, so nothing falls behind.
-impl<F: CutFlash + Drop> Followed for CutFlashBoard<F> {
-    ghost has_kept = { λ b. true };
+// The follower gets the words of the flash, and not those of the board. So a second board can't run a charge first: if
+// a move is in it, the second run would first erase the area in which the follower has its pages by then.
+impl<F: FollowedFlash + Drop> Followed for CutFlashBoard<F> {
+    ghost has_kept = { λ b. board_is_kept b.board };
 
     ghost has_follower = { λ b. false };
 
     ghost can_copy = { false };
 
     fn follows(&self) -> bool {
-        true
+        self.board.is_kept()
     }
 
     fn is_followed(&self) -> bool {
@@ -165,7 +192,6 @@ impl<F: CutFlash + Drop> Followed for CutFlashBoard<F> {
         self.arm
     }
 
-    // A second board is for a charge that a follower gets, and there is none.
     fn unfollowed_copy(&self) -> Result<CutFlashBoard<F>, AllocError> {
         Err(AllocError)
     }

@@ -10,13 +10,13 @@ use nvm_board::DeviceErr;
 use std::alloc::{AllocError, Global};
 
 /// The number of slots of an area.
-const SLOTS: u16 = 1280;
+pub(crate) const SLOTS: u16 = 1280;
 
 /// The number of sectors of an area.
-const SECTORS: u16 = 51;
+pub(crate) const SECTORS: u16 = 51;
 
 /// The number of words of the flash.
-const FLASH_WORDS: u32 = 51206;
+pub const FLASH_WORDS: u32 = 51206;
 
 /// A flash in working memory, which never fails. A program or an erase that loses power leaves garbage in all its
 /// words: noise, old, new, a mixture of them, marks, blank, or whole slots with other words.
@@ -35,7 +35,7 @@ pub struct GarblingFlash {
 }
 
 impl GarblingFlash {
-    ghost use Rattle.simulated_boards.specs.GarblingStates.{garbling_state, new_garbling_state};
+    ghost use Rattle.simulated_boards.specs.GarblingStates.{garbling_state, given_garbling_state, new_garbling_state};
 
     /// Returns a powered blank flash, whose garbage this seed chooses.
     ///
@@ -52,6 +52,29 @@ impl GarblingFlash {
             operations: 0,
             erases: 0,
         })
+    }
+
+    /// Returns a powered flash with these words, whose garbage this seed chooses.
+    pub fn of_words(words: Vec<u32>, seed: u64) -> GarblingFlash
+        requires sized { length words.items ≡ FLASH_WORDS }
+        requires fit { AreWords words.items }
+        ensures { garbling_state result ≡ given_garbling_state words.items }
+    {
+        GarblingFlash {
+            words,
+            dark: false,
+            cut: None,
+            random: next_random(seed),
+            operations: 0,
+            erases: 0,
+        }
+    }
+
+    /// Returns the words, with power on or off.
+    pub fn words(&self) -> &[u32]
+        ensures { result.now ≡ (garbling_state self.now).words }
+    {
+        &self.words
     }
 
     /// Begins an operation. Returns true if power is to be lost in it.
@@ -164,7 +187,7 @@ impl CutFlash for GarblingFlash {
 }
 
 /// Returns the address of a sector.
-fn start(sector: u16) -> usize
+pub(crate) fn start(sector: u16) -> usize
     ensures { result ≡ garbling_sector sector }
 {
     if sector <= 2 * SECTORS {
@@ -175,7 +198,7 @@ fn start(sector: u16) -> usize
 }
 
 /// Returns the number of words of a sector.
-fn size(sector: u16) -> usize
+pub(crate) fn size(sector: u16) -> usize
     requires { sector ≤ 2 * SECTORS }
     ensures is { result ≡ garbling_sector (sector + 1) - garbling_sector sector }
     ensures fits { garbling_sector sector + result ≤ FLASH_WORDS }
