@@ -1,3 +1,4 @@
 mod FormatLemmas
 mod NewBoards
 mod BlankFlash
+mod FlashReading

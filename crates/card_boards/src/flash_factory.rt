@@ -3,25 +3,36 @@ ghost use Rattle.std.specs.Prelude.{◌≡◌, false, IfOk};
 ghost use Rattle.nvm_board.specs.Facts.{new_board};
 ghost use Rattle.nvm_board.specs.declared.board.TheConstants.{LEAST_PAGES};
 ghost use Rattle.simulated_boards.specs.CutFlashFacts.{cut_flash_facts};
+ghost use Rattle.simulated_boards.specs.GarblingStates.{garbling_state};
 ghost use Rattle.card_start.specs.declared.memory_format.MemoryFormat.TheVariants as MemoryFormat;
 ghost use Rattle.card_start.specs.Factory.{IsFactory, factory_card};
 ghost use Rattle.command_base.specs.Finding.{Finds};
 ghost use Rattle.bench_turns.specs.NewlyWritten.{IsJustWritten};
+ghost use Rattle.card_boards.specs.FlashImages.{IsFactoryFlash, IsFlashReady};
 
 use card_start::format;
 use flash_board::{FlashBoard, FlashLog, format_flash};
 use simulated_boards::{CutFlashBoard, GarblingFlash};
 use std::alloc::{AllocError, Global};
 
+/// Returns a simulated flash with the factory card in format 2. The seed chooses what power losses leave in it.
+///
+/// # Errors
+/// There is too little memory for the flash.
+pub fn factory_flash(alloc: Global, seed: u64) -> Result<GarblingFlash, AllocError>
+    ensures card { IfOk result (λ flash. IsFactoryFlash (garbling_state flash).words) }
+    ensures ready { IfOk result (λ flash. IsFlashReady (garbling_state flash)) }
+{
+    let board = factory_on_flash(alloc, seed)?;
+    Ok(board.into_board().into_log().into_flash())
+}
+
 /// Returns a new board on a simulated flash, with the factory card in format 2. The seed chooses what power losses
 /// leave in the flash. Only the writes of its making are counted, and no cut is pending.
 ///
 /// # Errors
 /// There is too little memory for the flash.
-pub fn factory_on_flash(
-    alloc: Global,
-    seed: u64,
-) -> Result<CutFlashBoard<GarblingFlash>, AllocError>
+fn factory_on_flash(alloc: Global, seed: u64) -> Result<CutFlashBoard<GarblingFlash>, AllocError>
     ensures card { IfOk result (λ board. Finds (cut_flash_facts board).words (factory_card 896)) }
     ensures counts { IfOk result (λ board. IsJustWritten (cut_flash_facts board)) }
     ensures words { IfOk result (λ board. IsFactory MemoryFormat.Two (cut_flash_facts board).words) }

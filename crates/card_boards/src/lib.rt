@@ -3,8 +3,10 @@
 
 mod factory;
 mod flash_factory;
+mod flash_image;
 mod image;
 
 pub use factory::{factory_board, factory_board_of};
-pub use flash_factory::factory_on_flash;
+pub use flash_factory::factory_flash;
+pub use flash_image::{NoFlashCard, flash_of_words};
 pub use image::{NoCard, image_board};

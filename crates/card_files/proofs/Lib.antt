@@ -2,3 +2,4 @@
 pub mod Images
 mod Refused
 mod Words
+mod FlashRefused

@@ -4,4 +4,5 @@ pub mod BoardStatuses
 pub mod CommandLines
 pub mod ImageParts
 pub mod FileRefusals
+pub mod FlashFiles
 pub mod SweptParts

@@ -6,10 +6,14 @@ ghost use Rattle.nvm_board.specs.declared.board.TheConstants.{MOST_PAGES, PAGE_W
 
 use crate::image_words::{PAGE_BYTES, WORD_BYTES};
 use arrayvec::ArrayVec;
-use simulated_boards::{Follower, KeptBoard};
+use nvm_board::PAGE_WORDS;
+use simulated_boards::{FlashFollower, Follower, KeptBoard, KeptFlash};
 use std::fs::File;
 use std::io;
 use std::os::unix::fs::{FileExt, MetadataExt};
+
+/// The most words of one write.
+const PART: usize = PAGE_WORDS as usize;
 
 /// What shows that a file is as it was left: its size, the number of its names, and when it was last written.
 #[derive(Clone, Copy)]
@@ -61,7 +65,7 @@ pub struct KeptFile {
 }
 
 impl KeptFile {
-    ghost use Rattle.std.specs.Prelude.{◌≡◌};
+    ghost use Rattle.std.specs.Prelude.{◌≡◌, true, not};
 
     /// Returns the follower of a file that has the words already, and was left as the stamp says.
     /// With `sync` each write waits until the disk has it.
@@ -93,6 +97,36 @@ impl KeptFile {
         matches!(wrote, Ok(count) if count == bytes.len())
     }
 
+    /// Writes more words, a page's number of them at a time, and returns true if the file took them all.
+    fn write_all(&self, at: usize, words: &[u32]) -> bool
+        requires { at + length words.now ≤ PAGE_WORDS * MOST_PAGES }
+    {
+        for i in 0..(words.len() + PART - 1) / PART {
+            let end = words.len().min(PART * i + PART);
+            if !self.write(at + PART * i, &words[PART * i..end]) {
+                return false;
+            }
+        }
+        true
+    }
+
+    /// Writes words unless an earlier write failed, and returns true if the file took them all.
+    fn keep(&mut self, at: usize, words: &[u32]) -> bool
+        requires { at + length words.now ≤ PAGE_WORDS * MOST_PAGES }
+        ensures told { result ≡ not (self.new.behind) }
+        ensures never { self.old.behind ≡ true → self.new ≡ self.old }
+    {
+        if self.behind {
+            return false;
+        }
+        let took = self.is_as_left()
+            && self.write_all(at, words)
+            && self.stamp_again()
+            && (!self.sync || self.file.sync_data().is_ok());
+        self.behind = !took;
+        took
+    }
+
     /// Keeps the stamp after a write, and returns true if the file is still there.
     fn stamp_again(&mut self) -> bool {
         match Stamp::of(&self.file) {
@@ -109,19 +143,22 @@ impl KeptFile {
 // Both have one type, since the compiler would copy all code that runs a script for a second one.
 pub type CardBoard = KeptBoard<KeptFile>;
 
+/// The simulated flash of a card in a file, or of one in memory alone.
+pub type CardFlash = KeptFlash<KeptFile>;
+
 impl Follower for KeptFile {
     ghost behind = { λ f. f.behind };
 
     fn take(&mut self, at: usize, words: &[u32]) -> bool {
-        if self.behind {
-            return false;
-        }
-        let took = self.is_as_left()
-            && self.write(at, words)
-            && self.stamp_again()
-            && (!self.sync || self.file.sync_data().is_ok());
-        self.behind = !took;
-        took
+        self.keep(at, words)
+    }
+}
+
+impl FlashFollower for KeptFile {
+    ghost behind = { λ f. f.behind };
+
+    fn take_run(&mut self, at: usize, words: &[u32]) -> bool {
+        self.keep(at, words)
     }
 }
 

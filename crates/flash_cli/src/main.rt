@@ -1,5 +1,6 @@
-//! The bench as a program, with the card on a simulated flash: runs a script from standard input on the factory card,
-//! and prints its output. Its one word, a number, chooses what power losses leave in the flash.
+//! The bench as a program, with the card on a simulated flash: runs a script from standard input, and prints its
+//! output. Its first word, a number, chooses what power losses leave in the flash. With `--card FILE` the flash is in
+//! FILE, else in memory with the factory card.
 #![tactic(auto)]
 
 ghost use Rattle.std.specs.Prelude.{◌≡◌, MatchResult};
@@ -7,20 +8,25 @@ ghost use Rattle.bench_lines.specs.Faults.{status_of};
 
 use bench_lines::RunFault;
 use card_bench::run_on;
-use card_boards::factory_on_flash;
+use card_files::{Asked, FlashCardFault, NoFlash, open_flash, parse_bench_options};
 use card_turns::Bench;
+use simulated_boards::CutFlashBoard;
 use std::env;
 use std::io::{self, BufReader, ErrorKind};
 use std::process::ExitCode;
+use std::vec::IntoIter;
 
 /// The exit status of a bad command line.
 const BAD_COMMAND_LINE: u8 = 2;
 
-/// Reports a bad line on standard error, and returns the exit status.
+/// The exit status if a file is not taken as that of a card.
+const NO_CARD: u8 = 6;
+
+/// Reports a bad line, or a failed file, on standard error, and returns the exit status.
 fn report_run_fault(rt: &impl Eprint, fault: &RunFault) -> u8
     ensures { result ≡ status_of fault.now }
 {
-    if let RunFault::BadLine(_) = fault {
+    if let RunFault::BadLine(_) | RunFault::Unkept = fault {
         // The exit status reports the fault even if standard error fails.
         let _ = rt.eprintln(fault);
     }
@@ -37,37 +43,69 @@ fn status_at_end(rt: &impl Eprint, ended: &Result<(), RunFault>) -> u8
     }
 }
 
-/// Returns the seed that the command line gives, if that is its one word.
-fn seed_asked(rt: &HostRuntime) -> Result<Option<u64>, RunFault> {
-    let mut words = match env::args(rt) {
-        Ok(words) => words,
-        Err(error) if error.kind() == ErrorKind::OutOfMemory => return Err(RunFault::Memory),
-        Err(_) => return Ok(None),
-    };
-    let _program = words.next();
-    match (words.next(), words.next()) {
-        (Some(word), None) => Ok(word.parse::<u64>().ok()),
-        _ => Ok(None),
+/// Reports on standard error why a file is not taken as that of a card, and returns the exit status.
+fn report_card_fault(rt: &impl Eprint, fault: &FlashCardFault) -> u8
+    ensures { result ≡ 6 }
+{
+    let _ = rt.eprintln(format_args!("error card: {fault}"));
+    NO_CARD
+}
+
+/// Returns the seed that the command line gives, and what else it asks for, if its words are these.
+fn seed_asked(rt: &HostRuntime) -> Result<Option<(u64, Asked)>, RunFault> {
+    match env::args(rt) {
+        Ok(words) => Ok(parse_words(words)),
+        Err(error) if error.kind() == ErrorKind::OutOfMemory => Err(RunFault::Memory),
+        Err(_) => Ok(None),
     }
 }
 
-/// Runs the script from standard input on the factory card on a flash of this seed.
-fn run_seeded(rt: &HostRuntime, seed: u64) -> Result<(), RunFault> {
+/// Returns the number that the first word behind the program's name is, and what the others ask for. Unless they ask
+/// for a card in a file there are no others.
+fn parse_words(words: IntoIter<String>) -> Option<(u64, Asked)> {
+    let mut words = words;
+    let _program = words.next();
+    let seed = words.next()?.parse::<u64>().ok()?;
+    let is_last = words.len() == 0;
+    match parse_bench_options(words) {
+        Asked::Factory if !is_last => None,
+        asked => Some((seed, asked)),
+    }
+}
+
+/// Runs the script from standard input on the card on a flash of this seed that is asked for.
+///
+/// # Errors
+/// The file is not taken as that of a card.
+fn run_seeded(
+    rt: &HostRuntime,
+    seed: u64,
+    asked: Asked,
+) -> Result<Result<(), RunFault>, FlashCardFault> {
     let Ok(mut reader) = BufReader::new(rt.alloc(), rt.reader()) else {
-        return Err(RunFault::Memory);
+        return Ok(Err(RunFault::Memory));
     };
-    let Ok(board) = factory_on_flash(rt.alloc(), seed) else {
-        return Err(RunFault::Memory);
-    };
-    run_on::<Bench<_>, _, _>(board, &mut reader, &mut io::writer(rt))
+    match open_flash(rt, seed, asked) {
+        Ok(flash) => {
+            let board = CutFlashBoard::on(flash);
+            Ok(run_on::<Bench<_>, _, _>(board, &mut reader, &mut io::writer(rt)))
+        }
+        Err(NoFlash::Memory) => Ok(Err(RunFault::Memory)),
+        Err(NoFlash::Card(fault)) => Err(fault),
+    }
 }
 
 /// The exit status is 0, or that of the fault of the run.
 fn main(rt: HostRuntime) -> ExitCode {
     match seed_asked(&rt) {
-        Ok(Some(seed)) => ExitCode::from(status_at_end(&rt, &run_seeded(&rt, seed))),
+        Ok(Some((seed, asked))) => match run_seeded(&rt, seed, asked) {
+            Ok(ran) => ExitCode::from(status_at_end(&rt, &ran)),
+            Err(fault) => ExitCode::from(report_card_fault(&rt, &fault)),
+        },
         Ok(None) => {
-            let _ = rt.eprintln("usage: flash_cli SEED, with SEED from 0 to 18446744073709551615");
+            let _ = rt.eprintln(
+                "usage: flash_cli SEED [--card FILE [--sync]], with SEED from 0 to 18446744073709551615",
+            );
             ExitCode::from(BAD_COMMAND_LINE)
         }
         Err(fault) => ExitCode::from(report_run_fault(&rt, &fault)),

@@ -1,0 +1,180 @@
+//! The card on a simulated flash, in a file: opens the file, or makes it with the factory card.
+ghost use Rattle.std.specs.Prelude.{◌≡◌, None, Some, IfErr, IfOk};
+ghost use Rattle.card_boards.specs.FlashImages.{HasCardOnFlash, IsFactoryFlash, IsFlashReady};
+ghost use Rattle.card_files.specs.CommandLines.{pages_number};
+ghost use Rattle.card_files.specs.FlashFiles.{IsFlashFaultOf, IsFlashOf, IsFlashReadFault, IsFlashRefusedAs};
+ghost use Rattle.card_files.specs.FlashFiles.{flash_follower_file, flash_syncs};
+ghost use Rattle.card_files.specs.ImageParts.{AreWordsIn};
+ghost use Rattle.simulated_boards.specs.GarblingStates.{garbling_state, given_garbling_state};
+ghost use Rattle.simulated_boards.specs.KeptFlashes.{kept_flash_state};
+
+use crate::image_words::{WORD_BYTES, WordsFault, words_in};
+use crate::kept_file::{CardFlash, KeptFile, Stamp};
+use crate::opening::{CardFault, lock, new_file, size_and_stamp};
+use crate::options::{Asked, CardOptions};
+use card_boards::{NoFlashCard, factory_flash, flash_of_words};
+use simulated_boards::{FLASH_WORDS, GarblingFlash, KeptFlash};
+use std::alloc::Global;
+use std::fs::{self, File, OpenOptions};
+use std::io::{ErrorKind, Read};
+use thiserror::Error;
+
+/// The bytes of a flash image.
+const IMAGE_BYTES: u64 = WORD_BYTES as u64 * FLASH_WORDS as u64;
+
+/// Why a file is not taken as that of a card on a flash. The file stays as it was.
+#[derive(Debug, Drop, Error)]
+pub enum FlashCardFault {
+    #[error("{0}")]
+    File(CardFault),
+    #[error("usage: flash_cli SEED --card FILE [--sync]; a flash has 1024 pages")]
+    Usage,
+    #[error("the file has {0} bytes; a flash image has 204824")]
+    Size(u64),
+    #[error("no log is found on the flash: no block, or each of them, is closed")]
+    Log,
+    #[error("no card is found on the flash: the words of its pages break a rule")]
+    Card,
+}
+
+/// Why there is no flash with what the command line asks for.
+pub enum NoFlash {
+    /// There is too little memory for a flash that no file keeps.
+    Memory,
+    /// The file is not taken as that of a card on a flash.
+    Card(FlashCardFault),
+}
+
+/// Returns the simulated flash with the card that the command line asks for. The seed chooses what power losses leave
+/// in the flash.
+pub fn open_flash(rt: &HostRuntime, seed: u64, asked: Asked) -> Result<CardFlash, NoFlash>
+    ensures card { IfOk result (λ flash. HasCardOnFlash (kept_flash_state flash).words) }
+    ensures flash { IfOk result (IsFlashOf asked) }
+    ensures ready { IfOk result (λ flash. IsFlashReady (kept_flash_state flash)) }
+    ensures refused { IfErr result (IsFlashRefusedAs asked) }
+{
+    match asked {
+        Asked::Factory => match factory_flash(rt.alloc(), seed) {
+            Ok(flash) => Ok(KeptFlash::new(flash, None)),
+            Err(_) => Err(NoFlash::Memory),
+        },
+        Asked::Unknown => Err(NoFlash::Card(FlashCardFault::Usage)),
+        Asked::Card(options) => match open_card_flash(rt, seed, &options) {
+            Ok(flash) => Ok(flash),
+            Err(fault) => Err(NoFlash::Card(fault)),
+        },
+    }
+}
+
+/// Returns the flash in the file, or one with the factory card in a new file.
+#[tactic(auto, using(crate::proofs::FlashRefused::no_number, crate::proofs::FlashRefused::some_number))]
+fn open_card_flash(
+    rt: &HostRuntime,
+    seed: u64,
+    options: &CardOptions,
+) -> Result<CardFlash, FlashCardFault>
+    ensures card { IfOk result (λ flash. HasCardOnFlash (kept_flash_state flash).words) }
+    ensures kept { IfOk result (λ flash. flash_syncs flash ≡ Some options.now.sync) }
+    ensures ready { IfOk result (λ flash. IsFlashReady (kept_flash_state flash)) }
+    ensures pages { IfOk result (λ flash. pages_number options.now.pages ≡ None) }
+    ensures refused { IfErr result (IsFlashFaultOf options.now) }
+{
+    if options.pages.is_some() {
+        return Err(FlashCardFault::Usage);
+    }
+    let path = options.path.as_str();
+    match OpenOptions::new().read(true).write(true).open(rt, path) {
+        Ok(file) => read_flash(rt.alloc(), file, seed, options),
+        Err(error) if error.kind() == ErrorKind::NotFound => make_flash(rt, seed, options),
+        Err(error) => Err(FlashCardFault::File(CardFault::Open(error))),
+    }
+}
+
+/// Returns the flash in an open file.
+#[tactic(auto, using(crate::proofs::FlashRefused::is_own_fault))]
+fn read_flash(
+    alloc: Global,
+    file: File,
+    seed: u64,
+    options: &CardOptions,
+) -> Result<CardFlash, FlashCardFault>
+    requires { pages_number options.now.pages ≡ None }
+    ensures file { IfOk result (λ flash. flash_follower_file flash ≡ Some file) }
+    ensures card { IfOk result (λ flash. HasCardOnFlash (kept_flash_state flash).words) }
+    ensures kept { IfOk result (λ flash. flash_syncs flash ≡ Some options.now.sync) }
+    ensures ready { IfOk result (λ flash. IsFlashReady (kept_flash_state flash)) }
+    ensures refused { IfErr result (IsFlashFaultOf options.now) }
+{
+    let (size, stamp) = lock_and_size(&file)?;
+    let flash = flash_in(alloc, &mut &file, size, seed)?;
+    let file = KeptFile::new(file, stamp, options.sync);
+    Ok(KeptFlash::new(flash, Some(file)))
+}
+
+/// Locks a file. Returns its size in bytes, and its stamp.
+fn lock_and_size(file: &File) -> Result<(u64, Stamp), FlashCardFault>
+    ensures { (options : CardOptions) → pages_number options.pages ≡ None → IfErr result (IsFlashFaultOf options) }
+{
+    if let Err(fault) = lock(file) {
+        return Err(FlashCardFault::File(fault));
+    }
+    match size_and_stamp(file) {
+        Ok(found) => Ok(found),
+        Err(fault) => Err(FlashCardFault::File(fault)),
+    }
+}
+
+/// Returns the flash with the words in a reader's next bytes, `size` of them, if they hold a card.
+pub fn flash_in<R: Read>(
+    alloc: Global,
+    reader: &mut R,
+    size: u64,
+    seed: u64,
+) -> Result<GarblingFlash, FlashCardFault>
+    ensures card { IfOk result (λ flash. HasCardOnFlash (garbling_state flash).words) }
+    ensures flash { IfOk result (λ flash. garbling_state flash ≡ given_garbling_state (garbling_state flash).words) }
+    ensures words { IfOk result (λ flash. AreWordsIn (R.remaining reader.old) size (garbling_state flash).words) }
+    ensures refused { IfErr result (IsFlashReadFault size (R.remaining reader.old)) }
+{
+    if size != IMAGE_BYTES {
+        return Err(FlashCardFault::Size(size));
+    }
+    let words = match words_in(alloc, reader, size) {
+        Ok(words) => words,
+        Err(WordsFault::Read(error)) => return Err(FlashCardFault::File(CardFault::Read(error))),
+        Err(WordsFault::Parts) => return Err(FlashCardFault::Size(size)),
+        Err(WordsFault::Memory) => return Err(FlashCardFault::File(CardFault::Memory)),
+    };
+    let flash = match flash_of_words(alloc, words, seed) {
+        Ok(flash) => flash,
+        Err(NoFlashCard::Memory) => return Err(FlashCardFault::File(CardFault::Memory)),
+        Err(NoFlashCard::Size) => return Err(FlashCardFault::Size(size)),
+        Err(NoFlashCard::Log) => return Err(FlashCardFault::Log),
+        Err(NoFlashCard::Card) => return Err(FlashCardFault::Card),
+    };
+    Ok(flash)
+}
+
+/// Makes a file with the factory card on a flash, whole or not at all.
+fn make_flash(
+    rt: &HostRuntime,
+    seed: u64,
+    options: &CardOptions,
+) -> Result<CardFlash, FlashCardFault>
+    requires { pages_number options.now.pages ≡ None }
+    ensures factory { IfOk result (λ flash. IsFactoryFlash (kept_flash_state flash).words) }
+    ensures kept { IfOk result (λ flash. flash_syncs flash ≡ Some options.now.sync) }
+    ensures ready { IfOk result (λ flash. IsFlashReady (kept_flash_state flash)) }
+    ensures refused { IfErr result (IsFlashFaultOf options.now) }
+{
+    let Ok(flash) = factory_flash(rt.alloc(), seed) else {
+        return Err(FlashCardFault::File(CardFault::Memory));
+    };
+    match new_file(rt, flash.words(), options) {
+        Ok(file) => Ok(KeptFlash::new(flash, Some(file))),
+        Err(_) if fs::exists(rt, options.path.as_str()).unwrap_or(false) => {
+            Err(FlashCardFault::File(CardFault::InUse))
+        }
+        Err(error) => Err(FlashCardFault::File(CardFault::Make(error))),
+    }
+}
