@@ -14,6 +14,7 @@ from ...costing.kinds import make_named
 from .bench import ATR, Bench, ask
 from .checks import TOP, Checks
 from .images import changed, data_of, factory
+from .kills import Compares
 
 NO_CARD, UNKEPT = 6, 7
 NOBODY = 65_534
@@ -137,9 +138,12 @@ def of_two(checks: Checks, bench: Bench) -> None:
     checks.compare("the first bench ends", 0, first.returncode)
 
 
-def under_way(checks: Checks, bench: Bench, what: str, fault: Callable[[], object]) -> None:
-    """A file that fails under way: the command that finds it is not answered, and the run ends."""
-    bench.image.write_bytes(data_of(factory()))
+def under_way(
+    checks: Compares, bench: Bench, what: str, fault: Callable[[], object], image: bytes | None = None
+) -> None:
+    """A file that fails under way, of the factory's card or of another image: the command that finds it is not
+    answered, and the run ends."""
+    bench.image.write_bytes(image or data_of(factory()))
     process = bench.start()
     for line, wanted in (("on", ATR), (CREATE.format("6F11"), "< 9000"), (UPDATE.format(4), "< 9000")):
         checks.compare(f"{what}, before: {line}", wanted, ask(process, line))
