@@ -4,6 +4,7 @@ pub mod FlashCalls
 pub mod FlashFacts
 pub mod FlashFollowers
 pub mod FlashLogs
+pub mod FlashRuns
 pub mod Paces
 pub mod PageTables
 pub mod Places

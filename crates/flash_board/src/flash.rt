@@ -3,6 +3,7 @@ ghost use Rattle.std.specs.Prelude.{◌≡◌, ◌<◌, ◌≤◌, ◌+◌, ◌-
 ghost use Rattle.nvm_board.specs.Facts.{AreWords};
 ghost use Rattle.flash_board.specs.FlashCalls.{FlashState, Lights, SameElsewhere, IsThere, AreFilled};
 ghost use Rattle.flash_board.specs.FlashBlocks.{area_size, witness_start, flash_size};
+ghost use Rattle.flash_board.specs.FlashRuns.{IsRun};
 ghost use Rattle.flash_board.specs.declared.flash.TheConstants.{BLANK};
 ghost use Rattle.flash_board.specs.declared.layout.TheConstants.{PAGES, SPARES};
 
@@ -44,12 +45,13 @@ pub trait Flash {
         ensures kept { (state self.new).kept ≡ (state self.old).kept }
         ensures light { Lights (state self.old) (state self.new) result };
 
-    /// Programs words from an address on, where all words are blank. After an error each word of the run holds
-    /// anything. No other word changes.
+    /// Programs a whole record, a commit mark or a close mark, where all words are blank. After an error each word of
+    /// the run holds anything. No other word changes.
     fn program(&mut self, at: u32, words: &[u32]) -> Result<(), DeviceErr>
         requires lit { (state self.old).dark ≡ false }
         requires blank { AreFilled (state self.old).words at (length words.now) BLANK }
         requires within { at + length words.now ≤ flash_size SLOTS }
+        requires run { IsRun SLOTS at (length words.now) }
         ensures done { OnOk result (IsThere (state self.new).words at words.now) }
         ensures elsewhere { SameElsewhere (state self.old).words at (length words.now) (state self.new).words }
         ensures work { (state self.new).operations ≤ (state self.old).operations + 1 }
