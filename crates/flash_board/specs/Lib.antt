@@ -4,10 +4,10 @@ pub mod FlashCalls
 pub mod FlashFacts
 pub mod FlashFollowers
 pub mod FlashLogs
-pub mod FlashRuns
 pub mod Paces
 pub mod PageTables
 pub mod Places
+pub mod ProgrammedRuns
 pub mod Rings
 pub mod SlotParts
 pub mod Spares

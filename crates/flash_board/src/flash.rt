@@ -3,7 +3,7 @@ ghost use Rattle.std.specs.Prelude.{◌≡◌, ◌<◌, ◌≤◌, ◌+◌, ◌-
 ghost use Rattle.nvm_board.specs.Facts.{AreWords};
 ghost use Rattle.flash_board.specs.FlashCalls.{FlashState, Lights, SameElsewhere, IsThere, AreFilled};
 ghost use Rattle.flash_board.specs.FlashBlocks.{area_size, witness_start, flash_size};
-ghost use Rattle.flash_board.specs.FlashRuns.{IsRun};
+ghost use Rattle.flash_board.specs.ProgrammedRuns.{IsProgramRun};
 ghost use Rattle.flash_board.specs.declared.flash.TheConstants.{BLANK};
 ghost use Rattle.flash_board.specs.declared.layout.TheConstants.{PAGES, SPARES};
 
@@ -51,7 +51,7 @@ pub trait Flash {
         requires lit { (state self.old).dark ≡ false }
         requires blank { AreFilled (state self.old).words at (length words.now) BLANK }
         requires within { at + length words.now ≤ flash_size SLOTS }
-        requires run { IsRun SLOTS at (length words.now) }
+        requires run { IsProgramRun SLOTS at (length words.now) }
         ensures done { OnOk result (IsThere (state self.new).words at words.now) }
         ensures elsewhere { SameElsewhere (state self.old).words at (length words.now) (state self.new).words }
         ensures work { (state self.new).operations ≤ (state self.old).operations + 1 }

@@ -2,7 +2,7 @@
 ghost use Rattle.std.specs.Prelude.{◌≡◌, ◌+◌, ◌<◌, ◌≤◌};
 ghost use Rattle.flash_board.specs.FlashBlocks.{area_size, flash_size};
 ghost use Rattle.flash_board.specs.FlashLogs.{slot_of, base_in, close_of};
-ghost use Rattle.flash_board.specs.FlashRuns.{IsClosePlace, IsRecordPlace};
+ghost use Rattle.flash_board.specs.ProgrammedRuns.{IsClosePlace, IsSlotPlace};
 ghost use Rattle.flash_board.specs.declared.flash.TheConstants.{BLOCKS};
 
 use crate::flash::Flash;
@@ -66,7 +66,7 @@ pub fn slot_at<F: Flash>(area: u8, slot: u16) -> u32
     requires { slot < F.SLOTS }
     ensures is { result ≡ slot_of (base_in F.SLOTS area) slot }
     ensures within { result + 20 ≤ flash_size F.SLOTS }
-    ensures place { IsRecordPlace F.SLOTS result }
+    ensures place { IsSlotPlace F.SLOTS result }
 {
     base_of::<F>(area) + SLOT_WORDS * u32::from(slot)
 }

@@ -2,7 +2,7 @@
 ghost use Rattle.std.specs.Prelude.{◌≡◌, ◌<◌, ◌≤◌, ◌+◌, true, false, IfOk, OnOk, length};
 ghost use Rattle.flash_board.specs.FlashCalls.{Lights, SameElsewhere, IsThere, AreFilled};
 ghost use Rattle.flash_board.specs.FlashBlocks.{flash_size};
-ghost use Rattle.flash_board.specs.FlashRuns.{IsCommitPlace, IsRecordPlace};
+ghost use Rattle.flash_board.specs.ProgrammedRuns.{IsCommitPlace, IsSlotPlace};
 ghost use Rattle.flash_board.specs.FlashLogs.{is_marked as has_mark, is_closed as has_closed, close_of};
 ghost use Rattle.flash_board.specs.SlotParts.{PutsInSlot, IsPut};
 ghost use Rattle.flash_board.specs.declared.flash.TheConstants.{BLANK, BLOCKS};
@@ -86,7 +86,7 @@ pub fn program_record<F: Flash>(flash: &mut F, at: u32, words: &Record) -> Resul
     requires lit { (F.state flash.old).dark ≡ false }
     requires within { at + 20 ≤ flash_size F.SLOTS }
     requires blank { AreFilled (F.state flash.old).words at 20 BLANK }
-    requires place { IsRecordPlace F.SLOTS at }
+    requires place { IsSlotPlace F.SLOTS at }
     ensures puts { PutsInSlot (F.state flash.old).words at words.now (F.state flash.new).words }
     ensures done { OnOk result (IsPut (F.state flash.new).words at words.now) }
     ensures work { (F.state flash.new).operations ≤ (F.state flash.old).operations + 2 }

@@ -5,7 +5,7 @@ use Rattle.flash_board.specs.declared.layout.TheConstants.{RECORD_WORDS}
 use Rattle.flash_board.specs.FlashLogs.{base_in, close_of, slot_of}
 
 -- A record begins at the address: that of a slot of area A or of area B.
-pub record IsRecordPlace (slots at : ℕ) : Type 0 where
+pub record IsSlotPlace (slots at : ℕ) : Type 0 where
   pub area : ℕ
   pub slot : ℕ
   pub below : slot < slots
@@ -25,6 +25,6 @@ pub record IsClosePlace (slots at : ℕ) : Type 0 where
   pub is : at ≡ close_of slots block
 
 -- The run is a whole record, a commit mark, or a close mark.
-pub record IsRun (slots at size : ℕ) : Type 0 where
-  pub is : ((size ≡ RECORD_WORDS) × IsRecordPlace slots at)
+pub record IsProgramRun (slots at size : ℕ) : Type 0 where
+  pub is : ((size ≡ RECORD_WORDS) × IsSlotPlace slots at)
       ⊎ ((size ≡ 2) × (IsCommitPlace slots at ⊎ IsClosePlace slots at))
