@@ -8,6 +8,7 @@ pub mod Paces
 pub mod PageTables
 pub mod Places
 pub mod ProgrammedRuns
+pub mod Renewals
 pub mod Rings
 pub mod SlotParts
 pub mod Spares

@@ -1,16 +1,17 @@
 -- The pace of a move to the other area: a step at each write, so that it ends before the area in use is full.
-use Rattle.std.specs.Prelude.{◌≡◌, ◌⊎◌, ◌<◌, ◌≤◌, ◌+◌, ◌-◌, ◌*◌, ℕ, Bool, true, Result, IsOk}
+use Rattle.std.specs.Prelude.{◌≡◌, ◌⊎◌, ◌<◌, ◌≤◌, ◌+◌, ◌-◌, ◌*◌, ℕ, Bool, true, List, Result, IsOk}
 use Rattle.std.specs.Prelude.{◌&&◌, ◌||◌, nat_eq, nat_le, if◌then◌else◌}
 use Rattle.nvm_board.specs.declared.board.DeviceErr.{DeviceErr}
 use Rattle.flash_board.specs.declared.place.PageMap.{PageMap}
 use Rattle.flash_board.specs.declared.layout.TheConstants.{COPY_STEPS, PAGES, STEP_PAGES}
 use Rattle.flash_board.specs.FlashCalls.{FlashState}
 
--- All that contracts know of a log: its flash, with the words of the board in place of its own, and whether it is in
--- pace.
+-- All that contracts know of a log: its flash, with the words of the board in place of its own, whether it is in pace,
+-- and the flash's own words.
 pub record LogState : Type 0 where
   pub flash : FlashState
   pub paced : Bool
+  pub raw : List ℕ
 
 -- The number of free slots at which a move begins: those that are written while it goes on.
 abbrev pub lead_of : ℕ → ℕ

@@ -38,7 +38,7 @@ state_of pages slots s =
 
 -- The log of a flash whose pages are not found yet.
 abbrev pub new_log : ℕ → ℕ → FlashState → LogState
-new_log pages slots s = record { flash = state_of pages slots s; paced = false }
+new_log pages slots s = record { flash = state_of pages slots s; paced = false; raw = s.words }
 
 -- Why a flash is not taken: it has no log, and nothing changed; power was lost; or it failed. No word changed.
 abbrev pub OpenStopsBy : ℕ → FlashFault → FlashState → FlashState → Type 0

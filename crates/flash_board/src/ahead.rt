@@ -2,7 +2,8 @@
 ghost use Rattle.std.specs.Prelude.{◌≡◌, ◌≢◌, ◌<◌, ◌≤◌, ◌+◌, ◌*◌, true, false, length, slice_index, IfOk, OnOk};
 ghost use Rattle.flash_board.specs.FlashBlocks.{area_size};
 ghost use Rattle.flash_board.specs.FlashCalls.{Costs, SameElsewhere, Tries};
-ghost use Rattle.flash_board.specs.FlashLogs.{base_in, find, turn_of, words_of};
+ghost use Rattle.flash_board.specs.FlashLogs.{base_in, close_b, find, turn_of, words_of};
+ghost use Rattle.flash_board.specs.FlashLogs.{is_marked as has_mark};
 ghost use Rattle.flash_board.specs.Paces.{HasStepped, HasMoved, IsRoomy, KeepsPace, lead_of};
 ghost use Rattle.flash_board.specs.PageTables.{IsPageTable};
 ghost use Rattle.flash_board.specs.Places.{IsLog};
@@ -131,7 +132,7 @@ fn pass_turn<F: Flash>(flash: &mut F, place: &mut PageMap) -> Result<(), DeviceE
 }
 
 /// Passes the turn to the witness.
-fn pass_on<F: Flash>(flash: &mut F, place: &mut PageMap) -> Result<(), DeviceErr>
+pub fn pass_on<F: Flash>(flash: &mut F, place: &mut PageMap) -> Result<(), DeviceErr>
     requires lit { (F.state flash.old).dark ≡ false }
     requires log { IsLog PAGES F.SLOTS F.SECTORS F.sector_start (F.state flash.old).words place.old }
     requires ready { place.old.ready ≡ true }
@@ -142,6 +143,8 @@ fn pass_on<F: Flash>(flash: &mut F, place: &mut PageMap) -> Result<(), DeviceErr
     ensures ready { OnOk result (place.new.ready ≡ true) }
     ensures step { OnOk result (place.new
         ≡ record place.old { ready = true; turn = 2; erased = 0; copied = 0; behind = 0 }) }
+    ensures area { SameElsewhere (F.state flash.old).words (close_b F.SLOTS) 4 (F.state flash.new).words }
+    ensures mark { OnOk result (has_mark (F.state flash.new).words (close_b F.SLOTS) ≡ true) }
     ensures light { Tries 1 (F.state flash.old) (F.state flash.new) result }
     ensures work { Costs 2 2 (F.state flash.old) (F.state flash.new) }
     ensures erases { (F.state flash.new).erases ≤ (F.state flash.old).erases + 1 }

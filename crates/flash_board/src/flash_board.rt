@@ -1,6 +1,6 @@
 //! The board on a flash.
 ghost use Rattle.std.specs.Prelude.{◌≡◌, ◌+◌, ◌*◌, ◌<◌, ◌≤◌, ◌↔◌, ◌⊎◌, if◌then◌else◌, true, false, length, IsTrue};
-ghost use Rattle.std.specs.Prelude.{All, Contains, IfOk, slice_index};
+ghost use Rattle.std.specs.Prelude.{All, Contains, IfOk, OnOk, slice_index};
 ghost use Rattle.nvm_board.specs.declared.board.TheConstants.{SECRETS, COUNT_END};
 ghost use Rattle.nvm_board.specs.Facts.{AreWords};
 ghost use Rattle.flash_board.specs.declared.layout.TheConstants.{PAGES};
@@ -38,8 +38,12 @@ pub struct FlashBoard<F: Flash> {
 
 impl<F: Flash> FlashBoard<F> {
     ghost use Rattle.nvm_board.specs.Facts.{IsWorn, IsWornOut, raised};
-    ghost use Rattle.flash_board.specs.FlashFacts.{flash_facts, made_of};
+    ghost use Rattle.nvm_board.specs.Facts.{Answered, IsLostRightly};
+    ghost use Rattle.flash_board.specs.FlashCalls.{Costs};
+    ghost use Rattle.flash_board.specs.FlashFacts.{flash_facts, log_state, made_of};
     ghost use Rattle.flash_board.specs.FlashFollowers.{board_is_kept};
+    ghost use Rattle.flash_board.specs.Paces.{IsRoomy, lead_of};
+    ghost use Rattle.flash_board.specs.Renewals.{HoldsOnlyPages};
 
     /// The board of a log that has power. Its counts are 0.
     pub fn new(log: FlashLog<F>) -> FlashBoard<F>
@@ -65,10 +69,54 @@ impl<F: Flash> FlashBoard<F> {
         ensures due { result.flash.due ≡ (flash_facts self).due }
         ensures lit { (flash_facts self).dark ≡ false → result.flash.dark ≡ false }
         ensures kept { result.flash.kept ≡ board_is_kept self }
+        ensures raw { result.raw ≡ (log_state self).raw }
         // A fault of the board is one of its flash.
         ensures faults { (flash_facts self).faults ≤ result.flash.faults }
     {
         self.log
+    }
+
+    /// Leaves nothing in the flash but the pages as they are: no old words of a page, in no slot. It changes no word of
+    /// the board, and no count but those of faults and power losses.
+    ///
+    /// # Errors
+    /// Power failed in the call, or was off, or the flash failed. Then it is to be called again.
+    #[tactic(auto, unfolding(nvm_board::specs::Facts::IsLostRightly))]
+    pub fn renew(&mut self) -> Result<(), DeviceErr>
+        ensures same { flash_facts self.new ≡ record (flash_facts self.old) {
+          dark = (flash_facts self.new).dark;
+          due = (flash_facts self.new).due;
+          faults = (flash_facts self.new).faults;
+          cuts = (flash_facts self.new).cuts;
+        } }
+        ensures light { Answered (flash_facts self.old) (flash_facts self.new) result }
+        ensures worn { IsLostRightly (flash_facts self.old) (flash_facts self.new) result }
+        ensures only { OnOk result (HoldsOnlyPages PAGES F.SLOTS (log_state self.new).raw) }
+        ensures paced { OnOk result (IsRoomy F.SLOTS F.SECTORS
+            → (log_state self.new).flash.faults ≤ (log_state self.old).flash.faults + lead_of F.SECTORS
+            → (log_state self.new).paced ≡ true) }
+        ensures work { Costs (2053 + 2 * F.SECTORS) 2 (log_state self.old).flash (log_state self.new).flash }
+    {
+        if self.dark {
+            return Err(DeviceErr::PowerLost);
+        }
+        match self.log.renew() {
+            Ok(()) => Ok(()),
+            Err(DeviceErr::PowerLost) => {
+                self.cuts += 1;
+                self.dark = true;
+                Err(DeviceErr::PowerLost)
+            }
+            Err(DeviceErr::Fault) => {
+                if self.faults == COUNT_END {
+                    self.cuts += 1;
+                    self.dark = true;
+                    return Err(DeviceErr::PowerLost);
+                }
+                self.faults += 1;
+                Err(DeviceErr::Fault)
+            }
+        }
     }
 
     /// Returns true if a count is at its end.

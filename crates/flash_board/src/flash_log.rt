@@ -3,7 +3,8 @@ ghost use Rattle.std.specs.Prelude.{◌≡◌, ◌⊎◌, ◌<◌, ◌≤◌, �
 ghost use Rattle.nvm_board.specs.Facts.{AreWords};
 ghost use Rattle.nvm_board.specs.History.{written};
 ghost use Rattle.flash_board.specs.FlashCalls.{Costs, Lights, Tries};
-ghost use Rattle.flash_board.specs.Paces.{IsRoomy, Pauses};
+ghost use Rattle.flash_board.specs.Paces.{IsRoomy, Pauses, lead_of};
+ghost use Rattle.flash_board.specs.Renewals.{HoldsOnlyPages};
 ghost use Rattle.flash_board.specs.declared.layout.TheConstants.{PAGES, TRIES};
 
 use crate::cut_flash::CutFlash;
@@ -11,6 +12,7 @@ use crate::flash::{Flash, FlashSocket};
 use crate::followed_flash::FollowedFlash;
 use crate::image::blank_table;
 use crate::place::PageMap;
+use crate::renewal::renew_pages;
 use crate::steps::{read_at, write_at};
 use crate::turns::has_ring;
 use nvm_board::DeviceErr;
@@ -44,6 +46,7 @@ impl<F: Flash> Model for FlashLog<F> {
     ghost view = { λ l. record {
       flash = state_of PAGES F.SLOTS (F.state l.flash);
       paced = is_paced F.SLOTS F.SECTORS l.place;
+      raw = (F.state l.flash).words;
     } };
 
     ghost invariant = { λ l. IsLog PAGES F.SLOTS F.SECTORS F.sector_start (F.state l.flash).words l.place };
@@ -96,6 +99,7 @@ impl<F: Flash> FlashLog<F> {
     pub fn into_flash(self) -> F
         ensures is { state_of PAGES F.SLOTS (F.state result) ≡ self.flash }
         ensures ring { IsRing F.SLOTS (F.state result).words }
+        ensures raw { (F.state result).words ≡ self.raw }
     {
         let FlashLog { flash, place: _ } = self;
         flash
@@ -119,6 +123,7 @@ impl<F: Flash> FlashLog<F> {
         ensures erases { self.new.flash.erases ≡ self.old.flash.erases }
         ensures light { Lights self.old.flash self.new.flash result }
         ensures paced { self.old.paced ≡ true → self.new.paced ≡ true }
+        ensures raw { self.new.raw ≡ self.old.raw }
     {
         read_at(&mut self.flash, &mut self.place, at)
     }
@@ -140,12 +145,27 @@ impl<F: Flash> FlashLog<F> {
     {
         write_at(&mut self.flash, &mut self.place, page, first, words)
     }
+
+    /// Leaves nothing in the flash but the pages as they are: no old words of a page, in no slot. At every exit the
+    /// words of the board are the same. After an error it is to be called again.
+    pub fn renew(&mut self) -> Result<(), DeviceErr>
+        requires { self.old.flash.dark ≡ false }
+        ensures words { self.new.flash.words ≡ self.old.flash.words }
+        ensures only { OnOk result (HoldsOnlyPages PAGES F.SLOTS self.new.raw) }
+        ensures paced { OnOk result (IsRoomy F.SLOTS F.SECTORS
+            → self.new.flash.faults ≤ self.old.flash.faults + lead_of F.SECTORS → self.new.paced ≡ true) }
+        ensures light { Tries 1 self.old.flash self.new.flash result }
+        ensures work { Costs (2053 + 2 * F.SECTORS) 2 self.old.flash self.new.flash }
+    {
+        renew_pages(&mut self.flash, &mut self.place)?;
+        Ok(())
+    }
 }
 
 impl<F: FlashSocket> FlashLog<F> {
     /// Switches power on. The next call finds the pages again.
     pub fn light(&mut self)
-        ensures { self.new ≡ record { flash = record self.old.flash { dark = false }; paced = false } }
+        ensures { self.new ≡ record self.old { flash = record self.old.flash { dark = false }; paced = false } }
     {
         self.place.ready = false;
         self.place.tried = 0;

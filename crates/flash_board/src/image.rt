@@ -59,6 +59,7 @@ pub fn record_of<F: Flash>(
     ensures each { IfOk result (λ r. (k : ℕ) → k < 16
         → slice_index r k ≡ page_word (F.state flash.old).words (base_in F.SLOTS area) F.SLOTS page k) }
     ensures names { IfOk result (λ r. slice_index r 16 ≡ page) }
+    ensures unused { IfOk result (λ r. slice_index r 17 ≡ 0) }
     ensures words { (F.state flash.new).words ≡ (F.state flash.old).words }
     ensures work { (F.state flash.new).operations ≡ (F.state flash.old).operations }
     ensures erases { (F.state flash.new).erases ≡ (F.state flash.old).erases }

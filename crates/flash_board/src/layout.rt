@@ -31,6 +31,9 @@ pub const RECORD_WORDS: u32 = 18;
 /// The place of the number of the page in a record.
 pub const NUMBER_PLACE: u32 = 16;
 
+/// The place of the word of a record that is not used. It is 0.
+pub const UNUSED_PLACE: u32 = 17;
+
 /// The first word of a mark.
 pub const FIRST_MARK: u32 = 0x436F_6D6D;
 

@@ -14,6 +14,7 @@ mod layout;
 mod moving;
 mod place;
 mod record;
+mod renewal;
 mod scan;
 mod steps;
 mod turns;

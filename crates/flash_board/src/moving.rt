@@ -3,6 +3,7 @@ ghost use Rattle.std.specs.Prelude.{◌≡◌, ◌<◌, ◌≤◌, ◌+◌, ◌-
 ghost use Rattle.flash_board.specs.FlashCalls.{Costs, SameElsewhere, Tries};
 ghost use Rattle.flash_board.specs.CopyParts.{CopiesPage, HasCopied, KeepsOthers};
 ghost use Rattle.flash_board.specs.PageTables.{IsPageTable, AreFree};
+ghost use Rattle.flash_board.specs.Renewals.{HavePages};
 ghost use Rattle.flash_board.specs.FlashLogs.{base_in, find, slot_of};
 ghost use Rattle.flash_board.specs.SlotParts.{IsPut};
 ghost use Rattle.flash_board.specs.declared.layout.TheConstants.{PAGES, SPARES};
@@ -33,6 +34,8 @@ pub fn put_in_spare<F: Flash>(
         (F.state flash.new).words
         (s + 1)) }
     ensures passes { IfOk result (λ n. n + (F.state flash.old).faults ≤ next + (F.state flash.new).faults) }
+    ensures alone { IfOk result (λ s. (F.state flash.new).faults ≡ (F.state flash.old).faults → (s ≡ next)
+        × SameElsewhere (F.state flash.old).words (slot_of (base_in F.SLOTS area) next) 20 (F.state flash.new).words) }
     ensures light { Tries (end - next) (F.state flash.old) (F.state flash.new) result }
     ensures work { Costs 2 2 (F.state flash.old) (F.state flash.new) }
     ensures erases { (F.state flash.new).erases ≡ (F.state flash.old).erases }
@@ -70,6 +73,9 @@ fn copy_page<F: Flash>(
         (F.state flash.new).words table.new n) }
     ensures more { IfOk result (λ n. n ≤ page + 1 + SPARES) }
     ensures passes { IfOk result (λ n. n + (F.state flash.old).faults ≤ next + 1 + (F.state flash.new).faults) }
+    ensures have { IfOk result (λ n. (F.state flash.new).faults ≡ (F.state flash.old).faults
+        → HavePages PAGES F.SLOTS (F.state flash.old).words (base_in F.SLOTS to) next
+        → HavePages PAGES F.SLOTS (F.state flash.new).words (base_in F.SLOTS to) n) }
     ensures light { Tries 1 (F.state flash.old) (F.state flash.new) result }
     ensures work { Costs 2 2 (F.state flash.old) (F.state flash.new) }
 {
@@ -99,6 +105,8 @@ pub fn copy_pages<F: Flash>(
         (base_in F.SLOTS to) PAGES
         (F.state flash.new).words table.new n) }
     ensures passes { IfOk result (λ n. n + (F.state flash.old).faults ≤ PAGES + (F.state flash.new).faults) }
+    ensures have { IfOk result (λ n. (F.state flash.new).faults ≡ (F.state flash.old).faults
+        → HavePages PAGES F.SLOTS (F.state flash.new).words (base_in F.SLOTS to) n) }
     ensures light { Tries 1 (F.state flash.old) (F.state flash.new) result }
     ensures work { Costs 2048 2 (F.state flash.old) (F.state flash.new) }
 {

@@ -71,6 +71,7 @@ pub fn close<F: Flash>(flash: &mut F, block: u8) -> Result<(), DeviceErr>
     requires block { block < BLOCKS }
     requires opened { has_closed (F.state flash.old).words (close_of F.SLOTS block) ≡ false }
     ensures done { OnOk result (has_closed (F.state flash.new).words (close_of F.SLOTS block) ≡ true) }
+    ensures mark { OnOk result (has_mark (F.state flash.new).words (close_of F.SLOTS block) ≡ true) }
     ensures elsewhere { SameElsewhere (F.state flash.old).words (close_of F.SLOTS block) 2 (F.state flash.new).words }
     ensures work { (F.state flash.new).operations ≤ (F.state flash.old).operations + 1 }
     ensures erases { (F.state flash.new).erases ≡ (F.state flash.old).erases }

@@ -2,9 +2,10 @@
 ghost use Rattle.std.specs.Prelude.{◌≡◌, ◌⊎◌, ◌<◌, ◌≤◌, ◌+◌, ◌*◌, true, false, length, slice_index, IfOk, OnOk};
 ghost use Rattle.nvm_board.specs.History.{written};
 ghost use Rattle.flash_board.specs.FlashCalls.{Costs, Lights, Tries};
-ghost use Rattle.flash_board.specs.FlashLogs.{words_of};
+ghost use Rattle.flash_board.specs.FlashLogs.{base_in, words_of};
 ghost use Rattle.flash_board.specs.Paces.{HasStepped, HasMoved, IsRoomy, KeepsPace, Pauses};
 ghost use Rattle.flash_board.specs.Places.{IsLog, IsPlaceOf};
+ghost use Rattle.flash_board.specs.Renewals.{HasLastMark, HavePages};
 ghost use Rattle.flash_board.specs.declared.layout.TheConstants.{PAGES, TRIES};
 
 use crate::ahead::take_step;
@@ -70,6 +71,12 @@ pub fn make_room<F: Flash>(flash: &mut F, place: &mut PageMap) -> Result<(), Dev
     ensures fresh { OnOk result (F.SLOTS ≤ place.old.next
         → (F.state flash.new).faults ≡ (F.state flash.old).faults
         → HasMoved place.new place.new.next × (place.new.next ≤ PAGES)) }
+    ensures passes { OnOk result (F.SLOTS ≤ place.old.next
+        → place.new.next + (F.state flash.old).faults ≤ PAGES + (F.state flash.new).faults) }
+    ensures have { OnOk result (F.SLOTS ≤ place.old.next → (F.state flash.new).faults ≡ (F.state flash.old).faults
+        → HavePages PAGES F.SLOTS (F.state flash.new).words (base_in F.SLOTS place.new.turn) place.new.next) }
+    ensures last { OnOk result (F.SLOTS ≤ place.old.next
+        → HasLastMark F.SLOTS (F.state flash.new).words place.new.turn) }
     ensures light { Tries 1 (F.state flash.old) (F.state flash.new) result }
     ensures work { Costs (2051 + F.SECTORS) 2 (F.state flash.old) (F.state flash.new) }
 {

@@ -3,9 +3,10 @@
 ghost use Rattle.std.specs.Prelude.{◌≡◌, ◌≢◌, ◌⊎◌, ◌<◌, ◌≤◌, ◌+◌, ◌*◌, ℕ, true, false, IfOk, OnOk, slice_index};
 ghost use Rattle.flash_board.specs.FlashCalls.{Costs, Lights, SameElsewhere, Tries};
 ghost use Rattle.flash_board.specs.PageTables.{IsPageTable, AreFree};
-ghost use Rattle.flash_board.specs.FlashBlocks.{area_size};
+ghost use Rattle.flash_board.specs.FlashBlocks.{area_size, witness_start};
 ghost use Rattle.flash_board.specs.FlashLogs.{base_in, close_b, close_of, page_word, turn_by, turn_of, words_of};
-ghost use Rattle.flash_board.specs.FlashLogs.{is_closed as has_closed};
+ghost use Rattle.flash_board.specs.FlashLogs.{is_closed as has_closed, is_marked as has_mark};
+ghost use Rattle.flash_board.specs.Renewals.{HavePages};
 ghost use Rattle.flash_board.specs.Rings.{IsRing};
 ghost use Rattle.flash_board.specs.Spares.{spare_in};
 ghost use Rattle.flash_board.specs.declared.layout.TheConstants.{PAGES, SPARES};
@@ -81,6 +82,7 @@ pub fn pass_witness<F: Flash>(flash: &mut F) -> Result<(), DeviceErr>
     ensures ring { IsRing F.SLOTS (F.state flash.new).words }
     ensures area { SameElsewhere (F.state flash.old).words (close_b F.SLOTS) 4 (F.state flash.new).words }
     ensures done { OnOk result (turn_of F.SLOTS (F.state flash.new).words ≡ 2) }
+    ensures mark { OnOk result (has_mark (F.state flash.new).words (close_b F.SLOTS) ≡ true) }
     ensures work { (F.state flash.new).operations ≤ (F.state flash.old).operations + 2 }
     ensures erases { (F.state flash.new).erases ≤ (F.state flash.old).erases + 1 }
     ensures light { Lights (F.state flash.old) (F.state flash.new) result }
@@ -110,6 +112,8 @@ fn erase_and_copy<F: Flash>(
     ensures free { IfOk result (λ n. AreFree (F.state flash.new).words (base_in F.SLOTS to) n F.SLOTS) }
     ensures room { IfOk result (λ n. n ≤ PAGES + SPARES) }
     ensures passes { IfOk result (λ n. n + (F.state flash.old).faults ≤ PAGES + (F.state flash.new).faults) }
+    ensures have { IfOk result (λ n. (F.state flash.new).faults ≡ (F.state flash.old).faults
+        → HavePages PAGES F.SLOTS (F.state flash.new).words (base_in F.SLOTS to) n) }
     ensures light { Tries 1 (F.state flash.old) (F.state flash.new) result }
     ensures work { Costs (2048 + F.SECTORS) 2 (F.state flash.old) (F.state flash.new) }
 {
@@ -132,6 +136,8 @@ pub fn move_to_b<F: Flash>(flash: &mut F, table: &mut PageTable) -> Result<u16, 
     ensures free { IfOk result (λ n. AreFree (F.state flash.new).words (area_size F.SLOTS) n F.SLOTS) }
     ensures room { IfOk result (λ n. n ≤ PAGES + SPARES) }
     ensures passes { IfOk result (λ n. n + (F.state flash.old).faults ≤ PAGES + (F.state flash.new).faults) }
+    ensures have { IfOk result (λ n. (F.state flash.new).faults ≡ (F.state flash.old).faults
+        → HavePages PAGES F.SLOTS (F.state flash.new).words (area_size F.SLOTS) n) }
     ensures light { Tries 1 (F.state flash.old) (F.state flash.new) result }
     ensures work { Costs (2049 + F.SECTORS) 2 (F.state flash.old) (F.state flash.new) }
 {
@@ -153,6 +159,9 @@ pub fn move_to_a<F: Flash>(flash: &mut F, table: &mut PageTable) -> Result<u16, 
     ensures free { IfOk result (λ n. AreFree (F.state flash.new).words 0 n F.SLOTS) }
     ensures room { IfOk result (λ n. n ≤ PAGES + SPARES) }
     ensures passes { IfOk result (λ n. n + (F.state flash.old).faults ≤ PAGES + (F.state flash.new).faults) }
+    ensures have { IfOk result (λ n. (F.state flash.new).faults ≡ (F.state flash.old).faults
+        → HavePages PAGES F.SLOTS (F.state flash.new).words 0 n) }
+    ensures mark { OnOk result (has_mark (F.state flash.new).words (witness_start F.SLOTS) ≡ true) }
     ensures light { Tries 1 (F.state flash.old) (F.state flash.new) result }
     ensures work { Costs (2049 + F.SECTORS) 2 (F.state flash.old) (F.state flash.new) }
 {

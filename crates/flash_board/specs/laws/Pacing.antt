@@ -12,7 +12,7 @@ use Rattle.flash_board.specs.Paces.{HasStepped, HasMoved, IsRoomy, IsBrief, Keep
 use Rattle.flash_board.specs.Paces.{steps_left}
 use Rattle.flash_board.specs.Places.{state_of}
 
-both : (a b : Bool) → (a && b) ≡ true → (a ≡ true) × (b ≡ true)
+pub both : (a b : Bool) → (a && b) ≡ true → (a ≡ true) × (b ≡ true)
 both true b h = (refl, h)
 both false b h = absurd (true≢false (sym h))
 

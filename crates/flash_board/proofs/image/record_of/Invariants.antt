@@ -13,4 +13,5 @@ invariant-loop-k g l = let old = g.F.Flash.state l.initial.flash in let new = g.
   size : length l.found ≡ 18;
   each : (j : ℕ) → j < l.k → get_or l.found j 0
       ≡ page_word old.words (base_in g.F.Flash.SLOTS l.area) g.F.Flash.SLOTS l.page j;
+  unused : get_or l.found 17 0 ≡ 0;
 }

@@ -1,7 +1,12 @@
-use Rattle.std.proofs.Common.{◌≡◌, ◌<◌, ◌+◌, ℕ, List, length, slice_index, slice_set, sym, subst, arith}
+use Rattle.std.proofs.Common.{◌≡◌, ◌<◌, ◌+◌, ℕ, List, length, slice_index, slice_set, refl, sym, ap, subst, ◌∙◌}
+use Rattle.std.proofs.Common.{arith}
 use Rattle.flash_board.specs.CopyParts.{CopiesPage, KeepsOthers}
-use Rattle.flash_board.specs.FlashLogs.{base_in}
+use Rattle.flash_board.specs.FlashLogs.{base_in, find, slot_of}
+use Rattle.flash_board.specs.FlashCalls.{SameElsewhere}
+use Rattle.flash_board.specs.Renewals.{HavePages}
+use Rattle.flash_board.specs.SlotParts.{IsPut}
 use Rattle.flash_board.specs.laws.Copying.{copies_put}
+use Rattle.flash_board.specs.laws.Renewing.{put_held}
 use Rattle.flash_board.specs.declared.layout.TheConstants.{PAGES}
 use Rattle.flash_board.proofs.moving.copy_page.Goals as goal
 
@@ -31,6 +36,36 @@ returns-clause-copies g c =
     (sym c.from-2.ensures)
     (copies_put slots m after a.table.now from to a.page s words put.1 kept below size within
     c.in_ok-found.ensures.names c.in_ok-found.ensures.each)
+
+pub returns-clause-have : goal.returns-clause-have
+returns-clause-have g c = λ none have.
+    let slots = g.F.Flash.SLOTS in
+    let a = c.args in
+    let m = (g.F.Flash.state a.flash.now).words in
+    let mid = (g.F.Flash.state c.record_of.new.flash).words in
+    let after = (g.F.Flash.state c.put_in_spare.new.flash).words in
+    let words = c.in_ok-found.found in
+    let to = base_in slots a.to in
+    let s = c.in_ok-slot.slot in
+    let put = c.in_ok-slot.ensures.put in
+    let stays = (c.in_ok-found.ensures.light.ok refl).faults in
+    let alone = c.in_ok-slot.ensures.alone (omega (arith, none, stays)) in
+    let size : length words ≡ 18 = omega arith in
+    let most = put.0 in
+    let fits = g.met.F.Flash.slots_fit.0 in
+    let first = alone.0 in
+    let below : a.next < slots = omega (arith, most, first, c.requires.page, fits) in
+    let left : find mid to slots a.page ≡ 0 = ap (λ (l : List ℕ). find l to slots a.page) c.record_of.ensures.words
+    ∙ c.requires.left in
+    let kept : KeepsOthers slots mid to a.page after (a.next + 1) =
+    subst (λ (t : ℕ). KeepsOthers slots mid to a.page after (t + 1)) first
+    (subst (λ (p : ℕ). KeepsOthers slots mid to p after (s + 1)) c.in_ok-found.ensures.names put.2) in
+    let here : IsPut after (slot_of to a.next) words = subst (λ (t : ℕ). IsPut after (slot_of to t) words) first put.1 in
+    let had : HavePages PAGES slots mid to a.next =
+    subst (λ (l : List ℕ). HavePages PAGES slots l to a.next) (sym c.record_of.ensures.words) have in
+    subst (λ (t : ℕ). HavePages PAGES slots after to (t + 1)) (sym first)
+    (put_held PAGES slots mid after to a.next a.page words alone.1 here kept below size c.in_ok-found.ensures.names
+    c.in_ok-found.ensures.unused c.requires.page left had)
 
 pub put_in_spare-requires-clause-end : goal.put_in_spare-requires-clause-end
 put_in_spare-requires-clause-end g c =

@@ -1,6 +1,7 @@
-use Rattle.std.proofs.Common.{◌<◌, refl, sym, ◌∙◌, arith}
+use Rattle.std.proofs.Common.{◌≡◌, ◌<◌, refl, sym, ◌∙◌, arith}
 use Rattle.flash_board.specs.FlashLogs.{base_in}
 use Rattle.flash_board.specs.laws.Copying.{SameArea, area_found, copied_none, copied_more, other_area}
+use Rattle.flash_board.specs.laws.Renewing.{none_held}
 use Rattle.flash_board.specs.declared.layout.TheConstants.{PAGES}
 use Rattle.flash_board.proofs.moving.copy_pages.Goals as goal
 
@@ -12,6 +13,7 @@ loop-page-init g c =
       steady = record { lit = c.requires.lit; due = refl; faults = omega arith };
       operations = omega arith;
       passes = omega arith;
+      have = λ none. none_held PAGES slots m (base_in slots c.args.to);
       copied = copied_none slots m c.args.table.now (base_in slots c.args.from)
           (base_in slots c.args.to) c.requires.free;
     }
@@ -51,6 +53,11 @@ loop-page-preserved g c =
       };
       operations = omega (arith, c.loop-page.invariant.operations, c.copy_page.ensures.work.operations);
       passes = omega (arith, c.loop-page.invariant.passes, c.in_ok-next.ensures.passes);
+      have = λ none.
+          let before = c.loop-page.invariant.steady.faults in
+          let still : (g.F.Flash.state c.loop-page.flash).faults ≡ (g.F.Flash.state c.args.flash.now).faults =
+          omega (arith, none, before, lit.faults) in
+          c.in_ok-next.ensures.have (none ∙ sym still) (c.loop-page.invariant.have still);
       copied = copied_more slots m c.args.table.now mid c.loop-page.table from to page c.loop-page.next has after
           c.copy_page.new.table c.in_ok-next.next c.copy_page.ensures.elsewhere c.in_ok-next.ensures.copies
           c.in_ok-next.ensures.more same;

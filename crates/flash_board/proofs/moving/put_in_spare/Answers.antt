@@ -1,4 +1,4 @@
-use Rattle.std.proofs.Common.{◌*◌, ◌≡◌, ◌<◌, ◌+◌, ℕ, length, slice_index, Err, refl, ap, subst, ◌∙◌, arith}
+use Rattle.std.proofs.Common.{◌*◌, ◌≡◌, ◌<◌, ◌+◌, ℕ, List, length, slice_index, Err, refl, ap, subst, ◌∙◌, arith}
 use Rattle.flash_board.specs.FlashCalls.{SameElsewhere}
 use Rattle.flash_board.specs.FlashLogs.{base_in, slot_of}
 use Rattle.flash_board.specs.SlotParts.{IsPut, PutsInSlot}
@@ -29,6 +29,24 @@ returns-in-Ok-clause-put g c =
           (others_kept slots mid after base s words puts below kept.free size page refl),
     )
 
+pub returns-in-Ok-clause-alone : goal.returns-in-Ok-clause-alone
+returns-in-Ok-clause-alone g c = λ none.
+    let slots = g.F.Flash.SLOTS in
+    let m = (g.F.Flash.state c.args.flash.now).words in
+    let mid = (g.F.Flash.state c.loop-slot.flash).words in
+    let after = (g.F.Flash.state c.program_record.new.flash).words in
+    let base = base_in slots c.args.area in
+    let words = c.args.words.now in
+    let was = c.loop-slot.invariant in
+    let stays = (c.in-Ok.ensures.light.ok refl).faults in
+    let first : c.loop-slot.slot ≡ c.args.next = omega (arith, was.failed, was.least, stays, none) in
+    let puts : PutsInSlot mid (slot_of base c.loop-slot.slot) words after =
+    subst (λ (k : ℕ). PutsInSlot mid k words after) c.slot_at.ensures.is c.program_record.ensures.puts in (
+      first,
+      subst (λ (l : List ℕ). SameElsewhere l (slot_of base c.args.next) 20 after) (was.first first)
+          (subst (λ (s : ℕ). SameElsewhere mid (slot_of base s) 20 after) first puts.elsewhere),
+    )
+
 pub loop-slot-preserved : goal.loop-slot-preserved
 loop-slot-preserved g c =
     let slots = g.F.Flash.SLOTS in
@@ -57,6 +75,8 @@ loop-slot-preserved g c =
         faults = omega (arith, more, was.steady.faults);
       };
       failed = omega (arith, more, was.failed);
+      least = omega (arith, was.least);
+      first = λ e. absurd (omega (arith, e, was.least));
       operations = omega (arith, more, work, was.operations);
       erases = c.program_record.ensures.erases ∙ was.erases;
       elsewhere = elsewhere_then m mid after base (20 * slots) was.elsewhere within;

@@ -9,6 +9,8 @@ invariant-loop-slot g l = let old = g.F.Flash.state l.initial.flash in let new =
   lit : new.dark ≡ false;
   steady : KeepsPower old new;
   failed : old.faults + l.slot ≤ new.faults + l.next;
+  least : l.next ≤ l.slot;
+  first : l.slot ≡ l.next → new.words ≡ old.words;
   operations : new.operations + 2 * old.faults ≤ old.operations + 2 * new.faults;
   erases : new.erases ≡ old.erases;
   elsewhere : SameElsewhere old.words (base_in g.F.Flash.SLOTS l.area) (20 * g.F.Flash.SLOTS) new.words;

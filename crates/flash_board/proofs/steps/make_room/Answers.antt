@@ -1,4 +1,4 @@
-use Rattle.std.proofs.Common.{ℕ, List, refl, sym, subst, ◌∙◌, arith}
+use Rattle.std.proofs.Common.{◌≡◌, ℕ, List, refl, sym, subst, ◌∙◌, arith}
 use Rattle.flash_board.specs.PageTables.{IsPageTable}
 use Rattle.flash_board.specs.laws.Copying.{SameArea, area_found}
 use Rattle.flash_board.specs.FlashLogs.{words_of}
@@ -93,3 +93,49 @@ returns-then-place-eq0-clause-fresh g c = λ full same.
       record { ready = refl; free = refl; erased = refl; copied = refl; behind = refl },
       omega (arith, passes, same),
     )
+
+pub returns-then-place-SLOTS-clause-have : goal.returns-then-place-SLOTS-clause-have
+returns-then-place-SLOTS-clause-have g c = λ full same.
+    let lt = c.if-place-SLOTS.true in absurd (omega (arith, lt, full))
+
+pub returns-then-place-SLOTS-clause-last : goal.returns-then-place-SLOTS-clause-last
+returns-then-place-SLOTS-clause-last g c = λ full.
+    let lt = c.if-place-SLOTS.true in absurd (omega (arith, lt, full))
+
+pub returns-then-place-eq0-clause-last : goal.returns-then-place-eq0-clause-last
+returns-then-place-eq0-clause-last g c = λ full. record {
+  zero = λ e. absurd (omega (arith, e));
+  two = λ e. absurd (omega (arith, e));
+}
+
+pub returns-clause-have : goal.returns-clause-have
+returns-clause-have g c = λ full none.
+    let old = g.F.Flash.state c.args.flash.now in
+    let still : (g.F.Flash.state c.if-place-eq1.flash).faults ≡ old.faults =
+    elim c.if-place-eq1.branch [
+      | then-place-eq1+in_ok-pass_witness w ↦
+          (λ i. (g.F.Flash.state (w.flash-is i)).faults) ∙ (w.in_ok-pass_witness.ensures.light.ok refl).faults
+      | else-place-eq1 w ↦ λ i. (g.F.Flash.state (w.flash-is i)).faults
+    ] in
+    c.in_ok-free_in_a.ensures.have (none ∙ sym still)
+
+pub returns-clause-last : goal.returns-clause-last
+returns-clause-last g c = λ full. record {
+  zero = λ e. c.in_ok-free_in_a.ensures.mark;
+  two = λ e. absurd (omega (arith, e));
+}
+
+pub returns-then-place-SLOTS-clause-passes : goal.returns-then-place-SLOTS-clause-passes
+returns-then-place-SLOTS-clause-passes g c = λ full.
+    let lt = c.if-place-SLOTS.true in absurd (omega (arith, lt, full))
+
+pub returns-clause-passes : goal.returns-clause-passes
+returns-clause-passes g c = λ full.
+    let passes = c.in_ok-free_in_a.ensures.passes in
+    let still : (g.F.Flash.state c.if-place-eq1.flash).faults ≡ (g.F.Flash.state c.args.flash.now).faults =
+    elim c.if-place-eq1.branch [
+      | then-place-eq1+in_ok-pass_witness w ↦
+          (λ i. (g.F.Flash.state (w.flash-is i)).faults) ∙ (w.in_ok-pass_witness.ensures.light.ok refl).faults
+      | else-place-eq1 w ↦ λ i. (g.F.Flash.state (w.flash-is i)).faults
+    ] in
+    omega (arith, passes, still)

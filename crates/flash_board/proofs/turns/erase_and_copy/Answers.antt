@@ -1,4 +1,4 @@
-use Rattle.std.proofs.Common.{◌*◌, ◌≤◌, ◌<◌, ◌+◌, ℕ, inr, sym, ap, ◌∙◌, arith}
+use Rattle.std.proofs.Common.{◌*◌, ◌≤◌, ◌<◌, ◌+◌, ℕ, inr, refl, sym, ap, ◌∙◌, arith}
 use Rattle.flash_board.specs.declared.flash.TheConstants.{BLANK}
 use Rattle.flash_board.specs.FlashCalls.{AreFilled}
 use Rattle.flash_board.specs.FlashLogs.{base_in, is_closed as has_closed}
@@ -57,3 +57,8 @@ returns-clause-pages g c =
     whole_area PAGES slots m mid c.args.from to c.requires.areas c.erase_area.ensures.elsewhere in
     λ p k lt few. c.in_ok-next.ensures.copied.words p k lt few
     ∙ area_page slots m mid (base_in slots c.args.from) same p k few
+
+pub returns-clause-have : goal.returns-clause-have
+returns-clause-have g c = λ none.
+    let erased = (c.in_ok-erase_area.ensures.light.ok refl).faults in
+    c.in_ok-next.ensures.have (none ∙ sym erased)

@@ -1,10 +1,11 @@
-use Rattle.std.proofs.Common.{◌≡◌, ◌≤◌, ◌<◌, ◌+◌, ⊎_elim, sym, ◌∙◌, inl, inr, arith}
+use Rattle.std.proofs.Common.{◌≡◌, ◌≤◌, ◌<◌, ◌+◌, ⊎_elim, refl, sym, ◌∙◌, inl, inr, arith}
 use Rattle.std.proofs.Common.{true≢false}
 use Rattle.flash_board.specs.FlashLogs.{turn_of}
 use Rattle.flash_board.specs.laws.Copying.{SameArea, area_found, area_free}
 use Rattle.flash_board.specs.laws.Moving.{Passes, Stays, two_stays, two_passes}
 use Rattle.flash_board.specs.laws.Turns.{two_marks}
 use Rattle.flash_board.specs.laws.Marks.{closed_same}
+use Rattle.flash_board.specs.laws.Renewing.{same_held}
 use Rattle.flash_board.specs.declared.layout.TheConstants.{PAGES}
 use Rattle.flash_board.specs.FlashBlocks.{area_size, witness_start}
 use Rattle.flash_board.proofs.turns.move_to_a.Goals as goal
@@ -116,3 +117,16 @@ close-requires-clause-opened g c =
     let past : 0 + (area_size slots) ≤ (witness_start slots) = omega arith in
     closed_same m mid (witness_start slots) 0 (area_size slots) c.erase_and_copy.ensures.elsewhere (inr past)
     ∙ (two_marks slots m c.requires.turn).1
+
+pub returns-clause-have : goal.returns-clause-have
+returns-clause-have g c = λ none.
+    let slots = g.F.Flash.SLOTS in
+    let mid = (g.F.Flash.state c.erase_and_copy.new.flash).words in
+    let after = (g.F.Flash.state c.close.new.flash).words in
+    let closed = (c.in_ok-close.ensures.light.ok refl).faults in
+    let same : SameArea slots mid after 0 =
+    record {
+      each = λ k low high. let x : k < (witness_start slots) = omega (arith, high) in
+          c.close.ensures.elsewhere.same k (inl x);
+    } in
+    same_held PAGES slots mid after 0 c.in_ok-next.next same (c.in_ok-next.ensures.have (sym closed ∙ none))

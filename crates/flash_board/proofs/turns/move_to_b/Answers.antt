@@ -1,10 +1,11 @@
-use Rattle.std.proofs.Common.{◌*◌, ◌≡◌, ◌≤◌, ◌+◌, ⊎_elim, sym, ◌∙◌, inl, inr, arith}
+use Rattle.std.proofs.Common.{◌*◌, ◌≡◌, ◌≤◌, ◌+◌, ⊎_elim, refl, sym, ◌∙◌, inl, inr, arith}
 use Rattle.std.proofs.Common.{true≢false}
 use Rattle.flash_board.specs.FlashLogs.{turn_of}
 use Rattle.flash_board.specs.laws.Copying.{SameArea, area_found, area_free}
 use Rattle.flash_board.specs.laws.Moving.{Passes, Stays, zero_stays, zero_passes}
 use Rattle.flash_board.specs.laws.Turns.{zero_marks}
 use Rattle.flash_board.specs.laws.Marks.{closed_same}
+use Rattle.flash_board.specs.laws.Renewing.{same_held}
 use Rattle.flash_board.specs.declared.layout.TheConstants.{PAGES}
 use Rattle.flash_board.specs.FlashBlocks.{area_size}
 use Rattle.flash_board.proofs.turns.move_to_b.Goals as goal
@@ -126,3 +127,16 @@ close-requires-clause-opened g c =
     closed_same m mid (20 * slots) (area_size slots) (area_size slots) c.erase_and_copy.ensures.elsewhere (inl before)
     ∙ (zero_marks slots m c.requires.ring
     c.requires.turn).0
+
+pub returns-clause-have : goal.returns-clause-have
+returns-clause-have g c = λ none.
+    let slots = g.F.Flash.SLOTS in
+    let mid = (g.F.Flash.state c.erase_and_copy.new.flash).words in
+    let after = (g.F.Flash.state c.close.new.flash).words in
+    let closed = (c.in_ok-close.ensures.light.ok refl).faults in
+    let same : SameArea slots mid after (area_size slots) =
+    record {
+      each = λ k low high. let x : (20 * slots) + 2 ≤ k = omega (arith, low) in
+          c.close.ensures.elsewhere.same k (inr x);
+    } in
+    same_held PAGES slots mid after (area_size slots) c.in_ok-next.next same (c.in_ok-next.ensures.have (sym closed ∙ none))

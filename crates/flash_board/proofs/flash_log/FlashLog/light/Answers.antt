@@ -8,5 +8,8 @@ use Rattle.flash_board.proofs.flash_log.FlashLog.light.Goals as goal
 pub returns : goal.returns
 unfolding is_paced
 returns g c =
-    let lit : LogState → LogState = λ l. record { flash = record l.flash { dark = false }; paced = false } in
+    let lit : LogState → LogState = λ l. record l {
+      flash = record l.flash { dark = false };
+      paced = false;
+    } in
     ap (λ (s : FlashState). new_log PAGES g.F.Flash.SLOTS s) c.light.ensures ∙ ap lit c.self.view_is

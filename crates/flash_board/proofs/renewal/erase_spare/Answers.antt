@@ -1,0 +1,82 @@
+use Rattle.std.proofs.Common.{ℕ, sym, subst, ◌∙◌, true≢false}
+use Rattle.flash_board.specs.declared.flash.TheConstants.{BLANK}
+use Rattle.flash_board.specs.FlashBlocks.{area_size}
+use Rattle.flash_board.specs.FlashCalls.{AreFilled, SameElsewhere}
+use Rattle.flash_board.specs.FlashLogs.{base_in, words_of}
+use Rattle.flash_board.specs.Spares.{spare_in}
+use Rattle.flash_board.specs.laws.Copying.{area_free}
+use Rattle.flash_board.specs.laws.Renewing.{spare_erased}
+use Rattle.flash_board.specs.laws.Sparing.{index_same, spare_leaves, spare_stays}
+use Rattle.flash_board.specs.declared.layout.TheConstants.{PAGES}
+use Rattle.flash_board.proofs.renewal.erase_spare.Goals as goal
+
+pub returns-in_err-erase_area-clause-words : goal.returns-in_err-erase_area-clause-words
+returns-in_err-erase_area-clause-words g c =
+    let slots = g.F.Flash.SLOTS in
+    let m = (g.F.Flash.state c.args.flash.now).words in
+    let after = (g.F.Flash.state c.erase_area.new.flash).words in
+    let place = c.args.place.now in
+    let known = c.requires.log.known c.requires.ready.0 in
+    let within : SameElsewhere m (spare_in slots place.turn) (area_size slots) after =
+    subst (λ (b : ℕ). SameElsewhere m b (area_size slots) after) (c.spare.ensures.is slots)
+    c.erase_area.ensures.elsewhere in
+    let stays = spare_stays PAGES slots m after place.turn c.requires.log.ring known.turn known.small c.requires.ready.1
+    within in
+    stays.words
+
+pub returns-in_err-erase_area-clause-log : goal.returns-in_err-erase_area-clause-log
+returns-in_err-erase_area-clause-log g c =
+    let slots = g.F.Flash.SLOTS in
+    let m = (g.F.Flash.state c.args.flash.now).words in
+    let after = (g.F.Flash.state c.erase_area.new.flash).words in
+    let place = c.args.place.now in
+    let known = c.requires.log.known c.requires.ready.0 in
+    let within : SameElsewhere m (spare_in slots place.turn) (area_size slots) after =
+    subst (λ (b : ℕ). SameElsewhere m b (area_size slots) after) (c.spare.ensures.is slots)
+    c.erase_area.ensures.elsewhere in
+    let stays = spare_stays PAGES slots m after place.turn c.requires.log.ring known.turn known.small c.requires.ready.1
+    within in
+    record { ring = stays.ring; known = λ e. absurd (true≢false (sym e)) }
+
+pub returns-clause-words : goal.returns-clause-words
+returns-clause-words g c =
+    let slots = g.F.Flash.SLOTS in
+    let m = (g.F.Flash.state c.args.flash.now).words in
+    let after = (g.F.Flash.state c.erase_area.new.flash).words in
+    let place = c.args.place.now in
+    let known = c.requires.log.known c.requires.ready.0 in
+    let within : SameElsewhere m (spare_in slots place.turn) (area_size slots) after =
+    subst (λ (b : ℕ). SameElsewhere m b (area_size slots) after) (c.spare.ensures.is slots)
+    c.erase_area.ensures.elsewhere in
+    let stays = spare_stays PAGES slots m after place.turn c.requires.log.ring known.turn known.small c.requires.ready.1
+    within in
+    stays.words
+
+pub returns-clause-log : goal.returns-clause-log
+returns-clause-log g c =
+    let slots = g.F.Flash.SLOTS in
+    let m = (g.F.Flash.state c.args.flash.now).words in
+    let after = (g.F.Flash.state c.erase_area.new.flash).words in
+    let place = c.args.place.now in
+    let known = c.requires.log.known c.requires.ready.0 in
+    let within : SameElsewhere m (spare_in slots place.turn) (area_size slots) after =
+    subst (λ (b : ℕ). SameElsewhere m b (area_size slots) after) (c.spare.ensures.is slots)
+    c.erase_area.ensures.elsewhere in
+    let stays = spare_stays PAGES slots m after place.turn c.requires.log.ring known.turn known.small c.requires.ready.1
+    within in
+    let blank : AreFilled after (spare_in slots place.turn) (area_size slots) BLANK =
+    subst (λ (b : ℕ). AreFilled after b (area_size slots) BLANK) (c.spare.ensures.is slots)
+    c.in_ok-erase_area.ensures.done in
+    let area = spare_leaves slots m after place.turn within in
+    let base = base_in slots place.turn in
+    record {
+      ring = stays.ring;
+      known = λ _. record {
+        turn = known.turn ∙ sym stays.turn;
+        small = known.small;
+        index = index_same slots PAGES m after place.table base area known.index;
+        free = area_free slots m after base area place.next known.free;
+        spare = spare_erased PAGES slots g.F.Flash.SECTORS g.F.Flash.sector_start after (words_of PAGES slots after)
+            place.turn c.SECTORS-place.result c.requires.ready.1 c.SECTORS-place.ensures blank;
+      };
+    }
