@@ -31,12 +31,4 @@ given_garbling_state words = record {
 
 -- a powered blank flash, on which no power loss is set
 abbrev pub new_garbling_state : FlashState
-new_garbling_state = record {
-  words = replicate FLASH_WORDS BLANK;
-  dark = false;
-  due = 0;
-  faults = 0;
-  operations = 0;
-  erases = 0;
-  kept = true;
-}
+new_garbling_state = given_garbling_state (replicate FLASH_WORDS BLANK)

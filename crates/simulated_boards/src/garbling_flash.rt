@@ -44,14 +44,8 @@ impl GarblingFlash {
     pub fn new(alloc: Global, seed: u64) -> Result<GarblingFlash, AllocError>
         ensures { IfOk result (λ flash. garbling_state flash ≡ new_garbling_state) }
     {
-        Ok(GarblingFlash {
-            words: vec![in alloc; BLANK; FLASH_WORDS as usize]?,
-            dark: false,
-            cut: None,
-            random: next_random(seed),
-            operations: 0,
-            erases: 0,
-        })
+        let words = vec![in alloc; BLANK; FLASH_WORDS as usize]?;
+        Ok(GarblingFlash::of_words(words, seed))
     }
 
     /// Returns a powered flash with these words, whose garbage this seed chooses.

@@ -1,27 +1,27 @@
-use Rattle.std.proofs.Common.{◌≡◌, ◌<◌, ◌^◌, ℕ, List, true, false, length, replicate, ap, sym, subst, ◌∙◌, arith}
+use Rattle.std.proofs.Common.{◌≡◌, ◌<◌, ◌^◌, ℕ, List, length, replicate, ap, sym, subst, ◌∙◌, arith}
 use Rattle.std.proofs.Math.ListN.{length-replicate}
 use Rattle.std.proofs.lemmas.List.Elements.{All-replicate}
 use Rattle.nvm_board.specs.Facts.{AreWords}
 use Rattle.flash_board.specs.declared.flash.TheConstants.{BLANK}
+use Rattle.simulated_boards.specs.GarblingStates.{given_garbling_state}
 use Rattle.simulated_boards.specs.declared.garbling_flash.TheConstants.{FLASH_WORDS}
-use Rattle.flash_board.specs.FlashCalls.{FlashState}
 use Rattle.simulated_boards.proofs.garbling_flash.GarblingFlash.new.Goals as goal
 
-pub invariant_of-result : goal.invariant_of-result
-invariant_of-result c =
-    let same : c.in_ok-vec.field-0.items ≡ replicate FLASH_WORDS BLANK =
-    c.in_ok-vec.ensures.items_if_clones_equal (λ y is_blank. is_blank) in
+pub of_words-requires-clause-sized : goal.of_words-requires-clause-sized
+of_words-requires-clause-sized c =
+    let same : c.in_ok-words.words.items ≡ replicate FLASH_WORDS BLANK =
+    c.in_ok-words.ensures.items_if_clones_equal (λ y is_blank. is_blank) in
+    ap (λ (l : List ℕ). length l) same ∙ length-replicate {A = ℕ} FLASH_WORDS BLANK
+
+pub of_words-requires-clause-fit : goal.of_words-requires-clause-fit
+of_words-requires-clause-fit c =
+    let same : c.in_ok-words.words.items ≡ replicate FLASH_WORDS BLANK =
+    c.in_ok-words.ensures.items_if_clones_equal (λ y is_blank. is_blank) in
     let fits : BLANK < 2 ^ 32 = omega arith in
-    record {
-      sized = ap (λ (l : List ℕ). length l) same ∙ length-replicate {A = ℕ} FLASH_WORDS BLANK;
-      words_fit = subst (λ (l : List ℕ). AreWords l) (sym same)
-          (All-replicate (λ w. w < 2 ^ 32) FLASH_WORDS BLANK fits);
-    }
+    subst (λ (l : List ℕ). AreWords l) (sym same) (All-replicate (λ w. w < 2 ^ 32) FLASH_WORDS BLANK fits)
 
 pub returns : goal.returns
 returns c =
-    let same : c.in_ok-vec.field-0.items ≡ replicate FLASH_WORDS BLANK =
-    c.in_ok-vec.ensures.items_if_clones_equal (λ y is_blank. is_blank) in
-    let state : List ℕ → FlashState = λ words. record
-    { words = words; dark = false; due = 0; faults = 0; operations = 0; erases = 0; kept = true } in
-    ap state same
+    let same : c.in_ok-words.words.items ≡ replicate FLASH_WORDS BLANK =
+    c.in_ok-words.ensures.items_if_clones_equal (λ y is_blank. is_blank) in
+    c.of_words.ensures ∙ ap given_garbling_state same
