@@ -1,5 +1,6 @@
--- Where the blocks of a flash lie, by the number of slots of an area.
-use Rattle.std.specs.Prelude.{◌+◌, ◌*◌, ℕ}
+-- Where the blocks of a flash lie, by the number of slots of an area, and how many steps a move takes.
+use Rattle.std.specs.Prelude.{◌+◌, ◌*◌, ◌/◌, ℕ}
+use Rattle.flash_board.specs.declared.layout.TheConstants.{STEP_PAGES}
 
 -- the number of words of an area: its slots, and the mark that closes it
 abbrev pub area_size : ℕ → ℕ
@@ -12,3 +13,7 @@ witness_start slots = area_size slots + area_size slots
 -- the number of words of a flash
 abbrev pub flash_size : ℕ → ℕ
 flash_size slots = witness_start slots + 2
+
+-- the number of steps that copy all pages
+abbrev pub steps_of : ℕ → ℕ
+steps_of pages = pages / STEP_PAGES

@@ -10,18 +10,20 @@ use Rattle.flash_board.specs.FlashLogs.{base_in, turn_of, words_of}
 use Rattle.flash_board.specs.Rings.{IsRing}
 use Rattle.flash_board.specs.Spares.{IsSpare}
 
--- The place is that of the flash.
-pub record IsPlaceOf (pages slots sectors : ℕ) (start : ℕ → ℕ) (m : List ℕ) (p : PageMap) : Type 0 where
+-- The place is that of the flash, by the entries of its table.
+pub record IsPlaceOf {T : Type 0} (entries : T → List ℕ) (pages slots sectors : ℕ) (start : ℕ → ℕ) (m : List ℕ)
+    (p : PageMap T) : Type 0 where
   pub turn : p.turn ≡ turn_of slots m
   pub small : p.turn < 3
-  pub index : IsPageTable pages m (base_in slots p.turn) slots p.table
+  pub index : IsPageTable pages m (base_in slots p.turn) slots (entries p.table)
   pub free : AreFree m (base_in slots p.turn) p.next slots
   pub spare : IsSpare pages slots sectors start m (words_of pages slots m) p.turn p.erased p.copied p.behind
 
 -- The flash stands for words, and the place is its own where it says so.
-pub record IsLog (pages slots sectors : ℕ) (start : ℕ → ℕ) (m : List ℕ) (p : PageMap) : Type 0 where
+pub record IsLog {T : Type 0} (entries : T → List ℕ) (pages slots sectors : ℕ) (start : ℕ → ℕ) (m : List ℕ)
+    (p : PageMap T) : Type 0 where
   pub ring : IsRing slots m
-  pub known : p.ready ≡ true → IsPlaceOf pages slots sectors start m p
+  pub known : p.ready ≡ true → IsPlaceOf entries pages slots sectors start m p
 
 -- A flash with the words of its board in place of its own.
 abbrev pub state_of : ℕ → ℕ → FlashState → FlashState

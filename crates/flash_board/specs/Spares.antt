@@ -1,8 +1,8 @@
 -- The other area, to which the pages move step by step.
 use Rattle.std.specs.Prelude.{◌≡◌, ◌<◌, ◌≤◌, ◌+◌, ◌-◌, ◌*◌, ℕ, false, List, slice_index, nat_eq, if◌then◌else◌}
 use Rattle.flash_board.specs.declared.flash.TheConstants.{BLANK}
-use Rattle.flash_board.specs.declared.layout.TheConstants.{COPY_STEPS, STEP_PAGES}
-use Rattle.flash_board.specs.FlashBlocks.{area_size}
+use Rattle.flash_board.specs.declared.layout.TheConstants.{STEP_PAGES}
+use Rattle.flash_board.specs.FlashBlocks.{area_size, steps_of}
 use Rattle.flash_board.specs.FlashCalls.{AreFilled}
 use Rattle.flash_board.specs.FlashLogs.{find, is_closed, page_word}
 use Rattle.flash_board.specs.PageTables.{AreFree}
@@ -28,7 +28,7 @@ pub record HasCopies (pages slots : ℕ) (m words : List ℕ) (base copied behin
 pub record IsSpare (pages slots sectors : ℕ) (start : ℕ → ℕ) (m words : List ℕ) (turn erased copied behind : ℕ)
     : Type 0 where
   pub within : erased ≤ sectors
-  pub most : copied < COPY_STEPS
+  pub most : copied < steps_of pages
   pub idle : turn ≡ 1 → erased ≡ 0
   pub fresh : erased < sectors → (copied ≡ 0) × (behind ≡ 0)
   pub blank : erased < sectors

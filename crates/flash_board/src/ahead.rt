@@ -9,13 +9,14 @@ ghost use Rattle.flash_board.specs.PageTables.{IsPageTable};
 ghost use Rattle.flash_board.specs.Places.{IsLog};
 ghost use Rattle.flash_board.specs.Rings.{IsRing};
 ghost use Rattle.flash_board.specs.Spares.{HasCopies, spare_in};
-ghost use Rattle.flash_board.specs.declared.layout.TheConstants.{COPY_STEPS, PAGES, STEP_PAGES};
+ghost use Rattle.flash_board.specs.declared.layout.TheConstants.{STEP_PAGES};
 
 use crate::erasing::first_sector_of_spare;
 use crate::flash::Flash;
-use crate::image::{PageTable, record_of};
-use crate::layout::{COPY_STEPS, STEP_PAGES};
+use crate::image::record_of;
+use crate::layout::{STEP_PAGES, copy_steps};
 use crate::moving::put_in_spare;
+use crate::page_table::PageTable;
 use crate::place::PageMap;
 use crate::record::close;
 use crate::scan::scan;
@@ -26,7 +27,7 @@ use nvm_board::DeviceErr;
 fn copy_ahead<F: Flash>(
     flash: &mut F,
     turn: u8,
-    table: &PageTable,
+    table: &F::Table,
     next: u16,
     end: u16,
     page: u16,
@@ -34,15 +35,16 @@ fn copy_ahead<F: Flash>(
     requires lit { (F.state flash.old).dark ≡ false }
     requires turn { turn ≡ turn_of F.SLOTS (F.state flash.old).words }
     requires moves { (turn < 3) × (turn ≢ 1) × IsRing F.SLOTS (F.state flash.old).words }
-    requires entry { (page < PAGES)
-        × (slice_index table.now page ≡ find (F.state flash.old).words (base_in F.SLOTS turn) F.SLOTS page) }
+    requires entry { (page < F.PAGES)
+        × (slice_index (F.Table.entries table.now) page
+        ≡ find (F.state flash.old).words (base_in F.SLOTS turn) F.SLOTS page) }
     requires copies { (next < end) × (end ≤ F.SLOTS)
-        × HasCopies PAGES F.SLOTS (F.state flash.old).words
-        (words_of PAGES F.SLOTS (F.state flash.old).words) (spare_in F.SLOTS turn) page next }
+        × HasCopies F.PAGES F.SLOTS (F.state flash.old).words
+        (words_of F.PAGES F.SLOTS (F.state flash.old).words) (spare_in F.SLOTS turn) page next }
     ensures elsewhere { SameElsewhere (F.state flash.old).words (spare_in F.SLOTS turn) (20 * F.SLOTS)
         (F.state flash.new).words }
-    ensures copies { IfOk result (λ n. HasCopies PAGES F.SLOTS (F.state flash.new).words
-        (words_of PAGES F.SLOTS (F.state flash.new).words) (spare_in F.SLOTS turn)
+    ensures copies { IfOk result (λ n. HasCopies F.PAGES F.SLOTS (F.state flash.new).words
+        (words_of F.PAGES F.SLOTS (F.state flash.new).words) (spare_in F.SLOTS turn)
         (page + 1) n) }
     ensures most { IfOk result (λ n. n ≤ end) }
     ensures passes { IfOk result (λ n. n + (F.state flash.old).faults ≤ next + 1 + (F.state flash.new).faults) }
@@ -50,7 +52,7 @@ fn copy_ahead<F: Flash>(
     ensures work { Costs 2 2 (F.state flash.old) (F.state flash.new) }
     ensures erases { (F.state flash.new).erases ≡ (F.state flash.old).erases }
 {
-    if table[usize::from(page)] == 0 {
+    if table.entry(page) == 0 {
         return Ok(next);
     }
     let found = record_of(flash, home(turn), table, page)?;
@@ -62,22 +64,22 @@ fn copy_ahead<F: Flash>(
 fn copy_step<F: Flash>(
     flash: &mut F,
     turn: u8,
-    table: &PageTable,
+    table: &F::Table,
     next: u16,
     first: u16,
 ) -> Result<u16, DeviceErr>
     requires lit { (F.state flash.old).dark ≡ false }
     requires turn { turn ≡ turn_of F.SLOTS (F.state flash.old).words }
     requires moves { (turn < 3) × (turn ≢ 1) × IsRing F.SLOTS (F.state flash.old).words }
-    requires index { (first + STEP_PAGES ≤ PAGES)
-        × IsPageTable PAGES (F.state flash.old).words (base_in F.SLOTS turn) F.SLOTS table.now }
+    requires index { (first + STEP_PAGES ≤ F.PAGES)
+        × IsPageTable F.PAGES (F.state flash.old).words (base_in F.SLOTS turn) F.SLOTS (F.Table.entries table.now) }
     requires copies { (next + STEP_PAGES ≤ F.SLOTS)
-        × HasCopies PAGES F.SLOTS (F.state flash.old).words
-        (words_of PAGES F.SLOTS (F.state flash.old).words) (spare_in F.SLOTS turn) first next }
+        × HasCopies F.PAGES F.SLOTS (F.state flash.old).words
+        (words_of F.PAGES F.SLOTS (F.state flash.old).words) (spare_in F.SLOTS turn) first next }
     ensures elsewhere { SameElsewhere (F.state flash.old).words (spare_in F.SLOTS turn) (20 * F.SLOTS)
         (F.state flash.new).words }
-    ensures copies { IfOk result (λ n. HasCopies PAGES F.SLOTS (F.state flash.new).words
-        (words_of PAGES F.SLOTS (F.state flash.new).words) (spare_in F.SLOTS turn)
+    ensures copies { IfOk result (λ n. HasCopies F.PAGES F.SLOTS (F.state flash.new).words
+        (words_of F.PAGES F.SLOTS (F.state flash.new).words) (spare_in F.SLOTS turn)
         (first + STEP_PAGES) n) }
     ensures passes { IfOk result (λ n. n + (F.state flash.old).faults
         ≤ next + STEP_PAGES + (F.state flash.new).faults) }
@@ -95,23 +97,23 @@ fn copy_step<F: Flash>(
 
 /// The number of free slots at which the move begins: those that are written while it goes on.
 fn lead<F: Flash>() -> u16
-    ensures { result ≡ lead_of F.SECTORS }
+    ensures { result ≡ lead_of F.PAGES F.SECTORS }
 {
-    F::SECTORS + COPY_STEPS + 1
+    F::SECTORS + copy_steps::<F>() + 1
 }
 
 /// Passes the turn to the other area, which has all pages.
-fn pass_turn<F: Flash>(flash: &mut F, place: &mut PageMap) -> Result<(), DeviceErr>
+fn pass_turn<F: Flash>(flash: &mut F, place: &mut PageMap<F::Table>) -> Result<(), DeviceErr>
     requires lit { (F.state flash.old).dark ≡ false }
     requires turn { place.old.turn ≡ turn_of F.SLOTS (F.state flash.old).words }
     requires moves { (place.old.turn < 3) × (place.old.turn ≢ 1) × IsRing F.SLOTS (F.state flash.old).words }
-    requires copies { HasCopies PAGES F.SLOTS (F.state flash.old).words
-        (words_of PAGES F.SLOTS (F.state flash.old).words) (spare_in F.SLOTS place.old.turn) PAGES
+    requires copies { HasCopies F.PAGES F.SLOTS (F.state flash.old).words
+        (words_of F.PAGES F.SLOTS (F.state flash.old).words) (spare_in F.SLOTS place.old.turn) F.PAGES
         place.old.behind }
     requires unready { place.old.ready ≡ false }
-    ensures words { words_of PAGES F.SLOTS (F.state flash.new).words
-        ≡ words_of PAGES F.SLOTS (F.state flash.old).words }
-    ensures log { IsLog PAGES F.SLOTS F.SECTORS F.sector_start (F.state flash.new).words place.new }
+    ensures words { words_of F.PAGES F.SLOTS (F.state flash.new).words
+        ≡ words_of F.PAGES F.SLOTS (F.state flash.old).words }
+    ensures log { IsLog F.Table.entries F.PAGES F.SLOTS F.SECTORS F.sector_start (F.state flash.new).words place.new }
     ensures ready { OnOk result (place.new.ready ≡ true) }
     ensures fresh { OnOk result (HasMoved place.new place.old.behind) }
     ensures light { Tries 1 (F.state flash.old) (F.state flash.new) result }
@@ -132,14 +134,14 @@ fn pass_turn<F: Flash>(flash: &mut F, place: &mut PageMap) -> Result<(), DeviceE
 }
 
 /// Passes the turn to the witness.
-pub fn pass_on<F: Flash>(flash: &mut F, place: &mut PageMap) -> Result<(), DeviceErr>
+pub fn pass_on<F: Flash>(flash: &mut F, place: &mut PageMap<F::Table>) -> Result<(), DeviceErr>
     requires lit { (F.state flash.old).dark ≡ false }
-    requires log { IsLog PAGES F.SLOTS F.SECTORS F.sector_start (F.state flash.old).words place.old }
+    requires log { IsLog F.Table.entries F.PAGES F.SLOTS F.SECTORS F.sector_start (F.state flash.old).words place.old }
     requires ready { place.old.ready ≡ true }
     requires turn { place.old.turn ≡ 1 }
-    ensures words { words_of PAGES F.SLOTS (F.state flash.new).words
-        ≡ words_of PAGES F.SLOTS (F.state flash.old).words }
-    ensures log { IsLog PAGES F.SLOTS F.SECTORS F.sector_start (F.state flash.new).words place.new }
+    ensures words { words_of F.PAGES F.SLOTS (F.state flash.new).words
+        ≡ words_of F.PAGES F.SLOTS (F.state flash.old).words }
+    ensures log { IsLog F.Table.entries F.PAGES F.SLOTS F.SECTORS F.sector_start (F.state flash.new).words place.new }
     ensures ready { OnOk result (place.new.ready ≡ true) }
     ensures step { OnOk result (place.new
         ≡ record place.old { ready = true; turn = 2; erased = 0; copied = 0; behind = 0 }) }
@@ -160,14 +162,14 @@ pub fn pass_on<F: Flash>(flash: &mut F, place: &mut PageMap) -> Result<(), Devic
 }
 
 /// Erases the next sector of the other area.
-fn erase_next<F: Flash>(flash: &mut F, place: &mut PageMap) -> Result<(), DeviceErr>
+fn erase_next<F: Flash>(flash: &mut F, place: &mut PageMap<F::Table>) -> Result<(), DeviceErr>
     requires lit { (F.state flash.old).dark ≡ false }
-    requires log { IsLog PAGES F.SLOTS F.SECTORS F.sector_start (F.state flash.old).words place.old }
+    requires log { IsLog F.Table.entries F.PAGES F.SLOTS F.SECTORS F.sector_start (F.state flash.old).words place.old }
     requires ready { place.old.ready ≡ true }
     requires moves { (place.old.turn ≢ 1) × (place.old.erased < F.SECTORS) }
-    ensures words { words_of PAGES F.SLOTS (F.state flash.new).words
-        ≡ words_of PAGES F.SLOTS (F.state flash.old).words }
-    ensures log { IsLog PAGES F.SLOTS F.SECTORS F.sector_start (F.state flash.new).words place.new }
+    ensures words { words_of F.PAGES F.SLOTS (F.state flash.new).words
+        ≡ words_of F.PAGES F.SLOTS (F.state flash.old).words }
+    ensures log { IsLog F.Table.entries F.PAGES F.SLOTS F.SECTORS F.sector_start (F.state flash.new).words place.new }
     ensures ready { OnOk result (place.new.ready ≡ true) }
     ensures step { OnOk result (place.new ≡ record place.old { ready = true; erased = place.old.erased + 1 }) }
     ensures light { Tries 1 (F.state flash.old) (F.state flash.new) result }
@@ -183,18 +185,19 @@ fn erase_next<F: Flash>(flash: &mut F, place: &mut PageMap) -> Result<(), Device
 
 /// Copies the next pages to the other area. Behind the last it passes the turn. Where there is no room it begins the
 /// move anew.
-fn copy_next<F: Flash>(flash: &mut F, place: &mut PageMap) -> Result<(), DeviceErr>
+fn copy_next<F: Flash>(flash: &mut F, place: &mut PageMap<F::Table>) -> Result<(), DeviceErr>
     requires lit { (F.state flash.old).dark ≡ false }
-    requires log { IsLog PAGES F.SLOTS F.SECTORS F.sector_start (F.state flash.old).words place.old }
+    requires log { IsLog F.Table.entries F.PAGES F.SLOTS F.SECTORS F.sector_start (F.state flash.old).words place.old }
     requires ready { place.old.ready ≡ true }
     requires moves { (place.old.turn ≢ 1) × (place.old.erased ≡ F.SECTORS) }
-    ensures words { words_of PAGES F.SLOTS (F.state flash.new).words
-        ≡ words_of PAGES F.SLOTS (F.state flash.old).words }
-    ensures log { IsLog PAGES F.SLOTS F.SECTORS F.sector_start (F.state flash.new).words place.new }
+    ensures words { words_of F.PAGES F.SLOTS (F.state flash.new).words
+        ≡ words_of F.PAGES F.SLOTS (F.state flash.old).words }
+    ensures log { IsLog F.Table.entries F.PAGES F.SLOTS F.SECTORS F.sector_start (F.state flash.new).words place.new }
     ensures ready { OnOk result (place.new.ready ≡ true) }
-    ensures pace { OnOk result (IsRoomy F.SLOTS F.SECTORS → F.SLOTS ≤ place.old.next + lead_of F.SECTORS
-        → KeepsPace F.SLOTS F.SECTORS place.old → (F.state flash.new).faults ≡ (F.state flash.old).faults
-        → HasStepped F.SLOTS F.SECTORS place.new) }
+    ensures pace { OnOk result (IsRoomy F.PAGES F.SLOTS F.SECTORS
+        → F.SLOTS ≤ place.old.next + lead_of F.PAGES F.SECTORS
+        → KeepsPace F.PAGES F.SLOTS F.SECTORS place.old → (F.state flash.new).faults ≡ (F.state flash.old).faults
+        → HasStepped F.PAGES F.SLOTS F.SECTORS place.new) }
     ensures light { Tries 1 (F.state flash.old) (F.state flash.new) result }
     ensures work { Costs 33 2 (F.state flash.old) (F.state flash.new) }
     ensures erases { (F.state flash.new).erases ≡ (F.state flash.old).erases }
@@ -211,7 +214,7 @@ fn copy_next<F: Flash>(flash: &mut F, place: &mut PageMap) -> Result<(), DeviceE
     let behind = copy_step(flash, place.turn, &place.table, place.behind, first)?;
     place.behind = behind;
     place.copied += 1;
-    if place.copied == COPY_STEPS {
+    if place.copied == copy_steps::<F>() {
         return pass_turn(flash, place);
     }
     place.ready = true;
@@ -219,17 +222,17 @@ fn copy_next<F: Flash>(flash: &mut F, place: &mut PageMap) -> Result<(), DeviceE
 }
 
 /// Takes a step of the move, if the area is nearly full.
-pub fn take_step<F: Flash>(flash: &mut F, place: &mut PageMap) -> Result<(), DeviceErr>
+pub fn take_step<F: Flash>(flash: &mut F, place: &mut PageMap<F::Table>) -> Result<(), DeviceErr>
     requires lit { (F.state flash.old).dark ≡ false }
-    requires log { IsLog PAGES F.SLOTS F.SECTORS F.sector_start (F.state flash.old).words place.old }
+    requires log { IsLog F.Table.entries F.PAGES F.SLOTS F.SECTORS F.sector_start (F.state flash.old).words place.old }
     requires ready { place.old.ready ≡ true }
-    ensures words { words_of PAGES F.SLOTS (F.state flash.new).words
-        ≡ words_of PAGES F.SLOTS (F.state flash.old).words }
-    ensures log { IsLog PAGES F.SLOTS F.SECTORS F.sector_start (F.state flash.new).words place.new }
+    ensures words { words_of F.PAGES F.SLOTS (F.state flash.new).words
+        ≡ words_of F.PAGES F.SLOTS (F.state flash.old).words }
+    ensures log { IsLog F.Table.entries F.PAGES F.SLOTS F.SECTORS F.sector_start (F.state flash.new).words place.new }
     ensures ready { OnOk result (place.new.ready ≡ true) }
-    ensures pace { OnOk result (IsRoomy F.SLOTS F.SECTORS → KeepsPace F.SLOTS F.SECTORS place.old
+    ensures pace { OnOk result (IsRoomy F.PAGES F.SLOTS F.SECTORS → KeepsPace F.PAGES F.SLOTS F.SECTORS place.old
         → (F.state flash.new).faults ≡ (F.state flash.old).faults
-        → HasStepped F.SLOTS F.SECTORS place.new) }
+        → HasStepped F.PAGES F.SLOTS F.SECTORS place.new) }
     ensures light { Tries 1 (F.state flash.old) (F.state flash.new) result }
     ensures work { Costs 33 2 (F.state flash.old) (F.state flash.new) }
     ensures erases { (F.state flash.new).erases ≤ (F.state flash.old).erases + 1 }

@@ -1,12 +1,14 @@
 //! Flash devices, with what they promise.
 ghost use Rattle.std.specs.Prelude.{◌≡◌, ◌<◌, ◌≤◌, ◌+◌, ◌-◌, ◌*◌, ℕ, true, false, length, slice_index, IfOk, OnOk};
 ghost use Rattle.nvm_board.specs.Facts.{AreWords};
+ghost use Rattle.nvm_board.specs.declared.board.TheConstants.{LEAST_PAGES, MOST_PAGES};
 ghost use Rattle.flash_board.specs.FlashCalls.{FlashState, Lights, SameElsewhere, IsThere, AreFilled};
-ghost use Rattle.flash_board.specs.FlashBlocks.{area_size, witness_start, flash_size};
+ghost use Rattle.flash_board.specs.FlashBlocks.{area_size, witness_start, flash_size, steps_of};
 ghost use Rattle.flash_board.specs.ProgrammedRuns.{IsProgramRun};
 ghost use Rattle.flash_board.specs.declared.flash.TheConstants.{BLANK};
-ghost use Rattle.flash_board.specs.declared.layout.TheConstants.{PAGES, SPARES};
+ghost use Rattle.flash_board.specs.declared.layout.TheConstants.{SPARES, STEP_PAGES};
 
+use crate::page_table::PageTable;
 use nvm_board::DeviceErr;
 
 /// The word of an erased place.
@@ -16,13 +18,21 @@ pub const BLANK: u32 = 0xFFFF_FFFF;
 pub const BLOCKS: u8 = 3;
 
 /// A flash device of three blocks: area A, area B and the witness. A block has one or more sectors, of any size: a
-/// sector is what `erase` erases. The numbers of slots and of sectors of an area are the device's.
+/// sector is what `erase` erases. The numbers of pages, of slots and of sectors of an area are the device's.
 pub trait Flash {
+    /// The table of the pages in working memory. It has an entry for each page.
+    type Table: PageTable;
+
+    /// The number of pages of the board.
+    const PAGES: u16;
+
     /// The number of slots of an area.
     const SLOTS: u16;
 
     /// The number of sectors of an area. The witness has one.
     const SECTORS: u16;
+
+    ghost PAGES: { ℕ };
 
     ghost SLOTS: { ℕ };
 
@@ -74,6 +84,11 @@ pub trait Flash {
     ghost sized: { (flash : Self) → length (state flash).words ≡ flash_size SLOTS };
 
     ghost words_fit: { (flash : Self) → AreWords (state flash).words };
+
+    /// A board has 1,024 to 4,096 pages, and steps of a move copy them all.
+    ghost pages_fit: { (LEAST_PAGES ≤ PAGES) × (PAGES ≤ MOST_PAGES) × (PAGES ≡ STEP_PAGES * steps_of PAGES) };
+
+    ghost table_fits: { (table : Self.Table) → length (Self.Table.entries table) ≡ PAGES };
 
     /// An area takes each page once, with slots to pass over. The slots have numbers of 16 bits.
     ghost slots_fit: { (PAGES + SPARES < SLOTS) × (SLOTS < 65536) };

@@ -2,14 +2,12 @@
 ghost use Rattle.std.specs.Prelude.{◌≡◌, ◌+◌, ◌*◌, ◌<◌, ◌≤◌, ◌↔◌, ◌⊎◌, if◌then◌else◌, true, false, length, IsTrue};
 ghost use Rattle.std.specs.Prelude.{All, Contains, IfOk, OnOk, slice_index};
 ghost use Rattle.nvm_board.specs.declared.board.TheConstants.{SECRETS, COUNT_END};
-ghost use Rattle.nvm_board.specs.Facts.{AreWords};
-ghost use Rattle.flash_board.specs.declared.layout.TheConstants.{PAGES};
+ghost use Rattle.nvm_board.specs.Facts.{AreWords, IsMemory};
 
 use crate::cut_flash::CutFlash;
 use crate::flash::{Flash, FlashSocket};
 use crate::flash_log::FlashLog;
 use crate::followed_flash::FollowedFlash;
-use crate::layout::PAGES;
 use nvm_board::{Board, COUNT_END, DeviceErr, SECRETS, Socket, WornOut};
 
 /// A board on a flash.
@@ -23,7 +21,8 @@ pub struct FlashBoard<F: Flash> {
     compares: [u64; SECRETS as usize],
     matches: [u64; SECRETS as usize],
     ghost lit: { dark ≡ false → log.flash.dark ≡ false },
-    ghost sized: { length log.flash.words ≡ 16 * PAGES },
+    ghost sized: { length log.flash.words ≡ 16 * F.PAGES },
+    ghost memory: { IsMemory log.flash.words },
     ghost words_fit: { AreWords log.flash.words },
     ghost compares_counted: { length compares ≡ SECRETS },
     ghost matches_counted: { length matches ≡ SECRETS },
@@ -91,11 +90,11 @@ impl<F: Flash> FlashBoard<F> {
         } }
         ensures light { Answered (flash_facts self.old) (flash_facts self.new) result }
         ensures worn { IsLostRightly (flash_facts self.old) (flash_facts self.new) result }
-        ensures only { OnOk result (HoldsOnlyPages PAGES F.SLOTS (log_state self.new).raw) }
-        ensures paced { OnOk result (IsRoomy F.SLOTS F.SECTORS
-            → (log_state self.new).flash.faults ≤ (log_state self.old).flash.faults + lead_of F.SECTORS
+        ensures only { OnOk result (HoldsOnlyPages F.PAGES F.SLOTS (log_state self.new).raw) }
+        ensures paced { OnOk result (IsRoomy F.PAGES F.SLOTS F.SECTORS
+            → (log_state self.new).flash.faults ≤ (log_state self.old).flash.faults + lead_of F.PAGES F.SECTORS
             → (log_state self.new).paced ≡ true) }
-        ensures work { Costs (2053 + 2 * F.SECTORS) 2 (log_state self.old).flash (log_state self.new).flash }
+        ensures work { Costs (2 * F.PAGES + 5 + 2 * F.SECTORS) 2 (log_state self.old).flash (log_state self.new).flash }
     {
         if self.dark {
             return Err(DeviceErr::PowerLost);
@@ -179,7 +178,7 @@ impl<F: Flash> Board for FlashBoard<F> {
     ghost facts = { flash_facts };
 
     fn pages(&self) -> u16 {
-        PAGES
+        F::PAGES
     }
 
     #[tactic(auto, unfolding(nvm_board::specs::Facts::IsLostRightly))]
@@ -211,7 +210,8 @@ impl<F: Flash> Board for FlashBoard<F> {
         requires { FitsPage page first words.now (flash_facts self.old) }
         ensures writes { Writes (address page first) words.now (flash_facts self.old) (flash_facts self.new) result }
         // A write that meets no fault of the flash is short, or its log is in pace behind it.
-        ensures pause { IsRoomy F.SLOTS F.SECTORS → Pauses 37 (log_state self.old).flash (log_state self.new).flash
+        ensures pause { IsRoomy F.PAGES F.SLOTS F.SECTORS
+            → Pauses 37 (log_state self.old).flash (log_state self.new).flash
             ((log_state self.old).paced ≡ true) ((log_state self.new).paced ≡ true) result }
     {
         if self.dark {

@@ -1,16 +1,16 @@
 //! The log of a flash as one value: the words that it stands for, and its power.
 ghost use Rattle.std.specs.Prelude.{◌≡◌, ◌⊎◌, ◌<◌, ◌≤◌, ◌+◌, ◌*◌, true, false, length, slice_index, IfOk, IfErr, OnOk};
-ghost use Rattle.nvm_board.specs.Facts.{AreWords};
+ghost use Rattle.nvm_board.specs.Facts.{AreWords, IsMemory};
 ghost use Rattle.nvm_board.specs.History.{written};
 ghost use Rattle.flash_board.specs.FlashCalls.{Costs, Lights, Tries};
 ghost use Rattle.flash_board.specs.Paces.{IsRoomy, Pauses, lead_of};
 ghost use Rattle.flash_board.specs.Renewals.{HoldsOnlyPages};
-ghost use Rattle.flash_board.specs.declared.layout.TheConstants.{PAGES, TRIES};
+ghost use Rattle.flash_board.specs.declared.layout.TheConstants.{TRIES};
 
 use crate::cut_flash::CutFlash;
 use crate::flash::{Flash, FlashSocket};
 use crate::followed_flash::FollowedFlash;
-use crate::image::blank_table;
+use crate::page_table::PageTable;
 use crate::place::PageMap;
 use crate::renewal::renew_pages;
 use crate::steps::{read_at, write_at};
@@ -33,23 +33,23 @@ pub enum FlashFault {
 #[derive(Drop)]
 pub struct FlashLog<F: Flash> {
     flash: F,
-    place: PageMap,
+    place: PageMap<F::Table>,
 }
 
 impl<F: Flash> Model for FlashLog<F> {
     ghost use Rattle.flash_board.specs.Paces.{LogState, is_paced};
     ghost use Rattle.flash_board.specs.Places.{IsLog, state_of};
-    ghost use Rattle.flash_board.specs.declared.layout.TheConstants.{PAGES};
 
     ghost Value = { LogState };
 
     ghost view = { λ l. record {
-      flash = state_of PAGES F.SLOTS (F.state l.flash);
-      paced = is_paced F.SLOTS F.SECTORS l.place;
+      flash = state_of F.PAGES F.SLOTS (F.state l.flash);
+      paced = is_paced F.PAGES F.SLOTS F.SECTORS l.place;
       raw = (F.state l.flash).words;
     } };
 
-    ghost invariant = { λ l. IsLog PAGES F.SLOTS F.SECTORS F.sector_start (F.state l.flash).words l.place };
+    ghost invariant = { λ l. IsLog F.Table.entries F.PAGES F.SLOTS F.SECTORS F.sector_start (F.state l.flash).words
+        l.place };
 }
 
 impl<F: Flash> FlashLog<F> {
@@ -59,13 +59,13 @@ impl<F: Flash> FlashLog<F> {
     /// The log of a flash that has one.
     pub fn new(flash: F) -> FlashLog<F>
         requires { IsRing F.SLOTS (F.state flash).words }
-        ensures is { result ≡ new_log PAGES F.SLOTS (F.state flash) }
+        ensures is { result ≡ new_log F.PAGES F.SLOTS (F.state flash) }
     {
         FlashLog {
             flash,
             place: PageMap {
                 ready: false,
-                table: blank_table(),
+                table: F::Table::blank(),
                 turn: 0,
                 next: 0,
                 tried: 0,
@@ -82,7 +82,7 @@ impl<F: Flash> FlashLog<F> {
     /// The flash has no log, power was lost, or the flash failed.
     pub fn open(flash: F) -> Result<FlashLog<F>, (F, FlashFault)>
         requires { (F.state flash).dark ≡ false }
-        ensures log { IfOk result (λ l. l ≡ new_log PAGES F.SLOTS (F.state flash)) }
+        ensures log { IfOk result (λ l. l ≡ new_log F.PAGES F.SLOTS (F.state flash)) }
         ensures has_log { IfOk result (λ _. IsRing F.SLOTS (F.state flash).words) }
         ensures stopped { IfErr result (λ e. OpenStopsBy F.SLOTS e.1 (F.state flash) (F.state e.0)) }
     {
@@ -97,7 +97,7 @@ impl<F: Flash> FlashLog<F> {
 
     /// Gives the flash back, of which a log can be made again.
     pub fn into_flash(self) -> F
-        ensures is { state_of PAGES F.SLOTS (F.state result) ≡ self.flash }
+        ensures is { state_of F.PAGES F.SLOTS (F.state result) ≡ self.flash }
         ensures ring { IsRing F.SLOTS (F.state result).words }
         ensures raw { (F.state result).words ≡ self.raw }
     {
@@ -105,9 +105,10 @@ impl<F: Flash> FlashLog<F> {
         flash
     }
 
-    /// Proves that there are 16 words a page, of 32 bits.
+    /// Proves that the words are those of a board, 16 a page, and have 32 bits.
     pub fn words_fit(&self)
-        ensures size { length self.now.flash.words ≡ 16 * PAGES }
+        ensures size { length self.now.flash.words ≡ 16 * F.PAGES }
+        ensures memory { IsMemory self.now.flash.words }
         ensures fit { AreWords self.now.flash.words }
     {
         let _ = &self.flash;
@@ -116,7 +117,7 @@ impl<F: Flash> FlashLog<F> {
     /// Reads a word.
     pub fn read(&mut self, at: u16) -> Result<u32, DeviceErr>
         requires lit { self.old.flash.dark ≡ false }
-        requires at { at < 16 * PAGES }
+        requires at { at < 16 * F.PAGES }
         ensures word { IfOk result (λ w. w ≡ slice_index self.old.flash.words at) }
         ensures words { self.new.flash.words ≡ self.old.flash.words }
         ensures work { self.new.flash.operations ≡ self.old.flash.operations }
@@ -131,16 +132,17 @@ impl<F: Flash> FlashLog<F> {
     /// Writes a run of a page. At every exit all words of the run are old, or all are new.
     pub fn write(&mut self, page: u16, first: u8, words: &[u32]) -> Result<(), DeviceErr>
         requires lit { self.old.flash.dark ≡ false }
-        requires page { page < PAGES }
+        requires page { page < F.PAGES }
         requires run { first + length words.now ≤ 16 }
         ensures whole { (self.new.flash.words ≡ self.old.flash.words)
             ⊎ (self.new.flash.words ≡ written self.old.flash.words (16 * page + first) words.now) }
         ensures done { OnOk result (self.new.flash.words
             ≡ written self.old.flash.words (16 * page + first) words.now) }
         ensures light { Tries TRIES self.old.flash self.new.flash result }
-        ensures work { Costs (2088 + F.SECTORS) (2090 + F.SECTORS) self.old.flash self.new.flash }
+        ensures work { Costs (2 * F.PAGES + 40 + F.SECTORS) (2 * F.PAGES + 42 + F.SECTORS) self.old.flash
+            self.new.flash }
         // At most one write after each power-on, or after a Fault, takes more than 37 programs and erases.
-        ensures pause { IsRoomy F.SLOTS F.SECTORS → Pauses 37 self.old.flash self.new.flash
+        ensures pause { IsRoomy F.PAGES F.SLOTS F.SECTORS → Pauses 37 self.old.flash self.new.flash
             (self.old.paced ≡ true) (self.new.paced ≡ true) result }
     {
         write_at(&mut self.flash, &mut self.place, page, first, words)
@@ -151,11 +153,11 @@ impl<F: Flash> FlashLog<F> {
     pub fn renew(&mut self) -> Result<(), DeviceErr>
         requires { self.old.flash.dark ≡ false }
         ensures words { self.new.flash.words ≡ self.old.flash.words }
-        ensures only { OnOk result (HoldsOnlyPages PAGES F.SLOTS self.new.raw) }
-        ensures paced { OnOk result (IsRoomy F.SLOTS F.SECTORS
-            → self.new.flash.faults ≤ self.old.flash.faults + lead_of F.SECTORS → self.new.paced ≡ true) }
+        ensures only { OnOk result (HoldsOnlyPages F.PAGES F.SLOTS self.new.raw) }
+        ensures paced { OnOk result (IsRoomy F.PAGES F.SLOTS F.SECTORS
+            → self.new.flash.faults ≤ self.old.flash.faults + lead_of F.PAGES F.SECTORS → self.new.paced ≡ true) }
         ensures light { Tries 1 self.old.flash self.new.flash result }
-        ensures work { Costs (2053 + 2 * F.SECTORS) 2 self.old.flash self.new.flash }
+        ensures work { Costs (2 * F.PAGES + 5 + 2 * F.SECTORS) 2 self.old.flash self.new.flash }
     {
         renew_pages(&mut self.flash, &mut self.place)?;
         Ok(())

@@ -2,34 +2,25 @@
 ghost use Rattle.std.specs.Prelude.{◌≡◌, ◌⊎◌, ◌<◌, ◌≤◌, ◌+◌, ℕ, false, length, slice_index, IfOk};
 ghost use Rattle.flash_board.specs.FlashCalls.{Lights};
 ghost use Rattle.flash_board.specs.FlashLogs.{base_in, find, page_word};
-ghost use Rattle.flash_board.specs.declared.layout.TheConstants.{PAGES};
 
 use crate::flash::Flash;
 use crate::layout::slot_at;
+use crate::page_table::PageTable;
 use crate::record::Record;
 use nvm_board::DeviceErr;
-
-/// Where the pages of a board stand: 0 for a page that was never written, else its slot and 1.
-pub type PageTable = [u16; 1024];
-
-/// Returns the table of a board that was never written.
-pub fn blank_table() -> PageTable
-    ensures { (p : ℕ) → p < PAGES → slice_index result p ≡ 0 }
-{
-    [0; 1024]
-}
 
 /// Returns the word of a page.
 pub fn read_page_word<F: Flash>(
     flash: &mut F,
     area: u8,
-    table: &PageTable,
+    table: &F::Table,
     page: u16,
     place: u16,
 ) -> Result<u32, DeviceErr>
     requires lit { (F.state flash.old).dark ≡ false }
-    requires entry { slice_index table.now page ≡ find (F.state flash.old).words (base_in F.SLOTS area) F.SLOTS page }
-    requires page { page < PAGES }
+    requires entry { slice_index (F.Table.entries table.now) page
+        ≡ find (F.state flash.old).words (base_in F.SLOTS area) F.SLOTS page }
+    requires page { page < F.PAGES }
     requires place { place < 16 }
     ensures word { IfOk result (λ w. w ≡ page_word (F.state flash.old).words
         (base_in F.SLOTS area) F.SLOTS page place) }
@@ -38,7 +29,7 @@ pub fn read_page_word<F: Flash>(
     ensures erases { (F.state flash.new).erases ≡ (F.state flash.old).erases }
     ensures light { Lights (F.state flash.old) (F.state flash.new) result }
 {
-    let found = table[usize::from(page)];
+    let found = table.entry(page);
     if found == 0 {
         return Ok(0);
     }
@@ -50,12 +41,13 @@ pub fn read_page_word<F: Flash>(
 pub fn record_of<F: Flash>(
     flash: &mut F,
     area: u8,
-    table: &PageTable,
+    table: &F::Table,
     page: u16,
 ) -> Result<Record, DeviceErr>
     requires lit { (F.state flash.old).dark ≡ false }
-    requires entry { slice_index table.now page ≡ find (F.state flash.old).words (base_in F.SLOTS area) F.SLOTS page }
-    requires page { page < PAGES }
+    requires entry { slice_index (F.Table.entries table.now) page
+        ≡ find (F.state flash.old).words (base_in F.SLOTS area) F.SLOTS page }
+    requires page { page < F.PAGES }
     ensures each { IfOk result (λ r. (k : ℕ) → k < 16
         → slice_index r k ≡ page_word (F.state flash.old).words (base_in F.SLOTS area) F.SLOTS page k) }
     ensures names { IfOk result (λ r. slice_index r 16 ≡ page) }

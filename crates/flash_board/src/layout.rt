@@ -1,14 +1,11 @@
 //! Where things lie in the flash.
 ghost use Rattle.std.specs.Prelude.{◌≡◌, ◌+◌, ◌<◌, ◌≤◌};
-ghost use Rattle.flash_board.specs.FlashBlocks.{area_size, flash_size};
+ghost use Rattle.flash_board.specs.FlashBlocks.{area_size, flash_size, steps_of};
 ghost use Rattle.flash_board.specs.FlashLogs.{slot_of, base_in, close_of};
 ghost use Rattle.flash_board.specs.ProgrammedRuns.{IsClosePlace, IsSlotPlace};
 ghost use Rattle.flash_board.specs.declared.flash.TheConstants.{BLOCKS};
 
 use crate::flash::Flash;
-
-/// The number of pages of the board.
-pub const PAGES: u16 = 1024;
 
 /// The number of slots of an area that a move may pass over, since they fail.
 pub const SPARES: u16 = 255;
@@ -18,9 +15,6 @@ pub const TRIES: u8 = 8;
 
 /// The number of pages that one step of a move copies.
 pub const STEP_PAGES: u16 = 16;
-
-/// The number of steps that copy all pages.
-pub const COPY_STEPS: u16 = 64;
 
 /// The number of words of a slot: a record, and its mark.
 pub const SLOT_WORDS: u32 = 20;
@@ -39,6 +33,13 @@ pub const FIRST_MARK: u32 = 0x436F_6D6D;
 
 /// The second word of a mark.
 pub const SECOND_MARK: u32 = 0x6974_7321;
+
+/// The number of steps that copy all pages.
+pub fn copy_steps<F: Flash>() -> u16
+    ensures { result ≡ steps_of F.PAGES }
+{
+    F::PAGES / STEP_PAGES
+}
 
 /// The number of words of an area of so many slots, with the mark that closes it.
 pub fn area_words(slots: u16) -> u32

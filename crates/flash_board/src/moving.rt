@@ -6,11 +6,12 @@ ghost use Rattle.flash_board.specs.PageTables.{IsPageTable, AreFree};
 ghost use Rattle.flash_board.specs.Renewals.{HavePages};
 ghost use Rattle.flash_board.specs.FlashLogs.{base_in, find, slot_of};
 ghost use Rattle.flash_board.specs.SlotParts.{IsPut};
-ghost use Rattle.flash_board.specs.declared.layout.TheConstants.{PAGES, SPARES};
+ghost use Rattle.flash_board.specs.declared.layout.TheConstants.{SPARES};
 
 use crate::flash::Flash;
-use crate::image::{PageTable, record_of};
-use crate::layout::{PAGES, SPARES, slot_at};
+use crate::image::record_of;
+use crate::layout::{SPARES, slot_at};
+use crate::page_table::PageTable;
 use crate::record::{Record, program_record};
 use nvm_board::DeviceErr;
 
@@ -57,34 +58,35 @@ fn copy_page<F: Flash>(
     from: u8,
     to: u8,
     next: u16,
-    table: &mut PageTable,
+    table: &mut F::Table,
     page: u16,
 ) -> Result<u16, DeviceErr>
     requires lit { (F.state flash.old).dark ≡ false }
-    requires page { page < PAGES }
+    requires page { page < F.PAGES }
     requires next { next ≤ page + SPARES }
-    requires entry { slice_index table.old page ≡ find (F.state flash.old).words (base_in F.SLOTS from) F.SLOTS page }
+    requires entry { slice_index (F.Table.entries table.old) page
+        ≡ find (F.state flash.old).words (base_in F.SLOTS from) F.SLOTS page }
     requires left { find (F.state flash.old).words (base_in F.SLOTS to) F.SLOTS page ≡ 0 }
     requires free { AreFree (F.state flash.old).words (base_in F.SLOTS to) next F.SLOTS }
     ensures elsewhere { SameElsewhere (F.state flash.old).words (base_in F.SLOTS to) (20 * F.SLOTS)
         (F.state flash.new).words }
-    ensures copies { IfOk result (λ n. CopiesPage F.SLOTS (F.state flash.old).words table.old (base_in F.SLOTS from)
-        (base_in F.SLOTS to) page
-        (F.state flash.new).words table.new n) }
+    ensures copies { IfOk result (λ n. CopiesPage F.SLOTS (F.state flash.old).words (F.Table.entries table.old)
+        (base_in F.SLOTS from) (base_in F.SLOTS to) page
+        (F.state flash.new).words (F.Table.entries table.new) n) }
     ensures more { IfOk result (λ n. n ≤ page + 1 + SPARES) }
     ensures passes { IfOk result (λ n. n + (F.state flash.old).faults ≤ next + 1 + (F.state flash.new).faults) }
     ensures have { IfOk result (λ n. (F.state flash.new).faults ≡ (F.state flash.old).faults
-        → HavePages PAGES F.SLOTS (F.state flash.old).words (base_in F.SLOTS to) next
-        → HavePages PAGES F.SLOTS (F.state flash.new).words (base_in F.SLOTS to) n) }
+        → HavePages F.PAGES F.SLOTS (F.state flash.old).words (base_in F.SLOTS to) next
+        → HavePages F.PAGES F.SLOTS (F.state flash.new).words (base_in F.SLOTS to) n) }
     ensures light { Tries 1 (F.state flash.old) (F.state flash.new) result }
     ensures work { Costs 2 2 (F.state flash.old) (F.state flash.new) }
 {
-    if table[usize::from(page)] == 0 {
+    if table.entry(page) == 0 {
         return Ok(next);
     }
     let found = record_of(flash, from, table, page)?;
     let slot = put_in_spare(flash, to, next, page + 1 + SPARES, &found)?;
-    table[usize::from(page)] = slot + 1;
+    table.set_entry(page, slot + 1);
     Ok(slot + 1)
 }
 
@@ -93,25 +95,26 @@ pub fn copy_pages<F: Flash>(
     flash: &mut F,
     from: u8,
     to: u8,
-    table: &mut PageTable,
+    table: &mut F::Table,
 ) -> Result<u16, DeviceErr>
     requires lit { (F.state flash.old).dark ≡ false }
     requires areas { from + to ≡ 1 }
-    requires index { IsPageTable PAGES (F.state flash.old).words (base_in F.SLOTS from) F.SLOTS table.old }
+    requires index { IsPageTable F.PAGES (F.state flash.old).words (base_in F.SLOTS from) F.SLOTS
+        (F.Table.entries table.old) }
     requires free { AreFree (F.state flash.old).words (base_in F.SLOTS to) 0 F.SLOTS }
     ensures elsewhere { SameElsewhere (F.state flash.old).words (base_in F.SLOTS to) (20 * F.SLOTS)
         (F.state flash.new).words }
-    ensures copied { IfOk result (λ n. HasCopied F.SLOTS (F.state flash.old).words table.old (base_in F.SLOTS from)
-        (base_in F.SLOTS to) PAGES
-        (F.state flash.new).words table.new n) }
-    ensures passes { IfOk result (λ n. n + (F.state flash.old).faults ≤ PAGES + (F.state flash.new).faults) }
+    ensures copied { IfOk result (λ n. HasCopied F.SLOTS (F.state flash.old).words (F.Table.entries table.old)
+        (base_in F.SLOTS from) (base_in F.SLOTS to) F.PAGES
+        (F.state flash.new).words (F.Table.entries table.new) n) }
+    ensures passes { IfOk result (λ n. n + (F.state flash.old).faults ≤ F.PAGES + (F.state flash.new).faults) }
     ensures have { IfOk result (λ n. (F.state flash.new).faults ≡ (F.state flash.old).faults
-        → HavePages PAGES F.SLOTS (F.state flash.new).words (base_in F.SLOTS to) n) }
+        → HavePages F.PAGES F.SLOTS (F.state flash.new).words (base_in F.SLOTS to) n) }
     ensures light { Tries 1 (F.state flash.old) (F.state flash.new) result }
-    ensures work { Costs 2048 2 (F.state flash.old) (F.state flash.new) }
+    ensures work { Costs (2 * F.PAGES) 2 (F.state flash.old) (F.state flash.new) }
 {
     let mut next = 0;
-    for page in 0..PAGES {
+    for page in 0..F::PAGES {
         next = copy_page(flash, from, to, next, table, page)?;
     }
     Ok(next)

@@ -9,13 +9,12 @@ ghost use Rattle.flash_board.specs.Places.{IsLog};
 ghost use Rattle.flash_board.specs.Renewals.{AreClean, HasLastMark, HavePages, HoldsOnlyPages, HoldsPage, IsCleanSlot};
 ghost use Rattle.flash_board.specs.Spares.{spare_in};
 ghost use Rattle.flash_board.specs.declared.flash.TheConstants.{BLANK};
-ghost use Rattle.flash_board.specs.declared.layout.TheConstants.{PAGES};
 
 use crate::ahead::pass_on;
 use crate::erasing::erase_area;
 use crate::flash::Flash;
-use crate::image::PageTable;
-use crate::layout::{NUMBER_PLACE, PAGES, UNUSED_PLACE, slot_at};
+use crate::layout::{NUMBER_PLACE, UNUSED_PLACE, slot_at};
+use crate::page_table::PageTable;
 use crate::place::PageMap;
 use crate::record::is_blank;
 use crate::steps::{find_pages, make_room};
@@ -23,19 +22,19 @@ use crate::turns::{home, spare};
 use nvm_board::DeviceErr;
 
 /// Passes the turn on from 1, where the other area has the mark that shows the turn.
-fn leave_turn_1<F: Flash>(flash: &mut F, place: &mut PageMap) -> Result<(), DeviceErr>
+fn leave_turn_1<F: Flash>(flash: &mut F, place: &mut PageMap<F::Table>) -> Result<(), DeviceErr>
     requires lit { (F.state flash.old).dark ≡ false }
-    requires log { IsLog PAGES F.SLOTS F.SECTORS F.sector_start (F.state flash.old).words place.old }
+    requires log { IsLog F.Table.entries F.PAGES F.SLOTS F.SECTORS F.sector_start (F.state flash.old).words place.old }
     requires ready { place.old.ready ≡ true }
-    ensures words { words_of PAGES F.SLOTS (F.state flash.new).words
-        ≡ words_of PAGES F.SLOTS (F.state flash.old).words }
-    ensures log { IsLog PAGES F.SLOTS F.SECTORS F.sector_start (F.state flash.new).words place.new }
+    ensures words { words_of F.PAGES F.SLOTS (F.state flash.new).words
+        ≡ words_of F.PAGES F.SLOTS (F.state flash.old).words }
+    ensures log { IsLog F.Table.entries F.PAGES F.SLOTS F.SECTORS F.sector_start (F.state flash.new).words place.new }
     ensures ready { OnOk result (place.new.ready ≡ true) }
     ensures turn { OnOk result (place.new.turn ≢ 1) }
     ensures next { OnOk result (place.new.next ≡ place.old.next) }
-    ensures have { OnOk result (HavePages PAGES F.SLOTS (F.state flash.old).words
+    ensures have { OnOk result (HavePages F.PAGES F.SLOTS (F.state flash.old).words
         (base_in F.SLOTS place.old.turn) place.old.next
-        → HavePages PAGES F.SLOTS (F.state flash.new).words (base_in F.SLOTS place.new.turn) place.new.next) }
+        → HavePages F.PAGES F.SLOTS (F.state flash.new).words (base_in F.SLOTS place.new.turn) place.new.next) }
     ensures last { OnOk result (HasLastMark F.SLOTS (F.state flash.old).words place.old.turn
         → HasLastMark F.SLOTS (F.state flash.new).words place.new.turn) }
     ensures light { Tries 1 (F.state flash.old) (F.state flash.new) result }
@@ -49,19 +48,19 @@ fn leave_turn_1<F: Flash>(flash: &mut F, place: &mut PageMap) -> Result<(), Devi
 }
 
 /// Moves all pages to the other area, each into one slot, and passes the turn to 0 or 2.
-fn move_pages<F: Flash>(flash: &mut F, place: &mut PageMap) -> Result<(), DeviceErr>
+fn move_pages<F: Flash>(flash: &mut F, place: &mut PageMap<F::Table>) -> Result<(), DeviceErr>
     requires lit { (F.state flash.old).dark ≡ false }
-    requires log { IsLog PAGES F.SLOTS F.SECTORS F.sector_start (F.state flash.old).words place.old }
-    ensures words { words_of PAGES F.SLOTS (F.state flash.new).words
-        ≡ words_of PAGES F.SLOTS (F.state flash.old).words }
-    ensures log { IsLog PAGES F.SLOTS F.SECTORS F.sector_start (F.state flash.new).words place.new }
+    requires log { IsLog F.Table.entries F.PAGES F.SLOTS F.SECTORS F.sector_start (F.state flash.old).words place.old }
+    ensures words { words_of F.PAGES F.SLOTS (F.state flash.new).words
+        ≡ words_of F.PAGES F.SLOTS (F.state flash.old).words }
+    ensures log { IsLog F.Table.entries F.PAGES F.SLOTS F.SECTORS F.sector_start (F.state flash.new).words place.new }
     ensures ready { OnOk result ((place.new.ready ≡ true) × (place.new.turn ≢ 1)) }
     ensures have { OnOk result ((F.state flash.new).faults ≡ (F.state flash.old).faults
-        → HavePages PAGES F.SLOTS (F.state flash.new).words (base_in F.SLOTS place.new.turn) place.new.next) }
+        → HavePages F.PAGES F.SLOTS (F.state flash.new).words (base_in F.SLOTS place.new.turn) place.new.next) }
     ensures last { OnOk result (HasLastMark F.SLOTS (F.state flash.new).words place.new.turn) }
-    ensures passes { OnOk result (place.new.next + (F.state flash.old).faults ≤ PAGES + (F.state flash.new).faults) }
+    ensures passes { OnOk result (place.new.next + (F.state flash.old).faults ≤ F.PAGES + (F.state flash.new).faults) }
     ensures light { Tries 1 (F.state flash.old) (F.state flash.new) result }
-    ensures work { Costs (2053 + F.SECTORS) 2 (F.state flash.old) (F.state flash.new) }
+    ensures work { Costs (2 * F.PAGES + 5 + F.SECTORS) 2 (F.state flash.old) (F.state flash.new) }
 {
     find_pages(flash, place)?;
     // To `make_room`, the area in use is full.
@@ -72,13 +71,13 @@ fn move_pages<F: Flash>(flash: &mut F, place: &mut PageMap) -> Result<(), Device
 }
 
 /// Erases the other area. Its old records go, and the move has no sector left to erase.
-fn erase_spare<F: Flash>(flash: &mut F, place: &mut PageMap) -> Result<(), DeviceErr>
+fn erase_spare<F: Flash>(flash: &mut F, place: &mut PageMap<F::Table>) -> Result<(), DeviceErr>
     requires lit { (F.state flash.old).dark ≡ false }
-    requires log { IsLog PAGES F.SLOTS F.SECTORS F.sector_start (F.state flash.old).words place.old }
+    requires log { IsLog F.Table.entries F.PAGES F.SLOTS F.SECTORS F.sector_start (F.state flash.old).words place.old }
     requires ready { (place.old.ready ≡ true) × (place.old.turn ≢ 1) }
-    ensures words { words_of PAGES F.SLOTS (F.state flash.new).words
-        ≡ words_of PAGES F.SLOTS (F.state flash.old).words }
-    ensures log { IsLog PAGES F.SLOTS F.SECTORS F.sector_start (F.state flash.new).words place.new }
+    ensures words { words_of F.PAGES F.SLOTS (F.state flash.new).words
+        ≡ words_of F.PAGES F.SLOTS (F.state flash.old).words }
+    ensures log { IsLog F.Table.entries F.PAGES F.SLOTS F.SECTORS F.sector_start (F.state flash.new).words place.new }
     ensures step { OnOk result (place.new
         ≡ record place.old { ready = true; erased = F.SECTORS; copied = 0; behind = 0 }) }
     ensures blank { OnOk result (AreFilled (F.state flash.new).words (spare_in F.SLOTS place.old.turn)
@@ -101,16 +100,17 @@ fn erase_spare<F: Flash>(flash: &mut F, place: &mut PageMap) -> Result<(), Devic
 fn is_clean<F: Flash>(
     flash: &mut F,
     area: u8,
-    table: &PageTable,
+    table: &F::Table,
     slot: u16,
 ) -> Result<bool, DeviceErr>
     requires lit { (F.state flash.old).dark ≡ false }
     requires below { slot < F.SLOTS }
-    requires index { IsPageTable PAGES (F.state flash.old).words (base_in F.SLOTS area) F.SLOTS table.now }
+    requires index { IsPageTable F.PAGES (F.state flash.old).words (base_in F.SLOTS area) F.SLOTS
+        (F.Table.entries table.now) }
     ensures clean { IfOk result (λ b. b ≡ true
-        → IsCleanSlot PAGES F.SLOTS (F.state flash.old).words (base_in F.SLOTS area) slot) }
+        → IsCleanSlot F.PAGES F.SLOTS (F.state flash.old).words (base_in F.SLOTS area) slot) }
     ensures unclean { IfOk result (λ b. b ≡ false
-        → ¬ HoldsPage PAGES F.SLOTS (F.state flash.old).words (base_in F.SLOTS area) slot) }
+        → ¬ HoldsPage F.PAGES F.SLOTS (F.state flash.old).words (base_in F.SLOTS area) slot) }
     ensures words { (F.state flash.new).words ≡ (F.state flash.old).words }
     ensures work { (F.state flash.new).operations ≡ (F.state flash.old).operations }
     ensures light { Lights (F.state flash.old) (F.state flash.new) result }
@@ -121,26 +121,27 @@ fn is_clean<F: Flash>(
     }
     let number = flash.read(at + NUMBER_PLACE)?;
     let unused = flash.read(at + UNUSED_PLACE)?;
-    if number >= u32::from(PAGES) || unused != 0 {
+    if number >= u32::from(F::PAGES) || unused != 0 {
         return Ok(false);
     }
-    Ok(table[number as usize] == slot + 1)
+    Ok(table.entry(number as u16) == slot + 1)
 }
 
 /// Returns true if the slots below one are blank, or hold pages as they are.
 fn are_clean<F: Flash>(
     flash: &mut F,
     area: u8,
-    table: &PageTable,
+    table: &F::Table,
     next: u16,
 ) -> Result<bool, DeviceErr>
     requires lit { (F.state flash.old).dark ≡ false }
     requires below { next ≤ F.SLOTS }
-    requires index { IsPageTable PAGES (F.state flash.old).words (base_in F.SLOTS area) F.SLOTS table.now }
+    requires index { IsPageTable F.PAGES (F.state flash.old).words (base_in F.SLOTS area) F.SLOTS
+        (F.Table.entries table.now) }
     ensures clean { IfOk result (λ b. b ≡ true
-        → AreClean PAGES F.SLOTS (F.state flash.old).words (base_in F.SLOTS area) next) }
+        → AreClean F.PAGES F.SLOTS (F.state flash.old).words (base_in F.SLOTS area) next) }
     ensures unclean { IfOk result (λ b. b ≡ false
-        → ¬ HavePages PAGES F.SLOTS (F.state flash.old).words (base_in F.SLOTS area) next) }
+        → ¬ HavePages F.PAGES F.SLOTS (F.state flash.old).words (base_in F.SLOTS area) next) }
     ensures words { (F.state flash.new).words ≡ (F.state flash.old).words }
     ensures work { (F.state flash.new).operations ≡ (F.state flash.old).operations }
     ensures light { Lights (F.state flash.old) (F.state flash.new) result }
@@ -155,18 +156,18 @@ fn are_clean<F: Flash>(
 
 /// Leaves nothing in the flash but the pages as they are. At every exit they are the same. A slot in which the flash
 /// failed may hold a part of a page: then it's a Fault.
-pub fn renew_pages<F: Flash>(flash: &mut F, place: &mut PageMap) -> Result<(), DeviceErr>
+pub fn renew_pages<F: Flash>(flash: &mut F, place: &mut PageMap<F::Table>) -> Result<(), DeviceErr>
     requires lit { (F.state flash.old).dark ≡ false }
-    requires log { IsLog PAGES F.SLOTS F.SECTORS F.sector_start (F.state flash.old).words place.old }
-    ensures words { words_of PAGES F.SLOTS (F.state flash.new).words
-        ≡ words_of PAGES F.SLOTS (F.state flash.old).words }
-    ensures log { IsLog PAGES F.SLOTS F.SECTORS F.sector_start (F.state flash.new).words place.new }
-    ensures only { OnOk result (HoldsOnlyPages PAGES F.SLOTS (F.state flash.new).words) }
-    ensures pace { OnOk result (IsRoomy F.SLOTS F.SECTORS
-        → (F.state flash.new).faults ≤ (F.state flash.old).faults + lead_of F.SECTORS
-        → KeepsPace F.SLOTS F.SECTORS place.new) }
+    requires log { IsLog F.Table.entries F.PAGES F.SLOTS F.SECTORS F.sector_start (F.state flash.old).words place.old }
+    ensures words { words_of F.PAGES F.SLOTS (F.state flash.new).words
+        ≡ words_of F.PAGES F.SLOTS (F.state flash.old).words }
+    ensures log { IsLog F.Table.entries F.PAGES F.SLOTS F.SECTORS F.sector_start (F.state flash.new).words place.new }
+    ensures only { OnOk result (HoldsOnlyPages F.PAGES F.SLOTS (F.state flash.new).words) }
+    ensures pace { OnOk result (IsRoomy F.PAGES F.SLOTS F.SECTORS
+        → (F.state flash.new).faults ≤ (F.state flash.old).faults + lead_of F.PAGES F.SECTORS
+        → KeepsPace F.PAGES F.SLOTS F.SECTORS place.new) }
     ensures light { Tries 1 (F.state flash.old) (F.state flash.new) result }
-    ensures work { Costs (2053 + 2 * F.SECTORS) 2 (F.state flash.old) (F.state flash.new) }
+    ensures work { Costs (2 * F.PAGES + 5 + 2 * F.SECTORS) 2 (F.state flash.old) (F.state flash.new) }
 {
     move_pages(flash, place)?;
     erase_spare(flash, place)?;

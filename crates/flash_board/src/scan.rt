@@ -3,11 +3,10 @@ ghost use Rattle.std.specs.Prelude.{◌≡◌, ◌≤◌, ◌<◌, ◌+◌, fals
 ghost use Rattle.flash_board.specs.FlashCalls.{Lights};
 ghost use Rattle.flash_board.specs.PageTables.{IsPageTable, AreFree};
 ghost use Rattle.flash_board.specs.FlashLogs.{base_in};
-ghost use Rattle.flash_board.specs.declared.layout.TheConstants.{PAGES};
 
 use crate::flash::Flash;
-use crate::image::{PageTable, blank_table};
-use crate::layout::{NUMBER_PLACE, PAGES, RECORD_WORDS, slot_at};
+use crate::layout::{NUMBER_PLACE, RECORD_WORDS, slot_at};
+use crate::page_table::PageTable;
 use crate::record::{is_blank, is_marked};
 use nvm_board::DeviceErr;
 
@@ -17,14 +16,15 @@ fn scan_slot<F: Flash>(
     area: u8,
     slot: u16,
     next: u16,
-    table: &mut PageTable,
+    table: &mut F::Table,
 ) -> Result<u16, DeviceErr>
     requires lit { (F.state flash.old).dark ≡ false }
     requires below { slot < F.SLOTS }
-    requires index { IsPageTable PAGES (F.state flash.old).words (base_in F.SLOTS area) slot table.old }
+    requires index { IsPageTable F.PAGES (F.state flash.old).words (base_in F.SLOTS area) slot
+        (F.Table.entries table.old) }
     requires free { AreFree (F.state flash.old).words (base_in F.SLOTS area) next slot }
-    ensures index { IfOk result (λ _. IsPageTable PAGES (F.state flash.old).words (base_in F.SLOTS area)
-        (slot + 1) table.new) }
+    ensures index { IfOk result (λ _. IsPageTable F.PAGES (F.state flash.old).words (base_in F.SLOTS area)
+        (slot + 1) (F.Table.entries table.new)) }
     ensures free { IfOk result (λ n. AreFree (F.state flash.old).words (base_in F.SLOTS area) n (slot + 1)) }
     ensures words { (F.state flash.new).words ≡ (F.state flash.old).words }
     ensures work { (F.state flash.new).operations ≡ (F.state flash.old).operations }
@@ -34,8 +34,8 @@ fn scan_slot<F: Flash>(
     let at = slot_at::<F>(area, slot);
     if is_marked(flash, at + RECORD_WORDS)? {
         let number = flash.read(at + NUMBER_PLACE)?;
-        if number < u32::from(PAGES) {
-            table[number as usize] = slot + 1;
+        if number < u32::from(F::PAGES) {
+            table.set_entry(number as u16, slot + 1);
         }
         return Ok(slot + 1);
     }
@@ -46,17 +46,17 @@ fn scan_slot<F: Flash>(
 }
 
 /// Finds the slot of each page, and returns the first slot that is free, with all that follow it.
-pub fn scan<F: Flash>(flash: &mut F, area: u8, table: &mut PageTable) -> Result<u16, DeviceErr>
+pub fn scan<F: Flash>(flash: &mut F, area: u8, table: &mut F::Table) -> Result<u16, DeviceErr>
     requires lit { (F.state flash.old).dark ≡ false }
-    ensures index { IfOk result (λ _. IsPageTable PAGES (F.state flash.old).words
-        (base_in F.SLOTS area) F.SLOTS table.new) }
+    ensures index { IfOk result (λ _. IsPageTable F.PAGES (F.state flash.old).words
+        (base_in F.SLOTS area) F.SLOTS (F.Table.entries table.new)) }
     ensures free { IfOk result (λ n. AreFree (F.state flash.old).words (base_in F.SLOTS area) n F.SLOTS) }
     ensures words { (F.state flash.new).words ≡ (F.state flash.old).words }
     ensures work { (F.state flash.new).operations ≡ (F.state flash.old).operations }
     ensures erases { (F.state flash.new).erases ≡ (F.state flash.old).erases }
     ensures light { Lights (F.state flash.old) (F.state flash.new) result }
 {
-    *table = blank_table();
+    *table = F::Table::blank();
     let mut next = 0;
     for slot in 0..F::SLOTS {
         next = scan_slot(flash, area, slot, next, table)?;

@@ -6,7 +6,7 @@ ghost use Rattle.flash_board.specs.FlashLogs.{base_in, words_of};
 ghost use Rattle.flash_board.specs.Paces.{HasStepped, HasMoved, IsRoomy, KeepsPace, Pauses};
 ghost use Rattle.flash_board.specs.Places.{IsLog, IsPlaceOf};
 ghost use Rattle.flash_board.specs.Renewals.{HasLastMark, HavePages};
-ghost use Rattle.flash_board.specs.declared.layout.TheConstants.{PAGES, TRIES};
+ghost use Rattle.flash_board.specs.declared.layout.TheConstants.{TRIES};
 
 use crate::ahead::take_step;
 use crate::flash::Flash;
@@ -32,13 +32,13 @@ fn later<F: Flash>(next: u16, tried: u16) -> u16
 }
 
 /// Finds the pages, if they are not known.
-pub fn find_pages<F: Flash>(flash: &mut F, place: &mut PageMap) -> Result<(), DeviceErr>
+pub fn find_pages<F: Flash>(flash: &mut F, place: &mut PageMap<F::Table>) -> Result<(), DeviceErr>
     requires lit { (F.state flash.old).dark ≡ false }
-    requires log { IsLog PAGES F.SLOTS F.SECTORS F.sector_start (F.state flash.old).words place.old }
+    requires log { IsLog F.Table.entries F.PAGES F.SLOTS F.SECTORS F.sector_start (F.state flash.old).words place.old }
     ensures words { (F.state flash.new).words ≡ (F.state flash.old).words }
     ensures work { (F.state flash.new).operations ≡ (F.state flash.old).operations }
     ensures erases { (F.state flash.new).erases ≡ (F.state flash.old).erases }
-    ensures log { IsLog PAGES F.SLOTS F.SECTORS F.sector_start (F.state flash.new).words place.new }
+    ensures log { IsLog F.Table.entries F.PAGES F.SLOTS F.SECTORS F.sector_start (F.state flash.new).words place.new }
     ensures ready { OnOk result (place.new.ready ≡ true) }
     ensures known { place.old.ready ≡ true → place.new ≡ place.old }
     ensures light { Lights (F.state flash.old) (F.state flash.new) result }
@@ -58,27 +58,27 @@ pub fn find_pages<F: Flash>(flash: &mut F, place: &mut PageMap) -> Result<(), De
 }
 
 /// Makes room for a record.
-pub fn make_room<F: Flash>(flash: &mut F, place: &mut PageMap) -> Result<(), DeviceErr>
+pub fn make_room<F: Flash>(flash: &mut F, place: &mut PageMap<F::Table>) -> Result<(), DeviceErr>
     requires lit { (F.state flash.old).dark ≡ false }
-    requires log { IsLog PAGES F.SLOTS F.SECTORS F.sector_start (F.state flash.old).words place.old }
+    requires log { IsLog F.Table.entries F.PAGES F.SLOTS F.SECTORS F.sector_start (F.state flash.old).words place.old }
     requires ready { place.old.ready ≡ true }
-    ensures words { words_of PAGES F.SLOTS (F.state flash.new).words
-        ≡ words_of PAGES F.SLOTS (F.state flash.old).words }
-    ensures log { IsLog PAGES F.SLOTS F.SECTORS F.sector_start (F.state flash.new).words place.new }
+    ensures words { words_of F.PAGES F.SLOTS (F.state flash.new).words
+        ≡ words_of F.PAGES F.SLOTS (F.state flash.old).words }
+    ensures log { IsLog F.Table.entries F.PAGES F.SLOTS F.SECTORS F.sector_start (F.state flash.new).words place.new }
     ensures ready { OnOk result (place.new.ready ≡ true) }
     ensures room { OnOk result (place.new.next < F.SLOTS) }
     ensures same { place.old.next < F.SLOTS → (place.new ≡ place.old) × (F.state flash.new ≡ F.state flash.old) }
     ensures fresh { OnOk result (F.SLOTS ≤ place.old.next
         → (F.state flash.new).faults ≡ (F.state flash.old).faults
-        → HasMoved place.new place.new.next × (place.new.next ≤ PAGES)) }
+        → HasMoved place.new place.new.next × (place.new.next ≤ F.PAGES)) }
     ensures passes { OnOk result (F.SLOTS ≤ place.old.next
-        → place.new.next + (F.state flash.old).faults ≤ PAGES + (F.state flash.new).faults) }
+        → place.new.next + (F.state flash.old).faults ≤ F.PAGES + (F.state flash.new).faults) }
     ensures have { OnOk result (F.SLOTS ≤ place.old.next → (F.state flash.new).faults ≡ (F.state flash.old).faults
-        → HavePages PAGES F.SLOTS (F.state flash.new).words (base_in F.SLOTS place.new.turn) place.new.next) }
+        → HavePages F.PAGES F.SLOTS (F.state flash.new).words (base_in F.SLOTS place.new.turn) place.new.next) }
     ensures last { OnOk result (F.SLOTS ≤ place.old.next
         → HasLastMark F.SLOTS (F.state flash.new).words place.new.turn) }
     ensures light { Tries 1 (F.state flash.old) (F.state flash.new) result }
-    ensures work { Costs (2051 + F.SECTORS) 2 (F.state flash.old) (F.state flash.new) }
+    ensures work { Costs (2 * F.PAGES + 3 + F.SECTORS) 2 (F.state flash.old) (F.state flash.new) }
 {
     if place.next < F::SLOTS {
         return Ok(());
@@ -106,18 +106,18 @@ pub fn make_room<F: Flash>(flash: &mut F, place: &mut PageMap) -> Result<(), Dev
 }
 
 /// Makes ready for a write: finds the pages, takes a step of the move, and makes room.
-fn prepare<F: Flash>(flash: &mut F, place: &mut PageMap) -> Result<(), DeviceErr>
+fn prepare<F: Flash>(flash: &mut F, place: &mut PageMap<F::Table>) -> Result<(), DeviceErr>
     requires lit { (F.state flash.old).dark ≡ false }
-    requires log { IsLog PAGES F.SLOTS F.SECTORS F.sector_start (F.state flash.old).words place.old }
-    ensures words { words_of PAGES F.SLOTS (F.state flash.new).words
-        ≡ words_of PAGES F.SLOTS (F.state flash.old).words }
-    ensures log { IsLog PAGES F.SLOTS F.SECTORS F.sector_start (F.state flash.new).words place.new }
+    requires log { IsLog F.Table.entries F.PAGES F.SLOTS F.SECTORS F.sector_start (F.state flash.old).words place.old }
+    ensures words { words_of F.PAGES F.SLOTS (F.state flash.new).words
+        ≡ words_of F.PAGES F.SLOTS (F.state flash.old).words }
+    ensures log { IsLog F.Table.entries F.PAGES F.SLOTS F.SECTORS F.sector_start (F.state flash.new).words place.new }
     ensures ready { OnOk result (place.new.ready ≡ true) }
     ensures room { OnOk result ((place.new.next < F.SLOTS) × (place.new.behind < F.SLOTS)) }
     ensures light { Tries 1 (F.state flash.old) (F.state flash.new) result }
-    ensures work { Costs (2084 + F.SECTORS) 2 (F.state flash.old) (F.state flash.new) }
-    ensures pause { IsRoomy F.SLOTS F.SECTORS → Pauses 33 (F.state flash.old) (F.state flash.new)
-        (KeepsPace F.SLOTS F.SECTORS place.old) (HasStepped F.SLOTS F.SECTORS place.new) result }
+    ensures work { Costs (2 * F.PAGES + 36 + F.SECTORS) 2 (F.state flash.old) (F.state flash.new) }
+    ensures pause { IsRoomy F.PAGES F.SLOTS F.SECTORS → Pauses 33 (F.state flash.old) (F.state flash.new)
+        (KeepsPace F.PAGES F.SLOTS F.SECTORS place.old) (HasStepped F.PAGES F.SLOTS F.SECTORS place.new) result }
 {
     find_pages(flash, place)?;
     take_step(flash, place)?;
@@ -132,15 +132,19 @@ fn prepare<F: Flash>(flash: &mut F, place: &mut PageMap) -> Result<(), DeviceErr
 }
 
 /// Reads a word of the board.
-pub fn read_at<F: Flash>(flash: &mut F, place: &mut PageMap, at: u16) -> Result<u32, DeviceErr>
+pub fn read_at<F: Flash>(
+    flash: &mut F,
+    place: &mut PageMap<F::Table>,
+    at: u16,
+) -> Result<u32, DeviceErr>
     requires lit { (F.state flash.old).dark ≡ false }
-    requires log { IsLog PAGES F.SLOTS F.SECTORS F.sector_start (F.state flash.old).words place.old }
-    requires at { at < 16 * PAGES }
-    ensures word { IfOk result (λ w. w ≡ slice_index (words_of PAGES F.SLOTS (F.state flash.old).words) at) }
+    requires log { IsLog F.Table.entries F.PAGES F.SLOTS F.SECTORS F.sector_start (F.state flash.old).words place.old }
+    requires at { at < 16 * F.PAGES }
+    ensures word { IfOk result (λ w. w ≡ slice_index (words_of F.PAGES F.SLOTS (F.state flash.old).words) at) }
     ensures words { (F.state flash.new).words ≡ (F.state flash.old).words }
     ensures work { (F.state flash.new).operations ≡ (F.state flash.old).operations }
     ensures erases { (F.state flash.new).erases ≡ (F.state flash.old).erases }
-    ensures log { IsLog PAGES F.SLOTS F.SECTORS F.sector_start (F.state flash.new).words place.new }
+    ensures log { IsLog F.Table.entries F.PAGES F.SLOTS F.SECTORS F.sector_start (F.state flash.new).words place.new }
     ensures known { place.old.ready ≡ true → place.new ≡ place.old }
     ensures light { Lights (F.state flash.old) (F.state flash.new) result }
 {
@@ -152,26 +156,26 @@ pub fn read_at<F: Flash>(flash: &mut F, place: &mut PageMap, at: u16) -> Result<
 /// Writes a run of a page, or fails once. At every exit all words of the run are old, or all are new.
 fn write_once<F: Flash>(
     flash: &mut F,
-    place: &mut PageMap,
+    place: &mut PageMap<F::Table>,
     page: u16,
     first: u8,
     words: &[u32],
 ) -> Result<(), DeviceErr>
     requires lit { (F.state flash.old).dark ≡ false }
-    requires log { IsLog PAGES F.SLOTS F.SECTORS F.sector_start (F.state flash.old).words place.old }
-    requires page { page < PAGES }
+    requires log { IsLog F.Table.entries F.PAGES F.SLOTS F.SECTORS F.sector_start (F.state flash.old).words place.old }
+    requires page { page < F.PAGES }
     requires run { first + length words.now ≤ 16 }
-    ensures whole { (words_of PAGES F.SLOTS (F.state flash.new).words
-        ≡ words_of PAGES F.SLOTS (F.state flash.old).words)
-        ⊎ (words_of PAGES F.SLOTS (F.state flash.new).words
-        ≡ written (words_of PAGES F.SLOTS (F.state flash.old).words) (16 * page + first) words.now) }
-    ensures done { OnOk result (words_of PAGES F.SLOTS (F.state flash.new).words
-        ≡ written (words_of PAGES F.SLOTS (F.state flash.old).words) (16 * page + first) words.now) }
-    ensures log { IsLog PAGES F.SLOTS F.SECTORS F.sector_start (F.state flash.new).words place.new }
+    ensures whole { (words_of F.PAGES F.SLOTS (F.state flash.new).words
+        ≡ words_of F.PAGES F.SLOTS (F.state flash.old).words)
+        ⊎ (words_of F.PAGES F.SLOTS (F.state flash.new).words
+        ≡ written (words_of F.PAGES F.SLOTS (F.state flash.old).words) (16 * page + first) words.now) }
+    ensures done { OnOk result (words_of F.PAGES F.SLOTS (F.state flash.new).words
+        ≡ written (words_of F.PAGES F.SLOTS (F.state flash.old).words) (16 * page + first) words.now) }
+    ensures log { IsLog F.Table.entries F.PAGES F.SLOTS F.SECTORS F.sector_start (F.state flash.new).words place.new }
     ensures light { Tries 1 (F.state flash.old) (F.state flash.new) result }
-    ensures work { Costs (2088 + F.SECTORS) 2 (F.state flash.old) (F.state flash.new) }
-    ensures pause { IsRoomy F.SLOTS F.SECTORS → Pauses 37 (F.state flash.old) (F.state flash.new)
-        (KeepsPace F.SLOTS F.SECTORS place.old) (KeepsPace F.SLOTS F.SECTORS place.new) result }
+    ensures work { Costs (2 * F.PAGES + 40 + F.SECTORS) 2 (F.state flash.old) (F.state flash.new) }
+    ensures pause { IsRoomy F.PAGES F.SLOTS F.SECTORS → Pauses 37 (F.state flash.old) (F.state flash.new)
+        (KeepsPace F.PAGES F.SLOTS F.SECTORS place.old) (KeepsPace F.PAGES F.SLOTS F.SECTORS place.new) result }
 {
     prepare(flash, place)?;
     place.ready = false;
@@ -196,26 +200,27 @@ fn write_once<F: Flash>(
 /// the flash is returned only if as many tries failed, each in a slot that the others didn't use.
 pub fn write_at<F: Flash>(
     flash: &mut F,
-    place: &mut PageMap,
+    place: &mut PageMap<F::Table>,
     page: u16,
     first: u8,
     words: &[u32],
 ) -> Result<(), DeviceErr>
     requires lit { (F.state flash.old).dark ≡ false }
-    requires log { IsLog PAGES F.SLOTS F.SECTORS F.sector_start (F.state flash.old).words place.old }
-    requires page { page < PAGES }
+    requires log { IsLog F.Table.entries F.PAGES F.SLOTS F.SECTORS F.sector_start (F.state flash.old).words place.old }
+    requires page { page < F.PAGES }
     requires run { first + length words.now ≤ 16 }
-    ensures whole { (words_of PAGES F.SLOTS (F.state flash.new).words
-        ≡ words_of PAGES F.SLOTS (F.state flash.old).words)
-        ⊎ (words_of PAGES F.SLOTS (F.state flash.new).words
-        ≡ written (words_of PAGES F.SLOTS (F.state flash.old).words) (16 * page + first) words.now) }
-    ensures done { OnOk result (words_of PAGES F.SLOTS (F.state flash.new).words
-        ≡ written (words_of PAGES F.SLOTS (F.state flash.old).words) (16 * page + first) words.now) }
-    ensures log { IsLog PAGES F.SLOTS F.SECTORS F.sector_start (F.state flash.new).words place.new }
+    ensures whole { (words_of F.PAGES F.SLOTS (F.state flash.new).words
+        ≡ words_of F.PAGES F.SLOTS (F.state flash.old).words)
+        ⊎ (words_of F.PAGES F.SLOTS (F.state flash.new).words
+        ≡ written (words_of F.PAGES F.SLOTS (F.state flash.old).words) (16 * page + first) words.now) }
+    ensures done { OnOk result (words_of F.PAGES F.SLOTS (F.state flash.new).words
+        ≡ written (words_of F.PAGES F.SLOTS (F.state flash.old).words) (16 * page + first) words.now) }
+    ensures log { IsLog F.Table.entries F.PAGES F.SLOTS F.SECTORS F.sector_start (F.state flash.new).words place.new }
     ensures light { Tries TRIES (F.state flash.old) (F.state flash.new) result }
-    ensures work { Costs (2088 + F.SECTORS) (2090 + F.SECTORS) (F.state flash.old) (F.state flash.new) }
-    ensures pause { IsRoomy F.SLOTS F.SECTORS → Pauses 37 (F.state flash.old) (F.state flash.new)
-        (KeepsPace F.SLOTS F.SECTORS place.old) (KeepsPace F.SLOTS F.SECTORS place.new) result }
+    ensures work { Costs (2 * F.PAGES + 40 + F.SECTORS) (2 * F.PAGES + 42 + F.SECTORS) (F.state flash.old)
+        (F.state flash.new) }
+    ensures pause { IsRoomy F.PAGES F.SLOTS F.SECTORS → Pauses 37 (F.state flash.old) (F.state flash.new)
+        (KeepsPace F.PAGES F.SLOTS F.SECTORS place.old) (KeepsPace F.PAGES F.SLOTS F.SECTORS place.new) result }
 {
     for _ in 1..TRIES {
         match write_once(flash, place, page, first, words) {

@@ -9,11 +9,10 @@ ghost use Rattle.flash_board.specs.FlashLogs.{is_closed as has_closed, is_marked
 ghost use Rattle.flash_board.specs.Renewals.{HavePages};
 ghost use Rattle.flash_board.specs.Rings.{IsRing};
 ghost use Rattle.flash_board.specs.Spares.{spare_in};
-ghost use Rattle.flash_board.specs.declared.layout.TheConstants.{PAGES, SPARES};
+ghost use Rattle.flash_board.specs.declared.layout.TheConstants.{SPARES};
 
 use crate::erasing::{erase_area, erase_flash, erase_witness};
 use crate::flash::Flash;
-use crate::image::PageTable;
 use crate::moving::copy_pages;
 use crate::record::{close, is_closed};
 use nvm_board::DeviceErr;
@@ -77,8 +76,8 @@ pub fn has_ring<F: Flash>(flash: &mut F) -> Result<bool, DeviceErr>
 pub fn pass_witness<F: Flash>(flash: &mut F) -> Result<(), DeviceErr>
     requires lit { (F.state flash.old).dark ≡ false }
     requires turn { turn_of F.SLOTS (F.state flash.old).words ≡ 1 }
-    ensures words { words_of PAGES F.SLOTS (F.state flash.new).words
-        ≡ words_of PAGES F.SLOTS (F.state flash.old).words }
+    ensures words { words_of F.PAGES F.SLOTS (F.state flash.new).words
+        ≡ words_of F.PAGES F.SLOTS (F.state flash.old).words }
     ensures ring { IsRing F.SLOTS (F.state flash.new).words }
     ensures area { SameElsewhere (F.state flash.old).words (close_b F.SLOTS) 4 (F.state flash.new).words }
     ensures done { OnOk result (turn_of F.SLOTS (F.state flash.new).words ≡ 2) }
@@ -97,25 +96,27 @@ fn erase_and_copy<F: Flash>(
     flash: &mut F,
     from: u8,
     to: u8,
-    table: &mut PageTable,
+    table: &mut F::Table,
 ) -> Result<u16, DeviceErr>
     requires lit { (F.state flash.old).dark ≡ false }
     requires areas { from + to ≡ 1 }
-    requires index { IsPageTable PAGES (F.state flash.old).words (base_in F.SLOTS from) F.SLOTS table.old }
+    requires index { IsPageTable F.PAGES (F.state flash.old).words (base_in F.SLOTS from) F.SLOTS
+        (F.Table.entries table.old) }
     ensures elsewhere { SameElsewhere (F.state flash.old).words (base_in F.SLOTS to) (area_size F.SLOTS)
         (F.state flash.new).words }
     ensures open { OnOk result (has_closed (F.state flash.new).words (close_of F.SLOTS to) ≡ false) }
-    ensures pages { OnOk result ((p k : ℕ) → p < PAGES → k < 16
+    ensures pages { OnOk result ((p k : ℕ) → p < F.PAGES → k < 16
         → page_word (F.state flash.new).words (base_in F.SLOTS to) F.SLOTS p k
         ≡ page_word (F.state flash.old).words (base_in F.SLOTS from) F.SLOTS p k) }
-    ensures index { OnOk result (IsPageTable PAGES (F.state flash.new).words (base_in F.SLOTS to) F.SLOTS table.new) }
+    ensures index { OnOk result (IsPageTable F.PAGES (F.state flash.new).words (base_in F.SLOTS to) F.SLOTS
+        (F.Table.entries table.new)) }
     ensures free { IfOk result (λ n. AreFree (F.state flash.new).words (base_in F.SLOTS to) n F.SLOTS) }
-    ensures room { IfOk result (λ n. n ≤ PAGES + SPARES) }
-    ensures passes { IfOk result (λ n. n + (F.state flash.old).faults ≤ PAGES + (F.state flash.new).faults) }
+    ensures room { IfOk result (λ n. n ≤ F.PAGES + SPARES) }
+    ensures passes { IfOk result (λ n. n + (F.state flash.old).faults ≤ F.PAGES + (F.state flash.new).faults) }
     ensures have { IfOk result (λ n. (F.state flash.new).faults ≡ (F.state flash.old).faults
-        → HavePages PAGES F.SLOTS (F.state flash.new).words (base_in F.SLOTS to) n) }
+        → HavePages F.PAGES F.SLOTS (F.state flash.new).words (base_in F.SLOTS to) n) }
     ensures light { Tries 1 (F.state flash.old) (F.state flash.new) result }
-    ensures work { Costs (2048 + F.SECTORS) 2 (F.state flash.old) (F.state flash.new) }
+    ensures work { Costs (2 * F.PAGES + F.SECTORS) 2 (F.state flash.old) (F.state flash.new) }
 {
     erase_area(flash, to)?;
     let next = copy_pages(flash, from, to, table)?;
@@ -123,23 +124,24 @@ fn erase_and_copy<F: Flash>(
 }
 
 /// From turn 0 to turn 1: the pages move to area B. Returns its first free slot.
-pub fn move_to_b<F: Flash>(flash: &mut F, table: &mut PageTable) -> Result<u16, DeviceErr>
+pub fn move_to_b<F: Flash>(flash: &mut F, table: &mut F::Table) -> Result<u16, DeviceErr>
     requires lit { (F.state flash.old).dark ≡ false }
     requires turn { turn_of F.SLOTS (F.state flash.old).words ≡ 0 }
     requires ring { IsRing F.SLOTS (F.state flash.old).words }
-    requires index { IsPageTable PAGES (F.state flash.old).words 0 F.SLOTS table.old }
-    ensures words { words_of PAGES F.SLOTS (F.state flash.new).words
-        ≡ words_of PAGES F.SLOTS (F.state flash.old).words }
+    requires index { IsPageTable F.PAGES (F.state flash.old).words 0 F.SLOTS (F.Table.entries table.old) }
+    ensures words { words_of F.PAGES F.SLOTS (F.state flash.new).words
+        ≡ words_of F.PAGES F.SLOTS (F.state flash.old).words }
     ensures ring { IsRing F.SLOTS (F.state flash.new).words }
     ensures done { OnOk result (turn_of F.SLOTS (F.state flash.new).words ≡ 1) }
-    ensures index { OnOk result (IsPageTable PAGES (F.state flash.new).words (area_size F.SLOTS) F.SLOTS table.new) }
+    ensures index { OnOk result (IsPageTable F.PAGES (F.state flash.new).words (area_size F.SLOTS) F.SLOTS
+        (F.Table.entries table.new)) }
     ensures free { IfOk result (λ n. AreFree (F.state flash.new).words (area_size F.SLOTS) n F.SLOTS) }
-    ensures room { IfOk result (λ n. n ≤ PAGES + SPARES) }
-    ensures passes { IfOk result (λ n. n + (F.state flash.old).faults ≤ PAGES + (F.state flash.new).faults) }
+    ensures room { IfOk result (λ n. n ≤ F.PAGES + SPARES) }
+    ensures passes { IfOk result (λ n. n + (F.state flash.old).faults ≤ F.PAGES + (F.state flash.new).faults) }
     ensures have { IfOk result (λ n. (F.state flash.new).faults ≡ (F.state flash.old).faults
-        → HavePages PAGES F.SLOTS (F.state flash.new).words (area_size F.SLOTS) n) }
+        → HavePages F.PAGES F.SLOTS (F.state flash.new).words (area_size F.SLOTS) n) }
     ensures light { Tries 1 (F.state flash.old) (F.state flash.new) result }
-    ensures work { Costs (2049 + F.SECTORS) 2 (F.state flash.old) (F.state flash.new) }
+    ensures work { Costs (2 * F.PAGES + 1 + F.SECTORS) 2 (F.state flash.old) (F.state flash.new) }
 {
     let next = erase_and_copy(flash, 0, 1, table)?;
     close(flash, 0)?;
@@ -147,23 +149,24 @@ pub fn move_to_b<F: Flash>(flash: &mut F, table: &mut PageTable) -> Result<u16, 
 }
 
 /// From turn 2 to turn 0: the pages move to area A. Returns its first free slot.
-pub fn move_to_a<F: Flash>(flash: &mut F, table: &mut PageTable) -> Result<u16, DeviceErr>
+pub fn move_to_a<F: Flash>(flash: &mut F, table: &mut F::Table) -> Result<u16, DeviceErr>
     requires lit { (F.state flash.old).dark ≡ false }
     requires turn { turn_of F.SLOTS (F.state flash.old).words ≡ 2 }
-    requires index { IsPageTable PAGES (F.state flash.old).words (area_size F.SLOTS) F.SLOTS table.old }
-    ensures words { words_of PAGES F.SLOTS (F.state flash.new).words
-        ≡ words_of PAGES F.SLOTS (F.state flash.old).words }
+    requires index { IsPageTable F.PAGES (F.state flash.old).words (area_size F.SLOTS) F.SLOTS
+        (F.Table.entries table.old) }
+    ensures words { words_of F.PAGES F.SLOTS (F.state flash.new).words
+        ≡ words_of F.PAGES F.SLOTS (F.state flash.old).words }
     ensures ring { IsRing F.SLOTS (F.state flash.new).words }
     ensures done { OnOk result (turn_of F.SLOTS (F.state flash.new).words ≡ 0) }
-    ensures index { OnOk result (IsPageTable PAGES (F.state flash.new).words 0 F.SLOTS table.new) }
+    ensures index { OnOk result (IsPageTable F.PAGES (F.state flash.new).words 0 F.SLOTS (F.Table.entries table.new)) }
     ensures free { IfOk result (λ n. AreFree (F.state flash.new).words 0 n F.SLOTS) }
-    ensures room { IfOk result (λ n. n ≤ PAGES + SPARES) }
-    ensures passes { IfOk result (λ n. n + (F.state flash.old).faults ≤ PAGES + (F.state flash.new).faults) }
+    ensures room { IfOk result (λ n. n ≤ F.PAGES + SPARES) }
+    ensures passes { IfOk result (λ n. n + (F.state flash.old).faults ≤ F.PAGES + (F.state flash.new).faults) }
     ensures have { IfOk result (λ n. (F.state flash.new).faults ≡ (F.state flash.old).faults
-        → HavePages PAGES F.SLOTS (F.state flash.new).words 0 n) }
+        → HavePages F.PAGES F.SLOTS (F.state flash.new).words 0 n) }
     ensures mark { OnOk result (has_mark (F.state flash.new).words (witness_start F.SLOTS) ≡ true) }
     ensures light { Tries 1 (F.state flash.old) (F.state flash.new) result }
-    ensures work { Costs (2049 + F.SECTORS) 2 (F.state flash.old) (F.state flash.new) }
+    ensures work { Costs (2 * F.PAGES + 1 + F.SECTORS) 2 (F.state flash.old) (F.state flash.new) }
 {
     let next = erase_and_copy(flash, 1, 0, table)?;
     close(flash, 2)?;
@@ -188,8 +191,8 @@ fn turn_by_marks(a: bool, b: bool, c: bool) -> u8
 pub fn format_flash<F: Flash>(flash: &mut F) -> Result<(), DeviceErr>
     requires { (F.state flash.old).dark ≡ false }
     ensures ring { OnOk result (IsRing F.SLOTS (F.state flash.new).words) }
-    ensures blank { OnOk result ((i : ℕ) → i < 16 * PAGES
-        → slice_index (words_of PAGES F.SLOTS (F.state flash.new).words) i ≡ 0) }
+    ensures blank { OnOk result ((i : ℕ) → i < 16 * F.PAGES
+        → slice_index (words_of F.PAGES F.SLOTS (F.state flash.new).words) i ≡ 0) }
     ensures work { (F.state flash.new).operations ≤ (F.state flash.old).operations + 2 * F.SECTORS + 2 }
     ensures light { Lights (F.state flash.old) (F.state flash.new) result }
 {

@@ -7,12 +7,13 @@ ghost use Rattle.flash_board.specs.FlashLogs.{base_in, turn_of, words_of};
 ghost use Rattle.flash_board.specs.Places.{IsPlaceOf};
 ghost use Rattle.flash_board.specs.Rings.{IsRing, SameMarks};
 ghost use Rattle.flash_board.specs.Spares.{IsSpare, spare_in};
-ghost use Rattle.flash_board.specs.declared.layout.TheConstants.{PAGES, STEP_PAGES};
+ghost use Rattle.flash_board.specs.declared.layout.TheConstants.{STEP_PAGES};
 
 use crate::flash::Flash;
-use crate::image::{PageTable, overlay, record_of};
+use crate::image::{overlay, record_of};
 use crate::layout::{STEP_PAGES, slot_at};
 use crate::moving::put_in_spare;
+use crate::page_table::PageTable;
 use crate::place::PageMap;
 use crate::record::program_record;
 use crate::turns::{home, spare};
@@ -22,7 +23,7 @@ use nvm_board::DeviceErr;
 pub fn write_run<F: Flash>(
     flash: &mut F,
     area: u8,
-    table: &mut PageTable,
+    table: &mut F::Table,
     next: u16,
     page: u16,
     first: u8,
@@ -30,18 +31,20 @@ pub fn write_run<F: Flash>(
 ) -> Result<(), DeviceErr>
     requires lit { (F.state flash.old).dark ≡ false }
     requires home { base_in F.SLOTS area ≡ base_in F.SLOTS (turn_of F.SLOTS (F.state flash.old).words) }
-    requires index { IsPageTable PAGES (F.state flash.old).words (base_in F.SLOTS area) F.SLOTS table.old }
+    requires index { IsPageTable F.PAGES (F.state flash.old).words (base_in F.SLOTS area) F.SLOTS
+        (F.Table.entries table.old) }
     requires free { AreFree (F.state flash.old).words (base_in F.SLOTS area) next F.SLOTS }
     requires room { next < F.SLOTS }
-    requires page { page < PAGES }
+    requires page { page < F.PAGES }
     requires run { first + length words.now ≤ 16 }
-    ensures whole { (words_of PAGES F.SLOTS (F.state flash.new).words
-        ≡ words_of PAGES F.SLOTS (F.state flash.old).words)
-        ⊎ (words_of PAGES F.SLOTS (F.state flash.new).words
-        ≡ written (words_of PAGES F.SLOTS (F.state flash.old).words) (16 * page + first) words.now) }
-    ensures done { OnOk result (words_of PAGES F.SLOTS (F.state flash.new).words
-        ≡ written (words_of PAGES F.SLOTS (F.state flash.old).words) (16 * page + first) words.now) }
-    ensures index { OnOk result (IsPageTable PAGES (F.state flash.new).words (base_in F.SLOTS area) F.SLOTS table.new) }
+    ensures whole { (words_of F.PAGES F.SLOTS (F.state flash.new).words
+        ≡ words_of F.PAGES F.SLOTS (F.state flash.old).words)
+        ⊎ (words_of F.PAGES F.SLOTS (F.state flash.new).words
+        ≡ written (words_of F.PAGES F.SLOTS (F.state flash.old).words) (16 * page + first) words.now) }
+    ensures done { OnOk result (words_of F.PAGES F.SLOTS (F.state flash.new).words
+        ≡ written (words_of F.PAGES F.SLOTS (F.state flash.old).words) (16 * page + first) words.now) }
+    ensures index { OnOk result (IsPageTable F.PAGES (F.state flash.new).words (base_in F.SLOTS area) F.SLOTS
+        (F.Table.entries table.new)) }
     ensures free { OnOk result (AreFree (F.state flash.new).words (base_in F.SLOTS area) (next + 1) F.SLOTS) }
     ensures elsewhere { SameElsewhere (F.state flash.old).words (base_in F.SLOTS area) (20 * F.SLOTS)
         (F.state flash.new).words }
@@ -53,7 +56,7 @@ pub fn write_run<F: Flash>(
     let mut found = record_of(flash, area, table, page)?;
     overlay(&mut found, first, words);
     program_record(flash, slot_at::<F>(area, next), &found)?;
-    table[usize::from(page)] = next + 1;
+    table.set_entry(page, next + 1);
     Ok(())
 }
 
@@ -61,22 +64,22 @@ pub fn write_run<F: Flash>(
 /// is free.
 pub fn write_ahead<F: Flash>(
     flash: &mut F,
-    place: &PageMap,
+    place: &PageMap<F::Table>,
     page: u16,
     first: u8,
     words: &[u32],
 ) -> Result<u16, DeviceErr>
     requires lit { (F.state flash.old).dark ≡ false }
     requires place { IsRing F.SLOTS (F.state flash.old).words
-        × IsPlaceOf PAGES F.SLOTS F.SECTORS F.sector_start (F.state flash.old).words place.now }
+        × IsPlaceOf F.Table.entries F.PAGES F.SLOTS F.SECTORS F.sector_start (F.state flash.old).words place.now }
     requires room { place.now.behind < F.SLOTS }
-    requires page { page < PAGES }
+    requires page { page < F.PAGES }
     requires run { first + length words.now ≤ 16 }
     ensures elsewhere { SameElsewhere (F.state flash.old).words (spare_in F.SLOTS place.now.turn) (20 * F.SLOTS)
         (F.state flash.new).words }
     ensures same { place.now.turn ≡ 1 → (F.state flash.new).words ≡ (F.state flash.old).words }
-    ensures spare { IfOk result (λ n. IsSpare PAGES F.SLOTS F.SECTORS F.sector_start (F.state flash.new).words
-        (written (words_of PAGES F.SLOTS (F.state flash.old).words) (16 * page + first) words.now)
+    ensures spare { IfOk result (λ n. IsSpare F.PAGES F.SLOTS F.SECTORS F.sector_start (F.state flash.new).words
+        (written (words_of F.PAGES F.SLOTS (F.state flash.old).words) (16 * page + first) words.now)
         place.now.turn place.now.erased place.now.copied n) }
     ensures passes { IfOk result (λ n. n + (F.state flash.old).faults
         ≤ place.now.behind + 1 + (F.state flash.new).faults) }

@@ -1,18 +1,17 @@
 -- A board on a flash is one, and what its calls do to power.
 use Rattle.std.specs.Prelude.{◌≡◌, ◌⊎◌, ◌+◌, ℕ, true, false, List, Ok, Err}
-use Rattle.std.proofs.Common.{refl, sym, arith, inl, inr, ⊎_elim, subst}
+use Rattle.std.proofs.Common.{refl, sym, inl, inr, ⊎_elim, subst}
 use Rattle.nvm_board.specs.declared.board.DeviceErr.TheVariants.{PowerLost, Fault}
 use Rattle.nvm_board.specs.Facts.{Facts, IsBoard, Answered, IsLostRightly, IsWorn}
 use Rattle.nvm_board.specs.History.{written}
 use Rattle.nvm_board.specs.Torn.{Torn}
-use Rattle.nvm_board.specs.laws.Sizes.{memory_of_pages}
 use Rattle.nvm_board.specs.laws.Torn.{Torn-none, Torn-all}
 use Rattle.flash_board.specs.declared.flash_board.FlashBoard.{FlashBoard}
 use Rattle.flash_board.specs.FlashFacts.{flash_facts}
 
-pub flash_is_board : {F : Type 0} {g : _} (b : FlashBoard F g) → IsBoard (flash_facts b)
+pub flash_is_board : {F T : Type 0} {g : _} {h : _} (b : FlashBoard F T g h) → IsBoard (flash_facts b)
 flash_is_board b = record {
-  sized = (memory_of_pages b.log.flash.words 1024 (omega arith) (omega arith) b.sized).0;
+  sized = b.memory;
   words_fit = b.words_fit;
   counted = (b.compares_counted, b.matches_counted);
   counts_fit = record {

@@ -6,7 +6,8 @@ use Rattle.std.proofs.Common.{refl, sym, ◌∙◌, ap, inl, inr, ⊎_elim, subs
 use Rattle.std.proofs.Math.Bool.{or-true}
 use Rattle.std.proofs.lemmas.Bool.{cases_eq, eq-eqb, le-leb, leb-true, ne_eqb}
 use Rattle.flash_board.specs.declared.place.PageMap.{PageMap}
-use Rattle.flash_board.specs.declared.layout.TheConstants.{COPY_STEPS, PAGES, STEP_PAGES}
+use Rattle.flash_board.specs.declared.layout.TheConstants.{STEP_PAGES}
+use Rattle.flash_board.specs.FlashBlocks.{steps_of}
 use Rattle.flash_board.specs.FlashCalls.{Costs, FlashState}
 use Rattle.flash_board.specs.Paces.{HasStepped, HasMoved, IsRoomy, IsBrief, KeepsPace, Pauses, is_paced, lead_of}
 use Rattle.flash_board.specs.Paces.{steps_left}
@@ -33,64 +34,77 @@ short_then most n more old mid new fits short operations erases =
       erases = omega (arith, b, erases);
     }
 
-module _ (slots sectors : ℕ) where
+-- a slot fewer is needed where one sector more is erased
+erased_room : (steps slots sectors w erased copied next : ℕ) → erased < sectors
+    → w + (sectors - erased) + (steps - copied) + next ≤ slots
+    → w + (sectors - (erased + 1)) + (steps - copied) + next < slots
+erased_room steps slots sectors w erased copied next more room = omega (arith, more, room)
+
+-- and where one step more has copied pages
+copied_room : (steps slots sectors w erased copied next : ℕ) → copied + 1 < steps
+    → w + (sectors - erased) + (steps - copied) + next ≤ slots
+    → w + (sectors - erased) + (steps - (copied + 1)) + next < slots
+copied_room steps slots sectors w erased copied next more room = omega (arith, more, room)
+
+module _ {T : Type 0} (pages slots sectors : ℕ) where
   -- the test of the pace decides it
-  pub paced_is : (p : PageMap) → is_paced slots sectors p ≡ true → KeepsPace slots sectors p
+  pub paced_is : (p : PageMap T) → is_paced pages slots sectors p ≡ true → KeepsPace pages slots sectors p
   unfolding is_paced
   paced_is p h =
       let one = both p.ready _ h in
-      let two = both (nat_le (steps_left sectors p + p.next) slots) _ one.1 in
+      let two = both (nat_le (steps_left pages sectors p + p.next) slots) _ one.1 in
       let three = both (nat_le p.behind ((STEP_PAGES + 1) * p.copied)) _ two.1 in record {
         ready = one.0;
-        room = leb-true (steps_left sectors p + p.next) slots two.0;
+        room = leb-true (steps_left pages sectors p + p.next) slots two.0;
         few = leb-true p.behind ((STEP_PAGES + 1) * p.copied) three.0;
         goes_on = λ some.
             let none : nat_eq p.copied 0 ≡ false = ne_eqb p.copied 0 (λ e. absurd (omega (arith, e, some))) in
-            leb-true slots (p.next + lead_of sectors)
-            (ap (λ (b : Bool). b || nat_le slots (p.next + lead_of sectors)) (sym none) ∙ three.1);
+            leb-true slots (p.next + lead_of pages sectors)
+            (ap (λ (b : Bool). b || nat_le slots (p.next + lead_of pages sectors)) (sym none) ∙ three.1);
       }
 
-  pub is_paced_by : (p : PageMap) → KeepsPace slots sectors p → is_paced slots sectors p ≡ true
+  pub is_paced_by : (p : PageMap T) → KeepsPace pages slots sectors p → is_paced pages slots sectors p ≡ true
   unfolding is_paced
   is_paced_by p h =
-      let last = nat_le slots (p.next + lead_of sectors) in
+      let last = nat_le slots (p.next + lead_of pages sectors) in
       let goes_on : (nat_eq p.copied 0 || last) ≡ true = ⊎_elim
       (λ (e : p.copied ≡ 0). ap (λ (b : Bool). b || last) (eq-eqb p.copied 0 e))
       (λ (n : p.copied ≢ 0).
       let some : 0 < p.copied = omega (arith, n) in
-      ap (λ (b : Bool). nat_eq p.copied 0 || b) (le-leb slots (p.next + lead_of sectors) (h.goes_on some))
+      ap (λ (b : Bool). nat_eq p.copied 0 || b) (le-leb slots (p.next + lead_of pages sectors) (h.goes_on some))
       ∙ or-true (nat_eq p.copied 0))
       (cases_eq p.copied 0) in
-      joined _ _ h.ready (joined _ _ (le-leb (steps_left sectors p + p.next) slots h.room)
+      joined _ _ h.ready (joined _ _ (le-leb (steps_left pages sectors p + p.next) slots h.room)
       (joined _ _ (le-leb p.behind ((STEP_PAGES + 1) * p.copied) h.few) goes_on))
 
   -- a move has no more steps than its lead
-  pub steps_most : (p : PageMap) → steps_left sectors p ≤ lead_of sectors
+  pub steps_most : (p : PageMap T) → steps_left pages sectors p ≤ lead_of pages sectors
   steps_most p = by_test (nat_eq p.turn 1)
     where
-      by_test : (b : Bool) → (if b then 1 else 0) + (sectors - p.erased) + (COPY_STEPS - p.copied) ≤ lead_of sectors
+      by_test : (b : Bool) → (if b then 1 else 0) + (sectors - p.erased) + (steps_of pages - p.copied)
+          ≤ lead_of pages sectors
       by_test true = omega arith
       by_test false = omega arith
 
   -- while steps are left, the area has room
-  pub paced_room : (p : PageMap) → p.copied < COPY_STEPS → KeepsPace slots sectors p → p.next < slots
+  pub paced_room : (p : PageMap T) → p.copied < steps_of pages → KeepsPace pages slots sectors p → p.next < slots
   paced_room p more h = let room = h.room in omega (arith, room, more)
 
-  pub stepped_room : (p : PageMap) → HasStepped slots sectors p → p.next < slots
+  pub stepped_room : (p : PageMap T) → HasStepped pages slots sectors p → p.next < slots
   stepped_room p h = let room = h.room in omega (arith, room)
 
   -- the other area has room for a step
-  pub paced_behind : (p : PageMap) → IsRoomy slots sectors → p.copied < COPY_STEPS → KeepsPace slots sectors p
-      → p.behind + STEP_PAGES < PAGES + COPY_STEPS
+  pub paced_behind : (p : PageMap T) → IsRoomy pages slots sectors → p.copied < steps_of pages
+      → KeepsPace pages slots sectors p → p.behind + STEP_PAGES < pages + steps_of pages
   paced_behind p roomy more h = let few = h.few in omega (arith, few, more)
 
-  pub stepped_behind : (p : PageMap) → IsRoomy slots sectors → p.copied < COPY_STEPS → HasStepped slots sectors p
-      → p.behind < slots
+  pub stepped_behind : (p : PageMap T) → IsRoomy pages slots sectors → p.copied < steps_of pages
+      → HasStepped pages slots sectors p → p.behind < slots
   stepped_behind p roomy more h = let few = h.few in omega (arith, few, more, roomy)
 
   -- behind a move
-  pub stepped_fresh : (p : PageMap) (next : ℕ) → IsRoomy slots sectors → next < PAGES + COPY_STEPS → HasMoved p next
-      → HasStepped slots sectors p
+  pub stepped_fresh : (p : PageMap T) (next : ℕ) → IsRoomy pages slots sectors → next < pages + steps_of pages
+      → HasMoved p next → HasStepped pages slots sectors p
   stepped_fresh p next roomy below fresh =
       let most = steps_most p in
       let free = fresh.free in
@@ -104,8 +118,8 @@ module _ (slots sectors : ℕ) where
       }
 
   -- no step is due
-  pub stepped_none : (p : PageMap) → p.next + lead_of sectors < slots → KeepsPace slots sectors p
-      → HasStepped slots sectors p
+  pub stepped_none : (p : PageMap T) → p.next + lead_of pages sectors < slots → KeepsPace pages slots sectors p
+      → HasStepped pages slots sectors p
   stepped_none p due h =
       let most = steps_most p in
       let few = h.few in
@@ -123,44 +137,36 @@ module _ (slots sectors : ℕ) where
       }
 
   -- one sector more is erased
-  erased_room : (w erased copied next : ℕ) → erased < sectors
-      → w + (sectors - erased) + (COPY_STEPS - copied) + next ≤ slots
-      → w + (sectors - (erased + 1)) + (COPY_STEPS - copied) + next < slots
-  erased_room w erased copied next more room = omega (arith, more, room)
-
-  pub stepped_erased : (p : PageMap) → p.erased < sectors → p.copied ≡ 0 → KeepsPace slots sectors p
-      → HasStepped slots sectors (record p { ready = true; erased = p.erased + 1 })
+  pub stepped_erased : (p : PageMap T) → p.erased < sectors → p.copied ≡ 0 → KeepsPace pages slots sectors p
+      → HasStepped pages slots sectors (record p { ready = true; erased = p.erased + 1 })
   stepped_erased p more none h = record {
     ready = refl;
-    room = erased_room (if nat_eq p.turn 1 then 1 else 0) p.erased p.copied p.next more h.room;
+    room = erased_room (steps_of pages) slots sectors (if nat_eq p.turn 1 then 1 else 0) p.erased p.copied p.next more
+        h.room;
     few = h.few;
     fewer = λ some. absurd (omega (arith, some, none));
     goes_on = λ some. absurd (omega (arith, some, none));
   }
 
   -- one step more has copied pages
-  copied_room : (w erased copied next : ℕ) → copied + 1 < COPY_STEPS
-      → w + (sectors - erased) + (COPY_STEPS - copied) + next ≤ slots
-      → w + (sectors - erased) + (COPY_STEPS - (copied + 1)) + next < slots
-  copied_room w erased copied next more room = omega (arith, more, room)
-
-  pub stepped_copied : (p : PageMap) (behind : ℕ) → p.copied + 1 < COPY_STEPS → slots ≤ p.next + lead_of sectors
-      → behind ≤ p.behind + STEP_PAGES → KeepsPace slots sectors p
-      → HasStepped slots sectors (record p { ready = true; copied = p.copied + 1; behind = behind })
+  pub stepped_copied : (p : PageMap T) (behind : ℕ) → p.copied + 1 < steps_of pages
+      → slots ≤ p.next + lead_of pages sectors → behind ≤ p.behind + STEP_PAGES → KeepsPace pages slots sectors p
+      → HasStepped pages slots sectors (record p { ready = true; copied = p.copied + 1; behind = behind })
   stepped_copied p behind more due least h = let few = h.few in record {
     ready = refl;
-    room = copied_room (if nat_eq p.turn 1 then 1 else 0) p.erased p.copied p.next more h.room;
+    room = copied_room (steps_of pages) slots sectors (if nat_eq p.turn 1 then 1 else 0) p.erased p.copied p.next more
+        h.room;
     few = omega (arith, few, least);
     fewer = λ some. omega (arith, few, least);
     goes_on = λ some. due;
   }
 
   -- the turn has passed to the witness
-  pub stepped_on : (p : PageMap) → p.turn ≡ 1 → p.erased ≡ 0 → p.copied ≡ 0 → KeepsPace slots sectors p
-      → HasStepped slots sectors (record p { ready = true; turn = 2; erased = 0; copied = 0; behind = 0 })
+  pub stepped_on : (p : PageMap T) → p.turn ≡ 1 → p.erased ≡ 0 → p.copied ≡ 0 → KeepsPace pages slots sectors p
+      → HasStepped pages slots sectors (record p { ready = true; turn = 2; erased = 0; copied = 0; behind = 0 })
   stepped_on p one erased copied h =
-      let room : 1 + (sectors - p.erased) + (COPY_STEPS - p.copied) + p.next ≤ slots =
-      subst (λ (t : ℕ). (if nat_eq t 1 then 1 else 0) + (sectors - p.erased) + (COPY_STEPS - p.copied) + p.next
+      let room : 1 + (sectors - p.erased) + (steps_of pages - p.copied) + p.next ≤ slots =
+      subst (λ (t : ℕ). (if nat_eq t 1 then 1 else 0) + (sectors - p.erased) + (steps_of pages - p.copied) + p.next
       ≤ slots) one h.room in record {
         ready = refl;
         room = omega (arith, room, erased, copied);
@@ -170,12 +176,12 @@ module _ (slots sectors : ℕ) where
       }
 
   -- the record is put
-  pub paced_put : (p q : PageMap) → q.ready ≡ true → q.turn ≡ p.turn → q.next ≡ p.next + 1 → q.erased ≡ p.erased
+  pub paced_put : (p q : PageMap T) → q.ready ≡ true → q.turn ≡ p.turn → q.next ≡ p.next + 1 → q.erased ≡ p.erased
       → q.copied ≡ p.copied → q.behind ≤ p.behind + 1 → (p.copied ≡ 0 → q.behind ≡ p.behind)
-      → HasStepped slots sectors p → KeepsPace slots sectors q
+      → HasStepped pages slots sectors p → KeepsPace pages slots sectors q
   paced_put p q ready turn next erased copied one none h =
-      let left : steps_left sectors q ≡ steps_left sectors p = λ i.
-      (if nat_eq (turn i) 1 then 1 else 0) + (sectors - erased i) + (COPY_STEPS - copied i) in
+      let left : steps_left pages sectors q ≡ steps_left pages sectors p = λ i.
+      (if nat_eq (turn i) 1 then 1 else 0) + (sectors - erased i) + (steps_of pages - copied i) in
       let room = h.room in
       let few = h.few in record {
         ready = ready;
@@ -192,16 +198,16 @@ module _ (slots sectors : ℕ) where
       }
 
   -- the pages stay where they are found, so the pace stays
-  pub paced_same : (p q : PageMap) → (p.ready ≡ true → q ≡ p) → is_paced slots sectors p ≡ true
-      → is_paced slots sectors q ≡ true
-  paced_same p q known h = ap (is_paced slots sectors) (known (paced_is p h).ready) ∙ h
+  pub paced_same : (p q : PageMap T) → (p.ready ≡ true → q ≡ p) → is_paced pages slots sectors p ≡ true
+      → is_paced pages slots sectors q ≡ true
+  paced_same p q known h = ap (is_paced pages slots sectors) (known (paced_is p h).ready) ∙ h
 
   -- the pause of a write, as the log's value has it
-  pub pauses_view : {T : Type 0} (pages most : ℕ) (old new : FlashState) (p q : PageMap) (r : Result T DeviceErr)
-      → Pauses most old new (KeepsPace slots sectors p) (KeepsPace slots sectors q) r
-      → Pauses most (state_of pages slots old) (state_of pages slots new) (is_paced slots sectors p ≡ true)
-      (is_paced slots sectors q ≡ true) r
-  pauses_view pages most old new p q r h = record {
+  pub pauses_view : {R : Type 0} (most : ℕ) (old new : FlashState) (p q : PageMap T) (r : Result R DeviceErr)
+      → Pauses most old new (KeepsPace pages slots sectors p) (KeepsPace pages slots sectors q) r
+      → Pauses most (state_of pages slots old) (state_of pages slots new) (is_paced pages slots sectors p ≡ true)
+      (is_paced pages slots sectors q ≡ true) r
+  pauses_view most old new p q r h = record {
     short = λ same pace. let z = h.short same (paced_is p pace) in record {
       operations = z.operations;
       erases = z.erases;
@@ -209,26 +215,26 @@ module _ (slots sectors : ℕ) where
     stays = λ same pace ok. is_paced_by q (h.stays same (paced_is p pace) ok);
     long = λ same ok. ⊎_elim
         (λ (z : IsBrief most old new). inl (record { operations = z.operations; erases = z.erases }))
-        (λ (z : KeepsPace slots sectors q). inr (is_paced_by q z))
+        (λ (z : KeepsPace pages slots sectors q). inr (is_paced_by q z))
         (h.long same ok);
   }
 
   -- tries that failed before a write count only where the flash failed
-  pub pauses_since : {T : Type 0} (most : ℕ) (old mid new : FlashState) (p q : PageMap) (after : Type 0)
-      (r : Result T DeviceErr) → old.faults ≤ mid.faults → mid.faults ≤ new.faults
+  pub pauses_since : {R : Type 0} (most : ℕ) (old mid new : FlashState) (p q : PageMap T) (after : Type 0)
+      (r : Result R DeviceErr) → old.faults ≤ mid.faults → mid.faults ≤ new.faults
       → (mid.faults ≡ old.faults → (q ≡ p) × (mid ≡ old))
-      → Pauses most mid new (KeepsPace slots sectors q) after r
-      → Pauses most old new (KeepsPace slots sectors p) after r
+      → Pauses most mid new (KeepsPace pages slots sectors q) after r
+      → Pauses most old new (KeepsPace pages slots sectors p) after r
   pauses_since most old mid new p q after r less more first h = record {
     short = λ same pace.
         let none : mid.faults ≡ old.faults = omega (arith, less, more, same) in
         let is = first none in
         subst (λ (s : FlashState). IsBrief most s new) is.1
-        (h.short (same ∙ sym none) (subst (KeepsPace slots sectors) (sym is.0) pace));
+        (h.short (same ∙ sym none) (subst (KeepsPace pages slots sectors) (sym is.0) pace));
     stays = λ same pace ok.
         let none : mid.faults ≡ old.faults = omega (arith, less, more, same) in
         let is = first none in
-        h.stays (same ∙ sym none) (subst (KeepsPace slots sectors) (sym is.0) pace) ok;
+        h.stays (same ∙ sym none) (subst (KeepsPace pages slots sectors) (sym is.0) pace) ok;
     long = λ same ok.
         let none : mid.faults ≡ old.faults = omega (arith, less, more, same) in
         let is = first none in
@@ -236,18 +242,19 @@ module _ (slots sectors : ℕ) where
   }
 
   -- A write is made ready: the pages are found, a step is taken, and room is made if there is none.
-  module _ (first found stepped last : FlashState) (p q s t : PageMap) (roomy : IsRoomy slots sectors)
+  module _ (first found stepped last : FlashState) (p q s t : PageMap T) (roomy : IsRoomy pages slots sectors)
       (known : p.ready ≡ true → q ≡ p)
       (found_faults : found.faults ≡ first.faults) (found_work : found.operations ≡ first.operations)
       (found_erases : found.erases ≡ first.erases)
       (step_faults : found.faults ≤ stepped.faults) (step_work : Costs 33 2 found stepped)
       (step_erases : stepped.erases ≤ found.erases + 1)
-      (step : KeepsPace slots sectors q → stepped.faults ≡ found.faults → HasStepped slots sectors s)
+      (step : KeepsPace pages slots sectors q → stepped.faults ≡ found.faults → HasStepped pages slots sectors s)
       (faults : stepped.faults ≤ last.faults)
       (room : s.next < slots → (t ≡ s) × (last ≡ stepped)) where
-    pub ready_stepped : last.faults ≡ first.faults → KeepsPace slots sectors p → HasStepped slots sectors s
+    pub ready_stepped : last.faults ≡ first.faults → KeepsPace pages slots sectors p → HasStepped pages slots sectors s
     ready_stepped same pace =
-        let here : KeepsPace slots sectors q = subst (KeepsPace slots sectors) (sym (known pace.ready)) pace in
+        let here : KeepsPace pages slots sectors q =
+        subst (KeepsPace pages slots sectors) (sym (known pace.ready)) pace in
         step here (omega (arith, same, found_faults, step_faults, faults))
 
     pub ready_short : last.faults ≡ first.faults → s.next < slots → IsBrief 33 first last
@@ -259,10 +266,10 @@ module _ (slots sectors : ℕ) where
           erases = omega (arith, step_erases, found_erases);
         })
 
-    pub ready_in_pace : last.faults ≡ first.faults → KeepsPace slots sectors p → IsBrief 33 first last
+    pub ready_in_pace : last.faults ≡ first.faults → KeepsPace pages slots sectors p → IsBrief 33 first last
     ready_in_pace same pace = ready_short same (stepped_room s (ready_stepped same pace))
 
-    pub ready_stays : last.faults ≡ first.faults → KeepsPace slots sectors p → HasStepped slots sectors t
+    pub ready_stays : last.faults ≡ first.faults → KeepsPace pages slots sectors p → HasStepped pages slots sectors t
     ready_stays same pace =
         let stays = ready_stepped same pace in
-        subst (HasStepped slots sectors) (sym (room (stepped_room s stays)).0) stays
+        subst (HasStepped pages slots sectors) (sym (room (stepped_room s stays)).0) stays

@@ -5,9 +5,9 @@ use Rattle.std.proofs.Common.{sym, ◌∙◌, ap, inl, inr, ⊎_elim, subst, ari
 use Rattle.std.proofs.lemmas.Bool.{cases_eq, cases_lt, eqb-true, ne_eqb}
 use Rattle.flash_board.specs.CopyParts.{KeepsOthers}
 use Rattle.flash_board.specs.declared.flash.TheConstants.{BLANK, BLOCKS}
-use Rattle.flash_board.specs.declared.layout.TheConstants.{COPY_STEPS}
+use Rattle.nvm_board.specs.declared.board.TheConstants.{LEAST_PAGES}
 use Rattle.flash_board.specs.declared.place.PageMap.{PageMap}
-use Rattle.flash_board.specs.FlashBlocks.{area_size, witness_start}
+use Rattle.flash_board.specs.FlashBlocks.{area_size, steps_of, witness_start}
 use Rattle.flash_board.specs.FlashCalls.{SameElsewhere, AreFilled}
 use Rattle.flash_board.specs.FlashLogs.{base_in, close_b, close_of, find, is_marked, slot_of, turn_of, word_of}
 use Rattle.flash_board.specs.FlashLogs.{words_of}
@@ -121,12 +121,13 @@ module _ (pages slots : ℕ) where
       (both (is_marked m (slot_of base s + 18)) (nat_eq (slice_index m (slot_of base s + 16)) held.page) is).1
 
   -- the other area is erased as a whole
-  pub spare_erased : (sectors : ℕ) (start : ℕ → ℕ) (m words : List ℕ) (turn erased : ℕ) → turn ≢ 1 → erased ≡ sectors
+  pub spare_erased : (sectors : ℕ) (start : ℕ → ℕ) (m words : List ℕ) (turn erased : ℕ) → LEAST_PAGES ≤ pages
+      → turn ≢ 1 → erased ≡ sectors
       → AreFilled m (spare_in slots turn) (area_size slots) BLANK
       → IsSpare pages slots sectors start m words turn erased 0 0
-  spare_erased sectors start m words turn erased other all blank = record {
+  spare_erased sectors start m words turn erased least other all blank = record {
     within = omega (arith, all);
-    most = omega arith;
+    most = omega (arith, least);
     idle = λ one. absurd (other one);
     fresh = λ lt. absurd (omega (arith, lt, all));
     blank = λ lt. absurd (omega (arith, lt, all));
@@ -134,8 +135,8 @@ module _ (pages slots : ℕ) where
   }
 
   -- the log is in pace behind it, unless too many slots were passed over
-  pub pace_renewed : (sectors : ℕ) (p : PageMap) → p.ready ≡ true → p.turn ≢ 1 → p.erased ≡ sectors → p.copied ≡ 0
-      → p.behind ≡ 0 → p.next + COPY_STEPS ≤ slots → KeepsPace slots sectors p
+  pub pace_renewed : {T : Type 0} (sectors : ℕ) (p : PageMap T) → p.ready ≡ true → p.turn ≢ 1 → p.erased ≡ sectors
+      → p.copied ≡ 0 → p.behind ≡ 0 → p.next + steps_of pages ≤ slots → KeepsPace pages slots sectors p
   pace_renewed sectors p ready other erased copied behind room = record {
     ready = ready;
     room = by_test (nat_eq p.turn 1) (ne_eqb p.turn 1 other);
@@ -144,7 +145,7 @@ module _ (pages slots : ℕ) where
   }
     where
       by_test : (b : Bool) → b ≡ false
-          → (if b then 1 else 0) + (sectors - p.erased) + (COPY_STEPS - p.copied) + p.next ≤ slots
+          → (if b then 1 else 0) + (sectors - p.erased) + (steps_of pages - p.copied) + p.next ≤ slots
       by_test true e = absurd (true≢false e)
       by_test false e = omega (arith, erased, copied, room)
 

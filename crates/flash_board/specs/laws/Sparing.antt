@@ -5,9 +5,10 @@ use Rattle.std.proofs.Common.{refl, sym, ◌∙◌, ap, inl, inr, ⊎_elim, subs
 use Rattle.std.proofs.lemmas.Bool.{cases_eq, cases_lt}
 use Rattle.flash_board.specs.CopyParts.{KeepsOthers}
 use Rattle.flash_board.specs.declared.flash.TheConstants.{BLANK}
+use Rattle.nvm_board.specs.declared.board.TheConstants.{LEAST_PAGES}
 use Rattle.flash_board.specs.declared.place.PageMap.{PageMap}
-use Rattle.flash_board.specs.declared.layout.TheConstants.{COPY_STEPS, STEP_PAGES}
-use Rattle.flash_board.specs.FlashBlocks.{area_size, witness_start}
+use Rattle.flash_board.specs.declared.layout.TheConstants.{STEP_PAGES}
+use Rattle.flash_board.specs.FlashBlocks.{area_size, steps_of, witness_start}
 use Rattle.flash_board.specs.FlashCalls.{SameElsewhere, AreFilled}
 use Rattle.flash_board.specs.FlashLogs.{base_in, close_of, find, is_closed, page_word, slot_of, turn_of, word_of}
 use Rattle.flash_board.specs.FlashLogs.{words_of}
@@ -277,10 +278,11 @@ module _ (pages slots : ℕ) where
       (first : start 0 ≡ 0) (second : start sectors ≡ area_size slots)
       (third : start (2 * sectors) ≡ witness_start slots) (some : 0 < sectors) where
     -- no step of the move is taken
-    pub spare_none : (m words : List ℕ) (turn : ℕ) → IsSpare pages slots sectors start m words turn 0 0 0
-    spare_none m words turn = record {
+    pub spare_none : LEAST_PAGES ≤ pages → (m words : List ℕ) (turn : ℕ)
+        → IsSpare pages slots sectors start m words turn 0 0 0
+    spare_none least m words turn = record {
       within = omega arith;
-      most = omega arith;
+      most = omega (arith, least);
       idle = λ e. refl;
       fresh = λ lt. (refl, refl);
       blank = λ lt. record {
@@ -374,23 +376,24 @@ module _ (pages slots : ℕ) where
         }
 
     -- the move may begin anew
-    pub log_anew : (m : List ℕ) (p : PageMap) → IsLog pages slots sectors start m p
-        → IsLog pages slots sectors start m (record p { erased = 0; copied = 0; behind = 0 })
-    log_anew m p log = record {
+    pub log_anew : LEAST_PAGES ≤ pages → {T : Type 0} {entries : T → List ℕ} (m : List ℕ) (p : PageMap T)
+        → IsLog entries pages slots sectors start m p
+        → IsLog entries pages slots sectors start m (record p { erased = 0; copied = 0; behind = 0 })
+    log_anew least m p log = record {
       ring = log.ring;
       known = λ is. let known = log.known is in record {
         turn = known.turn;
         small = known.small;
         index = known.index;
         free = known.free;
-        spare = spare_none m (words_of pages slots m) p.turn;
+        spare = spare_none least m (words_of pages slots m) p.turn;
       };
     }
 
   module _ (sectors : ℕ) (start : ℕ → ℕ) where
     -- one step more has copied pages
     pub spare_copied : (m after words new : List ℕ) (turn erased copied behind n : ℕ) → erased ≡ sectors
-        → copied + 1 < COPY_STEPS
+        → copied + 1 < steps_of pages
         → IsSpare pages slots sectors start m words turn erased copied behind
         → HasCopies pages slots after new (spare_in slots turn) (STEP_PAGES * copied + STEP_PAGES) n
         → IsSpare pages slots sectors start after new turn erased (copied + 1) n

@@ -10,12 +10,12 @@ use Rattle.flash_board.specs.laws.Marks.{elsewhere_wider}
 use Rattle.flash_board.specs.laws.Moving.{Stays}
 use Rattle.flash_board.specs.laws.Sparing.{copies_past, copies_put, spare_stays}
 use Rattle.flash_board.specs.laws.Words.{index-page}
-use Rattle.flash_board.specs.declared.layout.TheConstants.{PAGES}
 use Rattle.flash_board.proofs.ahead.copy_ahead.Goals as goal
 
 pub returns-clause-copies : goal.returns-clause-copies
 returns-clause-copies g c =
     let slots = g.F.Flash.SLOTS in
+    let pages = g.F.Flash.PAGES in
     let a = c.args in
     let m = (g.F.Flash.state a.flash.now).words in
     let mid = (g.F.Flash.state c.record_of.new.flash).words in
@@ -41,18 +41,18 @@ returns-clause-copies g c =
     subst (λ (b : ℕ). SameElsewhere m b (20 * slots) after) at
     (subst (λ (l : List ℕ). SameElsewhere l (base_in slots c.spare.result) (20 * slots) after)
     c.record_of.ensures.words c.put_in_spare.ensures.elsewhere) in
-    let stays : Stays PAGES slots m after =
-    spare_stays PAGES slots m after a.turn c.requires.moves.2 c.requires.turn c.requires.moves.0 c.requires.moves.1
+    let stays : Stays pages slots m after =
+    spare_stays pages slots m after a.turn c.requires.moves.2 c.requires.turn c.requires.moves.0 c.requires.moves.1
     (elsewhere_wider m after base (20 * slots) base (20 * slots + 2) (omega arith) (omega arith) elsewhere) in
     let home : base_in slots c.home.result ≡ base_in slots a.turn = c.home.ensures.is slots in
-    copies_put PAGES slots m after (words_of PAGES slots m) (words_of PAGES slots after) base a.page a.page
+    copies_put pages slots m after (words_of pages slots m) (words_of pages slots after) base a.page a.page
     (a.page + 1) a.next s words has elsewhere is_put kept below size c.in_ok-found.ensures.names
     (λ p lt other. omega (arith, lt, other))
     (λ p from. (omega (arith, from), λ e. absurd (omega (arith, e, from))))
     (λ p k other within few. ap (λ (l : List ℕ). slice_index l (16 * p + k)) stays.words)
     (λ k few. c.in_ok-found.ensures.each k few
     ∙ ap (λ (b : ℕ). page_word m b slots a.page k) (home ∙ ap (base_in slots) c.requires.turn)
-    ∙ sym (index-page PAGES slots m a.page k c.requires.entry.0 few)
+    ∙ sym (index-page pages slots m a.page k c.requires.entry.0 few)
     ∙ sym (ap (λ (l : List ℕ). slice_index l (16 * a.page + k)) stays.words))
 
 pub record_of-requires-clause-entry : goal.record_of-requires-clause-entry
@@ -70,12 +70,12 @@ put_in_spare-requires-clause-free g c =
     (subst (λ (l : List ℕ). AreFree l (spare_in slots c.args.turn) next slots) (sym c.record_of.ensures.words)
     c.requires.copies.2.free)
 
-pub returns-then-table-from-eq0-clause-copies : goal.returns-then-table-from-eq0-clause-copies
-returns-then-table-from-eq0-clause-copies g c =
+pub returns-then-entry-eq0-clause-copies : goal.returns-then-entry-eq0-clause-copies
+returns-then-entry-eq0-clause-copies g c =
     let slots = g.F.Flash.SLOTS in
+    let pages = g.F.Flash.PAGES in
     let a = c.args in
     let m = (g.F.Flash.state a.flash.now).words in
     let none : find m (base_in slots a.turn) slots a.page ≡ 0 =
-    sym c.requires.entry.1 ∙ sym (ap (λ (k : ℕ). slice_index a.table.now k) c.from.ensures)
-    ∙ c.if-table-from-eq0.true in
-    copies_past PAGES slots m a.turn a.page a.next c.requires.turn none c.requires.copies.2
+    sym c.requires.entry.1 ∙ sym c.entry.ensures ∙ c.if-entry-eq0.true in
+    copies_past pages slots m a.turn a.page a.next c.requires.turn none c.requires.copies.2

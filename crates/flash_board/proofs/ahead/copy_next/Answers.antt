@@ -11,12 +11,12 @@ use Rattle.flash_board.specs.laws.Moving.{Stays}
 use Rattle.flash_board.specs.laws.Lighting.{tries_faults}
 use Rattle.flash_board.specs.laws.Pacing.{paced_behind, stepped_copied, stepped_fresh}
 use Rattle.flash_board.specs.laws.Sparing.{index_same, log_anew, spare_copied, spare_leaves, spare_stays}
-use Rattle.flash_board.specs.declared.layout.TheConstants.{PAGES}
 use Rattle.flash_board.proofs.ahead.copy_next.Goals as goal
 
 pub returns-in_err-behind-clause-words : goal.returns-in_err-behind-clause-words
 returns-in_err-behind-clause-words g c =
     let slots = g.F.Flash.SLOTS in
+    let pages = g.F.Flash.PAGES in
     let m = (g.F.Flash.state c.args.flash.now).words in
     let after = (g.F.Flash.state c.copy_step.new.flash).words in
     let place = c.args.place.now in
@@ -26,13 +26,14 @@ returns-in_err-behind-clause-words g c =
     let wide : SameElsewhere m base (area_size slots) after =
     elsewhere_wider m after base (20 * slots) base (area_size slots) (omega arith) (omega arith)
     c.copy_step.ensures.elsewhere in
-    let stays : Stays PAGES slots m after =
-    spare_stays PAGES slots m after turn c.requires.log.ring known.turn known.small c.requires.moves.0 wide in
+    let stays : Stays pages slots m after =
+    spare_stays pages slots m after turn c.requires.log.ring known.turn known.small c.requires.moves.0 wide in
     stays.words
 
 pub returns-in_err-behind-clause-log : goal.returns-in_err-behind-clause-log
 returns-in_err-behind-clause-log g c =
     let slots = g.F.Flash.SLOTS in
+    let pages = g.F.Flash.PAGES in
     let m = (g.F.Flash.state c.args.flash.now).words in
     let after = (g.F.Flash.state c.copy_step.new.flash).words in
     let place = c.args.place.now in
@@ -42,13 +43,14 @@ returns-in_err-behind-clause-log g c =
     let wide : SameElsewhere m base (area_size slots) after =
     elsewhere_wider m after base (20 * slots) base (area_size slots) (omega arith) (omega arith)
     c.copy_step.ensures.elsewhere in
-    let stays : Stays PAGES slots m after =
-    spare_stays PAGES slots m after turn c.requires.log.ring known.turn known.small c.requires.moves.0 wide in
+    let stays : Stays pages slots m after =
+    spare_stays pages slots m after turn c.requires.log.ring known.turn known.small c.requires.moves.0 wide in
     record { ring = stays.ring; known = λ e. absurd (true≢false (sym e)) }
 
 pub returns-clause-words : goal.returns-clause-words
 returns-clause-words g c =
     let slots = g.F.Flash.SLOTS in
+    let pages = g.F.Flash.PAGES in
     let m = (g.F.Flash.state c.args.flash.now).words in
     let after = (g.F.Flash.state c.copy_step.new.flash).words in
     let place = c.args.place.now in
@@ -58,13 +60,15 @@ returns-clause-words g c =
     let wide : SameElsewhere m base (area_size slots) after =
     elsewhere_wider m after base (20 * slots) base (area_size slots) (omega arith) (omega arith)
     c.copy_step.ensures.elsewhere in
-    let stays : Stays PAGES slots m after =
-    spare_stays PAGES slots m after turn c.requires.log.ring known.turn known.small c.requires.moves.0 wide in
+    let stays : Stays pages slots m after =
+    spare_stays pages slots m after turn c.requires.log.ring known.turn known.small c.requires.moves.0 wide in
     stays.words
 
 pub returns-clause-log : goal.returns-clause-log
 returns-clause-log g c =
     let slots = g.F.Flash.SLOTS in
+    let pages = g.F.Flash.PAGES in
+    let entries = g.F.Table.PageTable.entries in
     let m = (g.F.Flash.state c.args.flash.now).words in
     let after = (g.F.Flash.state c.copy_step.new.flash).words in
     let place = c.args.place.now in
@@ -74,22 +78,23 @@ returns-clause-log g c =
     let wide : SameElsewhere m base (area_size slots) after =
     elsewhere_wider m after base (20 * slots) base (area_size slots) (omega arith) (omega arith)
     c.copy_step.ensures.elsewhere in
-    let stays : Stays PAGES slots m after =
-    spare_stays PAGES slots m after turn c.requires.log.ring known.turn known.small c.requires.moves.0 wide in
+    let stays : Stays pages slots m after =
+    spare_stays pages slots m after turn c.requires.log.ring known.turn known.small c.requires.moves.0 wide in
     let area = spare_leaves slots m after turn wide in
     let home = base_in slots turn in
-    let last = c.if-place-eq-COPY_STEPS.false in
+    let last = c.if-place-copy_steps.false in
+    let steps = c.copy_steps.ensures in
     let most = known.spare.most in
     record {
       ring = stays.ring;
       known = λ _. record {
         turn = known.turn ∙ sym stays.turn;
         small = known.small;
-        index = index_same slots PAGES m after place.table home area known.index;
+        index = index_same slots pages m after (entries place.table) home area known.index;
         free = area_free slots m after home area place.next known.free;
-        spare = spare_copied PAGES slots g.F.Flash.SECTORS g.F.Flash.sector_start m after (words_of PAGES slots m)
-            (words_of PAGES slots after) turn place.erased place.copied place.behind c.in_ok-behind.behind
-            c.requires.moves.1 (omega (arith, last, most)) known.spare c.in_ok-behind.ensures.copies;
+        spare = spare_copied pages slots g.F.Flash.SECTORS g.F.Flash.sector_start m after (words_of pages slots m)
+            (words_of pages slots after) turn place.erased place.copied place.behind c.in_ok-behind.behind
+            c.requires.moves.1 (omega (arith, last, steps, most)) known.spare c.in_ok-behind.ensures.copies;
       };
     }
 
@@ -114,6 +119,7 @@ copy_step-requires-clause-moves g c =
 pub pass_turn-requires-clause-turn : goal.pass_turn-requires-clause-turn
 pass_turn-requires-clause-turn g c =
     let slots = g.F.Flash.SLOTS in
+    let pages = g.F.Flash.PAGES in
     let m = (g.F.Flash.state c.args.flash.now).words in
     let after = (g.F.Flash.state c.copy_step.new.flash).words in
     let place = c.args.place.now in
@@ -123,13 +129,14 @@ pass_turn-requires-clause-turn g c =
     let wide : SameElsewhere m base (area_size slots) after =
     elsewhere_wider m after base (20 * slots) base (area_size slots) (omega arith) (omega arith)
     c.copy_step.ensures.elsewhere in
-    let stays : Stays PAGES slots m after =
-    spare_stays PAGES slots m after turn c.requires.log.ring known.turn known.small c.requires.moves.0 wide in
+    let stays : Stays pages slots m after =
+    spare_stays pages slots m after turn c.requires.log.ring known.turn known.small c.requires.moves.0 wide in
     known.turn ∙ sym stays.turn
 
 pub pass_turn-requires-clause-moves : goal.pass_turn-requires-clause-moves
 pass_turn-requires-clause-moves g c =
     let slots = g.F.Flash.SLOTS in
+    let pages = g.F.Flash.PAGES in
     let m = (g.F.Flash.state c.args.flash.now).words in
     let after = (g.F.Flash.state c.copy_step.new.flash).words in
     let place = c.args.place.now in
@@ -139,13 +146,14 @@ pass_turn-requires-clause-moves g c =
     let wide : SameElsewhere m base (area_size slots) after =
     elsewhere_wider m after base (20 * slots) base (area_size slots) (omega arith) (omega arith)
     c.copy_step.ensures.elsewhere in
-    let stays : Stays PAGES slots m after =
-    spare_stays PAGES slots m after turn c.requires.log.ring known.turn known.small c.requires.moves.0 wide in
+    let stays : Stays pages slots m after =
+    spare_stays pages slots m after turn c.requires.log.ring known.turn known.small c.requires.moves.0 wide in
     (known.small, c.requires.moves.0, stays.ring)
 
 pub pass_turn-requires-clause-copies : goal.pass_turn-requires-clause-copies
 pass_turn-requires-clause-copies g c =
     let slots = g.F.Flash.SLOTS in
+    let pages = g.F.Flash.PAGES in
     let m = (g.F.Flash.state c.args.flash.now).words in
     let after = (g.F.Flash.state c.copy_step.new.flash).words in
     let place = c.args.place.now in
@@ -155,16 +163,19 @@ pass_turn-requires-clause-copies g c =
     let wide : SameElsewhere m base (area_size slots) after =
     elsewhere_wider m after base (20 * slots) base (area_size slots) (omega arith) (omega arith)
     c.copy_step.ensures.elsewhere in
-    let stays : Stays PAGES slots m after =
-    spare_stays PAGES slots m after turn c.requires.log.ring known.turn known.small c.requires.moves.0 wide in
-    let last = c.if-place-eq-COPY_STEPS.true in
-    let all : 16 * place.copied + 16 ≡ PAGES = omega (arith, last) in
-    subst (λ (n : ℕ). HasCopies PAGES slots after (words_of PAGES slots after) base n c.in_ok-behind.behind) all
+    let stays : Stays pages slots m after =
+    spare_stays pages slots m after turn c.requires.log.ring known.turn known.small c.requires.moves.0 wide in
+    let last = c.if-place-copy_steps.true in
+    let steps = c.copy_steps.ensures in
+    let whole = g.met.F.Flash.pages_fit.2 in
+    let all : 16 * place.copied + 16 ≡ pages = omega (arith, last, steps, whole) in
+    subst (λ (n : ℕ). HasCopies pages slots after (words_of pages slots after) base n c.in_ok-behind.behind) all
     c.in_ok-behind.ensures.copies
 
-pub returns-then-place-eq-COPY_STEPS-clause-words : goal.returns-then-place-eq-COPY_STEPS-clause-words
-returns-then-place-eq-COPY_STEPS-clause-words g c =
+pub returns-then-place-copy_steps-clause-words : goal.returns-then-place-copy_steps-clause-words
+returns-then-place-copy_steps-clause-words g c =
     let slots = g.F.Flash.SLOTS in
+    let pages = g.F.Flash.PAGES in
     let m = (g.F.Flash.state c.args.flash.now).words in
     let after = (g.F.Flash.state c.copy_step.new.flash).words in
     let place = c.args.place.now in
@@ -174,29 +185,32 @@ returns-then-place-eq-COPY_STEPS-clause-words g c =
     let wide : SameElsewhere m base (area_size slots) after =
     elsewhere_wider m after base (20 * slots) base (area_size slots) (omega arith) (omega arith)
     c.copy_step.ensures.elsewhere in
-    let stays : Stays PAGES slots m after =
-    spare_stays PAGES slots m after turn c.requires.log.ring known.turn known.small c.requires.moves.0 wide in
+    let stays : Stays pages slots m after =
+    spare_stays pages slots m after turn c.requires.log.ring known.turn known.small c.requires.moves.0 wide in
     c.pass_turn.ensures.words ∙ stays.words
 
 pub returns-then-place-most-clause-log : goal.returns-then-place-most-clause-log
 returns-then-place-most-clause-log g c =
     let slots = g.F.Flash.SLOTS in
+    let pages = g.F.Flash.PAGES in
     let sectors = g.F.Flash.SECTORS in
     let start = g.F.Flash.sector_start in
     let fit = g.met.F.Flash.sectors_fit in
     let m = (g.F.Flash.state c.args.flash.now).words in
-    log_anew PAGES slots sectors start g.met.F.Flash.sectors_rise fit.0 fit.1 fit.2 fit.4 m c.args.place.now
-    c.requires.log
+    log_anew pages slots sectors start g.met.F.Flash.sectors_rise fit.0 fit.1 fit.2 fit.4
+    g.met.F.Flash.pages_fit.0 m c.args.place.now c.requires.log
 
 pub returns-then-place-most-clause-pace : goal.returns-then-place-most-clause-pace
 returns-then-place-most-clause-pace g c = λ roomy due pace same.
+    let pages = g.F.Flash.PAGES in
     let known = c.requires.log.known c.requires.ready in
-    let below = paced_behind g.F.Flash.SLOTS g.F.Flash.SECTORS c.args.place.now roomy known.spare.most pace in
+    let below = paced_behind pages g.F.Flash.SLOTS g.F.Flash.SECTORS c.args.place.now roomy known.spare.most pace in
     let past = c.if-place-most.true in absurd (omega (arith, below, past, roomy))
 
-pub returns-then-place-eq-COPY_STEPS-clause-pace : goal.returns-then-place-eq-COPY_STEPS-clause-pace
-returns-then-place-eq-COPY_STEPS-clause-pace g c =
+pub returns-then-place-copy_steps-clause-pace : goal.returns-then-place-copy_steps-clause-pace
+returns-then-place-copy_steps-clause-pace g c =
     let slots = g.F.Flash.SLOTS in
+    let pages = g.F.Flash.PAGES in
     let sectors = g.F.Flash.SECTORS in
     let known = c.requires.log.known c.requires.ready in
     let n = c.in_ok-behind.behind in
@@ -206,15 +220,18 @@ returns-then-place-eq-COPY_STEPS-clause-pace g c =
     c.pass_turn.result c.pass_turn.ensures.light in
     on_ok_weaker c.pass_turn.result
     (λ (fresh : HasMoved c.pass_turn.new.place n). λ roomy due pace same.
-    let below = paced_behind slots sectors c.args.place.now roomy known.spare.most pace in
-    stepped_fresh slots sectors c.pass_turn.new.place n roomy (omega (arith, below, passes, before, after, same)) fresh)
+    let below = paced_behind pages slots sectors c.args.place.now roomy known.spare.most pace in
+    stepped_fresh pages slots sectors c.pass_turn.new.place n roomy
+    (omega (arith, below, passes, before, after, same)) fresh)
     c.pass_turn.ensures.fresh
 
 pub returns-clause-pace : goal.returns-clause-pace
 returns-clause-pace g c = λ roomy due pace same.
+    let pages = g.F.Flash.PAGES in
     let known = c.requires.log.known c.requires.ready in
-    let last = c.if-place-eq-COPY_STEPS.false in
+    let last = c.if-place-copy_steps.false in
+    let steps = c.copy_steps.ensures in
     let most = known.spare.most in
     let passes = c.in_ok-behind.ensures.passes in
-    stepped_copied g.F.Flash.SLOTS g.F.Flash.SECTORS c.args.place.now c.in_ok-behind.behind
-    (omega (arith, last, most)) due (omega (arith, passes, same)) pace
+    stepped_copied pages g.F.Flash.SLOTS g.F.Flash.SECTORS c.args.place.now c.in_ok-behind.behind
+    (omega (arith, last, steps, most)) due (omega (arith, passes, same)) pace

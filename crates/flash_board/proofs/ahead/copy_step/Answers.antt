@@ -5,12 +5,12 @@ use Rattle.flash_board.specs.laws.Copying.{area_found}
 use Rattle.flash_board.specs.laws.Marks.{elsewhere_then, elsewhere_wider}
 use Rattle.flash_board.specs.laws.Moving.{Stays}
 use Rattle.flash_board.specs.laws.Sparing.{spare_leaves, spare_stays}
-use Rattle.flash_board.specs.declared.layout.TheConstants.{PAGES}
 use Rattle.flash_board.proofs.ahead.copy_step.Goals as goal
 
 pub loop-k-init : goal.loop-k-init
 loop-k-init g c =
     let slots = g.F.Flash.SLOTS in
+    let pages = g.F.Flash.PAGES in
     let m = (g.F.Flash.state c.args.flash.now).words in
     let first = c.args.first in
     let none : first ≡ first + 0 = omega arith in
@@ -23,13 +23,14 @@ loop-k-init g c =
       passes = omega arith;
       room = omega (arith, room);
       elsewhere = record { same = λ k out. refl };
-      copies = subst (λ (n : ℕ). HasCopies PAGES slots m (words_of PAGES slots m) (spare_in slots c.args.turn) n
+      copies = subst (λ (n : ℕ). HasCopies pages slots m (words_of pages slots m) (spare_in slots c.args.turn) n
           c.args.next) none c.requires.copies.1;
     }
 
 pub loop-k-preserved : goal.loop-k-preserved
 loop-k-preserved g c =
     let slots = g.F.Flash.SLOTS in
+    let pages = g.F.Flash.PAGES in
     let m = (g.F.Flash.state c.args.flash.now).words in
     let mid = (g.F.Flash.state c.loop-k.flash).words in
     let after = (g.F.Flash.state c.copy_ahead.new.flash).words in
@@ -53,18 +54,19 @@ loop-k-preserved g c =
       passes = omega (arith, was.passes, c.in_ok-free.ensures.passes);
       room = omega (arith, most, fits);
       elsewhere = elsewhere_then m mid after base (20 * slots) was.elsewhere c.copy_ahead.ensures.elsewhere;
-      copies = subst (λ (j : ℕ). HasCopies PAGES slots after (words_of PAGES slots after) base j n) there
+      copies = subst (λ (j : ℕ). HasCopies pages slots after (words_of pages slots after) base j n) there
           c.in_ok-free.ensures.copies;
     }
 
 pub copy_ahead-requires-clause-turn : goal.copy_ahead-requires-clause-turn
 copy_ahead-requires-clause-turn g c =
     let slots = g.F.Flash.SLOTS in
+    let pages = g.F.Flash.PAGES in
     let m = (g.F.Flash.state c.args.flash.now).words in
     let mid = (g.F.Flash.state c.loop-k.flash).words in
     let base = spare_in slots c.args.turn in
-    let stays : Stays PAGES slots m mid =
-    spare_stays PAGES slots m mid c.args.turn c.requires.moves.2 c.requires.turn c.requires.moves.0 c.requires.moves.1
+    let stays : Stays pages slots m mid =
+    spare_stays pages slots m mid c.args.turn c.requires.moves.2 c.requires.turn c.requires.moves.0 c.requires.moves.1
     (elsewhere_wider m mid base (20 * slots) base (20 * slots + 2) (omega arith) (omega arith)
     c.loop-k.invariant.elsewhere) in
     c.requires.turn ∙ sym stays.turn
@@ -72,11 +74,12 @@ copy_ahead-requires-clause-turn g c =
 pub copy_ahead-requires-clause-moves : goal.copy_ahead-requires-clause-moves
 copy_ahead-requires-clause-moves g c =
     let slots = g.F.Flash.SLOTS in
+    let pages = g.F.Flash.PAGES in
     let m = (g.F.Flash.state c.args.flash.now).words in
     let mid = (g.F.Flash.state c.loop-k.flash).words in
     let base = spare_in slots c.args.turn in
-    let stays : Stays PAGES slots m mid =
-    spare_stays PAGES slots m mid c.args.turn c.requires.moves.2 c.requires.turn c.requires.moves.0 c.requires.moves.1
+    let stays : Stays pages slots m mid =
+    spare_stays pages slots m mid c.args.turn c.requires.moves.2 c.requires.turn c.requires.moves.0 c.requires.moves.1
     (elsewhere_wider m mid base (20 * slots) base (20 * slots + 2) (omega arith) (omega arith)
     c.loop-k.invariant.elsewhere) in
     (c.requires.moves.0, c.requires.moves.1, stays.ring)
@@ -84,6 +87,7 @@ copy_ahead-requires-clause-moves g c =
 pub copy_ahead-requires-clause-entry : goal.copy_ahead-requires-clause-entry
 copy_ahead-requires-clause-entry g c =
     let slots = g.F.Flash.SLOTS in
+    let pages = g.F.Flash.PAGES in
     let m = (g.F.Flash.state c.args.flash.now).words in
     let mid = (g.F.Flash.state c.loop-k.flash).words in
     let base = spare_in slots c.args.turn in
@@ -93,7 +97,7 @@ copy_ahead-requires-clause-entry g c =
     c.loop-k.invariant.elsewhere) in
     let most = c.requires.index.0 in
     let k = c.loop-k-test.true in
-    let below : page < PAGES = omega (arith, most, k) in (
+    let below : page < pages = omega (arith, most, k) in (
       below,
       c.requires.index.1.each page below
           ∙ sym (area_found slots m mid (base_in slots c.args.turn) same page),

@@ -1,5 +1,5 @@
 use Rattle.std.proofs.Common.{◌≡◌, ◌≤◌, ◌+◌, ◌*◌, false}
-use Rattle.flash_board.specs.declared.layout.TheConstants.{PAGES, STEP_PAGES}
+use Rattle.flash_board.specs.declared.layout.TheConstants.{STEP_PAGES}
 use Rattle.flash_board.specs.FlashCalls.{KeepsPower, SameElsewhere}
 use Rattle.flash_board.specs.FlashLogs.{words_of}
 use Rattle.flash_board.specs.Spares.{HasCopies, spare_in}
@@ -17,6 +17,7 @@ invariant-loop-k g l =
       passes : l.free + old.faults ≤ l.next + l.k + new.faults;
       room : l.free + STEP_PAGES ≤ slots + l.k;
       elsewhere : SameElsewhere old.words (spare_in slots l.turn) (20 * slots) new.words;
-      copies : HasCopies PAGES slots new.words (words_of PAGES slots new.words) (spare_in slots l.turn) (l.first + l.k)
+      copies : HasCopies g.F.Flash.PAGES slots new.words (words_of g.F.Flash.PAGES slots new.words)
+          (spare_in slots l.turn) (l.first + l.k)
           l.free;
     }

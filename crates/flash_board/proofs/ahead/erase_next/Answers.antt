@@ -7,12 +7,13 @@ use Rattle.flash_board.specs.Spares.{spare_in, spare_sector}
 use Rattle.flash_board.specs.laws.Copying.{area_free}
 use Rattle.flash_board.specs.laws.Moving.{Stays}
 use Rattle.flash_board.specs.laws.Sparing.{index_same, sector_within, spare_leaves, spare_more, spare_stays}
-use Rattle.flash_board.specs.declared.layout.TheConstants.{PAGES}
 use Rattle.flash_board.proofs.ahead.erase_next.Goals as goal
 
 pub returns-clause-log : goal.returns-clause-log
 returns-clause-log g c =
     let slots = g.F.Flash.SLOTS in
+    let pages = g.F.Flash.PAGES in
+    let entries = g.F.Table.PageTable.entries in
     let sectors = g.F.Flash.SECTORS in
     let start = g.F.Flash.sector_start in
     let rise = g.met.F.Flash.sectors_rise in
@@ -33,10 +34,10 @@ returns-clause-log g c =
     subst (λ (s : ℕ). AreFilled after (start (s + place.erased))
     (start (s + place.erased + 1) - start (s + place.erased)) BLANK) number c.in_ok-erase.ensures.done in
     let within : SameElsewhere m (spare_in slots turn) (area_size slots) after =
-    sector_within PAGES slots sectors start rise fit.0 fit.1 fit.2 fit.4 m after turn place.erased c.requires.moves.1
+    sector_within pages slots sectors start rise fit.0 fit.1 fit.2 fit.4 m after turn place.erased c.requires.moves.1
     run in
-    let stays : Stays PAGES slots m after =
-    spare_stays PAGES slots m after turn c.requires.log.ring known.turn known.small c.requires.moves.0 within in
+    let stays : Stays pages slots m after =
+    spare_stays pages slots m after turn c.requires.log.ring known.turn known.small c.requires.moves.0 within in
     let area = spare_leaves slots m after turn within in
     let base = base_in slots turn in
     record {
@@ -44,10 +45,10 @@ returns-clause-log g c =
       known = λ _. record {
         turn = known.turn ∙ sym stays.turn;
         small = known.small;
-        index = index_same slots PAGES m after place.table base area known.index;
+        index = index_same slots pages m after (entries place.table) base area known.index;
         free = area_free slots m after base area place.next known.free;
-        spare = spare_more PAGES slots sectors start rise fit.0 fit.1 fit.2 fit.4 m after (words_of PAGES slots m)
-            (words_of PAGES slots after) turn place.erased place.copied place.behind c.requires.moves.0
+        spare = spare_more pages slots sectors start rise fit.0 fit.1 fit.2 fit.4 m after (words_of pages slots m)
+            (words_of pages slots after) turn place.erased place.copied place.behind c.requires.moves.0
             c.requires.moves.1 known.spare run done;
       };
     }
@@ -55,6 +56,7 @@ returns-clause-log g c =
 pub returns-clause-words : goal.returns-clause-words
 returns-clause-words g c =
     let slots = g.F.Flash.SLOTS in
+    let pages = g.F.Flash.PAGES in
     let sectors = g.F.Flash.SECTORS in
     let start = g.F.Flash.sector_start in
     let rise = g.met.F.Flash.sectors_rise in
@@ -69,15 +71,16 @@ returns-clause-words g c =
     subst (λ (s : ℕ). SameElsewhere m (start (s + place.erased))
     (start (s + place.erased + 1) - start (s + place.erased)) after) c.first_sector_of_spare.ensures.is
     c.erase.ensures.elsewhere in
-    let stays : Stays PAGES slots m after =
-    spare_stays PAGES slots m after place.turn c.requires.log.ring known.turn known.small c.requires.moves.0
-    (sector_within PAGES slots sectors start rise fit.0 fit.1 fit.2 fit.4 m after place.turn place.erased
+    let stays : Stays pages slots m after =
+    spare_stays pages slots m after place.turn c.requires.log.ring known.turn known.small c.requires.moves.0
+    (sector_within pages slots sectors start rise fit.0 fit.1 fit.2 fit.4 m after place.turn place.erased
     c.requires.moves.1 run) in
     stays.words
 
 pub returns-in_err-erase-clause-words : goal.returns-in_err-erase-clause-words
 returns-in_err-erase-clause-words g c =
     let slots = g.F.Flash.SLOTS in
+    let pages = g.F.Flash.PAGES in
     let sectors = g.F.Flash.SECTORS in
     let start = g.F.Flash.sector_start in
     let rise = g.met.F.Flash.sectors_rise in
@@ -92,15 +95,16 @@ returns-in_err-erase-clause-words g c =
     subst (λ (s : ℕ). SameElsewhere m (start (s + place.erased))
     (start (s + place.erased + 1) - start (s + place.erased)) after) c.first_sector_of_spare.ensures.is
     c.erase.ensures.elsewhere in
-    let stays : Stays PAGES slots m after =
-    spare_stays PAGES slots m after place.turn c.requires.log.ring known.turn known.small c.requires.moves.0
-    (sector_within PAGES slots sectors start rise fit.0 fit.1 fit.2 fit.4 m after place.turn place.erased
+    let stays : Stays pages slots m after =
+    spare_stays pages slots m after place.turn c.requires.log.ring known.turn known.small c.requires.moves.0
+    (sector_within pages slots sectors start rise fit.0 fit.1 fit.2 fit.4 m after place.turn place.erased
     c.requires.moves.1 run) in
     stays.words
 
 pub returns-in_err-erase-clause-log : goal.returns-in_err-erase-clause-log
 returns-in_err-erase-clause-log g c =
     let slots = g.F.Flash.SLOTS in
+    let pages = g.F.Flash.PAGES in
     let sectors = g.F.Flash.SECTORS in
     let start = g.F.Flash.sector_start in
     let rise = g.met.F.Flash.sectors_rise in
@@ -115,8 +119,8 @@ returns-in_err-erase-clause-log g c =
     subst (λ (s : ℕ). SameElsewhere m (start (s + place.erased))
     (start (s + place.erased + 1) - start (s + place.erased)) after) c.first_sector_of_spare.ensures.is
     c.erase.ensures.elsewhere in
-    let stays : Stays PAGES slots m after =
-    spare_stays PAGES slots m after place.turn c.requires.log.ring known.turn known.small c.requires.moves.0
-    (sector_within PAGES slots sectors start rise fit.0 fit.1 fit.2 fit.4 m after place.turn place.erased
+    let stays : Stays pages slots m after =
+    spare_stays pages slots m after place.turn c.requires.log.ring known.turn known.small c.requires.moves.0
+    (sector_within pages slots sectors start rise fit.0 fit.1 fit.2 fit.4 m after place.turn place.erased
     c.requires.moves.1 run) in
     record { ring = stays.ring; known = λ e. absurd (true≢false (sym e)) }

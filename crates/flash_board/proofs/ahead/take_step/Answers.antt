@@ -12,13 +12,15 @@ copy_next-requires-clause-moves g c =
 
 pub returns-then-SLOTS-place-clause-pace : goal.returns-then-SLOTS-place-clause-pace
 returns-then-SLOTS-place-clause-pace g c = λ roomy pace same.
+    let pages = g.F.Flash.PAGES in
     let far = c.if-SLOTS-place.true in
     let lead = c.lead.ensures in
-    stepped_none g.F.Flash.SLOTS g.F.Flash.SECTORS c.args.place.now (omega (arith, far, lead)) pace
+    stepped_none pages g.F.Flash.SLOTS g.F.Flash.SECTORS c.args.place.now (omega (arith, far, lead)) pace
 
 pub returns-then-place-eq1-clause-pace : goal.returns-then-place-eq1-clause-pace
 returns-then-place-eq1-clause-pace g c =
     let slots = g.F.Flash.SLOTS in
+    let pages = g.F.Flash.PAGES in
     let sectors = g.F.Flash.SECTORS in
     let place = c.args.place.now in
     let spare = (c.requires.log.known c.requires.ready).spare in
@@ -28,13 +30,14 @@ returns-then-place-eq1-clause-pace g c =
     let fresh = spare.fresh (omega (arith, erased, some_sectors)) in
     on_ok_weaker c.pass_on.result
     (λ (step : c.pass_on.new.place ≡ record place { ready = true; turn = 2; erased = 0; copied = 0; behind = 0 }).
-    λ roomy pace same. subst (HasStepped slots sectors) (sym step)
-    (stepped_on slots sectors place one erased fresh.0 pace))
+    λ roomy pace same. subst (HasStepped pages slots sectors) (sym step)
+    (stepped_on pages slots sectors place one erased fresh.0 pace))
     c.pass_on.ensures.step
 
 pub returns-then-place-sectors-clause-pace : goal.returns-then-place-sectors-clause-pace
 returns-then-place-sectors-clause-pace g c =
     let slots = g.F.Flash.SLOTS in
+    let pages = g.F.Flash.PAGES in
     let sectors = g.F.Flash.SECTORS in
     let place = c.args.place.now in
     let spare = (c.requires.log.known c.requires.ready).spare in
@@ -43,13 +46,14 @@ returns-then-place-sectors-clause-pace g c =
     let fresh = spare.fresh more in
     on_ok_weaker c.erase_next.result
     (λ (step : c.erase_next.new.place ≡ record place { ready = true; erased = place.erased + 1 }).
-    λ roomy pace same. subst (HasStepped slots sectors) (sym step)
-    (stepped_erased slots sectors place more fresh.0 pace))
+    λ roomy pace same. subst (HasStepped pages slots sectors) (sym step)
+    (stepped_erased pages slots sectors place more fresh.0 pace))
     c.erase_next.ensures.step
 
 pub returns-clause-pace : goal.returns-clause-pace
 returns-clause-pace g c =
     let slots = g.F.Flash.SLOTS in
+    let pages = g.F.Flash.PAGES in
     let sectors = g.F.Flash.SECTORS in
     let place = c.args.place.now in
     let old = g.F.Flash.state c.args.flash.now in
@@ -57,9 +61,10 @@ returns-clause-pace g c =
     let near = c.if-SLOTS-place.false in
     let lead = c.lead.ensures in
     let within = (c.requires.log.known c.requires.ready).free.within in
-    let due : slots ≤ place.next + lead_of sectors = omega (arith, near, lead, within) in
+    let due : slots ≤ place.next + lead_of pages sectors = omega (arith, near, lead, within) in
     on_ok_weaker c.copy_next.result
-    (λ (goes : IsRoomy slots sectors → slots ≤ place.next + lead_of sectors → KeepsPace slots sectors place
-    → new.faults ≡ old.faults → HasStepped slots sectors c.copy_next.new.place).
+    (λ (goes : IsRoomy pages slots sectors → slots ≤ place.next + lead_of pages sectors
+    → KeepsPace pages slots sectors place
+    → new.faults ≡ old.faults → HasStepped pages slots sectors c.copy_next.new.place).
     λ roomy pace same. goes roomy due pace same)
     c.copy_next.ensures.pace

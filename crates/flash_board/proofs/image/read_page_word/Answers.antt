@@ -1,4 +1,4 @@
-use Rattle.std.proofs.Common.{◌≡◌, ℕ, slice_index, ap, ◌∙◌, arith}
+use Rattle.std.proofs.Common.{◌≡◌, ◌∙◌, arith}
 use Rattle.flash_board.specs.FlashLogs.{base_in, find}
 use Rattle.flash_board.specs.laws.Indexing.{find_most}
 use Rattle.flash_board.proofs.image.read_page_word.Goals as goal
@@ -8,9 +8,7 @@ slot_at-requires g c =
     let slots = g.F.Flash.SLOTS in
     let m = (g.F.Flash.state c.args.flash.now).words in
     let base = base_in slots c.args.area in
-    let page = c.from.ensures in
-    let found : slice_index c.args.table.now c.from.result ≡ find m base slots c.args.page =
-    ap (λ (k : ℕ). slice_index c.args.table.now k) page ∙ c.requires.entry in
+    let found : c.entry-found.result ≡ find m base slots c.args.page = c.entry-found.ensures ∙ c.requires.entry in
     let most = find_most m base slots c.args.page in
     let some = c.if-found-eq0.false in
     omega (arith, found, most, some)
@@ -18,6 +16,6 @@ slot_at-requires g c =
 pub read-requires-clause-within : goal.read-requires-clause-within
 read-requires-clause-within g c =
     let at = c.slot_at.ensures.within in
-    let place = c.from-2.ensures in
+    let place = c.from.ensures in
     let small = c.requires.place in
     omega (arith, at, place, small)

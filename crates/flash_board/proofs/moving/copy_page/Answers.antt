@@ -1,4 +1,4 @@
-use Rattle.std.proofs.Common.{◌≡◌, ◌<◌, ◌+◌, ℕ, List, length, slice_index, slice_set, refl, sym, ap, subst, ◌∙◌}
+use Rattle.std.proofs.Common.{◌≡◌, ◌<◌, ◌+◌, ℕ, List, length, slice_index, refl, sym, ap, subst, ◌∙◌}
 use Rattle.std.proofs.Common.{arith}
 use Rattle.flash_board.specs.CopyParts.{CopiesPage, KeepsOthers}
 use Rattle.flash_board.specs.FlashLogs.{base_in, find, slot_of}
@@ -7,12 +7,12 @@ use Rattle.flash_board.specs.Renewals.{HavePages}
 use Rattle.flash_board.specs.SlotParts.{IsPut}
 use Rattle.flash_board.specs.laws.Copying.{copies_put}
 use Rattle.flash_board.specs.laws.Renewing.{put_held}
-use Rattle.flash_board.specs.declared.layout.TheConstants.{PAGES}
 use Rattle.flash_board.proofs.moving.copy_page.Goals as goal
 
 pub returns-clause-copies : goal.returns-clause-copies
 returns-clause-copies g c =
     let slots = g.F.Flash.SLOTS in
+    let pages = g.F.Flash.PAGES in
     let a = c.args in
     let m = (g.F.Flash.state a.flash.now).words in
     let mid = (g.F.Flash.state c.record_of.new.flash).words in
@@ -27,19 +27,20 @@ returns-clause-copies g c =
     (subst (λ (l : List ℕ). KeepsOthers slots l to (slice_index words 16) after (s + 1)) c.record_of.ensures.words
     put.2) in
     let size : length words ≡ 18 = omega arith in
-    let all : length a.table.now ≡ PAGES = omega arith in
-    let within : a.page < length a.table.now = omega (arith, all, c.requires.page) in
+    let table = g.F.Table.PageTable.entries a.table.now in
+    let all : length table ≡ pages = g.met.F.Flash.table_fits a.table.now in
+    let within : a.page < length table = omega (arith, all, c.requires.page) in
     let most = put.0 in
     let fits = g.met.F.Flash.slots_fit.0 in
     let below : s < slots = omega (arith, most, c.requires.page, fits) in
-    subst (λ (k : ℕ). CopiesPage slots m a.table.now from to a.page after (slice_set a.table.now k (s + 1)) (s + 1))
-    (sym c.from-2.ensures)
-    (copies_put slots m after a.table.now from to a.page s words put.1 kept below size within
+    subst (λ (l : List ℕ). CopiesPage slots m table from to a.page after l (s + 1)) (sym c.set_entry.ensures)
+    (copies_put slots m after table from to a.page s words put.1 kept below size within
     c.in_ok-found.ensures.names c.in_ok-found.ensures.each)
 
 pub returns-clause-have : goal.returns-clause-have
 returns-clause-have g c = λ none have.
     let slots = g.F.Flash.SLOTS in
+    let pages = g.F.Flash.PAGES in
     let a = c.args in
     let m = (g.F.Flash.state a.flash.now).words in
     let mid = (g.F.Flash.state c.record_of.new.flash).words in
@@ -60,11 +61,12 @@ returns-clause-have g c = λ none have.
     let kept : KeepsOthers slots mid to a.page after (a.next + 1) =
     subst (λ (t : ℕ). KeepsOthers slots mid to a.page after (t + 1)) first
     (subst (λ (p : ℕ). KeepsOthers slots mid to p after (s + 1)) c.in_ok-found.ensures.names put.2) in
-    let here : IsPut after (slot_of to a.next) words = subst (λ (t : ℕ). IsPut after (slot_of to t) words) first put.1 in
-    let had : HavePages PAGES slots mid to a.next =
-    subst (λ (l : List ℕ). HavePages PAGES slots l to a.next) (sym c.record_of.ensures.words) have in
-    subst (λ (t : ℕ). HavePages PAGES slots after to (t + 1)) (sym first)
-    (put_held PAGES slots mid after to a.next a.page words alone.1 here kept below size c.in_ok-found.ensures.names
+    let here : IsPut after (slot_of to a.next) words =
+    subst (λ (t : ℕ). IsPut after (slot_of to t) words) first put.1 in
+    let had : HavePages pages slots mid to a.next =
+    subst (λ (l : List ℕ). HavePages pages slots l to a.next) (sym c.record_of.ensures.words) have in
+    subst (λ (t : ℕ). HavePages pages slots after to (t + 1)) (sym first)
+    (put_held pages slots mid after to a.next a.page words alone.1 here kept below size c.in_ok-found.ensures.names
     c.in_ok-found.ensures.unused c.requires.page left had)
 
 pub put_in_spare-requires-clause-end : goal.put_in_spare-requires-clause-end

@@ -3,7 +3,6 @@ use Rattle.flash_board.specs.CopyParts.{HasCopied}
 use Rattle.flash_board.specs.FlashCalls.{KeepsPower}
 use Rattle.flash_board.specs.FlashLogs.{base_in}
 use Rattle.flash_board.specs.Renewals.{HavePages}
-use Rattle.flash_board.specs.declared.layout.TheConstants.{PAGES}
 use Rattle.flash_board.proofs.moving.copy_pages.Given as goal
 
 abbrev pub invariant-loop-page : goal.invariant-loop-page
@@ -12,7 +11,9 @@ invariant-loop-page g l = let old = g.F.Flash.state l.initial.flash in let new =
   steady : KeepsPower old new;
   operations : new.operations + 2 * old.faults ≤ old.operations + 2 * l.page + 2 * new.faults;
   passes : l.next + old.faults ≤ l.page + new.faults;
-  have : new.faults ≡ old.faults → HavePages PAGES g.F.Flash.SLOTS new.words (base_in g.F.Flash.SLOTS l.to) l.next;
-  copied : HasCopied g.F.Flash.SLOTS old.words l.initial.table (base_in g.F.Flash.SLOTS l.from)
-      (base_in g.F.Flash.SLOTS l.to) l.page new.words l.table l.next;
+  have : new.faults ≡ old.faults
+      → HavePages g.F.Flash.PAGES g.F.Flash.SLOTS new.words (base_in g.F.Flash.SLOTS l.to) l.next;
+  copied : HasCopied g.F.Flash.SLOTS old.words (g.F.Table.PageTable.entries l.initial.table)
+      (base_in g.F.Flash.SLOTS l.from) (base_in g.F.Flash.SLOTS l.to) l.page new.words
+      (g.F.Table.PageTable.entries l.table) l.next;
 }

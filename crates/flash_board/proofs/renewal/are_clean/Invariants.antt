@@ -2,7 +2,6 @@ use Rattle.std.proofs.Common.{◌≡◌, false}
 use Rattle.flash_board.specs.FlashCalls.{StaysLit}
 use Rattle.flash_board.specs.FlashLogs.{base_in}
 use Rattle.flash_board.specs.Renewals.{AreClean}
-use Rattle.flash_board.specs.declared.layout.TheConstants.{PAGES}
 use Rattle.flash_board.proofs.renewal.are_clean.Given as goal
 
 abbrev pub invariant-loop-slot : goal.invariant-loop-slot
@@ -11,5 +10,5 @@ invariant-loop-slot g l = let old = g.F.Flash.state l.initial.flash in let new =
   work : new.operations ≡ old.operations;
   lit : new.dark ≡ false;
   steady : StaysLit old new;
-  clean : AreClean PAGES g.F.Flash.SLOTS old.words (base_in g.F.Flash.SLOTS l.area) l.slot;
+  clean : AreClean g.F.Flash.PAGES g.F.Flash.SLOTS old.words (base_in g.F.Flash.SLOTS l.area) l.slot;
 }

@@ -1,4 +1,4 @@
-use Rattle.std.proofs.Common.{◌∙◌, sym, refl}
+use Rattle.std.proofs.Common.{◌∙◌, sym, refl, arith}
 use Rattle.flash_board.specs.FlashLogs.{base_in}
 use Rattle.flash_board.specs.laws.Indexing.{find_zero, free_none}
 use Rattle.flash_board.proofs.scan.scan.Goals as goal
@@ -14,6 +14,9 @@ loop-slot-init g c =
       erases = refl;
       lit = c.requires.lit;
       steady = record { lit = c.requires.lit; due = refl; faults = refl };
-      index = record { each = λ p lt. c.blank_table.ensures p lt ∙ sym (find_zero m base p) };
+      index = record {
+        each = λ p lt. let all = g.met.F.Flash.table_fits c.blank.result in
+            c.blank.ensures p (omega (arith, lt, all)) ∙ sym (find_zero m base p);
+      };
       free = free_none m base 0;
     }

@@ -2,7 +2,6 @@ use Rattle.std.proofs.Common.{◌≡◌, false}
 use Rattle.flash_board.specs.FlashCalls.{StaysLit}
 use Rattle.flash_board.specs.PageTables.{IsPageTable, AreFree}
 use Rattle.flash_board.specs.FlashLogs.{base_in}
-use Rattle.flash_board.specs.declared.layout.TheConstants.{PAGES}
 use Rattle.flash_board.proofs.scan.scan.Given as goal
 
 abbrev pub invariant-loop-slot : goal.invariant-loop-slot
@@ -12,6 +11,7 @@ invariant-loop-slot g l = let old = g.F.Flash.state l.initial.flash in let new =
   erases : new.erases ≡ old.erases;
   lit : new.dark ≡ false;
   steady : StaysLit old new;
-  index : IsPageTable PAGES old.words (base_in g.F.Flash.SLOTS l.area) l.slot l.table;
+  index : IsPageTable g.F.Flash.PAGES old.words (base_in g.F.Flash.SLOTS l.area) l.slot
+      (g.F.Table.PageTable.entries l.table);
   free : AreFree old.words (base_in g.F.Flash.SLOTS l.area) l.next l.slot;
 }

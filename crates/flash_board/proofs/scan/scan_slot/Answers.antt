@@ -5,13 +5,13 @@ use Rattle.flash_board.specs.FlashCalls.{AreFilled}
 use Rattle.flash_board.specs.PageTables.{IsPageTable}
 use Rattle.flash_board.specs.FlashLogs.{base_in, slot_of, is_marked}
 use Rattle.flash_board.specs.laws.Indexing.{index_past, index_beyond, index_put, free_more}
-use Rattle.flash_board.specs.declared.layout.TheConstants.{PAGES}
 use Rattle.flash_board.proofs.scan.scan_slot.Goals as goal
 use Rattle.flash_board.proofs.scan.scan_slot.Goals.{then-number-from, else-number-from}
 
 pub returns-then-branch-clause-index : goal.returns-then-branch-clause-index
 returns-then-branch-clause-index g c =
     let slots = g.F.Flash.SLOTS in
+    let pages = g.F.Flash.PAGES in
     let m = (g.F.Flash.state c.args.flash.now).words in
     let base = base_in slots c.args.area in
     let at = c.slot_at-at.ensures.is in
@@ -21,41 +21,46 @@ returns-then-branch-clause-index g c =
     c.in_ok-number.ensures.word ∙ ap (λ (l : List ℕ). slice_index l (c.slot_at-at.result + 16))
     c.is_marked.ensures.words
     ∙ ap (λ (k : ℕ). slice_index m (k + 16)) at in
-    let pages = c.from.ensures in
+    let count = c.from.ensures in
+    let entries = g.F.Table.PageTable.entries in
     elim c.if-number-from.branch [
       | then-number-from w ↦
-          let small : c.in_ok-number.number < PAGES = omega (arith, w.if-number-from.true, pages) in
-          subst (λ (t : List ℕ). IsPageTable PAGES m base (c.args.slot + 1) t) (sym w.table-is)
-          (index_put PAGES m c.args.table.now base c.args.slot c.in_ok-number.number c.requires.index
-          (omega (arith, small))
+          let small : c.in_ok-number.number < pages = omega (arith, w.if-number-from.true, count) in
+          let all = g.met.F.Flash.table_fits c.args.table.now in
+          subst (λ (t : List ℕ). IsPageTable pages m base (c.args.slot + 1) t) (λ i. entries ((sym w.table-is) i))
+          (subst (λ (t : List ℕ). IsPageTable pages m base (c.args.slot + 1) t) (sym w.set_entry.ensures)
+          (index_put pages m (entries c.args.table.now) base c.args.slot c.in_ok-number.number c.requires.index
+          (omega (arith, small, all))
           marked
-          (sym number))
+          (sym number)))
       | else-number-from w ↦
-          let far : PAGES ≤ slice_index m (slot_of base c.args.slot + 16) =
-          omega (arith, w.if-number-from.false, pages, number) in
-          subst (λ (t : List ℕ). IsPageTable PAGES m base (c.args.slot + 1) t) (sym w.table-is)
-          (index_beyond PAGES m c.args.table.now base c.args.slot c.requires.index far)
+          let far : pages ≤ slice_index m (slot_of base c.args.slot + 16) =
+          omega (arith, w.if-number-from.false, count, number) in
+          subst (λ (t : List ℕ). IsPageTable pages m base (c.args.slot + 1) t) (λ i. entries ((sym w.table-is) i))
+          (index_beyond pages m (entries c.args.table.now) base c.args.slot c.requires.index far)
     ]
 
 pub returns-then-branch-2-clause-index : goal.returns-then-branch-2-clause-index
 returns-then-branch-2-clause-index g c =
     let slots = g.F.Flash.SLOTS in
+    let pages = g.F.Flash.PAGES in
     let m = (g.F.Flash.state c.args.flash.now).words in
     let base = base_in slots c.args.area in
     let at = c.slot_at-at.ensures.is in
     let free : is_marked m (slot_of base c.args.slot + 18) ≡ false =
     ap (λ (k : ℕ). is_marked m (k + 18)) (sym at) ∙ sym c.in_ok-is_marked.ensures.marked ∙ c.if-branch.false in
-    index_past PAGES m c.args.table.now base c.args.slot c.requires.index free
+    index_past pages m (g.F.Table.PageTable.entries c.args.table.now) base c.args.slot c.requires.index free
 
 pub returns-clause-index : goal.returns-clause-index
 returns-clause-index g c =
     let slots = g.F.Flash.SLOTS in
+    let pages = g.F.Flash.PAGES in
     let m = (g.F.Flash.state c.args.flash.now).words in
     let base = base_in slots c.args.area in
     let at = c.slot_at-at.ensures.is in
     let free : is_marked m (slot_of base c.args.slot + 18) ≡ false =
     ap (λ (k : ℕ). is_marked m (k + 18)) (sym at) ∙ sym c.in_ok-is_marked.ensures.marked ∙ c.if-branch.false in
-    index_past PAGES m c.args.table.now base c.args.slot c.requires.index free
+    index_past pages m (g.F.Table.PageTable.entries c.args.table.now) base c.args.slot c.requires.index free
 
 pub returns-then-branch-2-clause-free : goal.returns-then-branch-2-clause-free
 returns-then-branch-2-clause-free g c =

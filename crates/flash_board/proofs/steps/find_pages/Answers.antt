@@ -4,12 +4,13 @@ use Rattle.flash_board.specs.PageTables.{IsPageTable, AreFree}
 use Rattle.flash_board.specs.Rings.{IsRing}
 use Rattle.flash_board.specs.laws.Indexing.{free_later}
 use Rattle.flash_board.specs.laws.Sparing.{spare_none}
-use Rattle.flash_board.specs.declared.layout.TheConstants.{PAGES}
 use Rattle.flash_board.proofs.steps.find_pages.Goals as goal
 
 pub returns-clause-log : goal.returns-clause-log
 returns-clause-log g c =
     let slots = g.F.Flash.SLOTS in
+    let pages = g.F.Flash.PAGES in
+    let entries = g.F.Table.PageTable.entries in
     let fit = g.met.F.Flash.sectors_fit in
     let m = (g.F.Flash.state c.args.flash.now).words in
     let mid = (g.F.Flash.state c.find_turn.new.flash).words in
@@ -17,10 +18,10 @@ returns-clause-log g c =
     let turn = c.in_ok-turn.turn in
     let same : after ≡ mid = c.scan.ensures.words in
     let old : after ≡ m = same ∙ c.find_turn.ensures.words in
-    let index : IsPageTable PAGES after (base_in slots turn) slots c.scan.new.table =
-    subst (λ (b : ℕ). IsPageTable PAGES after b slots c.scan.new.table) (c.home.ensures.is slots)
-    (subst (λ (l : List ℕ). IsPageTable PAGES l (base_in slots c.home.result) slots c.scan.new.table) (sym same)
-    c.in_ok-next.ensures.index) in
+    let index : IsPageTable pages after (base_in slots turn) slots (entries c.scan.new.table) =
+    subst (λ (b : ℕ). IsPageTable pages after b slots (entries c.scan.new.table)) (c.home.ensures.is slots)
+    (subst (λ (l : List ℕ). IsPageTable pages l (base_in slots c.home.result) slots (entries c.scan.new.table))
+    (sym same) c.in_ok-next.ensures.index) in
     let free : AreFree after (base_in slots turn) c.in_ok-next.next slots =
     subst (λ (b : ℕ). AreFree after b c.in_ok-next.next slots) (c.home.ensures.is slots)
     (subst (λ (l : List ℕ). AreFree l (base_in slots c.home.result) c.in_ok-next.next slots) (sym same)
@@ -33,7 +34,7 @@ returns-clause-log g c =
         index = index;
         free = free_later after (base_in slots turn) c.in_ok-next.next c.later-place.result slots free
             c.later-place.ensures.least c.later-place.ensures.most;
-        spare = spare_none PAGES slots g.F.Flash.SECTORS g.F.Flash.sector_start g.met.F.Flash.sectors_rise fit.0 fit.1
-            fit.2 fit.4 after (words_of PAGES slots after) turn;
+        spare = spare_none pages slots g.F.Flash.SECTORS g.F.Flash.sector_start g.met.F.Flash.sectors_rise fit.0 fit.1
+            fit.2 fit.4 g.met.F.Flash.pages_fit.0 after (words_of pages slots after) turn;
       };
     }

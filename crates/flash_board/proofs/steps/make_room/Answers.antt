@@ -4,7 +4,6 @@ use Rattle.flash_board.specs.laws.Copying.{SameArea, area_found}
 use Rattle.flash_board.specs.FlashLogs.{words_of}
 use Rattle.flash_board.specs.laws.Moving.{base_other, witness_area}
 use Rattle.flash_board.specs.laws.Sparing.{spare_none}
-use Rattle.flash_board.specs.declared.layout.TheConstants.{PAGES}
 use Rattle.flash_board.specs.FlashBlocks.{area_size}
 use Rattle.flash_board.proofs.steps.make_room.Goals as goal
 use Rattle.flash_board.proofs.steps.make_room.Goals.{then-place-eq1+in_ok-pass_witness, else-place-eq1}
@@ -12,27 +11,30 @@ use Rattle.flash_board.proofs.steps.make_room.Goals.{then-place-eq1+in_ok-pass_w
 pub move_to_a-requires-clause-index : goal.move_to_a-requires-clause-index
 move_to_a-requires-clause-index g c =
     let slots = g.F.Flash.SLOTS in
+    let pages = g.F.Flash.PAGES in
+    let entries = g.F.Table.PageTable.entries in
     let m = (g.F.Flash.state c.args.flash.now).words in
     let place = c.args.place.now in
     let known = c.requires.log.known c.requires.ready in
-    let index : IsPageTable PAGES m (area_size slots) slots place.table =
-    subst (λ (b : ℕ). IsPageTable PAGES m b slots place.table)
-    (base_other PAGES slots place.turn c.if-place-eq0.false) known.index in
+    let index : IsPageTable pages m (area_size slots) slots (entries place.table) =
+    subst (λ (b : ℕ). IsPageTable pages m b slots (entries place.table))
+    (base_other pages slots place.turn c.if-place-eq0.false) known.index in
     elim c.if-place-eq1.branch [
       | then-place-eq1+in_ok-pass_witness w ↦
           let after = (g.F.Flash.state w.pass_witness.new.flash).words in
           let same : SameArea slots m after (area_size slots) =
-          witness_area PAGES slots m after w.pass_witness.ensures.area in
-          subst (λ (l : List ℕ). IsPageTable PAGES l (area_size slots) slots place.table)
+          witness_area pages slots m after w.pass_witness.ensures.area in
+          subst (λ (l : List ℕ). IsPageTable pages l (area_size slots) slots (entries place.table))
           (λ i. (g.F.Flash.state ((sym w.flash-is) i)).words)
           (record { each = λ p lt. index.each p lt ∙ sym (area_found slots m after (area_size slots) same p) })
       | else-place-eq1 w ↦
-          subst (λ (l : List ℕ). IsPageTable PAGES l (area_size slots) slots place.table)
+          subst (λ (l : List ℕ). IsPageTable pages l (area_size slots) slots (entries place.table))
           (λ i. (g.F.Flash.state ((sym w.flash-is) i)).words) index
     ]
 
 pub returns-then-place-eq0-clause-log : goal.returns-then-place-eq0-clause-log
 returns-then-place-eq0-clause-log g c =
+    let pages = g.F.Flash.PAGES in
     let fit = g.met.F.Flash.sectors_fit in
     let after = (g.F.Flash.state c.move_to_b.new.flash).words in
     record {
@@ -42,13 +44,15 @@ returns-then-place-eq0-clause-log g c =
         small = omega arith;
         index = c.in_ok-free_in_b.ensures.index;
         free = c.in_ok-free_in_b.ensures.free;
-        spare = spare_none PAGES g.F.Flash.SLOTS g.F.Flash.SECTORS g.F.Flash.sector_start
-            g.met.F.Flash.sectors_rise fit.0 fit.1 fit.2 fit.4 after (words_of PAGES g.F.Flash.SLOTS after) 1;
+        spare = spare_none pages g.F.Flash.SLOTS g.F.Flash.SECTORS g.F.Flash.sector_start
+            g.met.F.Flash.sectors_rise fit.0 fit.1 fit.2 fit.4 g.met.F.Flash.pages_fit.0 after
+            (words_of pages g.F.Flash.SLOTS after) 1;
       };
     }
 
 pub returns-clause-log : goal.returns-clause-log
 returns-clause-log g c =
+    let pages = g.F.Flash.PAGES in
     let fit = g.met.F.Flash.sectors_fit in
     let after = (g.F.Flash.state c.move_to_a.new.flash).words in
     record {
@@ -58,8 +62,9 @@ returns-clause-log g c =
         small = omega arith;
         index = c.in_ok-free_in_a.ensures.index;
         free = c.in_ok-free_in_a.ensures.free;
-        spare = spare_none PAGES g.F.Flash.SLOTS g.F.Flash.SECTORS g.F.Flash.sector_start
-            g.met.F.Flash.sectors_rise fit.0 fit.1 fit.2 fit.4 after (words_of PAGES g.F.Flash.SLOTS after) 0;
+        spare = spare_none pages g.F.Flash.SLOTS g.F.Flash.SECTORS g.F.Flash.sector_start
+            g.met.F.Flash.sectors_rise fit.0 fit.1 fit.2 fit.4 g.met.F.Flash.pages_fit.0 after
+            (words_of pages g.F.Flash.SLOTS after) 0;
       };
     }
 

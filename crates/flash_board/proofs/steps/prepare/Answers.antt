@@ -4,15 +4,15 @@ use Rattle.flash_board.specs.laws.Lighting.{tries_faults}
 use Rattle.flash_board.specs.laws.Pacing.{failed_not_ok, ready_in_pace, ready_short, ready_stays, stepped_behind}
 use Rattle.flash_board.specs.laws.Pacing.{stepped_fresh}
 use Rattle.flash_board.specs.laws.Sparing.{log_anew}
-use Rattle.flash_board.specs.declared.layout.TheConstants.{PAGES}
 use Rattle.flash_board.proofs.steps.prepare.Goals as goal
 
 pub returns-clause-log : goal.returns-clause-log
 returns-clause-log g c =
+    let pages = g.F.Flash.PAGES in
     let fit = g.met.F.Flash.sectors_fit in
     let m = (g.F.Flash.state c.make_room.new.flash).words in
-    log_anew PAGES g.F.Flash.SLOTS g.F.Flash.SECTORS g.F.Flash.sector_start g.met.F.Flash.sectors_rise fit.0 fit.1 fit.2
-    fit.4 m c.make_room.new.place c.make_room.ensures.log
+    log_anew pages g.F.Flash.SLOTS g.F.Flash.SECTORS g.F.Flash.sector_start g.met.F.Flash.sectors_rise fit.0 fit.1 fit.2
+    fit.4 g.met.F.Flash.pages_fit.0 m c.make_room.new.place c.make_room.ensures.log
 
 pub returns-in_err-find_pages-clause-pause : goal.returns-in_err-find_pages-clause-pause
 returns-in_err-find_pages-clause-pause g c = λ roomy.
@@ -44,11 +44,12 @@ pub returns-in_err-make_room-clause-pause : goal.returns-in_err-make_room-clause
 returns-in_err-make_room-clause-pause g c = λ roomy.
     let no_value = failed_not_ok c.from_residual-in_err-make_room.result c.from_residual-in_err-make_room.ensures.0 in
     let slots = g.F.Flash.SLOTS in
+    let pages = g.F.Flash.PAGES in
     let sectors = g.F.Flash.SECTORS in
     let more = tries_faults 1 (g.F.Flash.state c.take_step.new.flash) (g.F.Flash.state c.make_room.new.flash)
     c.make_room.result c.make_room.ensures.light in
     record {
-      short = ready_in_pace slots sectors (g.F.Flash.state c.args.flash.now)
+      short = ready_in_pace pages slots sectors (g.F.Flash.state c.args.flash.now)
           (g.F.Flash.state c.find_pages.new.flash) (g.F.Flash.state c.take_step.new.flash)
           (g.F.Flash.state c.make_room.new.flash) c.args.place.now c.find_pages.new.place c.take_step.new.place
           c.make_room.new.place roomy c.find_pages.ensures.known (c.in_ok-find_pages.ensures.light.ok refl).faults
@@ -62,20 +63,21 @@ returns-in_err-make_room-clause-pause g c = λ roomy.
 pub returns-then-place-SLOTS-clause-pause : goal.returns-then-place-SLOTS-clause-pause
 returns-then-place-SLOTS-clause-pause g c = λ roomy.
     let slots = g.F.Flash.SLOTS in
+    let pages = g.F.Flash.PAGES in
     let sectors = g.F.Flash.SECTORS in
     let more = tries_faults 1 (g.F.Flash.state c.take_step.new.flash) (g.F.Flash.state c.make_room.new.flash)
     c.make_room.result c.make_room.ensures.light in
     let found = (c.in_ok-find_pages.ensures.light.ok refl).faults in
     let less = (c.in_ok-take_step.ensures.light.ok refl).faults in
     record {
-      short = ready_in_pace slots sectors (g.F.Flash.state c.args.flash.now)
+      short = ready_in_pace pages slots sectors (g.F.Flash.state c.args.flash.now)
           (g.F.Flash.state c.find_pages.new.flash) (g.F.Flash.state c.take_step.new.flash)
           (g.F.Flash.state c.make_room.new.flash) c.args.place.now c.find_pages.new.place c.take_step.new.place
           c.make_room.new.place roomy c.find_pages.ensures.known (c.in_ok-find_pages.ensures.light.ok refl).faults
           c.find_pages.ensures.work c.find_pages.ensures.erases (c.in_ok-take_step.ensures.light.ok refl).faults
           c.take_step.ensures.work c.take_step.ensures.erases
           (c.in_ok-take_step.ensures.pace roomy) more c.make_room.ensures.same;
-      stays = λ same pace ok. ready_stays slots sectors (g.F.Flash.state c.args.flash.now)
+      stays = λ same pace ok. ready_stays pages slots sectors (g.F.Flash.state c.args.flash.now)
           (g.F.Flash.state c.find_pages.new.flash) (g.F.Flash.state c.take_step.new.flash)
           (g.F.Flash.state c.make_room.new.flash) c.args.place.now c.find_pages.new.place c.take_step.new.place
           c.make_room.new.place roomy c.find_pages.ensures.known (c.in_ok-find_pages.ensures.light.ok refl).faults
@@ -84,7 +86,7 @@ returns-then-place-SLOTS-clause-pause g c = λ roomy.
           (c.in_ok-take_step.ensures.pace roomy) more c.make_room.ensures.same same pace;
       long = λ same ok. ⊎_elim
           (λ (lt : c.take_step.new.place.next < slots).
-          inl (ready_short slots sectors (g.F.Flash.state c.args.flash.now)
+          inl (ready_short pages slots sectors (g.F.Flash.state c.args.flash.now)
           (g.F.Flash.state c.find_pages.new.flash) (g.F.Flash.state c.take_step.new.flash)
           (g.F.Flash.state c.make_room.new.flash) c.args.place.now c.find_pages.new.place c.take_step.new.place
           c.make_room.new.place roomy c.find_pages.ensures.known (c.in_ok-find_pages.ensures.light.ok refl).faults
@@ -94,14 +96,15 @@ returns-then-place-SLOTS-clause-pause g c = λ roomy.
           (λ (full : slots ≤ c.take_step.new.place.next).
           let fresh = c.in_ok-make_room.ensures.fresh full (omega (arith, same, found, less, more)) in
           let below = fresh.1 in
-          inr (stepped_fresh slots sectors c.make_room.new.place c.make_room.new.place.next roomy (omega (arith, below))
-          fresh.0))
+          inr (stepped_fresh pages slots sectors c.make_room.new.place c.make_room.new.place.next roomy
+          (omega (arith, below, g.met.F.Flash.pages_fit.0)) fresh.0))
           (cases_lt c.take_step.new.place.next slots);
     }
 
 pub returns-clause-pause : goal.returns-clause-pause
 returns-clause-pause g c = λ roomy.
     let slots = g.F.Flash.SLOTS in
+    let pages = g.F.Flash.PAGES in
     let sectors = g.F.Flash.SECTORS in
     let more = tries_faults 1 (g.F.Flash.state c.take_step.new.flash) (g.F.Flash.state c.make_room.new.flash)
     c.make_room.result c.make_room.ensures.light in
@@ -109,7 +112,7 @@ returns-clause-pause g c = λ roomy.
     let less = (c.in_ok-take_step.ensures.light.ok refl).faults in
     let past = c.if-place-SLOTS.false in
     record {
-      short = ready_in_pace slots sectors (g.F.Flash.state c.args.flash.now)
+      short = ready_in_pace pages slots sectors (g.F.Flash.state c.args.flash.now)
           (g.F.Flash.state c.find_pages.new.flash) (g.F.Flash.state c.take_step.new.flash)
           (g.F.Flash.state c.make_room.new.flash) c.args.place.now c.find_pages.new.place c.take_step.new.place
           c.make_room.new.place roomy c.find_pages.ensures.known (c.in_ok-find_pages.ensures.light.ok refl).faults
@@ -118,18 +121,18 @@ returns-clause-pause g c = λ roomy.
           (c.in_ok-take_step.ensures.pace roomy) more c.make_room.ensures.same;
       stays = λ same pace ok.
           let known = c.make_room.ensures.log.known c.in_ok-make_room.ensures.ready in
-          let stays = ready_stays slots sectors (g.F.Flash.state c.args.flash.now)
+          let stays = ready_stays pages slots sectors (g.F.Flash.state c.args.flash.now)
           (g.F.Flash.state c.find_pages.new.flash) (g.F.Flash.state c.take_step.new.flash)
           (g.F.Flash.state c.make_room.new.flash) c.args.place.now c.find_pages.new.place c.take_step.new.place
           c.make_room.new.place roomy c.find_pages.ensures.known (c.in_ok-find_pages.ensures.light.ok refl).faults
           c.find_pages.ensures.work c.find_pages.ensures.erases (c.in_ok-take_step.ensures.light.ok refl).faults
           c.take_step.ensures.work c.take_step.ensures.erases
           (c.in_ok-take_step.ensures.pace roomy) more c.make_room.ensures.same same pace in
-          let below = stepped_behind slots sectors c.make_room.new.place roomy known.spare.most stays in
+          let below = stepped_behind pages slots sectors c.make_room.new.place roomy known.spare.most stays in
           absurd (omega (arith, past, below));
       long = λ same ok. ⊎_elim
           (λ (lt : c.take_step.new.place.next < slots).
-          inl (ready_short slots sectors (g.F.Flash.state c.args.flash.now)
+          inl (ready_short pages slots sectors (g.F.Flash.state c.args.flash.now)
           (g.F.Flash.state c.find_pages.new.flash) (g.F.Flash.state c.take_step.new.flash)
           (g.F.Flash.state c.make_room.new.flash) c.args.place.now c.find_pages.new.place c.take_step.new.place
           c.make_room.new.place roomy c.find_pages.ensures.known (c.in_ok-find_pages.ensures.light.ok refl).faults

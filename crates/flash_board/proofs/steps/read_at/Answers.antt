@@ -1,16 +1,16 @@
 use Rattle.std.proofs.Common.{◌/◌, ◌%◌, ℕ, List, slice_index, sym, ap, ◌∙◌}
 use Rattle.flash_board.specs.FlashLogs.{base_in, page_word, words_of}
 use Rattle.flash_board.specs.laws.Words.{index-words}
-use Rattle.flash_board.specs.declared.layout.TheConstants.{PAGES}
 use Rattle.flash_board.proofs.steps.read_at.Goals as goal
 
 pub returns-clause-word : goal.returns-clause-word
 returns-clause-word g c =
     let slots = g.F.Flash.SLOTS in
+    let pages = g.F.Flash.PAGES in
     let m = (g.F.Flash.state c.find_pages.new.flash).words in
     let at = c.args.at in
     let known = c.find_pages.ensures.log.known c.in_ok-find_pages.ensures.ready in
     c.in_ok-word.ensures.word
     ∙ ap (λ (b : ℕ). page_word m b slots (at / 16) (at % 16)) (c.home.ensures.is slots ∙ ap (base_in slots) known.turn)
-    ∙ sym (index-words PAGES slots m at c.requires.at)
-    ∙ ap (λ (l : List ℕ). slice_index (words_of PAGES slots l) at) c.find_pages.ensures.words
+    ∙ sym (index-words pages slots m at c.requires.at)
+    ∙ ap (λ (l : List ℕ). slice_index (words_of pages slots l) at) c.find_pages.ensures.words

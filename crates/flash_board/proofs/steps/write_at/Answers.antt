@@ -6,7 +6,6 @@ use Rattle.flash_board.specs.laws.Lighting.{failed_costs, last_costs, tries_faul
 use Rattle.flash_board.specs.laws.Pacing.{pauses_since}
 use Rattle.flash_board.specs.laws.Words.{length-words}
 use Rattle.flash_board.specs.laws.Writing.{whole_again, done_again}
-use Rattle.flash_board.specs.declared.layout.TheConstants.{PAGES}
 use Rattle.flash_board.proofs.steps.write_at.Goals as goal
 
 pub loop-init : goal.loop-init
@@ -23,11 +22,12 @@ loop-init g c = record {
 pub loop-preserved : goal.loop-preserved
 loop-preserved g c =
     let slots = g.F.Flash.SLOTS in
-    let m = words_of PAGES slots (g.F.Flash.state c.args.flash.now).words in
-    let mid = words_of PAGES slots (g.F.Flash.state c.loop.flash).words in
-    let after = words_of PAGES slots (g.F.Flash.state c.write_once.new.flash).words in
+    let pages = g.F.Flash.PAGES in
+    let m = words_of pages slots (g.F.Flash.state c.args.flash.now).words in
+    let mid = words_of pages slots (g.F.Flash.state c.loop.flash).words in
+    let after = words_of pages slots (g.F.Flash.state c.write_once.new.flash).words in
     let at = 16 * c.args.page + c.args.first in
-    let all : length m ≡ 16 * PAGES = length-words PAGES slots (g.F.Flash.state c.args.flash.now).words in
+    let all : length m ≡ 16 * pages = length-words pages slots (g.F.Flash.state c.args.flash.now).words in
     let fits : at + length c.args.words.now ≤ length m = omega (arith, all, c.requires.page, c.requires.run) in
     let was = c.loop.invariant in
     let failed = c.in-Err-Fault.ensures.light.fault (ap Err c.in-Err-Fault.field-0-is) in
@@ -41,7 +41,8 @@ loop-preserved g c =
         faults = omega (arith, was.steady.faults, more);
       };
       failed = omega (arith, was.failed, more);
-      operations = failed_costs (2090 + g.F.Flash.SECTORS) (2088 + g.F.Flash.SECTORS) (omega arith) _ _ _ _ _ _
+      operations = failed_costs (2 * pages + 42 + g.F.Flash.SECTORS) (2 * pages + 40 + g.F.Flash.SECTORS)
+          (omega arith) _ _ _ _ _ _
           was.operations (omega (arith, more)) work more;
       first = λ same. let before = was.steady.faults in absurd (omega (arith, same, before, more));
       log = c.write_once.ensures.log;
@@ -51,120 +52,137 @@ loop-preserved g c =
 pub returns-in-Ok-clause-whole : goal.returns-in-Ok-clause-whole
 returns-in-Ok-clause-whole g c =
     let slots = g.F.Flash.SLOTS in
-    let m = words_of PAGES slots (g.F.Flash.state c.args.flash.now).words in
-    let mid = words_of PAGES slots (g.F.Flash.state c.loop.flash).words in
-    let after = words_of PAGES slots (g.F.Flash.state c.write_once.new.flash).words in
+    let pages = g.F.Flash.PAGES in
+    let m = words_of pages slots (g.F.Flash.state c.args.flash.now).words in
+    let mid = words_of pages slots (g.F.Flash.state c.loop.flash).words in
+    let after = words_of pages slots (g.F.Flash.state c.write_once.new.flash).words in
     let at = 16 * c.args.page + c.args.first in
-    let all : length m ≡ 16 * PAGES = length-words PAGES slots (g.F.Flash.state c.args.flash.now).words in
+    let all : length m ≡ 16 * pages = length-words pages slots (g.F.Flash.state c.args.flash.now).words in
     let fits : at + length c.args.words.now ≤ length m = omega (arith, all, c.requires.page, c.requires.run) in
     whole_again m mid after c.args.words.now at fits c.loop.invariant.whole c.write_once.ensures.whole
 
 pub returns-in-Ok-clause-done : goal.returns-in-Ok-clause-done
 returns-in-Ok-clause-done g c =
     let slots = g.F.Flash.SLOTS in
-    let m = words_of PAGES slots (g.F.Flash.state c.args.flash.now).words in
-    let mid = words_of PAGES slots (g.F.Flash.state c.loop.flash).words in
-    let after = words_of PAGES slots (g.F.Flash.state c.write_once.new.flash).words in
+    let pages = g.F.Flash.PAGES in
+    let m = words_of pages slots (g.F.Flash.state c.args.flash.now).words in
+    let mid = words_of pages slots (g.F.Flash.state c.loop.flash).words in
+    let after = words_of pages slots (g.F.Flash.state c.write_once.new.flash).words in
     let at = 16 * c.args.page + c.args.first in
-    let all : length m ≡ 16 * PAGES = length-words PAGES slots (g.F.Flash.state c.args.flash.now).words in
+    let all : length m ≡ 16 * pages = length-words pages slots (g.F.Flash.state c.args.flash.now).words in
     let fits : at + length c.args.words.now ≤ length m = omega (arith, all, c.requires.page, c.requires.run) in
     done_again m mid after c.args.words.now at fits c.loop.invariant.whole c.in-Ok.ensures.done
 
 pub returns-in-Err-PowerLost-clause-whole : goal.returns-in-Err-PowerLost-clause-whole
 returns-in-Err-PowerLost-clause-whole g c =
     let slots = g.F.Flash.SLOTS in
-    let m = words_of PAGES slots (g.F.Flash.state c.args.flash.now).words in
-    let mid = words_of PAGES slots (g.F.Flash.state c.loop.flash).words in
-    let after = words_of PAGES slots (g.F.Flash.state c.write_once.new.flash).words in
+    let pages = g.F.Flash.PAGES in
+    let m = words_of pages slots (g.F.Flash.state c.args.flash.now).words in
+    let mid = words_of pages slots (g.F.Flash.state c.loop.flash).words in
+    let after = words_of pages slots (g.F.Flash.state c.write_once.new.flash).words in
     let at = 16 * c.args.page + c.args.first in
-    let all : length m ≡ 16 * PAGES = length-words PAGES slots (g.F.Flash.state c.args.flash.now).words in
+    let all : length m ≡ 16 * pages = length-words pages slots (g.F.Flash.state c.args.flash.now).words in
     let fits : at + length c.args.words.now ≤ length m = omega (arith, all, c.requires.page, c.requires.run) in
     whole_again m mid after c.args.words.now at fits c.loop.invariant.whole c.write_once.ensures.whole
 
 pub returns-clause-whole : goal.returns-clause-whole
 returns-clause-whole g c =
     let slots = g.F.Flash.SLOTS in
-    let m = words_of PAGES slots (g.F.Flash.state c.args.flash.now).words in
-    let mid = words_of PAGES slots (g.F.Flash.state c.loop.flash).words in
-    let after = words_of PAGES slots (g.F.Flash.state c.write_once-2.new.flash).words in
+    let pages = g.F.Flash.PAGES in
+    let m = words_of pages slots (g.F.Flash.state c.args.flash.now).words in
+    let mid = words_of pages slots (g.F.Flash.state c.loop.flash).words in
+    let after = words_of pages slots (g.F.Flash.state c.write_once-2.new.flash).words in
     let at = 16 * c.args.page + c.args.first in
-    let all : length m ≡ 16 * PAGES = length-words PAGES slots (g.F.Flash.state c.args.flash.now).words in
+    let all : length m ≡ 16 * pages = length-words pages slots (g.F.Flash.state c.args.flash.now).words in
     let fits : at + length c.args.words.now ≤ length m = omega (arith, all, c.requires.page, c.requires.run) in
     whole_again m mid after c.args.words.now at fits c.loop.invariant.whole c.write_once-2.ensures.whole
 
 pub returns-clause-done : goal.returns-clause-done
 returns-clause-done g c =
     let slots = g.F.Flash.SLOTS in
-    let m = words_of PAGES slots (g.F.Flash.state c.args.flash.now).words in
-    let mid = words_of PAGES slots (g.F.Flash.state c.loop.flash).words in
-    let after = words_of PAGES slots (g.F.Flash.state c.write_once-2.new.flash).words in
+    let pages = g.F.Flash.PAGES in
+    let m = words_of pages slots (g.F.Flash.state c.args.flash.now).words in
+    let mid = words_of pages slots (g.F.Flash.state c.loop.flash).words in
+    let after = words_of pages slots (g.F.Flash.state c.write_once-2.new.flash).words in
     let at = 16 * c.args.page + c.args.first in
-    let all : length m ≡ 16 * PAGES = length-words PAGES slots (g.F.Flash.state c.args.flash.now).words in
+    let all : length m ≡ 16 * pages = length-words pages slots (g.F.Flash.state c.args.flash.now).words in
     let fits : at + length c.args.words.now ≤ length m = omega (arith, all, c.requires.page, c.requires.run) in
     on_ok_weaker c.write_once-2.result (done_again m mid after c.args.words.now at fits c.loop.invariant.whole)
     c.write_once-2.ensures.done
 
 pub returns-clause-work : goal.returns-clause-work
 returns-clause-work g c =
+    let pages = g.F.Flash.PAGES in
     let sectors = g.F.Flash.SECTORS in
     let more = tries_faults 1 (g.F.Flash.state c.loop.flash) (g.F.Flash.state c.write_once-2.new.flash)
     c.write_once-2.result c.write_once-2.ensures.light in
     record {
-      operations = last_costs (2090 + sectors) (2088 + sectors) (omega arith) _ _ _ _ _ _
+      operations = last_costs (2 * pages + 42 + sectors) (2 * pages + 40 + sectors) (omega arith) _ _ _ _ _ _
           c.loop.invariant.operations more c.write_once-2.ensures.work.operations;
     }
 
 pub returns-in-Ok-clause-work : goal.returns-in-Ok-clause-work
 returns-in-Ok-clause-work g c =
+    let pages = g.F.Flash.PAGES in
     let sectors = g.F.Flash.SECTORS in
     let more = tries_faults 1 (g.F.Flash.state c.loop.flash) (g.F.Flash.state c.write_once.new.flash)
     c.write_once.result c.write_once.ensures.light in
     record {
-      operations = last_costs (2090 + sectors) (2088 + sectors) (omega arith) _ _ _ _ _ _
+      operations = last_costs (2 * pages + 42 + sectors) (2 * pages + 40 + sectors) (omega arith) _ _ _ _ _ _
           c.loop.invariant.operations more c.write_once.ensures.work.operations;
     }
 
 pub returns-in-Err-PowerLost-clause-work : goal.returns-in-Err-PowerLost-clause-work
 returns-in-Err-PowerLost-clause-work g c =
+    let pages = g.F.Flash.PAGES in
     let sectors = g.F.Flash.SECTORS in
     let more = tries_faults 1 (g.F.Flash.state c.loop.flash) (g.F.Flash.state c.write_once.new.flash)
     c.write_once.result c.write_once.ensures.light in
     record {
-      operations = last_costs (2090 + sectors) (2088 + sectors) (omega arith) _ _ _ _ _ _
+      operations = last_costs (2 * pages + 42 + sectors) (2 * pages + 40 + sectors) (omega arith) _ _ _ _ _ _
           c.loop.invariant.operations more c.write_once.ensures.work.operations;
     }
 
 pub returns-clause-pause : goal.returns-clause-pause
 returns-clause-pause g c = λ roomy.
     let slots = g.F.Flash.SLOTS in
+    let pages = g.F.Flash.PAGES in
     let sectors = g.F.Flash.SECTORS in
     let mid = g.F.Flash.state c.loop.flash in
     let new = g.F.Flash.state c.write_once-2.new.flash in
     let more = tries_faults 1 mid new c.write_once-2.result c.write_once-2.ensures.light in
-    pauses_since slots sectors 37 (g.F.Flash.state c.args.flash.now) mid new c.args.place.now c.loop.place
-    (KeepsPace slots sectors c.write_once-2.new.place) _ c.loop.invariant.steady.faults more c.loop.invariant.first
+    pauses_since pages slots sectors 37 (g.F.Flash.state c.args.flash.now) mid new c.args.place.now
+    c.loop.place
+    (KeepsPace pages slots sectors c.write_once-2.new.place) _ c.loop.invariant.steady.faults more
+    c.loop.invariant.first
     (c.write_once-2.ensures.pause roomy)
 
 pub returns-in-Ok-clause-pause : goal.returns-in-Ok-clause-pause
 returns-in-Ok-clause-pause g c = λ roomy.
     let slots = g.F.Flash.SLOTS in
+    let pages = g.F.Flash.PAGES in
     let sectors = g.F.Flash.SECTORS in
     let mid = g.F.Flash.state c.loop.flash in
     let new = g.F.Flash.state c.write_once.new.flash in
     let more = tries_faults 1 mid new c.write_once.result c.write_once.ensures.light in
-    pauses_since slots sectors 37 (g.F.Flash.state c.args.flash.now) mid new c.args.place.now c.loop.place
-    (KeepsPace slots sectors c.write_once.new.place) _ c.loop.invariant.steady.faults more c.loop.invariant.first
+    pauses_since pages slots sectors 37 (g.F.Flash.state c.args.flash.now) mid new c.args.place.now
+    c.loop.place
+    (KeepsPace pages slots sectors c.write_once.new.place) _ c.loop.invariant.steady.faults more
+    c.loop.invariant.first
     (c.in-Ok.ensures.pause roomy)
 
 pub returns-in-Err-PowerLost-clause-pause : goal.returns-in-Err-PowerLost-clause-pause
 returns-in-Err-PowerLost-clause-pause g c = λ roomy.
     let slots = g.F.Flash.SLOTS in
+    let pages = g.F.Flash.PAGES in
     let sectors = g.F.Flash.SECTORS in
     let mid = g.F.Flash.state c.loop.flash in
     let new = g.F.Flash.state c.write_once.new.flash in
     let more = tries_faults 1 mid new c.write_once.result c.write_once.ensures.light in
-    let pause = pauses_since slots sectors 37 (g.F.Flash.state c.args.flash.now) mid new c.args.place.now c.loop.place
-    (KeepsPace slots sectors c.write_once.new.place) _ c.loop.invariant.steady.faults more c.loop.invariant.first
+    let pause = pauses_since pages slots sectors 37 (g.F.Flash.state c.args.flash.now) mid new c.args.place.now
+    c.loop.place
+    (KeepsPace pages slots sectors c.write_once.new.place) _ c.loop.invariant.steady.faults more
+    c.loop.invariant.first
     (c.in-Err-PowerLost.ensures.pause roomy) in
     record {
       short = pause.short;

@@ -3,7 +3,6 @@ use Rattle.nvm_board.specs.History.{written}
 use Rattle.flash_board.specs.FlashCalls.{KeepsPower}
 use Rattle.flash_board.specs.FlashLogs.{words_of}
 use Rattle.flash_board.specs.Places.{IsLog}
-use Rattle.flash_board.specs.declared.layout.TheConstants.{PAGES}
 use Rattle.flash_board.proofs.steps.write_at.Given as goal
 
 abbrev pub invariant-loop : goal.invariant-loop
@@ -11,11 +10,12 @@ invariant-loop g l = let old = g.F.Flash.state l.initial.flash in let new = g.F.
   lit : new.dark ≡ false;
   steady : KeepsPower old new;
   failed : old.faults + l.counter ≤ new.faults + 1;
-  operations : new.operations + (2090 + g.F.Flash.SECTORS) * old.faults
-      ≤ old.operations + (2090 + g.F.Flash.SECTORS) * new.faults;
+  operations : new.operations + (2 * g.F.Flash.PAGES + 42 + g.F.Flash.SECTORS) * old.faults
+      ≤ old.operations + (2 * g.F.Flash.PAGES + 42 + g.F.Flash.SECTORS) * new.faults;
   first : new.faults ≡ old.faults → (l.place ≡ l.initial.place) × (new ≡ old);
-  log : IsLog PAGES g.F.Flash.SLOTS g.F.Flash.SECTORS g.F.Flash.sector_start new.words l.place;
-  whole : (words_of PAGES g.F.Flash.SLOTS new.words ≡ words_of PAGES g.F.Flash.SLOTS old.words)
-      ⊎ (words_of PAGES g.F.Flash.SLOTS new.words
-      ≡ written (words_of PAGES g.F.Flash.SLOTS old.words) (16 * l.page + l.first) l.words);
+  log : IsLog g.F.Table.PageTable.entries g.F.Flash.PAGES g.F.Flash.SLOTS g.F.Flash.SECTORS g.F.Flash.sector_start
+      new.words l.place;
+  whole : (words_of g.F.Flash.PAGES g.F.Flash.SLOTS new.words ≡ words_of g.F.Flash.PAGES g.F.Flash.SLOTS old.words)
+      ⊎ (words_of g.F.Flash.PAGES g.F.Flash.SLOTS new.words
+      ≡ written (words_of g.F.Flash.PAGES g.F.Flash.SLOTS old.words) (16 * l.page + l.first) l.words);
 }

@@ -11,64 +11,69 @@ use Rattle.flash_board.specs.laws.Lighting.{lights_faults, tries_faults}
 use Rattle.flash_board.specs.laws.Pacing.{failed_not_ok, paced_put, short_then}
 use Rattle.flash_board.specs.laws.Sparing.{LeavesHome, leaves_home, index_same, home_leaves, spare_same}
 use Rattle.flash_board.specs.laws.Turns.{turn_same, ring_same}
-use Rattle.flash_board.specs.declared.layout.TheConstants.{PAGES}
 use Rattle.flash_board.proofs.steps.write_once.Goals as goal
 
 pub returns-in_err-behind-clause-whole : goal.returns-in_err-behind-clause-whole
 returns-in_err-behind-clause-whole g c =
     let slots = g.F.Flash.SLOTS in
+    let pages = g.F.Flash.PAGES in
     let m = (g.F.Flash.state c.prepare.new.flash).words in
     let mid = (g.F.Flash.state c.write_ahead.new.flash).words in
     let known = c.prepare.ensures.log.known c.in_ok-prepare.ensures.ready in
-    let home : LeavesHome PAGES slots m mid c.prepare.new.place.turn =
-    leaves_home PAGES slots m mid c.prepare.new.place.turn c.prepare.ensures.log.ring known.turn known.small
+    let home : LeavesHome pages slots m mid c.prepare.new.place.turn =
+    leaves_home pages slots m mid c.prepare.new.place.turn c.prepare.ensures.log.ring known.turn known.small
     c.write_ahead.ensures.same c.write_ahead.ensures.elsewhere in
     inl (home.words ∙ c.prepare.ensures.words)
 
 pub returns-in_err-behind-clause-log : goal.returns-in_err-behind-clause-log
 returns-in_err-behind-clause-log g c =
     let slots = g.F.Flash.SLOTS in
+    let pages = g.F.Flash.PAGES in
     let m = (g.F.Flash.state c.prepare.new.flash).words in
     let mid = (g.F.Flash.state c.write_ahead.new.flash).words in
     let known = c.prepare.ensures.log.known c.in_ok-prepare.ensures.ready in
-    let home : LeavesHome PAGES slots m mid c.prepare.new.place.turn =
-    leaves_home PAGES slots m mid c.prepare.new.place.turn c.prepare.ensures.log.ring known.turn known.small
+    let home : LeavesHome pages slots m mid c.prepare.new.place.turn =
+    leaves_home pages slots m mid c.prepare.new.place.turn c.prepare.ensures.log.ring known.turn known.small
     c.write_ahead.ensures.same c.write_ahead.ensures.elsewhere in
     record { ring = home.ring; known = λ e. absurd (true≢false (sym e)) }
 
 pub write_run-requires-clause-home : goal.write_run-requires-clause-home
 write_run-requires-clause-home g c =
     let slots = g.F.Flash.SLOTS in
+    let pages = g.F.Flash.PAGES in
     let m = (g.F.Flash.state c.prepare.new.flash).words in
     let mid = (g.F.Flash.state c.write_ahead.new.flash).words in
     let known = c.prepare.ensures.log.known c.in_ok-prepare.ensures.ready in
-    let home : LeavesHome PAGES slots m mid c.prepare.new.place.turn =
-    leaves_home PAGES slots m mid c.prepare.new.place.turn c.prepare.ensures.log.ring known.turn known.small
+    let home : LeavesHome pages slots m mid c.prepare.new.place.turn =
+    leaves_home pages slots m mid c.prepare.new.place.turn c.prepare.ensures.log.ring known.turn known.small
     c.write_ahead.ensures.same c.write_ahead.ensures.elsewhere in
     c.home.ensures.is slots ∙ ap (base_in slots) (known.turn ∙ sym home.same_turn)
 
 pub write_run-requires-clause-index : goal.write_run-requires-clause-index
 write_run-requires-clause-index g c =
     let slots = g.F.Flash.SLOTS in
+    let pages = g.F.Flash.PAGES in
+    let entries = g.F.Table.PageTable.entries in
     let m = (g.F.Flash.state c.prepare.new.flash).words in
     let mid = (g.F.Flash.state c.write_ahead.new.flash).words in
     let place = c.prepare.new.place in
     let known = c.prepare.ensures.log.known c.in_ok-prepare.ensures.ready in
-    let home : LeavesHome PAGES slots m mid place.turn =
-    leaves_home PAGES slots m mid place.turn c.prepare.ensures.log.ring known.turn known.small
+    let home : LeavesHome pages slots m mid place.turn =
+    leaves_home pages slots m mid place.turn c.prepare.ensures.log.ring known.turn known.small
     c.write_ahead.ensures.same c.write_ahead.ensures.elsewhere in
-    subst (λ (b : ℕ). IsPageTable PAGES mid b slots place.table) (sym (c.home.ensures.is slots))
-    (index_same slots PAGES m mid place.table (base_in slots place.turn) home.area known.index)
+    subst (λ (b : ℕ). IsPageTable pages mid b slots (entries place.table)) (sym (c.home.ensures.is slots))
+    (index_same slots pages m mid (entries place.table) (base_in slots place.turn) home.area known.index)
 
 pub write_run-requires-clause-free : goal.write_run-requires-clause-free
 write_run-requires-clause-free g c =
     let slots = g.F.Flash.SLOTS in
+    let pages = g.F.Flash.PAGES in
     let m = (g.F.Flash.state c.prepare.new.flash).words in
     let mid = (g.F.Flash.state c.write_ahead.new.flash).words in
     let place = c.prepare.new.place in
     let known = c.prepare.ensures.log.known c.in_ok-prepare.ensures.ready in
-    let home : LeavesHome PAGES slots m mid place.turn =
-    leaves_home PAGES slots m mid place.turn c.prepare.ensures.log.ring known.turn known.small
+    let home : LeavesHome pages slots m mid place.turn =
+    leaves_home pages slots m mid place.turn c.prepare.ensures.log.ring known.turn known.small
     c.write_ahead.ensures.same c.write_ahead.ensures.elsewhere in
     subst (λ (b : ℕ). AreFree mid b place.next slots) (sym (c.home.ensures.is slots))
     (area_free slots m mid (base_in slots place.turn) home.area place.next known.free)
@@ -76,6 +81,8 @@ write_run-requires-clause-free g c =
 pub returns-clause-log : goal.returns-clause-log
 returns-clause-log g c =
     let slots = g.F.Flash.SLOTS in
+    let pages = g.F.Flash.PAGES in
+    let entries = g.F.Table.PageTable.entries in
     let sectors = g.F.Flash.SECTORS in
     let start = g.F.Flash.sector_start in
     let fit = g.met.F.Flash.sectors_fit in
@@ -86,19 +93,19 @@ returns-clause-log g c =
     let turn = place.turn in
     let marks = c.write_run.ensures.marks in
     let known = c.prepare.ensures.log.known c.in_ok-prepare.ensures.ready in
-    let home : LeavesHome PAGES slots m mid turn =
-    leaves_home PAGES slots m mid turn c.prepare.ensures.log.ring known.turn known.small
+    let home : LeavesHome pages slots m mid turn =
+    leaves_home pages slots m mid turn c.prepare.ensures.log.ring known.turn known.small
     c.write_ahead.ensures.same c.write_ahead.ensures.elsewhere in
-    let table = c.write_run.new.table in
+    let table = g.F.Table.PageTable.entries c.write_run.new.table in
     let next = place.next + 1 in
     let at = 16 * c.args.page + c.args.first in
-    let new = written (words_of PAGES slots m) at c.args.words.now in
-    let done : words_of PAGES slots after ≡ new =
+    let new = written (words_of pages slots m) at c.args.words.now in
+    let done : words_of pages slots after ≡ new =
     c.in_ok-write_run.ensures.done ∙ ap (λ (l : List ℕ). written l at c.args.words.now) home.words in
     let elsewhere : SameElsewhere mid (base_in slots turn) (20 * slots) after =
     subst (λ (b : ℕ). SameElsewhere mid b (20 * slots) after) (c.home.ensures.is slots) c.write_run.ensures.elsewhere in
-    let spare : IsSpare PAGES slots sectors start after new turn place.erased place.copied c.in_ok-behind.behind =
-    spare_same PAGES slots sectors start g.met.F.Flash.sectors_rise fit.0 fit.1 fit.2 fit.4 mid after new turn
+    let spare : IsSpare pages slots sectors start after new turn place.erased place.copied c.in_ok-behind.behind =
+    spare_same pages slots sectors start g.met.F.Flash.sectors_rise fit.0 fit.1 fit.2 fit.4 mid after new turn
     place.erased place.copied c.in_ok-behind.behind (home_leaves slots mid after turn elsewhere)
     c.in_ok-behind.ensures.spare in
     record {
@@ -106,10 +113,10 @@ returns-clause-log g c =
       known = λ _. record {
         turn = known.turn ∙ sym (turn_same slots mid after marks ∙ home.same_turn);
         small = known.small;
-        index = subst (λ (b : ℕ). IsPageTable PAGES after b slots table)
+        index = subst (λ (b : ℕ). IsPageTable pages after b slots table)
             (c.home.ensures.is slots) c.in_ok-write_run.ensures.index;
         free = subst (λ (b : ℕ). AreFree after b next slots) (c.home.ensures.is slots) c.in_ok-write_run.ensures.free;
-        spare = subst (λ (w : List ℕ). IsSpare PAGES slots sectors start after w turn place.erased place.copied
+        spare = subst (λ (w : List ℕ). IsSpare pages slots sectors start after w turn place.erased place.copied
             c.in_ok-behind.behind) (sym done) spare;
       };
     }
@@ -117,26 +124,28 @@ returns-clause-log g c =
 pub returns-in_err-write_run-clause-whole : goal.returns-in_err-write_run-clause-whole
 returns-in_err-write_run-clause-whole g c =
     let slots = g.F.Flash.SLOTS in
+    let pages = g.F.Flash.PAGES in
     let m = (g.F.Flash.state c.prepare.new.flash).words in
     let mid = (g.F.Flash.state c.write_ahead.new.flash).words in
     let after = (g.F.Flash.state c.write_run.new.flash).words in
     let known = c.prepare.ensures.log.known c.in_ok-prepare.ensures.ready in
-    let home : LeavesHome PAGES slots m mid c.prepare.new.place.turn =
-    leaves_home PAGES slots m mid c.prepare.new.place.turn c.prepare.ensures.log.ring known.turn known.small
+    let home : LeavesHome pages slots m mid c.prepare.new.place.turn =
+    leaves_home pages slots m mid c.prepare.new.place.turn c.prepare.ensures.log.ring known.turn known.small
     c.write_ahead.ensures.same c.write_ahead.ensures.elsewhere in
     let at = 16 * c.args.page + c.args.first in
-    subst (λ (l : List ℕ). (words_of PAGES slots after ≡ l) ⊎ (words_of PAGES slots after
+    subst (λ (l : List ℕ). (words_of pages slots after ≡ l) ⊎ (words_of pages slots after
     ≡ written l at c.args.words.now)) (home.words ∙ c.prepare.ensures.words) c.write_run.ensures.whole
 
 pub returns-in_err-write_run-clause-log : goal.returns-in_err-write_run-clause-log
 returns-in_err-write_run-clause-log g c =
     let slots = g.F.Flash.SLOTS in
+    let pages = g.F.Flash.PAGES in
     let m = (g.F.Flash.state c.prepare.new.flash).words in
     let mid = (g.F.Flash.state c.write_ahead.new.flash).words in
     let after = (g.F.Flash.state c.write_run.new.flash).words in
     let known = c.prepare.ensures.log.known c.in_ok-prepare.ensures.ready in
-    let home : LeavesHome PAGES slots m mid c.prepare.new.place.turn =
-    leaves_home PAGES slots m mid c.prepare.new.place.turn c.prepare.ensures.log.ring known.turn known.small
+    let home : LeavesHome pages slots m mid c.prepare.new.place.turn =
+    leaves_home pages slots m mid c.prepare.new.place.turn c.prepare.ensures.log.ring known.turn known.small
     c.write_ahead.ensures.same c.write_ahead.ensures.elsewhere in
     record {
       ring = ring_same slots mid after c.write_run.ensures.marks home.ring;
@@ -146,26 +155,28 @@ returns-in_err-write_run-clause-log g c =
 pub returns-clause-whole : goal.returns-clause-whole
 returns-clause-whole g c =
     let slots = g.F.Flash.SLOTS in
+    let pages = g.F.Flash.PAGES in
     let m = (g.F.Flash.state c.prepare.new.flash).words in
     let mid = (g.F.Flash.state c.write_ahead.new.flash).words in
     let after = (g.F.Flash.state c.write_run.new.flash).words in
     let known = c.prepare.ensures.log.known c.in_ok-prepare.ensures.ready in
-    let home : LeavesHome PAGES slots m mid c.prepare.new.place.turn =
-    leaves_home PAGES slots m mid c.prepare.new.place.turn c.prepare.ensures.log.ring known.turn known.small
+    let home : LeavesHome pages slots m mid c.prepare.new.place.turn =
+    leaves_home pages slots m mid c.prepare.new.place.turn c.prepare.ensures.log.ring known.turn known.small
     c.write_ahead.ensures.same c.write_ahead.ensures.elsewhere in
     let at = 16 * c.args.page + c.args.first in
-    subst (λ (l : List ℕ). (words_of PAGES slots after ≡ l) ⊎ (words_of PAGES slots after
+    subst (λ (l : List ℕ). (words_of pages slots after ≡ l) ⊎ (words_of pages slots after
     ≡ written l at c.args.words.now)) (home.words ∙ c.prepare.ensures.words) c.write_run.ensures.whole
 
 pub returns-clause-done : goal.returns-clause-done
 returns-clause-done g c =
     let slots = g.F.Flash.SLOTS in
+    let pages = g.F.Flash.PAGES in
     let m = (g.F.Flash.state c.prepare.new.flash).words in
     let mid = (g.F.Flash.state c.write_ahead.new.flash).words in
     let after = (g.F.Flash.state c.write_run.new.flash).words in
     let known = c.prepare.ensures.log.known c.in_ok-prepare.ensures.ready in
-    let home : LeavesHome PAGES slots m mid c.prepare.new.place.turn =
-    leaves_home PAGES slots m mid c.prepare.new.place.turn c.prepare.ensures.log.ring known.turn known.small
+    let home : LeavesHome pages slots m mid c.prepare.new.place.turn =
+    leaves_home pages slots m mid c.prepare.new.place.turn c.prepare.ensures.log.ring known.turn known.small
     c.write_ahead.ensures.same c.write_ahead.ensures.elsewhere in
     let at = 16 * c.args.page + c.args.first in
     c.in_ok-write_run.ensures.done
@@ -232,6 +243,7 @@ returns-clause-pause g c = λ roomy.
     let ahead = g.F.Flash.state c.write_ahead.new.flash in
     let new = g.F.Flash.state c.write_run.new.flash in
     let slots = g.F.Flash.SLOTS in
+    let pages = g.F.Flash.PAGES in
     let sectors = g.F.Flash.SECTORS in
     let less = (c.in_ok-prepare.ensures.light.ok refl).faults in
     let more = (c.in_ok-behind.ensures.light.ok refl).faults in
@@ -246,13 +258,13 @@ returns-clause-pause g c = λ roomy.
     c.write_run.ensures.work c.write_run.ensures.erases in
     record {
       short = λ same pace. short_again same (pause.short (omega (arith, same, less, more, most)) pace);
-      stays = λ same pace ok. paced_put slots sectors c.prepare.new.place _ refl refl refl refl refl
+      stays = λ same pace ok. paced_put pages slots sectors c.prepare.new.place _ refl refl refl refl refl
           (omega (arith, passes, same, less, more, most)) c.in_ok-behind.ensures.idle
           (pause.stays (omega (arith, same, less, more, most)) pace refl);
       long = λ same ok. ⊎_elim
           (λ (short : IsBrief 33 old mid). inl (short_again same short))
-          (λ (stepped : HasStepped slots sectors c.prepare.new.place).
-          inr (paced_put slots sectors c.prepare.new.place _ refl refl refl refl refl
+          (λ (stepped : HasStepped pages slots sectors c.prepare.new.place).
+          inr (paced_put pages slots sectors c.prepare.new.place _ refl refl refl refl refl
           (omega (arith, passes, same, less, more, most)) c.in_ok-behind.ensures.idle stepped))
           (pause.long (omega (arith, same, less, more, most)) refl);
     }

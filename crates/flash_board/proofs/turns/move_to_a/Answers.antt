@@ -6,80 +6,86 @@ use Rattle.flash_board.specs.laws.Moving.{Passes, Stays, two_stays, two_passes}
 use Rattle.flash_board.specs.laws.Turns.{two_marks}
 use Rattle.flash_board.specs.laws.Marks.{closed_same}
 use Rattle.flash_board.specs.laws.Renewing.{same_held}
-use Rattle.flash_board.specs.declared.layout.TheConstants.{PAGES}
 use Rattle.flash_board.specs.FlashBlocks.{area_size, witness_start}
 use Rattle.flash_board.proofs.turns.move_to_a.Goals as goal
 
 pub returns-in_err-next-clause-words : goal.returns-in_err-next-clause-words
 returns-in_err-next-clause-words g c =
     let slots = g.F.Flash.SLOTS in
+    let pages = g.F.Flash.PAGES in
     let m = (g.F.Flash.state c.args.flash.now).words in
     let mid = (g.F.Flash.state c.erase_and_copy.new.flash).words in
-    let stays : Stays PAGES slots m mid =
-    two_stays PAGES slots m mid c.requires.turn c.erase_and_copy.ensures.elsewhere in
+    let stays : Stays pages slots m mid =
+    two_stays pages slots m mid c.requires.turn c.erase_and_copy.ensures.elsewhere in
     stays.words
 
 pub returns-in_err-next-clause-ring : goal.returns-in_err-next-clause-ring
 returns-in_err-next-clause-ring g c =
     let slots = g.F.Flash.SLOTS in
+    let pages = g.F.Flash.PAGES in
     let m = (g.F.Flash.state c.args.flash.now).words in
     let mid = (g.F.Flash.state c.erase_and_copy.new.flash).words in
-    let stays : Stays PAGES slots m mid =
-    two_stays PAGES slots m mid c.requires.turn c.erase_and_copy.ensures.elsewhere in
+    let stays : Stays pages slots m mid =
+    two_stays pages slots m mid c.requires.turn c.erase_and_copy.ensures.elsewhere in
     stays.ring
 
 pub returns-in_err-close-clause-words : goal.returns-in_err-close-clause-words
 returns-in_err-close-clause-words g c =
     let slots = g.F.Flash.SLOTS in
+    let pages = g.F.Flash.PAGES in
     let m = (g.F.Flash.state c.args.flash.now).words in
     let mid = (g.F.Flash.state c.erase_and_copy.new.flash).words in
     let after = (g.F.Flash.state c.close.new.flash).words in
-    let passes : Passes PAGES slots m after 2 0 =
-    two_passes PAGES slots m mid after c.requires.turn c.erase_and_copy.ensures.elsewhere c.in_ok-next.ensures.open
+    let passes : Passes pages slots m after 2 0 =
+    two_passes pages slots m mid after c.requires.turn c.erase_and_copy.ensures.elsewhere c.in_ok-next.ensures.open
     c.close.ensures.elsewhere c.in_ok-next.ensures.pages in
     passes.words
 
 pub returns-in_err-close-clause-ring : goal.returns-in_err-close-clause-ring
 returns-in_err-close-clause-ring g c =
     let slots = g.F.Flash.SLOTS in
+    let pages = g.F.Flash.PAGES in
     let m = (g.F.Flash.state c.args.flash.now).words in
     let mid = (g.F.Flash.state c.erase_and_copy.new.flash).words in
     let after = (g.F.Flash.state c.close.new.flash).words in
-    let passes : Passes PAGES slots m after 2 0 =
-    two_passes PAGES slots m mid after c.requires.turn c.erase_and_copy.ensures.elsewhere c.in_ok-next.ensures.open
+    let passes : Passes pages slots m after 2 0 =
+    two_passes pages slots m mid after c.requires.turn c.erase_and_copy.ensures.elsewhere c.in_ok-next.ensures.open
     c.close.ensures.elsewhere c.in_ok-next.ensures.pages in
     passes.ring
 
 pub returns-clause-words : goal.returns-clause-words
 returns-clause-words g c =
     let slots = g.F.Flash.SLOTS in
+    let pages = g.F.Flash.PAGES in
     let m = (g.F.Flash.state c.args.flash.now).words in
     let mid = (g.F.Flash.state c.erase_and_copy.new.flash).words in
     let after = (g.F.Flash.state c.close.new.flash).words in
-    let passes : Passes PAGES slots m after 2 0 =
-    two_passes PAGES slots m mid after c.requires.turn c.erase_and_copy.ensures.elsewhere c.in_ok-next.ensures.open
+    let passes : Passes pages slots m after 2 0 =
+    two_passes pages slots m mid after c.requires.turn c.erase_and_copy.ensures.elsewhere c.in_ok-next.ensures.open
     c.close.ensures.elsewhere c.in_ok-next.ensures.pages in
     passes.words
 
 pub returns-clause-ring : goal.returns-clause-ring
 returns-clause-ring g c =
     let slots = g.F.Flash.SLOTS in
+    let pages = g.F.Flash.PAGES in
     let m = (g.F.Flash.state c.args.flash.now).words in
     let mid = (g.F.Flash.state c.erase_and_copy.new.flash).words in
     let after = (g.F.Flash.state c.close.new.flash).words in
-    let passes : Passes PAGES slots m after 2 0 =
-    two_passes PAGES slots m mid after c.requires.turn c.erase_and_copy.ensures.elsewhere c.in_ok-next.ensures.open
+    let passes : Passes pages slots m after 2 0 =
+    two_passes pages slots m mid after c.requires.turn c.erase_and_copy.ensures.elsewhere c.in_ok-next.ensures.open
     c.close.ensures.elsewhere c.in_ok-next.ensures.pages in
     passes.ring
 
 pub returns-clause-done : goal.returns-clause-done
 returns-clause-done g c =
     let slots = g.F.Flash.SLOTS in
+    let pages = g.F.Flash.PAGES in
     let m = (g.F.Flash.state c.args.flash.now).words in
     let mid = (g.F.Flash.state c.erase_and_copy.new.flash).words in
     let after = (g.F.Flash.state c.close.new.flash).words in
-    let passes : Passes PAGES slots m after 2 0 =
-    two_passes PAGES slots m mid after c.requires.turn c.erase_and_copy.ensures.elsewhere c.in_ok-next.ensures.open
+    let passes : Passes pages slots m after 2 0 =
+    two_passes pages slots m mid after c.requires.turn c.erase_and_copy.ensures.elsewhere c.in_ok-next.ensures.open
     c.close.ensures.elsewhere c.in_ok-next.ensures.pages in
     ⊎_elim (λ (old : turn_of slots after ≡ 2). absurd
     (true≢false (sym c.in_ok-close.ensures.done ∙ (two_marks slots after old).1)))
@@ -121,6 +127,7 @@ close-requires-clause-opened g c =
 pub returns-clause-have : goal.returns-clause-have
 returns-clause-have g c = λ none.
     let slots = g.F.Flash.SLOTS in
+    let pages = g.F.Flash.PAGES in
     let mid = (g.F.Flash.state c.erase_and_copy.new.flash).words in
     let after = (g.F.Flash.state c.close.new.flash).words in
     let closed = (c.in_ok-close.ensures.light.ok refl).faults in
@@ -129,4 +136,4 @@ returns-clause-have g c = λ none.
       each = λ k low high. let x : k < (witness_start slots) = omega (arith, high) in
           c.close.ensures.elsewhere.same k (inl x);
     } in
-    same_held PAGES slots mid after 0 c.in_ok-next.next same (c.in_ok-next.ensures.have (sym closed ∙ none))
+    same_held pages slots mid after 0 c.in_ok-next.next same (c.in_ok-next.ensures.have (sym closed ∙ none))

@@ -6,36 +6,38 @@ use Rattle.flash_board.specs.laws.Moving.{Passes, Stays, zero_stays, zero_passes
 use Rattle.flash_board.specs.laws.Turns.{zero_marks}
 use Rattle.flash_board.specs.laws.Marks.{closed_same}
 use Rattle.flash_board.specs.laws.Renewing.{same_held}
-use Rattle.flash_board.specs.declared.layout.TheConstants.{PAGES}
 use Rattle.flash_board.specs.FlashBlocks.{area_size}
 use Rattle.flash_board.proofs.turns.move_to_b.Goals as goal
 
 pub returns-in_err-next-clause-words : goal.returns-in_err-next-clause-words
 returns-in_err-next-clause-words g c =
     let slots = g.F.Flash.SLOTS in
+    let pages = g.F.Flash.PAGES in
     let m = (g.F.Flash.state c.args.flash.now).words in
     let mid = (g.F.Flash.state c.erase_and_copy.new.flash).words in
-    let stays : Stays PAGES slots m mid = zero_stays PAGES slots m mid c.requires.ring c.requires.turn
+    let stays : Stays pages slots m mid = zero_stays pages slots m mid c.requires.ring c.requires.turn
     c.erase_and_copy.ensures.elsewhere in
     stays.words
 
 pub returns-in_err-next-clause-ring : goal.returns-in_err-next-clause-ring
 returns-in_err-next-clause-ring g c =
     let slots = g.F.Flash.SLOTS in
+    let pages = g.F.Flash.PAGES in
     let m = (g.F.Flash.state c.args.flash.now).words in
     let mid = (g.F.Flash.state c.erase_and_copy.new.flash).words in
-    let stays : Stays PAGES slots m mid = zero_stays PAGES slots m mid c.requires.ring c.requires.turn
+    let stays : Stays pages slots m mid = zero_stays pages slots m mid c.requires.ring c.requires.turn
     c.erase_and_copy.ensures.elsewhere in
     stays.ring
 
 pub returns-in_err-close-clause-words : goal.returns-in_err-close-clause-words
 returns-in_err-close-clause-words g c =
     let slots = g.F.Flash.SLOTS in
+    let pages = g.F.Flash.PAGES in
     let m = (g.F.Flash.state c.args.flash.now).words in
     let mid = (g.F.Flash.state c.erase_and_copy.new.flash).words in
     let after = (g.F.Flash.state c.close.new.flash).words in
-    let passes : Passes PAGES slots m after 0 1 =
-    zero_passes PAGES slots m mid after c.requires.ring c.requires.turn c.erase_and_copy.ensures.elsewhere
+    let passes : Passes pages slots m after 0 1 =
+    zero_passes pages slots m mid after c.requires.ring c.requires.turn c.erase_and_copy.ensures.elsewhere
     c.in_ok-next.ensures.open
     c.close.ensures.elsewhere c.in_ok-next.ensures.pages in
     passes.words
@@ -43,11 +45,12 @@ returns-in_err-close-clause-words g c =
 pub returns-in_err-close-clause-ring : goal.returns-in_err-close-clause-ring
 returns-in_err-close-clause-ring g c =
     let slots = g.F.Flash.SLOTS in
+    let pages = g.F.Flash.PAGES in
     let m = (g.F.Flash.state c.args.flash.now).words in
     let mid = (g.F.Flash.state c.erase_and_copy.new.flash).words in
     let after = (g.F.Flash.state c.close.new.flash).words in
-    let passes : Passes PAGES slots m after 0 1 =
-    zero_passes PAGES slots m mid after c.requires.ring c.requires.turn c.erase_and_copy.ensures.elsewhere
+    let passes : Passes pages slots m after 0 1 =
+    zero_passes pages slots m mid after c.requires.ring c.requires.turn c.erase_and_copy.ensures.elsewhere
     c.in_ok-next.ensures.open
     c.close.ensures.elsewhere c.in_ok-next.ensures.pages in
     passes.ring
@@ -55,11 +58,12 @@ returns-in_err-close-clause-ring g c =
 pub returns-clause-words : goal.returns-clause-words
 returns-clause-words g c =
     let slots = g.F.Flash.SLOTS in
+    let pages = g.F.Flash.PAGES in
     let m = (g.F.Flash.state c.args.flash.now).words in
     let mid = (g.F.Flash.state c.erase_and_copy.new.flash).words in
     let after = (g.F.Flash.state c.close.new.flash).words in
-    let passes : Passes PAGES slots m after 0 1 =
-    zero_passes PAGES slots m mid after c.requires.ring c.requires.turn c.erase_and_copy.ensures.elsewhere
+    let passes : Passes pages slots m after 0 1 =
+    zero_passes pages slots m mid after c.requires.ring c.requires.turn c.erase_and_copy.ensures.elsewhere
     c.in_ok-next.ensures.open
     c.close.ensures.elsewhere c.in_ok-next.ensures.pages in
     passes.words
@@ -67,11 +71,12 @@ returns-clause-words g c =
 pub returns-clause-ring : goal.returns-clause-ring
 returns-clause-ring g c =
     let slots = g.F.Flash.SLOTS in
+    let pages = g.F.Flash.PAGES in
     let m = (g.F.Flash.state c.args.flash.now).words in
     let mid = (g.F.Flash.state c.erase_and_copy.new.flash).words in
     let after = (g.F.Flash.state c.close.new.flash).words in
-    let passes : Passes PAGES slots m after 0 1 =
-    zero_passes PAGES slots m mid after c.requires.ring c.requires.turn c.erase_and_copy.ensures.elsewhere
+    let passes : Passes pages slots m after 0 1 =
+    zero_passes pages slots m mid after c.requires.ring c.requires.turn c.erase_and_copy.ensures.elsewhere
     c.in_ok-next.ensures.open
     c.close.ensures.elsewhere c.in_ok-next.ensures.pages in
     passes.ring
@@ -79,11 +84,12 @@ returns-clause-ring g c =
 pub returns-clause-done : goal.returns-clause-done
 returns-clause-done g c =
     let slots = g.F.Flash.SLOTS in
+    let pages = g.F.Flash.PAGES in
     let m = (g.F.Flash.state c.args.flash.now).words in
     let mid = (g.F.Flash.state c.erase_and_copy.new.flash).words in
     let after = (g.F.Flash.state c.close.new.flash).words in
-    let passes : Passes PAGES slots m after 0 1 =
-    zero_passes PAGES slots m mid after c.requires.ring c.requires.turn c.erase_and_copy.ensures.elsewhere
+    let passes : Passes pages slots m after 0 1 =
+    zero_passes pages slots m mid after c.requires.ring c.requires.turn c.erase_and_copy.ensures.elsewhere
     c.in_ok-next.ensures.open
     c.close.ensures.elsewhere c.in_ok-next.ensures.pages in
     ⊎_elim (λ (old : turn_of slots after ≡ 0). absurd
@@ -131,6 +137,7 @@ close-requires-clause-opened g c =
 pub returns-clause-have : goal.returns-clause-have
 returns-clause-have g c = λ none.
     let slots = g.F.Flash.SLOTS in
+    let pages = g.F.Flash.PAGES in
     let mid = (g.F.Flash.state c.erase_and_copy.new.flash).words in
     let after = (g.F.Flash.state c.close.new.flash).words in
     let closed = (c.in_ok-close.ensures.light.ok refl).faults in
@@ -139,4 +146,5 @@ returns-clause-have g c = λ none.
       each = λ k low high. let x : (20 * slots) + 2 ≤ k = omega (arith, low) in
           c.close.ensures.elsewhere.same k (inr x);
     } in
-    same_held PAGES slots mid after (area_size slots) c.in_ok-next.next same (c.in_ok-next.ensures.have (sym closed ∙ none))
+    same_held pages slots mid after (area_size slots) c.in_ok-next.next same
+    (c.in_ok-next.ensures.have (sym closed ∙ none))

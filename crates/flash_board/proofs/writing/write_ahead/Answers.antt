@@ -9,12 +9,13 @@ use Rattle.flash_board.specs.SlotParts.{IsPut}
 use Rattle.flash_board.specs.Spares.{spare_in}
 use Rattle.flash_board.specs.laws.Sparing.{copies_put, spare_all, spare_past, spare_put}
 use Rattle.flash_board.specs.laws.Words.{overlaid, written_other}
-use Rattle.flash_board.specs.declared.layout.TheConstants.{PAGES, STEP_PAGES}
+use Rattle.flash_board.specs.declared.layout.TheConstants.{STEP_PAGES}
 use Rattle.flash_board.proofs.writing.write_ahead.Goals as goal
 
 pub returns-clause-spare : goal.returns-clause-spare
 returns-clause-spare g c =
     let slots = g.F.Flash.SLOTS in
+    let pages = g.F.Flash.PAGES in
     let sectors = g.F.Flash.SECTORS in
     let start = g.F.Flash.sector_start in
     let a = c.args in
@@ -22,7 +23,7 @@ returns-clause-spare g c =
     let m = (g.F.Flash.state a.flash.now).words in
     let mid = (g.F.Flash.state c.record_of.new.flash).words in
     let after = (g.F.Flash.state c.put_in_spare.new.flash).words in
-    let old = words_of PAGES slots m in
+    let old = words_of pages slots m in
     let new = written old (16 * a.page + a.first) a.words.now in
     let words = c.overlay.new.found in
     let base = spare_in slots place.turn in
@@ -51,27 +52,28 @@ returns-clause-spare g c =
     let here = c.if-page-copied.false in
     let copied = place.copied in
     let some : 0 < copied = omega (arith, here) in
-    let all = spare_all PAGES slots sectors start m old place.turn place.erased copied place.behind some known.spare in
-    let has = copies_put PAGES slots m after old new base a.page (STEP_PAGES * copied) (STEP_PAGES * copied)
+    let all = spare_all pages slots sectors start m old place.turn place.erased copied place.behind some known.spare in
+    let has = copies_put pages slots m after old new base a.page (STEP_PAGES * copied) (STEP_PAGES * copied)
     place.behind s words (known.spare.copies all) elsewhere is_put kept below size named
     (λ p lt other. lt)
     (λ p from. (from, λ e. absurd (omega (arith, e, from, here))))
     (λ p k other within few. written_other old a.words.now a.page a.first p k other few c.requires.run)
-    (overlaid PAGES slots m m (base_in slots c.home.result) home refl a.page a.first a.words.now
+    (overlaid pages slots m m (base_in slots c.home.result) home refl a.page a.first a.words.now
     c.requires.page c.requires.run c.in_ok-found.found words c.in_ok-found.ensures.each c.overlay.ensures.other
     c.overlay.ensures.run) in
-    spare_put PAGES slots sectors start m after old new place.turn place.erased copied place.behind (s + 1) known.spare
+    spare_put pages slots sectors start m after old new place.turn place.erased copied place.behind (s + 1) known.spare
     has all
 
 pub returns-then-page-copied-clause-spare : goal.returns-then-page-copied-clause-spare
 returns-then-page-copied-clause-spare g c =
     let slots = g.F.Flash.SLOTS in
+    let pages = g.F.Flash.PAGES in
     let a = c.args in
     let place = a.place.now in
     let m = (g.F.Flash.state a.flash.now).words in
-    let old = words_of PAGES slots m in
+    let old = words_of pages slots m in
     let new = written old (16 * a.page + a.first) a.words.now in
-    spare_past PAGES slots g.F.Flash.SECTORS g.F.Flash.sector_start m old new place.turn place.erased place.copied
+    spare_past pages slots g.F.Flash.SECTORS g.F.Flash.sector_start m old new place.turn place.erased place.copied
     place.behind a.page c.if-page-copied.true
     (λ p k other few. written_other old a.words.now a.page a.first p k other few c.requires.run)
     c.requires.place.1.spare
@@ -86,13 +88,14 @@ record_of-requires-clause-entry g c =
 pub put_in_spare-requires-clause-free : goal.put_in_spare-requires-clause-free
 put_in_spare-requires-clause-free g c =
     let slots = g.F.Flash.SLOTS in
+    let pages = g.F.Flash.PAGES in
     let place = c.args.place.now in
     let m = (g.F.Flash.state c.args.flash.now).words in
-    let old = words_of PAGES slots m in
+    let old = words_of pages slots m in
     let known = c.requires.place.1 in
     let here = c.if-page-copied.false in
     let some : 0 < place.copied = omega (arith, here) in
-    let all = spare_all PAGES slots g.F.Flash.SECTORS g.F.Flash.sector_start m old place.turn place.erased place.copied
+    let all = spare_all pages slots g.F.Flash.SECTORS g.F.Flash.sector_start m old place.turn place.erased place.copied
     place.behind some known.spare in
     subst (λ (b : ℕ). AreFree (g.F.Flash.state c.record_of.new.flash).words b place.behind slots)
     (sym (c.spare.ensures.is slots))

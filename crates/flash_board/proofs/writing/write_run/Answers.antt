@@ -1,16 +1,16 @@
-use Rattle.std.proofs.Common.{◌≡◌, ◌+◌, ◌*◌, ℕ, List, length, slice_set, sym, subst}
+use Rattle.std.proofs.Common.{◌≡◌, ◌*◌, ℕ, List, length, sym, subst}
 use Rattle.std.proofs.Common.{arith}
 use Rattle.flash_board.specs.PageTables.{IsPageTable}
 use Rattle.flash_board.specs.FlashLogs.{base_in, slot_of}
 use Rattle.flash_board.specs.SlotParts.{IsPut, PutsInSlot}
 use Rattle.flash_board.specs.laws.Marks.{elsewhere_wider}
 use Rattle.flash_board.specs.laws.Writing.{run_marks, run_done, run_whole, run_index, free_behind}
-use Rattle.flash_board.specs.declared.layout.TheConstants.{PAGES}
 use Rattle.flash_board.proofs.writing.write_run.Goals as goal
 
 pub returns-in_err-program_record-clause-whole : goal.returns-in_err-program_record-clause-whole
 returns-in_err-program_record-clause-whole g c =
     let slots = g.F.Flash.SLOTS in
+    let pages = g.F.Flash.PAGES in
     let a = c.args in
     let m = (g.F.Flash.state a.flash.now).words in
     let after = (g.F.Flash.state c.program_record.new.flash).words in
@@ -20,7 +20,7 @@ returns-in_err-program_record-clause-whole g c =
     (subst (λ (l : List ℕ). PutsInSlot l c.slot_at.result words after) c.record_of.ensures.words
     c.program_record.ensures.puts) in
     let size : length words ≡ 18 = omega arith in
-    run_whole PAGES slots m after a.area a.next a.page a.first a.words.now c.in_ok-found.found words c.requires.room
+    run_whole pages slots m after a.area a.next a.page a.first a.words.now c.in_ok-found.found words c.requires.room
     c.requires.home
     c.requires.free size c.requires.page c.requires.run c.in_ok-found.ensures.each c.in_ok-found.ensures.names
     c.overlay.ensures.other c.overlay.ensures.run puts
@@ -28,6 +28,7 @@ returns-in_err-program_record-clause-whole g c =
 pub returns-in_err-program_record-clause-marks : goal.returns-in_err-program_record-clause-marks
 returns-in_err-program_record-clause-marks g c =
     let slots = g.F.Flash.SLOTS in
+    let pages = g.F.Flash.PAGES in
     let a = c.args in
     let m = (g.F.Flash.state a.flash.now).words in
     let after = (g.F.Flash.state c.program_record.new.flash).words in
@@ -37,7 +38,7 @@ returns-in_err-program_record-clause-marks g c =
     (subst (λ (l : List ℕ). PutsInSlot l c.slot_at.result words after) c.record_of.ensures.words
     c.program_record.ensures.puts) in
     let size : length words ≡ 18 = omega arith in
-    run_marks PAGES slots m after a.area a.next a.page a.first a.words.now c.in_ok-found.found words c.requires.room
+    run_marks pages slots m after a.area a.next a.page a.first a.words.now c.in_ok-found.found words c.requires.room
     c.requires.home
     c.requires.free size c.requires.page c.requires.run c.in_ok-found.ensures.each c.in_ok-found.ensures.names
     c.overlay.ensures.other c.overlay.ensures.run puts
@@ -45,6 +46,7 @@ returns-in_err-program_record-clause-marks g c =
 pub returns-clause-whole : goal.returns-clause-whole
 returns-clause-whole g c =
     let slots = g.F.Flash.SLOTS in
+    let pages = g.F.Flash.PAGES in
     let a = c.args in
     let m = (g.F.Flash.state a.flash.now).words in
     let after = (g.F.Flash.state c.program_record.new.flash).words in
@@ -54,7 +56,7 @@ returns-clause-whole g c =
     (subst (λ (l : List ℕ). PutsInSlot l c.slot_at.result words after) c.record_of.ensures.words
     c.program_record.ensures.puts) in
     let size : length words ≡ 18 = omega arith in
-    run_whole PAGES slots m after a.area a.next a.page a.first a.words.now c.in_ok-found.found words c.requires.room
+    run_whole pages slots m after a.area a.next a.page a.first a.words.now c.in_ok-found.found words c.requires.room
     c.requires.home
     c.requires.free size c.requires.page c.requires.run c.in_ok-found.ensures.each c.in_ok-found.ensures.names
     c.overlay.ensures.other c.overlay.ensures.run puts
@@ -62,6 +64,7 @@ returns-clause-whole g c =
 pub returns-clause-done : goal.returns-clause-done
 returns-clause-done g c =
     let slots = g.F.Flash.SLOTS in
+    let pages = g.F.Flash.PAGES in
     let a = c.args in
     let m = (g.F.Flash.state a.flash.now).words in
     let after = (g.F.Flash.state c.program_record.new.flash).words in
@@ -73,7 +76,7 @@ returns-clause-done g c =
     let size : length words ≡ 18 = omega arith in
     let put : IsPut after at words =
     subst (λ (k : ℕ). IsPut after k words) c.slot_at.ensures.is c.in_ok-program_record.ensures.done in
-    run_done PAGES slots m after a.area a.next a.page a.first a.words.now c.in_ok-found.found words c.requires.room
+    run_done pages slots m after a.area a.next a.page a.first a.words.now c.in_ok-found.found words c.requires.room
     c.requires.home
     c.requires.free size c.requires.page c.requires.run c.in_ok-found.ensures.each c.in_ok-found.ensures.names
     c.overlay.ensures.other c.overlay.ensures.run puts put
@@ -81,6 +84,7 @@ returns-clause-done g c =
 pub returns-clause-index : goal.returns-clause-index
 returns-clause-index g c =
     let slots = g.F.Flash.SLOTS in
+    let pages = g.F.Flash.PAGES in
     let a = c.args in
     let m = (g.F.Flash.state a.flash.now).words in
     let after = (g.F.Flash.state c.program_record.new.flash).words in
@@ -92,18 +96,18 @@ returns-clause-index g c =
     let size : length words ≡ 18 = omega arith in
     let put : IsPut after at words =
     subst (λ (k : ℕ). IsPut after k words) c.slot_at.ensures.is c.in_ok-program_record.ensures.done in
-    let table : length a.table.now ≡ PAGES = omega arith in
-    let number = c.from.ensures in
-    subst (λ (k : ℕ). IsPageTable PAGES after (base_in slots a.area) slots (slice_set a.table.now k (a.next + 1)))
-    (sym number)
-    (run_index PAGES slots m after a.area a.next a.page a.first a.words.now c.in_ok-found.found words c.requires.room
+    let table = g.F.Table.PageTable.entries a.table.now in
+    let all : length table ≡ pages = g.met.F.Flash.table_fits a.table.now in
+    subst (λ (l : List ℕ). IsPageTable pages after (base_in slots a.area) slots l) (sym c.set_entry.ensures)
+    (run_index pages slots m after a.area a.next a.page a.first a.words.now c.in_ok-found.found words c.requires.room
     c.requires.home
     c.requires.free size c.requires.page c.requires.run c.in_ok-found.ensures.each c.in_ok-found.ensures.names
-    c.overlay.ensures.other c.overlay.ensures.run a.table.now table c.requires.index puts put)
+    c.overlay.ensures.other c.overlay.ensures.run table all c.requires.index puts put)
 
 pub returns-clause-free : goal.returns-clause-free
 returns-clause-free g c =
     let slots = g.F.Flash.SLOTS in
+    let pages = g.F.Flash.PAGES in
     let a = c.args in
     let m = (g.F.Flash.state a.flash.now).words in
     let after = (g.F.Flash.state c.program_record.new.flash).words in
@@ -113,11 +117,12 @@ returns-clause-free g c =
     (subst (λ (l : List ℕ). PutsInSlot l c.slot_at.result words after) c.record_of.ensures.words
     c.program_record.ensures.puts) in
     let size : length words ≡ 18 = omega arith in
-    free_behind PAGES slots m after a.area a.next puts.elsewhere c.requires.room c.requires.home c.requires.free
+    free_behind pages slots m after a.area a.next puts.elsewhere c.requires.room c.requires.home c.requires.free
 
 pub returns-clause-marks : goal.returns-clause-marks
 returns-clause-marks g c =
     let slots = g.F.Flash.SLOTS in
+    let pages = g.F.Flash.PAGES in
     let a = c.args in
     let m = (g.F.Flash.state a.flash.now).words in
     let after = (g.F.Flash.state c.program_record.new.flash).words in
@@ -127,7 +132,7 @@ returns-clause-marks g c =
     (subst (λ (l : List ℕ). PutsInSlot l c.slot_at.result words after) c.record_of.ensures.words
     c.program_record.ensures.puts) in
     let size : length words ≡ 18 = omega arith in
-    run_marks PAGES slots m after a.area a.next a.page a.first a.words.now c.in_ok-found.found words c.requires.room
+    run_marks pages slots m after a.area a.next a.page a.first a.words.now c.in_ok-found.found words c.requires.room
     c.requires.home
     c.requires.free size c.requires.page c.requires.run c.in_ok-found.ensures.each c.in_ok-found.ensures.names
     c.overlay.ensures.other c.overlay.ensures.run puts

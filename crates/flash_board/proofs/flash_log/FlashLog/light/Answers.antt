@@ -2,14 +2,14 @@ use Rattle.std.proofs.Common.{false, ap, ◌∙◌}
 use Rattle.flash_board.specs.FlashCalls.{FlashState}
 use Rattle.flash_board.specs.Paces.{LogState, is_paced}
 use Rattle.flash_board.specs.Places.{new_log}
-use Rattle.flash_board.specs.declared.layout.TheConstants.{PAGES}
 use Rattle.flash_board.proofs.flash_log.FlashLog.light.Goals as goal
 
 pub returns : goal.returns
 unfolding is_paced
 returns g c =
+    let pages = g.F.Flash.PAGES in
     let lit : LogState → LogState = λ l. record l {
       flash = record l.flash { dark = false };
       paced = false;
     } in
-    ap (λ (s : FlashState). new_log PAGES g.F.Flash.SLOTS s) c.light.ensures ∙ ap lit c.self.view_is
+    ap (λ (s : FlashState). new_log pages g.F.Flash.SLOTS s) c.light.ensures ∙ ap lit c.self.view_is
