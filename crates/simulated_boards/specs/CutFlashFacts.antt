@@ -5,5 +5,5 @@ use Rattle.flash_board.specs.FlashFacts.{flash_facts}
 use Rattle.simulated_boards.specs.declared.cut_flash_board.CutFlashBoard.{CutFlashBoard}
 
 -- A cut is due while an arm is pending.
-abbrev pub cut_flash_facts : {F : Type 0} {g : _} → CutFlashBoard F g → Facts
+abbrev pub cut_flash_facts : {F T : Type 0} {g : _} {h : _} → CutFlashBoard F T g h → Facts
 cut_flash_facts b = record (flash_facts b.board) { due = due_of b.arm; pending = b.arm }

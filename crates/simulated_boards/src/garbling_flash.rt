@@ -5,7 +5,7 @@ ghost use Rattle.simulated_boards.specs.GarbledSectorParts.{garbling_sector};
 ghost use Rattle.simulated_boards.specs.declared.garbling_flash.TheConstants.{FLASH_WORDS, SECTORS};
 
 use crate::garbage::{blank_run, garble_run, next_random, put_run};
-use flash_board::{BLANK, CutFlash, Flash, FlashSocket};
+use flash_board::{BLANK, CutFlash, Flash, FlashSocket, PageSlots};
 use nvm_board::DeviceErr;
 use std::alloc::{AllocError, Global};
 
@@ -99,11 +99,17 @@ impl GarblingFlash {
 impl Flash for GarblingFlash {
     ghost use Rattle.simulated_boards.specs.GarbledSectorParts.{garbling_sector, garbling_sectors_rise};
     ghost use Rattle.simulated_boards.specs.GarblingStates.{garbling_state};
-    ghost use Rattle.std.proofs.Common.{lit<, refl};
+    ghost use Rattle.std.proofs.Common.{lit<, lit≤, refl};
+
+    type Table = PageSlots<1024>;
+
+    const PAGES: u16 = 1024;
 
     const SLOTS: u16 = SLOTS;
 
     const SECTORS: u16 = SECTORS;
+
+    ghost PAGES = { 1024 };
 
     ghost SLOTS = { 1280 };
 
@@ -148,6 +154,10 @@ impl Flash for GarblingFlash {
     ghost sized = { λ f. f.sized };
 
     ghost words_fit = { λ f. f.words_fit };
+
+    ghost pages_fit = { (lit≤ tt, lit≤ tt, refl) };
+
+    ghost table_fits = { λ t. t.sized };
 
     ghost slots_fit = { (lit< tt, lit< tt) };
 

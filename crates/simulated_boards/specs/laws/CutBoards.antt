@@ -4,7 +4,8 @@ use Rattle.flash_board.specs.laws.Boards.{flash_is_board}
 use Rattle.simulated_boards.specs.declared.cut_flash_board.CutFlashBoard.{CutFlashBoard}
 use Rattle.simulated_boards.specs.CutFlashFacts.{cut_flash_facts}
 
-pub cut_flash_is_board : {F : Type 0} {g : _} (b : CutFlashBoard F g) → IsBoard (cut_flash_facts b)
+pub cut_flash_is_board : {F T : Type 0} {g : _} {h : _} (b : CutFlashBoard F T g h)
+    → IsBoard (cut_flash_facts b)
 cut_flash_is_board b =
     let is = flash_is_board b.board in
     record {
