@@ -12,7 +12,6 @@ use Rattle.flash_board.specs.FlashCalls.{FlashState}
 use Rattle.flash_board.specs.FlashFacts.{made_of}
 use Rattle.flash_board.specs.FlashLogs.{words_of}
 use Rattle.flash_board.specs.Places.{state_of}
-use Rattle.flash_board.specs.declared.layout.TheConstants.{PAGES}
 use Rattle.flash_board.specs.laws.Words.{length-words}
 
 -- a new board whose cuts leave all words of a write or none
@@ -26,13 +25,13 @@ zeros l n size blank =
     (λ i lt. let below : i < n = omega (arith, lt, size) in blank i below ∙ sym (get_or-replicate n i 0 0 below))
 
 -- the board of a formatted flash, on which no power loss is set, is a new one
-pub blank_is_new : (slots : ℕ) (flash : FlashState)
-    → ((i : ℕ) → i < 16 * PAGES → slice_index (words_of PAGES slots flash.words) i ≡ 0)
-    → flash.due ≡ 0 → made_of (state_of PAGES slots flash) ≡ new_flash PAGES
-blank_is_new slots flash blank due =
-    let words = zeros (words_of PAGES slots flash.words) (16 * PAGES) (length-words PAGES slots flash.words) blank in
-    let of_words : List ℕ → Facts = λ l. record (new_flash PAGES) { words = l; due = flash.due } in
-    let of_due : ℕ → Facts = λ n. record (new_flash PAGES) { due = n } in
+pub blank_is_new : (pages slots : ℕ) (flash : FlashState)
+    → ((i : ℕ) → i < 16 * pages → slice_index (words_of pages slots flash.words) i ≡ 0)
+    → flash.due ≡ 0 → made_of (state_of pages slots flash) ≡ new_flash pages
+blank_is_new pages slots flash blank due =
+    let words = zeros (words_of pages slots flash.words) (16 * pages) (length-words pages slots flash.words) blank in
+    let of_words : List ℕ → Facts = λ l. record (new_flash pages) { words = l; due = flash.due } in
+    let of_due : ℕ → Facts = λ n. record (new_flash pages) { due = n } in
     ap of_words words ∙ ap of_due due
 
 -- a new board has room for as many blocks as it has pages from page 128 on

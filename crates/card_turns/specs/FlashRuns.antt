@@ -10,33 +10,34 @@ use Rattle.bench_turns.specs.Turns.{CountsLosses, IsTrace, Runs, darks}
 use Rattle.flash_board.specs.FlashCalls.{FlashState}
 use Rattle.flash_board.specs.FlashFacts.{made_of}
 use Rattle.flash_board.specs.Places.{state_of}
-use Rattle.flash_board.specs.declared.layout.TheConstants.{PAGES}
 
 -- The bench with the board of a flash, and power off. All counts are 0, and the due cuts are those of the flash.
-abbrev pub bench_on : ℕ → FlashState → BenchState
-bench_on slots flash = off (record (made_of (state_of PAGES slots flash)) { dark = true })
+abbrev pub bench_on : ℕ → ℕ → FlashState → BenchState
+bench_on pages slots flash = off (record (made_of (state_of pages slots flash)) { dark = true })
 
 -- The board of a flash has a card state after recovery.
-abbrev pub FlashHasCard : ℕ → FlashState → Type 0
-FlashHasCard slots flash = HasCard (state_of PAGES slots flash).words
+abbrev pub FlashHasCard : ℕ → ℕ → FlashState → Type 0
+FlashHasCard pages slots flash = HasCard (state_of pages slots flash).words
 
 -- Turns of the card on a flash, with the result of each.
-pub record PlaysOnFlash (slots : ℕ) (old : FlashState) (turns : List Turn) (trace : List Item)
+pub record PlaysOnFlash (pages slots : ℕ) (old : FlashState) (turns : List Turn) (trace : List Item)
     (new : FlashState) : Type 0 where
   -- The bench after the turns. The flash has the words of its board, and the cuts that may still come.
   pub last : BenchState
-  pub words : (state_of PAGES slots new).words ≡ (bench_facts last).words
+  pub words : (state_of pages slots new).words ≡ (bench_facts last).words
   pub due : new.due ≡ (bench_facts last).due
   -- Whatever is cut or fails: if the flash had a card state after recovery, it has one at the end.
-  pub has_card : FlashHasCard slots old → FlashHasCard slots new
+  pub has_card : FlashHasCard pages slots old → FlashHasCard pages slots new
   -- The board counts one more cut for each Dark in the trace, and at most that many due cuts of the flash are used up.
-  pub counts : CountsLosses (darks trace) (bench_facts (bench_on slots old)) (bench_facts last)
+  pub counts : CountsLosses (darks trace) (bench_facts (bench_on pages slots old)) (bench_facts last)
   -- The guess law, whatever is cut or fails.
-  pub guesses : GuessesFew (bench_on slots old) last
+  pub guesses : GuessesFew (bench_on pages slots old) last
   -- A fault that the board reports is one of its flash.
   pub faults : (bench_facts last).faults ≤ new.faults
   -- The headline. The flash has a card state after recovery, and the board reports no fault. Then the trace is the tree
   -- machine's, from that card state to the one after.
-  pub runs : FlashHasCard slots old → (bench_facts last).faults ≡ 0 → IsTrace (bench_on slots old) turns trace last
+  pub runs : FlashHasCard pages slots old → (bench_facts last).faults ≡ 0
+      → IsTrace (bench_on pages slots old) turns trace last
   -- Each turn of it also keeps to its counts, to the guess law and to the board's log.
-  pub costs : FlashHasCard slots old → (bench_facts last).faults ≡ 0 → Runs (bench_on slots old) turns trace last
+  pub costs : FlashHasCard pages slots old → (bench_facts last).faults ≡ 0
+      → Runs (bench_on pages slots old) turns trace last

@@ -21,7 +21,7 @@ pub fn play_on_flash<F: FlashSocket>(
     requires trace { length turns.now ≡ length trace.old }
     // The headline, for every flash that keeps the clauses of `Flash`, for every list of turns, and for a power loss at
     // any of its operations.
-    ensures plays { IfOk result (λ f. PlaysOnFlash F.SLOTS (F.state flash) turns.now trace.new (F.state f)) }
+    ensures plays { IfOk result (λ f. PlaysOnFlash F.PAGES F.SLOTS (F.state flash) turns.now trace.new (F.state f)) }
 
     ensures stopped { IfErr result (λ e. OpenStopsBy F.SLOTS e.1 (F.state flash) (F.state e.0)) }
     ensures unplayed { OnErr result (trace.new ≡ trace.old) }

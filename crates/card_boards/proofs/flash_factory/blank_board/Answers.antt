@@ -12,4 +12,5 @@ returns-in-Ok c =
     let due : flash.due ≡ 0 =
     (c.in-Ok.ensures.light.ok refl).due ∙ ap (λ (s : FlashState). s.due) c.in_ok-flash.ensures in
     c.new-in-Ok-3.ensures.facts ∙ c.new-in-Ok-2.ensures.facts
-    ∙ ap (λ (l : LogState). made_of l.flash) c.new-in-Ok.ensures.is ∙ blank_is_new 1280 flash c.in-Ok.ensures.blank due
+    ∙ ap (λ (l : LogState). made_of l.flash) c.new-in-Ok.ensures.is
+    ∙ blank_is_new 1024 1280 flash c.in-Ok.ensures.blank due
