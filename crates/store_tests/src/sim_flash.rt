@@ -6,7 +6,7 @@ ghost use Rattle.store_tests.specs.SimSectorParts.{sim_sector};
 ghost use Rattle.store_tests.specs.declared.sim_flash.TheConstants.{FLASH_WORDS};
 ghost use Rattle.store_tests.specs.SimCuts.{cuts_set};
 
-use flash_board::{BLANK, Flash, FlashSocket};
+use flash_board::{BLANK, Flash, FlashSocket, PageSlots};
 use nvm_board::DeviceErr;
 use std::alloc::{AllocError, Global};
 
@@ -201,11 +201,17 @@ impl SimFlash {
 impl Flash for SimFlash {
     ghost use Rattle.store_tests.specs.SimSectorParts.{sim_sector, sim_sectors_rise};
     ghost use Rattle.store_tests.specs.SimStates.{sim_state};
-    ghost use Rattle.std.proofs.Common.{lit<, refl};
+    ghost use Rattle.std.proofs.Common.{lit<, lit≤, refl};
+
+    type Table = PageSlots<1024>;
+
+    const PAGES: u16 = 1024;
 
     const SLOTS: u16 = SLOTS;
 
     const SECTORS: u16 = SECTORS;
+
+    ghost PAGES = { 1024 };
 
     ghost SLOTS = { 1280 };
 
@@ -289,6 +295,10 @@ impl Flash for SimFlash {
     ghost sized = { λ f. f.sized };
 
     ghost words_fit = { λ f. f.words_fit };
+
+    ghost pages_fit = { (lit≤ tt, lit≤ tt, refl) };
+
+    ghost table_fits = { λ t. t.sized };
 
     ghost slots_fit = { (lit< tt, lit< tt) };
 
