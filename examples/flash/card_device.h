@@ -61,9 +61,9 @@ void port_send(const uint8_t *message, uint64_t size);
 /* Puts the 16 words of a page of the card's image into the buffer. Only card_make calls it. */
 void port_page(uint16_t page, uint32_t *words, uint64_t count);
 
-/* Erases the flash, and makes a card of this number of pages of an image, at most 1,024; the others are zero. If it is
- * interrupted no card starts: make it again, from a place of yours that says whether the card was made. Never call it
- * for a card in use: it gives all tries back. */
+/* Erases the flash, and makes a card of this number of pages of an image, at most those of the board; the others are
+ * zero. If it is interrupted no card starts: make it again, from a place of yours that says whether the card was made.
+ * Never call it for a card in use: it gives all tries back. */
 uint32_t card_make(uint64_t own, uint32_t pages);
 
 /* Powers the card on, and answers blocks of T=1, at most this number of them. The answer to reset is yours to send: it

@@ -4,7 +4,7 @@ from __future__ import annotations
 import shutil
 from pathlib import Path
 
-from .slots import SECTOR_WORDS, SLOTS, set_size
+from .slots import PAGES, SECTOR_WORDS, SLOTS, set_size
 from .writing import EXAMPLE, FILES, LICENSES, SUFFIX, TOP, copy_crates
 
 FLASH_FILES, FLASH_EXAMPLE = Path(__file__).with_name("flash_files"), TOP / "examples" / "flash"
@@ -30,8 +30,10 @@ def code() -> dict[str, Path]:
     return {name: path for name, path in (boards | flashes).items() if path.is_file()}
 
 
-def fill(folder: Path, slots: int | None = None, sector_words: int | None = None) -> None:
-    """Puts the files of a port into an empty folder, with other numbers of slots or of words of a sector if given."""
+def fill(
+    folder: Path, pages: int | None = None, slots: int | None = None, sector_words: int | None = None
+) -> None:
+    """Puts the files of a port into an empty folder, with other sizes of the flash and its board if given."""
     copy_crates(folder, OWN_ON_FLASH)
     own = {str(it.relative_to(FLASH_FILES)): it for it in sorted(FLASH_FILES.rglob("*")) if it.is_file()}
     placed = {f"device/{name}": path for name, path in code().items()} | {it: TOP / it for it in LICENSES}
@@ -39,6 +41,6 @@ def fill(folder: Path, slots: int | None = None, sector_words: int | None = None
         target = folder / place.removesuffix(SUFFIX)
         target.parent.mkdir(parents=True, exist_ok=True)
         shutil.copyfile(path, target)
-    for size, given in ((SLOTS, slots), (SECTOR_WORDS, sector_words)):
+    for size, given in ((PAGES, pages), (SLOTS, slots), (SECTOR_WORDS, sector_words)):
         if given:
             set_size(folder, size, given)

@@ -1,4 +1,4 @@
-"""The size of a port's flash: the crate and the header have the same numbers of slots and of words of a sector."""
+"""The size of a port's flash and its board: the crate and the header have the same numbers."""
 from __future__ import annotations
 
 import re
@@ -7,8 +7,11 @@ from pathlib import Path
 
 from ..unproving.kit import Failed
 
+# docs/FLASH.md: a move copies 16 pages at a time
+LEAST_PAGES, MOST_PAGES, STEP_PAGES = 1024, 4096, 16
 # docs/FLASH.md: an area takes each page once, with slots to pass over, and a slot has a number of 16 bits
-LEAST_SLOTS, MOST_SLOTS = 1280, 65_535
+SPARE_SLOTS = 256
+LEAST_SLOTS, MOST_SLOTS = LEAST_PAGES + SPARE_SLOTS, 65_535
 # an area has fewer than 32,768 sectors, whatever its slots
 LEAST_WORDS, MOST_WORDS = 64, 1 << 24
 CRATE, HEADER = "crates/device_flash/src/slots.rt", "device/card_device.h"
@@ -16,7 +19,7 @@ CRATE, HEADER = "crates/device_flash/src/slots.rt", "device/card_device.h"
 
 @dataclass(frozen=True)
 class Size:
-    """A number that the crate and the header have both."""
+    """A number of the crate, which the header may have too."""
 
     what: str
     least: int
@@ -24,6 +27,7 @@ class Size:
     places: dict[str, re.Pattern[str]]
 
 
+PAGES = Size("pages", LEAST_PAGES, MOST_PAGES, {CRATE: re.compile(r"(?<=pub const PAGES: u16 = )\d+(?=;)")})
 SLOTS = Size("slots", LEAST_SLOTS, MOST_SLOTS, {
     CRATE: re.compile(r"(?<=pub const SLOTS: u16 = )\d+(?=;)"),
     HEADER: re.compile(r"(?<=\bFLASH_SLOTS = )\d+(?=,)"),
@@ -43,8 +47,8 @@ def set_size(port: Path, size: Size, given: int) -> None:
         (port / place).write_text(made, encoding="utf-8")
 
 
-def check_size(port: Path, size: Size) -> None:
-    """Refuses a port whose crate and header differ in a number."""
+def check_size(port: Path, size: Size) -> int:
+    """Refuses a port whose crate and header differ in a number; that number."""
     found = {place: it.findall((port / place).read_text(encoding="utf-8")) for place, it in size.places.items()}
     for place, numbers in found.items():
         if len(numbers) != 1 or not size.least <= int(numbers[0]) <= size.most:
@@ -52,10 +56,21 @@ def check_size(port: Path, size: Size) -> None:
     if len({it for numbers in found.values() for it in numbers}) > 1:
         told = ", ".join(f"{numbers[0]} in {place}" for place, numbers in found.items())
         raise Failed(f"{port} has two numbers of {size.what}: {told}")
+    return int(found[CRATE][0])
+
+
+def why_unfit(pages: int, slots: int) -> str | None:
+    """Why a board can't have so many pages in areas of so many slots, if so."""
+    if pages % STEP_PAGES:
+        return f"{pages} pages are no multiple of {STEP_PAGES}"
+    if slots < pages + SPARE_SLOTS:
+        return f"with {pages:,} pages an area has at least {pages + SPARE_SLOTS:,} slots"
+    return None
 
 
 def check_slots(port: Path) -> None:
     """Refuses a port whose crate and header differ. One that isn't over a flash has no slots."""
     if (port / CRATE).is_file():
-        for size in (SLOTS, SECTOR_WORDS):
-            check_size(port, size)
+        pages, slots, _ = (check_size(port, size) for size in (PAGES, SLOTS, SECTOR_WORDS))
+        if why := why_unfit(pages, slots):
+            raise Failed(f"{port / CRATE}: {why}")

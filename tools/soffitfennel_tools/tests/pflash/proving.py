@@ -10,7 +10,7 @@ from ..chip.proving import checked
 from .building import Room
 
 BELOW = ("nvm_board", "flash_board")
-WANTED = f"logic=proved functions=12 foreign={FLASH}::"
+WANTED = f"logic=proved functions=13 foreign={FLASH}::"
 
 
 def compare(room: Room) -> None:

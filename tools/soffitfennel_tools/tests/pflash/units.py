@@ -4,7 +4,7 @@ from __future__ import annotations
 import os
 
 from ...chips.module import FLASH as CRATE
-from ...porting.slots import SECTOR_WORDS, SLOTS
+from ...porting.slots import PAGES, SECTOR_WORDS, SLOTS
 from ...porting.over_flash import OWN_ON_FLASH, code, fill
 from ...porting.writing import needed, write_port
 from ..chip.units import CHIP, PORT, tool
@@ -20,12 +20,13 @@ def compare_port(room: Room) -> None:
     room.checks.same(came, sorted(code()), "the C of the port")
     room.checks.check("device.c" not in came and "boards.mk" in came, "the C of a board is not there", str(came))
     larger = room.folder / "larger"
-    ran = tool(PORT, "--flash", "--slots", 2048, "--sector-words", 1024, larger)
-    room.checks.same((ran.returncode, ran.stdout), (0, f"{larger}\n"), "tools/port --slots --sector-words")
-    for size, wanted in ((SLOTS, [["1280"], ["2048"]]), (SECTOR_WORDS, [["65536"], ["1024"]])):
+    ran = tool(PORT, "--flash", "--pages", 1536, "--slots", 2048, "--sector-words", 1024, larger)
+    room.checks.same((ran.returncode, ran.stdout), (0, f"{larger}\n"), "tools/port --pages --slots --sector-words")
+    numbers = ((PAGES, ["1024", "1536"]), (SLOTS, ["1280", "2048"]), (SECTOR_WORDS, ["65536", "1024"]))
+    for size, wanted in numbers:
         for place, number in size.places.items():
-            numbers = [number.findall((port / place).read_text(encoding="utf-8")) for port in (room.port, larger)]
-            room.checks.same(numbers, wanted, f"the {size.what} in {place}")
+            found = [number.findall((port / place).read_text(encoding="utf-8")) for port in (room.port, larger)]
+            room.checks.same(found, [[it] for it in wanted], f"the {size.what} in {place}")
 
 
 def compare_mistakes(room: Room) -> None:
@@ -43,6 +44,11 @@ def compare_mistakes(room: Room) -> None:
         (["--flash"], "required: FOLDER"),
         (["--slots", 2048, room.folder / "new"], "give --flash too"),
         (["--sector-words", 1024, room.folder / "new"], "give --flash too"),
+        (["--pages", 2048, room.folder / "new"], "give --flash too"),
+        (["--flash", "--pages", 1023, room.folder / "new"], "at least 1,024 pages"),
+        (["--flash", "--pages", 4097, room.folder / "new"], "from 1 to 4096"),
+        (["--flash", "--pages", 1500, "--slots", 2048, room.folder / "new"], "no multiple of 16"),
+        (["--flash", "--pages", 2048, "--slots", 2303, room.folder / "new"], "at least 2,304 slots"),
         (["--flash", "--sector-words", 63, room.folder / "new"], "at least 64 words"),
         (["--flash", "--sector-words", "many", room.folder / "new"], "from 1 to 16777216"),
         (["--flash", "--slots", 1279, room.folder / "new"], "at least 1,280 slots"),
@@ -66,6 +72,8 @@ def compare_slots(room: Room) -> None:
         ("device/card_device.h", "FLASH_SLOTS = 1280", "FLASH_SLOTS = MANY", "no number of slots"),
         ("device/card_device.h", "SECTOR_WORDS = 65536", "SECTOR_WORDS = 1024", "two numbers of words of a sector"),
         ("device/card_device.h", "SECTOR_WORDS = 65536", "SECTOR_WORDS = 32", "no number of words of a sector"),
+        (f"crates/{CRATE}/src/slots.rt", "PAGES: u16 = 1024", "PAGES: u16 = 4112", "no number of pages"),
+        (f"crates/{CRATE}/src/slots.rt", "PAGES: u16 = 1024", "PAGES: u16 = 1040", "at least 1,296 slots"),
     )
     for at, (place, old, new, why) in enumerate(changes):
         port = room.folder / f"slots{at}"
