@@ -8,8 +8,8 @@ use Rattle.flash_board.specs.Places.{OpenStopsBy}
 use Rattle.flash_board.specs.Rings.{IsRing}
 use Rattle.flash_board.specs.declared.flash_log.FlashFault.{FlashFault}
 use Rattle.flash_board.specs.declared.flash_log.FlashFault.TheVariants.{NoLog, PowerLost, Fault}
-use Rattle.flash_board.specs.declared.layout.TheConstants.{PAGES}
 use Rattle.flash_board.specs.laws.Words.{length-words}
+use Rattle.simulated_boards.specs.declared.garbling_flash.TheConstants.{FLASH_PAGES}
 use Rattle.card_boards.specs.FlashImages.{simulated_slots, words_on_flash}
 use Rattle.card_boards.specs.Images.{IsRefusedRightly}
 use Rattle.card_boards.specs.declared.image.NoCard.{NoCard}
@@ -24,7 +24,8 @@ has_no_log Fault old new due faults stops = let rises = stops.0.faults in absurd
 -- the words of its board are a memory
 pub are_memory : (m : List ℕ) → IsMemory (words_on_flash m)
 are_memory m =
-    (memory_of_pages (words_on_flash m) PAGES (omega arith) (omega arith) (length-words PAGES simulated_slots m)).0
+    (memory_of_pages (words_on_flash m) FLASH_PAGES (omega arith) (omega arith)
+    (length-words FLASH_PAGES simulated_slots m)).0
 
 -- a refusal of words is for a reason that is so
 pub rightly_told : {B : Type 0} (words : List ℕ) (r : Result B NoCard) (why told : NoCard)

@@ -6,8 +6,7 @@ use Rattle.card_start.specs.Factory.{IsFactory, factory_card}
 use Rattle.flash_board.specs.FlashCalls.{FlashState}
 use Rattle.flash_board.specs.FlashLogs.{words_of}
 use Rattle.flash_board.specs.Rings.{IsRing}
-use Rattle.flash_board.specs.declared.layout.TheConstants.{PAGES}
-use Rattle.simulated_boards.specs.declared.garbling_flash.TheConstants.{FLASH_WORDS}
+use Rattle.simulated_boards.specs.declared.garbling_flash.TheConstants.{FLASH_PAGES, FLASH_WORDS}
 use Rattle.card_boards.specs.declared.flash_image.NoFlashCard.{NoFlashCard}
 use Rattle.card_boards.specs.declared.flash_image.NoFlashCard.TheVariants as why
 
@@ -17,7 +16,7 @@ simulated_slots = 1280
 
 -- the words of the board on a flash with these words
 abbrev pub words_on_flash : List ℕ → List ℕ
-words_on_flash m = words_of PAGES simulated_slots m
+words_on_flash m = words_of FLASH_PAGES simulated_slots m
 
 -- The flash has a log, and its board a card state after recovery.
 pub record HasCardOnFlash (m : List ℕ) : Type 0 where

@@ -6,9 +6,9 @@ ghost use Rattle.simulated_boards.specs.declared.garbling_flash.TheConstants.{FL
 ghost use Rattle.card_boards.specs.FlashImages.{HasCardOnFlash, IsFlashRefusal};
 
 use crate::image::{NoCard, image_board};
-use flash_board::{FlashLog, PAGES};
+use flash_board::FlashLog;
 use nvm_board::PAGE_WORDS;
-use simulated_boards::{FLASH_WORDS, GarblingFlash};
+use simulated_boards::{FLASH_PAGES, FLASH_WORDS, GarblingFlash};
 use std::alloc::{AllocError, Global};
 
 /// Why the words of a flash are no card's.
@@ -83,7 +83,7 @@ fn pages_of_log(alloc: Global, log: &mut FlashLog<GarblingFlash>) -> Result<Vec<
 {
     log.words_fit();
     let mut words = Vec::new(alloc);
-    for at in 0..u16::from(PAGE_WORDS) * PAGES {
+    for at in 0..u16::from(PAGE_WORDS) * FLASH_PAGES {
         // (a read of this flash never fails)
         let Ok(word) = log.read(at) else {
             return Err(AllocError);

@@ -38,7 +38,6 @@ impl<F: CutFlash> CutFlashBoard<F> {
     ghost use Rattle.flash_board.specs.FlashFacts.{made_of};
     ghost use Rattle.flash_board.specs.Places.{state_of};
     ghost use Rattle.flash_board.specs.Rings.{IsRing};
-    ghost use Rattle.flash_board.specs.declared.layout.TheConstants.{PAGES};
     ghost use Rattle.simulated_boards.specs.CutFlashFacts.{cut_flash_facts};
 
     /// Returns the board on a powered flash that has a log and no cut set. It is the board of this flash, since code
@@ -47,7 +46,7 @@ impl<F: CutFlash> CutFlashBoard<F> {
         requires lit { (F.state flash).dark ≡ false }
         requires uncut { (F.state flash).due ≡ 0 }
         requires log { IsRing F.SLOTS (F.state flash).words }
-        ensures facts { cut_flash_facts result ≡ made_of (state_of PAGES F.SLOTS (F.state flash)) }
+        ensures facts { cut_flash_facts result ≡ made_of (state_of F.PAGES F.SLOTS (F.state flash)) }
         ensures kept { board_is_kept result.board ≡ (F.state flash).kept }
     {
         CutFlashBoard::new(FlashBoard::new(FlashLog::new(flash)))

@@ -9,6 +9,9 @@ use flash_board::{BLANK, CutFlash, Flash, FlashSocket, PageSlots};
 use nvm_board::DeviceErr;
 use std::alloc::{AllocError, Global};
 
+/// The number of pages of its board.
+pub const FLASH_PAGES: u16 = 1024;
+
 /// The number of slots of an area.
 pub(crate) const SLOTS: u16 = 1280;
 
@@ -103,7 +106,7 @@ impl Flash for GarblingFlash {
 
     type Table = PageSlots<1024>;
 
-    const PAGES: u16 = 1024;
+    const PAGES: u16 = FLASH_PAGES;
 
     const SLOTS: u16 = SLOTS;
 

@@ -11,8 +11,8 @@ ghost use Rattle.simulated_boards.specs.KeptFlashes.{flash_follower_state, kept_
 ghost use Rattle.simulated_boards.specs.declared.garbling_flash.TheConstants.{FLASH_WORDS};
 
 use crate::flash_follower::FlashFollower;
-use crate::garbling_flash::{GarblingFlash, SECTORS, SLOTS, size, start};
-use flash_board::{CutFlash, Flash, FlashSocket, FollowedFlash};
+use crate::garbling_flash::{FLASH_PAGES, GarblingFlash, SECTORS, SLOTS, size, start};
+use flash_board::{CutFlash, Flash, FlashSocket, FollowedFlash, PageSlots};
 use nvm_board::DeviceErr;
 
 /// A flash in working memory, and its follower, if it has one. The flash hands the words of each program and erase to
@@ -58,11 +58,17 @@ impl<F: FlashFollower> KeptFlash<F> {
 }
 
 impl<F: FlashFollower> Flash for KeptFlash<F> {
-    ghost use Rattle.std.proofs.Common.{refl, lit<};
+    ghost use Rattle.std.proofs.Common.{refl, lit<, lit≤};
+
+    type Table = PageSlots<1024>;
+
+    const PAGES: u16 = FLASH_PAGES;
 
     const SLOTS: u16 = SLOTS;
 
     const SECTORS: u16 = SECTORS;
+
+    ghost PAGES = { 1024 };
 
     ghost SLOTS = { 1280 };
 
@@ -126,6 +132,10 @@ impl<F: FlashFollower> Flash for KeptFlash<F> {
     ghost sized = { λ k. k.flash.sized };
 
     ghost words_fit = { λ k. k.flash.words_fit };
+
+    ghost pages_fit = { (lit≤ tt, lit≤ tt, refl) };
+
+    ghost table_fits = { λ t. t.sized };
 
     ghost slots_fit = { (lit< tt, lit< tt) };
 

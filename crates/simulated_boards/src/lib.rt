@@ -23,7 +23,7 @@ pub use fault_board::{Counted, FaultBoard};
 pub use flash_follower::FlashFollower;
 pub use followed::Followed;
 pub use follower::Follower;
-pub use garbling_flash::{FLASH_WORDS, GarblingFlash};
+pub use garbling_flash::{FLASH_PAGES, FLASH_WORDS, GarblingFlash};
 pub use kept_board::KeptBoard;
 pub use kept_flash::KeptFlash;
 pub use ram_board::RamBoard;
