@@ -14,6 +14,10 @@ mod endings;
 pub mod fixtures;
 #[cfg(test)]
 mod journal;
+#[cfg(test)]
+mod many_pages;
 mod sim_flash;
+mod wide_flash;
 
 pub use sim_flash::SimFlash;
+pub use wide_flash::WideFlash;

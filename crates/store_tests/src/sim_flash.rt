@@ -43,7 +43,7 @@ pub struct SimFlash {
 }
 
 /// Puts a run into words.
-fn put_run(words: &mut Vec<u32>, at: usize, run: &[u32])
+pub(crate) fn put_run(words: &mut Vec<u32>, at: usize, run: &[u32])
     requires { at + length run.now ≤ length words.old.items }
     ensures size { length words.new.items ≡ length words.old.items }
     ensures there { IsThere words.new.items at run.now }
@@ -56,7 +56,7 @@ fn put_run(words: &mut Vec<u32>, at: usize, run: &[u32])
 }
 
 /// Makes words blank.
-fn blank_run(words: &mut Vec<u32>, at: usize, size: usize)
+pub(crate) fn blank_run(words: &mut Vec<u32>, at: usize, size: usize)
     requires { at + size ≤ length words.old.items }
     ensures size { length words.new.items ≡ length words.old.items }
     ensures all { AreFilled words.new.items at size BLANK }
@@ -69,7 +69,7 @@ fn blank_run(words: &mut Vec<u32>, at: usize, size: usize)
 }
 
 /// Returns the next random number.
-fn next_random(random: u64) -> u64 {
+pub(crate) fn next_random(random: u64) -> u64 {
     random
         .wrapping_mul(6_364_136_223_846_793_005)
         .wrapping_add(1_442_695_040_888_963_407)
@@ -98,7 +98,7 @@ fn garbage(random: u64, kind: u64, k: usize, old: u32, new: u32) -> u32 {
 }
 
 /// Leaves garbage in words that were to be those of a run, and behind it blank.
-fn garble_run(words: &mut Vec<u32>, at: usize, size: usize, run: &[u32], random: u64)
+pub(crate) fn garble_run(words: &mut Vec<u32>, at: usize, size: usize, run: &[u32], random: u64)
     requires { at + size ≤ length words.old.items }
     ensures size { length words.new.items ≡ length words.old.items }
     ensures elsewhere { SameElsewhere words.old.items at size words.new.items }

@@ -43,5 +43,6 @@ returns-clause-unclean g c = λ e held.
     let table = g.F.Table.PageTable.entries c.args.table.now in
     let entry : c.entry.result ≡ c.args.slot + 1 =
     let one : suc c.args.slot ≡ c.args.slot + 1 = omega arith in
-    c.entry.ensures ∙ ap (λ (k : ℕ). slice_index table k) is ∙ c.requires.index.each held.page held.below ∙ held.found ∙ one in
+    c.entry.ensures ∙ ap (λ (k : ℕ). slice_index table k) is ∙ c.requires.index.each held.page held.below ∙ held.found
+    ∙ one in
     true≢false (sym (eq-eqb _ _ entry) ∙ e)
