@@ -6,7 +6,7 @@
 #[cfg(test)]
 mod cuts;
 #[cfg(test)]
-mod faults;
+mod failed_blocks;
 #[cfg(test)]
 mod memories;
 #[cfg(test)]

@@ -1,11 +1,9 @@
 //! Boards that fail once, at a call or at a write, during a command. The answer is 6581, and recovery gives the state
 //! before the command or after it.
 
-use crate::replies::is_reply;
-use bench_turns::{Item, Turn};
-use card_tests::fixtures::formatted;
-use card_turns::Bench;
-use link_tests::fixtures::framed;
+use crate::fixtures::formatted;
+use card_core::{Answer, Card};
+use nvm_board::Socket;
 use simulated_boards::FaultBoard;
 use std::alloc::Global;
 use std::process::Abort;
@@ -14,58 +12,47 @@ use std::test::Fail;
 // A command and its answer, as hexadecimal digits.
 type Exchange = (&'static str, &'static str);
 
-/// A card on a bench, and the next block's control byte.
-/// Commands and answers fit into one block.
+/// A card with power, and its last answer.
 #[derive(Drop)]
-struct Desk {
-    bench: Bench<FaultBoard>,
-    control: u8,
+struct Session {
+    card: Card<FaultBoard>,
+    answer: Answer,
 }
 
-impl Desk {
-    fn new(board: FaultBoard) -> Desk {
-        Desk {
-            bench: Bench::new(board),
-            control: 0x00,
+impl Session {
+    /// Returns the session after power off and on, if the card boots.
+    fn begin(mut board: FaultBoard) -> Option<Session> {
+        board.power_off();
+        if board.light().is_err() {
+            return None;
         }
+        let card = Card::start(board).ok()?;
+        Some(Session {
+            card,
+            answer: Answer::new(),
+        })
     }
 
-    /// Returns true if the card boots after power off and on.
-    fn starts(&mut self) -> bool {
-        let mut trace = [Item::Mute, Item::Mute];
-        self.bench.play(&[Turn::Off, Turn::On], &mut trace);
-        self.control = 0x00;
-        matches!(trace, [Item::Quiet, Item::Atr])
+    /// Sends a command. Returns true if the card answers.
+    fn sends(&mut self, alloc: Global, command: &str) -> Result<bool, Fail> {
+        let command = hex::decode(alloc, command)?;
+        Ok(self.card.command(&command, &mut self.answer).is_ok())
     }
 
-    /// Sends a command, and returns the result.
-    fn sends(&mut self, alloc: Global, command: &str) -> Result<[Item; 1], Fail> {
-        let block = framed(alloc, self.control, command)?;
-        let mut trace = [Item::Mute];
-        self.bench.play(&[Turn::Block(&block)], &mut trace);
-        self.control ^= 0x40;
-        Ok(trace)
-    }
-
-    /// Returns true if a command gets this answer.
-    fn answers(&mut self, alloc: Global, (command, answer): Exchange) -> Result<bool, Fail> {
-        let wanted = framed(alloc, self.control, answer)?;
-        Ok(is_reply(&self.sends(alloc, command)?, &wanted))
+    /// Returns true if the last answer is this one.
+    fn has_answered(&self, alloc: Global, answer: &str) -> Result<bool, Fail> {
+        let answer = hex::decode(alloc, answer)?;
+        Ok(self.answer.as_slice() == answer.as_slice())
     }
 
     /// Returns true if each of these commands gets its answer.
     fn answers_all(&mut self, alloc: Global, exchanges: &[Exchange]) -> Result<bool, Fail> {
-        for &exchange in exchanges {
-            if !self.answers(alloc, exchange)? {
+        for &(command, answer) in exchanges {
+            if !self.sends(alloc, command)? || !self.has_answered(alloc, answer)? {
                 return Ok(false);
             }
         }
         Ok(true)
-    }
-
-    /// Returns true if the card boots and gives these answers.
-    fn starts_and_answers(&mut self, alloc: Global, exchanges: &[Exchange]) -> Result<bool, Fail> {
-        Ok(self.starts() && self.answers_all(alloc, exchanges)?)
     }
 }
 
@@ -149,11 +136,13 @@ const FAILED_VERIFY: &[Exchange] = &[(WRONG, "6581"), ("00200001", "6581")];
 
 /// Returns true if a write fails as the row says.
 fn fails_so(alloc: Global, board: FaultBoard, row: &FailedWrite) -> Result<bool, Fail> {
-    let mut desk = Desk::new(board);
-    let is_ready = desk.starts_and_answers(alloc, row.before)?;
-    desk.bench.arm(row.write.max(1), row.mask);
-    let fails = desk.answers_all(alloc, row.failed)?;
-    Ok(is_ready && fails && desk.starts_and_answers(alloc, row.after)?)
+    let Some(mut session) = Session::begin(board) else {
+        return Ok(false);
+    };
+    let is_ready = session.answers_all(alloc, row.before)?;
+    session.card.arm(row.write.max(1), row.mask);
+    let fails = session.answers_all(alloc, row.failed)?;
+    Ok(is_ready && fails && finds(alloc, session.card.into_board(), &[row.after])?)
 }
 
 #[test]
@@ -549,11 +538,15 @@ const RECORDS: &[FailedCommand] = &[
 
 /// Returns true if recovery gave one of these card states.
 fn finds(alloc: Global, board: FaultBoard, found: &[&[Exchange]]) -> Result<bool, Fail> {
-    let mut desk = Desk::new(board);
+    let mut board = board;
     for exchanges in found {
-        if desk.starts_and_answers(alloc, exchanges)? {
+        let Some(mut session) = Session::begin(board) else {
+            return Ok(false);
+        };
+        if session.answers_all(alloc, exchanges)? {
             return Ok(true);
         }
+        board = session.card.into_board();
     }
     Ok(false)
 }
@@ -567,16 +560,17 @@ fn fails_after(
     row: &FailedCommand,
     (calls, mask): (u32, u16),
 ) -> Result<Option<bool>, Fail> {
-    let mut desk = Desk::new(board);
-    let is_ready = desk.starts_and_answers(alloc, row.before)?;
-    desk.bench.arm(calls.saturating_add(1), mask);
+    let Some(mut session) = Session::begin(board) else {
+        return Ok(None);
+    };
+    let is_ready = session.answers_all(alloc, row.before)?;
+    session.card.arm(calls.saturating_add(1), mask);
     let (command, answer) = row.command;
-    let control = desk.control;
-    let trace = desk.sends(alloc, command)?;
-    let board = desk.bench.into_board();
-    let fails = !board.pending();
-    let wanted = framed(alloc, control, if fails { "6581" } else { answer })?;
-    if !is_ready || !is_reply(&trace, &wanted) || fails && !finds(alloc, board, row.found)? {
+    let is_answered = session.sends(alloc, command)?;
+    let fails = !session.card.board().pending();
+    let is_right = session.has_answered(alloc, if fails { "6581" } else { answer })?;
+    let board = session.card.into_board();
+    if !(is_ready && is_answered && is_right) || fails && !finds(alloc, board, row.found)? {
         return Ok(None);
     }
     Ok(Some(fails))
@@ -602,11 +596,13 @@ fn calls_of(
 
 /// Returns a board after these commands got their answers, with power off.
 fn made(alloc: Global, board: FaultBoard, exchanges: &[Exchange]) -> Result<FaultBoard, Fail> {
-    let mut desk = Desk::new(formatted(board)?);
-    if !desk.starts_and_answers(alloc, exchanges)? {
+    let Some(mut session) = Session::begin(formatted(board)?) else {
+        return Err(Fail::from("not made"));
+    };
+    if !session.answers_all(alloc, exchanges)? {
         return Err(Fail::from("not made"));
     }
-    Ok(desk.bench.into_board())
+    Ok(session.card.into_board())
 }
 
 /// Checks a command with a fault at its calls.
