@@ -92,6 +92,30 @@ deletion_verdict m x e up =
     file_refusal (is_barred c.tree (path_of (table m) up)) true
     (allowed c s (path_of (table m) e) DeleteSelf || allowed c s (path_of (table m) up) DeleteChild)
 
+-- The verdict by what the calls found that read the card: the words stayed the same.
+module _ (m one two three : List ℕ) (x : CurrentFiles) (e up at : ℕ) (barred own by_parent : Bool) where
+  pub findings-verdict : one ≡ m → two ≡ one → three ≡ two → at ≡ up
+      → barred ≡ is_barred (tree_of one) (path_of (table one) at)
+      → own ≡ allowed (card_of two) (session_of (table two) x) (path_of (table two) e) DeleteSelf
+      → by_parent ≡ allowed (card_of three) (session_of (table three) x) (path_of (table three) at) DeleteChild
+      → (findings : Bool) → findings ≡ (own || by_parent)
+      → file_refusal barred true findings ≡ deletion_verdict m x e up
+  findings-verdict read same still is barred-told own-told parent-told findings either =
+      let then : two ≡ m = same ∙ read in
+      let last : three ≡ m = still ∙ then in
+      let bars : barred ≡ is_barred (card_of m).tree (path_of (table m) up) =
+      barred-told ∙ (λ i. is_barred (tree_of (read i)) (path_of (table (read i)) (is i)))
+      ∙ sym (ap (λ (tree : Tree). is_barred tree (path_of (table m) up)) (card-tree m)) in
+      let self : own ≡ allowed (card_of m) (session_of (table m) x) (path_of (table m) e) DeleteSelf =
+      own-told
+      ∙ ap (λ (l : List ℕ). allowed (card_of l) (session_of (table l) x) (path_of (table l) e) DeleteSelf) then in
+      let child : by_parent ≡ allowed (card_of m) (session_of (table m) x) (path_of (table m) up) DeleteChild =
+      parent-told
+      ∙ (λ i. allowed (card_of (last i)) (session_of (table (last i)) x) (path_of (table (last i)) (is i))
+      DeleteChild) in
+      let both = either ∙ (λ i. self i || child i) in
+      λ i. file_refusal (bars i) true (both i)
+
 module _ (m : List ℕ) (sized : IsMemory m) (words : IsCard m) (x : CurrentFiles) (subject : Subject) (e : ℕ)
     (above : 0 < e) (used : IsUsed (table m) e)
     (place : subject_of (card_of m).tree (session_of (table m) x) subject ≡ Some (path_of (table m) e)) where
@@ -119,13 +143,20 @@ module _ (m : List ℕ) (sized : IsMemory m) (words : IsCard m) (x : CurrentFile
       let long = length-append (path_of (table m) up) ((entry_in (table m) e).identifier ∷ []) in
       ne_eqb (length path) 0 (λ none. let z : ⊥ = omega (arith, child, long, none) in z)
 
-  pub file-verdict : refused_by (delete_refusals c s subject) ≡ deletion_verdict m x e up
+  file-verdict : refused_by (delete_refusals c s subject) ≡ deletion_verdict m x e up
   file-verdict =
       let barred = ap (has_barred_above c.tree) path-is
       ∙ barred_push c.tree (path_of (table m) up) (entry_in (table m) e).identifier in
       let at = parent_path (table m) words.tree.entries e used in
       delete-by-file c s subject path place below
       ∙ (λ i. file_refusal (barred i) true (allowed c s path DeleteSelf || allowed c s (at i) DeleteChild))
+
+  -- the same by the entry that was read
+  pub entry-verdict : (l : List ℕ) → l ≡ m → (entry : Entry) → entry ≡ entry_in (table m) e
+      → refused_by (delete_refusals c s subject) ≡ deletion_verdict l x e entry.parent
+  entry-verdict l same entry is =
+      file-verdict ∙ ap (λ (y : Entry). deletion_verdict m x e y.parent) (sym is)
+      ∙ ap (λ (now : List ℕ). deletion_verdict now x e entry.parent) (sym same)
 
   pub deletable : refused_by (delete_refusals c s subject) ≡ None → (entry : Entry) → entry ≡ entry_in (table m) e
       → IsDeletable m x subject e entry

@@ -111,6 +111,13 @@ module _ (m : List ℕ) (sized : IsMemory m) (words : IsCard m) where
   pub ended-table : table ended ≡ table m
   ended-table = kept.1
 
+-- what the rule of the master file says, by what the call found that read the card
+pub master-allows : (m now : List ℕ) → now ≡ m → (x : Current) (e : ℕ) → e ≡ 0 → (permitted : Bool)
+    → permitted ≡ allowed (card_of now) (session_of (table now) x) (path_of (table now) e) Terminate
+    → permitted ≡ allowed (card_of m) (session_of (table m) x) (path_of (table m) 0) Terminate
+master-allows m now same x e is permitted told =
+    told ∙ (λ i. allowed (card_of (same i)) (session_of (table (same i)) x) (path_of (table (same i)) (is i)) Terminate)
+
 -- what the rule of the master file says, as the code asks it
 module _ (m : List ℕ) (x : Current) (permitted : Bool)
     (is : permitted ≡ allowed (card_of m) (session_of (table m) x) (path_of (table m) 0) Terminate) where

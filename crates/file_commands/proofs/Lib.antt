@@ -1,5 +1,6 @@
 pub mod FileSteps
 pub mod Deletions
+pub mod DeleteServes
 pub mod Creations
 pub mod CreateServes
 pub mod LifeSteps

@@ -1,17 +1,9 @@
-use Rattle.std.proofs.Common.{◌≡◌, ◌||◌, ℕ, Bool, List, true, sym, ◌∙◌, ap, subst}
+use Rattle.std.proofs.Common.{◌≡◌, ◌||◌, ℕ, Bool, sym, ◌∙◌, ap, subst}
 use Rattle.undo_journal.specs.Memory.{committed}
 use Rattle.undo_journal.specs.laws.Calls.{reads_then}
-use Rattle.card_model.specs.declared.access_mode.AccessBit.TheVariants.{DeleteChild, DeleteSelf}
-use Rattle.card_model.specs.FileTrees.{Tree}
-use Rattle.card_model.specs.FileLives.{is_barred}
-use Rattle.file_tree.specs.Table.{table, path_of, IsUsed}
-use Rattle.file_tree.specs.Trees.{tree_of}
+use Rattle.file_tree.specs.Table.{table, IsUsed}
 use Rattle.file_tree.specs.laws.Nodes.{used_small}
-use Rattle.card_model.specs.Guards.{allowed}
-use Rattle.command_base.specs.Standing.{card_of}
-use Rattle.command_base.specs.Working.{session_of}
-use Rattle.command_base.specs.NamedFiles.{file_refusal}
-use Rattle.command_base.specs.laws.Entries.{card-tree}
+use Rattle.file_commands.proofs.Deletions.{findings-verdict}
 use Rattle.file_commands.proofs.files.check_deletion.Goals.{then-own, else-own}
 use Rattle.command_base.specs.laws.Readings.{entry_still, file_kept, kept_still, used_still}
 use Rattle.undo_journal.specs.laws.Told.{reads_on}
@@ -30,36 +22,18 @@ returns-in_err-by_parent g c = record {
 
 pub returns : goal.returns
 returns g c = record {
-  told = let m = committed c.args.store.now in
-      let t = table m in
-      let x = c.args.current.now in
-      let read = c.read_entry.ensures.store.only.keeps.committed_words in
-      let same = c.is_barred_at.ensures.store.only.keeps.committed_words ∙ read in
-      let still = c.allows.ensures.store.only.keeps.committed_words ∙ same in
-      let barred : c.in_ok-barred.barred ≡ is_barred (card_of m).tree (path_of t c.new-number.result) =
-      c.in_ok-barred.ensures.told
-      ∙ ap (λ (l : List ℕ). is_barred (tree_of l) (path_of (table l) c.new-number.result)) read
-      ∙ sym (ap (λ (tree : Tree). is_barred tree (path_of t c.new-number.result)) (card-tree m)) in
-      let own : c.in_ok-own.own ≡ allowed (card_of m) (session_of t x) (path_of t c.args.file.now.number) DeleteSelf =
-      c.in_ok-own.ensures.told
-      ∙ ap (λ (l : List ℕ). allowed (card_of l) (session_of (table l) x)
-      (path_of (table l) c.args.file.now.number) DeleteSelf) same in
-      let by_parent : c.in_ok-by_parent.by_parent
-      ≡ allowed (card_of m) (session_of t x) (path_of t c.new-number.result) DeleteChild =
-      c.in_ok-by_parent.ensures.told
-      ∙ ap (λ (l : List ℕ). allowed (card_of l) (session_of (table l) x)
-      (path_of (table l) c.new-number.result) DeleteChild) still in
-      let both : c.if-own.findings ≡ (c.in_ok-own.own || c.in_ok-by_parent.by_parent) = elim c.if-own.branch [
-        | then-own w ↦ w.findings-is ∙ w.if-own.true
-            ∙ sym (ap (λ (b : Bool). b || c.in_ok-by_parent.by_parent) w.if-own.true)
-        | else-own w ↦ w.findings-is ∙ sym (ap (λ (b : Bool). b || c.in_ok-by_parent.by_parent) w.if-own.false)
-      ] in
-      sym (c.in_ok-check.ensures ∙ (λ i. file_refusal (barred i) true (both i))
-      ∙ (λ i. file_refusal (is_barred (card_of m).tree (path_of t c.new-number.result)) true
-      (own i || by_parent i))
-      ∙ ap (λ (e : ℕ). file_refusal (is_barred (card_of m).tree (path_of t e)) true
-      (allowed (card_of m) (session_of t x) (path_of t c.args.file.now.number) DeleteSelf
-      || allowed (card_of m) (session_of t x) (path_of t e) DeleteChild)) c.new-number.ensures);
+  told = let both : c.if-own.findings ≡ (c.in_ok-own.own || c.in_ok-by_parent.by_parent) = elim c.if-own.branch [
+    | then-own w ↦ w.findings-is ∙ w.if-own.true
+        ∙ sym (ap (λ (b : Bool). b || c.in_ok-by_parent.by_parent) w.if-own.true)
+    | else-own w ↦ w.findings-is ∙ sym (ap (λ (b : Bool). b || c.in_ok-by_parent.by_parent) w.if-own.false)
+  ] in
+      sym (c.in_ok-check.ensures ∙ findings-verdict (committed c.args.store.now) (committed c.read_entry.new.store)
+      (committed c.is_barred_at.new.store) (committed c.allows.new.store) c.args.current.now c.args.file.now.number
+      c.args.file.now.entry.parent c.new-number.result c.in_ok-barred.barred c.in_ok-own.own
+      c.in_ok-by_parent.by_parent c.read_entry.ensures.store.only.keeps.committed_words
+      c.is_barred_at.ensures.store.only.keeps.committed_words c.allows.ensures.store.only.keeps.committed_words
+      c.new-number.ensures c.in_ok-barred.ensures.told c.in_ok-own.ensures.told c.in_ok-by_parent.ensures.told
+      c.if-own.findings both);
   store = reads_on _ _ _ _ (reads_then _ _ _
       (reads_then _ _ _ c.read_entry.ensures.store.only c.is_barred_at.ensures.store.only) c.allows.ensures.store.only)
       c.in_ok-by_parent.ensures.store;
@@ -67,37 +41,19 @@ returns g c = record {
 
 pub returns-in_err-check : goal.returns-in_err-check
 returns-in_err-check g c = record {
-  told = let m = committed c.args.store.now in
-      let t = table m in
-      let x = c.args.current.now in
-      let read = c.read_entry.ensures.store.only.keeps.committed_words in
-      let same = c.is_barred_at.ensures.store.only.keeps.committed_words ∙ read in
-      let still = c.allows.ensures.store.only.keeps.committed_words ∙ same in
-      let barred : c.in_ok-barred.barred ≡ is_barred (card_of m).tree (path_of t c.new-number.result) =
-      c.in_ok-barred.ensures.told
-      ∙ ap (λ (l : List ℕ). is_barred (tree_of l) (path_of (table l) c.new-number.result)) read
-      ∙ sym (ap (λ (tree : Tree). is_barred tree (path_of t c.new-number.result)) (card-tree m)) in
-      let own : c.in_ok-own.own ≡ allowed (card_of m) (session_of t x) (path_of t c.args.file.now.number) DeleteSelf =
-      c.in_ok-own.ensures.told
-      ∙ ap (λ (l : List ℕ). allowed (card_of l) (session_of (table l) x)
-      (path_of (table l) c.args.file.now.number) DeleteSelf) same in
-      let by_parent : c.in_ok-by_parent.by_parent
-      ≡ allowed (card_of m) (session_of t x) (path_of t c.new-number.result) DeleteChild =
-      c.in_ok-by_parent.ensures.told
-      ∙ ap (λ (l : List ℕ). allowed (card_of l) (session_of (table l) x)
-      (path_of (table l) c.new-number.result) DeleteChild) still in
-      let both : c.if-own.findings ≡ (c.in_ok-own.own || c.in_ok-by_parent.by_parent) = elim c.if-own.branch [
-        | then-own w ↦ w.findings-is ∙ w.if-own.true
-            ∙ sym (ap (λ (b : Bool). b || c.in_ok-by_parent.by_parent) w.if-own.true)
-        | else-own w ↦ w.findings-is ∙ sym (ap (λ (b : Bool). b || c.in_ok-by_parent.by_parent) w.if-own.false)
-      ] in
+  told = let both : c.if-own.findings ≡ (c.in_ok-own.own || c.in_ok-by_parent.by_parent) = elim c.if-own.branch [
+    | then-own w ↦ w.findings-is ∙ w.if-own.true
+        ∙ sym (ap (λ (b : Bool). b || c.in_ok-by_parent.by_parent) w.if-own.true)
+    | else-own w ↦ w.findings-is ∙ sym (ap (λ (b : Bool). b || c.in_ok-by_parent.by_parent) w.if-own.false)
+  ] in
       finds-stopped _ (Refused c.in_err-check.field-0.0) c.from_residual-in_err-check.ensures.1 _ _
-      (sym (c.in_err-check.ensures ∙ (λ i. file_refusal (barred i) true (both i))
-      ∙ (λ i. file_refusal (is_barred (card_of m).tree (path_of t c.new-number.result)) true
-      (own i || by_parent i))
-      ∙ ap (λ (e : ℕ). file_refusal (is_barred (card_of m).tree (path_of t e)) true
-      (allowed (card_of m) (session_of t x) (path_of t c.args.file.now.number) DeleteSelf
-      || allowed (card_of m) (session_of t x) (path_of t e) DeleteChild)) c.new-number.ensures));
+      (sym (c.in_err-check.ensures ∙ findings-verdict (committed c.args.store.now) (committed c.read_entry.new.store)
+      (committed c.is_barred_at.new.store) (committed c.allows.new.store) c.args.current.now c.args.file.now.number
+      c.args.file.now.entry.parent c.new-number.result c.in_ok-barred.barred c.in_ok-own.own
+      c.in_ok-by_parent.by_parent c.read_entry.ensures.store.only.keeps.committed_words
+      c.is_barred_at.ensures.store.only.keeps.committed_words c.allows.ensures.store.only.keeps.committed_words
+      c.new-number.ensures c.in_ok-barred.ensures.told c.in_ok-own.ensures.told c.in_ok-by_parent.ensures.told
+      c.if-own.findings both));
   store = reads-stopped _ (Refused c.in_err-check.field-0.0) c.from_residual-in_err-check.ensures.1 _ _
       (reads_on _ _ _ _ (reads_then _ _ _
       (reads_then _ _ _ c.read_entry.ensures.store.only c.is_barred_at.ensures.store.only) c.allows.ensures.store.only)

@@ -1,106 +1,44 @@
-use Rattle.std.proofs.Common.{ℕ, [], Result, Ok, None, refl, sym, ◌∙◌, ap, subst, arith, inr, true≢false}
-use Rattle.undo_journal.specs.declared.error.StoreErr.{StoreErr}
+use Rattle.std.proofs.Common.{[], refl, sym, ◌∙◌, ap, arith}
 use Rattle.undo_journal.specs.Memory.{committed}
-use Rattle.undo_journal.specs.laws.Memory.{reports_then}
 use Rattle.undo_journal.specs.laws.Exits.{ok_anyway}
-use Rattle.card_model.specs.declared.status.Sw.{Sw}
-use Rattle.card_model.specs.declared.status.TheConstants.Sw.{DONE}
 use Rattle.card_model.specs.Requests.{delete_file}
-use Rattle.file_tree.specs.declared.entry.Entry.{Entry}
-use Rattle.command_base.specs.Served.{Executes}
 use Rattle.command_base.specs.Working.{card_in, session_in}
 use Rattle.card_model.specs.declared.space.FreeSpace.{FreeSpace}
 use Rattle.command_base.specs.laws.CardLaws.{few_free}
-use Rattle.file_commands.proofs.Deletions.{any-deleting, any-stands, deleted-last, deleted-space, done-current}
-use Rattle.file_commands.proofs.Deletions.{done-step}
+use Rattle.file_commands.proofs.DeleteServes.{deleted-card, deleted-free, deletion-made, deletion-torn}
 use Rattle.file_commands.proofs.FileSteps.{delete-refused}
 use Rattle.command_base.specs.laws.Readings.{file_kept, index_still}
-use Rattle.command_base.specs.laws.Executes.{compared-none, halted, reads-compared, torn, written}
-use Rattle.command_base.specs.laws.Stopping.{err-is, none-failed, reply-failed}
-use Rattle.command_base.specs.laws.Words.{went-after}
+use Rattle.command_base.specs.laws.Executes.{halted}
+use Rattle.command_base.specs.laws.Stopping.{none-failed, reply-failed}
 use Rattle.command_base.specs.laws.SpaceKept.{space-same}
 use Rattle.file_lookup.specs.laws.StoredFiles.{file_still}
 use Rattle.file_commands.proofs.files.delete_file.Goals as goal
 
 pub returns-in_err-freed-clause-serves : goal.returns-in_err-freed-clause-serves
 returns-in_err-freed-clause-serves g c =
-    let old = c.args.store.now in
-    let m = committed old in
-    let sized = c.requires.card.kept.ready.usable.committed_size in
-    let x = c.args.current.now in
-    let mid = c.find_deletable.new.store in
-    let new = c.delete.new.store in
-    let found = c.in_ok-file.ensures.told in
-    let same = c.find_deletable.ensures.store.only.keeps.committed_words in
-    let reads = c.find_deletable.ensures.store.only in
-    let request = delete_file c.args.subject in
-    let stage = any-deleting m sized c.requires.card.kept.card x c.args.subject c.in_ok-file.file.number found.below
-    found.used found.place (committed mid) (committed new) same found.unrefused c.delete.ensures.any_exit in
-    let card = any-stands m sized c.requires.card.kept.card x c.args.subject c.in_ok-file.file.number found.below
-    found.used
-    found.place (committed mid) (committed new) same c.delete.ensures.any_exit in
-    let reports = reports_then old mid new reads.reports c.delete.ensures.store.reports in
-    let spends = c.delete.ensures.store.writes.writes in
-    let spent = reads.board.writes in
-    let went = went-after request old x new _ mid c.requires.card.kept.card refl (inr stage) reads
-    c.delete.ensures.store.writes c.delete.ensures.by_gate
-    (λ shut more. deleted-last m sized c.requires.card.kept.card x c.args.subject
-    c.in_ok-file.file.number found.below found.used found.place (committed mid) (committed new) same found.unrefused
-    (c.delete.ensures.turned shut (omega (arith, spent, more)))) in
-    let compares = compared-none _ mid.facts new.facts c.delete.ensures.store.writes ∙ reads-compared old mid reads in
-    subst (λ (r : Result Sw StoreErr). Executes request old x new x [] r)
-    (sym (err-is _ _ (reply-failed _ _ c.from_residual-in_err-freed.ensures.1)))
-    (torn request old x new x [] c.in_err-freed.field-0.0 (inr stage) card reports c.in_err-freed.ensures.store.tells
-    (omega arith) (omega (arith, spends, spent)) went compares)
+    deletion-torn
+    c.args.store.now c.find_deletable.new.store c.delete.new.store c.requires.card.kept.ready
+    c.requires.card.kept.card c.args.current.now c.args.subject c.in_ok-file.file.number c.in_ok-file.file.entry
+    c.in_ok-file.ensures.told c.find_deletable.ensures.store.only c.delete.ensures.any_exit c.requires.card.kept.current
+    c.delete.ensures.by_gate c.delete.ensures.turned c.delete.ensures.store.reports c.delete.ensures.store.writes _ _
+    (reply-failed _ _ c.from_residual-in_err-freed.ensures.1) c.in_err-freed.ensures.store.tells
 
 pub returns-clause-serves : goal.returns-clause-serves
 returns-clause-serves g c =
-    let old = c.args.store.now in
-    let m = committed old in
-    let sized = c.requires.card.kept.ready.usable.committed_size in
-    let x = c.args.current.now in
-    let mid = c.find_deletable.new.store in
-    let new = c.delete.new.store in
-    let found = c.in_ok-file.ensures.told in
-    let same = c.find_deletable.ensures.store.only.keeps.committed_words in
-    let reads = c.find_deletable.ensures.store.only in
-    let request = delete_file c.args.subject in
-    let stage = any-deleting m sized c.requires.card.kept.card x c.args.subject c.in_ok-file.file.number found.below
-    found.used found.place (committed mid) (committed new) same found.unrefused c.delete.ensures.any_exit in
-    let card = any-stands m sized c.requires.card.kept.card x c.args.subject c.in_ok-file.file.number found.below
-    found.used
-    found.place (committed mid) (committed new) same c.delete.ensures.any_exit in
-    let reports = reports_then old mid new reads.reports c.delete.ensures.store.reports in
-    let spends = c.delete.ensures.store.writes.writes in
-    let spent = reads.board.writes in
-    let went = went-after request old x new _ mid c.requires.card.kept.card refl (inr stage) reads
-    c.delete.ensures.store.writes c.delete.ensures.by_gate
-    (λ shut more. deleted-last m sized c.requires.card.kept.card x c.args.subject
-    c.in_ok-file.file.number found.below found.used found.place (committed mid) (committed new) same found.unrefused
-    (c.delete.ensures.turned shut (omega (arith, spent, more)))) in
-    let compares = compared-none _ mid.facts new.facts c.delete.ensures.store.writes ∙ reads-compared old mid reads in
-    let done = done-step m sized c.requires.card.kept.card x c.args.subject c.in_ok-file.file.number found.below
-    found.used
-    found.place (committed mid) (committed new) same found.unrefused c.in_ok-freed.ensures.done in
-    let current = done-current m sized c.requires.card.kept.card x c.args.subject c.in_ok-file.file.number
-    found.below found.used found.place (committed mid) (committed new) same c.requires.card.kept.current.marks
-    c.in_ok-freed.ensures.done in
-    subst (λ (e : ℕ). Executes request old x new (record x { df = e; ef = None; pointer = None }) [] (Ok DONE))
-    (sym (c.new.ensures ∙ ap (λ (y : Entry). y.parent) found.entry_is))
-    (written request old x new (λ _. tt) _ [] DONE (inr stage) card reports c.in_ok-freed.ensures.store.ready current
-    (λ never. absurd (true≢false never)) (omega arith) (omega (arith, spends, spent)) went compares done)
+    deletion-made
+    c.args.store.now c.find_deletable.new.store c.delete.new.store c.requires.card.kept.ready
+    c.requires.card.kept.card c.args.current.now c.args.subject c.in_ok-file.file.number c.in_ok-file.file.entry
+    c.in_ok-file.ensures.told c.find_deletable.ensures.store.only c.delete.ensures.any_exit c.requires.card.kept.current
+    c.delete.ensures.by_gate c.delete.ensures.turned c.delete.ensures.store.reports c.delete.ensures.store.writes
+    c.in_ok-freed.ensures.done c.in_ok-freed.ensures.store.ready _ c.new.ensures
 
 pub returns-clause-space : goal.returns-clause-space
 returns-clause-space g c =
-    let m = committed c.args.store.now in
-    let found = c.in_ok-file.ensures.told in
-    let same = c.find_deletable.ensures.store.only.keeps.committed_words in
-    let card = any-stands m c.requires.card.kept.ready.usable.committed_size c.requires.card.kept.card
-    c.args.current.now
-    c.args.subject c.in_ok-file.file.number found.below found.used found.place (committed c.find_deletable.new.store)
-    (committed c.delete.new.store) same c.delete.ensures.any_exit in
-    deleted-space m (committed c.find_deletable.new.store) (committed c.delete.new.store) c.args.free.now
-    c.in_ok-freed.freed c.requires.card.space same c.in_ok-freed.ensures.space c.requires.card.kept.card card
+    deleted-free
+    c.args.store.now c.find_deletable.new.store c.delete.new.store c.requires.card.kept.ready
+    c.requires.card.kept.card c.args.current.now c.args.subject c.in_ok-file.file.number c.in_ok-file.file.entry
+    c.in_ok-file.ensures.told c.find_deletable.ensures.store.only c.delete.ensures.any_exit c.args.free.now
+    c.in_ok-freed.freed c.requires.card.space c.in_ok-freed.ensures.space
 
 pub delete-requires-clause-index : goal.delete-requires-clause-index
 delete-requires-clause-index g c =
@@ -109,18 +47,17 @@ delete-requires-clause-index g c =
 -- what is free then is at most all there is
 pub overflow_add-free : goal.overflow_add-free
 overflow_add-free g c =
-    let m = committed c.args.store.now in
-    let new = c.delete.new.store in
-    let found = c.in_ok-file.ensures.told in
-    let same = c.find_deletable.ensures.store.only.keeps.committed_words in
-    let card = any-stands m c.requires.card.kept.ready.usable.committed_size c.requires.card.kept.card
-    c.args.current.now
-    c.args.subject c.in_ok-file.file.number found.below found.used found.place (committed c.find_deletable.new.store)
-    (committed new) same c.delete.ensures.any_exit in
+    let card = deleted-card
+    c.args.store.now c.find_deletable.new.store c.delete.new.store c.requires.card.kept.ready
+    c.requires.card.kept.card c.args.current.now c.args.subject c.in_ok-file.file.number c.in_ok-file.file.entry
+    c.in_ok-file.ensures.told c.find_deletable.ensures.store.only c.delete.ensures.any_exit in
     let space = ap (λ (s : FreeSpace). s.blocks)
-    (deleted-space m (committed c.find_deletable.new.store) (committed new) c.args.free.now c.in_ok-freed.freed
-    c.requires.card.space same c.in_ok-freed.ensures.space c.requires.card.kept.card card) in
-    let few = few_free (committed new) c.in_ok-freed.ensures.store.ready.usable.committed_size card in
+    (deleted-free
+    c.args.store.now c.find_deletable.new.store c.delete.new.store c.requires.card.kept.ready
+    c.requires.card.kept.card c.args.current.now c.args.subject c.in_ok-file.file.number c.in_ok-file.file.entry
+    c.in_ok-file.ensures.told c.find_deletable.ensures.store.only c.delete.ensures.any_exit c.args.free.now
+    c.in_ok-freed.freed c.requires.card.space c.in_ok-freed.ensures.space) in
+    let few = few_free (committed c.delete.new.store) c.in_ok-freed.ensures.store.ready.usable.committed_size card in
     omega (arith, space, few)
 
 pub returns-in_err-file-clause-serves : goal.returns-in_err-file-clause-serves

@@ -12,7 +12,7 @@ use Rattle.card_model.specs.FileCommands.{delete_refusals}
 use Rattle.card_model.specs.Behaviours.{refused_by}
 use Rattle.command_base.specs.Standing.{card_of}
 use Rattle.command_base.specs.Working.{session_of}
-use Rattle.file_commands.proofs.Deletions.{deletable, deletion_verdict, file-verdict, subject-found}
+use Rattle.file_commands.proofs.Deletions.{deletable, deletion_verdict, entry-verdict, subject-found}
 use Rattle.file_commands.proofs.LifeSteps.{current-there}
 use Rattle.card_model.specs.declared.requests.LifeCycleChange.TheVariants.{Activate}
 use Rattle.file_commands.proofs.FileSteps.{delete-master}
@@ -67,12 +67,9 @@ returns-in_err-check_deletion g c = record {
       (λ (status : Sw). refused ≡ Some status)
       (refused-weaker c.in_err-check_deletion.field-0.0 (λ (status : Sw). verdict ≡ Some status)
       (λ (status : Sw). refused ≡ Some status) (λ (status : Sw) (due : verdict ≡ Some status).
-      file-verdict m c.requires.card.kept.ready.usable.committed_size c.requires.card.kept.card x c.args.subject e
-      below used
-      place
-      ∙ ap (λ (y : Entry). deletion_verdict m x e y.parent) (sym entry)
-      ∙ ap (λ (l : List ℕ). deletion_verdict l x e c.in_ok-entry.entry.parent) (sym same)
-      ∙ due) c.in_err-check_deletion.ensures.told);
+      entry-verdict m c.requires.card.kept.ready.usable.committed_size c.requires.card.kept.card x c.args.subject e
+      below used place (committed c.read_entry.new.store) same c.in_ok-entry.entry entry ∙ due)
+      c.in_err-check_deletion.ensures.told);
   store = reads-stopped _ _ c.from_residual-in_err-check_deletion.ensures.1 _ _
       (reads_on _ _ _ _ (reads_then _ _ _ c.find_subject.ensures.found.store.only c.read_entry.ensures.store.only)
       c.in_err-check_deletion.ensures.store);
@@ -97,11 +94,8 @@ returns g c = record {
       let below = above-master e c.is_master.result c.is_master.ensures.1 c.if-is_master.false in
       deletable m c.requires.card.kept.ready.usable.committed_size c.requires.card.kept.card x c.args.subject e below
       used place
-      (file-verdict m c.requires.card.kept.ready.usable.committed_size c.requires.card.kept.card x c.args.subject e
-      below used
-      place
-      ∙ ap (λ (y : Entry). deletion_verdict m x e y.parent) (sym entry)
-      ∙ ap (λ (l : List ℕ). deletion_verdict l x e c.in_ok-entry.entry.parent) (sym same)
+      (entry-verdict m c.requires.card.kept.ready.usable.committed_size c.requires.card.kept.card x c.args.subject e
+      below used place (committed c.read_entry.new.store) same c.in_ok-entry.entry entry
       ∙ c.in_ok-check_deletion.ensures.told)
       c.in_ok-entry.entry entry;
   store = reads_on _ _ _ _ (reads_then _ _ _ c.find_subject.ensures.found.store.only c.read_entry.ensures.store.only)

@@ -1,16 +1,12 @@
-use Rattle.std.proofs.Common.{◌≡◌, ◌≤◌, ℕ, true, false, List, [], sym, ◌∙◌, ap, arith}
+use Rattle.std.proofs.Common.{◌≡◌, ◌≤◌, ℕ, true, false, [], sym, ◌∙◌, ap, arith}
 use Rattle.card_model.specs.declared.status.TheConstants.Sw.{ACCESS_DENIED}
-use Rattle.card_model.specs.declared.access_mode.AccessBit.TheVariants.{Terminate}
 use Rattle.undo_journal.specs.Memory.{committed}
 use Rattle.undo_journal.specs.laws.Calls.{reads_then}
 use Rattle.undo_journal.specs.laws.Told.{reads_on}
-use Rattle.file_tree.specs.Table.{table, entry_in, path_of}
-use Rattle.card_model.specs.Guards.{allowed}
-use Rattle.command_base.specs.Standing.{card_of}
-use Rattle.command_base.specs.Working.{session_of}
+use Rattle.file_tree.specs.Table.{table, entry_in}
 use Rattle.command_base.specs.laws.Readings.{entry_still, kept_still, used_still}
 use Rattle.card_model.specs.Requests.{terminate_card_usage}
-use Rattle.file_commands.proofs.Ending.{end-made, end-refused, end-torn}
+use Rattle.file_commands.proofs.Ending.{end-made, end-refused, end-torn, master-allows}
 use Rattle.command_base.specs.laws.Executes.{declined, handed}
 use Rattle.command_base.specs.laws.Stopping.{reply-failed}
 use Rattle.file_commands.proofs.life_cycles.terminate_card_usage.Goals as goal
@@ -35,11 +31,9 @@ returns-then-not-branch g c =
     let x = c.args.current.now in
     let both = reads_then _ _ _ c.read_entry.ensures.store.only c.allows.ensures.store.only in
     let denied : c.in_ok-allows.field-0 ≡ false = c.if-not-branch.true in
-    let told = c.in_ok-allows.ensures.told
-    ∙ ap (λ (l : List ℕ). allowed (card_of l) (session_of (table l) x) (path_of (table l) c.master-number.result)
-    Terminate) c.read_entry.ensures.store.only.keeps.committed_words
-    ∙ ap (λ (e : ℕ). allowed (card_of m) (session_of (table m) x) (path_of (table m) e) Terminate)
-    c.master-number.ensures in
+    let told = master-allows m (committed c.read_entry.new.store)
+    c.read_entry.ensures.store.only.keeps.committed_words x c.master-number.result c.master-number.ensures
+    c.in_ok-allows.field-0 c.in_ok-allows.ensures.told in
     declined terminate_card_usage old x c.allows.new.store (λ _. tt) c.requires.kept.card ACCESS_DENIED both
     c.in_ok-allows.ensures.store.ready c.requires.kept.current
     (end-refused (committed old) x c.in_ok-allows.field-0 told denied)
@@ -54,11 +48,9 @@ returns-in_err-terminate_card g c =
     let both = reads_then _ _ _ c.read_entry.ensures.store.only c.allows.ensures.store.only in
     let granted : c.in_ok-allows.field-0 ≡ true = c.if-not-branch.false in
     end-torn old mid new c.requires.kept.ready c.requires.kept.card c.args.current.now c.requires.kept.current
-    (sym granted ∙ c.in_ok-allows.ensures.told
-    ∙ ap (λ (l : List ℕ). allowed (card_of l) (session_of (table l) x) (path_of (table l) c.master-number.result)
-    Terminate) c.read_entry.ensures.store.only.keeps.committed_words
-    ∙ ap (λ (e : ℕ). allowed (card_of m) (session_of (table m) x) (path_of (table m) e) Terminate)
-    c.master-number.ensures) both
+    (sym granted ∙ master-allows m (committed c.read_entry.new.store)
+    c.read_entry.ensures.store.only.keeps.committed_words x c.master-number.result c.master-number.ensures
+    c.in_ok-allows.field-0 c.in_ok-allows.ensures.told) both
     c.terminate_card.ensures.any_exit c.terminate_card.ensures.by_gate c.terminate_card.ensures.turned
     c.terminate_card.ensures.store.reports
     c.terminate_card.ensures.store.writes _ _ (reply-failed _ _ c.from_residual-in_err-terminate_card.ensures.1)
@@ -74,11 +66,9 @@ returns g c =
     let both = reads_then _ _ _ c.read_entry.ensures.store.only c.allows.ensures.store.only in
     let granted : c.in_ok-allows.field-0 ≡ true = c.if-not-branch.false in
     end-made old mid new c.requires.kept.ready c.requires.kept.card c.args.current.now c.requires.kept.current
-    (sym granted ∙ c.in_ok-allows.ensures.told
-    ∙ ap (λ (l : List ℕ). allowed (card_of l) (session_of (table l) x) (path_of (table l) c.master-number.result)
-    Terminate) c.read_entry.ensures.store.only.keeps.committed_words
-    ∙ ap (λ (e : ℕ). allowed (card_of m) (session_of (table m) x) (path_of (table m) e) Terminate)
-    c.master-number.ensures) both
+    (sym granted ∙ master-allows m (committed c.read_entry.new.store)
+    c.read_entry.ensures.store.only.keeps.committed_words x c.master-number.result c.master-number.ensures
+    c.in_ok-allows.field-0 c.in_ok-allows.ensures.told) both
     c.terminate_card.ensures.any_exit c.terminate_card.ensures.by_gate c.terminate_card.ensures.turned
     c.terminate_card.ensures.store.reports
     c.terminate_card.ensures.store.writes c.in_ok-terminate_card.ensures.done c.in_ok-terminate_card.ensures.store.ready
