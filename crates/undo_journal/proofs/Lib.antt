@@ -10,3 +10,4 @@ pub mod Lasting
 pub mod Telling
 pub mod Noted
 pub mod SetRuns
+pub mod PairChanges

@@ -17,3 +17,4 @@ pub mod Lent
 pub mod JournalParts
 pub mod StoreCalls
 pub mod laws
+pub mod Wiping

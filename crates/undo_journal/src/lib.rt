@@ -10,6 +10,7 @@ pub mod laws;
 mod layout;
 mod store;
 mod txn;
+mod wiping;
 
 pub use batch::{BATCH, Waiting};
 pub use error::{OpenFault, StoreErr};
@@ -17,3 +18,4 @@ pub use layout::{GATE, JOURNAL_END};
 pub use nvm_board::{Armed, Board, DeviceErr, Faultless, PAGE_WORDS};
 pub use store::Store;
 pub use txn::Txn;
+pub use wiping::wipe_pairs;
