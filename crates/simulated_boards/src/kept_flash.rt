@@ -4,6 +4,7 @@ ghost use Rattle.nvm_board.specs.Facts.{AreWords};
 ghost use Rattle.nvm_board.specs.History.{run_in};
 ghost use Rattle.flash_board.specs.FlashCalls.{Lights, SameElsewhere, IsThere, AreFilled};
 ghost use Rattle.flash_board.specs.FlashBlocks.{flash_size};
+ghost use Rattle.flash_board.specs.ProgrammedRuns.{IsProgramRun};
 ghost use Rattle.flash_board.specs.declared.flash.TheConstants.{BLANK};
 ghost use Rattle.simulated_boards.specs.GarbledSectorParts.{garbling_sector, garbling_sectors_rise};
 ghost use Rattle.simulated_boards.specs.Handed.{HandsOn};
@@ -96,6 +97,7 @@ impl<F: FlashFollower> Flash for KeptFlash<F> {
         requires lit { (kept_flash_state self.old).dark ≡ false }
         requires blank { AreFilled (kept_flash_state self.old).words at (length words.now) BLANK }
         requires within { at + length words.now ≤ flash_size 1280 }
+        requires run { IsProgramRun 1280 at (length words.now) }
         ensures done { OnOk result (IsThere (kept_flash_state self.new).words at words.now) }
         ensures elsewhere { SameElsewhere (kept_flash_state self.old).words at (length words.now)
             (kept_flash_state self.new).words }
