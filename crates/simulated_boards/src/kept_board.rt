@@ -51,6 +51,19 @@ impl<F: Follower> KeptBoard<F> {
         self.cut.copy(alloc)
     }
 
+    /// The board by itself, and its follower.
+    pub fn into_parts(self) -> (CutBoard, Option<F>)
+        ensures cut { cut_facts result.0 ≡ record (kept_facts F.log self) { log = None } }
+        ensures follower { result.1 ≡ self.follower }
+    {
+        let KeptBoard {
+            cut: board,
+            follower: own,
+            follows: _,
+        } = self;
+        (board, own)
+    }
+
     /// The words, with power on or off.
     pub fn words(&self) -> &[u32]
         ensures { result.now ≡ kept_words self.now }
