@@ -1,5 +1,5 @@
 -- What a second desk wrote that ran an order up to its first write.
-use Rattle.std.specs.Prelude.{◌≡◌, ◌⊎◌, ◌<◌, ◌^◌, ℕ, Bool, List, [], ◌∷◌, Option, None, Some, is_some, length}
+use Rattle.std.specs.Prelude.{◌≡◌, ◌<◌, ◌^◌, ℕ, Bool, List, [], ◌∷◌, Option, None, Some, is_some, length}
 use Rattle.std.proofs.Common.{◌∙◌, ap, arith, inl, inr, refl, subst, sym, true≢false}
 use Rattle.nvm_board.specs.Facts.{Facts}
 use Rattle.nvm_board.specs.History.{Log, Run, and_runs, replayed, written}
@@ -148,17 +148,17 @@ module _ (order : Order) (was armed left : Desk) (quiet prints : Print)
   }
 
 -- what holds of a desk holds of one that is charged
-good-with : (b : BenchState) (log : Option Log) → IsGood b
+pub good_with : (b : BenchState) (log : Option Log) → IsGood b
     → IsGood (with_facts b (record (bench_facts b) { log = log }))
-good-with (off was) log good =
+good_with (off was) log good =
     record { has_card = good.has_card; faults = good.faults; due = good.due; well = good.well }
-good-with (on was) log good =
+good_with (on was) log good =
     record { has_card = good.has_card; faults = good.faults; due = good.due; well = good.well }
 
 pub good_charged : (order : Order) (was now : Desk) → IsCharged order was now → IsGood was.bench → IsGood now.bench
 good_charged order was now (inl same) good = subst (λ (d : Desk). IsGood d.bench) (sym same.0) good
 good_charged order was now (inr takes) good =
-    subst (λ (d : Desk). IsGood d.bench) (sym takes.same) (good-with was.bench _ good)
+    subst (λ (d : Desk). IsGood d.bench) (sym takes.same) (good_with was.bench _ good)
 
 left-logged : (n : ℕ) (f : Facts) (log : Option Log) → HasLeft n f → HasLeft n (record f { log = log })
 left-logged n f log left = record {

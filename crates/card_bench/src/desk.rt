@@ -270,8 +270,8 @@ where
     }
 
     /// Runs an order up to its first write, which the follower gets. Then a second desk in the state before it, on the
-    /// second board, takes this one's place, and gives it back to the board with the follower. Returns the second board,
-    /// and true if the follower took the write.
+    /// second board, takes this one's place, and gives its state to the board with the follower. Returns the second
+    /// board, and true if the follower took the write.
     fn take_charge(&mut self, mut second: P::Board, order: Order, given: &[u8]) -> (P::Board, bool)
         requires sized { IsOrderSized (order_with order given.now) }
         requires good { IsGood self.old.desk.bench }

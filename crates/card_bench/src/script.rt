@@ -63,9 +63,9 @@ pub fn run<P: Twinned<Board = CutBoard> + Drop, R: BufRead, W: Write>(
 ///
 /// # Errors
 ///
-/// Those of `run`, and `Unkept` if the follower did not take a write: then the line has no answer, and no line after it
-/// runs. If it did not take the charge of a PIN, the line itself does not run, and nothing is compared. `Memory` only if
-/// something follows the board.
+/// Those of `run`, and `Unkept` if the follower did not take a write: then the line has no answer, and no line after
+/// it runs. If it did not take the charge of a PIN, the line itself does not run, and nothing is compared. `Memory`
+/// only if something follows the board.
 pub fn run_on<P: Twinned + Drop, R: BufRead, W: Write>(
     board: P::Board,
     reader: &mut R,
