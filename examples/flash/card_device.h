@@ -73,4 +73,9 @@ uint32_t card_serve(uint64_t own, uint32_t blocks);
 /* The same without T=1: each message is a command, and then its answer. */
 uint32_t card_serve_commands(uint64_t own, uint32_t commands);
 
+/* Leaves nothing in the flash but the card as it is: no old value of a PIN, and a free area, so that the next writes
+ * are short. It takes as long as a move. Call it between two sessions; after CARD_START_LOST or CARD_START_FAULT call
+ * it again. The card is the same, whatever interrupts it. */
+uint32_t card_renew(uint64_t own);
+
 #endif

@@ -30,7 +30,7 @@ WORDS = (
 SOURCE = "card.ll"
 STARTS = ("card_serve", "card_serve_commands", "card_start", "card_block")
 # what a port over a flash has too
-MAKING = "card_make"
+ON_FLASH = ("card_make", "card_renew")
 
 
 @dataclass(frozen=True)
@@ -97,7 +97,7 @@ def bounds(target: Target, room: Path) -> dict[str, Bound]:
     assembly = room / "card.s"
     compiler(target, room, "-S", "-fstack-usage", "-o", assembly)
     defined = set(re.findall(r"^(card_\w+):", assembly.read_text(encoding="utf-8"), re.M))
-    starts = [it for it in (*STARTS, MAKING) if it in defined or it == STARTS[0]]
+    starts = [it for it in (*STARTS, *ON_FLASH) if it in defined or it == STARTS[0]]
     return {it: read(assembly, assembly.with_suffix(".su"), it) for it in starts}
 
 
