@@ -133,7 +133,9 @@ impl<F: Flash> FlashBoard<F> {
     /// Loses power in a call.
     fn go_dark(&mut self)
         requires { self.old.dark ≡ false }
-        ensures { flash_facts self.new ≡ record (flash_facts self.old) { dark = true; cuts = self.old.cuts + 1 } }
+        ensures facts { flash_facts self.new
+            ≡ record (flash_facts self.old) { dark = true; cuts = self.old.cuts + 1 } }
+        ensures log { self.new.log ≡ self.old.log }
     {
         self.cuts += 1;
         self.dark = true;
@@ -156,10 +158,11 @@ impl<F: Flash> FlashBoard<F> {
         requires place { secret < SECRETS }
         requires spare { slice_index self.old.compares secret < COUNT_END }
         requires spare_match { equal ≡ true → slice_index self.old.matches secret < COUNT_END }
-        ensures { flash_facts self.new ≡ record (flash_facts self.old) {
+        ensures facts { flash_facts self.new ≡ record (flash_facts self.old) {
           compares = raised self.old.compares secret;
           matches = if equal then raised self.old.matches secret else self.old.matches;
         } }
+        ensures log { self.new.log ≡ self.old.log }
     {
         self.compares[secret] += 1;
         if equal {
@@ -172,7 +175,7 @@ impl<F: Flash> Board for FlashBoard<F> {
     ghost use Rattle.flash_board.specs.FlashFacts.{flash_facts, log_state};
     ghost use Rattle.flash_board.specs.Paces.{IsRoomy, Pauses};
     ghost use Rattle.flash_board.specs.laws.Boards.{flash_is_board};
-    ghost use Rattle.nvm_board.specs.BoardCalls.{FitsPage, Writes};
+    ghost use Rattle.nvm_board.specs.BoardCalls.{Compares, FitsPage, TellsWord, Writes};
     ghost use Rattle.nvm_board.specs.Facts.{address};
 
     ghost facts = { flash_facts };
@@ -182,7 +185,11 @@ impl<F: Flash> Board for FlashBoard<F> {
     }
 
     #[tactic(auto, unfolding(nvm_board::specs::Facts::IsLostRightly))]
-    fn read(&mut self, at: u16) -> Result<u32, DeviceErr> {
+    fn read(&mut self, at: u16) -> Result<u32, DeviceErr>
+        requires { at < length (flash_facts self.old).words }
+        ensures word { TellsWord at (flash_facts self.old) (flash_facts self.new) result }
+        ensures paced { (log_state self.old).paced ≡ true → (log_state self.new).paced ≡ true }
+    {
         if self.dark {
             return Err(DeviceErr::PowerLost);
         }
@@ -247,7 +254,11 @@ impl<F: Flash> Board for FlashBoard<F> {
     }
 
     #[tactic(auto, unfolding(nvm_board::specs::Facts::IsLostRightly))]
-    fn compare(&mut self, secret: u8, kept: &[u8; 8], shown: &[u8; 8]) -> Result<bool, DeviceErr> {
+    fn compare(&mut self, secret: u8, kept: &[u8; 8], shown: &[u8; 8]) -> Result<bool, DeviceErr>
+        requires { secret < SECRETS }
+        ensures compared { Compares secret kept.now shown.now (flash_facts self.old) (flash_facts self.new) result }
+        ensures log { log_state self.new ≡ log_state self.old }
+    {
         if self.dark {
             return Err(DeviceErr::PowerLost);
         }

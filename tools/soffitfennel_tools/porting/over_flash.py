@@ -11,7 +11,7 @@ FLASH_FILES, FLASH_EXAMPLE = Path(__file__).with_name("flash_files"), TOP / "exa
 # the crates of the flash, and the crates of ours that each uses
 OWN_ON_FLASH = {
     "device_flash": "nvm_board flash_board",
-    "card_device staticlib": "nvm_board flash_board undo_journal journal_wiping device_flash t1_link card_start "
+    "card_device staticlib": "nvm_board flash_board undo_journal device_flash t1_link card_start "
     "card_core card_turns",
 }
 # what is as in a port over a board, by its place

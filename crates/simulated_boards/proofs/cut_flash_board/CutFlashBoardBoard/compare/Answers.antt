@@ -5,6 +5,6 @@ use Rattle.simulated_boards.proofs.cut_flash_board.CutFlashBoardBoard.compare.Go
 pub invariant_of-self : goal.invariant_of-self
 invariant_of-self g c = record {
   uncut = none_due (flash_facts c.args.self.now.board) (flash_facts c.compare-ended.new.self) _ c.args.self.now.uncut
-      c.compare-ended.ensures.light;
+      c.compare-ended.ensures.compared.light;
   unfailed = c.has_no_fault.ensures;
 }

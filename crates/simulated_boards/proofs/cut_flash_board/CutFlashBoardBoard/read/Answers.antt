@@ -5,6 +5,6 @@ use Rattle.simulated_boards.proofs.cut_flash_board.CutFlashBoardBoard.read.Goals
 pub invariant_of-self : goal.invariant_of-self
 invariant_of-self g c = record {
   uncut = none_due (flash_facts c.args.self.now.board) (flash_facts c.read-ended.new.self) _ c.args.self.now.uncut
-      c.read-ended.ensures.light;
+      c.read-ended.ensures.word.light;
   unfailed = c.has_no_fault.ensures;
 }
