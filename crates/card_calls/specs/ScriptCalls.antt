@@ -2,7 +2,7 @@
 use Rattle.std.specs.Prelude.{◌≡◌, ◌≢◌, ◌⊎◌, ◌<◌, ℕ, ℤ, pos, List, [], Option, None, Some, length}
 use Rattle.bench_lines.specs.Faults.{status_of}
 use Rattle.bench_lines.specs.declared.fault.RunFault.{RunFault}
-use Rattle.bench_lines.specs.declared.fault.RunFault.TheVariants.{Memory, Write}
+use Rattle.bench_lines.specs.declared.fault.RunFault.TheVariants.{Memory, Unkept, Write}
 use Rattle.card_bench.specs.Exchanges.{Desk}
 use Rattle.card_bench.specs.Prints.{IsFirstDesk, LacksNoWrite}
 use Rattle.card_bench.specs.ScriptEndings.{IsRunToEnd, RunStopsBy}
@@ -17,11 +17,11 @@ abbrev pub FollowsInC : Facts → Type 0
 FollowsInC f = LacksNoWrite (KeptBoard WriteLog) device_facts (λ board. board.follows) f
 
 -- A script ran on the factory card, and printed this: to its end, or until a fault stopped it. With too little memory
--- it printed nothing.
+-- it printed nothing. Nothing follows this card, so no write is unkept.
 abbrev pub EndsScript : List ℕ → List ℕ → Option RunFault → Type 0
 EndsScript script text None =
     (first : Desk) × IsFirstDesk first × IsRunToEnd FollowsInC first script (Some []) (Some text)
-EndsScript script text (Some fault) = (fault ≡ Memory → text ≡ [])
+EndsScript script text (Some fault) = (fault ≢ Unkept) × (fault ≡ Memory → text ≡ [])
     × (fault ≢ Memory → (first : Desk) × (rest : Option (List ℕ)) × IsFirstDesk first
     × RunStopsBy FollowsInC first fault (Some script) rest (Some []) (Some text))
 

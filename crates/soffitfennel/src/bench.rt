@@ -21,6 +21,8 @@ pub fn printed(alloc: Global, script: &[u8]) -> (Vec<u8>, Option<RunFault>)
     // (a board that other calls use too, so that its code stands once in the library)
     match run_on::<Bench<DeviceBoard>, _, _>(unfollowed(board), &mut reader, &mut text) {
         Ok(()) => (text, None),
+        // Nothing follows this board. The facts of a board don't tell that, so a want of memory stands for the rest.
+        Err(RunFault::Unkept) => (Vec::new(alloc), Some(RunFault::Memory)),
         Err(fault) => (text, Some(fault)),
     }
 }

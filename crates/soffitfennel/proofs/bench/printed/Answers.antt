@@ -1,4 +1,6 @@
-use Rattle.std.proofs.Common.{List, ℕ, Option, Some, [], Err, refl, subst, ap}
+use Rattle.std.proofs.Common.{◌≢◌, ◌∙◌, List, ℕ, Some, Err, refl, rules, subst, ap}
+use Rattle.std.proofs.lemmas.Option.{same_Some}
+use Rattle.bench_lines.specs.declared.fault.RunFault.TheVariants.{Unkept}
 use Rattle.nvm_board.specs.Facts.{Facts}
 use Rattle.simulated_boards.specs.Cut.{cut_facts}
 use Rattle.card_bench.specs.Prints.{IsFirstDesk, desk_of}
@@ -29,8 +31,10 @@ returns-in-Err c =
     let text = Some c.run_on.new.writer.items in
     let left = Some c.run_on.new.reader.now in
     let stopped = subst (λ (f : Facts). RunStopsBy FollowsInC (desk_of f) c.in-Err.fault (Some c.args.script.now) left
-    (Some c.new-text.result.items) text) c.unfollowed.ensures c.in-Err.ensures.stopped in (
-      λ memory. absurd (c.in-Err.ensures.memory (ap Err memory)),
+    (Some c.new-text.result.items) text) c.unfollowed.ensures c.in-Err.ensures.stopped in
+    let apart : c.in-Err.fault ≢ Unkept = search rules in (
+      apart,
+      λ memory. same_Some _ _ (c.in-Err.ensures.memory (ap Err memory)).2 ∙ c.new-text.ensures.items,
       λ other. (
         desk_of facts,
         left,
