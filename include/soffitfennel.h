@@ -53,10 +53,10 @@
  *
  * A card with a device. soffitfennel_attach makes a card whose device writes go to soffitfennel_store: the charge for a
  * PIN's try before the PIN is compared, all others before the call returns. If the device refuses the charge, nothing
- * is compared. A command on PINs or a block asks for memory, for a copy of the card. The image on the device is the
- * memory's words in order, the most significant byte of each first. After a loss of power the caller makes the card
- * again from the image, and power-on rolls back an unfinished command. Whoever reads the image has all PINs, since it
- * holds them in plain bytes; an old PIN can stay in its journal.
+ * is compared. The call that makes the card takes all its memory, also that of the copy that tells a charge. The image
+ * on the device is the memory's words in order, the most significant byte of each first. After a loss of power the
+ * caller makes the card again from the image, and power-on rolls back an unfinished command. Whoever reads the image
+ * has all PINs, since it holds them in plain bytes; an old PIN can stay in its journal.
  */
 #ifndef SOFFITFENNEL_H
 #define SOFFITFENNEL_H
@@ -183,13 +183,13 @@ int32_t soffitfennel_power_off(soffitfennel_card **card) SOFFITFENNEL_NOEXCEPT;
 
 /* Sends a command through a reader's end, the line and the card's end of T=1. The answer, with its two status bytes,
  * is in the buffer, and its length in *size. A room below SOFFITFENNEL_ROOM is refused before the command runs.
- * DONE, MUTE, DARK, LOST or SIZE; MEMORY of a card with a device; *size is 0 unless DONE. */
+ * DONE, MUTE, DARK, LOST or SIZE; *size is 0 unless DONE. */
 int32_t soffitfennel_command(soffitfennel_card **card, const uint8_t *command, size_t count,
                              uint8_t *answer, size_t room, size_t *size) SOFFITFENNEL_NOEXCEPT;
 
 /* Sends a block of T=1 straight to the card's end, and gives the block that it sends back. The reader's end doesn't
  * know of it, so soffitfennel_command returns LOST until the next power-on.
- * DONE, MUTE, DARK or SIZE; MEMORY of a card with a device; *size is 0 unless DONE. */
+ * DONE, MUTE, DARK or SIZE; *size is 0 unless DONE. */
 int32_t soffitfennel_block(soffitfennel_card **card, const uint8_t *block, size_t count,
                            uint8_t *reply, size_t room, size_t *size) SOFFITFENNEL_NOEXCEPT;
 

@@ -9,12 +9,12 @@ use Rattle.t1_link.specs.ReaderTable.{Reader, Turned, is_busy, reader_sends}
 use Rattle.t1_link.specs.TreeMachine.{IsProperState, Served, tree_machine}
 use Rattle.t1_link.specs.WorldLaw.{comes_of, is_under_way}
 use Rattle.t1_link.specs.WorldRepairs.{newest}
-use Rattle.t1_link.specs.Worlds.{Event, Report, World, giving, is_command, quiet, send, turning, world_step}
+use Rattle.t1_link.specs.Worlds.{Event, Report, World, is_command, quiet, send, turning, world_step}
 use Rattle.t1_link.proofs.TreeAnswers.{tree-answers}
 use Rattle.t1_link.proofs.WorldLawful.{world-lawful}
 use Rattle.command_base.specs.Comparing.{Comparisons, comparisons}
 use Rattle.bench_lines.specs.Orders.{Order, Nothing, On, Off, Free, Apdu, Block, Cut, Lose, Garble, IsOrderSized}
-use Rattle.bench_lines.specs.Printouts.{Print, prints_atr}
+use Rattle.bench_lines.specs.Printouts.{Print}
 use Rattle.bench_lines.specs.Spellings.{IsOrderOfBytes}
 use Rattle.bench_turns.specs.BenchStates.{BenchHasCard, BenchState, off, on, bench_facts, with_facts, IsArmed}
 use Rattle.bench_turns.specs.BenchStates.{switched_off}
@@ -23,7 +23,6 @@ use Rattle.bench_turns.specs.Turns.{GoodTurn}
 use Rattle.bench_turns.specs.declared.turn.Item.{Item}
 use Rattle.bench_turns.specs.declared.turn.Item.TheVariants as item
 use Rattle.bench_turns.specs.declared.turn.Turn.TheVariants as turn
-use Rattle.card_bench.specs.Charges.{MayCompare}
 use Rattle.card_bench.specs.ExchangeWorlds.{StandIn, bytes_of_line, fate}
 use Rattle.card_bench.specs.Exchanges.{Arrives, CardTakes, Commands, Desk, Ended, Ends, Exchanged, Exchanges}
 use Rattle.card_bench.specs.Exchanges.{GoesThrough, NextBlock, Passes, answered, bytes_under_way, following, left_by}
@@ -32,14 +31,13 @@ use Rattle.card_bench.specs.Exchanges as ways
 use Rattle.card_bench.specs.Lines as lines
 use Rattle.card_bench.specs.Performing.{Performs, PerformsCommand, TakesTurn, reader_after, shown}
 use Rattle.card_bench.specs.ScriptWorlds.{CommandInWorld, IsInWorld, LineInWorld}
-use Rattle.card_bench.specs.declared.line.Line.{Line}
 use Rattle.card_bench.specs.declared.reader_turns.TheConstants.{LINE_BLOCKS}
 use Rattle.card_bench.proofs.ExchangeInWorld.{given-so, reached, reached-step, ready-so, stands-sent}
-use Rattle.card_bench.proofs.ExchangeSteps.{GoesOnIn, IsKnown, IsReached, IsWay, LeadsTo, ShowsIn, goes_there}
+use Rattle.card_bench.proofs.ExchangeSteps.{IsKnown, IsReached, IsWay, ShowsIn, goes_there}
 use Rattle.card_bench.proofs.ExchangeSteps.{known-so, passed, same-reader, shows-noted, stands-turned, stepped}
 use Rattle.card_bench.proofs.ExchangeSteps.{stepped-is}
 use Rattle.card_bench.proofs.ScriptInWorld.{command-so, line-goes_on, power-on-begins}
-use Rattle.card_calls.specs.InStep.{ComparesNoneLaw, InStepBy, InStepLaw, IsInSomeWorld, IsInStep}
+use Rattle.card_calls.specs.InStep.{ComparesNoneLaw, InStepBy, InStepLaw, IsInStep}
 use Rattle.card_calls.proofs.PlainRequests.{ShowsNone, compares-nothing, plain-asked}
 
 -- the counts of a bench

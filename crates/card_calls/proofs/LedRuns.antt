@@ -1,6 +1,6 @@
 -- The first run that an order wrote is the next one of its log that a device lacks.
 use Rattle.std.specs.Prelude.{◌≡◌, ◌<◌, ◌≤◌, ◌+◌, ◌-◌, ◌*◌, ◌/◌, ◌%◌, ◌^◌, ◌++◌, ◌∷◌, ℕ, true, List, [], length, drop}
-use Rattle.std.specs.Prelude.{Option, None, Some, get_or, is_some, slice_get, suc}
+use Rattle.std.specs.Prelude.{Option, None, Some, get_or, is_some}
 use Rattle.std.proofs.Common.{◌∙◌, ap, append_assoc, arith, drop-drop, get_or-drop, length-append, length-drop, refl}
 use Rattle.std.proofs.Common.{subst, sym}
 use Rattle.std.proofs.Math.Seq.{drop-append_seam}
@@ -10,7 +10,6 @@ use Rattle.nvm_board.specs.History.{Log, Run, and_runs, logged}
 use Rattle.card_calls.specs.Devices.{AllStored, TellsNext, fresh_count, run_of}
 use Rattle.card_calls.specs.FirstWrites.{IsAsAnnounced}
 use Rattle.card_calls.specs.PaidOrders.{IsLedBy}
-use Rattle.card_calls.specs.declared.write.Write.{Write}
 use Rattle.card_calls.specs.declared.write_log.NextWrite.{NextWrite}
 use Rattle.card_calls.specs.declared.write_log.NextWrite.TheVariants as next
 

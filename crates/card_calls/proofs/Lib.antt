@@ -6,6 +6,8 @@ pub mod ImageLaws
 pub mod InStepLaws
 pub mod LedRuns
 pub mod LogLaws
+pub mod OneWrite
 pub mod OrderLaws
 pub mod PastRuns
 pub mod PlainRequests
+pub mod TwinLaws

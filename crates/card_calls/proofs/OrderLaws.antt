@@ -1,7 +1,7 @@
 -- An order that the desk has run, with its writes and what pays for its comparisons.
 use Rattle.std.specs.Prelude.{◌≡◌, ◌⊎◌, ◌<◌, ◌^◌, ℕ, true, false, List, [], ◌∷◌, Bool, Option, None, Some, is_some}
 use Rattle.std.specs.Prelude.{length, take}
-use Rattle.std.specs.Prelude.{Result, Ok, Err}
+use Rattle.std.specs.Prelude.{Ok, Err}
 use Rattle.std.proofs.Common.{◌∙◌, ap, arith, inl, inr, refl, subst, sym}
 use Rattle.std.proofs.lemmas.Bool.{false≢true, true_from_ne_false}
 use Rattle.nvm_board.specs.History.{Run, replayed}
@@ -19,7 +19,7 @@ use Rattle.card_bench.proofs.WrittenLines.{performs_counted}
 use Rattle.card_calls.specs.Devices.{AllStored, logs_none}
 use Rattle.card_calls.specs.FirstWrites.{EndsCharge, HasNoCharge, IsFirstOf, IsTold, with_first}
 use Rattle.card_calls.specs.InStep.{IsInStep}
-use Rattle.card_calls.specs.PaidOrders.{IsLedBy, PaidInOrder}
+use Rattle.card_calls.specs.PaidOrders.{IsLedBy}
 use Rattle.card_calls.specs.SessionStates.{Announcement, SessionState, session_facts}
 use Rattle.card_calls.specs.Telling.{BeginsAsTold, BeginsOrder, Diverges, HasRun, IsAnnounced, IsPerformed, IsTaken}
 use Rattle.card_calls.specs.Telling.{MayNotRun, MayRun, TellsResult}

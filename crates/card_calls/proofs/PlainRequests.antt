@@ -1,7 +1,7 @@
 -- A command whose instruction is none of a PIN's shows no secret, by the table of commands.
 use Rattle.std.specs.Prelude.{◌≡◌, ◌<◌, ◌==◌, ◌&&◌, ℕ, Bool, true, IsTrue, List, [], ◌∷◌, Option, None, Some, IfSome}
-use Rattle.std.specs.Prelude.{Result, Ok, Err, find, is_some, length, slice_index}
-use Rattle.std.proofs.Common.{ap, arith, refl, subst, sym}
+use Rattle.std.specs.Prelude.{Result, Ok, Err, find, is_some, length}
+use Rattle.std.proofs.Common.{arith, refl, subst}
 use Rattle.std.proofs.lemmas.Bool.{and_parts, eqb-true}
 use Rattle.card_model.specs.declared.status.Sw.{Sw}
 use Rattle.card_model.specs.declared.status.TheConstants.Sw.{UNKNOWN_CLASS, WRONG_LENGTH, WRONG_PARAMETERS}

@@ -9,6 +9,7 @@ use Rattle.simulated_boards.specs.Kept.{kept_facts}
 use Rattle.card_calls.specs.declared.write.Write.{Write}
 use Rattle.card_calls.specs.declared.write_log.NextWrite.{NextWrite}
 use Rattle.card_calls.specs.declared.write_log.NextWrite.TheVariants as next
+use Rattle.card_calls.specs.declared.device.TheConstants.{TWIN_WRITES}
 use Rattle.card_calls.specs.declared.write_log.TheConstants.{LOG_WRITES}
 use Rattle.card_calls.specs.declared.write_log.WriteLog.{WriteLog}
 
@@ -36,6 +37,20 @@ begun_log false words = None
 -- the facts of a board, with its log
 abbrev pub device_facts : KeptBoard WriteLog → Facts
 device_facts board = kept_facts shown_log board
+
+-- a log that holds the writes of a second board
+abbrev pub HasTwinRoom : Option Log → Type 0
+HasTwinRoom None = ⊥
+HasTwinRoom (Some log) = log.room ≡ TWIN_WRITES
+
+-- A second board holds a memory of as many words as another one, and a log of its writes.
+abbrev pub FitsTwin : Facts → Facts → Type 0
+FitsTwin second f = (length second.words ≡ length f.words) × HasTwinRoom second.log
+
+-- A board with a log has a second one.
+abbrev pub HasTwin : Option (KeptBoard WriteLog) → Facts → Type 0
+HasTwin None f = f.log ≡ None
+HasTwin (Some second) f = FitsTwin (device_facts second) f
 
 -- the number of writes between two counts, modulo 2^64
 abbrev pub fresh_count : ℕ → ℕ → ℕ

@@ -1,5 +1,5 @@
 -- The first device write of an order that can compare a PIN. A second card tells it before the order runs.
-use Rattle.std.specs.Prelude.{◌≡◌, ◌⊎◌, ◌+◌, ◌%◌, ◌^◌, ℕ, List, Option, None, Some, Result, Ok, Err, is_some}
+use Rattle.std.specs.Prelude.{◌≡◌, ◌⊎◌, ◌+◌, ◌%◌, ◌^◌, ℕ, List, Option, None, Some, is_some}
 use Rattle.std.specs.Prelude.{option_map}
 use Rattle.std.specs.Prelude.{Bool, true, false}
 use Rattle.nvm_board.specs.History.{Log, Run, written}
@@ -11,8 +11,6 @@ use Rattle.card_calls.specs.Devices.{TellsNext, logs_none, run_of}
 use Rattle.card_calls.specs.SessionStates.{Announcement, SessionState, session_facts}
 use Rattle.card_calls.specs.declared.announced.Announced.{Announced}
 use Rattle.card_calls.specs.declared.device.TheConstants.{TWIN_WRITES}
-use Rattle.card_calls.specs.declared.outcome.CallOutcome.{CallOutcome}
-use Rattle.card_calls.specs.declared.outcome.CallOutcome.TheVariants as outcome
 use Rattle.card_calls.specs.declared.write.Write.{Write}
 use Rattle.card_calls.specs.declared.write_log.NextWrite.{NextWrite}
 use Rattle.card_calls.specs.declared.write_log.NextWrite.TheVariants as next
@@ -38,10 +36,9 @@ abbrev pub IsTold : Option Announcement → Desk → Type 0
 IsTold None d = Unit {0}
 IsTold (Some told) d = IsFirstOf told.first told.order d
 
--- the first write that a second card told, or why there is none
-abbrev pub RunsAhead : Order → SessionState → Result (Option Write) CallOutcome → Type 0
-RunsAhead order was (Ok first) = IsFirstOf (option_map run_of first) order was.desk
-RunsAhead order was (Err why) = why ≡ outcome.Memory
+-- the first write that a second card told, if the order makes one
+abbrev pub RunsAhead : Order → SessionState → Option Write → Type 0
+RunsAhead order was first = IsFirstOf (option_map run_of first) order was.desk
 
 -- The first write of an order is handed out, and announced. Nothing else changes.
 pub record Announces (first : Option Run) (order : Order) (was now : SessionState) : Type 0 where
@@ -49,10 +46,9 @@ pub record Announces (first : Option Run) (order : Order) (was now : SessionStat
   pub now_is : now ≡ record was { announced = Some (record { order = order; first = first }) }
 
 -- The first write of an order, if it has a charge. Else nothing changes.
-abbrev pub TellsFirst : Order → SessionState → SessionState → Result (Option Write) CallOutcome → Type 0
-TellsFirst order was now (Ok None) = (HasNoCharge order was × (now ≡ was)) ⊎ Announces None order was now
-TellsFirst order was now (Ok (Some w)) = Announces (Some (run_of w)) order was now
-TellsFirst order was now (Err why) = (why ≡ outcome.Memory) × (now ≡ was)
+abbrev pub TellsFirst : Order → SessionState → SessionState → Option Write → Type 0
+TellsFirst order was now None = (HasNoCharge order was × (now ≡ was)) ⊎ Announces None order was now
+TellsFirst order was now (Some w) = Announces (Some (run_of w)) order was now
 
 -- the order of a block or a command
 abbrev pub sent_order : Bool → List ℕ → Order

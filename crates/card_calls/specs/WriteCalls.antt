@@ -20,11 +20,12 @@ CopiesWrite (Ok (Some w)) old new offset size number = (number ≡ outcome_numbe
     × CopiesOut (image_bytes (run_of w).words) old new size × (offset ≡ WORD_BYTES * (run_of w).at)
 CopiesWrite (Err why) old new offset size number = (number ≡ outcome_number why) × CopiesNothing old new size
 
--- the first write of an order to a card, which is announced
+-- The first write of an order to a card, which is announced. It is told of each card: no memory is wanted for it.
 abbrev pub TellsFirstOf : Order → Option SessionState → Option SessionState → Result (Option Write) CallOutcome → Type 0
 TellsFirstOf order None now told = (now ≡ None) × (told ≡ Err outcome.Absent)
 TellsFirstOf order (Some was) None told = ⊥
-TellsFirstOf order (Some was) (Some now) told = TellsFirst order was now told
+TellsFirstOf order (Some was) (Some now) (Ok first) = TellsFirst order was now first
+TellsFirstOf order (Some was) (Some now) (Err why) = ⊥
 
 -- a call that hands the first write of an order out, and changes nothing of the card but what is announced
 abbrev pub ReturnsFirst : Order → Option SessionState → Option SessionState → List ℕ → List ℕ → ℕ → ℕ → ℤ → Type 0

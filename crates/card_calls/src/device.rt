@@ -1,7 +1,8 @@
 //! A board whose device writes the caller stores on a device, by a log of them.
 ghost use Rattle.std.specs.Prelude.{◌≡◌, ◌↔◌, Bool, IfOk, IsTrue, None, is_some};
 ghost use Rattle.simulated_boards.specs.Cut.{cut_facts};
-ghost use Rattle.card_calls.specs.Devices.{AllStored, TellsNext, begun_log, device_facts, log_room, logs_none};
+ghost use Rattle.card_calls.specs.Devices.{AllStored, FitsTwin, TellsNext, begun_log, device_facts, log_room};
+ghost use Rattle.card_calls.specs.Devices.{logs_none};
 ghost use Rattle.card_calls.specs.declared.device.TheConstants.{TWIN_WRITES};
 
 use crate::write_log::{LOG_WRITES, NextWrite, WriteLog};
@@ -53,6 +54,19 @@ pub fn twin_board(alloc: Global, board: &DeviceBoard) -> Result<DeviceBoard, All
     let cut = board.unfollowed_twin(alloc)?;
     let log = WriteLog::new(alloc, TWIN_WRITES)?;
     Ok(KeptBoard::new(cut, Some(log)))
+}
+
+/// Returns a second board in the state of this board, with an empty log. It asks for no memory.
+pub fn renewed(second: DeviceBoard, board: &DeviceBoard) -> DeviceBoard
+    requires { FitsTwin (device_facts second) (device_facts board.now) }
+    ensures { device_facts result ≡ record (device_facts board.now) { log = logs_none TWIN_WRITES } }
+{
+    let mut second = second;
+    second.copy_from(board);
+    let (cut, log) = second.into_parts();
+    let mut log = log.unwrap();
+    log.clear();
+    KeptBoard::new(cut, Some(log))
 }
 
 /// Returns the first write of a board that its device lacks, if that has so many of all writes, modulo 2^64.

@@ -19,7 +19,8 @@ pub use announced::{Announced, forget, stored_after};
 pub use boards::{board_from_words, check_words, factory_of};
 pub use copied::copy_write;
 pub use device::{
-    DeviceBoard, TWIN_WRITES, followed, has_device, is_stored, next_write, twin_board, unfollowed,
+    DeviceBoard, TWIN_WRITES, followed, has_device, is_stored, next_write, renewed, twin_board,
+    unfollowed,
 };
 pub use laws::other_orders_compare_nothing;
 pub use of_bytes::is_of_bytes;

@@ -50,6 +50,14 @@ impl WriteLog {
         self.count = self.count.wrapping_add(1);
     }
 
+    /// Forgets all writes, and begins to count at 0.
+    pub fn clear(&mut self)
+        ensures { shown_log self.new ≡ logs_none self.old.writes.capacity }
+    {
+        self.writes.clear();
+        self.count = 0;
+    }
+
     /// Returns true if a device that has so many of all writes, modulo 2^64, has them all.
     pub fn is_stored(&self, stored: u64) -> bool
         ensures { IsTrue result ↔ AllStored (shown_log self.now) stored }

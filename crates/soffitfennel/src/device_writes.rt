@@ -28,9 +28,9 @@ pub(crate) fn first(
 {
     let told = match replace(card, Handle::empty(alloc)).into_session() {
         Some(mut session) => {
-            let told = session.first_write(alloc, order, given);
+            let told = session.first_write(order, given);
             replace_with(card, session, exchange_card);
-            told
+            Ok(told)
         }
         None => Err(CallOutcome::Absent),
     };

@@ -131,8 +131,17 @@ fn clear_card(card: Handle, alloc: Global) -> (Handle, CallOutcome)
 pub(crate) fn exchange_card(card: Handle, session: Box<Session>) -> (Handle, ())
     ensures { result.0.value ≡ Some session.value }
 {
-    drop(card.into_session());
+    if let Some(ended) = card.into_session() {
+        free_session(ended);
+    }
     (Handle::of(session), ())
+}
+
+/// Frees the memory of a card. This is a function of its own, so that where there is none, the usual case, nothing is
+/// saved for it.
+#[inline(never)]
+fn free_session(session: Box<Session>) {
+    drop(session);
 }
 
 /// Ends the card of a handle.

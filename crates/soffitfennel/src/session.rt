@@ -1,5 +1,5 @@
 //! A card at its desk.
-ghost use Rattle.std.specs.Prelude.{◌≡◌, ◌↔◌, None, IfOk, IfSome, IsTrue, true};
+ghost use Rattle.std.specs.Prelude.{◌≡◌, ◌↔◌, None, IfOk, IfSome, IsTrue, is_some, true};
 ghost use Rattle.bench_lines.specs.Orders.{IsOrderSized};
 ghost use Rattle.bench_lines.specs.OrderViews.{order_with};
 ghost use Rattle.bench_turns.specs.BenchStates.{bench_facts};
@@ -8,7 +8,7 @@ ghost use Rattle.card_bench.specs.Charges.{MayCompare};
 ghost use Rattle.card_bench.specs.Prints.{desk_of};
 ghost use Rattle.simulated_boards.specs.Cut.{cut_facts};
 ghost use Rattle.card_calls.specs.FirstWrites.{HasNoCharge, RunsAhead, TellsFirst};
-ghost use Rattle.card_calls.specs.SessionStates.{begun_at};
+ghost use Rattle.card_calls.specs.SessionStates.{begun_at, session_facts};
 ghost use Rattle.card_calls.specs.Telling.{BeginsOrder, CopiesWords, IsAnnounced, TellsResult, cleared};
 ghost use Rattle.card_calls.specs.Telling.{outcome_number, state_bits};
 ghost use Rattle.card_calls.specs.WriteCalls.{TakesNext};
@@ -16,11 +16,11 @@ ghost use Rattle.card_calls.specs.WriteCalls.{TakesNext};
 use card_bench::{ALL_WORDS, Desk, Order, cuts_next, may_compare};
 use card_calls::{
     Announced, CallOutcome, DeviceBoard, NextWrite, OrderResult, Write, bit, copy_if_fits,
-    first_write, followed, forget, has_device, is_of_bytes, is_stored, next_write, stored_after,
-    twin_board, unfollowed,
+    first_write, followed, forget, has_device, is_of_bytes, is_stored, next_write, renewed,
+    stored_after, twin_board, unfollowed,
 };
 use card_turns::Bench;
-use core::mem::replace_with;
+use core::mem::{replace, replace_with};
 use nvm_board::has_no_fault;
 use simulated_boards::CutBoard;
 use std::alloc::{AllocError, Global};
@@ -38,14 +38,18 @@ pub struct Session {
     announced: Option<Announced>,
     /// The number of the device.
     device: Option<i32>,
+    /// The board of a second card, which tells the first write of an order. Only a card with a device has one.
+    second: Option<DeviceBoard>,
 }
 
 impl Model for Session {
     ghost use Rattle.std.specs.Coded.{codes};
     ghost use Rattle.card_model.specs.Sessions.{session_code};
+    ghost use Rattle.bench_turns.specs.BenchStates.{bench_facts};
     ghost use Rattle.bench_turns.specs.Plays.{IsGood};
     ghost use Rattle.std.specs.Prelude.{option_map};
     ghost use Rattle.card_calls.specs.FirstWrites.{IsTold, announcement};
+    ghost use Rattle.card_calls.specs.Devices.{HasTwin};
     ghost use Rattle.card_calls.specs.InStep.{IsInStep};
     ghost use Rattle.card_calls.specs.SessionStates.{SessionState};
 
@@ -62,22 +66,27 @@ impl Model for Session {
     } };
 
     ghost invariant = { λ s. IsGood s.desk.desk.bench × IsInStep s.desk.desk
-        × IsTold (option_map announcement s.announced) s.desk.desk };
+        × IsTold (option_map announcement s.announced) s.desk.desk
+        × HasTwin s.second (bench_facts s.desk.desk.bench) };
 }
 
 impl Session {
     /// Returns a session with this board, with power off. The device of this number has the board's words already.
     ///
     /// # Errors
-    /// There is too little memory for the log of a device.
-    #[tactic(auto, using(card_calls::proofs::InStepLaws::step_none))]
+    /// There is too little memory for the log of a device, or for the board of a second card.
+    #[tactic(auto, using(card_calls::proofs::InStepLaws::step_none, card_calls::proofs::TwinLaws::twin_begins))]
     pub fn new(alloc: Global, board: CutBoard, device: Option<i32>) -> Result<Session, AllocError>
         requires { HasCard (cut_facts board).words }
         ensures { IfOk result (λ session. session ≡ begun_at (cut_facts board) device) }
     {
-        let board = match device {
-            Some(_) => followed(alloc, board)?,
-            None => unfollowed(board),
+        let (board, second) = match device {
+            Some(_) => {
+                let board = followed(alloc, board)?;
+                let second = twin_board(alloc, &board)?;
+                (board, Some(second))
+            }
+            None => (unfollowed(board), None),
         };
         has_no_fault(&board);
         Ok(Session {
@@ -86,6 +95,7 @@ impl Session {
             stored: 0,
             announced: None,
             device,
+            second,
         })
     }
 
@@ -97,7 +107,7 @@ impl Session {
     /// `Unstored` if the card's device didn't take a write, or lacks one of an earlier order, or if the order has a
     /// charge that wasn't announced. Then no order runs. Also if the order began with another write than the announced
     /// one. Then the device is behind.
-    #[tactic(auto, using(card_calls::proofs::OrderLaws::held_back))]
+    #[tactic(auto, using(card_calls::proofs::OrderLaws::held_back, card_calls::proofs::TwinLaws::twin_stays))]
     pub fn perform(
         &mut self,
         order: Order,
@@ -153,64 +163,43 @@ impl Session {
 
     /// Returns the first device write of an order that can compare a PIN: the charge, which its device has before the
     /// order runs. The order is announced with it.
-    ///
-    /// # Errors
-    /// `Memory`: there is too little for the second card.
     #[tactic(auto, using(card_calls::proofs::FirstWriteLaws::tells_none))]
-    pub fn first_write(
-        &mut self,
-        alloc: Global,
-        order: Order,
-        given: &[u8],
-    ) -> Result<Option<Write>, CallOutcome>
+    pub fn first_write(&mut self, order: Order, given: &[u8]) -> Option<Write>
         requires { IsOrderSized (order_with order given.now) }
         ensures { TellsFirst (order_with order given.now) self.old self.new result }
     {
         if self.has_charge(order, given) {
-            self.announce(alloc, order, given)
+            self.announce(order, given)
         } else {
-            Ok(None)
+            None
         }
     }
 
     /// Returns the first device write of an order that can compare a PIN, and announces the order with it. This is a
     /// function of its own, so that where an order has no charge, the usual case, no place for it is blanked.
-    ///
-    /// # Errors
-    /// `Memory`: there is too little for the second card.
     #[tactic(auto, using(card_calls::proofs::FirstWriteLaws::tells_announced))]
     #[inline(never)]
-    fn announce(
-        &mut self,
-        alloc: Global,
-        order: Order,
-        given: &[u8],
-    ) -> Result<Option<Write>, CallOutcome>
+    fn announce(&mut self, order: Order, given: &[u8]) -> Option<Write>
         requires sized { IsOrderSized (order_with order given.now) }
         requires compares { MayCompare (order_with order given.now) }
+        requires logged { is_some (session_facts self.old).log ≡ true }
         ensures { TellsFirst (order_with order given.now) self.old self.new result }
     {
-        let first = self.run_ahead(alloc, order, given)?;
+        let first = self.run_ahead(order, given);
         self.announced = Some(Announced::new(order, given, first));
-        Ok(first)
+        first
     }
 
-    /// Returns the first device write of an order. A second card, which loses power in that write, tells it.
-    ///
-    /// # Errors
-    /// `Memory`: there is too little for the second card.
-    fn run_ahead(
-        &self,
-        alloc: Global,
-        order: Order,
-        given: &[u8],
-    ) -> Result<Option<Write>, CallOutcome>
-        requires { IsOrderSized (order_with order given.now) }
-        ensures { RunsAhead (order_with order given.now) self.now result }
+    /// Returns the first device write of an order. A second card, which loses power in that write, tells it. Its board
+    /// was made with this card, so no memory is wanted.
+    fn run_ahead(&mut self, order: Order, given: &[u8]) -> Option<Write>
+        requires sized { IsOrderSized (order_with order given.now) }
+        requires compares { MayCompare (order_with order given.now) }
+        requires logged { is_some (session_facts self.old).log ≡ true }
+        ensures first { RunsAhead (order_with order given.now) self.old result }
+        ensures same { self.new ≡ self.old }
     {
-        let Ok(board) = twin_board(alloc, self.desk.board()) else {
-            return Err(CallOutcome::Memory);
-        };
+        let board = renewed(replace(&mut self.second, None).unwrap(), self.desk.board());
         let mut second = self.desk.twin(board);
         let cut = Order::Cut {
             number: 1,
@@ -218,7 +207,9 @@ impl Session {
         };
         second.perform(cut, &[]);
         second.perform(order, given);
-        first_write(second.board())
+        let first = first_write(second.board());
+        self.second = Some(second.into_board());
+        first
     }
 
     /// Returns false if an order has no charge.
@@ -227,6 +218,7 @@ impl Session {
         ensures compares { IsTrue result → MayCompare (order_with order given.now) }
         ensures charge { IsTrue result → ¬ HasNoCharge (order_with order given.now) self.now }
         ensures none { ¬ IsTrue result → HasNoCharge (order_with order given.now) self.now }
+        ensures logged { IsTrue result → is_some (session_facts self.now).log ≡ true }
     {
         let board = self.desk.board();
         may_compare(order, given)
@@ -289,7 +281,7 @@ impl Session {
     }
 
     /// Takes back the cut, the loss and the garbling that are to come, and switches power off.
-    #[tactic(auto, using(card_calls::proofs::InStepLaws::step_none))]
+    #[tactic(auto, using(card_calls::proofs::InStepLaws::step_none, card_calls::proofs::TwinLaws::twin_cleared))]
     pub fn clear_faults(&mut self)
         ensures { self.new ≡ cleared self.old }
     {

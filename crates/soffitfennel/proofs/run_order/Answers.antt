@@ -1,4 +1,4 @@
-use Rattle.std.proofs.Common.{◌≡◌, rules, subst}
+use Rattle.std.proofs.Common.{rules, subst}
 use Rattle.std.specs.Prelude.{[], Result}
 use Rattle.bench_lines.specs.OrderViews.{order_with}
 use Rattle.card_calls.specs.Telling.{AnswersOrder}

@@ -1,4 +1,4 @@
-use Rattle.std.specs.Prelude.{◌<◌, ◌+◌, ℕ, List, get_or, length, take}
+use Rattle.std.specs.Prelude.{◌<◌, ℕ, List, get_or, length, take}
 use Rattle.std.proofs.Common.{arith, subst, sym}
 use Rattle.std.proofs.lemmas.List.{take_more}
 use Rattle.std.proofs.lemmas.List.Elements.{All-push}

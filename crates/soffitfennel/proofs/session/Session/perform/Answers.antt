@@ -1,4 +1,4 @@
-use Rattle.std.specs.Prelude.{◌≡◌, ◌≤◌, ℕ, List, None, Option, Some, length, option_map, true}
+use Rattle.std.specs.Prelude.{◌≤◌, ℕ, List, None, Option, Some, length, option_map, true}
 use Rattle.std.proofs.Common.{ap, arith, inr, refl, subst, sym}
 use Rattle.nvm_board.specs.Facts.{Facts}
 use Rattle.bench_lines.specs.OrderViews.{order_with}
@@ -11,6 +11,7 @@ use Rattle.card_calls.specs.declared.announced.Announced.{Announced}
 use Rattle.card_calls.proofs.CopyLaws.{copies_at}
 use Rattle.card_calls.proofs.InStepLaws.{in_step}
 use Rattle.card_calls.proofs.OrderLaws.{diverges, has_run}
+use Rattle.card_calls.proofs.TwinLaws.{twin_stays}
 use Rattle.soffitfennel.proofs.session.Session.perform.Goals as goal
 
 pub invariant_of-self : goal.invariant_of-self
@@ -21,6 +22,8 @@ invariant_of-self c =
           (printed_at c.perform-came.result new) c.self.invariant.1 c.requires c.is_of_bytes.ensures
           c.perform-came.ensures.good.has_card c.perform-came.ensures.performs,
       subst (λ (a : Option Announced). IsTold (option_map announcement a) new.desk) (sym c.forget.ensures) tt,
+      twin_stays c.self.inside.second (order_with c.args.order c.args.given.now) c.self.inside.desk.desk new.desk
+          (printed_at c.perform-came.result new) c.perform-came.ensures.performs c.self.invariant.3,
     )
 
 pub returns-in_default : goal.returns-in_default
@@ -66,6 +69,8 @@ invariant_of-self-2 c =
           (printed_at c.perform-came.result new) c.self.invariant.1 c.requires c.is_of_bytes.ensures
           c.perform-came.ensures.good.has_card c.perform-came.ensures.performs,
       subst (λ (a : Option Announced). IsTold (option_map announcement a) new.desk) (sym c.forget.ensures) tt,
+      twin_stays c.self.inside.second (order_with c.args.order c.args.given.now) c.self.inside.desk.desk new.desk
+          (printed_at c.perform-came.result new) c.perform-came.ensures.performs c.self.invariant.3,
     )
 
 pub returns : goal.returns
