@@ -16,6 +16,8 @@ pub mod fixtures;
 mod journal;
 #[cfg(test)]
 mod many_pages;
+#[cfg(test)]
+mod renewals;
 mod sim_flash;
 mod wide_flash;
 

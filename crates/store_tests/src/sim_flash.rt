@@ -192,6 +192,11 @@ impl SimFlash {
         self.faults
     }
 
+    /// Returns true if one of the words of the flash itself is this one.
+    pub fn has_word(&self, word: u32) -> bool {
+        self.words.contains(&word)
+    }
+
     /// Returns true if an address is in the stuck slot.
     fn is_stuck(&self, at: u32) -> bool {
         at >= self.stuck && at - self.stuck < 20
