@@ -101,9 +101,15 @@ fn a_board_of_4096_pages_keeps_them_all(rt: HostRuntime) -> Result<(), Fail> {
     let mut flash = WideFlash::new(rt.alloc(), 11)?;
     format_flash(&mut flash)?;
     flash = play_round(flash, 1)?;
+    let mut losses = 0u32;
     for round in 0..BEFORE.len() {
         flash.set(BEFORE[round]);
         flash = play_round(flash, round as u32 + 2)?;
+        if !flash.is_set() {
+            losses = losses.saturating_add(1);
+        }
     }
+    // (each move erases at least one sector, and the formatting three)
+    assert!(rt; losses >= 5 && flash.erases() > 10);
     Ok(())
 }

@@ -54,6 +54,20 @@ impl WideFlash {
         self.cut = Some(before);
     }
 
+    /// Returns true if a power loss is set that is still to come.
+    pub fn is_set(&self) -> bool
+        ensures { result ≡ is_some self.now.cut }
+    {
+        self.cut.is_some()
+    }
+
+    /// Returns the number of erases that were begun.
+    pub fn erases(&self) -> u64
+        ensures { result ≡ (wide_state self.now).erases }
+    {
+        self.erases
+    }
+
     /// Begins an operation. Returns true if power is to be lost in it.
     fn begin(&mut self) -> bool
         ensures words { self.new.words ≡ self.old.words }
