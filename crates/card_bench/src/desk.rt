@@ -1,5 +1,6 @@
 //! The desk of a script: a bench, the reader's end of the link, and the line between the ends.
-ghost use Rattle.std.specs.Prelude.{◌≡◌, ◌≢◌, ◌≤◌, ◌⊎◌, ◌↔◌, ℕ, None, Some, Err, IsTrue, length, take, true, false};
+ghost use Rattle.std.specs.Prelude.{◌≡◌, ◌≢◌, ◌≤◌, ◌⊎◌, ◌↔◌, ℕ, None, Some, Err, IsTrue, is_some, length, take};
+ghost use Rattle.std.specs.Prelude.{true, false};
 ghost use Rattle.std.specs.Prelude.{IfErr, OnErr, OnOk};
 ghost use Rattle.card_bench.specs.Charges.{HasSecond, IsCharged, IsUncharged, MayCompare, TakesCharge};
 ghost use Rattle.std.specs.Io.KnownBytes.{Appends};
@@ -233,8 +234,9 @@ where
         if cuts_next(board.pending_cut()) {
             return Ok(());
         }
-        match replace(second, None) {
-            Some(own) => self.charge_followed(second, own, order, given),
+        // (moved below, so that a line without a charge copies no board)
+        match second {
+            Some(_) => self.charge_followed(second, order, given),
             None => Ok(()),
         }
     }
@@ -249,13 +251,13 @@ where
     fn charge_followed(
         &mut self,
         second: &mut Option<P::Board>,
-        own: P::Board,
         order: Order,
         given: &[u8],
     ) -> Result<(), RunFault>
         requires sized { IsOrderSized (order_with order given.now) }
         requires good { IsGood self.old.desk.bench }
-        requires second { HasSecond P.Board.facts P.Board.can_copy (Some own) (bench_facts self.old.desk.bench) }
+        requires some { is_some second.old ≡ true }
+        requires second { HasSecond P.Board.facts P.Board.can_copy second.old (bench_facts self.old.desk.bench) }
         ensures charged { TakesCharge (order_with order given.now) self.old.desk self.new.desk }
         ensures kept { OnOk result (LacksNoWrite P.Board P.Board.facts P.Board.has_kept
             (bench_facts self.new.desk.bench)) }
@@ -264,6 +266,7 @@ where
             × (P.Board.facts board ≡ bench_facts self.new.desk.bench)) }
         ensures second { HasSecond P.Board.facts P.Board.can_copy second.new (bench_facts self.new.desk.bench) }
     {
+        let own = replace(second, None).unwrap();
         let (left, kept) = self.take_charge(own, order, given);
         *second = Some(left);
         if kept { Ok(()) } else { Err(RunFault::Unkept) }
