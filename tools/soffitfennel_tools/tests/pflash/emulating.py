@@ -60,15 +60,34 @@ class Seen:
 def look_at(flash: Path) -> Seen:
     """What a flash is in the midst of (docs/FLASH.md)."""
     words = array("I", content_of(flash))
-    area = SLOTS * SLOT_WORDS
-    # the close marks of area A, area B and the witness
-    closed = [any(it != BLANK for it in words[at : at + 2]) for at in (area, SECTOR_WORDS + area, 2 * SECTOR_WORDS)]
-    turn = 1 if closed[0] and not closed[1] else 2 if closed[1] and not closed[2] else 0
-    home = 0 if turn == 0 else 1
+    closed, home = closed_of(words), home_of(words)
     other = slots(words, 1 - home)
     # an area that isn't home is closed, or what a move left in it
     is_moving = not closed[1 - home] and any(other)
     return Seen(is_moving, any(it is False for it in slots(words, home)))
+
+
+def closed_of(words: array[int]) -> list[bool]:
+    """Whether area A, area B and the witness are closed."""
+    area = SLOTS * SLOT_WORDS
+    return [any(it != BLANK for it in words[at : at + 2]) for at in (area, SECTOR_WORDS + area, 2 * SECTOR_WORDS)]
+
+
+def home_of(words: array[int]) -> int:
+    """The area that has the pages."""
+    closed = closed_of(words)
+    turn = 1 if closed[0] and not closed[1] else 2 if closed[1] and not closed[2] else 0
+    return 0 if turn == 0 else 1
+
+
+def has_only_pages(flash: Path) -> bool:
+    """Whether each page is there once at most, and the other area is blank."""
+    words = array("I", content_of(flash))
+    home = home_of(words)
+    starts = range(home * SECTOR_WORDS, home * SECTOR_WORDS + SLOTS * SLOT_WORDS, SLOT_WORDS)
+    pages = [words[at + 16] for at, is_whole in zip(starts, slots(words, home)) if is_whole]
+    is_clean = False not in slots(words, home) and len(set(pages)) == len(pages)
+    return is_clean and set(slots(words, 1 - home)) == {None}
 
 
 def slots(words: array[int], area: int) -> list[bool | None]:

@@ -12,7 +12,7 @@ from ..chip.building import lacks
 from ..chip.kills import DONE
 from ..chip.playing import Script, serial
 from .building import CHIP, DRIVER, PROGRAMS, Room, library, made
-from .emulating import content_of, emulator, new_flash, port_of
+from .emulating import content_of, emulator, has_only_pages, new_flash, port_of
 
 # the order of renewing.c
 RENEW = 5
@@ -87,5 +87,6 @@ def compare(room: Room) -> None:
         room.checks.same(renew(program, flash), b"\0", f"renewal {turn}")
         room.checks.check(not has_word(flash, old), f"behind renewal {turn} the flash has no old value")
         room.checks.check(has_word(flash, new), f"behind renewal {turn} the flash has the value")
+        room.checks.check(has_only_pages(flash), f"behind renewal {turn} the flash has each page once, and no more")
     said = play(program, flash, [verify(new), verify(old)])
     room.checks.same(said[1:3], [DONE, "< 63C2"], "the card is the same behind the renewals")
