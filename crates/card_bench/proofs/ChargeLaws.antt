@@ -24,7 +24,7 @@ facts-with (off was) f = refl
 facts-with (on was) f = refl
 
 -- a second card compared nothing yet
-few-twin : (b : BenchState) (log : Option Log) → GuessesFew b (with_facts b (record (bench_facts b) { log = log }))
+pub few-twin : (b : BenchState) (log : Option Log) → GuessesFew b (with_facts b (record (bench_facts b) { log = log }))
 few-twin (off was) log = pays-nothing (off was) (off (record was { log = log })) refl refl
 few-twin (on was) log = pays-nothing (on was) (with_facts (on was) (record was.card.facts { log = log })) refl refl
 
@@ -38,7 +38,7 @@ pub record SecondWrote (was : Desk) (log : Option Log) (left : Desk) : Type 0 wh
 module _ (order : Order) (was : Desk) (log : Option Log) (armed left : Desk) (quiet prints : Print)
     (cut : Performs (Cut 1 ALL_WORDS) (twin_desk was log) armed quiet) (run : Performs order armed left prints) where
   -- a second desk that ran, with these words after it
-  pub ran_to_first : IsGood left.bench → (words : List ℕ) → (bench_facts left.bench).words ≡ words
+  unfoldable pub ran_to_first : IsGood left.bench → (words : List ℕ) → (bench_facts left.bench).words ≡ words
       → RunsToFirst order was log words
   ran_to_first good words leaves =
       let twin = twin_desk was log in

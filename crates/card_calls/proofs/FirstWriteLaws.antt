@@ -4,7 +4,7 @@ use Rattle.std.specs.Prelude.{is_some, option_map, true, false}
 use Rattle.std.proofs.Common.{◌∙◌, ap, arith, inl, inr, refl, subst, sym}
 use Rattle.std.proofs.lemmas.Bool.{true≢false}
 use Rattle.nvm_board.specs.Facts.{Facts}
-use Rattle.nvm_board.specs.History.{Log, Run, and_runs, replayed, written}
+use Rattle.nvm_board.specs.History.{Log, Run, and_runs, replayed}
 use Rattle.bench_lines.specs.Orders.{Order, Cut}
 use Rattle.bench_lines.specs.Printouts.{Print}
 use Rattle.bench_turns.specs.BenchStates.{BenchState, bench_facts}
@@ -15,7 +15,7 @@ use Rattle.card_bench.specs.Performing.{Performs}
 use Rattle.card_bench.specs.declared.charge.TheConstants.{ALL_WORDS}
 use Rattle.card_bench.proofs.ChargeLaws.{facts-with, ran_to_first, twin_facts}
 use Rattle.card_calls.specs.Devices.{TellsNext, logs_none, run_of}
-use Rattle.card_calls.specs.FirstWrites.{HasNoCharge, RunsAhead, TellsFirst, with_first}
+use Rattle.card_calls.specs.FirstWrites.{HasNoCharge, RunsAhead, TellsFirst, runs_of, with_first}
 use Rattle.card_calls.specs.SessionStates.{SessionState, session_facts}
 use Rattle.card_calls.specs.declared.device.TheConstants.{TWIN_WRITES}
 use Rattle.card_calls.specs.declared.write.Write.{Write}
@@ -27,20 +27,24 @@ some-of d None = d
 some-of d (Some x) = x
 
 -- the write of a log of one is the one that was made, and that of an empty log is none
-tells-made : (words : List ℕ) (runs : List Run) (told : Option Write) → length runs ≤ 1
+tells-made : (runs : List Run) (told : Option Write) → length runs ≤ 1
     → (told ≡ None → TellsNext (and_runs (logs_none TWIN_WRITES) runs) 0 next.Nothing
     ⊎ TellsNext (and_runs (logs_none TWIN_WRITES) runs) 0 next.Lost)
     → IfSome told (λ w. TellsNext (and_runs (logs_none TWIN_WRITES) runs) 0 (next.Write w))
-    → replayed words runs ≡ with_first words (option_map run_of told)
-tells-made words [] None few none one = refl
-tells-made words [] (Some w) few none one = absurd (omega (arith, one.1))
-tells-made words (run ∷ []) None few none one = elim (none refl) [
+    → runs ≡ runs_of (option_map run_of told)
+tells-made [] None few none one = refl
+tells-made [] (Some w) few none one = absurd (omega (arith, one.1))
+tells-made (run ∷ []) None few none one = elim (none refl) [
   | inl all ↦ absurd (omega (arith, all))
   | inr lost ↦ absurd (omega (arith, lost))
 ]
-tells-made words (run ∷ []) (Some w) few none one =
-    ap (λ (r : Run). written words r.at r.words) (ap (some-of run) one.2)
-tells-made words (run ∷ more ∷ runs) told few none one = absurd (omega (arith, few))
+tells-made (run ∷ []) (Some w) few none one = ap (λ (r : Run). r ∷ []) (ap (some-of run) one.2)
+tells-made (run ∷ more ∷ runs) told few none one = absurd (omega (arith, few))
+
+-- and these words are in the memory then
+made-words : (words : List ℕ) (first : Option Run) → replayed words (runs_of first) ≡ with_first words first
+made-words words None = refl
+made-words words (Some run) = refl
 
 module _ (order : Order) (was : SessionState) (armed left : Desk) (quiet prints : Print)
     (cut : Performs (Cut 1 ALL_WORDS) (twin_desk was.desk (logs_none TWIN_WRITES)) armed quiet)
@@ -50,6 +54,7 @@ module _ (order : Order) (was : SessionState) (armed left : Desk) (quiet prints 
   pub tells_first : (f : Facts) → f ≡ bench_facts left.bench → (told : Option Write)
       → (told ≡ None → TellsNext f.log 0 next.Nothing ⊎ TellsNext f.log 0 next.Lost)
       → IfSome told (λ w. TellsNext f.log 0 (next.Write w)) → RunsAhead order was told
+  unfolding ran_to_first
   tells_first f same told none one =
       let twin = twin_desk was.desk (logs_none TWIN_WRITES) in
       let at = armed_next ALL_WORDS twin.bench armed.bench cut.armed lit
@@ -63,14 +68,18 @@ module _ (order : Order) (was : SessionState) (armed left : Desk) (quiet prints 
       ap (λ (b : BenchState). (bench_facts b).log) cut.armed.same
       ∙ ap (λ (g : Facts). g.log) (facts-with twin.bench _)
       ∙ ap (λ (g : Facts). g.log) (twin_facts was.desk (logs_none TWIN_WRITES)) in
-      let log : f.log ≡ and_runs (logs_none TWIN_WRITES) once.wrote.runs =
-      ap (λ (g : Facts). g.log) same ∙ once.wrote.log
-      ∙ ap (λ (l : Option Log). and_runs l once.wrote.runs) begun in
-      let tells = tells-made (session_facts was).words once.wrote.runs told once.one
+      let made : (bench_facts left.bench).log ≡ and_runs (logs_none TWIN_WRITES) once.wrote.runs =
+      once.wrote.log ∙ ap (λ (l : Option Log). and_runs l once.wrote.runs) begun in
+      let log : f.log ≡ and_runs (logs_none TWIN_WRITES) once.wrote.runs = ap (λ (g : Facts). g.log) same ∙ made in
+      let tells = tells-made once.wrote.runs told once.one
       (subst (λ (l : Option Log). told ≡ None → TellsNext l 0 next.Nothing ⊎ TellsNext l 0 next.Lost) log none)
-      (subst (λ (l : Option Log). IfSome told (λ w. TellsNext l 0 (next.Write w))) log one) in
-      ran_to_first order was.desk (logs_none TWIN_WRITES) armed left quiet prints cut run good _
-      (once.wrote.words ∙ ap (λ (m : List ℕ). replayed m once.wrote.runs) words ∙ tells)
+      (subst (λ (l : Option Log). IfSome told (λ w. TellsNext l 0 (next.Write w))) log one) in (
+        ran_to_first order was.desk (logs_none TWIN_WRITES) armed left quiet prints cut run good _
+            (once.wrote.words ∙ ap (λ (l : List ℕ). replayed l once.wrote.runs) words
+            ∙ ap (replayed (session_facts was).words) tells
+            ∙ made-words (session_facts was).words (option_map run_of told)),
+        made ∙ ap (and_runs (logs_none TWIN_WRITES)) tells,
+      )
 
 -- a first write that was told, and announced
 pub tells_announced : (order : Order) (was now : SessionState) (first : Option Write) → RunsAhead order was first

@@ -98,7 +98,7 @@ module _ (order : Order) (was now : SessionState) (prints : Print) (run : Perfor
           stored = stored ∙ counts;
           paid = record {
             first = subst (λ (words : List ℕ). RunsToFirst order was.desk (logs_none TWIN_WRITES) words)
-                (first-image (session_facts was).words a.first runs led) (first-told a is.1 is.2);
+                (first-image (session_facts was).words a.first runs led) (first-told a is.1 is.2).0;
             all = subst (λ (words : List ℕ). PaysFor was.desk.bench words (comparisons (session_facts now)))
                 performed.made.words (pays-now was.desk.bench now.desk.bench performed.guesses);
           };

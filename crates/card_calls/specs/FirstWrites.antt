@@ -1,8 +1,8 @@
 -- The first device write of an order that can compare a PIN. A second card tells it before the order runs.
-use Rattle.std.specs.Prelude.{◌≡◌, ◌⊎◌, ◌+◌, ◌%◌, ◌^◌, ℕ, List, Option, None, Some, is_some}
+use Rattle.std.specs.Prelude.{◌≡◌, ◌⊎◌, ◌+◌, ◌%◌, ◌^◌, ◌∷◌, ℕ, List, [], Option, None, Some, is_some}
 use Rattle.std.specs.Prelude.{option_map}
 use Rattle.std.specs.Prelude.{Bool, true, false}
-use Rattle.nvm_board.specs.History.{Log, Run, written}
+use Rattle.nvm_board.specs.History.{Log, Run, and_runs, written}
 use Rattle.bench_lines.specs.Orders.{Apdu, Block, Order}
 use Rattle.bench_turns.specs.BenchStates.{bench_facts}
 use Rattle.card_bench.specs.Charges.{CutsNext, MayCompare, RunsToFirst}
@@ -26,10 +26,17 @@ abbrev pub with_first : List ℕ → Option Run → List ℕ
 with_first words None = words
 with_first words (Some run) = written words run.at run.words
 
+-- the device writes of a card that made this one, or none
+abbrev pub runs_of : Option Run → List Run
+runs_of None = []
+runs_of (Some run) = run ∷ []
+
 -- A second card, whose board has an empty log, runs the order and loses power in its first write. Its memory is then
--- the card's with this write in it, or the card's without any.
+-- the card's with this write in it, or the card's without any, and its log has exactly this write, or none.
 abbrev pub IsFirstOf : Option Run → Order → Desk → Type 0
-IsFirstOf first order d = RunsToFirst order d (logs_none TWIN_WRITES) (with_first (bench_facts d.bench).words first)
+IsFirstOf first order d =
+    (runs : RunsToFirst order d (logs_none TWIN_WRITES) (with_first (bench_facts d.bench).words first))
+    × ((bench_facts runs.left.bench).log ≡ and_runs (logs_none TWIN_WRITES) (runs_of first))
 
 -- what was announced is the first write of its order at this desk
 abbrev pub IsTold : Option Announcement → Desk → Type 0
