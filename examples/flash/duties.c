@@ -8,7 +8,7 @@
 #include <stdbool.h>
 #include <stddef.h>
 
-enum { SLOT_WORDS = 20, RECORD_WORDS = 18, WORD_BITS = 32 };
+enum { WORD_BITS = 32, PAIR_WORDS = FLASH_UNIT_WORDS > 2 ? FLASH_UNIT_WORDS : 2 };
 static const uint32_t blank = 0xFFFFFFFF;
 /* where each block begins, and where the last one ends */
 static const uint32_t starts[FLASH_BLOCKS + 1] = {0, FLASH_AREA_WORDS, 2 * FLASH_AREA_WORDS, FLASH_WORDS};
@@ -85,7 +85,7 @@ static bool are_others_kept(uint32_t block)
 /* Programs the next words of a block. */
 static bool programs(uint32_t block, uint32_t count)
 {
-    uint32_t words[SLOT_WORDS], at = ends[block];
+    uint32_t words[FLASH_SLOT_WORDS], at = ends[block];
 
     for (uint32_t i = 0; i < count; i++)
         words[i] = pattern(at + i, rounds[block]);
@@ -123,8 +123,8 @@ static bool fills(uint32_t block, uint32_t round)
     bool is_done = true;
 
     rounds[block] = round;
-    while (ends[block] + SLOT_WORDS <= starts[block + 1])
-        is_done &= programs(block, RECORD_WORDS) && programs(block, SLOT_WORDS - RECORD_WORDS);
+    while (ends[block] + FLASH_SLOT_WORDS <= starts[block + 1])
+        is_done &= programs(block, FLASH_RECORD_WORDS) && programs(block, FLASH_SLOT_WORDS - FLASH_RECORD_WORDS);
     return programs(block, starts[block + 1] - ends[block]) && is_done;
 }
 
@@ -171,11 +171,11 @@ static void try_runs(void)
     bool is_done = erases(0), is_there = true;
 
     rounds[0] = 7;
-    for (uint32_t count = 1; count <= SLOT_WORDS; count++) {
+    for (uint32_t count = FLASH_UNIT_WORDS; count <= FLASH_SLOT_WORDS; count += FLASH_UNIT_WORDS) {
         is_done &= programs(0, count);
         is_there &= is_kept(0);
     }
-    holds(is_done, "device_program: runs of 1 to 20 words", "");
+    holds(is_done, "device_program: runs of each length", "");
     holds(is_there, "device_program: a run is there, and no word around it changes", "");
 }
 
@@ -184,9 +184,13 @@ static void try_bits(void)
     uint32_t at = ends[0];
     bool is_done = true;
 
-    for (uint32_t bit = 0; bit < WORD_BITS; bit++, at += 2) {
-        const uint32_t words[] = {(uint32_t)1 << bit, ~((uint32_t)1 << bit)};
-        is_done &= device_program(&device, at, words, 2) == DEVICE_DONE;
+    for (uint32_t bit = 0; bit < WORD_BITS; bit++, at += PAIR_WORDS) {
+        uint32_t words[PAIR_WORDS];
+        for (uint32_t i = 2; i < PAIR_WORDS; i++)
+            words[i] = blank;
+        words[0] = (uint32_t)1 << bit;
+        words[1] = ~words[0];
+        is_done &= device_program(&device, at, words, PAIR_WORDS) == DEVICE_DONE;
         is_done &= reads(at, words[0]) && reads(at + 1, words[1]);
     }
     holds(is_done, "device_program: each bit is cleared or stays", "");

@@ -36,6 +36,11 @@ SECTOR_WORDS = Size("words of a sector", LEAST_WORDS, MOST_WORDS, {
     CRATE: re.compile(r"(?<=pub const SECTOR_WORDS: u32 = )\d+(?=;)"),
     HEADER: re.compile(r"(?<=\bFLASH_SECTOR_WORDS = )\d+(?=,)"),
 })
+# (a port over a flash that programs single words has it in the header alone)
+UNIT = Size("words of a unit", 1, 8, {
+    CRATE: re.compile(r"(?<=pub const UNIT: u32 = )\d+(?=;)"),
+    HEADER: re.compile(r"(?<=\bFLASH_UNIT_WORDS = )\d+(?=,)"),
+})
 
 
 def set_size(port: Path, size: Size, given: int) -> None:
@@ -72,5 +77,7 @@ def check_slots(port: Path) -> None:
     """Refuses a port whose crate and header differ. One that isn't over a flash has no slots."""
     if (port / CRATE).is_file():
         pages, slots, _ = (check_size(port, size) for size in (PAGES, SLOTS, SECTOR_WORDS))
+        if UNIT.places[CRATE].search((port / CRATE).read_text(encoding="utf-8")):
+            check_size(port, UNIT)
         if why := why_unfit(pages, slots):
             raise Failed(f"{port / CRATE}: {why}")

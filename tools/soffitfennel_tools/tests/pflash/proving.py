@@ -3,22 +3,39 @@ from __future__ import annotations
 
 import os
 import shutil
+from functools import partial
+from pathlib import Path
 
 from ...chips.module import ALLOWED, FLASH
 from ...narrowing.building import TOP
+from ...porting.over_flash import fill
+from ...porting.writing import write_port
 from ..chip.proving import checked
 from .building import Room
 
-BELOW = ("nvm_board", "flash_board")
+BELOW = ("nvm_board", "flash_board", "flash_translation")
 WANTED = f"logic=proved functions=13 foreign={FLASH}::"
+UNITS_WANTED = f"logic=proved functions=15 foreign={FLASH}::"
+
+
+def take_libraries(port: Path) -> Path:
+    """Gives a port the libraries of the crates below its flash that are built here. Returns the crate of the flash."""
+    for name in BELOW:
+        built, crate = TOP / "crates" / name / "out", port / "crates" / name
+        if built.is_dir() and crate.is_dir():
+            shutil.copytree(built, crate / "out")
+    return port / "crates" / FLASH
 
 
 def compare(room: Room) -> None:
-    """Proves the flash, over the libraries of the crates below it where they are built here."""
-    crate = room.port / "crates" / FLASH
-    for name in BELOW:
-        if (built := TOP / "crates" / name / "out").is_dir():
-            shutil.copytree(built, room.port / "crates" / name / "out")
+    """Proves the flash, and one that programs whole units."""
+    units = room.folder / "proved-units"
+    write_port(units, partial(fill, unit=4))
+    ran = checked(take_libraries(units), {**os.environ, ALLOWED: FLASH})
+    last = (ran.stdout.splitlines() or [""])[-1]
+    is_so = ran.returncode == 0 and last.startswith(UNITS_WANTED)
+    room.checks.check(is_so, "the flash of a port with units is proved", ran.stdout + ran.stderr)
+    crate = take_libraries(room.port)
     refused = checked(crate, {key: it for key, it in os.environ.items() if key != ALLOWED})
     room.checks.check(refused.returncode != 0, f"without {ALLOWED} the flash is refused", refused.stdout)
     ran = checked(crate, {**os.environ, ALLOWED: FLASH})

@@ -36,9 +36,14 @@ def on_card(target: Target, program: Path, lines: list[str]) -> tuple[list[str],
         return printed, int.from_bytes(port.ask(serial.USE)[1][4:], "big")
 
 
+def uncut() -> dict[str, list[str]]:
+    """The stored scripts without cuts: those of the bench count writes, and here nothing sets them."""
+    return {name: lines for name, lines in stored_scripts() if not any(it.startswith("cut ") for it in lines)}
+
+
 def compare(room: Room) -> None:
-    """Compares the stored scripts without cuts: those of the bench count writes, and here nothing sets them."""
-    scripts = {name: lines for name, lines in stored_scripts() if not any(it.startswith("cut ") for it in lines)}
+    """Compares the stored scripts without cuts."""
+    scripts = uncut()
     wanted = {name: by_bench(room, lines) for name, lines in scripts.items()}
     for name in CHIPS:
         target = TARGETS[name]

@@ -1,0 +1,74 @@
+"""A card over a flash that programs whole units: it prints what the bench prints, and programs no unit twice."""
+from __future__ import annotations
+
+import os
+import shutil
+import subprocess
+from concurrent.futures import ThreadPoolExecutor
+from functools import partial
+
+from ...porting.over_flash import fill
+from ...porting.slots import PAGES, SECTOR_WORDS, SLOTS, UNIT
+from ...porting.writing import write_port
+from ..chip.building import lacks
+from ..chip.units import PORT, tool
+from .building import HOST, PROGRAMS, Room, library, made
+from .scripts import by_bench, on_card, uncut
+
+# a flash that traps at a unit that isn't blank, or was programmed since its erase
+DRIVER, UNIT_WORDS = "unit_flash.c", 4
+
+
+def room_of_units(room: Room) -> Room:
+    """A room whose port is over such a flash."""
+    folder = room.folder / "program-units"
+    folder.mkdir()
+    write_port(folder / "port", partial(fill, unit=UNIT_WORDS))
+    shutil.copyfile(PROGRAMS / DRIVER, folder / "port/device" / DRIVER)
+    shutil.copyfile(room.folder / "factory.card", folder / "factory.card")
+    return Room(folder, room.checks, room.bench)
+
+
+def compare_port(room: Room) -> None:
+    """tools/port writes such a port, with the numbers that were asked for."""
+    port = room.folder / "unit-port"
+    ran = tool(PORT, "--flash", "--unit", 32, "--pages", 1536, "--slots", 2048, "--sector-words", 1024, port)
+    room.checks.same((ran.returncode, ran.stdout), (0, f"{port}\n"), "tools/port --unit")
+    for size, wanted in ((UNIT, ["8"]), (PAGES, ["1536"]), (SLOTS, ["2048"]), (SECTOR_WORDS, ["1024"])):
+        for place, number in size.places.items():
+            found = number.findall((port / place).read_text(encoding="utf-8"))
+            room.checks.same(found, wanted, f"the {size.what} in {place}")
+    room.checks.same([str(it) for it in port.rglob("*.in")], [], "no template is left")
+
+
+def compare_mistakes(room: Room) -> None:
+    """What it refuses."""
+    cases: tuple[tuple[list[object], str], ...] = (
+        (["--unit", 16], "give --flash too"),
+        (["--flash", "--unit", 12], "invalid choice"),
+        (["--flash", "--unit", 16, "--sector-words", 1000], "whole slots of 32 words"),
+    )
+    for words, why in cases:
+        ran = tool(PORT, *words, room.folder / "new")
+        lines = ran.stderr.splitlines()
+        is_so = ran.returncode == 2 and len(lines) == 1 and why in lines[0]
+        room.checks.check(is_so, f"tools/port {words}", ran.stderr)
+
+
+def compare(room: Room) -> None:
+    """The port; the duties of its functions over the flash that traps; and the stored scripts on the card."""
+    compare_port(room)
+    compare_mistakes(room)
+    if missing := lacks(HOST):
+        room.checks.skip("the card over a flash with units", f"{missing} isn't installed")
+        return
+    units = room_of_units(room)
+    out, _ = library(units, HOST.name)
+    duties = made(units, HOST.name, out, DRIVER, "duties")
+    tried = subprocess.run([duties], capture_output=True, text=True, check=False)
+    room.checks.check(tried.stdout.endswith(" passed, 0 failed\n"), "the duties over such a flash", tried.stdout)
+    program, scripts = made(units, HOST.name, out, DRIVER, "card"), uncut()
+    with ThreadPoolExecutor(os.cpu_count()) as pool:
+        ran = list(pool.map(lambda it: on_card(HOST, program, it)[0], scripts.values()))
+    for (name, lines), printed in zip(scripts.items(), ran):
+        room.checks.same(printed, by_bench(room, lines), f"{name} over a flash with units")
