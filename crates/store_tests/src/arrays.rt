@@ -3,9 +3,13 @@
 ghost use Rattle.std.specs.Prelude.{◌<◌, ◌≤◌, ◌+◌};
 
 use crate::SimFlash;
+use crate::sim_units::SimUnits;
+use crate::unit_sizes::{Eight, Four, One, Two, UnitSize};
 use flash_board::{FlashBoard, FlashLog, FlashSocket, format_flash};
+use flash_translation::UnitFlash;
 use nvm_board::{Board, DeviceErr};
 use simulated_boards::RamBoard;
+use std::alloc::Global;
 use std::test::Fail;
 
 /// The writes of a round, if no power loss ends it.
@@ -29,8 +33,30 @@ impl Random {
     }
 }
 
+/// A flash on which an operation can be set to lose power or to fail.
+pub trait StoppedFlash: FlashSocket {
+    /// Sets operation `k` from now on, counted from 1, to lose power, or to fail.
+    fn stopped_at(self, k: u32, fails: bool) -> Self;
+}
+
+impl StoppedFlash for SimFlash {
+    fn stopped_at(self, k: u32, fails: bool) -> SimFlash {
+        let mut flash = self;
+        flash.set(k, fails);
+        flash
+    }
+}
+
+impl<S: UnitSize + Drop> StoppedFlash for UnitFlash<SimUnits<S>> {
+    fn stopped_at(self, k: u32, fails: bool) -> UnitFlash<SimUnits<S>> {
+        let mut device = self.into_device();
+        device.set(k, fails);
+        UnitFlash::new(device)
+    }
+}
+
 /// Returns the board of a flash whose power comes back. All but the flash is lost.
-pub fn powered(flash: SimFlash) -> Result<FlashBoard<SimFlash>, Fail> {
+pub fn powered<F: StoppedFlash + Drop>(flash: F) -> Result<FlashBoard<F>, Fail> {
     let mut flash = flash;
     flash.light();
     match FlashLog::open(flash) {
@@ -57,11 +83,11 @@ fn are_same<A: Board, B: Board>(one: &mut A, other: &mut B) -> Result<bool, Fail
 }
 
 /// Writes three words to both boards. Returns the flash if power is lost: then they are old, or all are new.
-fn write_both(
-    board: FlashBoard<SimFlash>,
+fn write_both<F: StoppedFlash + Drop>(
+    board: FlashBoard<F>,
     ram: &mut RamBoard,
     random: &mut Random,
-) -> Result<FlashBoard<SimFlash>, Fail> {
+) -> Result<FlashBoard<F>, Fail> {
     // Mostly few pages, so that a move copies few.
     let few = random.below(4) > 0;
     let page = if few {
@@ -91,11 +117,14 @@ fn write_both(
 }
 
 /// Plays writes, of which one meets a power loss or a fault at some operation of the flash.
-fn play_round(flash: SimFlash, ram: &mut RamBoard, random: &mut Random) -> Result<SimFlash, Fail> {
-    let mut flash = flash;
+fn play_round<F: StoppedFlash + Drop>(
+    flash: F,
+    ram: &mut RamBoard,
+    random: &mut Random,
+) -> Result<F, Fail> {
     let far = [3, 8, 40, 700, 2500][random.below(5) as usize];
-    flash.set(1 + random.below(far), random.below(4) == 0);
-    let mut board = powered(flash)?;
+    let k = 1 + random.below(far);
+    let mut board = powered(flash.stopped_at(k, random.below(4) == 0))?;
     for _ in 0..WRITES {
         board = write_both(board, ram, random)?;
     }
@@ -118,6 +147,30 @@ fn writes_are_whole_or_not_begun(rt: HostRuntime) -> Result<(), Fail> {
     }
     assert!(rt; flash.faults() > 0 && flash.operations() > 100_000);
     Ok(())
+}
+
+/// Plays rounds on a device with program units. None is programmed twice.
+fn play_on_units<S: UnitSize + Drop>(alloc: Global, size: S, rounds: u32) -> Result<(), Fail> {
+    let mut random = Random(11);
+    let mut flash = UnitFlash::new(SimUnits::new(alloc, size, 11)?);
+    format_flash(&mut flash)?;
+    let mut ram = RamBoard::new(alloc)?;
+    for _ in 0..rounds {
+        flash = play_round(flash, &mut ram, &mut random)?;
+    }
+    let device = flash.into_device();
+    if device.faults() == 0 || device.refused() > 0 {
+        return Err(Fail::from("no fault, or a unit was programmed twice"));
+    }
+    Ok(())
+}
+
+#[test]
+fn units_are_programmed_once(rt: HostRuntime) -> Result<(), Fail> {
+    play_on_units(rt.alloc(), One, 20)?;
+    play_on_units(rt.alloc(), Two, 20)?;
+    play_on_units(rt.alloc(), Four, 60)?;
+    play_on_units(rt.alloc(), Eight, 60)
 }
 
 /// Writes one word to a random page below 512, so many times.

@@ -19,7 +19,11 @@ mod many_pages;
 #[cfg(test)]
 mod renewals;
 mod sim_flash;
+mod sim_units;
+mod unit_sizes;
 mod wide_flash;
 
 pub use sim_flash::SimFlash;
+pub use sim_units::SimUnits;
+pub use unit_sizes::UnitSize;
 pub use wide_flash::WideFlash;

@@ -114,7 +114,7 @@ pub(crate) fn garble_run(words: &mut Vec<u32>, at: usize, size: usize, run: &[u3
 }
 
 /// Returns the operations that are left behind one that doesn't lose power.
-fn after_one(fails: bool, left: u32) -> u32
+pub(crate) fn after_one(fails: bool, left: u32) -> u32
     requires { left ≡ 1 → fails ≡ true }
     ensures { cuts_set fails result ≡ cuts_set fails left }
 {
