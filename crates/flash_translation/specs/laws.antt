@@ -5,3 +5,7 @@ pub mod UnitPlaces
 pub mod UnitRuns
 pub mod UnitSharing
 pub mod UnitSteps
+pub mod SpareImages
+pub mod SpareParts
+pub mod SpareSteps
+pub mod SpareTurns

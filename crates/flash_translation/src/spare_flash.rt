@@ -1,0 +1,113 @@
+//! A flash for the log over a device with spare sectors.
+ghost use Rattle.std.specs.Prelude.{◌≡◌};
+ghost use Rattle.flash_translation.specs.SpareMaps.{HasSpares};
+
+use crate::spare_calls::{SectorMap, erase_at, program_at, read_at};
+use crate::spare_device::{SpareDevice, SpareSocket};
+use flash_board::{Flash, FlashSocket, PageTable};
+use nvm_board::DeviceErr;
+
+/// A flash over a device with spare sectors. A sector that can't be erased is put into a spare one.
+#[derive(Drop)]
+pub struct SpareFlash<D: SpareDevice> {
+    device: D,
+    known: SectorMap<D::Map>,
+    ghost spares: { HasSpares D.Map.entries D.SECTORS D.SPARES (D.state device) known },
+}
+
+impl<D: SpareDevice> SpareFlash<D> {
+    ghost use Rattle.flash_translation.specs.SpareMaps.{without_spares};
+    ghost use Rattle.flash_translation.specs.SparePlaces.{spare_words};
+
+    /// The flash of a device. The first call reads the map.
+    pub fn new(device: D) -> SpareFlash<D>
+        ensures { ⟦<SpareFlash<D> as Flash>⟧.state result
+            ≡ without_spares D.SLOTS D.SECTORS D.SECTOR_SLOTS D.SECTOR_WORDS D.SPARES 0 (D.state device) }
+    {
+        SpareFlash {
+            device,
+            known: SectorMap {
+                table: D::Map::blank(),
+                next: 0,
+                absorbed: 0,
+                ready: false,
+            },
+        }
+    }
+
+    /// Gives the device back, of which a flash can be made again.
+    pub fn into_device(self) -> D
+        ensures words { spare_words D.SLOTS D.SECTORS D.SECTOR_SLOTS D.SECTOR_WORDS D.SPARES
+            (D.state result).flash.words (D.state result).map ≡ (⟦<SpareFlash<D> as Flash>⟧.state self).words }
+        ensures dark { (D.state result).flash.dark ≡ (⟦<SpareFlash<D> as Flash>⟧.state self).dark }
+    {
+        self.device
+    }
+}
+
+impl<D: SpareDevice> Flash for SpareFlash<D> {
+    ghost use Rattle.flash_translation.specs.SpareMaps.{without_spares};
+    ghost use Rattle.flash_translation.specs.SparePlaces.{part_start};
+    ghost use Rattle.flash_translation.specs.laws.SpareImages.{length-spare_words, spare_words_fit};
+    ghost use Rattle.flash_translation.specs.laws.SpareParts.{parts_rise, starts_fit};
+
+    type Table = D::Table;
+
+    const PAGES: u16 = D::PAGES;
+
+    const SLOTS: u16 = D::SLOTS;
+
+    const SECTORS: u16 = D::SECTORS;
+
+    ghost PAGES = { D.PAGES };
+
+    ghost SLOTS = { D.SLOTS };
+
+    ghost SECTORS = { D.SECTORS };
+
+    ghost sector_start = { part_start D.SLOTS D.SECTORS D.SECTOR_SLOTS };
+
+    ghost state = { λ f. without_spares D.SLOTS D.SECTORS D.SECTOR_SLOTS D.SECTOR_WORDS D.SPARES f.known.absorbed
+        (D.state f.device) };
+
+    fn read(&mut self, at: u32) -> Result<u32, DeviceErr> {
+        let word = read_at(&mut self.device, &mut self.known, at)?;
+        Ok(word)
+    }
+
+    fn program(&mut self, at: u32, words: &[u32]) -> Result<(), DeviceErr> {
+        program_at(&mut self.device, &mut self.known, at, words)?;
+        Ok(())
+    }
+
+    fn erase(&mut self, sector: u16) -> Result<(), DeviceErr> {
+        erase_at(&mut self.device, &mut self.known, sector)?;
+        Ok(())
+    }
+
+    ghost sized = { λ f. length-spare_words D.SLOTS D.SECTORS D.SECTOR_SLOTS D.SECTOR_WORDS D.SPARES
+        (D.state f.device).flash.words (D.state f.device).map };
+
+    ghost words_fit = { λ f. spare_words_fit D.SLOTS D.SECTORS D.SECTOR_SLOTS D.SECTOR_WORDS D.SPARES
+        (D.state f.device).flash.words (D.state f.device).map (D.words_fit f.device) };
+
+    ghost pages_fit = { D.pages_fit };
+
+    ghost table_fits = { D.table_fits };
+
+    ghost slots_fit = { D.slots_fit };
+
+    ghost sectors_rise = { parts_rise D.SLOTS D.SECTORS D.SECTOR_SLOTS D.SECTOR_WORDS D.SPARES D.sectors_fit };
+
+    ghost sectors_fit = { starts_fit D.SLOTS D.SECTORS D.SECTOR_SLOTS D.SECTOR_WORDS D.SPARES D.sectors_fit };
+}
+
+impl<D: SpareSocket> FlashSocket for SpareFlash<D> {
+    fn light(&mut self) {
+        self.device.light();
+    }
+
+    fn power_off(&mut self) {
+        self.device.power_off();
+    }
+}
