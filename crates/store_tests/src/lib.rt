@@ -19,11 +19,15 @@ mod many_pages;
 #[cfg(test)]
 mod renewals;
 mod sim_flash;
+mod sim_spares;
 mod sim_units;
 mod unit_sizes;
 mod wide_flash;
+#[cfg(test)]
+mod worn_sectors;
 
 pub use sim_flash::SimFlash;
+pub use sim_spares::SimSpares;
 pub use sim_units::SimUnits;
 pub use unit_sizes::UnitSize;
 pub use wide_flash::WideFlash;
