@@ -1,7 +1,7 @@
 -- Turns played one after another.
 use Rattle.std.specs.Prelude.{◌≡◌, ◌≢◌, ◌⊎◌, ◌+◌, ◌≤◌, ℕ, Bool, true, List, [], ◌∷◌, ◌++◌, refl}
 use Rattle.std.proofs.Common.{ap, arith, sym, subst, inl, inr, ⊎_elim}
-use Rattle.nvm_board.specs.Facts.{Facts, Fails, Steady}
+use Rattle.nvm_board.specs.Facts.{Facts, Fails, GoesDark, Steady}
 use Rattle.nvm_board.specs.laws.Aims.{pages_none, torn_none, torn_off}
 use Rattle.nvm_board.specs.laws.History.{wrote_off, wrote_same}
 use Rattle.bench_turns.specs.declared.turn.Turn.{Turn}
@@ -20,9 +20,11 @@ use Rattle.bench_turns.specs.declared.turn.Item.TheVariants.{Dark, Mute, Reply}
 use Rattle.bench_turns.specs.BenchStates.{BenchState, off, on, bench_facts}
 use Rattle.bench_turns.specs.CardBlocks.{Powered, BlockChangesNothing, BlockCompares, BlockStands, BlockFails}
 use Rattle.bench_turns.specs.CardBlocks.{BlockIsCut, BlockTurns, IsBlockStage, Replies}
+use Rattle.bench_turns.specs.CardBlocks.{RepliesFailure}
+use Rattle.bench_turns.specs.FaultTurns.{CountedTurn, IsTraceWithFaults}
 use Rattle.bench_turns.specs.Guessing.{GuessesFew, PaysAhead}
 use Rattle.bench_turns.specs.Plays.{BringsNoFault, Plays, PlaysAll, PlaysBlock}
-use Rattle.bench_turns.specs.Turns.{CountsLosses, GoodTurn, IsTrace, Runs, Spends, Wears, dark_of, darks}
+use Rattle.bench_turns.specs.Turns.{CountsLosses, GoodTurn, IsTrace, Runs, Spends, TurnIsCut, Wears, dark_of, darks}
 use Rattle.bench_turns.proofs.FewGuesses.{pays-nothing, pays-on}
 use Rattle.bench_turns.proofs.GuessesPaid.{ArePaid, paid-few}
 use Rattle.bench_turns.proofs.Wearing.{aims-off, wears-shown, wears-writing}
@@ -37,6 +39,21 @@ run_more old between new [] (i ∷ trace) turn item run one = absurd run
 run_more old between new (t ∷ turns) [] turn item run one = absurd run
 run_more old between new (t ∷ turns) (i ∷ trace) turn item run one =
     (run.0, run.1, run_more run.0 between new turns trace turn item run.2 one)
+
+fault_more : (old between new : BenchState) (turns : List Turn) (trace : List Item) (turn : Turn) (item : Item)
+    → IsTraceWithFaults old turns trace between → CountedTurn between turn item new
+    → IsTraceWithFaults old (turns ++ turn ∷ []) (trace ++ item ∷ []) new
+unfolding IsTraceWithFaults
+fault_more old between new [] [] turn item run one =
+    (new, subst (λ (b : BenchState). CountedTurn b turn item new) run one, refl)
+fault_more old between new [] (i ∷ trace) turn item run one = absurd run
+fault_more old between new (t ∷ turns) [] turn item run one = absurd run
+fault_more old between new (t ∷ turns) (i ∷ trace) turn item run one =
+    (run.0, run.1, fault_more run.0 between new turns trace turn item run.2 one)
+
+none_faulty : (old : BenchState) → IsTraceWithFaults old [] [] old
+unfolding IsTraceWithFaults
+none_faulty old = refl
 
 -- a run of turns, without what they count
 pub traced : (old : BenchState) (turns : List Turn) (trace : List Item) (new : BenchState) → Runs old turns trace new
@@ -91,6 +108,7 @@ plays_none old = record {
   well = λ good. good.well;
   guesses = pays-nothing old old refl refl;
   runs = λ before good. none_run old;
+  any = λ before. none_faulty old;
 }
 
 -- one more turn
@@ -118,10 +136,22 @@ plays_more old between new turns trace turn item all more =
         guesses = more.guesses;
         ahead = more.ahead;
       });
+      any = λ before. fault_more old between new turns trace turn item (all.any before) (record {
+        one = more.any (all.has_card before);
+        counts = more.counts;
+        wears = more.wears (all.has_card before);
+      });
     }
 
+-- a card that is neither dark nor failed works
+pub works_else : (s : CardState) → s ≢ state.Dark → (s ≡ state.Failed → ⊥) → s ≡ Working
+works_else state.Working lit fine = refl
+works_else state.Failed lit fine = absurd (fine refl)
+works_else state.Dark lit fine = absurd (lit refl)
+
 -- a block in which power was lost, which is then turned off
-pub plays_cut : (old new : Powered) (got out : List ℕ) → BlockIsCut old got new out → HasCard new.card.facts.words
+pub plays_cut : (old new : Powered) (got out : List ℕ) → old.card.state ≡ Working → BlockIsCut old got new out
+    → HasCard new.card.facts.words
     → IsBlockStage old (link_step old.link got).reaction (card_found new.card)
     → ArePaid (card_found old.card) (card_found new.card) (comparisons old.card.facts) (comparisons new.card.facts)
     → ComparesOrStays (card_found old.card) (card_found new.card) (comparisons old.card.facts)
@@ -133,7 +163,7 @@ pub plays_cut : (old new : Powered) (got out : List ℕ) → BlockIsCut old got 
     → (BlockChangesNothing old (link_step old.link got).reaction → KeepsBoard old.card.facts new.card.facts)
     → PaysAhead (on old) (on new) → PlaysBlock (on old) got Dark (off (record new.card.facts { dark = true }))
 unfolding wrote_off
-plays_cut old new got out cut found stage paid shown writes advances stands turned compares idle ahead = record {
+plays_cut old new got out well cut found stage paid shown writes advances stands turned compares idle ahead = record {
   has_card = λ before. found;
   counts = record {
     cuts = cut.power.cuts;
@@ -153,23 +183,36 @@ plays_cut old new got out cut found stage paid shown writes advances stands turn
     wrote = record { runs = w.runs; words = w.words; log = w.log; counted = w.counted };
     paid = ahead.paid;
   };
-  one = λ before good. record {
-    power = refl;
-    run = cut.run;
-    stage = stage;
-    word = stands good.well;
-    turned = subst (λ (dark : Bool). BlockTurns old (link_step old.link got).reaction
-        (record new.card.facts { dark = dark })) cut.power.dark (turned good.well);
-    compares = subst (λ (dark : Bool). BlockCompares old (link_step old.link got).reaction
-        (record new.card.facts { dark = dark })) cut.power.dark compares;
-    idle = λ nothing.
-        subst (λ (dark : Bool). KeepsBoard old.card.facts (record new.card.facts { dark = dark })) cut.power.dark
-        (idle nothing);
-  };
+  one = λ before good. is_cut;
+  any = λ before. (well, is_cut, goes_dark);
   wears = λ good.
       wears-shown COMMAND_WRITES (card_found old.card) (card_found new.card) old.card.facts
       (record new.card.facts { dark = true }) shown good.faults writes;
 }
+  where
+    goes_dark : GoesDark old.card.facts (record new.card.facts { dark = true })
+    goes_dark = record {
+      was_lit = cut.power.was_lit;
+      dark = refl;
+      faults = cut.power.faults;
+      cuts = cut.power.cuts;
+      due = cut.power.due;
+    }
+
+    is_cut : TurnIsCut old got (off (record new.card.facts { dark = true }))
+    is_cut = record {
+      power = refl;
+      run = cut.run;
+      stage = stage;
+      word = stands well;
+      turned = subst (λ (dark : Bool). BlockTurns old (link_step old.link got).reaction
+          (record new.card.facts { dark = dark })) cut.power.dark (turned well);
+      compares = subst (λ (dark : Bool). BlockCompares old (link_step old.link got).reaction
+          (record new.card.facts { dark = dark })) cut.power.dark compares;
+      idle = λ nothing.
+          subst (λ (dark : Bool). KeepsBoard old.card.facts (record new.card.facts { dark = dark })) cut.power.dark
+          (idle nothing);
+    }
 
 -- no power was lost, and faults may have risen
 keeps_power : (a b : Facts) → b.cuts ≡ a.cuts → b.due ≡ a.due → a.faults ≤ b.faults → Advances a b → Spends 0 a b
@@ -207,21 +250,42 @@ replied old new got out answer same =
 -- a block that is answered
 pub plays_replied : (old new : Powered) (got out : List ℕ) → old.card.state ≢ state.Dark → HasCard new.card.facts.words
     → (old.card.state ≡ Working → Replies old got new out ⊎ BlockFails old got new out)
-    → (old.card.state ≡ state.Failed → new.card ≡ old.card) → Advances old.card.facts new.card.facts
+    → (old.card.state ≡ state.Failed → (new.card ≡ old.card) × RepliesFailure old got new out)
+    → IsBlockStage old (link_step old.link got).reaction (card_found new.card)
+    → (old.card.state ≡ Working → BlockStands old (link_step old.link got).reaction new.card.facts.words)
+    → (old.card.state ≡ Working → BlockTurns old (link_step old.link got).reaction new.card.facts)
+    → BlockCompares old (link_step old.link got).reaction new.card.facts
+    → (BlockChangesNothing old (link_step old.link got).reaction → KeepsBoard old.card.facts new.card.facts)
+    → Advances old.card.facts new.card.facts → new.card.facts.writes ≤ old.card.facts.writes + COMMAND_WRITES
     → GuessesFew (on old) (on new) → PaysAhead (on old) (on new)
     → (BringsNoFault (on old) (on new) → Wears COMMAND_WRITES old.card.facts new.card.facts)
     → PlaysBlock (on old) got (Reply out) (on new)
-plays_replied old new got out lit found replies failed advances guesses ahead wears = record {
-  has_card = λ before. found;
-  counts = answered-counts old.card.state old.card.facts new.card.facts lit
-      (λ is. ⊎_elim (λ r. inl r.power) (λ f. inr f.power) (replies is))
-      (λ is. ap (λ (r : Running). r.facts) (failed is)) advances;
-  well = λ good. (replied old new got out (replies good.well) good.faults).state;
-  guesses = guesses;
-  ahead = ahead;
-  one = λ before good. replied old new got out (replies good.well) good.faults;
-  wears = wears;
-}
+plays_replied old new got out lit found replies failed stage stands turned compares idle advances writes guesses ahead
+    wears = record {
+      has_card = λ before. found;
+      counts = answered-counts old.card.state old.card.facts new.card.facts lit
+          (λ is. ⊎_elim (λ r. inl r.power) (λ f. inr f.power) (replies is))
+          (λ is. ap (λ (r : Running). r.facts) (failed is).0) advances;
+      well = λ good. (replied old new got out (replies good.well) good.faults).state;
+      guesses = guesses;
+      ahead = ahead;
+      one = λ before good. replied old new got out (replies good.well) good.faults;
+      any = λ before. record {
+        works = λ well. ⊎_elim (λ (r : Replies old got new out). inl r)
+            (λ (f : BlockFails old got new out). inr (record {
+              fails = f;
+              stage = stage;
+              word = stands well;
+              turned = turned well;
+              compares = compares;
+              writes = writes;
+              idle = idle;
+            }))
+            (replies well);
+        failed = failed;
+      };
+      wears = wears;
+    }
 
 -- a block to a card without power
 pub hears_nothing : (old new : BenchState) (facts : Facts) (got : List ℕ) → old ≡ off facts → new ≡ old
@@ -247,5 +311,6 @@ hears_nothing old new facts got is same =
       guesses = pays-nothing (off facts) (off facts) refl refl;
       ahead = record { wrote = wrote_same facts; paid = inl refl };
       one = λ before good. refl;
+      any = λ before. refl;
       wears = λ good. wears-writing COMMAND_WRITES facts facts refl (omega arith) refl;
     }))

@@ -50,6 +50,7 @@ turns_off old new is = subst (λ (b : BenchState). Plays old turn.Off item.Quiet
     paid = inl refl;
   };
   one = λ before good. refl;
+  any = λ before. refl;
   wears = λ before good.
       wears-writing 0 (bench_facts old) (record (bench_facts old) { dark = true }) refl (omega arith) refl;
 })
@@ -95,6 +96,7 @@ module _ (old : BenchState) (dark : Facts) (darkened : dark ≡ record (bench_fa
           paid = inl (ap comparisons is);
         };
         one = λ before good. (ap (λ (f : Facts). off f) is, subst IsWornOut (sym same) worn);
+        any = λ before. inl ((ap (λ (f : Facts). off f) is, subst IsWornOut (sym same) worn), faults);
         wears = λ before good.
             wears-writing (turn_writes old turn.On) (bench_facts old) new faults
             (omega (arith, writes)) (ap comparisons is);
@@ -221,6 +223,14 @@ module _ (old : BenchState) (dark : Facts) (darkened : dark ≡ record (bench_fa
             leaves (on p) again kept (counts ∙ lit-counts),
             counted ∙ ap₂ (λ (done more : ℕ). done + more) lit-writes lit-asked,
           );
+          any = λ before. inl (
+            (
+              (started.session, link, started.state, power.lit),
+              leaves (on p) again kept (counts ∙ lit-counts),
+              counted ∙ ap₂ (λ (done more : ℕ). done + more) lit-writes lit-asked,
+            ),
+            omega (arith, power.faults, lit-faults),
+          );
           wears = λ before good. start-wears p.card.facts spent before good.faults;
         }
 
@@ -296,6 +306,10 @@ module _ (old : BenchState) (dark : Facts) (darkened : dark ≡ record (bench_fa
             ahead = record { wrote = lit-wrote new spent-so.cut; paid = inl same-comparisons };
             one = λ before good.
                 (unlit, rests, let most = spent-so.writes in omega (arith, most, lit-writes, lit-asked));
+            any = λ before. inl (
+              (unlit, rests, let most = spent-so.writes in omega (arith, most, lit-writes, lit-asked)),
+              omega (arith, lost.faults, faults, lit-faults),
+            );
             wears = λ before good. start-wears new spent-so before good.faults;
           }
 
@@ -309,8 +323,9 @@ module _ (old : BenchState) (dark : Facts) (darkened : dark ≡ record (bench_fa
 
       -- the device failed, or no card starts: then there was none, or a fault is counted
       mute-so : stopped.cuts ≡ lit.cuts → stopped.due ≡ lit.due → lit.faults ≤ stopped.faults
-          → (HasCard (bench_facts old).words → stopped.faults ≡ lit.faults → ⊥) → Plays old turn.On item.Mute (off new)
-      mute-so same_cuts same_due more none =
+          → (HasCard (bench_facts old).words → stopped.faults ≡ lit.faults + 1)
+          → Plays old turn.On item.Mute (off new)
+      mute-so same_cuts same_due more risen =
           let cuts : new.cuts ≡ stopped.cuts = ap (λ (f : Facts). f.cuts) turned in
           let faults : new.faults ≡ stopped.faults = ap (λ (f : Facts). f.faults) turned in
           let due : new.due ≡ stopped.due = ap (λ (f : Facts). f.due) turned in
@@ -332,14 +347,24 @@ module _ (old : BenchState) (dark : Facts) (darkened : dark ≡ record (bench_fa
             well = λ good. tt;
             guesses = guesses;
             ahead = record { wrote = lit-wrote new spent-so.cut; paid = inl same-comparisons };
-            one = λ before good. absurd (none before (omega (arith, good.faults, faults, lit-faults)));
+            one = λ before good.
+                let rises = risen before in absurd (omega (arith, rises, good.faults, faults, lit-faults));
+            any = λ before. inr (record {
+              mute = refl;
+              fault = let rises = risen before in omega (arith, rises, faults, lit-faults);
+              cuts = omega (arith, same_cuts, cuts, lit-cuts);
+              due = omega (arith, same_due, due, lit-due);
+              power = unlit;
+              leaves = rests;
+              writes = let most = spent-so.writes in omega (arith, most, lit-writes, lit-asked);
+            });
             wears = λ before good. start-wears new spent-so before good.faults;
           }
 
       steady-so : Steady lit stopped → (HasCard lit.words → ⊥) → Plays old turn.On item.Mute (off new)
       steady-so steady none =
           mute-so steady.cuts steady.due (omega (arith, steady.faults))
-          (λ before same. none (subst HasCard (sym lit-words) before))
+          (λ before. absurd (none (subst HasCard (sym lit-words) before)))
 
       pub ends_mute : (why : StartFault) → (why ≡ Fault) ⊎ (why ≡ BadJournal) ⊎ (why ≡ Damaged)
           → StartStopsBy why lit stopped → Plays old turn.On item.Mute (off new)
@@ -350,6 +375,6 @@ module _ (old : BenchState) (dark : Facts) (darkened : dark ≡ record (bench_fa
       ]
       ends_mute Fault is stops =
           mute-so stops.cuts stops.due (omega (arith, stops.faults))
-          (λ before same. let rises = stops.faults in omega (arith, rises, same))
+          (λ before. stops.faults)
       ends_mute BadJournal is stops = steady-so stops.1 (λ before. stops.0 before.journal)
       ends_mute Damaged is stops = steady-so stops.2 (λ before. stops.1 before.words)

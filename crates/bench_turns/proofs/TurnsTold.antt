@@ -42,6 +42,7 @@ plays-block old new got i plays = record {
   guesses = plays.guesses;
   ahead = plays.ahead;
   one = plays.one;
+  any = plays.any;
   wears = λ before good. plays.wears good;
 }
 

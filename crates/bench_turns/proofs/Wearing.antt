@@ -23,7 +23,7 @@ use Rattle.bench_turns.specs.declared.turn.Item.{Item}
 use Rattle.bench_turns.specs.declared.turn.Item.TheVariants as item
 use Rattle.bench_turns.specs.declared.turn.Turn.{Turn}
 use Rattle.bench_turns.specs.declared.turn.Turn.TheVariants as turn
-use Rattle.bench_turns.specs.BenchStates.{BenchState, off, on, bench_facts}
+use Rattle.bench_turns.specs.BenchStates.{BenchState, bench_facts}
 use Rattle.bench_turns.specs.Lasting.{HasLeft}
 use Rattle.bench_turns.specs.Turns.{GoodBlock, GoodTurn, Runs, Spends, Wears, dark_of, most_renewal, run_steps}
 use Rattle.bench_turns.specs.Turns.{turn_steps, turn_writes}

@@ -6,4 +6,5 @@ pub mod Lasting
 pub mod Plays
 pub mod TurnResults
 pub mod Turns
+pub mod FaultTurns
 pub mod NewlyWritten

@@ -10,6 +10,7 @@ use Rattle.bench_turns.specs.declared.turn_result.TurnResult.TheVariants as turn
 use Rattle.bench_turns.specs.BenchStates.{BenchState, bench_facts, BenchHasCard, IsWell}
 use Rattle.bench_turns.specs.Guessing.{GuessesFew, PaysAhead}
 pub use Rattle.bench_turns.specs.BenchStates.{BringsNoFault}
+use Rattle.bench_turns.specs.FaultTurns.{IsTraceWithFaults, OneTurnOrFails, TakesBlockOrFails}
 use Rattle.bench_turns.specs.Turns.{CountsLosses, OneTurn, Runs, Spends, TakesBlock, Wears, dark_of, darks, turn_writes}
 
 -- A bench with a card state after recovery, and without any fault. A power cut is due if one is set.
@@ -35,6 +36,7 @@ pub record Plays (old : BenchState) (turn : Turn) (item : Item) (new : BenchStat
   pub guesses : GuessesFew old new
   pub ahead : PaysAhead old new
   pub one : BenchHasCard old → BringsNoFault old new → OneTurn old turn item new
+  pub any : BenchHasCard old → OneTurnOrFails old turn item new
   pub wears : BenchHasCard old → BringsNoFault old new
       → Wears (turn_writes old turn) (bench_facts old) (bench_facts new)
 
@@ -46,6 +48,7 @@ pub record PlaysBlock (old : BenchState) (got : List ℕ) (item : Item) (new : B
   pub guesses : GuessesFew old new
   pub ahead : PaysAhead old new
   pub one : BenchHasCard old → BringsNoFault old new → TakesBlock old got item new
+  pub any : BenchHasCard old → TakesBlockOrFails old got item new
   pub wears : BringsNoFault old new → Wears COMMAND_WRITES (bench_facts old) (bench_facts new)
 
 -- Several turns.
@@ -55,3 +58,4 @@ pub record PlaysAll (old : BenchState) (turns : List Turn) (trace : List Item) (
   pub well : BringsNoFault old new → IsWell new
   pub guesses : GuessesFew old new
   pub runs : BenchHasCard old → BringsNoFault old new → Runs old turns trace new
+  pub any : BenchHasCard old → IsTraceWithFaults old turns trace new

@@ -9,6 +9,7 @@ mod line;
 mod line_result;
 mod reader_turns;
 mod script;
+mod script_board;
 
 pub use bench_lines::Order;
 pub use bench_turns::{Item, Turn};
@@ -19,3 +20,4 @@ pub use line::Line;
 pub use line_result::LineResult;
 pub use reader_turns::{Blocks, Ending, LINE_BLOCKS, Toward, begin, hear, wait};
 pub use script::{run, run_on};
+pub use script_board::ScriptBoard;

@@ -1,5 +1,5 @@
 //! Runs a script, from its first line to its last.
-ghost use Rattle.std.specs.Prelude.{◌≡◌, ◌≢◌, Err, IfOk, IfSome, IfErr, OnErr, OnOk, true, false};
+ghost use Rattle.std.specs.Prelude.{◌≡◌, ◌≢◌, Err, IfSome, IfErr, OnOk, false};
 ghost use Rattle.card_bench.specs.ScriptEndings.{IsRunToEnd, RunStopsBy, StopsBehind};
 ghost use Rattle.bench_turns.specs.BenchStates.{bench_facts};
 ghost use Rattle.card_bench.specs.Charges.{HasSecond};
@@ -9,6 +9,7 @@ ghost use Rattle.bench_turns.specs.Plays.{IsGood};
 ghost use Rattle.command_base.specs.Finding.{HasCard};
 
 use crate::desk::Desk;
+use crate::script_board::ScriptBoard;
 use bench_lines::{
     GivenBytes, LineBytes, LineEnd, LineFault, NO_TEXT, Order, RunFault, SCRIPT_LIMIT, read_line,
 };
@@ -16,7 +17,7 @@ use bench_turns::Twinned;
 use card_boards::factory_board;
 use nvm_board::has_no_fault;
 use simulated_boards::{CutBoard, Followed};
-use std::alloc::{AllocError, Global};
+use std::alloc::Global;
 use std::io::{BufRead, Write};
 
 /// Runs a script on the factory card, with power off at first.
@@ -54,62 +55,43 @@ pub fn run<P: Twinned<Board = CutBoard> + Drop, R: BufRead, W: Write>(
     let Ok(board) = factory_board(alloc) else {
         return Err(RunFault::Memory);
     };
+    // (nothing follows this board, so this asks for no memory)
+    let board = ScriptBoard::new(board).unwrap();
     run_on::<P, _, _>(board, reader, writer)
 }
 
 /// Runs a script on the card in a board's memory.
-/// Power is off at the start. A line has an answer only if the board's follower has all writes. It allocates the memory
-/// for a second board, if something follows this one, before it reads the first byte.
+/// Power is off at the start. A line has an answer only if the board's follower has all writes. It asks for no memory.
 ///
 /// # Errors
 ///
-/// Those of `run`, and `Unkept` if the follower did not take a write: then the line has no answer, and no line after
-/// it runs. If it did not take the charge of a PIN, the line itself does not run, and nothing is compared. `Memory`
-/// only if something follows the board.
+/// Those of `run` but `Memory`, and `Unkept` if the follower did not take a write: then the line has no answer, and no
+/// line after it runs. If it did not take the charge of a PIN, the line itself does not run, and nothing is compared.
 pub fn run_on<P: Twinned + Drop, R: BufRead, W: Write>(
-    board: P::Board,
+    board: ScriptBoard<P::Board>,
     reader: &mut R,
     writer: &mut W,
 ) -> Result<(), RunFault>
 where
     P::Board: Followed + Drop,
-    requires { HasCard (P.Board.facts board).words }
+    requires { HasCard board.words }
     ensures done { OnOk result (IfSome (R.remaining reader.old)
-        (λ script. IsRunToEnd (LacksNoWrite P.Board P.Board.facts P.Board.has_kept) (desk_of (P.Board.facts board))
+        (λ script. IsRunToEnd (LacksNoWrite P.Board P.Board.facts P.Board.has_kept) (desk_of board)
         script (W.contents writer.old) (W.contents writer.new))) }
     ensures stopped { IfErr result (λ fault.
-        RunStopsBy (LacksNoWrite P.Board P.Board.facts P.Board.has_kept) (desk_of (P.Board.facts board)) fault
+        RunStopsBy (LacksNoWrite P.Board P.Board.facts P.Board.has_kept) (desk_of board) fault
         (R.remaining reader.old) (R.remaining reader.new) (W.contents writer.old) (W.contents writer.new)) }
-    // With too little memory nothing was read or written.
-    ensures memory { result ≡ Err RunFault.Memory → (P.Board.has_follower board ≡ true)
-        × (R.remaining reader.new ≡ R.remaining reader.old) × (W.contents writer.new ≡ W.contents writer.old) }
+    ensures memory { result ≢ Err RunFault.Memory }
     // The board whose follower failed is that of the line without an answer, or that of the line without a charge.
     ensures behind { result ≡ Err RunFault.Unkept → (left : P.Board) × (P.Board.has_kept left ≡ false)
-        × StopsBehind (LacksNoWrite P.Board P.Board.facts P.Board.has_kept) (desk_of (P.Board.facts board))
+        × StopsBehind (LacksNoWrite P.Board P.Board.facts P.Board.has_kept) (desk_of board)
         (P.Board.facts left) (R.remaining reader.old) (R.remaining reader.new) (W.contents writer.old)
         (W.contents writer.new) }
 {
+    let ScriptBoard { board, second } = board;
     has_no_fault(&board);
-    let Ok(second) = second_board(&board) else {
-        return Err(RunFault::Memory);
-    };
     let mut desk: Desk<P> = Desk::new(board);
     run_lines(&mut desk, second, reader, writer)
-}
-
-/// Returns a board for the second desk of a charge, if something follows this board.
-///
-/// # Errors
-/// There is too little memory for it.
-fn second_board<B: Followed>(board: &B) -> Result<Option<B>, AllocError>
-    ensures second { IfOk result (λ second. HasSecond B.facts B.can_copy second (B.facts board.now)) }
-    ensures memory { OnErr result (B.has_follower board.now ≡ true) }
-{
-    if board.is_followed() {
-        Ok(Some(board.unfollowed_copy()?))
-    } else {
-        Ok(None)
-    }
 }
 
 /// Runs the lines of a script on a desk. This is a function of its own, so that its loop doesn't share the registers of

@@ -8,11 +8,11 @@ use Rattle.nvm_board.specs.laws.Sizes.{pages_same}
 use Rattle.command_base.specs.Standing.{board_blocks}
 use Rattle.undo_journal.specs.Spending.{WritesAtMost}
 use Rattle.bench_turns.specs.NewlyWritten.{IsNewlyWritten}
-use Rattle.flash_board.specs.FlashCalls.{FlashState}
+use Rattle.flash_device.specs.FlashCalls.{FlashState}
 use Rattle.flash_board.specs.FlashFacts.{made_of}
-use Rattle.flash_board.specs.FlashLogs.{words_of}
-use Rattle.flash_board.specs.Places.{state_of}
-use Rattle.flash_board.specs.laws.Words.{length-words}
+use Rattle.flash_device.specs.FlashLogs.{words_of}
+use Rattle.flash_log.specs.Places.{state_of}
+use Rattle.flash_log.specs.laws.Words.{length-words}
 
 -- a new board whose cuts leave all words of a write or none
 abbrev new_flash : ℕ → Facts

@@ -3,13 +3,13 @@ use Rattle.std.specs.Prelude.{◌≡◌, ◌+◌, List, ℕ, Err, IfErr, Result}
 use Rattle.std.proofs.Common.{arith, subst}
 use Rattle.nvm_board.specs.Facts.{IsMemory}
 use Rattle.nvm_board.specs.laws.Sizes.{memory_of_pages}
-use Rattle.flash_board.specs.FlashCalls.{FlashState}
-use Rattle.flash_board.specs.Places.{OpenStopsBy}
-use Rattle.flash_board.specs.Rings.{IsRing}
-use Rattle.flash_board.specs.declared.flash_log.FlashFault.{FlashFault}
-use Rattle.flash_board.specs.declared.flash_log.FlashFault.TheVariants.{NoLog, PowerLost, Fault}
-use Rattle.flash_board.specs.laws.Words.{length-words}
-use Rattle.simulated_boards.specs.declared.garbling_flash.TheConstants.{FLASH_PAGES}
+use Rattle.flash_device.specs.FlashCalls.{FlashState}
+use Rattle.flash_log.specs.Places.{OpenStopsBy}
+use Rattle.flash_log.specs.Rings.{IsRing}
+use Rattle.flash_log.specs.declared.flash_log.FlashFault.{FlashFault}
+use Rattle.flash_log.specs.declared.flash_log.FlashFault.TheVariants.{NoLog, PowerLost, Fault}
+use Rattle.flash_log.specs.laws.Words.{length-words}
+use Rattle.simulated_flashes.specs.declared.garbling_flash.TheConstants.{FLASH_PAGES}
 use Rattle.card_boards.specs.FlashImages.{simulated_slots, words_on_flash}
 use Rattle.card_boards.specs.Images.{IsRefusedRightly}
 use Rattle.card_boards.specs.declared.image.NoCard.{NoCard}

@@ -30,6 +30,10 @@ few-rolled : (f : Facts) → gate f.words < 2 ^ 32 → start_writes f ≤ 429496
 few-rolled f small =
     either-if (λ (n : ℕ). n ≤ 4294967296) (gate f.words == 0) 0 (gate f.words + 1) (omega arith) (omega (arith, small))
 
+-- words of a board are a memory
+pub board_is_memory : (words : List ℕ) (board : CutBoard) → cut_facts board ≡ board_with words → IsMemory words
+board_is_memory words board is = subst IsMemory (ap (λ (f : Facts). f.words) is) (cut_is_board board).sized
+
 module _ (words : List ℕ) (first last : CutBoard) (new_is : cut_facts first ≡ board_with words)
     (writes : WritesAtMost (power_on_writes (cut_facts first)) (cut_facts first) (cut_facts last)) where
   few-writes : (cut_facts last).writes < COUNT_END

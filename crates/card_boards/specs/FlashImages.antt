@@ -3,10 +3,10 @@ use Rattle.std.specs.Prelude.{◌≡◌, ◌≢◌, ℕ, true, false, List, leng
 use Rattle.command_base.specs.Finding.{Finds, HasCard}
 use Rattle.card_start.specs.declared.memory_format.MemoryFormat.TheVariants.{Two}
 use Rattle.card_start.specs.Factory.{IsFactory, factory_card}
-use Rattle.flash_board.specs.FlashCalls.{FlashState}
-use Rattle.flash_board.specs.FlashLogs.{words_of}
-use Rattle.flash_board.specs.Rings.{IsRing}
-use Rattle.simulated_boards.specs.declared.garbling_flash.TheConstants.{FLASH_PAGES, FLASH_WORDS}
+use Rattle.flash_device.specs.FlashCalls.{FlashState}
+use Rattle.flash_device.specs.FlashLogs.{words_of}
+use Rattle.flash_log.specs.Rings.{IsRing}
+use Rattle.simulated_flashes.specs.declared.garbling_flash.TheConstants.{FLASH_PAGES, FLASH_WORDS}
 use Rattle.card_boards.specs.declared.flash_image.NoFlashCard.{NoFlashCard}
 use Rattle.card_boards.specs.declared.flash_image.NoFlashCard.TheVariants as why
 
@@ -36,9 +36,9 @@ pub record IsFactoryFlash (m : List ℕ) : Type 0 where
   pub words : IsFactory Two (words_on_flash m)
 
 -- Why words are no card's: a flash has another number of words, they have no log, or recovery finds no card in those
--- of the board.
+-- of the board. Too little memory is reported only of as many words as a flash has.
 abbrev pub IsFlashRefusal : NoFlashCard → List ℕ → Type 0
-IsFlashRefusal why.Memory m = Unit {0}
+IsFlashRefusal why.Memory m = length m ≡ FLASH_WORDS
 IsFlashRefusal why.Size m = length m ≢ FLASH_WORDS
 IsFlashRefusal why.Log m = (length m ≡ FLASH_WORDS) × ¬ IsRing simulated_slots m
 IsFlashRefusal why.Card m = (length m ≡ FLASH_WORDS) × IsRing simulated_slots m × ¬ HasCard (words_on_flash m)

@@ -18,9 +18,10 @@ IsFaultOf Damaged words = IsSound words × ¬ IsAnyCard (words_found words)
 IsFaultOf PowerLost words = ⊥
 IsFaultOf Fault words = ⊥
 
--- no board has this number of words, or recovery finds no card in them
+-- No board has this number of words, or recovery finds no card in them. Too little memory is reported only of words of
+-- a board.
 abbrev pub IsRefusedRightly : NoCard → List ℕ → Type 0
-IsRefusedRightly Memory words = Unit {0}
+IsRefusedRightly Memory words = IsMemory words
 IsRefusedRightly Size words = ¬ IsMemory words
 IsRefusedRightly (Start fault) words = IsMemory words × ¬ HasCard words × IsFaultOf fault words
 

@@ -3,7 +3,7 @@ ghost use Rattle.std.specs.Prelude.{◌≡◌, false, IfOk};
 ghost use Rattle.nvm_board.specs.Facts.{new_board};
 ghost use Rattle.nvm_board.specs.declared.board.TheConstants.{LEAST_PAGES};
 ghost use Rattle.simulated_boards.specs.CutFlashFacts.{cut_flash_facts};
-ghost use Rattle.simulated_boards.specs.GarblingStates.{garbling_state};
+ghost use Rattle.simulated_flashes.specs.GarblingStates.{garbling_state};
 ghost use Rattle.card_start.specs.declared.memory_format.MemoryFormat.TheVariants as MemoryFormat;
 ghost use Rattle.card_start.specs.Factory.{IsFactory, factory_card};
 ghost use Rattle.command_base.specs.Finding.{Finds};
@@ -11,8 +11,10 @@ ghost use Rattle.bench_turns.specs.NewlyWritten.{IsJustWritten};
 ghost use Rattle.card_boards.specs.FlashImages.{IsFactoryFlash, IsFlashReady};
 
 use card_start::format;
-use flash_board::{FlashBoard, FlashLog, format_flash};
-use simulated_boards::{CutFlashBoard, GarblingFlash};
+use flash_board::FlashBoard;
+use flash_log::{FlashLog, format_flash};
+use simulated_boards::CutFlashBoard;
+use simulated_flashes::GarblingFlash;
 use std::alloc::{AllocError, Global};
 
 /// Returns a simulated flash with the factory card in format 2. The seed chooses what power losses leave in it.

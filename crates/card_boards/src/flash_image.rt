@@ -1,14 +1,14 @@
 //! The card of a flash's image.
 ghost use Rattle.std.specs.Prelude.{◌≡◌, ◌*◌, false, length, IfErr, IfOk, OnOk};
 ghost use Rattle.nvm_board.specs.Facts.{AreWords};
-ghost use Rattle.simulated_boards.specs.GarblingStates.{garbling_state, given_garbling_state};
-ghost use Rattle.simulated_boards.specs.declared.garbling_flash.TheConstants.{FLASH_WORDS};
+ghost use Rattle.simulated_flashes.specs.GarblingStates.{garbling_state, given_garbling_state};
+ghost use Rattle.simulated_flashes.specs.declared.garbling_flash.TheConstants.{FLASH_WORDS};
 ghost use Rattle.card_boards.specs.FlashImages.{HasCardOnFlash, IsFlashRefusal};
 
 use crate::image::{NoCard, image_board};
-use flash_board::FlashLog;
+use flash_log::FlashLog;
 use nvm_board::PAGE_WORDS;
-use simulated_boards::{FLASH_PAGES, FLASH_WORDS, GarblingFlash};
+use simulated_flashes::{FLASH_PAGES, FLASH_WORDS, GarblingFlash};
 use std::alloc::{AllocError, Global};
 
 /// Why the words of a flash are no card's.

@@ -260,14 +260,16 @@ pub record IsFactoryFresh (pages : ℕ) (now : Option SessionState) : Type 0 whe
   pub begun : now ≡ Some (begun_at board None)
   pub factory : IsFactoryBoard pages board
 
--- why a number of pages is refused: there is too little memory, or no memory has it
+-- why a number of pages is refused: there is too little memory for so many, or no memory has it
 abbrev pub RefusesPages : ℕ → ℤ → Type 0
-RefusesPages pages number = (number ≡ outcome_number outcome.Memory)
+RefusesPages pages number =
+    ((number ≡ outcome_number outcome.Memory) × (LEAST_PAGES ≤ pages) × (pages ≤ MOST_PAGES))
     ⊎ ((number ≡ outcome_number outcome.Size) × ¬ ((LEAST_PAGES ≤ pages) × (pages ≤ MOST_PAGES)))
 
--- why words are refused: there is too little memory, no board has this number of words, or they have no card
+-- why words are refused: there is too little memory for those of a board, no board has this number of words, or they
+-- have no card
 abbrev pub RefusesWords : List ℕ → ℤ → Type 0
-RefusesWords words number = (number ≡ outcome_number outcome.Memory)
+RefusesWords words number = ((number ≡ outcome_number outcome.Memory) × IsMemory words)
     ⊎ ((number ≡ outcome_number outcome.Size) × ¬ IsMemory words)
     ⊎ ((number ≡ outcome_number outcome.NoCard) × IsMemory words × ¬ HasCard words)
 
@@ -276,10 +278,11 @@ abbrev pub IsWrongBy : ℕ → List ℕ → Type 0
 IsWrongBy why words = ((why ≡ 1) × IsBadJournal words)
     ⊎ ((why ≡ 2) × IsSound words × ¬ IsAnyCard (words_found words))
 
--- Words are checked: they are a card image, there is too little memory, no memory has so many, or they are no card.
+-- Words are checked: they are a card image, there is too little memory for those of a board, no memory has so many, or
+-- they are no card.
 abbrev pub ChecksWords : List ℕ → ℤ → ℕ → Type 0
 ChecksWords words number why = ((number ≡ outcome_number outcome.Done) × (why ≡ 0) × HasCard words)
-    ⊎ ((number ≡ outcome_number outcome.Memory) × (why ≡ 0))
+    ⊎ ((number ≡ outcome_number outcome.Memory) × (why ≡ 0) × IsMemory words)
     ⊎ ((number ≡ outcome_number outcome.Size) × (why ≡ 0) × ¬ IsMemory words)
     ⊎ ((number ≡ outcome_number outcome.NoCard) × IsMemory words × ¬ HasCard words × IsWrongBy why words)
 

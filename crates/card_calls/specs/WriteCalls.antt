@@ -1,5 +1,5 @@
 -- Calls that hand device writes out.
-use Rattle.std.specs.Prelude.{◌≡◌, ◌⊎◌, ◌*◌, ◌+◌, ◌%◌, ◌^◌, ℕ, ℤ, List, Option, None, Some, Result, Ok, Err, IfSome}
+use Rattle.std.specs.Prelude.{◌≡◌, ◌⊎◌, ◌*◌, ◌+◌, ◌%◌, ◌^◌, ℕ, ℤ, pos, List, Option, None, Some, Result, Ok, Err}
 use Rattle.std.specs.Prelude.{true, false}
 use Rattle.bench_lines.specs.Orders.{Order}
 use Rattle.card_boards.specs.Images.{image_bytes}
@@ -59,8 +59,13 @@ FallsBehind None now number = (number ≡ outcome_number outcome.Absent) × (now
 FallsBehind (Some was) now number =
     (number ≡ outcome_number outcome.Done) × (now ≡ Some (record was { behind = true }))
 
+-- the number of a card's device, and 0 without one
+abbrev pub device_number : Option ℤ → ℤ
+device_number None = pos 0
+device_number (Some of) = of
+
 -- a call that returns the number of the device
 abbrev pub ReturnsDevice : Option SessionState → ℤ → ℤ → Type 0
-ReturnsDevice None device number = number ≡ outcome_number outcome.Absent
+ReturnsDevice None device number = (number ≡ outcome_number outcome.Absent) × (device ≡ pos 0)
 ReturnsDevice (Some now) device number = (number ≡ outcome_number outcome.Done)
-    × IfSome now.device (λ of. device ≡ of)
+    × (device ≡ device_number now.device)

@@ -31,15 +31,18 @@ abbrev pub HoldsNoCard : Option (List ℕ) → ℕ → Type 0
 HoldsNoCard known size = IfSome known (λ bytes. (words : List ℕ) × AreWords words
     × (image_bytes words ≡ take size bytes) × ¬ HasCard words)
 
--- Why a reader with a file of `size` bytes gives no card. No memory has as many bytes, or the reader has fewer. The
--- options give another number of pages. The bytes hold no card. The reader failed, or there was too little memory.
+-- Why a reader with a file of `size` bytes gives no card. No memory has as many bytes, or the options give another
+-- number of pages. Of a size that is neither the reader has fewer bytes, they hold no card, it failed, or there was too
+-- little memory.
 abbrev pub IsReadFault : CardOptions → ℕ → Option (List ℕ) → CardFault → Type 0
-IsReadFault options size known (fault.Size bytes) = (bytes ≡ size) × (IsImageSize size → IsShorter known size)
+IsReadFault options size known (fault.Size bytes) =
+    (bytes ≡ size) × (IsImageSize size → AreAskedPages options (size / PAGE_BYTES) × IsShorter known size)
 IsReadFault options size known (fault.OtherPages pages) =
     IsImageSize size × (pages ≡ size / PAGE_BYTES) × ¬ AreAskedPages options pages
-IsReadFault options size known fault.NoCard = IsImageSize size × HoldsNoCard known size
-IsReadFault options size known (fault.Read error) = Unit {0}
-IsReadFault options size known fault.Memory = Unit {0}
+IsReadFault options size known fault.NoCard =
+    IsImageSize size × AreAskedPages options (size / PAGE_BYTES) × HoldsNoCard known size
+IsReadFault options size known (fault.Read error) = IsImageSize size × AreAskedPages options (size / PAGE_BYTES)
+IsReadFault options size known fault.Memory = IsImageSize size × AreAskedPages options (size / PAGE_BYTES)
 IsReadFault options size known fault.Usage = ⊥
 IsReadFault options size known (fault.Open error) = ⊥
 IsReadFault options size known (fault.Make error) = ⊥

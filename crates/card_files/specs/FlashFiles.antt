@@ -4,10 +4,10 @@ use Rattle.std.specs.Prelude.{if◌then◌else◌}
 use Rattle.std.specs.declared.fs.File.{File}
 use Rattle.nvm_board.specs.Facts.{AreWords}
 use Rattle.command_base.specs.Finding.{HasCard}
-use Rattle.flash_board.specs.Rings.{IsRing}
-use Rattle.simulated_boards.specs.KeptFlashes.{kept_flash_state}
-use Rattle.simulated_boards.specs.declared.garbling_flash.TheConstants.{FLASH_WORDS}
-use Rattle.simulated_boards.specs.declared.kept_flash.KeptFlash.{KeptFlash}
+use Rattle.flash_log.specs.Rings.{IsRing}
+use Rattle.simulated_flashes.specs.KeptFlashes.{kept_flash_state}
+use Rattle.simulated_flashes.specs.declared.garbling_flash.TheConstants.{FLASH_WORDS}
+use Rattle.simulated_flashes.specs.declared.kept_flash.KeptFlash.{KeptFlash}
 use Rattle.card_boards.specs.FlashImages.{IsFactoryFlash, simulated_slots, words_on_flash}
 use Rattle.card_boards.specs.Images.{image_bytes}
 use Rattle.card_files.specs.CommandLines.{pages_number}
@@ -51,14 +51,14 @@ HoldsNoFlashCard known size = IfSome known (λ bytes. (words : List ℕ) × AreW
     × (image_bytes words ≡ take size bytes) × IsRing simulated_slots words × ¬ HasCard (words_on_flash words))
 
 -- Why a reader with a file of `size` bytes gives no flash with a card. A flash has another number of bytes, or the
--- reader has fewer. Its bytes hold no log, or no card. It failed, or there was too little memory.
+-- reader has fewer. Its bytes hold no log, or no card. Of a size of a flash it failed, or there was too little memory.
 abbrev pub IsFlashReadFault : ℕ → Option (List ℕ) → FlashCardFault → Type 0
 IsFlashReadFault size known (flash_fault.Size bytes) =
     (bytes ≡ size) × (size ≡ WORD_BYTES * FLASH_WORDS → IsShorter known size)
 IsFlashReadFault size known flash_fault.Log = (size ≡ WORD_BYTES * FLASH_WORDS) × HoldsNoLog known size
 IsFlashReadFault size known flash_fault.Card = (size ≡ WORD_BYTES * FLASH_WORDS) × HoldsNoFlashCard known size
-IsFlashReadFault size known (flash_fault.File (fault.Read error)) = Unit {0}
-IsFlashReadFault size known (flash_fault.File fault.Memory) = Unit {0}
+IsFlashReadFault size known (flash_fault.File (fault.Read error)) = size ≡ WORD_BYTES * FLASH_WORDS
+IsFlashReadFault size known (flash_fault.File fault.Memory) = size ≡ WORD_BYTES * FLASH_WORDS
 IsFlashReadFault size known (flash_fault.File other) = ⊥
 IsFlashReadFault size known flash_fault.Usage = ⊥
 

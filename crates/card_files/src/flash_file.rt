@@ -5,15 +5,15 @@ ghost use Rattle.card_files.specs.CommandLines.{pages_number};
 ghost use Rattle.card_files.specs.FlashFiles.{IsFlashFaultOf, IsFlashOf, IsFlashReadFault, IsFlashRefusedAs};
 ghost use Rattle.card_files.specs.FlashFiles.{flash_follower_file, flash_syncs};
 ghost use Rattle.card_files.specs.ImageParts.{AreWordsIn};
-ghost use Rattle.simulated_boards.specs.GarblingStates.{garbling_state, given_garbling_state};
-ghost use Rattle.simulated_boards.specs.KeptFlashes.{kept_flash_state};
+ghost use Rattle.simulated_flashes.specs.GarblingStates.{garbling_state, given_garbling_state};
+ghost use Rattle.simulated_flashes.specs.KeptFlashes.{kept_flash_state};
 
 use crate::image_words::{WORD_BYTES, WordsFault, words_in};
 use crate::kept_file::{CardFlash, KeptFile, Stamp};
 use crate::opening::{CardFault, lock, new_file, size_and_stamp};
 use crate::options::{Asked, CardOptions};
 use card_boards::{NoFlashCard, factory_flash, flash_of_words};
-use simulated_boards::{FLASH_WORDS, GarblingFlash, KeptFlash};
+use simulated_flashes::{FLASH_WORDS, GarblingFlash, KeptFlash};
 use std::alloc::Global;
 use std::fs::{self, File, OpenOptions};
 use std::io::{ErrorKind, Read};

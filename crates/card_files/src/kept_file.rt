@@ -7,7 +7,8 @@ ghost use Rattle.nvm_board.specs.declared.board.TheConstants.{MOST_PAGES, PAGE_W
 use crate::image_words::{PAGE_BYTES, WORD_BYTES};
 use arrayvec::ArrayVec;
 use nvm_board::PAGE_WORDS;
-use simulated_boards::{FlashFollower, Follower, KeptBoard, KeptFlash};
+use simulated_boards::{Follower, KeptBoard};
+use simulated_flashes::{FlashFollower, KeptFlash};
 use std::fs::File;
 use std::io;
 use std::os::unix::fs::{FileExt, MetadataExt};
@@ -26,7 +27,7 @@ pub struct Stamp {
 
 impl Stamp {
     /// Returns the stamp of an open file.
-    pub fn of(file: &File) -> io::Result<Stamp> {
+    pub(crate) fn of(file: &File) -> io::Result<Stamp> {
         let it = file.metadata()?;
         Ok(Stamp {
             size: it.len(),

@@ -108,7 +108,7 @@ fn read_card(alloc: Global, file: File, options: &CardOptions) -> Result<CardBoa
 }
 
 /// Returns the size of a regular file in bytes, and its stamp.
-pub fn size_and_stamp(file: &File) -> Result<(u64, Stamp), CardFault> {
+pub(crate) fn size_and_stamp(file: &File) -> Result<(u64, Stamp), CardFault> {
     let read = file.metadata().and_then(|it| Ok((it, Stamp::of(file)?)));
     match read {
         Ok((it, stamp)) if it.is_file() => Ok((it.len(), stamp)),
@@ -138,7 +138,11 @@ fn make_card(rt: &HostRuntime, options: &CardOptions) -> Result<CardBoard, CardF
 
 /// Returns the follower of a new file with a board's words. The file is locked, its owner alone may read and write it,
 /// and any other file stays as it was. If the path has a file already, the error says that it exists.
-pub fn new_file(rt: &HostRuntime, words: &[u32], options: &CardOptions) -> io::Result<KeptFile>
+pub(crate) fn new_file(
+    rt: &HostRuntime,
+    words: &[u32],
+    options: &CardOptions,
+) -> io::Result<KeptFile>
     ensures { IfOk result (λ file. (file.sync ≡ options.now.sync) × (file.behind ≡ false)) }
 {
     let new = other_name(rt, options.path.as_str())?;
@@ -214,7 +218,7 @@ fn folder_of(path: &str) -> &str {
 }
 
 /// Locks the file, so that no other bench uses it while it is open.
-pub fn lock(file: &File) -> Result<(), CardFault> {
+pub(crate) fn lock(file: &File) -> Result<(), CardFault> {
     match file.try_lock() {
         Ok(()) => Ok(()),
         Err(TryLockError::WouldBlock) => Err(CardFault::InUse),

@@ -1,15 +1,15 @@
 -- Runs of the card on a flash.
 use Rattle.std.specs.Prelude.{◌≡◌, ◌≤◌, ℕ, true, List}
-use Rattle.nvm_board.specs.Facts.{Facts}
 use Rattle.command_base.specs.Finding.{HasCard}
 use Rattle.bench_turns.specs.declared.turn.Turn.{Turn}
 use Rattle.bench_turns.specs.declared.turn.Item.{Item}
-use Rattle.bench_turns.specs.BenchStates.{BenchState, BenchHasCard, bench_facts, off}
+use Rattle.bench_turns.specs.BenchStates.{BenchState, bench_facts, off}
+use Rattle.bench_turns.specs.FaultTurns.{IsTraceWithFaults}
 use Rattle.bench_turns.specs.Guessing.{GuessesFew}
 use Rattle.bench_turns.specs.Turns.{CountsLosses, IsTrace, Runs, darks}
-use Rattle.flash_board.specs.FlashCalls.{FlashState}
+use Rattle.flash_device.specs.FlashCalls.{FlashState}
 use Rattle.flash_board.specs.FlashFacts.{made_of}
-use Rattle.flash_board.specs.Places.{state_of}
+use Rattle.flash_log.specs.Places.{state_of}
 
 -- The bench with the board of a flash, and power off. All counts are 0, and the due cuts are those of the flash.
 abbrev pub bench_on : ℕ → ℕ → FlashState → BenchState
@@ -38,6 +38,9 @@ pub record PlaysOnFlash (pages slots : ℕ) (old : FlashState) (turns : List Tur
   -- machine's, from that card state to the one after.
   pub runs : FlashHasCard pages slots old → (bench_facts last).faults ≡ 0
       → IsTrace (bench_on pages slots old) turns trace last
+  -- The same of a flash that fails: a command with a fault that the board reports is answered by 6581, and so is each
+  -- one after it until the next power-on. A power-on with such a fault is mute.
+  pub faulty : FlashHasCard pages slots old → IsTraceWithFaults (bench_on pages slots old) turns trace last
   -- Each turn of it also keeps to its counts, to the guess law and to the board's log.
   pub costs : FlashHasCard pages slots old → (bench_facts last).faults ≡ 0
       → Runs (bench_on pages slots old) turns trace last

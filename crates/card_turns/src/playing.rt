@@ -4,6 +4,7 @@ ghost use Rattle.nvm_board.specs.Aims.{due_of};
 ghost use Rattle.bench_turns.specs.BenchStates.{off, bench_facts, BenchHasCard, IsOn, IsWell, TellsFree, IsArmed};
 ghost use Rattle.bench_turns.specs.BenchStates.{with_facts};
 ghost use Rattle.card_turns.specs.BenchViews.{power_state, IsPowerKept};
+ghost use Rattle.bench_turns.specs.FaultTurns.{IsTraceWithFaults};
 ghost use Rattle.bench_turns.specs.Guessing.{GuessesFew};
 ghost use Rattle.bench_turns.specs.Plays.{Plays, PlaysBlock, BringsNoFault, TellsItem};
 ghost use Rattle.bench_turns.specs.Turns.{CountsLosses, IsTrace, Runs, darks};
@@ -81,6 +82,11 @@ impl<B: Socket> Bench<B> {
         // write of a turn on, after each of its writes, the memory pays for all that the turn compares.
         ensures costs { BenchHasCard self.old → BringsNoFault self.old self.new
             → Runs self.old turns.now trace.new self.new }
+
+        // The same of a device that fails. A command with a fault is answered by 6581, and so is each one after it,
+        // until the next power-on. After that command nothing of the card changes. A power-on with a fault is mute, and
+        // leaves the card.
+        ensures faulty { BenchHasCard self.old → IsTraceWithFaults self.old turns.now trace.new self.new }
     {
         for i in 0..turns.len() {
             trace[i] = self.item(turns[i]);

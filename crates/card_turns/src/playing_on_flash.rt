@@ -1,11 +1,13 @@
 //! Turns of the card on a flash.
 ghost use Rattle.std.specs.Prelude.{◌≡◌, false, length, IfOk, IfErr, OnErr};
-ghost use Rattle.flash_board.specs.Places.{OpenStopsBy};
+ghost use Rattle.flash_log.specs.Places.{OpenStopsBy};
 ghost use Rattle.card_turns.specs.FlashRuns.{PlaysOnFlash};
 
 use crate::playing::Bench;
 use bench_turns::{Item, Turn};
-use flash_board::{FlashBoard, FlashFault, FlashLog, FlashSocket};
+use flash_board::FlashBoard;
+use flash_device::FlashSocket;
+use flash_log::{FlashFault, FlashLog};
 
 /// Plays turns in order with the card on a flash, and returns the flash. Item i of the trace becomes the result of turn
 /// i.

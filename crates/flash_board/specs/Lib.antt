@@ -1,15 +1,3 @@
-pub mod CopyParts
-pub mod FlashBlocks
-pub mod FlashCalls
 pub mod FlashFacts
 pub mod FlashFollowers
-pub mod FlashLogs
-pub mod Paces
-pub mod PageTables
-pub mod Places
-pub mod ProgrammedRuns
-pub mod Renewals
-pub mod Rings
-pub mod SlotParts
-pub mod Spares
 pub mod laws

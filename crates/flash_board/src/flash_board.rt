@@ -1,13 +1,11 @@
 //! The board on a flash.
 ghost use Rattle.std.specs.Prelude.{◌≡◌, ◌+◌, ◌*◌, ◌<◌, ◌≤◌, ◌↔◌, ◌⊎◌, if◌then◌else◌, true, false, length, IsTrue};
-ghost use Rattle.std.specs.Prelude.{All, Contains, IfOk, OnOk, slice_index};
+ghost use Rattle.std.specs.Prelude.{All, Contains, IfOk, IsErr, OnErr, OnOk, slice_index};
 ghost use Rattle.nvm_board.specs.declared.board.TheConstants.{SECRETS, COUNT_END};
 ghost use Rattle.nvm_board.specs.Facts.{AreWords, IsMemory};
 
-use crate::cut_flash::CutFlash;
-use crate::flash::{Flash, FlashSocket};
-use crate::flash_log::FlashLog;
-use crate::followed_flash::FollowedFlash;
+use flash_device::{CutFlash, Flash, FlashSocket, FollowedFlash};
+use flash_log::FlashLog;
 use nvm_board::{Board, COUNT_END, DeviceErr, SECRETS, Socket, WornOut};
 
 /// A board on a flash.
@@ -38,17 +36,18 @@ pub struct FlashBoard<F: Flash> {
 impl<F: Flash> FlashBoard<F> {
     ghost use Rattle.nvm_board.specs.Facts.{IsWorn, IsWornOut, raised};
     ghost use Rattle.nvm_board.specs.Facts.{Answered, IsLostRightly};
-    ghost use Rattle.flash_board.specs.FlashCalls.{Costs};
+    ghost use Rattle.flash_device.specs.FlashCalls.{Costs};
     ghost use Rattle.flash_board.specs.FlashFacts.{flash_facts, log_state, made_of};
     ghost use Rattle.flash_board.specs.FlashFollowers.{board_is_kept};
-    ghost use Rattle.flash_board.specs.Paces.{IsRoomy, lead_of};
-    ghost use Rattle.flash_board.specs.Renewals.{HoldsOnlyPages};
+    ghost use Rattle.flash_log.specs.Paces.{IsRoomy, lead_of};
+    ghost use Rattle.flash_log.specs.Renewals.{HoldsOnlyPages};
 
     /// The board of a log that has power. Its counts are 0.
     pub fn new(log: FlashLog<F>) -> FlashBoard<F>
         requires { log.flash.dark ≡ false }
         ensures facts { flash_facts result ≡ made_of log.flash }
         ensures kept { board_is_kept result ≡ log.flash.kept }
+        ensures log { log_state result ≡ log }
     {
         log.words_fit();
         FlashBoard {
@@ -94,7 +93,12 @@ impl<F: Flash> FlashBoard<F> {
         ensures paced { OnOk result (IsRoomy F.PAGES F.SLOTS F.SECTORS
             → (log_state self.new).flash.faults ≤ (log_state self.old).flash.faults + lead_of F.PAGES F.SECTORS
             → (log_state self.new).paced ≡ true) }
+        // All slots but one for each page, and one for each Fault, are free.
+        ensures free { OnOk result (F.SLOTS + (log_state self.old).flash.faults
+            ≤ (log_state self.new).free + F.PAGES + (log_state self.new).flash.faults) }
         ensures work { Costs (2 * F.PAGES + 5 + 2 * F.SECTORS) 2 (log_state self.old).flash (log_state self.new).flash }
+        ensures erases { (log_state self.new).flash.erases
+            ≤ (log_state self.old).flash.erases + 2 * F.SECTORS + 1 }
     {
         if self.dark {
             return Err(DeviceErr::PowerLost);
@@ -173,7 +177,8 @@ impl<F: Flash> FlashBoard<F> {
 
 impl<F: Flash> Board for FlashBoard<F> {
     ghost use Rattle.flash_board.specs.FlashFacts.{flash_facts, log_state};
-    ghost use Rattle.flash_board.specs.Paces.{IsRoomy, Pauses};
+    ghost use Rattle.flash_log.specs.Paces.{IsRoomy, Pauses, RegainsSlots, TakesSlot, lead_of};
+    ghost use Rattle.flash_log.specs.Places.{FindsFree};
     ghost use Rattle.flash_board.specs.laws.Boards.{flash_is_board};
     ghost use Rattle.nvm_board.specs.BoardCalls.{Compares, FitsPage, TellsWord, Writes};
     ghost use Rattle.nvm_board.specs.Facts.{address};
@@ -189,6 +194,19 @@ impl<F: Flash> Board for FlashBoard<F> {
         requires { at < length (flash_facts self.old).words }
         ensures word { TellsWord at (flash_facts self.old) (flash_facts self.new) result }
         ensures paced { (log_state self.old).paced ≡ true → (log_state self.new).paced ≡ true }
+        ensures free { (log_state self.old).free ≤ (log_state self.new).free }
+        // After the first read behind a power-on, the log knows all free slots.
+        ensures found { OnOk result ((log_state self.old).fresh ≡ true
+            → FindsFree F.SLOTS (log_state self.old).raw (log_state self.new).free) }
+        // If it fails before it knows them, the next read looks for them.
+        ensures looks { (log_state self.old).fresh ≡ true → ((log_state self.new).fresh ≡ true)
+            ⊎ FindsFree F.SLOTS (log_state self.old).raw (log_state self.new).free }
+        // With more free slots than a move begins at, no move is under way.
+        ensures in_pace { OnOk result ((log_state self.old).fresh ≡ true
+            → lead_of F.PAGES F.SECTORS < (log_state self.new).free → (log_state self.new).paced ≡ true) }
+        // It programs and erases nothing.
+        ensures work { (log_state self.new).flash.operations ≡ (log_state self.old).flash.operations }
+        ensures erases { (log_state self.new).flash.erases ≡ (log_state self.old).flash.erases }
     {
         if self.dark {
             return Err(DeviceErr::PowerLost);
@@ -220,6 +238,17 @@ impl<F: Flash> Board for FlashBoard<F> {
         ensures pause { IsRoomy F.PAGES F.SLOTS F.SECTORS
             → Pauses 37 (log_state self.old).flash (log_state self.new).flash
             ((log_state self.old).paced ≡ true) ((log_state self.new).paced ≡ true) result }
+        // While more free slots are known than a move begins at, and the flash doesn't fail, it takes one of them, and
+        // erases nothing.
+        ensures calm { lead_of F.PAGES F.SECTORS < (log_state self.old).free
+            → (log_state self.new).flash.faults ≡ (log_state self.old).flash.faults
+            → TakesSlot (log_state self.old).flash (log_state self.new).flash ((log_state self.old).paced ≡ true)
+            (log_state self.old).free (log_state self.new).free result }
+        // A move in pace leaves all slots free but one for each page and each step.
+        ensures regains { OnOk result (IsRoomy F.PAGES F.SLOTS F.SECTORS
+            → (log_state self.new).flash.faults ≡ (log_state self.old).flash.faults
+            → (log_state self.old).paced ≡ true
+            → RegainsSlots F.PAGES F.SLOTS (log_state self.old).free (log_state self.new).free) }
     {
         if self.dark {
             return Err(DeviceErr::PowerLost);
@@ -276,7 +305,21 @@ impl<F: Flash> Board for FlashBoard<F> {
 }
 
 impl<F: FlashSocket> Socket for FlashBoard<F> {
-    fn light(&mut self) -> Result<(), WornOut> {
+    ghost use Rattle.nvm_board.specs.Facts.{IsWornOut};
+    ghost use Rattle.flash_board.specs.FlashFacts.{flash_facts, log_state};
+
+    fn light(&mut self) -> Result<(), WornOut>
+        ensures worn { IsErr result ↔ IsWornOut (flash_facts self.old) }
+        ensures lit { OnOk result (flash_facts self.new ≡ record (flash_facts self.old) { dark = false }) }
+        ensures same { OnErr result (flash_facts self.new ≡ flash_facts self.old) }
+        // The log has yet to look for the pages.
+        ensures log { OnOk result (log_state self.new ≡ record (log_state self.old) {
+          flash = record (log_state self.old).flash { dark = false };
+          paced = false;
+          fresh = true;
+          free = 0;
+        }) }
+    {
         if self.is_worn_out() {
             return Err(WornOut);
         }
@@ -285,7 +328,12 @@ impl<F: FlashSocket> Socket for FlashBoard<F> {
         Ok(())
     }
 
-    fn power_off(&mut self) {
+    fn power_off(&mut self)
+        ensures off { flash_facts self.new ≡ record (flash_facts self.old) { dark = true } }
+        // The flash is without power too.
+        ensures log { log_state self.new
+            ≡ record (log_state self.old) { flash = record (log_state self.old).flash { dark = true } } }
+    {
         self.log.power_off();
         self.dark = true;
     }

@@ -7,7 +7,7 @@ ghost use Rattle.std.specs.Prelude.{◌≡◌, MatchResult};
 ghost use Rattle.bench_lines.specs.Faults.{status_of};
 
 use bench_lines::RunFault;
-use card_bench::run_on;
+use card_bench::{ScriptBoard, run_on};
 use card_files::{Asked, FlashCardFault, NoFlash, open_flash, parse_bench_options};
 use card_turns::Bench;
 use simulated_boards::CutFlashBoard;
@@ -87,7 +87,8 @@ fn run_seeded(
     };
     match open_flash(rt, seed, asked) {
         Ok(flash) => {
-            let board = CutFlashBoard::on(flash);
+            // (no second board runs ahead of a flash, so this asks for no memory)
+            let board = ScriptBoard::new(CutFlashBoard::on(flash)).unwrap();
             Ok(run_on::<Bench<_>, _, _>(board, &mut reader, &mut io::writer(rt)))
         }
         Err(NoFlash::Memory) => Ok(Err(RunFault::Memory)),

@@ -3,8 +3,8 @@
 -- behind it.
 use Rattle.std.specs.Prelude.{◌<◌, ◌≤◌, ◌+◌, ◌-◌, ◌*◌, ◌/◌, ◌^◌, ℕ, List, slice_index}
 use Rattle.std.specs.Prelude.{nat_eq, nat_le, nat_lt, if◌then◌else◌}
-use Rattle.flash_board.specs.FlashBlocks.{area_size, flash_size, witness_start}
-use Rattle.flash_board.specs.FlashLogs.{find, image}
+use Rattle.flash_device.specs.FlashBlocks.{area_size, flash_size, witness_start}
+use Rattle.flash_device.specs.FlashLogs.{find, image}
 
 -- the sector of a word, by its address in its area
 abbrev pub part_in : ℕ → ℕ → ℕ → ℕ

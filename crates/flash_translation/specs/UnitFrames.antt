@@ -3,7 +3,7 @@
 -- record first, and from MARK_PLACE on a mark.
 use Rattle.std.specs.Prelude.{◌≡◌, ◌≢◌, ◌⊎◌, ◌<◌, ◌≤◌, ◌+◌, ◌-◌, ◌*◌, ◌/◌, ◌%◌, ℕ, max, nat_le}
 use Rattle.std.specs.Prelude.{if◌then◌else◌}
-use Rattle.flash_board.specs.FlashBlocks.{area_size, flash_size, witness_start}
+use Rattle.flash_device.specs.FlashBlocks.{area_size, flash_size, witness_start}
 use Rattle.flash_translation.specs.declared.unit_frames.TheConstants.{FRAME_WORDS, MARK_PLACE}
 
 -- the number of frames of a device

@@ -1,6 +1,6 @@
 -- What contracts know of a device with program units.
 use Rattle.std.specs.Prelude.{ℕ, List}
-use Rattle.flash_board.specs.FlashCalls.{FlashState}
+use Rattle.flash_device.specs.FlashCalls.{FlashState}
 
 -- The flash that the device is, and for each word how many programs of its unit returned Ok since an erase of its
 -- sector was begun.

@@ -1,10 +1,10 @@
 -- The words of a log on a device with program units.
 use Rattle.std.specs.Prelude.{◌≡◌, ◌<◌, ◌+◌, ◌-◌, ◌*◌, ℕ, zero, suc, Bool, true, List, slice_index}
 use Rattle.std.specs.Prelude.{◌&&◌, not, nat_eq, nat_le, if◌then◌else◌}
-use Rattle.flash_board.specs.declared.flash.TheConstants.{BLANK}
-use Rattle.flash_board.specs.FlashBlocks.{flash_size}
-use Rattle.flash_board.specs.FlashCalls.{AreFilled, FlashState}
-use Rattle.flash_board.specs.FlashLogs.{image}
+use Rattle.flash_device.specs.declared.flash.TheConstants.{BLANK}
+use Rattle.flash_device.specs.FlashBlocks.{flash_size}
+use Rattle.flash_device.specs.FlashCalls.{AreFilled, FlashState}
+use Rattle.flash_device.specs.FlashLogs.{image}
 use Rattle.flash_translation.specs.declared.unit_frames.TheConstants.{FRAME_WORDS, MARK_PLACE}
 use Rattle.flash_translation.specs.UnitFrames.{IsFramePart, frame_of, place_in, rank_of, span_of}
 use Rattle.flash_translation.specs.UnitStates.{UnitState}

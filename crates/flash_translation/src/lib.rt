@@ -1,4 +1,4 @@
-//! Layers between a chip and the log of `flash_board`: a chip that programs whole units takes the log too, and one
+//! Layers between a chip and the log of `flash_log`: a chip that programs whole units takes the log too, and one
 //! whose worn sectors are replaced by spare ones.
 #![tactic(auto)]
 
@@ -12,7 +12,7 @@ mod unit_device;
 mod unit_flash;
 mod unit_frames;
 
-pub use spare_device::{SpareDevice, SpareSocket};
+pub use spare_device::{SpareDevice, SparePart, SpareSocket};
 pub use spare_flash::SpareFlash;
 pub use unit_device::{UnitDevice, UnitSocket};
 pub use unit_flash::UnitFlash;

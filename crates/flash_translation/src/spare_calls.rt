@@ -1,19 +1,21 @@
 //! The calls of a log on a device with spare sectors.
-ghost use Rattle.std.specs.Prelude.{◌≡◌, ◌⊎◌, ◌<◌, ◌≤◌, ◌+◌, ◌-◌, ◌*◌, true, false, length, slice_index};
-ghost use Rattle.std.specs.Prelude.{IfOk, IsErrOf, OnOk};
+ghost use Rattle.std.specs.Prelude.{◌≡◌, ◌<◌, ◌≤◌, ◌+◌, ◌-◌, ◌*◌, true, false, length, slice_index};
+ghost use Rattle.std.specs.Prelude.{Some, IfOk, IsErrOf, OnOk};
 ghost use Rattle.nvm_board.specs.declared.board.DeviceErr.TheVariants.{Fault};
-ghost use Rattle.flash_board.specs.FlashBlocks.{flash_size};
-ghost use Rattle.flash_board.specs.FlashCalls.{AreFilled, IsThere, Lights, SameElsewhere};
-ghost use Rattle.flash_board.specs.PageTables.{AreFree, IsPageTable};
-ghost use Rattle.flash_board.specs.ProgrammedRuns.{IsProgramRun};
-ghost use Rattle.flash_board.specs.declared.flash.TheConstants.{BLANK};
-ghost use Rattle.flash_translation.specs.SpareMaps.{HasSpares, without_spares};
-ghost use Rattle.flash_translation.specs.SparePlaces.{all_sectors, cell_of, part_start, spare_words};
+ghost use Rattle.flash_device.specs.FlashBlocks.{flash_size};
+ghost use Rattle.flash_device.specs.FlashCalls.{AreFilled, IsThere, Lights, SameElsewhere};
+ghost use Rattle.flash_device.specs.PageTables.{AreFree, IsPageTable};
+ghost use Rattle.flash_device.specs.ProgrammedRuns.{IsProgramRun};
+ghost use Rattle.flash_device.specs.declared.flash.TheConstants.{BLANK};
+ghost use Rattle.flash_translation.specs.SpareMaps.{HasSpares, TakesSpare, TriesSpare, without_spares};
+ghost use Rattle.flash_translation.specs.SparePlaces.{all_sectors, cell_of, lies_in, part_start, spare_words};
+ghost use Rattle.flash_translation.specs.SpareStates.{Blames};
+ghost use Rattle.flash_translation.specs.declared.spare_device.SparePart.TheVariants.{Map, Sector};
 
 use crate::spare_device::SpareDevice;
 use crate::spare_map::{put_entry, scan_map};
 use crate::spare_places::{lies_at, spot_of};
-use flash_board::PageTable;
+use flash_device::PageTable;
 use nvm_board::DeviceErr;
 
 /// What a layer with spare sectors has in working memory.
@@ -54,6 +56,7 @@ fn read_cell<D: SpareDevice>(device: &mut D, table: &D::Map, at: u32) -> Result<
     ensures work { (D.state device.new).flash.operations ≡ (D.state device.old).flash.operations }
     ensures erases { (D.state device.new).flash.erases ≡ (D.state device.old).flash.erases }
     ensures kept { (D.state device.new).flash.kept ≡ (D.state device.old).flash.kept }
+    ensures begun { (D.state device.new).begun ≡ (D.state device.old).begun }
     ensures light { Lights (D.state device.old).flash (D.state device.new).flash result }
 {
     let place = place_of(device, table, at);
@@ -83,6 +86,7 @@ fn program_cells<D: SpareDevice>(
     ensures map { (D.state device.new).map ≡ (D.state device.old).map }
     ensures work { (D.state device.new).flash.operations ≤ (D.state device.old).flash.operations + 1 }
     ensures erases { (D.state device.new).flash.erases ≡ (D.state device.old).flash.erases }
+    ensures begun { (D.state device.new).begun ≡ (D.state device.old).begun }
     ensures light { Lights (D.state device.old).flash (D.state device.new).flash result }
 {
     let place = place_of(device, table, at);
@@ -107,6 +111,9 @@ fn erase_cells<D: SpareDevice>(device: &mut D, table: &D::Map, sector: u16) -> R
     ensures map { (D.state device.new).map ≡ (D.state device.old).map }
     ensures work { (D.state device.new).flash.operations ≤ (D.state device.old).flash.operations + 1 }
     ensures erases { (D.state device.new).flash.erases ≤ (D.state device.old).flash.erases + 1 }
+    ensures begun { (D.state device.new).begun ≡ (D.state device.old).begun }
+    ensures blames { Blames (Sector (lies_in D.SECTORS D.SPARES (D.state device.old).map sector)) (D.state device.old)
+        (D.state device.new) result }
     ensures light { Lights (D.state device.old).flash (D.state device.new).flash result }
 {
     device.erase(lies_at::<D>(table, sector))?;
@@ -139,6 +146,7 @@ fn take_spare<D: SpareDevice>(
         (D.state device.new).map) }
     ensures work { (D.state device.new).flash.operations ≤ (D.state device.old).flash.operations + 3 }
     ensures erases { (D.state device.new).flash.erases ≤ (D.state device.old).flash.erases + 1 }
+    ensures tries { TriesSpare D.SECTORS D.SPARES sector entry (D.state device.old) (D.state device.new) result }
     ensures light { Lights (D.state device.old).flash (D.state device.new).flash result }
 {
     put_entry(device, entry, sector)?;
@@ -159,6 +167,8 @@ fn learn<D: SpareDevice>(device: &mut D, known: &mut SectorMap<D::Map>) -> Resul
     ensures work { (D.state device.new).flash.operations ≡ (D.state device.old).flash.operations }
     ensures erases { (D.state device.new).flash.erases ≡ (D.state device.old).flash.erases }
     ensures kept { (D.state device.new).flash.kept ≡ (D.state device.old).flash.kept }
+    ensures begun { (D.state device.new).begun ≡ (D.state device.old).begun }
+    ensures blames { IsErrOf result Fault → (D.state device.new).failed ≡ Some Map }
     ensures light { Lights (D.state device.old).flash (D.state device.new).flash result }
 {
     if known.ready {
@@ -190,6 +200,7 @@ pub fn read_at<D: SpareDevice>(
     ensures work { (D.state device.new).flash.operations ≡ (D.state device.old).flash.operations }
     ensures erases { (D.state device.new).flash.erases ≡ (D.state device.old).flash.erases }
     ensures kept { (D.state device.new).flash.kept ≡ (D.state device.old).flash.kept }
+    ensures begun { (D.state device.new).begun ≡ (D.state device.old).begun }
     ensures light { Lights (D.state device.old).flash (D.state device.new).flash result }
 {
     learn(device, known)?;
@@ -220,6 +231,7 @@ pub fn program_at<D: SpareDevice>(
     ensures map { (D.state device.new).map ≡ (D.state device.old).map }
     ensures work { (D.state device.new).flash.operations ≤ (D.state device.old).flash.operations + 1 }
     ensures erases { (D.state device.new).flash.erases ≡ (D.state device.old).flash.erases }
+    ensures begun { (D.state device.new).begun ≡ (D.state device.old).begun }
     ensures light { Lights (D.state device.old).flash (D.state device.new).flash result }
 {
     learn(device, known)?;
@@ -251,6 +263,8 @@ fn move_sector<D: SpareDevice>(
         (D.state device.new).map) }
     ensures work { (D.state device.new).flash.operations ≤ (D.state device.old).flash.operations + 3 }
     ensures erases { (D.state device.new).flash.erases ≤ (D.state device.old).flash.erases + 1 }
+    ensures tries { TriesSpare D.SECTORS D.SPARES sector known.old.next (D.state device.old) (D.state device.new)
+        result }
     ensures light { Lights (D.state device.old).flash (D.state device.new).flash result }
 {
     let entry = known.next;
@@ -290,10 +304,7 @@ pub fn erase_at<D: SpareDevice>(
         (D.state device.old))
         (without_spares D.SLOTS D.SECTORS D.SECTOR_SLOTS D.SECTOR_WORDS D.SPARES known.new.absorbed
         (D.state device.new)) result }
-    // A Fault means that a spare was tried, or that none is left, or that the map can't be read.
-    ensures tried { IsErrOf result Fault → (known.new.absorbed ≡ known.old.absorbed + 1)
-        ⊎ ((D.SPARES ≤ known.new.next)
-        ⊎ ((D.state device.new).flash.operations ≡ (D.state device.old).flash.operations)) }
+    ensures takes { TakesSpare D.SECTORS D.SPARES sector (D.state device.old) (D.state device.new) result }
 {
     learn(device, known)?;
     match erase_cells(device, &known.table, sector) {

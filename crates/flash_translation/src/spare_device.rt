@@ -1,16 +1,31 @@
 //! Flash devices with spare sectors.
-ghost use Rattle.std.specs.Prelude.{◌≡◌, ◌<◌, ◌≤◌, ◌+◌, ◌*◌, ℕ, true, false, length, slice_index, IfOk, OnOk};
+ghost use Rattle.std.specs.Prelude.{◌≡◌, ◌<◌, ◌≤◌, ◌+◌, ◌*◌, ◌/◌, ℕ, true, false, length, max, slice_index, IfOk, OnOk};
 ghost use Rattle.nvm_board.specs.Facts.{AreWords};
 ghost use Rattle.nvm_board.specs.declared.board.TheConstants.{LEAST_PAGES, MOST_PAGES};
-ghost use Rattle.flash_board.specs.FlashCalls.{AreFilled, IsThere, Lights, SameElsewhere};
-ghost use Rattle.flash_board.specs.FlashBlocks.{steps_of};
-ghost use Rattle.flash_board.specs.declared.flash.TheConstants.{BLANK};
-ghost use Rattle.flash_board.specs.declared.layout.TheConstants.{SPARES as PASSED_SLOTS, STEP_PAGES};
+ghost use Rattle.flash_device.specs.FlashCalls.{AreFilled, IsThere, Lights, SameElsewhere};
+ghost use Rattle.flash_device.specs.FlashBlocks.{steps_of};
+ghost use Rattle.flash_device.specs.PageTables.{AreFree};
+ghost use Rattle.flash_device.specs.declared.flash.TheConstants.{BLANK};
+ghost use Rattle.flash_device.specs.declared.layout.TheConstants.{SPARES as PASSED_SLOTS, STEP_PAGES};
 ghost use Rattle.flash_translation.specs.SparePlaces.{TakesLog, all_sectors};
-ghost use Rattle.flash_translation.specs.SpareStates.{SpareState};
+ghost use Rattle.flash_translation.specs.SpareStates.{Blames, SpareState};
+ghost use Rattle.flash_translation.specs.declared.spare_device.SparePart.TheVariants.{Entry, Map, Sector, Words};
 
-use flash_board::PageTable;
+use flash_device::PageTable;
 use nvm_board::DeviceErr;
+
+/// The part of a device that a call reads, programs or erases.
+#[derive(Clone, Copy, Debug, PartialEq, Eq)]
+pub enum SparePart {
+    /// A read or a program of words.
+    Words,
+    /// The erase of a sector.
+    Sector(u16),
+    /// A read of the map.
+    Map,
+    /// A program of an entry of the map.
+    Entry(u16),
+}
 
 /// A flash device with sectors of one size: those of area A, those of area B, the witness, and spare ones. One block
 /// more has the map: 20 words for each spare. The map is never erased in use.
@@ -64,6 +79,8 @@ pub trait SpareDevice {
         ensures work { (state self.new).flash.operations ≡ (state self.old).flash.operations }
         ensures erases { (state self.new).flash.erases ≡ (state self.old).flash.erases }
         ensures kept { (state self.new).flash.kept ≡ (state self.old).flash.kept }
+        ensures begun { (state self.new).begun ≡ (state self.old).begun }
+        ensures blames { Blames Words (state self.old) (state self.new) result }
         ensures light { Lights (state self.old).flash (state self.new).flash result };
 
     /// Programs blank words. After an error each word of the run holds anything. No other word changes.
@@ -77,6 +94,8 @@ pub trait SpareDevice {
         ensures map { (state self.new).map ≡ (state self.old).map }
         ensures work { (state self.new).flash.operations ≤ (state self.old).flash.operations + 1 }
         ensures erases { (state self.new).flash.erases ≡ (state self.old).flash.erases }
+        ensures begun { (state self.new).begun ≡ (state self.old).begun }
+        ensures blames { Blames Words (state self.old) (state self.new) result }
         ensures light { Lights (state self.old).flash (state self.new).flash result };
 
     /// Erases a sector. After an error each of its words holds anything. No other word changes.
@@ -90,6 +109,8 @@ pub trait SpareDevice {
         ensures map { (state self.new).map ≡ (state self.old).map }
         ensures work { (state self.new).flash.operations ≤ (state self.old).flash.operations + 1 }
         ensures erases { (state self.new).flash.erases ≤ (state self.old).flash.erases + 1 }
+        ensures begun { (state self.new).begun ≡ (state self.old).begun }
+        ensures blames { Blames (Sector sector) (state self.old) (state self.new) result }
         ensures light { Lights (state self.old).flash (state self.new).flash result };
 
     /// Returns the word of the map at an address.
@@ -102,6 +123,8 @@ pub trait SpareDevice {
         ensures work { (state self.new).flash.operations ≡ (state self.old).flash.operations }
         ensures erases { (state self.new).flash.erases ≡ (state self.old).flash.erases }
         ensures kept { (state self.new).flash.kept ≡ (state self.old).flash.kept }
+        ensures begun { (state self.new).begun ≡ (state self.old).begun }
+        ensures blames { Blames Map (state self.old) (state self.new) result }
         ensures light { Lights (state self.old).flash (state self.new).flash result };
 
     /// Programs blank words of the map. After an error each word of the run holds anything. No other word changes.
@@ -114,10 +137,15 @@ pub trait SpareDevice {
         ensures words { (state self.new).flash.words ≡ (state self.old).flash.words }
         ensures work { (state self.new).flash.operations ≤ (state self.old).flash.operations + 1 }
         ensures erases { (state self.new).flash.erases ≡ (state self.old).flash.erases }
+        ensures begun { (state self.new).begun ≡ max (state self.old).begun ((at + length words.now + 19) / 20) }
+        ensures blames { Blames (Entry (at / 20)) (state self.old) (state self.new) result }
         ensures light { Lights (state self.old).flash (state self.new).flash result };
 
     /// The words of each device have 32 bits.
     ghost words_fit: { (device : Self) → AreWords (state device).flash.words };
+
+    /// Entries of the map in which, or behind which, no program was begun are blank.
+    ghost unbegun: { (device : Self) → AreFree (state device).map 0 (state device).begun SPARES };
 
     /// A board has 1,024 to 4,096 pages, and steps of a move copy them all.
     ghost pages_fit: { (LEAST_PAGES ≤ PAGES) × (PAGES ≤ MOST_PAGES) × (PAGES ≡ STEP_PAGES * steps_of PAGES) };
@@ -138,10 +166,12 @@ pub trait SpareSocket: SpareDevice {
     /// Switches power on.
     fn light(&mut self)
         ensures flash { (Self.state self.new).flash ≡ record (Self.state self.old).flash { dark = false } }
-        ensures map { (Self.state self.new).map ≡ (Self.state self.old).map };
+        ensures map { (Self.state self.new).map ≡ (Self.state self.old).map }
+        ensures begun { (Self.state self.new).begun ≡ (Self.state self.old).begun };
 
     /// Switches power off.
     fn power_off(&mut self)
         ensures flash { (Self.state self.new).flash ≡ record (Self.state self.old).flash { dark = true } }
-        ensures map { (Self.state self.new).map ≡ (Self.state self.old).map };
+        ensures map { (Self.state self.new).map ≡ (Self.state self.old).map }
+        ensures begun { (Self.state self.new).begun ≡ (Self.state self.old).begun };
 }

@@ -1,13 +1,17 @@
 //! The map of the sectors that are worn.
-ghost use Rattle.std.specs.Prelude.{◌≡◌, ◌≤◌, ◌<◌, ◌+◌, ◌*◌, true, false, IfOk, OnOk};
-ghost use Rattle.flash_board.specs.FlashCalls.{AreFilled, Lights, SameElsewhere};
-ghost use Rattle.flash_board.specs.FlashLogs.{find, is_marked as has_mark, slot_of};
-ghost use Rattle.flash_board.specs.PageTables.{AreFree, IsPageTable};
-ghost use Rattle.flash_board.specs.declared.flash.TheConstants.{BLANK};
+ghost use Rattle.std.specs.Prelude.{◌≡◌, ◌≢◌, ◌≤◌, ◌<◌, ◌+◌, ◌*◌, ℕ, true, false, slice_index};
+ghost use Rattle.std.specs.Prelude.{max, Some, IfOk, IsErrOf, OnOk};
+ghost use Rattle.nvm_board.specs.declared.board.DeviceErr.TheVariants.{Fault};
+ghost use Rattle.flash_device.specs.FlashCalls.{AreFilled, Lights, SameElsewhere};
+ghost use Rattle.flash_device.specs.FlashLogs.{find, is_marked as has_mark, slot_of};
+ghost use Rattle.flash_device.specs.PageTables.{AreFree, IsPageTable};
+ghost use Rattle.flash_device.specs.declared.flash.TheConstants.{BLANK};
 ghost use Rattle.flash_translation.specs.SpareMaps.{KnowsMap, MovesOnly};
+ghost use Rattle.flash_translation.specs.SpareStates.{Blames};
+ghost use Rattle.flash_translation.specs.declared.spare_device.SparePart.TheVariants.{Entry, Map};
 
 use crate::spare_device::SpareDevice;
-use flash_board::{BLANK, PageTable, RECORD_WORDS, SLOT_WORDS};
+use flash_device::{BLANK, PageTable, RECORD_WORDS, SLOT_WORDS};
 use nvm_board::DeviceErr;
 
 /// The first word of the mark of an entry, that of a commit mark.
@@ -38,6 +42,8 @@ fn is_marked<D: SpareDevice>(device: &mut D, at: u32) -> Result<bool, DeviceErr>
     ensures work { (D.state device.new).flash.operations ≡ (D.state device.old).flash.operations }
     ensures erases { (D.state device.new).flash.erases ≡ (D.state device.old).flash.erases }
     ensures kept { (D.state device.new).flash.kept ≡ (D.state device.old).flash.kept }
+    ensures begun { (D.state device.new).begun ≡ (D.state device.old).begun }
+    ensures blames { IsErrOf result Fault → (D.state device.new).failed ≡ Some Map }
     ensures light { Lights (D.state device.old).flash (D.state device.new).flash result }
 {
     let first = device.read_map(at)?;
@@ -50,11 +56,15 @@ fn is_blank<D: SpareDevice>(device: &mut D, at: u32) -> Result<bool, DeviceErr>
     requires lit { (D.state device.old).flash.dark ≡ false }
     requires within { at + 20 ≤ 20 * D.SPARES }
     ensures blank { IfOk result (λ b. b ≡ true → AreFilled (D.state device.old).map at 20 BLANK) }
+    ensures used { IfOk result (λ b. b ≡ false
+        → (k : ℕ) × ((k < 20) × (slice_index (D.state device.old).map (at + k) ≢ BLANK))) }
     ensures words { (D.state device.new).flash.words ≡ (D.state device.old).flash.words }
     ensures map { (D.state device.new).map ≡ (D.state device.old).map }
     ensures work { (D.state device.new).flash.operations ≡ (D.state device.old).flash.operations }
     ensures erases { (D.state device.new).flash.erases ≡ (D.state device.old).flash.erases }
     ensures kept { (D.state device.new).flash.kept ≡ (D.state device.old).flash.kept }
+    ensures begun { (D.state device.new).begun ≡ (D.state device.old).begun }
+    ensures blames { IsErrOf result Fault → (D.state device.new).failed ≡ Some Map }
     ensures light { Lights (D.state device.old).flash (D.state device.new).flash result }
 {
     for k in 0..SLOT_WORDS {
@@ -76,14 +86,18 @@ fn scan_entry<D: SpareDevice>(
     requires below { entry < D.SPARES }
     requires index { IsPageTable (2 * D.SECTORS + 1) (D.state device.old).map 0 entry (D.Map.entries table.old) }
     requires free { AreFree (D.state device.old).map 0 next entry }
+    requires most { next ≤ (D.state device.old).begun }
     ensures index { IfOk result (λ _. IsPageTable (2 * D.SECTORS + 1) (D.state device.old).map 0 (entry + 1)
         (D.Map.entries table.new)) }
     ensures free { IfOk result (λ n. AreFree (D.state device.old).map 0 n (entry + 1)) }
+    ensures most { IfOk result (λ n. n ≤ (D.state device.old).begun) }
     ensures words { (D.state device.new).flash.words ≡ (D.state device.old).flash.words }
     ensures map { (D.state device.new).map ≡ (D.state device.old).map }
     ensures work { (D.state device.new).flash.operations ≡ (D.state device.old).flash.operations }
     ensures erases { (D.state device.new).flash.erases ≡ (D.state device.old).flash.erases }
     ensures kept { (D.state device.new).flash.kept ≡ (D.state device.old).flash.kept }
+    ensures begun { (D.state device.new).begun ≡ (D.state device.old).begun }
+    ensures blames { IsErrOf result Fault → (D.state device.new).failed ≡ Some Map }
     ensures light { Lights (D.state device.old).flash (D.state device.new).flash result }
 {
     let at = entry_at::<D>(entry);
@@ -105,11 +119,14 @@ pub fn scan_map<D: SpareDevice>(device: &mut D, table: &mut D::Map) -> Result<u1
     requires lit { (D.state device.old).flash.dark ≡ false }
     ensures known { IfOk result (λ n. KnowsMap D.SECTORS D.SPARES (D.state device.old).map (D.Map.entries table.new)
         n) }
+    ensures most { IfOk result (λ n. n ≤ (D.state device.old).begun) }
     ensures words { (D.state device.new).flash.words ≡ (D.state device.old).flash.words }
     ensures map { (D.state device.new).map ≡ (D.state device.old).map }
     ensures work { (D.state device.new).flash.operations ≡ (D.state device.old).flash.operations }
     ensures erases { (D.state device.new).flash.erases ≡ (D.state device.old).flash.erases }
     ensures kept { (D.state device.new).flash.kept ≡ (D.state device.old).flash.kept }
+    ensures begun { (D.state device.new).begun ≡ (D.state device.old).begun }
+    ensures blames { IsErrOf result Fault → (D.state device.new).failed ≡ Some Map }
     ensures light { Lights (D.state device.old).flash (D.state device.new).flash result }
 {
     *table = D::Map::blank();
@@ -131,6 +148,8 @@ pub fn put_entry<D: SpareDevice>(device: &mut D, entry: u16, sector: u16) -> Res
     ensures words { (D.state device.new).flash.words ≡ (D.state device.old).flash.words }
     ensures work { (D.state device.new).flash.operations ≤ (D.state device.old).flash.operations + 2 }
     ensures erases { (D.state device.new).flash.erases ≡ (D.state device.old).flash.erases }
+    ensures begun { (D.state device.new).begun ≡ max (D.state device.old).begun (entry + 1) }
+    ensures blames { Blames (Entry entry) (D.state device.old) (D.state device.new) result }
     ensures light { Lights (D.state device.old).flash (D.state device.new).flash result }
 {
     let at = entry_at::<D>(entry);

@@ -1,10 +1,10 @@
 //! Where the words of a log lie on a device with spare sectors.
 ghost use Rattle.std.specs.Prelude.{◌≡◌, ◌<◌, ◌≤◌, ◌+◌, ◌-◌, ◌*◌, length, slice_index};
-ghost use Rattle.flash_board.specs.FlashBlocks.{area_size, flash_size};
+ghost use Rattle.flash_device.specs.FlashBlocks.{area_size, flash_size};
 ghost use Rattle.flash_translation.specs.SparePlaces.{all_sectors, lies_by, part_in, part_start, sector_of};
 
 use crate::spare_device::SpareDevice;
-use flash_board::{PageTable, SLOT_WORDS};
+use flash_device::{PageTable, SLOT_WORDS};
 
 /// A word of the log: its sector, and the number of words before it there.
 #[derive(Clone, Copy)]

@@ -1,15 +1,15 @@
 //! The calls of a log on a device with program units.
 ghost use Rattle.std.specs.Prelude.{◌≡◌, ◌<◌, ◌≤◌, ◌+◌, ◌-◌, ◌*◌, ℕ, true, false, length, slice_index, IfOk, OnOk};
-ghost use Rattle.flash_board.specs.FlashBlocks.{flash_size};
-ghost use Rattle.flash_board.specs.FlashCalls.{AreFilled, IsThere, Lights, SameElsewhere};
-ghost use Rattle.flash_board.specs.ProgrammedRuns.{IsProgramRun};
-ghost use Rattle.flash_board.specs.declared.flash.TheConstants.{BLANK};
+ghost use Rattle.flash_device.specs.FlashBlocks.{flash_size};
+ghost use Rattle.flash_device.specs.FlashCalls.{AreFilled, IsThere, Lights, SameElsewhere};
+ghost use Rattle.flash_device.specs.ProgrammedRuns.{IsProgramRun};
+ghost use Rattle.flash_device.specs.declared.flash.TheConstants.{BLANK};
 ghost use Rattle.flash_translation.specs.UnitFrames.{device_size, frame_count, frame_start};
 ghost use Rattle.flash_translation.specs.UnitWords.{HasFreshUnits, frame_word, is_blank_run, unit_words};
 
 use crate::unit_device::UnitDevice;
 use crate::unit_frames::{Spot, pair_words, place_at, rest_of, spot_of};
-use flash_board::BLANK;
+use flash_device::BLANK;
 use nvm_board::DeviceErr;
 
 /// The number of words of a record on a device with the largest units.

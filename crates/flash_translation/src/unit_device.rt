@@ -3,15 +3,15 @@ ghost use Rattle.std.specs.Prelude.{◌≡◌, ◌<◌, ◌≤◌, ◌+◌, ◌-
 ghost use Rattle.std.specs.Prelude.{IfOk, OnErr, OnOk};
 ghost use Rattle.nvm_board.specs.Facts.{AreWords};
 ghost use Rattle.nvm_board.specs.declared.board.TheConstants.{LEAST_PAGES, MOST_PAGES};
-ghost use Rattle.flash_board.specs.FlashBlocks.{steps_of};
-ghost use Rattle.flash_board.specs.FlashCalls.{AreFilled, IsThere, Lights, SameElsewhere};
-ghost use Rattle.flash_board.specs.declared.flash.TheConstants.{BLANK};
-ghost use Rattle.flash_board.specs.declared.layout.TheConstants.{SPARES, STEP_PAGES};
+ghost use Rattle.flash_device.specs.FlashBlocks.{steps_of};
+ghost use Rattle.flash_device.specs.FlashCalls.{AreFilled, IsThere, Lights, SameElsewhere};
+ghost use Rattle.flash_device.specs.declared.flash.TheConstants.{BLANK};
+ghost use Rattle.flash_device.specs.declared.layout.TheConstants.{SPARES, STEP_PAGES};
 ghost use Rattle.flash_translation.specs.UnitFrames.{AreUnits, IsUnit, device_size, frame_count};
 ghost use Rattle.flash_translation.specs.UnitStates.{UnitState};
 ghost use Rattle.flash_translation.specs.declared.unit_frames.TheConstants.{FRAME_WORDS};
 
-use flash_board::PageTable;
+use flash_device::PageTable;
 use nvm_board::DeviceErr;
 
 /// A flash device that programs whole units, each at most once between two erases. Its words lie in frames of 32: one

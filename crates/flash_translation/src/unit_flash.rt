@@ -4,7 +4,7 @@ ghost use Rattle.flash_translation.specs.UnitWords.{HasFreshUnits};
 
 use crate::unit_calls::{are_blank, erase_sector, program_run, read_word};
 use crate::unit_device::{UnitDevice, UnitSocket};
-use flash_board::{Flash, FlashSocket};
+use flash_device::{Flash, FlashSocket};
 use nvm_board::DeviceErr;
 
 /// A flash over a device with program units. A record has units of its own, and so has each mark.

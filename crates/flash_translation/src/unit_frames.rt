@@ -1,12 +1,12 @@
 //! Where the words of a log lie on a device with program units.
 ghost use Rattle.std.specs.Prelude.{◌≡◌, ◌<◌, ◌≤◌, ◌+◌, ◌*◌, max};
-ghost use Rattle.flash_board.specs.FlashBlocks.{flash_size};
+ghost use Rattle.flash_device.specs.FlashBlocks.{flash_size};
 ghost use Rattle.flash_translation.specs.UnitFrames.{KeepsMarksApart, KeepsWordsApart, device_size, frame_count};
 ghost use Rattle.flash_translation.specs.UnitFrames.{frame_in, frame_of, place_in, rank_in, rank_of};
 ghost use Rattle.flash_translation.specs.UnitWords.{rest_at};
 
 use crate::unit_device::UnitDevice;
-use flash_board::{RECORD_WORDS, SLOT_WORDS};
+use flash_device::{RECORD_WORDS, SLOT_WORDS};
 
 /// The number of words of a frame.
 pub const FRAME_WORDS: u32 = 32;

@@ -9,7 +9,9 @@ ghost use Rattle.flash_board.specs.FlashFollowers.{board_is_kept};
 
 use crate::arming::{arm_at, nearer};
 use crate::followed::Followed;
-use flash_board::{CutFlash, FlashBoard, FlashLog, FollowedFlash};
+use flash_board::FlashBoard;
+use flash_device::{CutFlash, FollowedFlash};
+use flash_log::FlashLog;
 use nvm_board::{Arm, Armed, Board, DeviceErr, Faultless, Socket, WornOut};
 use std::alloc::AllocError;
 
@@ -36,8 +38,8 @@ fn set_operation<F: CutFlash>(board: &mut FlashBoard<F>, mask: u16)
 
 impl<F: CutFlash> CutFlashBoard<F> {
     ghost use Rattle.flash_board.specs.FlashFacts.{made_of};
-    ghost use Rattle.flash_board.specs.Places.{state_of};
-    ghost use Rattle.flash_board.specs.Rings.{IsRing};
+    ghost use Rattle.flash_log.specs.Places.{state_of};
+    ghost use Rattle.flash_log.specs.Rings.{IsRing};
     ghost use Rattle.simulated_boards.specs.CutFlashFacts.{cut_flash_facts};
 
     /// Returns the board on a powered flash that has a log and no cut set. It is the board of this flash, since code

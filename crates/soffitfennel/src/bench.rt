@@ -2,7 +2,7 @@
 ghost use Rattle.card_calls.specs.ScriptCalls.{EndsScript};
 
 use bench_lines::RunFault;
-use card_bench::{factory_board, run_on};
+use card_bench::{ScriptBoard, factory_board, run_on};
 use card_calls::{DeviceBoard, unfollowed};
 use card_turns::Bench;
 use std::alloc::Global;
@@ -19,9 +19,12 @@ pub fn printed(alloc: Global, script: &[u8]) -> (Vec<u8>, Option<RunFault>)
         return (text, Some(RunFault::Memory));
     };
     // (a board that other calls use too, so that its code stands once in the library)
-    match run_on::<Bench<DeviceBoard>, _, _>(unfollowed(board), &mut reader, &mut text) {
+    // Nothing follows this board. Its facts don't tell that, so a want of memory stands for what then can't happen.
+    let Ok(board) = ScriptBoard::new(unfollowed(board)) else {
+        return (text, Some(RunFault::Memory));
+    };
+    match run_on::<Bench<DeviceBoard>, _, _>(board, &mut reader, &mut text) {
         Ok(()) => (text, None),
-        // Nothing follows this board. The facts of a board don't tell that, so a want of memory stands for the rest.
         Err(RunFault::Unkept) => (Vec::new(alloc), Some(RunFault::Memory)),
         Err(fault) => (text, Some(fault)),
     }

@@ -1,5 +1,5 @@
 //! A card at its desk.
-ghost use Rattle.std.specs.Prelude.{◌≡◌, ◌↔◌, None, IfOk, IfSome, IsTrue, is_some, true};
+ghost use Rattle.std.specs.Prelude.{◌≡◌, ◌↔◌, None, IfOk, IsTrue, is_some, true};
 ghost use Rattle.bench_lines.specs.Orders.{IsOrderSized};
 ghost use Rattle.bench_lines.specs.OrderViews.{order_with};
 ghost use Rattle.bench_turns.specs.BenchStates.{bench_facts};
@@ -11,7 +11,7 @@ ghost use Rattle.card_calls.specs.FirstWrites.{HasNoCharge, RunsAhead, TellsFirs
 ghost use Rattle.card_calls.specs.SessionStates.{begun_at, session_facts};
 ghost use Rattle.card_calls.specs.Telling.{BeginsOrder, CopiesWords, IsAnnounced, TellsResult, cleared};
 ghost use Rattle.card_calls.specs.Telling.{outcome_number, state_bits};
-ghost use Rattle.card_calls.specs.WriteCalls.{TakesNext};
+ghost use Rattle.card_calls.specs.WriteCalls.{TakesNext, device_number};
 
 use card_bench::{ALL_WORDS, Desk, Order, cuts_next, may_compare};
 use card_calls::{
@@ -259,7 +259,7 @@ impl Session {
 
     /// Returns the number of the device, or 0.
     pub fn device(&self) -> i32
-        ensures { IfSome self.now.device (λ of. result ≡ of) }
+        ensures { result ≡ device_number self.now.device }
     {
         match self.device {
             Some(device) => device,

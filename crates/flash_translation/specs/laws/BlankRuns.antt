@@ -3,8 +3,8 @@ use Rattle.std.specs.Prelude.{◌≡◌, ◌≢◌, ◌<◌, ◌≤◌, ◌+◌,
 use Rattle.std.specs.Prelude.{◌&&◌, not, nat_eq, nat_le, slice_index, if◌then◌else◌}
 use Rattle.std.proofs.Common.{refl, sym, ◌∙◌, ap, ap₂, ⊎_elim, arith, true≢false}
 use Rattle.std.proofs.lemmas.Bool.{cases_lt, eq-eqb, eqb-true, le-leb, lt-leb}
-use Rattle.flash_board.specs.declared.flash.TheConstants.{BLANK}
-use Rattle.flash_board.specs.FlashCalls.{AreFilled}
+use Rattle.flash_device.specs.declared.flash.TheConstants.{BLANK}
+use Rattle.flash_device.specs.FlashCalls.{AreFilled}
 use Rattle.flash_translation.specs.UnitFrames.{place_in}
 use Rattle.flash_translation.specs.UnitWords.{frame_word, is_blank_run, rest_at}
 

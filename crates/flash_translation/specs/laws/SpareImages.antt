@@ -7,12 +7,12 @@ use Rattle.std.proofs.lemmas.Bool.{cases_eq, cases_lt, cases_order, eqb-true, ne
 use Rattle.std.proofs.lemmas.List.{get_or_past}
 use Rattle.std.proofs.lemmas.List.Elements.{All-get_or, All-from_get_or}
 use Rattle.nvm_board.specs.Facts.{AreWords}
-use Rattle.flash_board.specs.FlashBlocks.{flash_size}
-use Rattle.flash_board.specs.FlashCalls.{AreFilled, IsThere, SameElsewhere}
-use Rattle.flash_board.specs.FlashLogs.{find, holds, is_marked, slot_of}
-use Rattle.flash_board.specs.laws.Finding.{find-tells, index-image, length-image}
-use Rattle.flash_board.specs.laws.Indexing.{find_most}
-use Rattle.flash_board.specs.laws.Sectors.{rises_to}
+use Rattle.flash_device.specs.FlashBlocks.{flash_size}
+use Rattle.flash_device.specs.FlashCalls.{AreFilled, IsThere, SameElsewhere}
+use Rattle.flash_device.specs.FlashLogs.{find, holds, is_marked, slot_of}
+use Rattle.flash_device.specs.laws.Finding.{find-tells, index-image, length-image}
+use Rattle.flash_device.specs.laws.Indexing.{find_most}
+use Rattle.flash_device.specs.laws.Rising.{rises_to}
 use Rattle.flash_translation.specs.SparePlaces.{TakesLog, all_sectors, cell_of, lies_in, part_start, sector_of}
 use Rattle.flash_translation.specs.SparePlaces.{spare_words}
 use Rattle.flash_translation.specs.laws.SpareParts.{IsIn, lies_in_part, parts_rise, parts_small, start_last}

@@ -4,9 +4,9 @@ use Rattle.std.specs.Prelude.{nat_eq, nat_le, nat_lt, if◌then◌else◌}
 use Rattle.std.proofs.Common.{sym, ◌∙◌, ap, subst, ⊎_elim, arith}
 use Rattle.std.proofs.Math.Nat.{lt-mul-div-succ, mul-div-le, mul-le-mul_left, mul-suc}
 use Rattle.std.proofs.lemmas.Bool.{cases_lt, le-leb, le-ltb, lt-leb, lt-ltb}
-use Rattle.flash_board.specs.FlashBlocks.{area_size, flash_size, witness_start}
-use Rattle.flash_board.specs.FlashLogs.{base_in, close_b, close_of, slot_of}
-use Rattle.flash_board.specs.ProgrammedRuns.{IsClosePlace, IsCommitPlace, IsProgramRun, IsSlotPlace}
+use Rattle.flash_device.specs.FlashBlocks.{area_size, flash_size, witness_start}
+use Rattle.flash_device.specs.FlashLogs.{base_in, close_b, close_of, slot_of}
+use Rattle.flash_device.specs.ProgrammedRuns.{IsClosePlace, IsCommitPlace, IsProgramRun, IsSlotPlace}
 use Rattle.flash_translation.specs.SparePlaces.{TakesLog, part_in, part_start, sector_of}
 
 -- Where a word of an area lies.

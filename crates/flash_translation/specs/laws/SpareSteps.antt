@@ -5,14 +5,14 @@ use Rattle.std.proofs.Common.{refl, sym, ◌∙◌, ap, ap₂, subst, ⊎_elim, 
 use Rattle.std.proofs.Common.{get_or-set_same, get_or-set_other}
 use Rattle.std.proofs.lemmas.Bool.{cases_eq}
 use Rattle.nvm_board.specs.declared.board.DeviceErr.{DeviceErr}
-use Rattle.flash_board.specs.FlashBlocks.{flash_size}
-use Rattle.flash_board.specs.FlashCalls.{AreFilled, Lights, SameElsewhere}
-use Rattle.flash_board.specs.FlashLogs.{find, is_marked, slot_of}
-use Rattle.flash_board.specs.PageTables.{AreFree, IsPageTable}
-use Rattle.flash_board.specs.laws.Finding.{find-tells}
-use Rattle.flash_board.specs.laws.Indexing.{find_most}
-use Rattle.flash_board.specs.laws.Marks.{blank_slot}
-use Rattle.flash_board.specs.laws.Putting.{holds_none}
+use Rattle.flash_device.specs.FlashBlocks.{flash_size}
+use Rattle.flash_device.specs.FlashCalls.{AreFilled, Lights, SameElsewhere}
+use Rattle.flash_device.specs.FlashLogs.{find, is_marked, slot_of}
+use Rattle.flash_device.specs.PageTables.{AreFree, IsPageTable}
+use Rattle.flash_device.specs.laws.Finding.{find-tells}
+use Rattle.flash_device.specs.laws.Indexing.{find_most}
+use Rattle.flash_device.specs.laws.Marks.{blank_slot}
+use Rattle.flash_device.specs.laws.Putting.{holds_none}
 use Rattle.flash_translation.specs.SpareMaps.{MovesOnly, without_spares}
 use Rattle.flash_translation.specs.SparePlaces.{TakesLog, all_sectors, cell_of, lies_by, lies_in, part_start}
 use Rattle.flash_translation.specs.SparePlaces.{sector_of, spare_words}

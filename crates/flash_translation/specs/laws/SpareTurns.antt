@@ -1,16 +1,16 @@
 -- What an entry changes of the map: at most the sector that it names.
-use Rattle.std.specs.Prelude.{◌≡◌, ◌≢◌, ◌<◌, ◌≤◌, ◌+◌, ℕ, suc, Bool, true, false, List}
-use Rattle.std.specs.Prelude.{◌&&◌, nat_eq, slice_index}
-use Rattle.std.proofs.Common.{refl, sym, ◌∙◌, ap₂, inl, inr, subst, arith}
-use Rattle.std.proofs.lemmas.Bool.{eq-eqb, ne_eqb}
-use Rattle.flash_board.specs.declared.flash.TheConstants.{BLANK}
-use Rattle.flash_board.specs.FlashCalls.{AreFilled, SameElsewhere}
-use Rattle.flash_board.specs.FlashLogs.{find, is_marked, slot_of}
-use Rattle.flash_board.specs.PageTables.{AreFree}
-use Rattle.flash_board.specs.laws.Finding.{find-past, find-top}
-use Rattle.flash_board.specs.laws.Marks.{blank_part, blank_same, blank_slot, elsewhere_then, elsewhere_wider}
-use Rattle.flash_board.specs.laws.Marks.{mark_same}
-use Rattle.flash_board.specs.laws.Putting.{find_kept, holds_none}
+use Rattle.std.specs.Prelude.{◌≡◌, ◌≢◌, ◌<◌, ◌≤◌, ◌+◌, ◌*◌, ◌/◌, ℕ, suc, Bool, true, false, List}
+use Rattle.std.specs.Prelude.{◌&&◌, max, nat_eq, slice_index}
+use Rattle.std.proofs.Common.{refl, sym, ◌∙◌, ap₂, inl, inr, subst, ⊎_elim, arith, true≢false}
+use Rattle.std.proofs.lemmas.Bool.{cases_lt, eq-eqb, ne_eqb}
+use Rattle.flash_device.specs.declared.flash.TheConstants.{BLANK}
+use Rattle.flash_device.specs.FlashCalls.{AreFilled, SameElsewhere}
+use Rattle.flash_device.specs.FlashLogs.{find, is_marked, slot_of}
+use Rattle.flash_device.specs.PageTables.{AreFree}
+use Rattle.flash_device.specs.laws.Finding.{find-past, find-top}
+use Rattle.flash_device.specs.laws.Marks.{blank_part, blank_same, blank_slot, elsewhere_then, elsewhere_wider}
+use Rattle.flash_device.specs.laws.Marks.{mark_same}
+use Rattle.flash_device.specs.laws.Putting.{find_kept, holds_none}
 use Rattle.flash_translation.specs.SpareMaps.{MovesOnly}
 
 module _ (spares entry sector : ℕ) (m after : List ℕ) (below : entry < spares) (are : AreFree m 0 entry spares)
@@ -105,3 +105,33 @@ pub number_blank : (spares entry at : ℕ) (m : List ℕ) → entry < spares →
     → at ≡ slot_of 0 entry → AreFilled m (at + 16) 1 BLANK
 number_blank spares entry at m below are is = blank_part m at 20 16 1
     (subst (λ (k : ℕ). AreFilled m k 20 BLANK) (sym is) (are.free entry (omega arith) below)) (omega arith)
+
+-- a program was begun in an entry that has words, or behind it
+pub used_begun : (spares begun entry k : ℕ) (m : List ℕ) → AreFree m 0 begun spares → entry < spares → k < 20
+    → slice_index m (slot_of 0 entry + k) ≢ BLANK → entry + 1 ≤ begun
+used_begun spares begun entry k m are below lt other = ⊎_elim
+    (λ (under : entry < begun). omega (arith, under))
+    (λ (past : begun ≤ entry). absurd (other ((are.free entry past below).each k lt)))
+    (cases_lt entry begun)
+
+pub marked_begun : (spares begun entry : ℕ) (m : List ℕ) → AreFree m 0 begun spares → entry < spares
+    → is_marked m (slot_of 0 entry + 18) ≡ true → entry + 1 ≤ begun
+marked_begun spares begun entry m are below marked = ⊎_elim
+    (λ (under : entry < begun). omega (arith, under))
+    (λ (past : begun ≤ entry).
+    absurd (true≢false (sym marked ∙ blank_slot m (slot_of 0 entry) (are.free entry past below))))
+    (cases_lt entry begun)
+
+-- behind a program the entries that it doesn't touch are as free as before
+pub program_leaves : (spares begun at size next : ℕ) (m after : List ℕ) → AreFree m 0 begun spares
+    → at + size ≤ 20 * spares → SameElsewhere m at size after → next ≡ max begun ((at + size + 19) / 20)
+    → AreFree after 0 next spares
+program_leaves spares begun at size next m after are within elsewhere is =
+    let old = are.within in
+    record {
+      within = omega (arith, old, within, is);
+      free = λ t from lt.
+          let past : at + size ≤ slot_of 0 t = omega (arith, from, is) in
+          let old_one : begun ≤ t = omega (arith, from, is) in
+          blank_same m after (slot_of 0 t) 20 at size elsewhere (inr past) (are.free t old_one lt);
+    }

@@ -6,8 +6,8 @@ use Rattle.std.proofs.lemmas.Bool.{cases_lt}
 use Rattle.std.proofs.lemmas.List.{get_or_past}
 use Rattle.std.proofs.lemmas.List.Elements.{All-get_or, All-from_get_or}
 use Rattle.nvm_board.specs.Facts.{AreWords}
-use Rattle.flash_board.specs.FlashBlocks.{flash_size}
-use Rattle.flash_board.specs.laws.Finding.{length-image, index-image}
+use Rattle.flash_device.specs.FlashBlocks.{flash_size}
+use Rattle.flash_device.specs.laws.Finding.{length-image, index-image}
 use Rattle.flash_translation.specs.UnitFrames.{frame_of, place_in, rank_of}
 use Rattle.flash_translation.specs.UnitWords.{frame_word, is_blank_run, rest_at, unit_words}
 

@@ -3,8 +3,8 @@ use Rattle.std.specs.Prelude.{◌≡◌, ◌<◌, ◌≤◌, ◌+◌, ◌-◌, �
 use Rattle.std.specs.Prelude.{nat_le, if◌then◌else◌}
 use Rattle.std.proofs.Common.{refl, sym, ◌∙◌, ap, ap₂, subst, ⊎_elim, arith}
 use Rattle.std.proofs.lemmas.Bool.{cases_lt, le-leb, lt-leb}
-use Rattle.flash_board.specs.FlashBlocks.{area_size, flash_size, witness_start}
-use Rattle.flash_board.specs.laws.Sectors.{rises_to}
+use Rattle.flash_device.specs.FlashBlocks.{area_size, flash_size, witness_start}
+use Rattle.flash_device.specs.laws.Rising.{rises_to}
 use Rattle.flash_translation.specs.UnitFrames.{frame_count, frame_in, frame_of, frame_start, place_in, rank_in, rank_of}
 
 -- The frame and the rank of a word.

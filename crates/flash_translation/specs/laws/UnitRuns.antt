@@ -3,11 +3,11 @@ use Rattle.std.specs.Prelude.{◌≡◌, ◌≢◌, ◌⊎◌, ◌<◌, ◌≤�
 use Rattle.std.specs.Prelude.{max, nat_eq, nat_le, slice_index, if◌then◌else◌}
 use Rattle.std.proofs.Common.{refl, sym, ◌∙◌, ap, ap₂, inl, inr, subst, ⊎_elim, arith}
 use Rattle.std.proofs.lemmas.Bool.{cases_eq, cases_lt, le-leb, lt-leb}
-use Rattle.flash_board.specs.declared.flash.TheConstants.{BLANK}
-use Rattle.flash_board.specs.FlashBlocks.{area_size, flash_size, witness_start}
-use Rattle.flash_board.specs.FlashCalls.{AreFilled, SameElsewhere}
-use Rattle.flash_board.specs.FlashLogs.{base_in, close_b}
-use Rattle.flash_board.specs.ProgrammedRuns.{IsClosePlace, IsCommitPlace, IsProgramRun, IsSlotPlace}
+use Rattle.flash_device.specs.declared.flash.TheConstants.{BLANK}
+use Rattle.flash_device.specs.FlashBlocks.{area_size, flash_size, witness_start}
+use Rattle.flash_device.specs.FlashCalls.{AreFilled, SameElsewhere}
+use Rattle.flash_device.specs.FlashLogs.{base_in, close_b}
+use Rattle.flash_device.specs.ProgrammedRuns.{IsClosePlace, IsCommitPlace, IsProgramRun, IsSlotPlace}
 use Rattle.flash_translation.specs.UnitFrames.{AreUnits, IsFramePart, IsUnit, frame_count, frame_of, place_in, rank_of}
 use Rattle.flash_translation.specs.UnitFrames.{span_of}
 use Rattle.flash_translation.specs.UnitWords.{LooksBlank, frame_word, rest_at}

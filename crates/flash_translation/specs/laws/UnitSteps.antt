@@ -3,10 +3,10 @@ use Rattle.std.specs.Prelude.{◌≡◌, ◌≢◌, ◌⊎◌, ◌<◌, ◌≤�
 use Rattle.std.proofs.Common.{sym, ◌∙◌, ap, ap₂, inl, inr, subst, ⊎_elim, arith}
 use Rattle.std.proofs.lemmas.Bool.{cases_eq, cases_lt}
 use Rattle.std.proofs.lemmas.List.{get_or-take}
-use Rattle.flash_board.specs.declared.flash.TheConstants.{BLANK}
-use Rattle.flash_board.specs.FlashBlocks.{flash_size}
-use Rattle.flash_board.specs.FlashCalls.{AreFilled, IsThere, SameElsewhere}
-use Rattle.flash_board.specs.ProgrammedRuns.{IsProgramRun}
+use Rattle.flash_device.specs.declared.flash.TheConstants.{BLANK}
+use Rattle.flash_device.specs.FlashBlocks.{flash_size}
+use Rattle.flash_device.specs.FlashCalls.{AreFilled, IsThere, SameElsewhere}
+use Rattle.flash_device.specs.ProgrammedRuns.{IsProgramRun}
 use Rattle.flash_translation.specs.UnitFrames.{AreUnits, IsFramePart, IsUnit, device_size, frame_of, frame_start}
 use Rattle.flash_translation.specs.UnitFrames.{place_in, rank_of, span_of}
 use Rattle.flash_translation.specs.UnitStates.{UnitState}

@@ -3,7 +3,7 @@ use Rattle.nvm_board.specs.Facts.{Facts}
 use Rattle.card_start.specs.declared.memory_format.MemoryFormat.TheVariants.{Two}
 use Rattle.card_start.specs.Factory.{IsFactory, factory_card}
 use Rattle.command_base.specs.Finding.{Finds}
-use Rattle.flash_board.specs.FlashCalls.{FlashState}
+use Rattle.flash_device.specs.FlashCalls.{FlashState}
 use Rattle.card_boards.proofs.flash_factory.factory_flash.Goals as goal
 
 pub returns-clause-card : goal.returns-clause-card

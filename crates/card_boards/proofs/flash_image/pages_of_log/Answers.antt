@@ -1,7 +1,7 @@
 use Rattle.std.proofs.Common.{◌≡◌, ◌<◌, ◌≤◌, ◌++◌, ◌*◌, ℕ, List, [], ◌∷◌, length, get_or, take_all}
 use Rattle.std.proofs.Common.{refl, sym, ap, ap₂, arith, ◌∙◌}
 use Rattle.std.proofs.lemmas.List.{take_more}
-use Rattle.simulated_boards.specs.declared.garbling_flash.TheConstants.{FLASH_PAGES}
+use Rattle.simulated_flashes.specs.declared.garbling_flash.TheConstants.{FLASH_PAGES}
 use Rattle.card_boards.proofs.flash_image.pages_of_log.Goals as goal
 
 pub loop-at-preserved : goal.loop-at-preserved

@@ -1,5 +1,5 @@
 use Rattle.std.proofs.Common.{◌≡◌, ◌*◌, arith, refl}
-use Rattle.simulated_boards.specs.declared.garbling_flash.TheConstants.{FLASH_WORDS}
+use Rattle.simulated_flashes.specs.declared.garbling_flash.TheConstants.{FLASH_WORDS}
 use Rattle.card_files.specs.declared.image_words.TheConstants.{WORD_BYTES}
 use Rattle.card_files.proofs.FlashRefused.{flash_is_shorter, flash_refused_rightly, holds_no_flash_card, holds_no_log}
 use Rattle.card_files.proofs.flash_file.flash_in.Goals as goal

@@ -7,6 +7,7 @@ use Rattle.card_files.proofs.reading.card_in.Goals as goal
 pub returns-in-Err-Start-clause-refused : goal.returns-in-Err-Start-clause-refused
 returns-in-Err-Start-clause-refused g c = (
   c.in_ok-check_size.ensures.fits.0,
+  c.in_ok-check_size.ensures.fits.1,
   holds_no_card _ c.args.size c.in-Ok.words.items c.in-Ok.ensures.fit c.in-Ok.ensures.words
       (refused_rightly c.in-Ok.words.items c.image_board.result c.in-Err-Start.field-0 _ c.image_board.ensures.none
       c.in-Err-Start.is c.in-Err-Start.field-0-is).1,
@@ -17,8 +18,10 @@ returns-in-Err-Size-clause-refused g c =
     let no_memory = refused_rightly c.in-Ok.words.items c.image_board.result c.in-Err-Size.field-0 _
     c.image_board.ensures.none c.in-Err-Size.is c.in-Err-Size.field-0-is in (
       refl,
-      λ image. is_shorter _ c.args.size c.in-Ok.words.items c.in-Ok.ensures.words image
-          (λ memory. no_memory memory.0),
+      λ image. (
+        c.in_ok-check_size.ensures.fits.1,
+        is_shorter _ c.args.size c.in-Ok.words.items c.in-Ok.ensures.words image (λ memory. no_memory memory.0),
+      ),
     )
 
 pub returns-then-not-has_pages-clause-refused : goal.returns-then-not-has_pages-clause-refused
@@ -27,8 +30,11 @@ returns-then-not-has_pages-clause-refused g c =
     let same : (cut_facts c.in-Ok-image_board.board).words ≡ words =
     ap (λ (f : Facts). f.words) c.in-Ok-image_board.ensures.board in (
       refl,
-      λ image. is_shorter _ c.args.size words c.in-Ok.ensures.words image
-          (λ memory. true≢false (sym (c.has_pages.ensures.1
-          (λ number is. ap pages_of same ∙ memory.1 ∙ c.in_ok-check_size.ensures.fits.1 number is))
-          ∙ c.if-not-has_pages.true)),
+      λ image. (
+        c.in_ok-check_size.ensures.fits.1,
+        is_shorter _ c.args.size words c.in-Ok.ensures.words image
+            (λ memory. true≢false (sym (c.has_pages.ensures.1
+            (λ number is. ap pages_of same ∙ memory.1 ∙ c.in_ok-check_size.ensures.fits.1 number is))
+            ∙ c.if-not-has_pages.true)),
+      ),
     )

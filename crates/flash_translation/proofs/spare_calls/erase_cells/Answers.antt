@@ -1,7 +1,9 @@
-use Rattle.std.proofs.Common.{◌≡◌, ◌*◌, ℕ, subst, ◌∙◌}
-use Rattle.flash_board.specs.declared.flash.TheConstants.{BLANK}
-use Rattle.flash_board.specs.FlashCalls.{AreFilled, SameElsewhere}
+use Rattle.std.proofs.Common.{◌≡◌, ◌*◌, ℕ, subst, ◌∙◌, rules}
+use Rattle.flash_device.specs.declared.flash.TheConstants.{BLANK}
+use Rattle.flash_device.specs.FlashCalls.{AreFilled, SameElsewhere}
 use Rattle.flash_translation.specs.SparePlaces.{lies_in}
+use Rattle.flash_translation.specs.SpareStates.{Blames}
+use Rattle.flash_translation.specs.declared.spare_device.SparePart.TheVariants.{Sector}
 use Rattle.flash_translation.specs.laws.SpareSteps.{erased_elsewhere, erased_filled, lies_table, table_most}
 use Rattle.flash_translation.proofs.spare_calls.erase_cells.Goals as goal
 
@@ -22,6 +24,17 @@ returns-in_err-erase-clause-elsewhere g c =
     erased_elsewhere g.D.SpareDevice.SLOTS g.D.SpareDevice.SECTORS g.D.SpareDevice.SECTOR_SLOTS size
     g.D.SpareDevice.SPARES g.met.D.SpareDevice.sectors_fit m after map c.args.sector c.requires.sector
     (subst (λ (k : ℕ). SameElsewhere m (size * k) size after) here c.erase.ensures.elsewhere)
+
+pub returns-in_err-erase-clause-blames : goal.returns-in_err-erase-clause-blames
+returns-in_err-erase-clause-blames g c =
+    let old = g.D.SpareDevice.state c.args.device.now in
+    let new = g.D.SpareDevice.state c.erase.new.self in
+    let here : c.lies_at.result ≡ lies_in g.D.SpareDevice.SECTORS g.D.SpareDevice.SPARES old.map c.args.sector =
+    c.lies_at.ensures.is
+    ∙ lies_table g.D.SpareDevice.SECTORS g.D.SpareDevice.SPARES old.map _ c.requires.index c.args.sector
+    c.requires.sector in
+    let told = subst (λ (k : ℕ). Blames (Sector k) old new c.erase.result) here c.erase.ensures.blames in
+    search (rules, told)
 
 pub returns-clause-elsewhere : goal.returns-clause-elsewhere
 returns-clause-elsewhere g c =

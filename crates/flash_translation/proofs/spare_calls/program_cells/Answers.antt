@@ -1,6 +1,6 @@
 use Rattle.std.proofs.Common.{◌≤◌, ◌+◌, ◌*◌, ℕ, length, refl, sym, subst}
-use Rattle.flash_board.specs.declared.flash.TheConstants.{BLANK}
-use Rattle.flash_board.specs.FlashCalls.{AreFilled, IsThere, SameElsewhere}
+use Rattle.flash_device.specs.declared.flash.TheConstants.{BLANK}
+use Rattle.flash_device.specs.FlashCalls.{AreFilled, IsThere, SameElsewhere}
 use Rattle.flash_translation.specs.SparePlaces.{all_sectors}
 use Rattle.flash_translation.specs.laws.SpareImages.{run_blank, run_elsewhere, run_there, run_within}
 use Rattle.flash_translation.specs.laws.SpareParts.{run_part, run_some}

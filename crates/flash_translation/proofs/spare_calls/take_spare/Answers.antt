@@ -1,9 +1,10 @@
-use Rattle.std.proofs.Common.{◌≡◌, ◌+◌, ◌*◌, ℕ, List, sym, subst, ap, ◌∙◌}
-use Rattle.flash_board.specs.declared.flash.TheConstants.{BLANK}
-use Rattle.flash_board.specs.FlashCalls.{AreFilled, SameElsewhere}
-use Rattle.flash_board.specs.FlashLogs.{find}
-use Rattle.flash_board.specs.laws.Marks.{elsewhere_none}
+use Rattle.std.proofs.Common.{◌≡◌, ◌+◌, ◌*◌, ℕ, suc, List, refl, sym, subst, ap, ◌∙◌, arith}
+use Rattle.flash_device.specs.declared.flash.TheConstants.{BLANK}
+use Rattle.flash_device.specs.FlashCalls.{AreFilled, SameElsewhere}
+use Rattle.flash_device.specs.FlashLogs.{find}
+use Rattle.flash_device.specs.laws.Marks.{elsewhere_none}
 use Rattle.flash_translation.specs.SpareMaps.{MovesOnly}
+use Rattle.flash_translation.specs.laws.SpareImages.{lies_spare}
 use Rattle.flash_translation.specs.laws.SpareSteps.{taken_elsewhere, taken_filled}
 use Rattle.flash_translation.proofs.spare_calls.take_spare.Goals as goal
 
@@ -75,3 +76,19 @@ returns-clause-done g c =
     taken_filled g.D.SpareDevice.SLOTS g.D.SpareDevice.SECTORS g.D.SpareDevice.SECTOR_SLOTS size
     g.D.SpareDevice.SPARES g.met.D.SpareDevice.sectors_fit old.flash.words new.flash.words old.map c.args.sector
     c.requires.sector new.map c.args.entry change BLANK found filled
+
+pub returns-clause-tries : goal.returns-clause-tries
+returns-clause-tries g c =
+    let sectors = g.D.SpareDevice.SECTORS in
+    let new = g.D.SpareDevice.state c.erase.new.self in
+    let one : c.args.entry + 1 ≡ suc c.args.entry = omega arith in
+    let found : find new.map 0 g.D.SpareDevice.SPARES c.args.sector ≡ suc c.args.entry =
+    ap (λ (l : List ℕ). find l 0 g.D.SpareDevice.SPARES c.args.sector) c.erase.ensures.map
+    ∙ c.in_ok-put_entry.ensures.done ∙ one in
+    let there : 2 * sectors + suc c.args.entry ≡ 2 * sectors + 1 + c.args.entry = omega arith in
+    record {
+      begun = c.erase.ensures.begun ∙ c.put_entry.ensures.begun;
+      lies = λ ok. lies_spare sectors g.D.SpareDevice.SPARES new.map c.args.sector c.args.entry found ∙ there;
+      same = λ ok. c.in_ok-erase.ensures.blames.ok refl ∙ c.in_ok-put_entry.ensures.blames.ok refl;
+      fault = λ failed. absurd cc;
+    }

@@ -1,6 +1,6 @@
 use Rattle.std.proofs.Common.{◌≡◌, ◌<◌, ◌+◌, ℕ, false, get_or}
-use Rattle.flash_board.specs.declared.flash.TheConstants.{BLANK}
-use Rattle.flash_board.specs.FlashCalls.{StaysLit}
+use Rattle.flash_device.specs.declared.flash.TheConstants.{BLANK}
+use Rattle.flash_device.specs.FlashCalls.{StaysLit}
 use Rattle.flash_translation.proofs.spare_map.is_blank.Given as goal
 
 abbrev pub invariant-loop-k : goal.invariant-loop-k
@@ -11,6 +11,7 @@ invariant-loop-k g l =
       work : new.flash.operations ≡ old.flash.operations;
       erases : new.flash.erases ≡ old.flash.erases;
       kept : new.flash.kept ≡ old.flash.kept;
+      begun : new.begun ≡ old.begun;
       lit : new.flash.dark ≡ false;
       steady : StaysLit old.flash new.flash;
       blank : (j : ℕ) → j < l.k → get_or old.map (l.at + j) 0 ≡ BLANK;

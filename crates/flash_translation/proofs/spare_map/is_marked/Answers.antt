@@ -1,8 +1,8 @@
 use Rattle.std.specs.Prelude.{◌&&◌}
 use Rattle.std.proofs.Common.{◌≡◌, ◌+◌, ℕ, Bool, nat_eq, List, slice_index, sym, ap, ◌∙◌}
 use Rattle.std.proofs.lemmas.Bool.{eq-eqb, ne_eqb}
-use Rattle.flash_board.specs.declared.layout.TheConstants.{FIRST_MARK, SECOND_MARK}
-use Rattle.flash_board.specs.FlashLogs.{is_marked as has_mark}
+use Rattle.flash_device.specs.declared.layout.TheConstants.{FIRST_MARK, SECOND_MARK}
+use Rattle.flash_device.specs.FlashLogs.{is_marked as has_mark}
 use Rattle.flash_translation.proofs.spare_map.is_marked.Goals as goal
 
 pub returns-then-first-eq-FIRST_MARK-clause-marked : goal.returns-then-first-eq-FIRST_MARK-clause-marked

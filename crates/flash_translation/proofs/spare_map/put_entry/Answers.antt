@@ -1,6 +1,6 @@
 use Rattle.std.proofs.Common.{◌≡◌, ◌+◌, ℕ, true, slice_index, ap, ◌∙◌, arith}
-use Rattle.flash_board.specs.FlashLogs.{is_marked}
-use Rattle.flash_board.specs.laws.Marks.{mark_words}
+use Rattle.flash_device.specs.FlashLogs.{is_marked}
+use Rattle.flash_device.specs.laws.Marks.{mark_words}
 use Rattle.flash_translation.specs.laws.SpareTurns.{mark_blank, mark_found, mark_leaves, mark_moves}
 use Rattle.flash_translation.specs.laws.SpareTurns.{number_blank, number_leaves, number_moves}
 use Rattle.flash_translation.proofs.spare_map.put_entry.Goals as goal

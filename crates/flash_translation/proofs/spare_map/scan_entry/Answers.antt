@@ -1,10 +1,11 @@
-use Rattle.std.proofs.Common.{◌≡◌, ◌≤◌, ◌<◌, ◌+◌, ◌*◌, ℕ, true, false, List, slice_index, sym, ap}
+use Rattle.std.proofs.Common.{◌≡◌, ◌≢◌, ◌≤◌, ◌<◌, ◌+◌, ◌*◌, ℕ, true, false, List, slice_index, sym, ap}
 use Rattle.std.proofs.Common.{subst, ◌∙◌, arith}
-use Rattle.flash_board.specs.declared.flash.TheConstants.{BLANK}
-use Rattle.flash_board.specs.FlashCalls.{AreFilled}
-use Rattle.flash_board.specs.PageTables.{IsPageTable}
-use Rattle.flash_board.specs.FlashLogs.{slot_of, is_marked}
-use Rattle.flash_board.specs.laws.Indexing.{index_past, index_beyond, index_put, free_more}
+use Rattle.flash_device.specs.declared.flash.TheConstants.{BLANK}
+use Rattle.flash_device.specs.FlashCalls.{AreFilled}
+use Rattle.flash_device.specs.PageTables.{IsPageTable}
+use Rattle.flash_device.specs.FlashLogs.{slot_of, is_marked}
+use Rattle.flash_device.specs.laws.Indexing.{index_past, index_beyond, index_put, free_more}
+use Rattle.flash_translation.specs.laws.SpareTurns.{marked_begun, used_begun}
 use Rattle.flash_translation.proofs.spare_map.scan_entry.Goals as goal
 use Rattle.flash_translation.proofs.spare_map.scan_entry.Goals.{then-number-from, else-number-from}
 
@@ -65,3 +66,23 @@ returns-then-branch-2-clause-free g c =
     free_more m 0 c.args.next c.args.entry c.requires.free
     (subst (λ (k : ℕ). AreFilled m k 20 BLANK) c.entry_at-at.ensures.is
     (subst (λ (l : List ℕ). AreFilled l c.entry_at-at.result 20 BLANK) c.is_marked.ensures.map blank))
+
+pub returns-then-branch-clause-most : goal.returns-then-branch-clause-most
+returns-then-branch-clause-most g c =
+    let old = g.D.SpareDevice.state c.args.device.now in
+    let marked : is_marked old.map (slot_of 0 c.args.entry + 18) ≡ true =
+    ap (λ (k : ℕ). is_marked old.map (k + 18)) (sym c.entry_at-at.ensures.is) ∙ sym c.in_ok-is_marked.ensures.marked
+    ∙ c.if-branch.true in
+    marked_begun g.D.SpareDevice.SPARES old.begun c.args.entry old.map
+    (g.met.D.SpareDevice.unbegun c.args.device.now) c.requires.below marked
+
+pub returns-clause-most : goal.returns-clause-most
+returns-clause-most g c =
+    let old = g.D.SpareDevice.state c.args.device.now in
+    let mid = g.D.SpareDevice.state c.is_marked.new.device in
+    let used = c.in_ok-is_blank.ensures.used c.if-branch-2.false in
+    let other : slice_index old.map (slot_of 0 c.args.entry + used.0) ≢ BLANK =
+    λ is. used.1.1 (ap (λ (l : List ℕ). slice_index l (c.entry_at-at.result + used.0)) c.is_marked.ensures.map
+    ∙ ap (λ (k : ℕ). slice_index old.map (k + used.0)) c.entry_at-at.ensures.is ∙ is) in
+    used_begun g.D.SpareDevice.SPARES old.begun c.args.entry used.0 old.map
+    (g.met.D.SpareDevice.unbegun c.args.device.now) c.requires.below used.1.0 other

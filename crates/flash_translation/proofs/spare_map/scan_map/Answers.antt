@@ -1,5 +1,5 @@
 use Rattle.std.proofs.Common.{◌∙◌, sym, refl, arith}
-use Rattle.flash_board.specs.laws.Indexing.{find_zero, free_none}
+use Rattle.flash_device.specs.laws.Indexing.{find_zero, free_none}
 use Rattle.flash_translation.proofs.spare_map.scan_map.Goals as goal
 
 pub loop-entry-init : goal.loop-entry-init
@@ -11,6 +11,7 @@ loop-entry-init g c =
       work = refl;
       erases = refl;
       kept = refl;
+      begun = refl;
       lit = c.requires.lit;
       steady = record { lit = c.requires.lit; due = refl; faults = refl };
       index = record {
@@ -18,4 +19,5 @@ loop-entry-init g c =
             c.blank.ensures p (omega (arith, lt, all)) ∙ sym (find_zero m 0 p);
       };
       free = free_none m 0 0;
+      most = omega arith;
     }

@@ -1,5 +1,5 @@
 use Rattle.std.proofs.Common.{◌≡◌, ◌<◌, ◌≤◌, ◌+◌, ◌-◌, ◌*◌, ℕ, sym, ap, ap₂, ◌∙◌, arith}
-use Rattle.flash_board.specs.FlashBlocks.{area_size, witness_start}
+use Rattle.flash_device.specs.FlashBlocks.{area_size, witness_start}
 use Rattle.flash_translation.specs.SparePlaces.{part_in}
 use Rattle.flash_translation.specs.laws.SpareParts.{offset_a, offset_b, offset_w, sector_a, sector_b, sector_w}
 use Rattle.flash_translation.proofs.spare_places.spot_of.Goals as goal

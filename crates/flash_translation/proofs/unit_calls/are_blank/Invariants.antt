@@ -1,5 +1,5 @@
 use Rattle.std.proofs.Common.{◌≡◌, ◌<◌, ℕ, slice_index}
-use Rattle.flash_board.specs.declared.flash.TheConstants.{BLANK}
+use Rattle.flash_device.specs.declared.flash.TheConstants.{BLANK}
 use Rattle.flash_translation.proofs.unit_calls.are_blank.Given as goal
 
 abbrev pub invariant-loop-k : goal.invariant-loop-k

@@ -1,5 +1,5 @@
 use Rattle.std.proofs.Common.{◌≡◌, ◌<◌, ◌≤◌, ℕ, length, slice_index}
-use Rattle.flash_board.specs.declared.flash.TheConstants.{BLANK}
+use Rattle.flash_device.specs.declared.flash.TheConstants.{BLANK}
 use Rattle.flash_translation.proofs.unit_calls.filled_up.Given as goal
 
 abbrev pub invariant-loop-k : goal.invariant-loop-k

@@ -1,5 +1,5 @@
 use Rattle.std.proofs.Common.{◌≢◌, ◌+◌, ℕ, List, slice_index, sym, ap, ◌∙◌, arith}
-use Rattle.flash_board.specs.declared.flash.TheConstants.{BLANK}
+use Rattle.flash_device.specs.declared.flash.TheConstants.{BLANK}
 use Rattle.flash_translation.specs.laws.BlankRuns.{blank_fails, filled_blank}
 use Rattle.flash_translation.proofs.unit_calls.has_blank.Goals as goal
 

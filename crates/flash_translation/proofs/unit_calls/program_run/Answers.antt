@@ -1,8 +1,8 @@
 use Rattle.std.specs.Prelude.{take}
 use Rattle.std.proofs.Common.{◌≡◌, ◌<◌, ◌≤◌, ◌+◌, ◌-◌, ℕ, length, max, sym, subst, arith}
 use Rattle.std.proofs.lemmas.List.{length-take-le}
-use Rattle.flash_board.specs.declared.flash.TheConstants.{BLANK}
-use Rattle.flash_board.specs.FlashCalls.{AreFilled, SameElsewhere}
+use Rattle.flash_device.specs.declared.flash.TheConstants.{BLANK}
+use Rattle.flash_device.specs.FlashCalls.{AreFilled, SameElsewhere}
 use Rattle.flash_translation.specs.UnitFrames.{AreUnits, device_size}
 use Rattle.flash_translation.specs.laws.UnitSteps.{done_is_fresh, failed_is_fresh, placed_run, run_is_blank}
 use Rattle.flash_translation.specs.laws.UnitSteps.{run_is_fresh, run_is_there, run_keeps_others, run_units, run_within}

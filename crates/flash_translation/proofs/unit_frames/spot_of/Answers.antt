@@ -1,5 +1,5 @@
 use Rattle.std.proofs.Common.{◌≡◌, ◌+◌, ◌*◌, ◌-◌, ◌≤◌, ◌<◌, ℕ, sym, ap, ◌∙◌, arith}
-use Rattle.flash_board.specs.FlashBlocks.{area_size, witness_start}
+use Rattle.flash_device.specs.FlashBlocks.{area_size, witness_start}
 use Rattle.flash_translation.specs.UnitFrames.{frame_in, rank_in}
 use Rattle.flash_translation.specs.laws.UnitPlaces.{in_area_a, in_area_b, in_witness}
 use Rattle.flash_translation.proofs.unit_frames.spot_of.Goals as goal

@@ -1,5 +1,4 @@
 use Rattle.std.proofs.Common.{◌≢◌, ◌∙◌, List, ℕ, Some, Err, refl, rules, subst, ap}
-use Rattle.std.proofs.lemmas.Option.{same_Some}
 use Rattle.bench_lines.specs.declared.fault.RunFault.TheVariants.{Unkept}
 use Rattle.nvm_board.specs.Facts.{Facts}
 use Rattle.simulated_boards.specs.Cut.{cut_facts}
@@ -16,7 +15,8 @@ returns-in-Ok-run_on c =
     first_desk _ facts refl refl refl c.in-Ok.ensures.card c.in-Ok.ensures.words c.in-Ok.ensures.counts refl refl in
     let text = Some c.run_on.new.writer.items in
     let done = subst (λ (f : Facts). IsRunToEnd FollowsInC (desk_of f) c.args.script.now
-    (Some c.new-text.result.items) text) c.unfollowed.ensures c.in-Ok-run_on.ensures.done in (
+    (Some c.new-text.result.items) text) (c.in-Ok-new.ensures.facts ∙ c.unfollowed.ensures)
+    c.in-Ok-run_on.ensures.done in (
       desk_of facts,
       begins,
       subst (λ (l : List ℕ). IsRunToEnd FollowsInC (desk_of facts) c.args.script.now (Some l) text)
@@ -31,10 +31,10 @@ returns-in-Err c =
     let text = Some c.run_on.new.writer.items in
     let left = Some c.run_on.new.reader.now in
     let stopped = subst (λ (f : Facts). RunStopsBy FollowsInC (desk_of f) c.in-Err.fault (Some c.args.script.now) left
-    (Some c.new-text.result.items) text) c.unfollowed.ensures c.in-Err.ensures.stopped in
+    (Some c.new-text.result.items) text) (c.in-Ok-new.ensures.facts ∙ c.unfollowed.ensures) c.in-Err.ensures.stopped in
     let apart : c.in-Err.fault ≢ Unkept = search rules in (
       apart,
-      λ memory. same_Some _ _ (c.in-Err.ensures.memory (ap Err memory)).2 ∙ c.new-text.ensures.items,
+      λ memory. absurd (c.in-Err.ensures.memory (ap Err memory)),
       λ other. (
         desk_of facts,
         left,

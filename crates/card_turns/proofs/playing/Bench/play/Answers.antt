@@ -5,6 +5,7 @@ use Rattle.bench_turns.specs.declared.turn.Turn.{Turn}
 use Rattle.bench_turns.specs.declared.turn.Turn.TheVariants.{On}
 use Rattle.bench_turns.specs.declared.turn.Item.{Item}
 use Rattle.bench_turns.specs.BenchStates.{bench_facts}
+use Rattle.bench_turns.specs.FaultTurns.{IsTraceWithFaults}
 use Rattle.bench_turns.specs.Turns.{CountsLosses, Runs, darks}
 use Rattle.bench_turns.proofs.PlayedTurns.{plays_none, plays_more, traced}
 use Rattle.card_turns.proofs.playing.Bench.play.Goals as goal
@@ -51,3 +52,13 @@ returns-clause-runs g c = λ good. (
   c.loop-i.invariant.so_far.well good,
   λ has. traced c.args.self.now c.args.turns.now c.loop-i.trace c.loop-i.self (returns-clause-costs g c has good),
 )
+
+pub returns-clause-faulty : goal.returns-clause-faulty
+returns-clause-faulty g c =
+    let all = take_all c.loop-i.i c.loop-i.trace
+    (omega (arith, c.requires, c.loop-i.auto.trace, c.loop-i-test.false)) in
+    let turns = take_all c.loop-i.i c.args.turns.now c.loop-i-test.false in
+    let so_far = take c.loop-i.i c.loop-i.trace in
+    λ has. subst (λ (t : List Item). IsTraceWithFaults c.args.self.now c.args.turns.now t c.loop-i.self) all
+    (subst (λ (u : List Turn). IsTraceWithFaults c.args.self.now u so_far c.loop-i.self) turns
+    (c.loop-i.invariant.so_far.any has))

@@ -143,3 +143,49 @@ returns-else-self-3-clause-pause g c = λ roomy. record {
 
 pub returns-in-Ok-clause-pause : goal.returns-in-Ok-clause-pause
 returns-in-Ok-clause-pause g c = λ roomy. c.in-Ok.ensures.pause roomy
+
+pub returns-then-self-clause-calm : goal.returns-then-self-clause-calm
+returns-then-self-clause-calm g c = λ far same. record {
+  operations = omega arith;
+  fewer = λ pace. omega arith;
+  erases = refl;
+  slots = λ ok. absurd (true≢false (sym ok));
+}
+
+pub returns-then-self-2-clause-calm : goal.returns-then-self-2-clause-calm
+returns-then-self-2-clause-calm g c = λ far same. record {
+  operations = omega arith;
+  fewer = λ pace. omega arith;
+  erases = refl;
+  slots = λ ok. absurd (true≢false (sym ok));
+}
+
+pub returns-then-self-3-clause-calm : goal.returns-then-self-3-clause-calm
+returns-then-self-3-clause-calm g c = λ far same.
+    let calm = c.write-ended.ensures.calm far same in record {
+      operations = calm.operations;
+      fewer = calm.fewer;
+      erases = calm.erases;
+      slots = λ ok. absurd (true≢false (sym ok));
+    }
+
+pub returns-in-Err-PowerLost-clause-calm : goal.returns-in-Err-PowerLost-clause-calm
+returns-in-Err-PowerLost-clause-calm g c = λ far same.
+    let calm = c.write-ended.ensures.calm far same in record {
+      operations = calm.operations;
+      fewer = calm.fewer;
+      erases = calm.erases;
+      slots = λ ok. absurd (true≢false (sym ok));
+    }
+
+pub returns-else-self-3-clause-calm : goal.returns-else-self-3-clause-calm
+returns-else-self-3-clause-calm g c = λ far same.
+    let calm = c.write-ended.ensures.calm far same in record {
+      operations = calm.operations;
+      fewer = calm.fewer;
+      erases = calm.erases;
+      slots = λ ok. absurd (true≢false (sym ok));
+    }
+
+pub returns-in-Ok-clause-calm : goal.returns-in-Ok-clause-calm
+returns-in-Ok-clause-calm g c = λ far same. c.in-Ok.ensures.calm far same

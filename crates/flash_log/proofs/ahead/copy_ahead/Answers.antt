@@ -1,0 +1,81 @@
+use Rattle.std.proofs.Common.{◌≡◌, ◌<◌, ◌+◌, ◌*◌, ℕ, List, length, slice_index}
+use Rattle.std.proofs.Common.{sym, ap, subst, ◌∙◌, arith}
+use Rattle.flash_log.specs.CopyParts.{KeepsOthers}
+use Rattle.flash_device.specs.FlashCalls.{SameElsewhere}
+use Rattle.flash_device.specs.FlashLogs.{base_in, find, page_word, slot_of, words_of}
+use Rattle.flash_device.specs.PageTables.{AreFree}
+use Rattle.flash_device.specs.SlotParts.{IsPut}
+use Rattle.flash_log.specs.Spares.{spare_in}
+use Rattle.flash_device.specs.laws.Marks.{elsewhere_wider}
+use Rattle.flash_log.specs.laws.Moving.{Stays}
+use Rattle.flash_log.specs.laws.Sparing.{copies_past, copies_put, spare_stays}
+use Rattle.flash_log.specs.laws.Words.{index-page}
+use Rattle.flash_log.proofs.ahead.copy_ahead.Goals as goal
+
+pub returns-clause-copies : goal.returns-clause-copies
+returns-clause-copies g c =
+    let slots = g.F.Flash.SLOTS in
+    let pages = g.F.Flash.PAGES in
+    let a = c.args in
+    let m = (g.F.Flash.state a.flash.now).words in
+    let mid = (g.F.Flash.state c.record_of.new.flash).words in
+    let after = (g.F.Flash.state c.put_in_spare.new.flash).words in
+    let words = c.in_ok-found.found in
+    let base = spare_in slots a.turn in
+    let s = c.in_ok-slot.slot in
+    let put = c.in_ok-slot.ensures.put in
+    let has = c.requires.copies.2 in
+    let below_end = put.0 in
+    let ends = c.requires.copies.1 in
+    let below : s < slots = omega (arith, below_end, ends) in
+    let size : length words ≡ 18 = omega arith in
+    let at : base_in slots c.spare.result ≡ base = c.spare.ensures.is slots in
+    let is_put : IsPut after (slot_of base s) words =
+    subst (λ (b : ℕ). IsPut after (slot_of b s) words) at put.1 in
+    let kept : KeepsOthers slots m base a.page after (s + 1) =
+    subst (λ (p : ℕ). KeepsOthers slots m base p after (s + 1)) c.in_ok-found.ensures.names
+    (subst (λ (b : ℕ). KeepsOthers slots m b (slice_index words 16) after (s + 1)) at
+    (subst (λ (l : List ℕ). KeepsOthers slots l (base_in slots c.spare.result) (slice_index words 16) after (s + 1))
+    c.record_of.ensures.words put.2)) in
+    let elsewhere : SameElsewhere m base (20 * slots) after =
+    subst (λ (b : ℕ). SameElsewhere m b (20 * slots) after) at
+    (subst (λ (l : List ℕ). SameElsewhere l (base_in slots c.spare.result) (20 * slots) after)
+    c.record_of.ensures.words c.put_in_spare.ensures.elsewhere) in
+    let stays : Stays pages slots m after =
+    spare_stays pages slots m after a.turn c.requires.moves.2 c.requires.turn c.requires.moves.0 c.requires.moves.1
+    (elsewhere_wider m after base (20 * slots) base (20 * slots + 2) (omega arith) (omega arith) elsewhere) in
+    let home : base_in slots c.home.result ≡ base_in slots a.turn = c.home.ensures.is slots in
+    copies_put pages slots m after (words_of pages slots m) (words_of pages slots after) base a.page a.page
+    (a.page + 1) a.next s words has elsewhere is_put kept below size c.in_ok-found.ensures.names
+    (λ p lt other. omega (arith, lt, other))
+    (λ p from. (omega (arith, from), λ e. absurd (omega (arith, e, from))))
+    (λ p k other within few. ap (λ (l : List ℕ). slice_index l (16 * p + k)) stays.words)
+    (λ k few. c.in_ok-found.ensures.each k few
+    ∙ ap (λ (b : ℕ). page_word m b slots a.page k) (home ∙ ap (base_in slots) c.requires.turn)
+    ∙ sym (index-page pages slots m a.page k c.requires.entry.0 few)
+    ∙ sym (ap (λ (l : List ℕ). slice_index l (16 * a.page + k)) stays.words))
+
+pub record_of-requires-clause-entry : goal.record_of-requires-clause-entry
+record_of-requires-clause-entry g c =
+    let slots = g.F.Flash.SLOTS in
+    let m = (g.F.Flash.state c.args.flash.now).words in
+    c.requires.entry.1 ∙ sym (ap (λ (b : ℕ). find m b slots c.args.page) (c.home.ensures.is slots))
+
+pub put_in_spare-requires-clause-free : goal.put_in_spare-requires-clause-free
+put_in_spare-requires-clause-free g c =
+    let slots = g.F.Flash.SLOTS in
+    let next = c.args.next in
+    subst (λ (b : ℕ). AreFree (g.F.Flash.state c.record_of.new.flash).words b next slots)
+    (sym (c.spare.ensures.is slots))
+    (subst (λ (l : List ℕ). AreFree l (spare_in slots c.args.turn) next slots) (sym c.record_of.ensures.words)
+    c.requires.copies.2.free)
+
+pub returns-then-entry-eq0-clause-copies : goal.returns-then-entry-eq0-clause-copies
+returns-then-entry-eq0-clause-copies g c =
+    let slots = g.F.Flash.SLOTS in
+    let pages = g.F.Flash.PAGES in
+    let a = c.args in
+    let m = (g.F.Flash.state a.flash.now).words in
+    let none : find m (base_in slots a.turn) slots a.page ≡ 0 =
+    sym c.requires.entry.1 ∙ sym c.entry.ensures ∙ c.if-entry-eq0.true in
+    copies_past pages slots m a.turn a.page a.next c.requires.turn none c.requires.copies.2

@@ -1,0 +1,22 @@
+use Rattle.std.proofs.Common.{◌≡◌, ◌<◌, ◌-◌, ℕ, subst, ap, arith}
+use Rattle.flash_device.specs.FlashLogs.{base_in, turn_of}
+use Rattle.flash_device.specs.PageTables.{AreFree}
+use Rattle.flash_log.specs.Paces.{LogState, free_slots}
+use Rattle.flash_log.specs.laws.Pacing.{free_known, free_of}
+use Rattle.flash_log.proofs.flash_log.FlashLog.has_free.Goals as goal
+
+pub returns : goal.returns
+returns g c =
+    let slots = g.F.Flash.SLOTS in
+    let place = c.self.inside.place in
+    let m = (g.F.Flash.state c.self.inside.flash).words in
+    subst (λ (l : LogState). 0 < l.free → AreFree l.raw (base_in slots (turn_of slots l.raw)) (slots - l.free) slots)
+    c.self.view_is
+    (λ some.
+    let known = free_known g.F.Flash.PAGES slots g.F.Flash.SECTORS place 0 some in
+    let at = c.self.invariant.known known.0 in
+    let below = known.1 in
+    let free = free_of g.F.Flash.PAGES slots g.F.Flash.SECTORS place known.0 in
+    let next : place.next ≡ slots - free_slots slots place = omega (arith, free, below) in
+    subst (λ (b : ℕ). AreFree m b (slots - free_slots slots place) slots) (ap (λ (t : ℕ). base_in slots t) at.turn)
+    (subst (λ (n : ℕ). AreFree m (base_in slots place.turn) n slots) next at.free))

@@ -1,0 +1,99 @@
+use Rattle.std.proofs.Common.{◌≡◌, ◌≢◌, ◌≤◌, ◌+◌, ◌-◌, ◌∙◌, ℕ, true, refl, sym, ap, subst, ⊎_elim, arith}
+use Rattle.std.proofs.lemmas.Bool.{cases_eq}
+use Rattle.flash_device.specs.declared.flash.TheConstants.{BLANK}
+use Rattle.flash_log.specs.declared.place.PageMap.{PageMap}
+use Rattle.flash_device.specs.FlashBlocks.{area_size, steps_of}
+use Rattle.flash_device.specs.FlashCalls.{AreFilled}
+use Rattle.flash_device.specs.FlashLogs.{base_in}
+use Rattle.flash_log.specs.Paces.{KeepsPace, free_slots}
+use Rattle.flash_log.specs.Renewals.{AreClean, HasLastMark, HavePages, HoldsOnlyPages}
+use Rattle.flash_log.specs.Spares.{spare_in}
+use Rattle.flash_log.specs.laws.Renewing.{home_held, last_same, only_pages, pace_renewed}
+use Rattle.flash_log.proofs.renewal.renew_pages.Goals as goal
+
+pub returns-then-branch-clause-only : goal.returns-then-branch-clause-only
+returns-then-branch-clause-only g c =
+    let slots = g.F.Flash.SLOTS in
+    let pages = g.F.Flash.PAGES in
+    let mid = (g.F.Flash.state c.move_pages.new.flash).words in
+    let after = (g.F.Flash.state c.erase_spare.new.flash).words in
+    let p = c.move_pages.new.place in
+    let q = c.erase_spare.new.place in
+    let step = c.in_ok-erase_spare.ensures.step in
+    let turn : q.turn ≡ p.turn = ap (λ (r : PageMap _). r.turn) step in
+    let known = c.erase_spare.ensures.log.known (ap (λ (r : PageMap _). r.ready) step) in
+    let last : HasLastMark slots after q.turn = subst (HasLastMark slots after) (sym turn)
+    (last_same pages slots mid after p.turn c.erase_spare.ensures.elsewhere c.in_ok-move_pages.ensures.last) in
+    let blank : AreFilled after (spare_in slots q.turn) (area_size slots) BLANK =
+    subst (λ (t : ℕ). AreFilled after (spare_in slots t) (area_size slots) BLANK) (sym turn)
+    c.in_ok-erase_spare.ensures.blank in
+    let clean : AreClean pages slots after (base_in slots q.turn) q.next =
+    subst (λ (b : ℕ). AreClean pages slots after b q.next) (c.home.ensures.is slots)
+    (c.in_ok-are_clean.ensures.clean c.if-branch.true) in
+    subst (HoldsOnlyPages pages slots) (sym c.are_clean.ensures.words)
+    (only_pages pages slots after q.turn q.next c.erase_spare.ensures.log.ring known.turn known.small
+    (λ one. c.in_ok-move_pages.ensures.ready.1 (sym turn ∙ one)) last clean known.free blank)
+
+pub returns-clause-light : goal.returns-clause-light
+returns-clause-light g c =
+    let slots = g.F.Flash.SLOTS in
+    let pages = g.F.Flash.PAGES in
+    let old = g.F.Flash.state c.args.flash.now in
+    let new = g.F.Flash.state c.are_clean.new.flash in
+    let mid = (g.F.Flash.state c.move_pages.new.flash).words in
+    let after = (g.F.Flash.state c.erase_spare.new.flash).words in
+    let p = c.move_pages.new.place in
+    let q = c.erase_spare.new.place in
+    let step = c.in_ok-erase_spare.ensures.step in
+    let moved = c.in_ok-move_pages.ensures.light.ok refl in
+    let erased = c.in_ok-erase_spare.ensures.light.ok refl in
+    let looked = c.in_ok-are_clean.ensures.light.ok refl in
+    let less = moved.faults in
+    let more = erased.faults in
+    let still = looked.faults in
+    let rises : old.faults + 1 ≤ new.faults = ⊎_elim
+    (λ (same : new.faults ≡ old.faults).
+    let have = home_held pages slots mid after p.turn p.next c.erase_spare.ensures.elsewhere
+    (c.in_ok-move_pages.ensures.have (omega (arith, same, less, more, still))) in
+    let here : HavePages pages slots after (base_in slots q.turn) q.next =
+    subst (λ (r : PageMap _). HavePages pages slots after (base_in slots r.turn) r.next) (sym step) have in
+    absurd (c.in_ok-are_clean.ensures.unclean c.if-branch.false
+    (subst (λ (b : ℕ). HavePages pages slots after b q.next) (sym (c.home.ensures.is slots)) here)))
+    (λ (other : new.faults ≢ old.faults). omega (arith, other, less, more, still))
+    (cases_eq new.faults old.faults) in
+    record {
+      ok = λ h. absurd cc;
+      lost = λ h. absurd cc;
+      fault = λ h. (
+        record {
+          lit = looked.lit;
+          due = looked.due ∙ erased.due ∙ moved.due;
+          faults = omega (arith, less, more, still);
+        },
+        rises,
+      );
+    }
+
+pub returns-then-branch-clause-pace : goal.returns-then-branch-clause-pace
+returns-then-branch-clause-pace g c = λ roomy few.
+    let slots = g.F.Flash.SLOTS in
+    let pages = g.F.Flash.PAGES in
+    let sectors = g.F.Flash.SECTORS in
+    let erased = (c.in_ok-erase_spare.ensures.light.ok refl).faults in
+    let looked = (c.in_ok-are_clean.ensures.light.ok refl).faults in
+    let passes = c.in_ok-move_pages.ensures.passes in
+    let p = c.move_pages.new.place in
+    let room : p.next + steps_of pages ≤ slots = omega (arith, roomy, few, erased, looked, passes) in
+    subst (KeepsPace pages slots sectors) (sym c.in_ok-erase_spare.ensures.step)
+    (pace_renewed pages slots sectors (record p { ready = true; erased = sectors; copied = 0; behind = 0 }) refl
+    c.in_ok-move_pages.ensures.ready.1 refl refl refl room)
+
+pub returns-then-branch-clause-free : goal.returns-then-branch-clause-free
+returns-then-branch-clause-free g c =
+    let slots = g.F.Flash.SLOTS in
+    let erased = (c.in_ok-erase_spare.ensures.light.ok refl).faults in
+    let looked = (c.in_ok-are_clean.ensures.light.ok refl).faults in
+    let passes = c.in_ok-move_pages.ensures.passes in
+    let free : free_slots slots c.erase_spare.new.place ≡ slots - c.move_pages.new.place.next =
+    ap (λ (r : PageMap _). free_slots slots r) c.in_ok-erase_spare.ensures.step in
+    omega (arith, free, erased, looked, passes)

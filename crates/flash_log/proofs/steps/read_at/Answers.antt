@@ -1,0 +1,27 @@
+use Rattle.std.proofs.Common.{◌/◌, ◌%◌, ℕ, List, slice_index, sym, ap, inr, ◌∙◌}
+use Rattle.flash_device.specs.FlashLogs.{base_in, page_word, words_of}
+use Rattle.flash_log.specs.laws.Pacing.{fresh_is}
+use Rattle.flash_log.specs.laws.Words.{index-words}
+use Rattle.flash_log.proofs.steps.read_at.Goals as goal
+
+pub returns-clause-word : goal.returns-clause-word
+returns-clause-word g c =
+    let slots = g.F.Flash.SLOTS in
+    let pages = g.F.Flash.PAGES in
+    let m = (g.F.Flash.state c.find_pages.new.flash).words in
+    let at = c.args.at in
+    let known = c.find_pages.ensures.log.known c.in_ok-find_pages.ensures.ready in
+    c.in_ok-word.ensures.word
+    ∙ ap (λ (b : ℕ). page_word m b slots (at / 16) (at % 16)) (c.home.ensures.is slots ∙ ap (base_in slots) known.turn)
+    ∙ sym (index-words pages slots m at c.requires.at)
+    ∙ ap (λ (l : List ℕ). slice_index (words_of pages slots l) at) c.find_pages.ensures.words
+
+pub returns-in_err-word-clause-looks : goal.returns-in_err-word-clause-looks
+returns-in_err-word-clause-looks g c = λ fresh.
+    let is = fresh_is g.F.Flash.PAGES g.F.Flash.SLOTS g.F.Flash.SECTORS c.args.place.now fresh in
+    inr (c.in_ok-find_pages.ensures.found is.0 is.1)
+
+pub returns-clause-looks : goal.returns-clause-looks
+returns-clause-looks g c = λ fresh.
+    let is = fresh_is g.F.Flash.PAGES g.F.Flash.SLOTS g.F.Flash.SECTORS c.args.place.now fresh in
+    inr (c.in_ok-find_pages.ensures.found is.0 is.1)

@@ -1,0 +1,263 @@
+use Rattle.std.proofs.Common.{◌≡◌, ◌≤◌, ◌+◌, ◌*◌, length, Err, refl, sym, ap, inl, ◌∙◌, true≢false, arith}
+use Rattle.std.proofs.lemmas.Result.{on_ok_weaker}
+use Rattle.flash_device.specs.FlashLogs.{words_of}
+use Rattle.flash_log.specs.declared.place.PageMap.{PageMap}
+use Rattle.flash_log.specs.Paces.{IsRoomy, KeepsPace, RegainsSlots, free_slots}
+use Rattle.flash_log.specs.laws.Lighting.{failed_costs, last_costs, tries_faults}
+use Rattle.flash_log.specs.laws.Pacing.{holds_since, pauses_since, takes_since}
+use Rattle.flash_log.specs.laws.Words.{length-words}
+use Rattle.flash_log.specs.laws.Writing.{whole_again, done_again}
+use Rattle.flash_log.proofs.steps.write_at.Goals as goal
+
+pub loop-init : goal.loop-init
+loop-init g c = record {
+  lit = c.requires.lit;
+  steady = record { lit = c.requires.lit; due = refl; faults = omega arith };
+  failed = omega arith;
+  operations = omega arith;
+  first = λ same. (refl, refl);
+  log = c.requires.log;
+  whole = inl refl;
+}
+
+pub loop-preserved : goal.loop-preserved
+loop-preserved g c =
+    let slots = g.F.Flash.SLOTS in
+    let pages = g.F.Flash.PAGES in
+    let m = words_of pages slots (g.F.Flash.state c.args.flash.now).words in
+    let mid = words_of pages slots (g.F.Flash.state c.loop.flash).words in
+    let after = words_of pages slots (g.F.Flash.state c.write_once.new.flash).words in
+    let at = 16 * c.args.page + c.args.first in
+    let all : length m ≡ 16 * pages = length-words pages slots (g.F.Flash.state c.args.flash.now).words in
+    let fits : at + length c.args.words.now ≤ length m = omega (arith, all, c.requires.page, c.requires.run) in
+    let was = c.loop.invariant in
+    let failed = c.in-Err-Fault.ensures.light.fault (ap Err c.in-Err-Fault.field-0-is) in
+    let power = failed.0 in
+    let more = failed.1 in
+    let work = c.write_once.ensures.work.operations in record {
+      lit = power.lit;
+      steady = record {
+        lit = power.lit;
+        due = power.due ∙ was.steady.due;
+        faults = omega (arith, was.steady.faults, more);
+      };
+      failed = omega (arith, was.failed, more);
+      operations = failed_costs (2 * pages + 42 + g.F.Flash.SECTORS) (2 * pages + 40 + g.F.Flash.SECTORS)
+          (omega arith) _ _ _ _ _ _
+          was.operations (omega (arith, more)) work more;
+      first = λ same. let before = was.steady.faults in absurd (omega (arith, same, before, more));
+      log = c.write_once.ensures.log;
+      whole = whole_again m mid after c.args.words.now at fits was.whole c.write_once.ensures.whole;
+    }
+
+pub returns-in-Ok-clause-whole : goal.returns-in-Ok-clause-whole
+returns-in-Ok-clause-whole g c =
+    let slots = g.F.Flash.SLOTS in
+    let pages = g.F.Flash.PAGES in
+    let m = words_of pages slots (g.F.Flash.state c.args.flash.now).words in
+    let mid = words_of pages slots (g.F.Flash.state c.loop.flash).words in
+    let after = words_of pages slots (g.F.Flash.state c.write_once.new.flash).words in
+    let at = 16 * c.args.page + c.args.first in
+    let all : length m ≡ 16 * pages = length-words pages slots (g.F.Flash.state c.args.flash.now).words in
+    let fits : at + length c.args.words.now ≤ length m = omega (arith, all, c.requires.page, c.requires.run) in
+    whole_again m mid after c.args.words.now at fits c.loop.invariant.whole c.write_once.ensures.whole
+
+pub returns-in-Ok-clause-done : goal.returns-in-Ok-clause-done
+returns-in-Ok-clause-done g c =
+    let slots = g.F.Flash.SLOTS in
+    let pages = g.F.Flash.PAGES in
+    let m = words_of pages slots (g.F.Flash.state c.args.flash.now).words in
+    let mid = words_of pages slots (g.F.Flash.state c.loop.flash).words in
+    let after = words_of pages slots (g.F.Flash.state c.write_once.new.flash).words in
+    let at = 16 * c.args.page + c.args.first in
+    let all : length m ≡ 16 * pages = length-words pages slots (g.F.Flash.state c.args.flash.now).words in
+    let fits : at + length c.args.words.now ≤ length m = omega (arith, all, c.requires.page, c.requires.run) in
+    done_again m mid after c.args.words.now at fits c.loop.invariant.whole c.in-Ok.ensures.done
+
+pub returns-in-Err-PowerLost-clause-whole : goal.returns-in-Err-PowerLost-clause-whole
+returns-in-Err-PowerLost-clause-whole g c =
+    let slots = g.F.Flash.SLOTS in
+    let pages = g.F.Flash.PAGES in
+    let m = words_of pages slots (g.F.Flash.state c.args.flash.now).words in
+    let mid = words_of pages slots (g.F.Flash.state c.loop.flash).words in
+    let after = words_of pages slots (g.F.Flash.state c.write_once.new.flash).words in
+    let at = 16 * c.args.page + c.args.first in
+    let all : length m ≡ 16 * pages = length-words pages slots (g.F.Flash.state c.args.flash.now).words in
+    let fits : at + length c.args.words.now ≤ length m = omega (arith, all, c.requires.page, c.requires.run) in
+    whole_again m mid after c.args.words.now at fits c.loop.invariant.whole c.write_once.ensures.whole
+
+pub returns-clause-whole : goal.returns-clause-whole
+returns-clause-whole g c =
+    let slots = g.F.Flash.SLOTS in
+    let pages = g.F.Flash.PAGES in
+    let m = words_of pages slots (g.F.Flash.state c.args.flash.now).words in
+    let mid = words_of pages slots (g.F.Flash.state c.loop.flash).words in
+    let after = words_of pages slots (g.F.Flash.state c.write_once-2.new.flash).words in
+    let at = 16 * c.args.page + c.args.first in
+    let all : length m ≡ 16 * pages = length-words pages slots (g.F.Flash.state c.args.flash.now).words in
+    let fits : at + length c.args.words.now ≤ length m = omega (arith, all, c.requires.page, c.requires.run) in
+    whole_again m mid after c.args.words.now at fits c.loop.invariant.whole c.write_once-2.ensures.whole
+
+pub returns-clause-done : goal.returns-clause-done
+returns-clause-done g c =
+    let slots = g.F.Flash.SLOTS in
+    let pages = g.F.Flash.PAGES in
+    let m = words_of pages slots (g.F.Flash.state c.args.flash.now).words in
+    let mid = words_of pages slots (g.F.Flash.state c.loop.flash).words in
+    let after = words_of pages slots (g.F.Flash.state c.write_once-2.new.flash).words in
+    let at = 16 * c.args.page + c.args.first in
+    let all : length m ≡ 16 * pages = length-words pages slots (g.F.Flash.state c.args.flash.now).words in
+    let fits : at + length c.args.words.now ≤ length m = omega (arith, all, c.requires.page, c.requires.run) in
+    on_ok_weaker c.write_once-2.result (done_again m mid after c.args.words.now at fits c.loop.invariant.whole)
+    c.write_once-2.ensures.done
+
+pub returns-clause-work : goal.returns-clause-work
+returns-clause-work g c =
+    let pages = g.F.Flash.PAGES in
+    let sectors = g.F.Flash.SECTORS in
+    let more = tries_faults 1 (g.F.Flash.state c.loop.flash) (g.F.Flash.state c.write_once-2.new.flash)
+    c.write_once-2.result c.write_once-2.ensures.light in
+    record {
+      operations = last_costs (2 * pages + 42 + sectors) (2 * pages + 40 + sectors) (omega arith) _ _ _ _ _ _
+          c.loop.invariant.operations more c.write_once-2.ensures.work.operations;
+    }
+
+pub returns-in-Ok-clause-work : goal.returns-in-Ok-clause-work
+returns-in-Ok-clause-work g c =
+    let pages = g.F.Flash.PAGES in
+    let sectors = g.F.Flash.SECTORS in
+    let more = tries_faults 1 (g.F.Flash.state c.loop.flash) (g.F.Flash.state c.write_once.new.flash)
+    c.write_once.result c.write_once.ensures.light in
+    record {
+      operations = last_costs (2 * pages + 42 + sectors) (2 * pages + 40 + sectors) (omega arith) _ _ _ _ _ _
+          c.loop.invariant.operations more c.write_once.ensures.work.operations;
+    }
+
+pub returns-in-Err-PowerLost-clause-work : goal.returns-in-Err-PowerLost-clause-work
+returns-in-Err-PowerLost-clause-work g c =
+    let pages = g.F.Flash.PAGES in
+    let sectors = g.F.Flash.SECTORS in
+    let more = tries_faults 1 (g.F.Flash.state c.loop.flash) (g.F.Flash.state c.write_once.new.flash)
+    c.write_once.result c.write_once.ensures.light in
+    record {
+      operations = last_costs (2 * pages + 42 + sectors) (2 * pages + 40 + sectors) (omega arith) _ _ _ _ _ _
+          c.loop.invariant.operations more c.write_once.ensures.work.operations;
+    }
+
+pub returns-clause-pause : goal.returns-clause-pause
+returns-clause-pause g c = λ roomy.
+    let slots = g.F.Flash.SLOTS in
+    let pages = g.F.Flash.PAGES in
+    let sectors = g.F.Flash.SECTORS in
+    let mid = g.F.Flash.state c.loop.flash in
+    let new = g.F.Flash.state c.write_once-2.new.flash in
+    let more = tries_faults 1 mid new c.write_once-2.result c.write_once-2.ensures.light in
+    pauses_since pages slots sectors 37 (g.F.Flash.state c.args.flash.now) mid new c.args.place.now
+    c.loop.place
+    (KeepsPace pages slots sectors c.write_once-2.new.place) _ c.loop.invariant.steady.faults more
+    c.loop.invariant.first
+    (c.write_once-2.ensures.pause roomy)
+
+pub returns-in-Ok-clause-pause : goal.returns-in-Ok-clause-pause
+returns-in-Ok-clause-pause g c = λ roomy.
+    let slots = g.F.Flash.SLOTS in
+    let pages = g.F.Flash.PAGES in
+    let sectors = g.F.Flash.SECTORS in
+    let mid = g.F.Flash.state c.loop.flash in
+    let new = g.F.Flash.state c.write_once.new.flash in
+    let more = tries_faults 1 mid new c.write_once.result c.write_once.ensures.light in
+    pauses_since pages slots sectors 37 (g.F.Flash.state c.args.flash.now) mid new c.args.place.now
+    c.loop.place
+    (KeepsPace pages slots sectors c.write_once.new.place) _ c.loop.invariant.steady.faults more
+    c.loop.invariant.first
+    (c.in-Ok.ensures.pause roomy)
+
+pub returns-in-Err-PowerLost-clause-pause : goal.returns-in-Err-PowerLost-clause-pause
+returns-in-Err-PowerLost-clause-pause g c = λ roomy.
+    let slots = g.F.Flash.SLOTS in
+    let pages = g.F.Flash.PAGES in
+    let sectors = g.F.Flash.SECTORS in
+    let mid = g.F.Flash.state c.loop.flash in
+    let new = g.F.Flash.state c.write_once.new.flash in
+    let more = tries_faults 1 mid new c.write_once.result c.write_once.ensures.light in
+    let pause = pauses_since pages slots sectors 37 (g.F.Flash.state c.args.flash.now) mid new c.args.place.now
+    c.loop.place
+    (KeepsPace pages slots sectors c.write_once.new.place) _ c.loop.invariant.steady.faults more
+    c.loop.invariant.first
+    (c.in-Err-PowerLost.ensures.pause roomy) in
+    record {
+      short = pause.short;
+      stays = λ same pace ok. absurd (true≢false (sym ok));
+      long = λ same ok. absurd (true≢false (sym ok));
+    }
+
+pub returns-clause-calm : goal.returns-clause-calm
+returns-clause-calm g c = λ far same.
+    let slots = g.F.Flash.SLOTS in
+    let pages = g.F.Flash.PAGES in
+    let sectors = g.F.Flash.SECTORS in
+    let mid = g.F.Flash.state c.loop.flash in
+    let new = g.F.Flash.state c.write_once-2.new.flash in
+    let more = tries_faults 1 mid new c.write_once-2.result c.write_once-2.ensures.light in
+    takes_since pages slots sectors (g.F.Flash.state c.args.flash.now) mid new c.args.place.now c.loop.place
+    (free_slots slots c.write_once-2.new.place) _ c.loop.invariant.steady.faults more c.loop.invariant.first
+    (c.write_once-2.ensures.calm) far same
+
+pub returns-in-Ok-clause-calm : goal.returns-in-Ok-clause-calm
+returns-in-Ok-clause-calm g c = λ far same.
+    let slots = g.F.Flash.SLOTS in
+    let pages = g.F.Flash.PAGES in
+    let sectors = g.F.Flash.SECTORS in
+    let mid = g.F.Flash.state c.loop.flash in
+    let new = g.F.Flash.state c.write_once.new.flash in
+    let more = tries_faults 1 mid new c.write_once.result c.write_once.ensures.light in
+    takes_since pages slots sectors (g.F.Flash.state c.args.flash.now) mid new c.args.place.now c.loop.place
+    (free_slots slots c.write_once.new.place) _ c.loop.invariant.steady.faults more c.loop.invariant.first
+    (c.in-Ok.ensures.calm) far same
+
+pub returns-in-Err-PowerLost-clause-calm : goal.returns-in-Err-PowerLost-clause-calm
+returns-in-Err-PowerLost-clause-calm g c = λ far same.
+    let slots = g.F.Flash.SLOTS in
+    let pages = g.F.Flash.PAGES in
+    let sectors = g.F.Flash.SECTORS in
+    let mid = g.F.Flash.state c.loop.flash in
+    let new = g.F.Flash.state c.write_once.new.flash in
+    let more = tries_faults 1 mid new c.write_once.result c.write_once.ensures.light in
+    let calm = takes_since pages slots sectors (g.F.Flash.state c.args.flash.now) mid new c.args.place.now c.loop.place
+    (free_slots slots c.write_once.new.place) _ c.loop.invariant.steady.faults more c.loop.invariant.first
+    (c.in-Err-PowerLost.ensures.calm) far same in record {
+      operations = calm.operations;
+      fewer = calm.fewer;
+      erases = calm.erases;
+      slots = λ ok. absurd (true≢false (sym ok));
+    }
+
+pub returns-in-Ok-clause-regains : goal.returns-in-Ok-clause-regains
+returns-in-Ok-clause-regains g c = λ roomy.
+    let slots = g.F.Flash.SLOTS in
+    let pages = g.F.Flash.PAGES in
+    let sectors = g.F.Flash.SECTORS in
+    let mid = g.F.Flash.state c.loop.flash in
+    let new = g.F.Flash.state c.write_once.new.flash in
+    let after = free_slots slots c.write_once.new.place in
+    let more = tries_faults 1 mid new c.write_once.result c.write_once.ensures.light in
+    holds_since pages slots sectors (g.F.Flash.state c.args.flash.now) mid new c.args.place.now c.loop.place
+    (λ (z : PageMap _). KeepsPace pages slots sectors z → RegainsSlots pages slots (free_slots slots z) after)
+    c.loop.invariant.steady.faults more c.loop.invariant.first (c.in-Ok.ensures.regains roomy)
+
+pub returns-clause-regains : goal.returns-clause-regains
+returns-clause-regains g c =
+    let slots = g.F.Flash.SLOTS in
+    let pages = g.F.Flash.PAGES in
+    let sectors = g.F.Flash.SECTORS in
+    let mid = g.F.Flash.state c.loop.flash in
+    let new = g.F.Flash.state c.write_once-2.new.flash in
+    let after = free_slots slots c.write_once-2.new.place in
+    let more = tries_faults 1 mid new c.write_once-2.result c.write_once-2.ensures.light in
+    on_ok_weaker c.write_once-2.result
+    (λ (regains : IsRoomy pages slots sectors → new.faults ≡ mid.faults → KeepsPace pages slots sectors c.loop.place
+    → RegainsSlots pages slots (free_slots slots c.loop.place) after). λ roomy.
+    holds_since pages slots sectors (g.F.Flash.state c.args.flash.now) mid new c.args.place.now c.loop.place
+    (λ (z : PageMap _). KeepsPace pages slots sectors z → RegainsSlots pages slots (free_slots slots z) after)
+    c.loop.invariant.steady.faults more c.loop.invariant.first (regains roomy))
+    c.write_once-2.ensures.regains

@@ -1,0 +1,150 @@
+use Rattle.std.proofs.Common.{◌*◌, ◌≡◌, ◌≤◌, ◌+◌, ⊎_elim, refl, sym, ◌∙◌, inl, inr, arith}
+use Rattle.std.proofs.Common.{true≢false}
+use Rattle.flash_device.specs.FlashLogs.{turn_of}
+use Rattle.flash_log.specs.laws.Copying.{SameArea, area_found, area_free}
+use Rattle.flash_log.specs.laws.Moving.{Passes, Stays, zero_stays, zero_passes}
+use Rattle.flash_log.specs.laws.Turns.{zero_marks}
+use Rattle.flash_device.specs.laws.Marks.{closed_same}
+use Rattle.flash_log.specs.laws.Renewing.{same_held}
+use Rattle.flash_device.specs.FlashBlocks.{area_size}
+use Rattle.flash_log.proofs.turns.move_to_b.Goals as goal
+
+pub returns-in_err-next-clause-words : goal.returns-in_err-next-clause-words
+returns-in_err-next-clause-words g c =
+    let slots = g.F.Flash.SLOTS in
+    let pages = g.F.Flash.PAGES in
+    let m = (g.F.Flash.state c.args.flash.now).words in
+    let mid = (g.F.Flash.state c.erase_and_copy.new.flash).words in
+    let stays : Stays pages slots m mid = zero_stays pages slots m mid c.requires.ring c.requires.turn
+    c.erase_and_copy.ensures.elsewhere in
+    stays.words
+
+pub returns-in_err-next-clause-ring : goal.returns-in_err-next-clause-ring
+returns-in_err-next-clause-ring g c =
+    let slots = g.F.Flash.SLOTS in
+    let pages = g.F.Flash.PAGES in
+    let m = (g.F.Flash.state c.args.flash.now).words in
+    let mid = (g.F.Flash.state c.erase_and_copy.new.flash).words in
+    let stays : Stays pages slots m mid = zero_stays pages slots m mid c.requires.ring c.requires.turn
+    c.erase_and_copy.ensures.elsewhere in
+    stays.ring
+
+pub returns-in_err-close-clause-words : goal.returns-in_err-close-clause-words
+returns-in_err-close-clause-words g c =
+    let slots = g.F.Flash.SLOTS in
+    let pages = g.F.Flash.PAGES in
+    let m = (g.F.Flash.state c.args.flash.now).words in
+    let mid = (g.F.Flash.state c.erase_and_copy.new.flash).words in
+    let after = (g.F.Flash.state c.close.new.flash).words in
+    let passes : Passes pages slots m after 0 1 =
+    zero_passes pages slots m mid after c.requires.ring c.requires.turn c.erase_and_copy.ensures.elsewhere
+    c.in_ok-next.ensures.open
+    c.close.ensures.elsewhere c.in_ok-next.ensures.pages in
+    passes.words
+
+pub returns-in_err-close-clause-ring : goal.returns-in_err-close-clause-ring
+returns-in_err-close-clause-ring g c =
+    let slots = g.F.Flash.SLOTS in
+    let pages = g.F.Flash.PAGES in
+    let m = (g.F.Flash.state c.args.flash.now).words in
+    let mid = (g.F.Flash.state c.erase_and_copy.new.flash).words in
+    let after = (g.F.Flash.state c.close.new.flash).words in
+    let passes : Passes pages slots m after 0 1 =
+    zero_passes pages slots m mid after c.requires.ring c.requires.turn c.erase_and_copy.ensures.elsewhere
+    c.in_ok-next.ensures.open
+    c.close.ensures.elsewhere c.in_ok-next.ensures.pages in
+    passes.ring
+
+pub returns-clause-words : goal.returns-clause-words
+returns-clause-words g c =
+    let slots = g.F.Flash.SLOTS in
+    let pages = g.F.Flash.PAGES in
+    let m = (g.F.Flash.state c.args.flash.now).words in
+    let mid = (g.F.Flash.state c.erase_and_copy.new.flash).words in
+    let after = (g.F.Flash.state c.close.new.flash).words in
+    let passes : Passes pages slots m after 0 1 =
+    zero_passes pages slots m mid after c.requires.ring c.requires.turn c.erase_and_copy.ensures.elsewhere
+    c.in_ok-next.ensures.open
+    c.close.ensures.elsewhere c.in_ok-next.ensures.pages in
+    passes.words
+
+pub returns-clause-ring : goal.returns-clause-ring
+returns-clause-ring g c =
+    let slots = g.F.Flash.SLOTS in
+    let pages = g.F.Flash.PAGES in
+    let m = (g.F.Flash.state c.args.flash.now).words in
+    let mid = (g.F.Flash.state c.erase_and_copy.new.flash).words in
+    let after = (g.F.Flash.state c.close.new.flash).words in
+    let passes : Passes pages slots m after 0 1 =
+    zero_passes pages slots m mid after c.requires.ring c.requires.turn c.erase_and_copy.ensures.elsewhere
+    c.in_ok-next.ensures.open
+    c.close.ensures.elsewhere c.in_ok-next.ensures.pages in
+    passes.ring
+
+pub returns-clause-done : goal.returns-clause-done
+returns-clause-done g c =
+    let slots = g.F.Flash.SLOTS in
+    let pages = g.F.Flash.PAGES in
+    let m = (g.F.Flash.state c.args.flash.now).words in
+    let mid = (g.F.Flash.state c.erase_and_copy.new.flash).words in
+    let after = (g.F.Flash.state c.close.new.flash).words in
+    let passes : Passes pages slots m after 0 1 =
+    zero_passes pages slots m mid after c.requires.ring c.requires.turn c.erase_and_copy.ensures.elsewhere
+    c.in_ok-next.ensures.open
+    c.close.ensures.elsewhere c.in_ok-next.ensures.pages in
+    ⊎_elim (λ (old : turn_of slots after ≡ 0). absurd
+    (true≢false (sym c.in_ok-close.ensures.done ∙ (zero_marks slots after
+    passes.ring old).0)))
+    (λ (new : turn_of slots after ≡ 1). new) passes.turn
+
+pub returns-clause-index : goal.returns-clause-index
+returns-clause-index g c =
+    let slots = g.F.Flash.SLOTS in
+    let mid = (g.F.Flash.state c.erase_and_copy.new.flash).words in
+    let after = (g.F.Flash.state c.close.new.flash).words in
+    let same : SameArea slots mid after (area_size slots) =
+    record {
+      each = λ k low high. let x : (20 * slots) + 2 ≤ k = omega (arith, low) in
+          c.close.ensures.elsewhere.same k (inr x);
+    } in
+    record {
+      each = λ p lt. c.in_ok-next.ensures.index.each p lt
+          ∙ sym (area_found slots mid after (area_size slots) same p);
+    }
+
+pub returns-clause-free : goal.returns-clause-free
+returns-clause-free g c =
+    let slots = g.F.Flash.SLOTS in
+    let mid = (g.F.Flash.state c.erase_and_copy.new.flash).words in
+    let after = (g.F.Flash.state c.close.new.flash).words in
+    let same : SameArea slots mid after (area_size slots) =
+    record {
+      each = λ k low high. let x : (20 * slots) + 2 ≤ k = omega (arith, low) in
+          c.close.ensures.elsewhere.same k (inr x);
+    } in
+    area_free slots mid after (area_size slots) same c.in_ok-next.next c.in_ok-next.ensures.free
+
+pub close-requires-clause-opened : goal.close-requires-clause-opened
+close-requires-clause-opened g c =
+    let slots = g.F.Flash.SLOTS in
+    let m = (g.F.Flash.state c.args.flash.now).words in
+    let mid = (g.F.Flash.state c.erase_and_copy.new.flash).words in
+    let before : (20 * slots) + 2 ≤ (area_size slots) = omega arith in
+    closed_same m mid (20 * slots) (area_size slots) (area_size slots) c.erase_and_copy.ensures.elsewhere (inl before)
+    ∙ (zero_marks slots m c.requires.ring
+    c.requires.turn).0
+
+pub returns-clause-have : goal.returns-clause-have
+returns-clause-have g c = λ none.
+    let slots = g.F.Flash.SLOTS in
+    let pages = g.F.Flash.PAGES in
+    let mid = (g.F.Flash.state c.erase_and_copy.new.flash).words in
+    let after = (g.F.Flash.state c.close.new.flash).words in
+    let closed = (c.in_ok-close.ensures.light.ok refl).faults in
+    let same : SameArea slots mid after (area_size slots) =
+    record {
+      each = λ k low high. let x : (20 * slots) + 2 ≤ k = omega (arith, low) in
+          c.close.ensures.elsewhere.same k (inr x);
+    } in
+    same_held pages slots mid after (area_size slots) c.in_ok-next.next same
+    (c.in_ok-next.ensures.have (sym closed ∙ none))

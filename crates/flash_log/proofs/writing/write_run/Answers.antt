@@ -1,0 +1,168 @@
+use Rattle.std.proofs.Common.{◌≡◌, ◌*◌, ℕ, List, length, sym, subst}
+use Rattle.std.proofs.Common.{arith}
+use Rattle.flash_device.specs.PageTables.{IsPageTable}
+use Rattle.flash_device.specs.FlashLogs.{base_in, slot_of}
+use Rattle.flash_device.specs.SlotParts.{IsPut, PutsInSlot}
+use Rattle.flash_device.specs.laws.Marks.{elsewhere_wider}
+use Rattle.flash_log.specs.laws.Writing.{run_marks, run_done, run_whole, run_index, free_behind}
+use Rattle.flash_log.proofs.writing.write_run.Goals as goal
+
+pub returns-in_err-program_record-clause-whole : goal.returns-in_err-program_record-clause-whole
+returns-in_err-program_record-clause-whole g c =
+    let slots = g.F.Flash.SLOTS in
+    let pages = g.F.Flash.PAGES in
+    let a = c.args in
+    let m = (g.F.Flash.state a.flash.now).words in
+    let after = (g.F.Flash.state c.program_record.new.flash).words in
+    let words = c.overlay.new.found in
+    let at = slot_of (base_in slots a.area) a.next in
+    let puts : PutsInSlot m at words after = subst (λ (k : ℕ). PutsInSlot m k words after) c.slot_at.ensures.is
+    (subst (λ (l : List ℕ). PutsInSlot l c.slot_at.result words after) c.record_of.ensures.words
+    c.program_record.ensures.puts) in
+    let size : length words ≡ 18 = omega arith in
+    run_whole pages slots m after a.area a.next a.page a.first a.words.now c.in_ok-found.found words c.requires.room
+    c.requires.home
+    c.requires.free size c.requires.page c.requires.run c.in_ok-found.ensures.each c.in_ok-found.ensures.names
+    c.overlay.ensures.other c.overlay.ensures.run puts
+
+pub returns-in_err-program_record-clause-marks : goal.returns-in_err-program_record-clause-marks
+returns-in_err-program_record-clause-marks g c =
+    let slots = g.F.Flash.SLOTS in
+    let pages = g.F.Flash.PAGES in
+    let a = c.args in
+    let m = (g.F.Flash.state a.flash.now).words in
+    let after = (g.F.Flash.state c.program_record.new.flash).words in
+    let words = c.overlay.new.found in
+    let at = slot_of (base_in slots a.area) a.next in
+    let puts : PutsInSlot m at words after = subst (λ (k : ℕ). PutsInSlot m k words after) c.slot_at.ensures.is
+    (subst (λ (l : List ℕ). PutsInSlot l c.slot_at.result words after) c.record_of.ensures.words
+    c.program_record.ensures.puts) in
+    let size : length words ≡ 18 = omega arith in
+    run_marks pages slots m after a.area a.next a.page a.first a.words.now c.in_ok-found.found words c.requires.room
+    c.requires.home
+    c.requires.free size c.requires.page c.requires.run c.in_ok-found.ensures.each c.in_ok-found.ensures.names
+    c.overlay.ensures.other c.overlay.ensures.run puts
+
+pub returns-clause-whole : goal.returns-clause-whole
+returns-clause-whole g c =
+    let slots = g.F.Flash.SLOTS in
+    let pages = g.F.Flash.PAGES in
+    let a = c.args in
+    let m = (g.F.Flash.state a.flash.now).words in
+    let after = (g.F.Flash.state c.program_record.new.flash).words in
+    let words = c.overlay.new.found in
+    let at = slot_of (base_in slots a.area) a.next in
+    let puts : PutsInSlot m at words after = subst (λ (k : ℕ). PutsInSlot m k words after) c.slot_at.ensures.is
+    (subst (λ (l : List ℕ). PutsInSlot l c.slot_at.result words after) c.record_of.ensures.words
+    c.program_record.ensures.puts) in
+    let size : length words ≡ 18 = omega arith in
+    run_whole pages slots m after a.area a.next a.page a.first a.words.now c.in_ok-found.found words c.requires.room
+    c.requires.home
+    c.requires.free size c.requires.page c.requires.run c.in_ok-found.ensures.each c.in_ok-found.ensures.names
+    c.overlay.ensures.other c.overlay.ensures.run puts
+
+pub returns-clause-done : goal.returns-clause-done
+returns-clause-done g c =
+    let slots = g.F.Flash.SLOTS in
+    let pages = g.F.Flash.PAGES in
+    let a = c.args in
+    let m = (g.F.Flash.state a.flash.now).words in
+    let after = (g.F.Flash.state c.program_record.new.flash).words in
+    let words = c.overlay.new.found in
+    let at = slot_of (base_in slots a.area) a.next in
+    let puts : PutsInSlot m at words after = subst (λ (k : ℕ). PutsInSlot m k words after) c.slot_at.ensures.is
+    (subst (λ (l : List ℕ). PutsInSlot l c.slot_at.result words after) c.record_of.ensures.words
+    c.program_record.ensures.puts) in
+    let size : length words ≡ 18 = omega arith in
+    let put : IsPut after at words =
+    subst (λ (k : ℕ). IsPut after k words) c.slot_at.ensures.is c.in_ok-program_record.ensures.done in
+    run_done pages slots m after a.area a.next a.page a.first a.words.now c.in_ok-found.found words c.requires.room
+    c.requires.home
+    c.requires.free size c.requires.page c.requires.run c.in_ok-found.ensures.each c.in_ok-found.ensures.names
+    c.overlay.ensures.other c.overlay.ensures.run puts put
+
+pub returns-clause-index : goal.returns-clause-index
+returns-clause-index g c =
+    let slots = g.F.Flash.SLOTS in
+    let pages = g.F.Flash.PAGES in
+    let a = c.args in
+    let m = (g.F.Flash.state a.flash.now).words in
+    let after = (g.F.Flash.state c.program_record.new.flash).words in
+    let words = c.overlay.new.found in
+    let at = slot_of (base_in slots a.area) a.next in
+    let puts : PutsInSlot m at words after = subst (λ (k : ℕ). PutsInSlot m k words after) c.slot_at.ensures.is
+    (subst (λ (l : List ℕ). PutsInSlot l c.slot_at.result words after) c.record_of.ensures.words
+    c.program_record.ensures.puts) in
+    let size : length words ≡ 18 = omega arith in
+    let put : IsPut after at words =
+    subst (λ (k : ℕ). IsPut after k words) c.slot_at.ensures.is c.in_ok-program_record.ensures.done in
+    let table = g.F.Table.PageTable.entries a.table.now in
+    let all : length table ≡ pages = g.met.F.Flash.table_fits a.table.now in
+    subst (λ (l : List ℕ). IsPageTable pages after (base_in slots a.area) slots l) (sym c.set_entry.ensures)
+    (run_index pages slots m after a.area a.next a.page a.first a.words.now c.in_ok-found.found words c.requires.room
+    c.requires.home
+    c.requires.free size c.requires.page c.requires.run c.in_ok-found.ensures.each c.in_ok-found.ensures.names
+    c.overlay.ensures.other c.overlay.ensures.run table all c.requires.index puts put)
+
+pub returns-clause-free : goal.returns-clause-free
+returns-clause-free g c =
+    let slots = g.F.Flash.SLOTS in
+    let pages = g.F.Flash.PAGES in
+    let a = c.args in
+    let m = (g.F.Flash.state a.flash.now).words in
+    let after = (g.F.Flash.state c.program_record.new.flash).words in
+    let words = c.overlay.new.found in
+    let at = slot_of (base_in slots a.area) a.next in
+    let puts : PutsInSlot m at words after = subst (λ (k : ℕ). PutsInSlot m k words after) c.slot_at.ensures.is
+    (subst (λ (l : List ℕ). PutsInSlot l c.slot_at.result words after) c.record_of.ensures.words
+    c.program_record.ensures.puts) in
+    let size : length words ≡ 18 = omega arith in
+    free_behind pages slots m after a.area a.next puts.elsewhere c.requires.room c.requires.home c.requires.free
+
+pub returns-clause-marks : goal.returns-clause-marks
+returns-clause-marks g c =
+    let slots = g.F.Flash.SLOTS in
+    let pages = g.F.Flash.PAGES in
+    let a = c.args in
+    let m = (g.F.Flash.state a.flash.now).words in
+    let after = (g.F.Flash.state c.program_record.new.flash).words in
+    let words = c.overlay.new.found in
+    let at = slot_of (base_in slots a.area) a.next in
+    let puts : PutsInSlot m at words after = subst (λ (k : ℕ). PutsInSlot m k words after) c.slot_at.ensures.is
+    (subst (λ (l : List ℕ). PutsInSlot l c.slot_at.result words after) c.record_of.ensures.words
+    c.program_record.ensures.puts) in
+    let size : length words ≡ 18 = omega arith in
+    run_marks pages slots m after a.area a.next a.page a.first a.words.now c.in_ok-found.found words c.requires.room
+    c.requires.home
+    c.requires.free size c.requires.page c.requires.run c.in_ok-found.ensures.each c.in_ok-found.ensures.names
+    c.overlay.ensures.other c.overlay.ensures.run puts
+
+pub returns-in_err-program_record-clause-elsewhere : goal.returns-in_err-program_record-clause-elsewhere
+returns-in_err-program_record-clause-elsewhere g c =
+    let slots = g.F.Flash.SLOTS in
+    let a = c.args in
+    let m = (g.F.Flash.state a.flash.now).words in
+    let after = (g.F.Flash.state c.program_record.new.flash).words in
+    let words = c.overlay.new.found in
+    let base = base_in slots a.area in
+    let at = slot_of base a.next in
+    let puts : PutsInSlot m at words after = subst (λ (k : ℕ). PutsInSlot m k words after) c.slot_at.ensures.is
+    (subst (λ (l : List ℕ). PutsInSlot l c.slot_at.result words after) c.record_of.ensures.words
+    c.program_record.ensures.puts) in
+    let room = c.requires.room in
+    elsewhere_wider m after at 20 base (20 * slots) (omega arith) (omega (arith, room)) puts.elsewhere
+
+pub returns-clause-elsewhere : goal.returns-clause-elsewhere
+returns-clause-elsewhere g c =
+    let slots = g.F.Flash.SLOTS in
+    let a = c.args in
+    let m = (g.F.Flash.state a.flash.now).words in
+    let after = (g.F.Flash.state c.program_record.new.flash).words in
+    let words = c.overlay.new.found in
+    let base = base_in slots a.area in
+    let at = slot_of base a.next in
+    let puts : PutsInSlot m at words after = subst (λ (k : ℕ). PutsInSlot m k words after) c.slot_at.ensures.is
+    (subst (λ (l : List ℕ). PutsInSlot l c.slot_at.result words after) c.record_of.ensures.words
+    c.program_record.ensures.puts) in
+    let room = c.requires.room in
+    elsewhere_wider m after at 20 base (20 * slots) (omega arith) (omega (arith, room)) puts.elsewhere

@@ -1,0 +1,264 @@
+//! The move to the other area, a step at each write: so that no write has to move all pages.
+ghost use Rattle.std.specs.Prelude.{◌≡◌, ◌≢◌, ◌<◌, ◌≤◌, ◌+◌, ◌*◌, true, false, length, slice_index, IfOk, OnOk};
+ghost use Rattle.flash_device.specs.FlashBlocks.{area_size};
+ghost use Rattle.flash_device.specs.FlashCalls.{Costs, SameElsewhere, Tries};
+ghost use Rattle.flash_device.specs.FlashLogs.{base_in, close_b, find, turn_of, words_of};
+ghost use Rattle.flash_device.specs.FlashLogs.{is_marked as has_mark};
+ghost use Rattle.flash_log.specs.Paces.{HasStepped, HasMoved, IsRoomy, KeepsPace, MovesWell, lead_of};
+ghost use Rattle.flash_device.specs.PageTables.{IsPageTable};
+ghost use Rattle.flash_log.specs.Places.{IsLog};
+ghost use Rattle.flash_log.specs.Rings.{IsRing};
+ghost use Rattle.flash_log.specs.Spares.{HasCopies, spare_in, spare_sector};
+ghost use Rattle.flash_device.specs.declared.layout.TheConstants.{STEP_PAGES};
+
+use crate::image::record_of;
+use crate::moving::put_in_spare;
+use crate::place::PageMap;
+use crate::record::close;
+use crate::scan::scan;
+use crate::turns::{home, pass_witness, spare};
+use flash_device::{Flash, PageTable, STEP_PAGES, copy_steps};
+use nvm_board::DeviceErr;
+
+/// The number of the first sector of the area that the pages move to.
+fn first_sector_of_spare<F: Flash>(turn: u8) -> u16
+    ensures is { result ≡ spare_sector F.SECTORS turn }
+    ensures most { result ≤ F.SECTORS }
+{
+    if turn == 0 { F::SECTORS } else { 0 }
+}
+
+/// Copies a page to a free slot of the other area below `end`, and returns the first one that is free after it.
+fn copy_ahead<F: Flash>(
+    flash: &mut F,
+    turn: u8,
+    table: &F::Table,
+    next: u16,
+    end: u16,
+    page: u16,
+) -> Result<u16, DeviceErr>
+    requires lit { (F.state flash.old).dark ≡ false }
+    requires turn { turn ≡ turn_of F.SLOTS (F.state flash.old).words }
+    requires moves { (turn < 3) × (turn ≢ 1) × IsRing F.SLOTS (F.state flash.old).words }
+    requires entry { (page < F.PAGES)
+        × (slice_index (F.Table.entries table.now) page
+        ≡ find (F.state flash.old).words (base_in F.SLOTS turn) F.SLOTS page) }
+    requires copies { (next < end) × (end ≤ F.SLOTS)
+        × HasCopies F.PAGES F.SLOTS (F.state flash.old).words
+        (words_of F.PAGES F.SLOTS (F.state flash.old).words) (spare_in F.SLOTS turn) page next }
+    ensures elsewhere { SameElsewhere (F.state flash.old).words (spare_in F.SLOTS turn) (20 * F.SLOTS)
+        (F.state flash.new).words }
+    ensures copies { IfOk result (λ n. HasCopies F.PAGES F.SLOTS (F.state flash.new).words
+        (words_of F.PAGES F.SLOTS (F.state flash.new).words) (spare_in F.SLOTS turn)
+        (page + 1) n) }
+    ensures most { IfOk result (λ n. n ≤ end) }
+    ensures passes { IfOk result (λ n. n + (F.state flash.old).faults ≤ next + 1 + (F.state flash.new).faults) }
+    ensures light { Tries 1 (F.state flash.old) (F.state flash.new) result }
+    ensures work { Costs 2 2 (F.state flash.old) (F.state flash.new) }
+    ensures erases { (F.state flash.new).erases ≡ (F.state flash.old).erases }
+{
+    if table.entry(page) == 0 {
+        return Ok(next);
+    }
+    let found = record_of(flash, home(turn), table, page)?;
+    let slot = put_in_spare(flash, spare(turn), next, end, &found)?;
+    Ok(slot + 1)
+}
+
+/// Copies the pages of a step, and returns the first slot of the other area that is free.
+fn copy_step<F: Flash>(
+    flash: &mut F,
+    turn: u8,
+    table: &F::Table,
+    next: u16,
+    first: u16,
+) -> Result<u16, DeviceErr>
+    requires lit { (F.state flash.old).dark ≡ false }
+    requires turn { turn ≡ turn_of F.SLOTS (F.state flash.old).words }
+    requires moves { (turn < 3) × (turn ≢ 1) × IsRing F.SLOTS (F.state flash.old).words }
+    requires index { (first + STEP_PAGES ≤ F.PAGES)
+        × IsPageTable F.PAGES (F.state flash.old).words (base_in F.SLOTS turn) F.SLOTS (F.Table.entries table.now) }
+    requires copies { (next + STEP_PAGES ≤ F.SLOTS)
+        × HasCopies F.PAGES F.SLOTS (F.state flash.old).words
+        (words_of F.PAGES F.SLOTS (F.state flash.old).words) (spare_in F.SLOTS turn) first next }
+    ensures elsewhere { SameElsewhere (F.state flash.old).words (spare_in F.SLOTS turn) (20 * F.SLOTS)
+        (F.state flash.new).words }
+    ensures copies { IfOk result (λ n. HasCopies F.PAGES F.SLOTS (F.state flash.new).words
+        (words_of F.PAGES F.SLOTS (F.state flash.new).words) (spare_in F.SLOTS turn)
+        (first + STEP_PAGES) n) }
+    ensures passes { IfOk result (λ n. n + (F.state flash.old).faults
+        ≤ next + STEP_PAGES + (F.state flash.new).faults) }
+    ensures light { Tries 1 (F.state flash.old) (F.state flash.new) result }
+    ensures work { Costs 32 2 (F.state flash.old) (F.state flash.new) }
+    ensures erases { (F.state flash.new).erases ≡ (F.state flash.old).erases }
+{
+    let mut free = next;
+    for k in 0..STEP_PAGES {
+        let end = F::SLOTS - STEP_PAGES + k + 1;
+        free = copy_ahead(flash, turn, table, free, end, first + k)?;
+    }
+    Ok(free)
+}
+
+/// The number of free slots at which the move begins: those that are written while it goes on.
+fn lead<F: Flash>() -> u16
+    ensures { result ≡ lead_of F.PAGES F.SECTORS }
+{
+    F::SECTORS + copy_steps::<F>() + 1
+}
+
+/// Passes the turn to the other area, which has all pages.
+fn pass_turn<F: Flash>(flash: &mut F, place: &mut PageMap<F::Table>) -> Result<(), DeviceErr>
+    requires lit { (F.state flash.old).dark ≡ false }
+    requires turn { place.old.turn ≡ turn_of F.SLOTS (F.state flash.old).words }
+    requires moves { (place.old.turn < 3) × (place.old.turn ≢ 1) × IsRing F.SLOTS (F.state flash.old).words }
+    requires copies { HasCopies F.PAGES F.SLOTS (F.state flash.old).words
+        (words_of F.PAGES F.SLOTS (F.state flash.old).words) (spare_in F.SLOTS place.old.turn) F.PAGES
+        place.old.behind }
+    requires unready { place.old.ready ≡ false }
+    ensures words { words_of F.PAGES F.SLOTS (F.state flash.new).words
+        ≡ words_of F.PAGES F.SLOTS (F.state flash.old).words }
+    ensures log { IsLog F.Table.entries F.PAGES F.SLOTS F.SECTORS F.sector_start (F.state flash.new).words place.new }
+    ensures ready { OnOk result (place.new.ready ≡ true) }
+    ensures fresh { OnOk result (HasMoved place.new place.old.behind) }
+    ensures light { Tries 1 (F.state flash.old) (F.state flash.new) result }
+    ensures work { Costs 1 2 (F.state flash.old) (F.state flash.new) }
+    ensures erases { (F.state flash.new).erases ≡ (F.state flash.old).erases }
+{
+    let next = spare(place.turn);
+    close(flash, place.turn)?;
+    scan(flash, next, &mut place.table)?;
+    place.turn = next;
+    place.next = place.behind;
+    place.tried = 0;
+    place.erased = 0;
+    place.copied = 0;
+    place.behind = 0;
+    place.ready = true;
+    Ok(())
+}
+
+/// Passes the turn to the witness.
+pub fn pass_on<F: Flash>(flash: &mut F, place: &mut PageMap<F::Table>) -> Result<(), DeviceErr>
+    requires lit { (F.state flash.old).dark ≡ false }
+    requires log { IsLog F.Table.entries F.PAGES F.SLOTS F.SECTORS F.sector_start (F.state flash.old).words place.old }
+    requires ready { place.old.ready ≡ true }
+    requires turn { place.old.turn ≡ 1 }
+    ensures words { words_of F.PAGES F.SLOTS (F.state flash.new).words
+        ≡ words_of F.PAGES F.SLOTS (F.state flash.old).words }
+    ensures log { IsLog F.Table.entries F.PAGES F.SLOTS F.SECTORS F.sector_start (F.state flash.new).words place.new }
+    ensures ready { OnOk result (place.new.ready ≡ true) }
+    ensures step { OnOk result (place.new
+        ≡ record place.old { ready = true; turn = 2; erased = 0; copied = 0; behind = 0 }) }
+    ensures area { SameElsewhere (F.state flash.old).words (close_b F.SLOTS) 4 (F.state flash.new).words }
+    ensures mark { OnOk result (has_mark (F.state flash.new).words (close_b F.SLOTS) ≡ true) }
+    ensures light { Tries 1 (F.state flash.old) (F.state flash.new) result }
+    ensures work { Costs 2 2 (F.state flash.old) (F.state flash.new) }
+    ensures erases { (F.state flash.new).erases ≤ (F.state flash.old).erases + 1 }
+{
+    place.ready = false;
+    place.erased = 0;
+    place.copied = 0;
+    place.behind = 0;
+    pass_witness(flash)?;
+    place.turn = 2;
+    place.ready = true;
+    Ok(())
+}
+
+/// Erases the next sector of the other area.
+fn erase_next<F: Flash>(flash: &mut F, place: &mut PageMap<F::Table>) -> Result<(), DeviceErr>
+    requires lit { (F.state flash.old).dark ≡ false }
+    requires log { IsLog F.Table.entries F.PAGES F.SLOTS F.SECTORS F.sector_start (F.state flash.old).words place.old }
+    requires ready { place.old.ready ≡ true }
+    requires moves { (place.old.turn ≢ 1) × (place.old.erased < F.SECTORS) }
+    ensures words { words_of F.PAGES F.SLOTS (F.state flash.new).words
+        ≡ words_of F.PAGES F.SLOTS (F.state flash.old).words }
+    ensures log { IsLog F.Table.entries F.PAGES F.SLOTS F.SECTORS F.sector_start (F.state flash.new).words place.new }
+    ensures ready { OnOk result (place.new.ready ≡ true) }
+    ensures step { OnOk result (place.new ≡ record place.old { ready = true; erased = place.old.erased + 1 }) }
+    ensures light { Tries 1 (F.state flash.old) (F.state flash.new) result }
+    ensures work { Costs 1 2 (F.state flash.old) (F.state flash.new) }
+    ensures erases { (F.state flash.new).erases ≤ (F.state flash.old).erases + 1 }
+{
+    place.ready = false;
+    flash.erase(first_sector_of_spare::<F>(place.turn) + place.erased)?;
+    place.erased += 1;
+    place.ready = true;
+    Ok(())
+}
+
+/// Copies the next pages to the other area. Behind the last it passes the turn. Where there is no room it begins the
+/// move anew.
+fn copy_next<F: Flash>(flash: &mut F, place: &mut PageMap<F::Table>) -> Result<(), DeviceErr>
+    requires lit { (F.state flash.old).dark ≡ false }
+    requires log { IsLog F.Table.entries F.PAGES F.SLOTS F.SECTORS F.sector_start (F.state flash.old).words place.old }
+    requires ready { place.old.ready ≡ true }
+    requires moves { (place.old.turn ≢ 1) × (place.old.erased ≡ F.SECTORS) }
+    ensures words { words_of F.PAGES F.SLOTS (F.state flash.new).words
+        ≡ words_of F.PAGES F.SLOTS (F.state flash.old).words }
+    ensures log { IsLog F.Table.entries F.PAGES F.SLOTS F.SECTORS F.sector_start (F.state flash.new).words place.new }
+    ensures ready { OnOk result (place.new.ready ≡ true) }
+    ensures pace { OnOk result (IsRoomy F.PAGES F.SLOTS F.SECTORS
+        → F.SLOTS ≤ place.old.next + lead_of F.PAGES F.SECTORS
+        → KeepsPace F.PAGES F.SLOTS F.SECTORS place.old → (F.state flash.new).faults ≡ (F.state flash.old).faults
+        → HasStepped F.PAGES F.SLOTS F.SECTORS place.new) }
+    ensures moves_well { OnOk result (IsRoomy F.PAGES F.SLOTS F.SECTORS
+        → KeepsPace F.PAGES F.SLOTS F.SECTORS place.old → (F.state flash.new).faults ≡ (F.state flash.old).faults
+        → MovesWell F.PAGES place.old place.new) }
+    ensures light { Tries 1 (F.state flash.old) (F.state flash.new) result }
+    ensures work { Costs 33 2 (F.state flash.old) (F.state flash.new) }
+    ensures erases { (F.state flash.new).erases ≡ (F.state flash.old).erases }
+{
+    let most = F::SLOTS - STEP_PAGES;
+    if place.behind > most {
+        place.erased = 0;
+        place.copied = 0;
+        place.behind = 0;
+        return Ok(());
+    }
+    place.ready = false;
+    let first = STEP_PAGES * place.copied;
+    let behind = copy_step(flash, place.turn, &place.table, place.behind, first)?;
+    place.behind = behind;
+    place.copied += 1;
+    if place.copied == copy_steps::<F>() {
+        return pass_turn(flash, place);
+    }
+    place.ready = true;
+    Ok(())
+}
+
+/// Takes a step of the move, if the area is nearly full.
+pub fn take_step<F: Flash>(flash: &mut F, place: &mut PageMap<F::Table>) -> Result<(), DeviceErr>
+    requires lit { (F.state flash.old).dark ≡ false }
+    requires log { IsLog F.Table.entries F.PAGES F.SLOTS F.SECTORS F.sector_start (F.state flash.old).words place.old }
+    requires ready { place.old.ready ≡ true }
+    ensures words { words_of F.PAGES F.SLOTS (F.state flash.new).words
+        ≡ words_of F.PAGES F.SLOTS (F.state flash.old).words }
+    ensures log { IsLog F.Table.entries F.PAGES F.SLOTS F.SECTORS F.sector_start (F.state flash.new).words place.new }
+    ensures ready { OnOk result (place.new.ready ≡ true) }
+    ensures pace { OnOk result (IsRoomy F.PAGES F.SLOTS F.SECTORS → KeepsPace F.PAGES F.SLOTS F.SECTORS place.old
+        → (F.state flash.new).faults ≡ (F.state flash.old).faults
+        → HasStepped F.PAGES F.SLOTS F.SECTORS place.new) }
+    ensures moves_well { OnOk result (IsRoomy F.PAGES F.SLOTS F.SECTORS
+        → KeepsPace F.PAGES F.SLOTS F.SECTORS place.old → (F.state flash.new).faults ≡ (F.state flash.old).faults
+        → MovesWell F.PAGES place.old place.new) }
+    ensures light { Tries 1 (F.state flash.old) (F.state flash.new) result }
+    ensures work { Costs 33 2 (F.state flash.old) (F.state flash.new) }
+    ensures erases { (F.state flash.new).erases ≤ (F.state flash.old).erases + 1 }
+    ensures idle { place.old.next + lead_of F.PAGES F.SECTORS < F.SLOTS
+        → (place.new ≡ place.old) × (F.state flash.new ≡ F.state flash.old) }
+{
+    if F::SLOTS - place.next > lead::<F>() {
+        return Ok(());
+    }
+    if place.turn == 1 {
+        return pass_on(flash, place);
+    }
+    let sectors = F::SECTORS;
+    if place.erased < sectors {
+        return erase_next(flash, place);
+    }
+    copy_next(flash, place)
+}

@@ -1,0 +1,254 @@
+//! The log of a flash as one value: the words that it stands for, and its power.
+ghost use Rattle.std.specs.Prelude.{◌≡◌, ◌⊎◌, ◌<◌, ◌≤◌, ◌+◌, ◌-◌, ◌*◌, true, false, length, slice_index};
+ghost use Rattle.std.specs.Prelude.{IfOk, IfErr, OnOk};
+ghost use Rattle.nvm_board.specs.Facts.{AreWords, IsMemory};
+ghost use Rattle.nvm_board.specs.History.{written};
+ghost use Rattle.flash_device.specs.FlashCalls.{Costs, Lights, Tries};
+ghost use Rattle.flash_log.specs.Paces.{IsRoomy, Pauses, RegainsSlots, TakesSlot, lead_of};
+ghost use Rattle.flash_log.specs.Renewals.{HoldsOnlyPages};
+ghost use Rattle.flash_log.specs.declared.steps.TheConstants.{TRIES};
+
+use crate::place::PageMap;
+use crate::renewal::renew_pages;
+use crate::steps::{read_at, write_at};
+use crate::turns::has_ring;
+use flash_device::{CutFlash, Flash, FlashSocket, FollowedFlash, PageTable};
+use nvm_board::DeviceErr;
+use std::marker::Model;
+
+/// The reason why a flash isn't taken.
+#[derive(Clone, Copy, Debug, PartialEq, Eq)]
+pub enum FlashFault {
+    /// No log is on it.
+    NoLog,
+    /// Power was lost.
+    PowerLost,
+    /// The flash failed.
+    Fault,
+}
+
+/// A flash, and where its pages are.
+#[derive(Drop)]
+pub struct FlashLog<F: Flash> {
+    flash: F,
+    place: PageMap<F::Table>,
+}
+
+impl<F: Flash> Model for FlashLog<F> {
+    ghost use Rattle.flash_log.specs.Paces.{LogState, free_slots, is_fresh, is_paced};
+    ghost use Rattle.flash_log.specs.Places.{IsLog, state_of};
+
+    ghost Value = { LogState };
+
+    ghost view = { λ l. record {
+      flash = state_of F.PAGES F.SLOTS (F.state l.flash);
+      paced = is_paced F.PAGES F.SLOTS F.SECTORS l.place;
+      fresh = is_fresh l.place;
+      free = free_slots F.SLOTS l.place;
+      raw = (F.state l.flash).words;
+    } };
+
+    ghost invariant = { λ l. IsLog F.Table.entries F.PAGES F.SLOTS F.SECTORS F.sector_start (F.state l.flash).words
+        l.place };
+}
+
+impl<F: Flash> FlashLog<F> {
+    ghost use Rattle.flash_log.specs.Places.{FindsFree, OpenStopsBy, new_log, state_of};
+    ghost use Rattle.flash_device.specs.FlashLogs.{base_in, turn_of};
+    ghost use Rattle.flash_device.specs.PageTables.{AreFree};
+    ghost use Rattle.flash_log.specs.Rings.{IsRing};
+
+    /// The log of a flash that has one.
+    pub fn new(flash: F) -> FlashLog<F>
+        requires { IsRing F.SLOTS (F.state flash).words }
+        ensures is { result ≡ new_log F.PAGES F.SLOTS (F.state flash) }
+    {
+        FlashLog {
+            flash,
+            place: PageMap {
+                ready: false,
+                table: F::Table::blank(),
+                turn: 0,
+                next: 0,
+                tried: 0,
+                erased: 0,
+                copied: 0,
+                behind: 0,
+            },
+        }
+    }
+
+    /// The log of a flash, if it has one.
+    ///
+    /// # Errors
+    /// The flash has no log, power was lost, or the flash failed.
+    pub fn open(flash: F) -> Result<FlashLog<F>, (F, FlashFault)>
+        requires { (F.state flash).dark ≡ false }
+        ensures log { IfOk result (λ l. l ≡ new_log F.PAGES F.SLOTS (F.state flash)) }
+        ensures has_log { IfOk result (λ _. IsRing F.SLOTS (F.state flash).words) }
+        ensures stopped { IfErr result (λ e. OpenStopsBy F.SLOTS e.1 (F.state flash) (F.state e.0)) }
+    {
+        let mut flash = flash;
+        match has_ring(&mut flash) {
+            Ok(true) => Ok(FlashLog::new(flash)),
+            Ok(false) => Err((flash, FlashFault::NoLog)),
+            Err(DeviceErr::PowerLost) => Err((flash, FlashFault::PowerLost)),
+            Err(DeviceErr::Fault) => Err((flash, FlashFault::Fault)),
+        }
+    }
+
+    /// Gives the flash back, of which a log can be made again.
+    pub fn into_flash(self) -> F
+        ensures is { state_of F.PAGES F.SLOTS (F.state result) ≡ self.flash }
+        ensures ring { IsRing F.SLOTS (F.state result).words }
+        ensures raw { (F.state result).words ≡ self.raw }
+    {
+        let FlashLog { flash, place: _ } = self;
+        flash
+    }
+
+    /// Proves that the words are those of a board, 16 a page, and have 32 bits.
+    pub fn words_fit(&self)
+        ensures size { length self.now.flash.words ≡ 16 * F.PAGES }
+        ensures memory { IsMemory self.now.flash.words }
+        ensures fit { AreWords self.now.flash.words }
+    {
+        let _ = &self.flash;
+    }
+
+    /// Proves that the free slots that the log knows are blank.
+    pub fn has_free(&self)
+        ensures { 0 < self.now.free → AreFree self.now.raw (base_in F.SLOTS (turn_of F.SLOTS self.now.raw))
+            (F.SLOTS - self.now.free) F.SLOTS }
+    {
+        let _ = &self.flash;
+    }
+
+    /// Reads a word.
+    pub fn read(&mut self, at: u16) -> Result<u32, DeviceErr>
+        requires lit { self.old.flash.dark ≡ false }
+        requires at { at < 16 * F.PAGES }
+        ensures word { IfOk result (λ w. w ≡ slice_index self.old.flash.words at) }
+        ensures words { self.new.flash.words ≡ self.old.flash.words }
+        ensures work { self.new.flash.operations ≡ self.old.flash.operations }
+        ensures erases { self.new.flash.erases ≡ self.old.flash.erases }
+        ensures light { Lights self.old.flash self.new.flash result }
+        ensures paced { self.old.paced ≡ true → self.new.paced ≡ true }
+        ensures free { self.old.free ≤ self.new.free }
+        // After the first read behind a power-on, the log knows all free slots.
+        ensures found { OnOk result (self.old.fresh ≡ true → FindsFree F.SLOTS self.old.raw self.new.free) }
+        // If it fails before it knows them, the next read looks for them.
+        ensures looks { self.old.fresh ≡ true
+            → (self.new.fresh ≡ true) ⊎ FindsFree F.SLOTS self.old.raw self.new.free }
+        // With more free slots than a move begins at, no move is under way.
+        ensures in_pace { self.old.fresh ≡ true
+            → lead_of F.PAGES F.SECTORS < self.new.free → self.new.paced ≡ true }
+        ensures raw { self.new.raw ≡ self.old.raw }
+    {
+        read_at(&mut self.flash, &mut self.place, at)
+    }
+
+    /// Writes a run of a page. At every exit all words of the run are old, or all are new.
+    pub fn write(&mut self, page: u16, first: u8, words: &[u32]) -> Result<(), DeviceErr>
+        requires lit { self.old.flash.dark ≡ false }
+        requires page { page < F.PAGES }
+        requires run { first + length words.now ≤ 16 }
+        ensures whole { (self.new.flash.words ≡ self.old.flash.words)
+            ⊎ (self.new.flash.words ≡ written self.old.flash.words (16 * page + first) words.now) }
+        ensures done { OnOk result (self.new.flash.words
+            ≡ written self.old.flash.words (16 * page + first) words.now) }
+        ensures light { Tries TRIES self.old.flash self.new.flash result }
+        ensures work { Costs (2 * F.PAGES + 40 + F.SECTORS) (2 * F.PAGES + 42 + F.SECTORS) self.old.flash
+            self.new.flash }
+        // At most one write after each power-on, or after a Fault, takes more than 37 programs and erases.
+        ensures pause { IsRoomy F.PAGES F.SLOTS F.SECTORS → Pauses 37 self.old.flash self.new.flash
+            (self.old.paced ≡ true) (self.new.paced ≡ true) result }
+        // While more free slots are known than a move begins at, and the flash doesn't fail, it takes one of them, and
+        // erases nothing.
+        ensures calm { lead_of F.PAGES F.SECTORS < self.old.free
+            → self.new.flash.faults ≡ self.old.flash.faults
+            → TakesSlot self.old.flash self.new.flash (self.old.paced ≡ true) self.old.free self.new.free result }
+        // A move in pace leaves all slots free but one for each page and each step.
+        ensures regains { OnOk result (IsRoomy F.PAGES F.SLOTS F.SECTORS
+            → self.new.flash.faults ≡ self.old.flash.faults → self.old.paced ≡ true
+            → RegainsSlots F.PAGES F.SLOTS self.old.free self.new.free) }
+    {
+        write_at(&mut self.flash, &mut self.place, page, first, words)
+    }
+
+    /// Leaves nothing in the flash but the pages as they are: no old words of a page, in no slot. At every exit the
+    /// words of the board are the same. After an error it is to be called again.
+    pub fn renew(&mut self) -> Result<(), DeviceErr>
+        requires { self.old.flash.dark ≡ false }
+        ensures words { self.new.flash.words ≡ self.old.flash.words }
+        ensures only { OnOk result (HoldsOnlyPages F.PAGES F.SLOTS self.new.raw) }
+        ensures paced { OnOk result (IsRoomy F.PAGES F.SLOTS F.SECTORS
+            → self.new.flash.faults ≤ self.old.flash.faults + lead_of F.PAGES F.SECTORS → self.new.paced ≡ true) }
+        // All slots but one for each page, and one for each Fault, are free.
+        ensures free { OnOk result (F.SLOTS + self.old.flash.faults
+            ≤ self.new.free + F.PAGES + self.new.flash.faults) }
+        ensures light { Tries 1 self.old.flash self.new.flash result }
+        ensures work { Costs (2 * F.PAGES + 5 + 2 * F.SECTORS) 2 self.old.flash self.new.flash }
+        // At most as many erases as both areas and the witness have sectors.
+        ensures erases { self.new.flash.erases ≤ self.old.flash.erases + 2 * F.SECTORS + 1 }
+    {
+        renew_pages(&mut self.flash, &mut self.place)?;
+        Ok(())
+    }
+}
+
+impl<F: FlashSocket> FlashLog<F> {
+    /// Switches power on. The next call finds the pages again.
+    pub fn light(&mut self)
+        ensures { self.new ≡ record self.old {
+          flash = record self.old.flash { dark = false };
+          paced = false;
+          fresh = true;
+          free = 0;
+        } }
+    {
+        self.place.ready = false;
+        self.place.tried = 0;
+        self.flash.light();
+    }
+
+    /// Switches power off.
+    pub fn power_off(&mut self)
+        ensures { self.new ≡ record self.old { flash = record self.old.flash { dark = true } } }
+    {
+        self.flash.power_off();
+    }
+}
+
+impl<F: CutFlash> FlashLog<F> {
+    /// Sets program or erase `k` of the flash from now on, counted from 1, to lose power.
+    pub fn set_cut(&mut self, k: u32)
+        requires { 1 ≤ k }
+        ensures { self.new ≡ record self.old { flash = record self.old.flash { due = 1 } } }
+    {
+        self.flash.set_cut(k);
+    }
+
+    /// Takes back the power loss that is set, if there is one.
+    pub fn clear_cut(&mut self)
+        ensures { self.new ≡ record self.old { flash = record self.old.flash { due = 0 } } }
+    {
+        self.flash.clear_cut();
+    }
+
+    /// Proves that the flash never failed.
+    pub fn has_no_fault(&self)
+        ensures { self.now.flash.faults ≡ 0 }
+    {
+        let _ = &self.flash;
+    }
+}
+
+impl<F: FollowedFlash> FlashLog<F> {
+    /// Returns true if the follower of the flash has all its operations, or if there was never one.
+    pub fn is_kept(&self) -> bool
+        ensures { result ≡ self.now.flash.kept }
+    {
+        self.flash.is_kept()
+    }
+}

@@ -1,0 +1,18 @@
+//! The log of a flash. It stands for the words of a board, and each run that is written is whole or not begun,
+//! whatever a power loss leaves in the words that the flash was programming, or in the block that it was erasing.
+#![tactic(auto)]
+
+mod ahead;
+mod flash_log;
+mod image;
+mod moving;
+mod place;
+mod record;
+mod renewal;
+mod scan;
+mod steps;
+mod turns;
+mod writing;
+
+pub use flash_log::{FlashFault, FlashLog};
+pub use turns::format_flash;

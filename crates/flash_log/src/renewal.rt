@@ -1,0 +1,184 @@
+//! A renewal: it leaves nothing in the flash but the pages as they are.
+ghost use Rattle.std.specs.Prelude.{◌≡◌, ◌≢◌, ◌<◌, ◌≤◌, ◌+◌, ◌*◌, true, false, IfOk, OnOk};
+ghost use Rattle.flash_device.specs.FlashBlocks.{area_size};
+ghost use Rattle.flash_device.specs.FlashCalls.{AreFilled, Costs, Lights, SameElsewhere, Tries};
+ghost use Rattle.flash_device.specs.FlashLogs.{base_in, words_of};
+ghost use Rattle.flash_device.specs.PageTables.{IsPageTable};
+ghost use Rattle.flash_log.specs.Paces.{IsRoomy, KeepsPace, free_slots, lead_of};
+ghost use Rattle.flash_log.specs.Places.{IsLog};
+ghost use Rattle.flash_log.specs.Renewals.{AreClean, HasLastMark, HavePages, HoldsOnlyPages, HoldsPage, IsCleanSlot};
+ghost use Rattle.flash_log.specs.Spares.{spare_in};
+ghost use Rattle.flash_device.specs.declared.flash.TheConstants.{BLANK};
+
+use crate::ahead::pass_on;
+use crate::place::PageMap;
+use crate::record::is_blank;
+use crate::steps::{find_pages, make_room};
+use crate::turns::{home, spare};
+use flash_device::{Flash, NUMBER_PLACE, PageTable, UNUSED_PLACE, erase_area, slot_at};
+use nvm_board::DeviceErr;
+
+/// Passes the turn on from 1, where the other area has the mark that shows the turn.
+fn leave_turn_1<F: Flash>(flash: &mut F, place: &mut PageMap<F::Table>) -> Result<(), DeviceErr>
+    requires lit { (F.state flash.old).dark ≡ false }
+    requires log { IsLog F.Table.entries F.PAGES F.SLOTS F.SECTORS F.sector_start (F.state flash.old).words place.old }
+    requires ready { place.old.ready ≡ true }
+    ensures words { words_of F.PAGES F.SLOTS (F.state flash.new).words
+        ≡ words_of F.PAGES F.SLOTS (F.state flash.old).words }
+    ensures log { IsLog F.Table.entries F.PAGES F.SLOTS F.SECTORS F.sector_start (F.state flash.new).words place.new }
+    ensures ready { OnOk result (place.new.ready ≡ true) }
+    ensures turn { OnOk result (place.new.turn ≢ 1) }
+    ensures next { OnOk result (place.new.next ≡ place.old.next) }
+    ensures have { OnOk result (HavePages F.PAGES F.SLOTS (F.state flash.old).words
+        (base_in F.SLOTS place.old.turn) place.old.next
+        → HavePages F.PAGES F.SLOTS (F.state flash.new).words (base_in F.SLOTS place.new.turn) place.new.next) }
+    ensures last { OnOk result (HasLastMark F.SLOTS (F.state flash.old).words place.old.turn
+        → HasLastMark F.SLOTS (F.state flash.new).words place.new.turn) }
+    ensures light { Tries 1 (F.state flash.old) (F.state flash.new) result }
+    ensures work { Costs 2 2 (F.state flash.old) (F.state flash.new) }
+    ensures erases { (F.state flash.new).erases ≤ (F.state flash.old).erases + 1 }
+    ensures idle { place.old.turn ≢ 1 → (F.state flash.new).erases ≡ (F.state flash.old).erases }
+{
+    if place.turn != 1 {
+        return Ok(());
+    }
+    pass_on(flash, place)?;
+    Ok(())
+}
+
+/// Moves all pages to the other area, each into one slot, and passes the turn to 0 or 2.
+fn move_pages<F: Flash>(flash: &mut F, place: &mut PageMap<F::Table>) -> Result<(), DeviceErr>
+    requires lit { (F.state flash.old).dark ≡ false }
+    requires log { IsLog F.Table.entries F.PAGES F.SLOTS F.SECTORS F.sector_start (F.state flash.old).words place.old }
+    ensures words { words_of F.PAGES F.SLOTS (F.state flash.new).words
+        ≡ words_of F.PAGES F.SLOTS (F.state flash.old).words }
+    ensures log { IsLog F.Table.entries F.PAGES F.SLOTS F.SECTORS F.sector_start (F.state flash.new).words place.new }
+    ensures ready { OnOk result ((place.new.ready ≡ true) × (place.new.turn ≢ 1)) }
+    ensures have { OnOk result ((F.state flash.new).faults ≡ (F.state flash.old).faults
+        → HavePages F.PAGES F.SLOTS (F.state flash.new).words (base_in F.SLOTS place.new.turn) place.new.next) }
+    ensures last { OnOk result (HasLastMark F.SLOTS (F.state flash.new).words place.new.turn) }
+    ensures passes { OnOk result (place.new.next + (F.state flash.old).faults ≤ F.PAGES + (F.state flash.new).faults) }
+    ensures light { Tries 1 (F.state flash.old) (F.state flash.new) result }
+    ensures work { Costs (2 * F.PAGES + 5 + F.SECTORS) 2 (F.state flash.old) (F.state flash.new) }
+    ensures erases { (F.state flash.new).erases ≤ (F.state flash.old).erases + F.SECTORS + 1 }
+{
+    find_pages(flash, place)?;
+    // To `make_room`, the area in use is full.
+    place.next = F::SLOTS;
+    make_room(flash, place)?;
+    leave_turn_1(flash, place)?;
+    Ok(())
+}
+
+/// Erases the other area. Its old records go, and the move has no sector left to erase.
+fn erase_spare<F: Flash>(flash: &mut F, place: &mut PageMap<F::Table>) -> Result<(), DeviceErr>
+    requires lit { (F.state flash.old).dark ≡ false }
+    requires log { IsLog F.Table.entries F.PAGES F.SLOTS F.SECTORS F.sector_start (F.state flash.old).words place.old }
+    requires ready { (place.old.ready ≡ true) × (place.old.turn ≢ 1) }
+    ensures words { words_of F.PAGES F.SLOTS (F.state flash.new).words
+        ≡ words_of F.PAGES F.SLOTS (F.state flash.old).words }
+    ensures log { IsLog F.Table.entries F.PAGES F.SLOTS F.SECTORS F.sector_start (F.state flash.new).words place.new }
+    ensures step { OnOk result (place.new
+        ≡ record place.old { ready = true; erased = F.SECTORS; copied = 0; behind = 0 }) }
+    ensures blank { OnOk result (AreFilled (F.state flash.new).words (spare_in F.SLOTS place.old.turn)
+        (area_size F.SLOTS) BLANK) }
+    ensures elsewhere { SameElsewhere (F.state flash.old).words (spare_in F.SLOTS place.old.turn) (area_size F.SLOTS)
+        (F.state flash.new).words }
+    ensures light { Tries 1 (F.state flash.old) (F.state flash.new) result }
+    ensures work { Costs F.SECTORS 2 (F.state flash.old) (F.state flash.new) }
+    ensures erases { (F.state flash.new).erases ≤ (F.state flash.old).erases + F.SECTORS }
+{
+    place.ready = false;
+    erase_area(flash, spare(place.turn))?;
+    place.erased = F::SECTORS;
+    place.copied = 0;
+    place.behind = 0;
+    place.ready = true;
+    Ok(())
+}
+
+/// Returns true if a slot is blank, or holds a page as it is. Only a slot in which the flash failed doesn't.
+fn is_clean<F: Flash>(
+    flash: &mut F,
+    area: u8,
+    table: &F::Table,
+    slot: u16,
+) -> Result<bool, DeviceErr>
+    requires lit { (F.state flash.old).dark ≡ false }
+    requires below { slot < F.SLOTS }
+    requires index { IsPageTable F.PAGES (F.state flash.old).words (base_in F.SLOTS area) F.SLOTS
+        (F.Table.entries table.now) }
+    ensures clean { IfOk result (λ b. b ≡ true
+        → IsCleanSlot F.PAGES F.SLOTS (F.state flash.old).words (base_in F.SLOTS area) slot) }
+    ensures unclean { IfOk result (λ b. b ≡ false
+        → ¬ HoldsPage F.PAGES F.SLOTS (F.state flash.old).words (base_in F.SLOTS area) slot) }
+    ensures words { (F.state flash.new).words ≡ (F.state flash.old).words }
+    ensures work { (F.state flash.new).operations ≡ (F.state flash.old).operations }
+    ensures erases { (F.state flash.new).erases ≡ (F.state flash.old).erases }
+    ensures light { Lights (F.state flash.old) (F.state flash.new) result }
+{
+    let at = slot_at::<F>(area, slot);
+    if is_blank(flash, at)? {
+        return Ok(true);
+    }
+    let number = flash.read(at + NUMBER_PLACE)?;
+    let unused = flash.read(at + UNUSED_PLACE)?;
+    if number >= u32::from(F::PAGES) || unused != 0 {
+        return Ok(false);
+    }
+    Ok(table.entry(number as u16) == slot + 1)
+}
+
+/// Returns true if the slots below one are blank, or hold pages as they are.
+fn are_clean<F: Flash>(
+    flash: &mut F,
+    area: u8,
+    table: &F::Table,
+    next: u16,
+) -> Result<bool, DeviceErr>
+    requires lit { (F.state flash.old).dark ≡ false }
+    requires below { next ≤ F.SLOTS }
+    requires index { IsPageTable F.PAGES (F.state flash.old).words (base_in F.SLOTS area) F.SLOTS
+        (F.Table.entries table.now) }
+    ensures clean { IfOk result (λ b. b ≡ true
+        → AreClean F.PAGES F.SLOTS (F.state flash.old).words (base_in F.SLOTS area) next) }
+    ensures unclean { IfOk result (λ b. b ≡ false
+        → ¬ HavePages F.PAGES F.SLOTS (F.state flash.old).words (base_in F.SLOTS area) next) }
+    ensures words { (F.state flash.new).words ≡ (F.state flash.old).words }
+    ensures work { (F.state flash.new).operations ≡ (F.state flash.old).operations }
+    ensures erases { (F.state flash.new).erases ≡ (F.state flash.old).erases }
+    ensures light { Lights (F.state flash.old) (F.state flash.new) result }
+{
+    for slot in 0..next {
+        if !is_clean(flash, area, table, slot)? {
+            return Ok(false);
+        }
+    }
+    Ok(true)
+}
+
+/// Leaves nothing in the flash but the pages as they are. At every exit they are the same. A slot in which the flash
+/// failed may hold a part of a page: then it's a Fault.
+pub fn renew_pages<F: Flash>(flash: &mut F, place: &mut PageMap<F::Table>) -> Result<(), DeviceErr>
+    requires lit { (F.state flash.old).dark ≡ false }
+    requires log { IsLog F.Table.entries F.PAGES F.SLOTS F.SECTORS F.sector_start (F.state flash.old).words place.old }
+    ensures words { words_of F.PAGES F.SLOTS (F.state flash.new).words
+        ≡ words_of F.PAGES F.SLOTS (F.state flash.old).words }
+    ensures log { IsLog F.Table.entries F.PAGES F.SLOTS F.SECTORS F.sector_start (F.state flash.new).words place.new }
+    ensures only { OnOk result (HoldsOnlyPages F.PAGES F.SLOTS (F.state flash.new).words) }
+    ensures pace { OnOk result (IsRoomy F.PAGES F.SLOTS F.SECTORS
+        → (F.state flash.new).faults ≤ (F.state flash.old).faults + lead_of F.PAGES F.SECTORS
+        → KeepsPace F.PAGES F.SLOTS F.SECTORS place.new) }
+    ensures free { OnOk result (F.SLOTS + (F.state flash.old).faults
+        ≤ free_slots F.SLOTS place.new + F.PAGES + (F.state flash.new).faults) }
+    ensures light { Tries 1 (F.state flash.old) (F.state flash.new) result }
+    ensures work { Costs (2 * F.PAGES + 5 + 2 * F.SECTORS) 2 (F.state flash.old) (F.state flash.new) }
+    ensures erases { (F.state flash.new).erases ≤ (F.state flash.old).erases + 2 * F.SECTORS + 1 }
+{
+    move_pages(flash, place)?;
+    erase_spare(flash, place)?;
+    if are_clean(flash, home(place.turn), &place.table, place.next)? {
+        return Ok(());
+    }
+    Err(DeviceErr::Fault)
+}

@@ -1,0 +1,273 @@
+//! The steps of a read and a write of the log.
+ghost use Rattle.std.specs.Prelude.{◌≡◌, ◌⊎◌, ◌<◌, ◌≤◌, ◌+◌, ◌*◌, true, false, length, slice_index, IfOk, OnOk};
+ghost use Rattle.nvm_board.specs.History.{written};
+ghost use Rattle.flash_device.specs.FlashCalls.{Costs, Lights, Tries};
+ghost use Rattle.flash_device.specs.FlashLogs.{base_in, words_of};
+ghost use Rattle.flash_log.specs.Paces.{HasStepped, HasMoved, HasNoStepDue, IsRoomy, KeepsPace, Pauses, TakesSlot};
+ghost use Rattle.flash_log.specs.Paces.{MovesWell, RegainsSlots, free_slots, is_fresh, lead_of};
+ghost use Rattle.flash_log.specs.Places.{FindsFree, IsLog, IsPlaceOf};
+ghost use Rattle.flash_log.specs.Renewals.{HasLastMark, HavePages};
+ghost use Rattle.flash_log.specs.declared.steps.TheConstants.{TRIES};
+
+use crate::ahead::take_step;
+use crate::image::read_page_word;
+use crate::place::PageMap;
+use crate::scan::scan;
+use crate::turns::{find_turn, home, move_to_a, move_to_b, pass_witness};
+use crate::writing::{write_ahead, write_run};
+use flash_device::Flash;
+use nvm_board::DeviceErr;
+
+/// The number of times that a write is tried, until a Fault of the flash is returned.
+pub const TRIES: u8 = 8;
+
+/// Passes over the slots that were tried.
+fn later<F: Flash>(next: u16, tried: u16) -> u16
+    requires { next ≤ F.SLOTS }
+    ensures least { next ≤ result }
+    ensures most { result ≤ F.SLOTS }
+    ensures none { tried ≡ 0 → result ≡ next }
+{
+    if next < tried && tried <= F::SLOTS {
+        tried
+    } else {
+        next
+    }
+}
+
+/// Finds the pages, if they are not known.
+pub fn find_pages<F: Flash>(flash: &mut F, place: &mut PageMap<F::Table>) -> Result<(), DeviceErr>
+    requires lit { (F.state flash.old).dark ≡ false }
+    requires log { IsLog F.Table.entries F.PAGES F.SLOTS F.SECTORS F.sector_start (F.state flash.old).words place.old }
+    ensures words { (F.state flash.new).words ≡ (F.state flash.old).words }
+    ensures work { (F.state flash.new).operations ≡ (F.state flash.old).operations }
+    ensures erases { (F.state flash.new).erases ≡ (F.state flash.old).erases }
+    ensures log { IsLog F.Table.entries F.PAGES F.SLOTS F.SECTORS F.sector_start (F.state flash.new).words place.new }
+    ensures ready { OnOk result (place.new.ready ≡ true) }
+    ensures known { place.old.ready ≡ true → place.new ≡ place.old }
+    ensures found { OnOk result (place.old.ready ≡ false → place.old.tried ≡ 0
+        → FindsFree F.SLOTS (F.state flash.old).words (free_slots F.SLOTS place.new)) }
+    ensures looks { is_fresh place.old ≡ true → (is_fresh place.new ≡ true)
+        ⊎ FindsFree F.SLOTS (F.state flash.old).words (free_slots F.SLOTS place.new) }
+    ensures paced { place.old.ready ≡ false → lead_of F.PAGES F.SECTORS < free_slots F.SLOTS place.new
+        → KeepsPace F.PAGES F.SLOTS F.SECTORS place.new }
+    ensures light { Lights (F.state flash.old) (F.state flash.new) result }
+{
+    if place.ready {
+        return Ok(());
+    }
+    let turn = find_turn(flash)?;
+    let next = scan(flash, home(turn), &mut place.table)?;
+    place.turn = turn;
+    place.next = later::<F>(next, place.tried);
+    place.erased = 0;
+    place.copied = 0;
+    place.behind = 0;
+    place.ready = true;
+    Ok(())
+}
+
+/// Makes room for a record.
+pub fn make_room<F: Flash>(flash: &mut F, place: &mut PageMap<F::Table>) -> Result<(), DeviceErr>
+    requires lit { (F.state flash.old).dark ≡ false }
+    requires log { IsLog F.Table.entries F.PAGES F.SLOTS F.SECTORS F.sector_start (F.state flash.old).words place.old }
+    requires ready { place.old.ready ≡ true }
+    ensures words { words_of F.PAGES F.SLOTS (F.state flash.new).words
+        ≡ words_of F.PAGES F.SLOTS (F.state flash.old).words }
+    ensures log { IsLog F.Table.entries F.PAGES F.SLOTS F.SECTORS F.sector_start (F.state flash.new).words place.new }
+    ensures ready { OnOk result (place.new.ready ≡ true) }
+    ensures room { OnOk result (place.new.next < F.SLOTS) }
+    ensures same { place.old.next < F.SLOTS → (place.new ≡ place.old) × (F.state flash.new ≡ F.state flash.old) }
+    ensures fresh { OnOk result (F.SLOTS ≤ place.old.next
+        → (F.state flash.new).faults ≡ (F.state flash.old).faults
+        → HasMoved place.new place.new.next × (place.new.next ≤ F.PAGES)) }
+    ensures passes { OnOk result (F.SLOTS ≤ place.old.next
+        → place.new.next + (F.state flash.old).faults ≤ F.PAGES + (F.state flash.new).faults) }
+    ensures have { OnOk result (F.SLOTS ≤ place.old.next → (F.state flash.new).faults ≡ (F.state flash.old).faults
+        → HavePages F.PAGES F.SLOTS (F.state flash.new).words (base_in F.SLOTS place.new.turn) place.new.next) }
+    ensures last { OnOk result (F.SLOTS ≤ place.old.next
+        → HasLastMark F.SLOTS (F.state flash.new).words place.new.turn) }
+    ensures light { Tries 1 (F.state flash.old) (F.state flash.new) result }
+    ensures work { Costs (2 * F.PAGES + 3 + F.SECTORS) 2 (F.state flash.old) (F.state flash.new) }
+    ensures erases { (F.state flash.new).erases ≤ (F.state flash.old).erases + F.SECTORS + 1 }
+    ensures fewer { OnOk result (place.new.turn ≡ 1
+        → (F.state flash.new).erases ≤ (F.state flash.old).erases + F.SECTORS) }
+{
+    if place.next < F::SLOTS {
+        return Ok(());
+    }
+    place.ready = false;
+    place.tried = 0;
+    place.erased = 0;
+    place.copied = 0;
+    place.behind = 0;
+    if place.turn == 0 {
+        let free_in_b = move_to_b(flash, &mut place.table)?;
+        place.turn = 1;
+        place.next = free_in_b;
+        place.ready = true;
+        return Ok(());
+    }
+    if place.turn == 1 {
+        pass_witness(flash)?;
+    }
+    let free_in_a = move_to_a(flash, &mut place.table)?;
+    place.turn = 0;
+    place.next = free_in_a;
+    place.ready = true;
+    Ok(())
+}
+
+/// Makes ready for a write: finds the pages, takes a step of the move, and makes room.
+fn prepare<F: Flash>(flash: &mut F, place: &mut PageMap<F::Table>) -> Result<(), DeviceErr>
+    requires lit { (F.state flash.old).dark ≡ false }
+    requires log { IsLog F.Table.entries F.PAGES F.SLOTS F.SECTORS F.sector_start (F.state flash.old).words place.old }
+    ensures words { words_of F.PAGES F.SLOTS (F.state flash.new).words
+        ≡ words_of F.PAGES F.SLOTS (F.state flash.old).words }
+    ensures log { IsLog F.Table.entries F.PAGES F.SLOTS F.SECTORS F.sector_start (F.state flash.new).words place.new }
+    ensures ready { OnOk result (place.new.ready ≡ true) }
+    ensures room { OnOk result ((place.new.next < F.SLOTS) × (place.new.behind < F.SLOTS)) }
+    ensures light { Tries 1 (F.state flash.old) (F.state flash.new) result }
+    ensures work { Costs (2 * F.PAGES + 36 + F.SECTORS) 2 (F.state flash.old) (F.state flash.new) }
+    ensures pause { IsRoomy F.PAGES F.SLOTS F.SECTORS → Pauses 33 (F.state flash.old) (F.state flash.new)
+        (KeepsPace F.PAGES F.SLOTS F.SECTORS place.old) (HasStepped F.PAGES F.SLOTS F.SECTORS place.new) result }
+    ensures moves_well { OnOk result (IsRoomy F.PAGES F.SLOTS F.SECTORS
+        → (F.state flash.new).faults ≡ (F.state flash.old).faults
+        → KeepsPace F.PAGES F.SLOTS F.SECTORS place.old → MovesWell F.PAGES place.old place.new) }
+    ensures idle { place.old.ready ≡ true → place.old.next + lead_of F.PAGES F.SECTORS < F.SLOTS
+        → HasNoStepDue (F.state flash.old) (F.state flash.new) place.old place.new }
+{
+    find_pages(flash, place)?;
+    take_step(flash, place)?;
+    make_room(flash, place)?;
+    if place.behind < F::SLOTS {
+        return Ok(());
+    }
+    place.erased = 0;
+    place.copied = 0;
+    place.behind = 0;
+    Ok(())
+}
+
+/// Reads a word of the board.
+pub fn read_at<F: Flash>(
+    flash: &mut F,
+    place: &mut PageMap<F::Table>,
+    at: u16,
+) -> Result<u32, DeviceErr>
+    requires lit { (F.state flash.old).dark ≡ false }
+    requires log { IsLog F.Table.entries F.PAGES F.SLOTS F.SECTORS F.sector_start (F.state flash.old).words place.old }
+    requires at { at < 16 * F.PAGES }
+    ensures word { IfOk result (λ w. w ≡ slice_index (words_of F.PAGES F.SLOTS (F.state flash.old).words) at) }
+    ensures words { (F.state flash.new).words ≡ (F.state flash.old).words }
+    ensures work { (F.state flash.new).operations ≡ (F.state flash.old).operations }
+    ensures erases { (F.state flash.new).erases ≡ (F.state flash.old).erases }
+    ensures log { IsLog F.Table.entries F.PAGES F.SLOTS F.SECTORS F.sector_start (F.state flash.new).words place.new }
+    ensures known { place.old.ready ≡ true → place.new ≡ place.old }
+    ensures found { OnOk result (place.old.ready ≡ false → place.old.tried ≡ 0
+        → FindsFree F.SLOTS (F.state flash.old).words (free_slots F.SLOTS place.new)) }
+    ensures looks { is_fresh place.old ≡ true → (is_fresh place.new ≡ true)
+        ⊎ FindsFree F.SLOTS (F.state flash.old).words (free_slots F.SLOTS place.new) }
+    ensures paced { place.old.ready ≡ false → lead_of F.PAGES F.SECTORS < free_slots F.SLOTS place.new
+        → KeepsPace F.PAGES F.SLOTS F.SECTORS place.new }
+    ensures light { Lights (F.state flash.old) (F.state flash.new) result }
+{
+    find_pages(flash, place)?;
+    let word = read_page_word(flash, home(place.turn), &place.table, at / 16, at % 16)?;
+    Ok(word)
+}
+
+/// Writes a run of a page, or fails once. At every exit all words of the run are old, or all are new.
+fn write_once<F: Flash>(
+    flash: &mut F,
+    place: &mut PageMap<F::Table>,
+    page: u16,
+    first: u8,
+    words: &[u32],
+) -> Result<(), DeviceErr>
+    requires lit { (F.state flash.old).dark ≡ false }
+    requires log { IsLog F.Table.entries F.PAGES F.SLOTS F.SECTORS F.sector_start (F.state flash.old).words place.old }
+    requires page { page < F.PAGES }
+    requires run { first + length words.now ≤ 16 }
+    ensures whole { (words_of F.PAGES F.SLOTS (F.state flash.new).words
+        ≡ words_of F.PAGES F.SLOTS (F.state flash.old).words)
+        ⊎ (words_of F.PAGES F.SLOTS (F.state flash.new).words
+        ≡ written (words_of F.PAGES F.SLOTS (F.state flash.old).words) (16 * page + first) words.now) }
+    ensures done { OnOk result (words_of F.PAGES F.SLOTS (F.state flash.new).words
+        ≡ written (words_of F.PAGES F.SLOTS (F.state flash.old).words) (16 * page + first) words.now) }
+    ensures log { IsLog F.Table.entries F.PAGES F.SLOTS F.SECTORS F.sector_start (F.state flash.new).words place.new }
+    ensures light { Tries 1 (F.state flash.old) (F.state flash.new) result }
+    ensures work { Costs (2 * F.PAGES + 40 + F.SECTORS) 2 (F.state flash.old) (F.state flash.new) }
+    ensures pause { IsRoomy F.PAGES F.SLOTS F.SECTORS → Pauses 37 (F.state flash.old) (F.state flash.new)
+        (KeepsPace F.PAGES F.SLOTS F.SECTORS place.old) (KeepsPace F.PAGES F.SLOTS F.SECTORS place.new) result }
+    ensures calm { lead_of F.PAGES F.SECTORS < free_slots F.SLOTS place.old
+        → (F.state flash.new).faults ≡ (F.state flash.old).faults
+        → TakesSlot (F.state flash.old) (F.state flash.new) (place.old.copied ≡ 0) (free_slots F.SLOTS place.old)
+        (free_slots F.SLOTS place.new) result }
+    ensures regains { OnOk result (IsRoomy F.PAGES F.SLOTS F.SECTORS
+        → (F.state flash.new).faults ≡ (F.state flash.old).faults
+        → KeepsPace F.PAGES F.SLOTS F.SECTORS place.old
+        → RegainsSlots F.PAGES F.SLOTS (free_slots F.SLOTS place.old) (free_slots F.SLOTS place.new)) }
+{
+    prepare(flash, place)?;
+    place.ready = false;
+    place.tried = place.next + 1;
+    let behind = write_ahead(flash, place, page, first, words)?;
+    write_run(
+        flash,
+        home(place.turn),
+        &mut place.table,
+        place.next,
+        page,
+        first,
+        words,
+    )?;
+    place.next += 1;
+    place.behind = behind;
+    place.ready = true;
+    Ok(())
+}
+
+/// Writes a run of a page. At every exit all words of the run are old, or all are new. A Fault of
+/// the flash is returned only if as many tries failed, each in a slot that the others didn't use.
+pub fn write_at<F: Flash>(
+    flash: &mut F,
+    place: &mut PageMap<F::Table>,
+    page: u16,
+    first: u8,
+    words: &[u32],
+) -> Result<(), DeviceErr>
+    requires lit { (F.state flash.old).dark ≡ false }
+    requires log { IsLog F.Table.entries F.PAGES F.SLOTS F.SECTORS F.sector_start (F.state flash.old).words place.old }
+    requires page { page < F.PAGES }
+    requires run { first + length words.now ≤ 16 }
+    ensures whole { (words_of F.PAGES F.SLOTS (F.state flash.new).words
+        ≡ words_of F.PAGES F.SLOTS (F.state flash.old).words)
+        ⊎ (words_of F.PAGES F.SLOTS (F.state flash.new).words
+        ≡ written (words_of F.PAGES F.SLOTS (F.state flash.old).words) (16 * page + first) words.now) }
+    ensures done { OnOk result (words_of F.PAGES F.SLOTS (F.state flash.new).words
+        ≡ written (words_of F.PAGES F.SLOTS (F.state flash.old).words) (16 * page + first) words.now) }
+    ensures log { IsLog F.Table.entries F.PAGES F.SLOTS F.SECTORS F.sector_start (F.state flash.new).words place.new }
+    ensures light { Tries TRIES (F.state flash.old) (F.state flash.new) result }
+    ensures work { Costs (2 * F.PAGES + 40 + F.SECTORS) (2 * F.PAGES + 42 + F.SECTORS) (F.state flash.old)
+        (F.state flash.new) }
+    ensures pause { IsRoomy F.PAGES F.SLOTS F.SECTORS → Pauses 37 (F.state flash.old) (F.state flash.new)
+        (KeepsPace F.PAGES F.SLOTS F.SECTORS place.old) (KeepsPace F.PAGES F.SLOTS F.SECTORS place.new) result }
+    ensures calm { lead_of F.PAGES F.SECTORS < free_slots F.SLOTS place.old
+        → (F.state flash.new).faults ≡ (F.state flash.old).faults
+        → TakesSlot (F.state flash.old) (F.state flash.new) (place.old.copied ≡ 0) (free_slots F.SLOTS place.old)
+        (free_slots F.SLOTS place.new) result }
+    ensures regains { OnOk result (IsRoomy F.PAGES F.SLOTS F.SECTORS
+        → (F.state flash.new).faults ≡ (F.state flash.old).faults
+        → KeepsPace F.PAGES F.SLOTS F.SECTORS place.old
+        → RegainsSlots F.PAGES F.SLOTS (free_slots F.SLOTS place.old) (free_slots F.SLOTS place.new)) }
+{
+    for _ in 1..TRIES {
+        match write_once(flash, place, page, first, words) {
+            Ok(()) => return Ok(()),
+            Err(DeviceErr::PowerLost) => return Err(DeviceErr::PowerLost),
+            Err(DeviceErr::Fault) => {}
+        }
+    }
+    write_once(flash, place, page, first, words)
+}

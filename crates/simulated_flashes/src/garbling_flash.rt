@@ -1,0 +1,280 @@
+//! A flash in working memory that leaves garbage where it loses power.
+ghost use Rattle.std.specs.Prelude.{◌≡◌, ◌+◌, ◌-◌, ◌*◌, ◌≤◌, ◌<◌, length, is_some, None, IfOk, OnOk, IsErrOf};
+ghost use Rattle.std.specs.Prelude.{slice_index, [], true, false};
+ghost use Rattle.nvm_board.specs.Facts.{AreWords};
+ghost use Rattle.flash_device.specs.FlashCalls.{Lights, SameElsewhere, IsThere, AreFilled};
+ghost use Rattle.flash_device.specs.FlashBlocks.{flash_size};
+ghost use Rattle.flash_device.specs.ProgrammedRuns.{IsProgramRun};
+ghost use Rattle.flash_device.specs.declared.flash.TheConstants.{BLANK};
+ghost use Rattle.simulated_flashes.specs.Complements.{AreComplements, IsFirstRandom};
+ghost use Rattle.simulated_flashes.specs.GarbledSectorParts.{garbling_sector};
+ghost use Rattle.simulated_flashes.specs.declared.garbling_flash.TheConstants.{FLASH_WORDS, SECTORS};
+
+use crate::garbage::{blank_run, first_random, next_random, put_run, tear_run};
+use flash_device::{BLANK, CutFlash, Flash, FlashSocket, PageSlots};
+use nvm_board::DeviceErr;
+use std::alloc::{AllocError, Global};
+
+/// The number of pages of its board.
+pub const FLASH_PAGES: u16 = 1024;
+
+/// The number of slots of an area.
+pub(crate) const SLOTS: u16 = 1280;
+
+/// The number of sectors of an area.
+pub(crate) const SECTORS: u16 = 51;
+
+/// The number of words of the flash.
+pub const FLASH_WORDS: u32 = 51206;
+
+/// A flash in working memory, which never fails. A program or an erase that loses power leaves garbage in all its
+/// words: noise, old, new, a mixture of them, marks, blank, or whole slots with other words. With seed 0 it leaves the
+/// complement of each word that was to be: an operation that lost power then always differs from a whole one.
+#[derive(Drop)]
+pub struct GarblingFlash {
+    words: Vec<u32>,
+    dark: bool,
+    /// The operations before the one that is set to lose power.
+    cut: Option<u32>,
+    /// What chooses the garbage, if the seed is not 0.
+    random: Option<u64>,
+    operations: u64,
+    erases: u64,
+    ghost sized: { length words.items ≡ FLASH_WORDS },
+    ghost words_fit: { AreWords words.items },
+}
+
+impl GarblingFlash {
+    ghost use Rattle.simulated_flashes.specs.GarblingStates.{garbling_state, given_garbling_state, new_garbling_state};
+
+    /// Returns a powered blank flash, whose garbage this seed chooses.
+    ///
+    /// # Errors
+    /// There is too little memory for the words.
+    pub fn new(alloc: Global, seed: u64) -> Result<GarblingFlash, AllocError>
+        ensures state { IfOk result (λ flash. garbling_state flash ≡ new_garbling_state) }
+        ensures random { IfOk result (λ flash. IsFirstRandom seed flash.random) }
+    {
+        let words = vec![in alloc; BLANK; FLASH_WORDS as usize]?;
+        Ok(GarblingFlash::of_words(words, seed))
+    }
+
+    /// Returns a powered flash with these words, whose garbage this seed chooses.
+    pub fn of_words(words: Vec<u32>, seed: u64) -> GarblingFlash
+        requires sized { length words.items ≡ FLASH_WORDS }
+        requires fit { AreWords words.items }
+        ensures state { garbling_state result ≡ given_garbling_state words.items }
+        ensures random { IsFirstRandom seed result.random }
+    {
+        GarblingFlash {
+            words,
+            dark: false,
+            cut: None,
+            random: first_random(seed),
+            operations: 0,
+            erases: 0,
+        }
+    }
+
+    /// Returns the words, with power on or off.
+    pub fn words(&self) -> &[u32]
+        ensures { result.now ≡ (garbling_state self.now).words }
+    {
+        &self.words
+    }
+
+    /// Begins an operation. Returns true if power is to be lost in it.
+    fn begin(&mut self) -> bool
+        ensures words { self.new.words ≡ self.old.words }
+        ensures power { self.new.dark ≡ self.old.dark }
+        ensures lost { result ≡ true → (is_some self.old.cut ≡ true) × (self.new.cut ≡ None) }
+        ensures spared { result ≡ false → is_some self.new.cut ≡ is_some self.old.cut }
+        ensures work { self.new.operations ≤ self.old.operations + 1 }
+        ensures erases { self.new.erases ≡ self.old.erases }
+        ensures random { is_some self.new.random ≡ is_some self.old.random }
+    {
+        self.operations = self.operations.saturating_add(1);
+        if let Some(random) = self.random {
+            self.random = Some(next_random(random));
+        }
+        match self.cut {
+            Some(0) => {
+                self.cut = None;
+                true
+            }
+            Some(before) => {
+                self.cut = Some(before - 1);
+                false
+            }
+            None => false,
+        }
+    }
+}
+
+impl Flash for GarblingFlash {
+    ghost use Rattle.simulated_flashes.specs.GarbledSectorParts.{garbling_sector, garbling_sectors_rise};
+    ghost use Rattle.simulated_flashes.specs.GarblingStates.{garbling_state};
+    ghost use Rattle.std.proofs.Common.{lit<, lit≤, refl};
+
+    type Table = PageSlots<1024>;
+
+    const PAGES: u16 = FLASH_PAGES;
+
+    const SLOTS: u16 = SLOTS;
+
+    const SECTORS: u16 = SECTORS;
+
+    ghost PAGES = { 1024 };
+
+    ghost SLOTS = { 1280 };
+
+    ghost SECTORS = { 51 };
+
+    ghost sector_start = { garbling_sector };
+
+    ghost state = { garbling_state };
+
+    fn read(&mut self, at: u32) -> Result<u32, DeviceErr>
+        requires lit { (garbling_state self.old).dark ≡ false }
+        requires within { at < flash_size 1280 }
+        ensures word { IfOk result (λ w. w ≡ slice_index (garbling_state self.old).words at) }
+        ensures words { (garbling_state self.new).words ≡ (garbling_state self.old).words }
+        ensures work { (garbling_state self.new).operations ≡ (garbling_state self.old).operations }
+        ensures erases { (garbling_state self.new).erases ≡ (garbling_state self.old).erases }
+        ensures kept { (garbling_state self.new).kept ≡ (garbling_state self.old).kept }
+        ensures light { Lights (garbling_state self.old) (garbling_state self.new) result }
+        ensures random { self.new.random ≡ self.old.random }
+    {
+        Ok(self.words[at as usize])
+    }
+
+    fn program(&mut self, at: u32, words: &[u32]) -> Result<(), DeviceErr>
+        requires lit { (garbling_state self.old).dark ≡ false }
+        requires blank { AreFilled (garbling_state self.old).words at (length words.now) BLANK }
+        requires within { at + length words.now ≤ flash_size 1280 }
+        requires run { IsProgramRun 1280 at (length words.now) }
+        ensures done { OnOk result (IsThere (garbling_state self.new).words at words.now) }
+        ensures elsewhere { SameElsewhere (garbling_state self.old).words at (length words.now)
+            (garbling_state self.new).words }
+        ensures work { (garbling_state self.new).operations ≤ (garbling_state self.old).operations + 1 }
+        ensures erases { (garbling_state self.new).erases ≡ (garbling_state self.old).erases }
+        ensures light { Lights (garbling_state self.old) (garbling_state self.new) result }
+        ensures torn { IsErrOf result DeviceErr.PowerLost → is_some self.old.random ≡ false
+            → AreComplements (garbling_state self.new).words at (length words.now) words.now }
+        ensures random { is_some self.new.random ≡ is_some self.old.random }
+    {
+        let at = at as usize;
+        if self.begin() {
+            tear_run(&mut self.words, at, words.len(), words, self.random);
+            self.dark = true;
+            return Err(DeviceErr::PowerLost);
+        }
+        put_run(&mut self.words, at, words);
+        Ok(())
+    }
+
+    fn erase(&mut self, sector: u16) -> Result<(), DeviceErr>
+        requires lit { (garbling_state self.old).dark ≡ false }
+        requires sector { sector ≤ 2 * 51 }
+        ensures done { OnOk result (AreFilled (garbling_state self.new).words (garbling_sector sector)
+            (garbling_sector (sector + 1) - garbling_sector sector) BLANK) }
+        ensures elsewhere { SameElsewhere (garbling_state self.old).words (garbling_sector sector)
+            (garbling_sector (sector + 1) - garbling_sector sector) (garbling_state self.new).words }
+        ensures work { (garbling_state self.new).operations ≤ (garbling_state self.old).operations + 1 }
+        ensures erases { (garbling_state self.new).erases ≤ (garbling_state self.old).erases + 1 }
+        ensures light { Lights (garbling_state self.old) (garbling_state self.new) result }
+        ensures torn { IsErrOf result DeviceErr.PowerLost → is_some self.old.random ≡ false
+            → AreComplements (garbling_state self.new).words (garbling_sector sector)
+            (garbling_sector (sector + 1) - garbling_sector sector) [] }
+        ensures random { is_some self.new.random ≡ is_some self.old.random }
+    {
+        self.erases = self.erases.saturating_add(1);
+        if self.begin() {
+            tear_run(
+                &mut self.words,
+                start(sector),
+                size(sector),
+                &[],
+                self.random,
+            );
+            self.dark = true;
+            return Err(DeviceErr::PowerLost);
+        }
+        blank_run(&mut self.words, start(sector), size(sector));
+        Ok(())
+    }
+
+    ghost sized = { λ f. f.sized };
+
+    ghost words_fit = { λ f. f.words_fit };
+
+    ghost pages_fit = { (lit≤ tt, lit≤ tt, refl) };
+
+    ghost table_fits = { λ t. t.sized };
+
+    ghost slots_fit = { (lit< tt, lit< tt) };
+
+    ghost sectors_rise = { garbling_sectors_rise };
+
+    ghost sectors_fit = { (refl, refl, refl, refl, lit< tt, lit< tt) };
+}
+
+impl FlashSocket for GarblingFlash {
+    ghost use Rattle.simulated_flashes.specs.GarblingStates.{garbling_state};
+
+    fn light(&mut self)
+        ensures state { garbling_state self.new ≡ record (garbling_state self.old) { dark = false } }
+        ensures random { self.new.random ≡ self.old.random }
+    {
+        self.dark = false;
+    }
+
+    fn power_off(&mut self)
+        ensures state { garbling_state self.new ≡ record (garbling_state self.old) { dark = true } }
+        ensures random { self.new.random ≡ self.old.random }
+    {
+        self.dark = true;
+    }
+}
+
+impl CutFlash for GarblingFlash {
+    ghost use Rattle.std.specs.Prelude.{refl};
+    ghost use Rattle.simulated_flashes.specs.GarblingStates.{garbling_state};
+
+    fn set_cut(&mut self, k: u32)
+        requires { 1 ≤ k }
+        ensures state { garbling_state self.new ≡ record (garbling_state self.old) { due = 1 } }
+        ensures random { self.new.random ≡ self.old.random }
+    {
+        self.cut = Some(k - 1);
+    }
+
+    fn clear_cut(&mut self)
+        ensures state { garbling_state self.new ≡ record (garbling_state self.old) { due = 0 } }
+        ensures random { self.new.random ≡ self.old.random }
+    {
+        self.cut = None;
+    }
+
+    ghost faultless = { λ f. refl };
+}
+
+/// Returns the address of a sector.
+pub(crate) fn start(sector: u16) -> usize
+    ensures { result ≡ garbling_sector sector }
+{
+    if sector <= 2 * SECTORS {
+        502 * usize::from(sector)
+    } else {
+        FLASH_WORDS as usize
+    }
+}
+
+/// Returns the number of words of a sector.
+pub(crate) fn size(sector: u16) -> usize
+    requires { sector ≤ 2 * SECTORS }
+    ensures is { result ≡ garbling_sector (sector + 1) - garbling_sector sector }
+    ensures fits { garbling_sector sector + result ≤ FLASH_WORDS }
+{
+    start(sector + 1) - start(sector)
+}
