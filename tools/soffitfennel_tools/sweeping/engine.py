@@ -12,6 +12,8 @@ from ..progress import Progress
 from ..script_lines import fault
 
 COMMAND, PROBE = "# command", "# probe"
+# what a program of the bench says by its exit status alone
+MEANINGS = {3: "the script can't be read", 4: "the output can't be written", 5: "there is too little memory"}
 T = TypeVar("T")
 R = TypeVar("R")
 # a part of a sweep: what it is of, and its report
@@ -32,21 +34,30 @@ def script_of(file: TextIO) -> str:
 
 def ran(script: str, *words: str, has_parts: bool = True) -> list[str]:
     """The lines that a program prints for a script, which has the three parts of a sweep or is any script."""
-    done = subprocess.run(words, input=script, capture_output=True, encoding="latin-1")
+    try:
+        # (Python ignores the signals of a pipe and of a file's limit, and so does the program)
+        done = subprocess.run(words, input=script, capture_output=True, encoding="latin-1", restore_signals=False)
+    except OSError as error:
+        raise Refused(f"a run can't be started: {error.strerror}") from error
     if done.returncode == 0:
         return done.stdout.splitlines()
-    said = (done.stderr.splitlines() or [f"the program ended with status {done.returncode}"])[-1]
+    meaning = MEANINGS.get(done.returncode, f"the program ended with status {done.returncode}")
+    raise refusal((done.stderr.splitlines() or [meaning])[-1], script, has_parts)
+
+
+def refusal(said: str, script: str, has_parts: bool = True) -> Refused:
+    """Why a script is not swept, or not run, by what a program said, with the likely reason."""
     bad = re.fullmatch(r"error line (\d+)(: it is no line of a script)?", said)
     found = fault(script.split("\n")[int(bad[1]) - 1].encode("latin-1"), int(bad[1]), True) if bad else None
     why = [found] if found else []
     if not has_parts:
-        raise Refused(": ".join([said, *why]))
+        return Refused(": ".join([said, *why]))
     # a comment that was meant to begin a part of the script
     why += [f"line {number} is '{line}'" for number, line in enumerate(script.splitlines(), 1)
             if line not in (COMMAND, PROBE) and re.fullmatch(r"#\s*(command|probe)\s*", line, re.IGNORECASE)]
     if COMMAND not in script.splitlines():
         why.append(f"tools/sweep --all sweeps each command of a script without '{COMMAND}'")
-    raise Refused(": ".join([said, *why]))
+    return Refused(": ".join([said, *why]))
 
 
 def side_by_side(jobs: int, what: str, work: Callable[[T], R], tasks: Sequence[T]) -> list[R]:
@@ -59,9 +70,14 @@ def side_by_side(jobs: int, what: str, work: Callable[[T], R], tasks: Sequence[T
     return results
 
 
-def sweep_part(sweeper: str, script: str, depth: int | None, card: str | None, part: str) -> Part:
+def with_depth(script: str, depth: int | None) -> str:
+    """A script that is swept so deep; None leaves it the depth that it has."""
+    return script if depth is None else script.removesuffix("\n") + f"\n# depth {depth}"
+
+
+def sweep_part(sweeper: str, depth: int | None, card: str | None, script: str, part: str) -> Part:
     """Part I/N of a sweep of the factory card, or of copies of the card in a file: what it is of, and its report."""
-    whole = script if depth is None else script.removesuffix("\n") + f"\n# depth {depth}"
+    whole = with_depth(script, depth)
     lines = ran(whole, sweeper, *(["--card", card] if card else []), part)
     # a file that changes between two parts gives them different sums
     summed = sha256(Path(card).read_bytes()).hexdigest() if card else ""

@@ -1,12 +1,12 @@
 """Sweeps every command of a script in its place: the lines before it prepare the card."""
 import time
 from argparse import Namespace
-from collections.abc import Iterator
+from collections.abc import Callable, Iterator
 from functools import partial
 from pathlib import Path as FilePath
 from tempfile import TemporaryDirectory
 
-from .engine import COMMAND, PROBE, Refused, ran, script_of, side_by_side, sweep_part
+from .engine import COMMAND, PROBE, Part, Refused, ran, script_of, side_by_side
 from .outcomes import Sweep, aligned
 from ..card_image.image import Unreadable, read_image
 from ..explaining.commands import OF_PINS, Command
@@ -80,29 +80,27 @@ def cases(script: str, bench: str, card: str | None) -> Iterator[tuple[int, str,
                 shown |= {it.p2: it.data[-8:].hex()} if it.key in SHOWING and it.data else {}
 
 
-def row(
-    sweeper: str, path: str, depth: int | None, card: str | None, case: tuple[int, str, str]
-) -> tuple[list[str], Case]:
+def row(path: str, swept: Callable[[str], Part], case: tuple[int, str, str]) -> tuple[list[str], Case]:
     """The row of a command, and whether its outcomes are allowed, as the case of a test."""
     (line, answer, script), began = case, time.monotonic()
-    it = Sweep([sweep_part(sweeper, script, depth, card, "1/1")])
+    it = Sweep([swept(script)])
     wrong = [Difference(line, it.name, reason=it.fault())] if it.fault() else []
     found = [len(it.writes), f"{it.runs:,}", len(it.outcomes), len(it.stages) if it.writes else 0]
     cells = [str(line), it.name, answer[-4:], *map(str, found), f"{time.monotonic() - began:.1f}"]
     return cells, Case(path, line, f"line {line}: {it.name}", 1, wrong)
 
 
-def report_all(options: Namespace) -> tuple[str, str, dict[FilePath, str]]:
-    """The table of every command of a script, the reason if outcomes aren't allowed, and the reports to write."""
+def report_all(options: Namespace, swept: Callable[[str], Part]) -> tuple[str, str, dict[FilePath, str]]:
+    """The table of every command of a script, the reason if outcomes aren't allowed, and the reports to write. Each
+    command is swept by a script of its own."""
     script, quiet = options.files[0], ["--quiet"] * options.quiet
     bench = program(*quiet, *["--for-cards"] * (options.card is not None))
     every = cases(script_of(script), bench, options.card)
     chosen = [it for it in every if not options.only or it[0] in options.only]
     if missing := sorted({*options.only} - {it[0] for it in chosen}):
         raise Refused(f"no command stands in line {', '.join(map(str, missing))}")
-    work = partial(row, program("--sweep", *quiet), script.name, options.depth, options.card)
-    swept = side_by_side(options.jobs, "commands", work, chosen)
-    rows, tests = [it for it, _ in swept], [it for _, it in swept]
+    made = side_by_side(options.jobs, "commands", partial(row, script.name, swept), chosen)
+    rows, tests = [it for it, _ in made], [it for _, it in made]
     markdown = "".join(f"| {' | '.join(it)} |\n" for it in [HEAD, ["---"] * len(HEAD), *rows])
     reports = ((options.markdown, markdown), (options.junit, junit([tests])))
     fault = "; ".join(f"line {it.line}: {it.reason}" for test in tests for it in test.differences)

@@ -28,19 +28,24 @@ class Sweep:
         self.digits = orders[orders.index(PROBE) - 1].removeprefix("apdu ").upper()
         self.name = read_table()["command"].get(self.digits[:4], "the command")
         self.writes, self.depth = [it for it in lines if "kind" in it], lines[-1]["depth"]
+        # on a flash: the seeds of its garbage
+        self.seeds: range | None = parts[0].get("seeds")
         self.answer = lines[1]["answer"]
         self.stages = self.stages_from(*(tuple(it["found"]) for it in lines[:2]))
-        # the runs with each outcome: those of each cut, and of all; the outcomes are in order of appearance
+        # the runs with each outcome: those of each cut, and of all; the outcomes are in order of appearance; and the
+        # seed of the first run with it
         self.cells: defaultdict[tuple[int, int], Counter[Found]] = defaultdict(Counter)
+        self.seed: dict[Found, int] = {}
         for it in sorted((it for it in lines if "mask" in it), key=lambda it: (it["write"], it["number"])):
             self.cells[it["write"], it["mask"]][tuple(it["found"])] += it["runs"]
+            self.seed.setdefault(tuple(it["found"]), it.get("seed", 0))
         self.outcomes: Counter[Found] = sum(self.cells.values(), Counter())
         self.runs = self.outcomes.total()
         self.first = {it: cut for cut, runs in reversed(self.cells.items()) for it in runs}
         self.letters = {it: chr(ord("A") + at) if at < 26 else f"A{at}" for at, it in enumerate(self.outcomes)}
         # the writes at which the outcome turns: with no new word it differs from that with all
         self.commits = [it["write"] for it in self.writes
-                        if self.cells[it["write"], 0].keys() != self.cells[it["write"], 2 ** it["words"] - 1].keys()]
+                        if self.cells[it["write"], 0].keys() != self.cells[it["write"], whole(it)].keys()]
 
     def stages_from(self, before: Found, after: Found) -> dict[Found, str]:
         """The stages of the command, by how what a run found begins. A right PIN has one more, with a try less."""
@@ -62,6 +67,30 @@ class Sweep:
         if most is None:
             return f"{count(others, 'outcome')} that no stage of the command has" if others else ""
         return f"{count(came, 'outcome')}, where {most} {'is' if most == 1 else 'are'} allowed" if came > most else ""
+
+    def first_cut(self, found: Found) -> str:
+        """The first cut with an outcome: the write, and the mask or the operation; and the seed, of several."""
+        write, mask = self.first[found]
+        if self.seeds is None:
+            return f"{write} {mask:04X}"
+        return f"{write}.{mask}" + f" seed {self.seed[found]}" * (len(self.seeds) > 1)
+
+    def place(self) -> str:
+        """Where the card is, if it is on a flash."""
+        if self.seeds is None:
+            return ""
+        last = f"s {self.seeds[0]} to {self.seeds[-1]}" if len(self.seeds) > 1 else f" {self.seeds[0]}"
+        return f" on a flash with seed{last}"
+
+
+def whole(write: dict[str, Any]) -> int:
+    """The mask of a cut behind a device write, with all its words new; on a flash the number of its operations."""
+    return int(write["operations"] if "operations" in write else 2 ** write["words"] - 1)
+
+
+def size(write: dict[str, Any]) -> str:
+    """How many words a device write has; on a flash how many operations."""
+    return count(write["operations"], "operation") if "operations" in write else count(write["words"], "word")
 
 
 def ranges(numbers: Iterable[int]) -> str:
@@ -93,14 +122,15 @@ def table(sweep: Sweep, most: int | None) -> str:
     digits, kinds = sweep.digits, defaultdict(list)
     shown = digits if len(digits) <= MOST_DIGITS else f"{digits[: MOST_DIGITS - 16]}..{digits[-8:]}"
     for it in sweep.writes:
-        kinds[it["kind"], count(it["words"], "word")].append(it["write"])
+        kinds[it["kind"], size(it)].append(it["write"])
     turns = f"the outcome turns at {count(len(sweep.commits), 'write')}: {ranges(sweep.commits)}"
+    turns = turns if sweep.commits else "no write turns it"
     writes = [[str(len(it)), *kind, ranges(it)] for kind, it in kinds.items()]
-    cards = [[letter, f"{sweep.outcomes[it]:,}", "{} {:04X}".format(*sweep.first[it]), sweep.meaning(it)]
+    cards = [[letter, f"{sweep.outcomes[it]:,}", sweep.first_cut(it), sweep.meaning(it)]
              for it, letter in sweep.letters.items()]
     return "\n\n".join(filter(None, [
         f"{sweep.name}, answered {sweep.answer}: {shown}\n"
-        f"{count(len(sweep.writes), 'device write')}; {turns if sweep.commits else 'no write turns it'}\n"
+        f"{count(len(sweep.writes), 'device write')}{sweep.place()}; {turns}\n"
         f"{count(sweep.runs, 'run')}, with at most {count(sweep.depth, 'power-on')} cut;"
         f" {count(len(sweep.outcomes), 'outcome')}, {most or len(sweep.stages)} allowed",
         aligned(["writes", "of", "each", "which"], *writes),
@@ -110,8 +140,11 @@ def table(sweep: Sweep, most: int | None) -> str:
 
 def as_json(sweep: Sweep) -> str:
     """The same for programs."""
-    found = [{"runs": runs, "first": sweep.first[it], "card": sweep.meaning(it),
+    seeds = {it: {} if sweep.seeds is None else {"seed": sweep.seed[it]} for it in sweep.outcomes}
+    found = [{"runs": runs, "first": sweep.first[it], **seeds[it], "card": sweep.meaning(it),
               "found": [{"line": line, "answer": answer} for line, answer in zip(sweep.looks, it)]}
              for it, runs in sweep.outcomes.items()]
     told = {key: getattr(sweep, key) for key in ("answer", "depth", "runs", "writes", "commits")}
+    if sweep.seeds is not None:
+        told["seeds"] = list(sweep.seeds)
     return json.dumps({"command": sweep.digits, **told, "outcomes": found}, indent=1)

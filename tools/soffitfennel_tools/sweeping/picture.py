@@ -1,10 +1,12 @@
 """The picture of a sweep: a column for each device write, a row for each mask, coloured by outcome."""
+from collections import Counter
+from typing import Any
 from xml.sax.saxutils import escape
 
 from ..explaining.templates import count
 from ..svg import rect, text
 
-from .outcomes import AFTER, BEFORE, UNCHANGED, Sweep, ranges
+from .outcomes import AFTER, BEFORE, UNCHANGED, Found, Sweep, ranges
 
 # The palette of Okabe and Ito, which the colour-blind can tell apart.
 CARD_COLOURS = {BEFORE: "#0072b2", UNCHANGED: "#0072b2", AFTER: "#e69f00"}
@@ -21,25 +23,40 @@ COMMIT = '<path class="commit" d="M{:g} {:g} h10 l-5 8 z"/>'
 END, MIDDLE, SOFT = ' text-anchor="end"', ' text-anchor="middle"', ' class="soft"'
 
 
+def rows_of(sweep: Sweep) -> list[str]:
+    """The name of each row: that of a mask, or on a flash that of an operation."""
+    if sweep.seeds is not None:
+        return ["whole", *(f"operation {it}" for it in range(max(it["operations"] for it in sweep.writes)))]
+    words = max(it["words"] for it in sweep.writes)
+    return ["none new", "all new", *(f"word {it + 1} new" for it in range(words) if words > 1)]
+
+
 class Picture:
     """The places in the picture, and its parts."""
 
     def __init__(self, sweep: Sweep):
-        words = max(it["words"] for it in sweep.writes)
-        self.rows = ["none new", "all new", *(f"word {it + 1} new" for it in range(words) if words > 1)]
+        self.rows = rows_of(sweep)
         self.sweep, self.height, self.column = sweep, ROW * len(self.rows), max(6, min(28, 900 / len(sweep.writes)))
         others = iter(OTHER_COLOURS)
         self.colours = {it: CARD_COLOURS.get(sweep.meaning(it), "") or str(next(others, "#888888"))
                         for it in sweep.outcomes}
 
-    def column_drawn(self, number: int, kind: str) -> list[str]:
+    def cells_of(self, write: dict[str, Any]) -> list[tuple[int, Counter[Found]]]:
+        """The cells of a write, each with its row."""
+        cells = [(mask, runs) for (at, mask), runs in self.sweep.cells.items() if at == write["write"]]
+        if self.sweep.seeds is None:
+            return list(enumerate(runs for _, runs in cells))
+        return [((operation + 1) % (write["operations"] + 1), runs) for operation, runs in cells]
+
+    def column_drawn(self, write: dict[str, Any]) -> list[str]:
         """A write: its number and kind, a cell for each mask divided by outcomes, and the mark of a commit."""
-        left, is_commit = LEFT + self.column * (number - 1), number in self.sweep.commits
+        number, is_commit = write["write"], write["write"] in self.sweep.commits
+        left = LEFT + self.column * (number - 1)
         middle = left + self.column / 2
-        parts = [text(middle, TOP - 22, KINDS[kind][0], MIDDLE + SOFT)] if self.column >= 10 else []
+        parts = [text(middle, TOP - 22, KINDS[write["kind"]][0], MIDDLE + SOFT)] if self.column >= 10 else []
         if is_commit or self.column >= 18 or number % 5 == 0:
             parts.append(text(middle, TOP - 6, str(number), MIDDLE))
-        for row, runs in enumerate(it for (write, _), it in self.sweep.cells.items() if write == number):
+        for row, runs in self.cells_of(write):
             x = left
             for found in (it for it in self.colours if it in runs):
                 width = (self.column - min(1, self.column / 10)) * runs[found] / runs.total()
@@ -59,12 +76,14 @@ class Picture:
             told = f"commit at write {ranges(sweep.commits)}: the outcome turns once all its words are new"
             parts += [COMMIT.format(MARGIN + 2, y + 2), text(MARGIN + 22, y + 11, told)]
         rows = "rows: which words of the write are new when power fails"
+        if sweep.seeds is not None:
+            rows = "rows: the write is whole when power fails, or power fails in this program or erase of it"
         return [*parts, text(MARGIN, y + 29, kinds, SOFT), text(MARGIN, y + 47, rows, SOFT)]
 
     def svg(self) -> str:
         """The whole picture, as wide as its columns or its longest line."""
         sweep, across = self.sweep, self.column * len(self.sweep.writes)
-        told = (f"{count(len(sweep.writes), 'device write')}, {count(sweep.runs, 'run')};"
+        told = (f"{count(len(sweep.writes), 'device write')}{sweep.place()}, {count(sweep.runs, 'run')};"
                 f" after each cut at most {count(sweep.depth, 'power-on')} cut too")
         kinds = "it writes: " + ", ".join(dict.fromkeys(KINDS[it["kind"]] for it in sweep.writes))
         width = max(LEFT + across, 440, MARGIN + LETTER * max(len(kinds), len(told))) + MARGIN
@@ -79,5 +98,5 @@ class Picture:
             text(LEFT - 6, TOP - 6, "device write", END + SOFT),
             *(text(LEFT - 6, TOP + ROW * at + 13, it, END) for at, it in enumerate(self.rows)),
             rect(LEFT, TOP, across, self.height, "none", ' class="grid"'),
-            *(part for it in sweep.writes for part in self.column_drawn(it["write"], it["kind"])),
+            *(part for it in sweep.writes for part in self.column_drawn(it)),
             *self.legend(kinds), "</svg>"])
