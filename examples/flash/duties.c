@@ -107,7 +107,7 @@ static bool erases_sector(uint32_t sector)
 /* Erases the sectors of a block. */
 static bool erases(uint32_t block)
 {
-    uint32_t first = block * FLASH_SECTORS, count = block == FLASH_BLOCKS - 1 ? 1 : FLASH_SECTORS;
+    uint32_t first = block * FLASH_SECTORS, count = block == FLASH_BLOCKS - 1 ? 1 + FLASH_SPARES : FLASH_SECTORS;
     bool is_done = true;
 
     rounds[block] = 0;

@@ -18,9 +18,10 @@ void port_page(uint16_t page, uint32_t *words, uint64_t count)
         words[i] = (uint32_t)from[0] << 24 | (uint32_t)from[1] << 16 | (uint32_t)from[2] << 8 | from[3];
 }
 
+/* (without spare sectors there is no map) */
 void device_fill(const uint8_t *image)
 {
     source = image;
-    if (card_make(0, IMAGE_PAGES) == CARD_ENDED)
+    if ((FLASH_SPARES == 0 || device_blank_map()) && card_make(0, IMAGE_PAGES) == CARD_ENDED)
         device_set_made();
 }

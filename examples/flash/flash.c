@@ -11,7 +11,7 @@ enum { BLANK = -1 };
 static const uint32_t made = 0x4D414445;
 
 /* (a section of its own: the start of the board leaves it as it is) */
-__attribute__((section(".nvm"))) static volatile uint32_t words[FLASH_WORDS], note;
+__attribute__((section(".nvm"))) static volatile uint32_t words[FLASH_WORDS + FLASH_MAP_WORDS], note;
 
 uint32_t device_read(struct device *device, uint32_t at, uint32_t *word)
 {
@@ -33,12 +33,14 @@ uint32_t device_program(struct device *device, uint32_t at, const uint32_t *from
     return is_there ? DEVICE_DONE : DEVICE_FAULT;
 }
 
-/* Where a sector begins. */
+/* Where a sector begins. That of the map of spare sectors, if there are any, is the last. */
 static size_t start_of(size_t sector)
 {
-    size_t area = sector / FLASH_SECTORS * FLASH_AREA_WORDS;
+    size_t area = sector / FLASH_SECTORS * FLASH_AREA_WORDS, map = 2 * FLASH_SECTORS + FLASH_SPARES + 1;
 
-    return sector > 2 * FLASH_SECTORS ? FLASH_WORDS : area + sector % FLASH_SECTORS * FLASH_SECTOR_WORDS;
+    if (sector >= map)
+        return sector == map ? FLASH_WORDS : FLASH_WORDS + FLASH_MAP_WORDS;
+    return area + sector % FLASH_SECTORS * FLASH_SECTOR_WORDS;
 }
 
 uint32_t device_erase(struct device *device, uint16_t sector)

@@ -15,9 +15,11 @@
 enum {
     SECTOR_WORDS = FLASH_SECTOR_WORDS,
     WITNESS_SECTOR = 2 * FLASH_SECTORS,
-    NOTE_SECTOR = WITNESS_SECTOR + 1,
+    /* (spare sectors have one more, for their map) */
+    NOTE_SECTOR = WITNESS_SECTOR + 1 + FLASH_SPARES + (FLASH_SPARES > 0),
     SECTORS = NOTE_SECTOR + 1
 };
+_Static_assert(FLASH_MAP_WORDS <= FLASH_SECTOR_WORDS, "the map of spare sectors takes one sector");
 enum { PROGRAM = 0x40, ERASE = 0x20, LOCK = 0x60, CONFIRM = 0xD0, CLEAR = 0x50, QUERY = 0x98, ARRAY = 0xFF };
 /* the status: ready, and what went wrong: erase, program, voltage, lock */
 enum { READY = 0x80, FAILED = 0x3A };

@@ -5,10 +5,11 @@ import tempfile
 from collections.abc import Callable, Iterator
 from contextlib import ExitStack, contextmanager
 from dataclasses import dataclass
+from functools import partial
 from pathlib import Path
 
 from ..chips.module import BOARD, FLASH
-from ..porting.over_flash import OWN_ON_FLASH
+from ..porting.over_flash import OWN_ON_FLASH, OWN_ON_LAYER
 from ..porting.over_flash import fill as fill_over_flash
 from ..porting.writing import OWN, TOP, fill, needed, write_port
 from .trying import BUILT, Crate, copy_part
@@ -25,7 +26,11 @@ class Port:
     declares: str
 
 
-PORTS = {"board": Port(fill, OWN, BOARD), "flash": Port(fill_over_flash, OWN_ON_FLASH, FLASH)}
+PORTS = {
+    "board": Port(fill, OWN, BOARD),
+    "flash": Port(fill_over_flash, OWN_ON_FLASH, FLASH),
+    "spares": Port(partial(fill_over_flash, spares=3), OWN_ON_LAYER, FLASH),
+}
 
 
 def folders_of(kind: str) -> list[tuple[str, Path]]:

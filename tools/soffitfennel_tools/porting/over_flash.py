@@ -2,25 +2,23 @@
 from __future__ import annotations
 
 import shutil
+from dataclasses import dataclass
 from pathlib import Path
 
-from .slots import HEADER, PAGES, SECTOR_WORDS, SLOTS, UNIT, set_size
+from .slots import HEADER, PAGES, SECTOR_WORDS, SLOTS, SPARE_SECTORS, UNIT, set_size
 from .writing import EXAMPLE, FILES, LICENSES, SUFFIX, TOP, copy_crates
 
 FLASH_FILES, FLASH_EXAMPLE = Path(__file__).with_name("flash_files"), TOP / "examples" / "flash"
-# those of a crate over a flash that programs whole units
-UNIT_FILES = Path(__file__).with_name("unit_files")
 # the crates of the flash, and the crates of ours that each uses
 OWN_ON_FLASH = {
-    "device_flash": "nvm_board flash_board",
-    "card_device staticlib": "nvm_board flash_board undo_journal device_flash t1_link card_start "
+    "device_flash": "nvm_board flash_device",
+    "card_device staticlib": "nvm_board flash_log flash_board undo_journal device_flash t1_link card_start "
     "card_core card_turns",
 }
-# the same over a flash that programs whole units
-OWN_ON_UNITS = OWN_ON_FLASH | {"device_flash": "nvm_board flash_board flash_translation"}
-# what differs there: the flash is made of its units
-UNIT_TEXTS = {
-    "README.md": {"logic=proved functions=13": "logic=proved functions=15"},
+# the same over a flash that takes a layer of ours
+OWN_ON_LAYER = OWN_ON_FLASH | {"device_flash": "nvm_board flash_device flash_translation"}
+# what differs there: the flash is made of what the device is
+LAYER_TEXTS = {
     "crates/card_device/src/board.rt": {
         "{Device, DeviceFlash}": "{Device, DeviceFlash, flash_of}", "DeviceFlash::new(device)": "flash_of(device)",
     },
@@ -28,8 +26,27 @@ UNIT_TEXTS = {
         "{Device, DeviceFlash, page}": "{Device, flash_of, page}", "DeviceFlash::new(device)": "flash_of(device)",
     },
 }
-# the header there: a slot takes 32 words, 24 of them for its record, and each block has a slot for its close mark
-UNIT_HEADER = {
+COUNTED = "logic=proved functions=13"
+
+
+@dataclass(frozen=True)
+class Layer:
+    """A layer of ours that a flash needs: the files of its crate, the functions there, and what differs in the README
+    and the header."""
+
+    files: Path
+    functions: int
+    readme: dict[str, str]
+    header: dict[str, str]
+
+    def texts(self) -> dict[str, dict[str, str]]:
+        """What differs from a port without the layer, by its file."""
+        counted = {COUNTED: f"logic=proved functions={self.functions}"}
+        return LAYER_TEXTS | {"README.md": counted | self.readme, HEADER: self.header}
+
+
+# whole units: a slot takes 32 words, 24 of them for its record, and each block has a slot for its close mark
+UNITS = Layer(Path(__file__).with_name("unit_files"), 15, {}, {
     "FLASH_RECORD_WORDS = 18,": "FLASH_RECORD_WORDS = 24,",
     "FLASH_SLOT_WORDS = 20,": "FLASH_SLOT_WORDS = 32,",
     "FLASH_SLOT_WORDS * FLASH_SLOTS + 2,": "FLASH_SLOT_WORDS * (FLASH_SLOTS + 1),",
@@ -37,7 +54,59 @@ UNIT_HEADER = {
     "/* Programs words from an address on. All of them are blank.":
     "/* Programs whole units of FLASH_UNIT_WORDS. All are blank, and each is programmed at most once between two "
     "erases.\n *",
-}
+})
+BLOCK_LAYOUT = """\
+/* The flash has three blocks: area A, area B and the witness. Their words have the addresses from 0 on. A word is blank
+ * if all its bits are set. An erase is one of a sector. Those of area A have the numbers from 0 on, those of area B
+ * follow, and the witness is the last. A sector of an area has FLASH_SECTOR_WORDS, and its last one what is left. */"""
+# spare sectors: each sector has whole slots, so that an area has as many sectors as its words need by these
+SECTOR_LAYOUT = """\
+/* The flash has sectors of FLASH_SECTOR_WORDS, one behind the other, from address 0 on: those of area A, those of area
+ * B, the witness, and FLASH_SPARES spare ones. A word is blank if all its bits are set.
+ *
+ * The card puts a sector that can't be erased into a spare one, and notes it in the map. The map has FLASH_MAP_WORDS
+ * with addresses of their own, 20 for each spare. It is blank before the card is made, and is never erased later. */"""
+MAP_FUNCTIONS = """\
+/* Reads a word of the map. The address is below FLASH_MAP_WORDS. A word that an interrupted call left reads the same
+ * each time. */
+uint32_t device_read_map(struct device *device, uint32_t at, uint32_t *word);
+
+/* Programs words of the map from an address on. All of them are blank. DEVICE_DONE: each was read back, and stays
+ * without power. Else they may hold anything. No other word changes. Word 16 of an entry of 20 is programmed first, and
+ * words 18 and 19 later: they share no program unit. */
+uint32_t device_program_map(struct device *device, uint32_t at, const uint32_t *words, uint64_t count);
+
+/* Waits for a message,"""
+SPARES = Layer(Path(__file__).with_name("spare_files"), 19, {
+    "the three functions of the flash,": "the five functions of the flash,",
+    "the contracts of the three functions,": "the contracts of the five functions,",
+}, {
+    "six functions": "eight functions",
+    BLOCK_LAYOUT: SECTOR_LAYOUT,
+    "FLASH_AREA_WORDS = FLASH_SLOT_WORDS * FLASH_SLOTS + 2,":
+    "FLASH_WHOLE_WORDS = FLASH_SECTOR_WORDS / FLASH_SLOT_WORDS * FLASH_SLOT_WORDS,\n"
+    "    FLASH_SECTORS = (FLASH_SLOT_WORDS * FLASH_SLOTS + 2 + FLASH_WHOLE_WORDS - 1) / FLASH_WHOLE_WORDS,\n"
+    "    FLASH_AREA_WORDS = FLASH_SECTORS * FLASH_SECTOR_WORDS,",
+    "FLASH_WITNESS_WORDS = 2,": "FLASH_WITNESS_WORDS = FLASH_SECTOR_WORDS,",
+    "FLASH_SPARES = 0,": "FLASH_SPARES = 1,",
+    "2 * FLASH_AREA_WORDS + FLASH_WITNESS_WORDS,":
+    "2 * FLASH_AREA_WORDS + FLASH_WITNESS_WORDS + FLASH_SPARES * FLASH_SECTOR_WORDS,",
+    "FLASH_BLOCKS = 3,\n    FLASH_SECTORS = (FLASH_AREA_WORDS + FLASH_SECTOR_WORDS - 1) / FLASH_SECTOR_WORDS\n":
+    "FLASH_BLOCKS = 3\n",
+    "/* Reads a word. The address is below FLASH_WORDS. A word that an interrupted call left reads the same each time. "
+    "*/":
+    "/* Reads a word. The address is below FLASH_WORDS + FLASH_MAP_WORDS: spare_map.c puts the map behind the sectors. "
+    "A word\n * that an interrupted call left reads the same each time. */",
+    "/* Programs words from an address on. All of them are blank. DEVICE_DONE: each was read back, and stays without "
+    "power.\n * Else":
+    "/* Programs words from an address on, all below FLASH_WORDS + FLASH_MAP_WORDS. All of them are blank. "
+    "DEVICE_DONE: each\n * was read back, and stays without power. Else",
+    "/* Erases a sector, at most 2 * FLASH_SECTORS. DEVICE_DONE: all its words were read back as blank. Else they may "
+    "hold\n * anything.":
+    "/* Erases a sector, at most 2 * FLASH_SECTORS + FLASH_SPARES + 1: this one is the map's, for spare_map.c. "
+    "DEVICE_DONE:\n * all its words were read back as blank. Else they may hold anything.",
+    "/* Waits for a message,": MAP_FUNCTIONS,
+})
 # what is as in a port over a board, by its place
 SHARED = {
     f"crates/device_flash/{it}": FILES / "crates/device_board" / it
@@ -60,9 +129,9 @@ def files_of(folder: Path) -> dict[str, Path]:
     return {str(it.relative_to(folder)): it for it in sorted(folder.rglob("*")) if it.is_file()}
 
 
-def take_units(folder: Path) -> None:
-    """Gives a port the texts and the header of whole units."""
-    for place, changes in (UNIT_TEXTS | {HEADER: UNIT_HEADER}).items():
+def take_texts(folder: Path, layer: Layer) -> None:
+    """Gives a port the texts and the header of a layer."""
+    for place, changes in layer.texts().items():
         text = (folder / place).read_text(encoding="utf-8")
         for old, new in changes.items():
             assert text.count(old) == 1, old
@@ -70,25 +139,32 @@ def take_units(folder: Path) -> None:
         (folder / place).write_text(text, encoding="utf-8")
 
 
+def own_files(layer: Layer | None) -> dict[str, Path]:
+    """The files of the port's own crates and its README, by their places there."""
+    own = files_of(FLASH_FILES)
+    if not layer:
+        return own
+    crate = "crates/device_flash/"
+    kept = {place: it for place, it in own.items() if not place.startswith(crate)}
+    return kept | files_of(layer.files) | {f"{crate}src/image.rt.in": FLASH_FILES / crate / "src/image.rt.in"}
+
+
 def fill(
     folder: Path, pages: int | None = None, slots: int | None = None, sector_words: int | None = None,
-    unit: int | None = None,
+    unit: int | None = None, spares: int | None = None,
 ) -> None:
     """Puts the files of a port into an empty folder, with other sizes of the flash and its board if given, and with
-    program units of so many words if it has such."""
-    copy_crates(folder, OWN_ON_UNITS if unit else OWN_ON_FLASH)
-    own = files_of(FLASH_FILES)
-    if unit:
-        crate = "crates/device_flash/"
-        own = {place: it for place, it in own.items() if not place.startswith(crate)}
-        own |= files_of(UNIT_FILES) | {f"{crate}src/image.rt.in": FLASH_FILES / crate / "src/image.rt.in"}
+    program units of so many words, or so many spare sectors, if it has such."""
+    layer = UNITS if unit else SPARES if spares else None
+    copy_crates(folder, OWN_ON_LAYER if layer else OWN_ON_FLASH)
     placed = {f"device/{name}": path for name, path in code().items()} | {it: TOP / it for it in LICENSES}
-    for place, path in (own | SHARED | placed).items():
+    for place, path in (placed | own_files(layer) | SHARED).items():
         target = folder / place.removesuffix(SUFFIX)
         target.parent.mkdir(parents=True, exist_ok=True)
         shutil.copyfile(path, target)
-    if unit:
-        take_units(folder)
-    for size, given in ((PAGES, pages), (SLOTS, slots), (SECTOR_WORDS, sector_words), (UNIT, unit)):
+    if layer:
+        take_texts(folder, layer)
+    sizes = ((PAGES, pages), (SLOTS, slots), (SECTOR_WORDS, sector_words), (UNIT, unit), (SPARE_SECTORS, spares))
+    for size, given in sizes:
         if given:
             set_size(folder, size, given)

@@ -13,7 +13,9 @@ LEAST_PAGES, MOST_PAGES, STEP_PAGES = 1024, 4096, 16
 SPARE_SLOTS = 256
 LEAST_SLOTS, MOST_SLOTS = LEAST_PAGES + SPARE_SLOTS, 65_535
 # an area has fewer than 32,768 sectors, whatever its slots
-LEAST_WORDS, MOST_WORDS = 64, 1 << 24
+LEAST_WORDS, MOST_WORDS, USUAL_WORDS = 64, 1 << 24, 1 << 16
+# words of a slot, where the flash programs single words
+SLOT_WORDS = 20
 CRATE, HEADER = "crates/device_flash/src/slots.rt", "device/card_device.h"
 
 
@@ -40,6 +42,12 @@ SECTOR_WORDS = Size("words of a sector", LEAST_WORDS, MOST_WORDS, {
 UNIT = Size("words of a unit", 1, 8, {
     CRATE: re.compile(r"(?<=pub const UNIT: u32 = )\d+(?=;)"),
     HEADER: re.compile(r"(?<=\bFLASH_UNIT_WORDS = )\d+(?=,)"),
+})
+
+# (and a port without spare sectors has their number in the header alone)
+SPARE_SECTORS = Size("spare sectors", 1, 65_535, {
+    CRATE: re.compile(r"(?<=pub const SPARES: u16 = )\d+(?=;)"),
+    HEADER: re.compile(r"(?<=\bFLASH_SPARES = )\d+(?=,)"),
 })
 
 
@@ -73,11 +81,26 @@ def why_unfit(pages: int, slots: int) -> str | None:
     return None
 
 
+def why_spares_unfit(slots: int, sector_words: int, spares: int) -> str | None:
+    """Why a flash can't have so many spare sectors of this size, if so. Sectors have numbers of 16 bits. The words
+    and those of the map behind them are numbers of the header, which have 31."""
+    each = sector_words // SLOT_WORDS
+    if each > MOST_SLOTS:
+        return f"with spare sectors a sector has at most {MOST_SLOTS * SLOT_WORDS + SLOT_WORDS - 1:,} words"
+    sectors = 2 * -(-(SLOT_WORDS * slots + 2) // (SLOT_WORDS * each)) + 1 + spares
+    if sectors >= 1 << 16 or sectors * sector_words + SLOT_WORDS * spares >= 1 << 31:
+        return f"{spares:,} spare sectors of {sector_words:,} words are too many: addresses have 31 bits, numbers 16"
+    return None
+
+
 def check_slots(port: Path) -> None:
     """Refuses a port whose crate and header differ. One that isn't over a flash has no slots."""
     if (port / CRATE).is_file():
-        pages, slots, _ = (check_size(port, size) for size in (PAGES, SLOTS, SECTOR_WORDS))
-        if UNIT.places[CRATE].search((port / CRATE).read_text(encoding="utf-8")):
+        pages, slots, sector_words = (check_size(port, size) for size in (PAGES, SLOTS, SECTOR_WORDS))
+        why, text = why_unfit(pages, slots), (port / CRATE).read_text(encoding="utf-8")
+        if UNIT.places[CRATE].search(text):
             check_size(port, UNIT)
-        if why := why_unfit(pages, slots):
+        if SPARE_SECTORS.places[CRATE].search(text):
+            why = why or why_spares_unfit(slots, sector_words, check_size(port, SPARE_SECTORS))
+        if why:
             raise Failed(f"{port / CRATE}: {why}")

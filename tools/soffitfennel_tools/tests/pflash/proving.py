@@ -13,9 +13,12 @@ from ...porting.writing import write_port
 from ..chip.proving import checked
 from .building import Room
 
-BELOW = ("nvm_board", "flash_board", "flash_translation")
+BELOW = ("nvm_board", "flash_device", "flash_translation")
 WANTED = f"logic=proved functions=13 foreign={FLASH}::"
-UNITS_WANTED = f"logic=proved functions=15 foreign={FLASH}::"
+LAYERS_WANTED = {
+    "units": ({"unit": 4}, f"logic=proved functions=15 foreign={FLASH}::"),
+    "spare sectors": ({"spares": 3, "sector_words": 4096}, f"logic=proved functions=19 foreign={FLASH}::"),
+}
 
 
 def take_libraries(port: Path) -> Path:
@@ -28,13 +31,14 @@ def take_libraries(port: Path) -> Path:
 
 
 def compare(room: Room) -> None:
-    """Proves the flash, and one that programs whole units."""
-    units = room.folder / "proved-units"
-    write_port(units, partial(fill, unit=4))
-    ran = checked(take_libraries(units), {**os.environ, ALLOWED: FLASH})
-    last = (ran.stdout.splitlines() or [""])[-1]
-    is_so = ran.returncode == 0 and last.startswith(UNITS_WANTED)
-    room.checks.check(is_so, "the flash of a port with units is proved", ran.stdout + ran.stderr)
+    """Proves the flash, one that programs whole units, and one with spare sectors."""
+    for layer, (sizes, wanted) in LAYERS_WANTED.items():
+        port = room.folder / f"proved-{layer.split()[0]}"
+        write_port(port, partial(fill, **sizes))
+        ran = checked(take_libraries(port), {**os.environ, ALLOWED: FLASH})
+        last = (ran.stdout.splitlines() or [""])[-1]
+        is_so = ran.returncode == 0 and last.startswith(wanted)
+        room.checks.check(is_so, f"the flash of a port with {layer} is proved", ran.stdout + ran.stderr)
     crate = take_libraries(room.port)
     refused = checked(crate, {key: it for key, it in os.environ.items() if key != ALLOWED})
     room.checks.check(refused.returncode != 0, f"without {ALLOWED} the flash is refused", refused.stdout)
