@@ -9,6 +9,7 @@ import unittest
 from pathlib import Path
 
 from ...arguments import commands as names_of_commands
+from ...git_environment import without_git
 from ...releasing import building, commands, completion, layout, manuals
 from ...releasing.tree import Refused, version
 from .common import RELEASE, TOP, room_of, run
@@ -157,7 +158,7 @@ class Refusals(unittest.TestCase):
                 shutil.copy2(TOP / name, copy / name, follow_symlinks=False)
         git = ["git", "-C", copy, "-c", "user.name=A", "-c", "user.email=a@b.example", "-c", "commit.gpgsign=false"]
         for words in (["init", "-q"], ["add", "-A"], ["commit", "-qm", "all"]):
-            self.assertEqual(run(*git, *words).returncode, 0)
+            self.assertEqual(run(*git, *words, env=without_git()).returncode, 0)
         return copy
 
     def test_command_lines(self) -> None:

@@ -1,0 +1,43 @@
+"""The signals that end a tool which has to leave nothing behind."""
+import signal
+from collections.abc import Iterator
+from contextlib import contextmanager
+from types import FrameType
+
+STOPS = (signal.SIGINT, signal.SIGTERM, signal.SIGHUP)
+
+
+class Stopped(BaseException):
+    """A signal asks for the end: its number. As for KeyboardInterrupt, no `except Exception` on the way catches it."""
+
+
+def stop_by_signals() -> None:
+    """Makes the first signal that asks for the end an error, so that what was begun is undone. Later ones are ignored
+    then. What the caller ignores, as nohup does, stays so."""
+    for it in STOPS:
+        if signal.getsignal(it) != signal.SIG_IGN:
+            signal.signal(it, stop)
+
+
+def stop(number: int, _: FrameType | None) -> None:
+    """Ends the tool."""
+    for it in STOPS:
+        signal.signal(it, signal.SIG_IGN)
+    raise Stopped(number)
+
+
+@contextmanager
+def held_back() -> Iterator[None]:
+    """A block that no signal interrupts: one that asks for the end does so behind the block. (A mask of signals would
+    hold for the processes that the block starts, too.)"""
+    came: list[int] = []
+    stops = [it for it in STOPS if signal.getsignal(it) == stop]
+    for it in stops:
+        signal.signal(it, lambda number, _: came.append(number))
+    try:
+        yield
+    finally:
+        for it in stops:
+            signal.signal(it, stop)
+    if came:
+        stop(came[0], None)
