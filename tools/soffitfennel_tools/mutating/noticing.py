@@ -17,6 +17,7 @@ from dataclasses import dataclass
 from pathlib import Path
 from queue import Queue
 
+from ..git_environment import without_git
 from ..tests.checks import dies_with_parent
 
 from .edits import Unfit, texts_of
@@ -68,7 +69,8 @@ def read_mutant(path: Path, top: Path) -> Mutant:
 def copy_tree(top: Path, copy: Path) -> None:
     """Copies the repository's files as they are now into a repository of their own."""
     listed = ["git", "ls-files", "-z", "--cached", "--others", "--exclude-standard"]
-    names = subprocess.run(listed, cwd=top, check=True, capture_output=True, text=True).stdout.split("\0")
+    listing = subprocess.run(listed, cwd=top, check=True, capture_output=True, text=True, env=without_git())
+    names = listing.stdout.split("\0")
     for name in filter(None, names):
         if (top / name).exists():
             (copy / name).parent.mkdir(parents=True, exist_ok=True)
@@ -76,12 +78,12 @@ def copy_tree(top: Path, copy: Path) -> None:
     # (some tools ask git for the files and the commit)
     git = ["git", "-C", str(copy), "-c", "user.name=A", "-c", "user.email=a@b.example", "-c", "commit.gpgsign=false"]
     for words in (["init", "--quiet"], ["add", "--all"], ["commit", "--quiet", "--message", "The tree as it is"]):
-        subprocess.run([*git, *words], check=True)
+        subprocess.run([*git, *words], check=True, env=without_git())
 
 
 def environment_of(top: Path) -> Environment:
     """The environment of the tests: it names the programs of the unchanged tree, so that no test builds one."""
-    found = dict(os.environ)
+    found = without_git()
     for name, words in PROGRAMS.items():
         ask = [str(top / "tools" / "program"), *words, "--quiet"]
         found[name] = subprocess.run(ask, check=True, stdout=subprocess.PIPE, text=True).stdout.strip()

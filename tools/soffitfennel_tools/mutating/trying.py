@@ -10,6 +10,7 @@ from dataclasses import dataclass
 from pathlib import Path
 
 from ..chips.module import ALLOWED
+from ..git_environment import without_git
 from .batches import batches_of
 from .edits import Edit, Unfit, merged, read
 
@@ -74,7 +75,7 @@ def copy_crate(top: Path, room: Path, name: str) -> None:
     kept = [line for line in lines if re.split(r"\W", line)[0] in copied]
     (room / "crates.txt").write_text("".join(kept), encoding="utf-8")
     shutil.copy(top / "HANDLES", room)
-    subprocess.run(["git", "init", "--quiet", str(room)], check=True)
+    subprocess.run(["git", "init", "--quiet", str(room)], check=True, env=without_git())
     for crate in copied:
         for part in (*PARTS, BUILT):
             copy_part(top, room, crate, part)
