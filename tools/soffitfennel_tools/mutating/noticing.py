@@ -81,12 +81,14 @@ def copy_tree(top: Path, copy: Path) -> None:
         subprocess.run([*git, *words], check=True, env=without_git())
 
 
-def environment_of(top: Path) -> Environment:
-    """The environment of the tests: it names the programs of the unchanged tree, so that no test builds one."""
+def environment_of(top: Path, room: Path) -> Environment:
+    """The environment of the tests: it names copies of the unchanged tree's programs, so that no test builds one, and
+    none is missing while another command builds them anew."""
     found = without_git()
     for name, words in PROGRAMS.items():
         ask = [str(top / "tools" / "program"), *words, "--quiet"]
-        found[name] = subprocess.run(ask, check=True, stdout=subprocess.PIPE, text=True).stdout.strip()
+        path = Path(subprocess.run(ask, check=True, stdout=subprocess.PIPE, text=True).stdout.strip())
+        found[name] = str(shutil.copy2(path, room / path.name))
     return found
 
 
@@ -151,11 +153,13 @@ def try_tests(top: Path, mutants: list[Mutant], jobs: int) -> Iterator[Verdict]:
     tests: dict[Test, list[Mutant]] = {}
     for it in mutants:
         tests.setdefault(it.test, []).append(it)
-    environment, copies = environment_of(top), Queue[Path]()
-    with tempfile.TemporaryDirectory() as room, ThreadPoolExecutor(jobs) as pool:
+    copies = Queue[Path]()
+    with tempfile.TemporaryDirectory() as name, ThreadPoolExecutor(jobs) as pool:
+        room = Path(name)
+        environment = environment_of(top, room)
         for number in range(jobs):
-            copy_tree(top, Path(room) / str(number))
-            copies.put(Path(room) / str(number))
+            copy_tree(top, room / str(number))
+            copies.put(room / str(number))
         tried = [pool.submit(try_test, copies, test, those, environment) for test, those in tests.items()]
         for done in as_completed(tried):
             yield from done.result()
