@@ -2,8 +2,10 @@
 from __future__ import annotations
 
 import os
+import shutil
 import subprocess
 from dataclasses import dataclass
+from functools import cached_property
 from pathlib import Path
 
 TOP = Path(__file__).resolve().parent.parent.parent.parent.parent
@@ -16,6 +18,8 @@ NO_PROGRAM = 127
 AARCH64 = "aarch64-unknown-linux-gnu"
 # ISO/IEC 7816-4, 11.2.3: READ BINARY of the ICCID that docs/CARD.md lists
 ICCID = "981032547698103254769000\n"
+# folders in which make leaves what it builds, and the one that they read
+BUILT_IN = ("reader", "examples/firmware", "include")
 
 
 @dataclass(frozen=True)
@@ -33,6 +37,14 @@ class Tests:
     def __init__(self, library: Path, room: Path, sizes: Sizes):
         self.library, self.room, self.sizes = library, room, sizes
         self.passed = self.failed = self.skipped = 0
+
+    @cached_property
+    def tree(self) -> Path:
+        """A copy of the folders that make builds in: other tests may read the tree's own meanwhile."""
+        copy = self.room / "tree"
+        for name in BUILT_IN:
+            shutil.copytree(TOP / name, copy / name, ignore=shutil.ignore_patterns("*.so", "*.elf", "*.map", "out"))
+        return copy
 
     def holds(self, is_so: bool, what: str, came: str = "") -> bool:
         """Counts a test."""

@@ -8,7 +8,7 @@ from pathlib import Path
 
 from .checks import PCSC_HEADERS, PROGRAMS, SANITIZERS, TOP, Tests
 
-READER, DRIVER = TOP / "reader", "libifdsoffitfennel.so"
+DRIVER = "libifdsoffitfennel.so"
 ARMED = TOP / "examples" / "pcsc" / "armed.py"
 # (a mount of its own, so that a service that runs already is let alone)
 SERVICE = """mkdir -p /run/pcscd && mount -t tmpfs tmpfs /run/pcscd || exit 1
@@ -22,10 +22,11 @@ def test_driver(tests: Tests) -> None:
     if not PCSC_HEADERS.is_dir():
         tests.skip("the reader driver", "libpcsclite-dev isn't installed")
         return
-    make = ["make", "-s", "-C", READER, f"LIBRARY={tests.library}", f"CFLAGS={' '.join(SANITIZERS)}"]
+    reader = tests.tree / "reader"
+    make = ["make", "-s", "-C", reader, f"LIBRARY={tests.library}", f"CFLAGS={' '.join(SANITIZERS)}"]
     tests.run("the driver compiles", *make)
     driver = tests.room / DRIVER
-    shutil.move(READER / DRIVER, driver)
+    shutil.move(reader / DRIVER, driver)
     words = [*SANITIZERS, "-D_GNU_SOURCE", f"-I{PCSC_HEADERS}", "-rdynamic", "-ldl"]
     program, cards = tests.compile(PROGRAMS / "driver.c", *words), tests.room / "cards"
     cards.mkdir(mode=0o700)
@@ -38,16 +39,16 @@ def test_install(tests: Tests) -> None:
     if not PCSC_HEADERS.is_dir():
         tests.skip("the driver's installation", "libpcsclite-dev isn't installed")
         return
-    top, there = tests.room / "driver_top", tests.room / "driver_top" / "there"
+    reader, top, there = tests.tree / "reader", tests.room / "driver_top", tests.room / "driver_top" / "there"
     there.mkdir(parents=True)
     there.chmod(0o755)
     for cards, mode in (("/there", 0o755), ("/made", 0o700)):
-        make = ["make", "-s", "-C", READER, f"LIBRARY={tests.library}", f"DESTDIR={top}", f"CARDS={cards}"]
+        make = ["make", "-s", "-C", reader, f"LIBRARY={tests.library}", f"DESTDIR={top}", f"CARDS={cards}"]
         tests.run("the driver is installed", *make, "install")
         came = (top / cards[1:]).stat().st_mode & 0o777
         tests.holds(came == mode and not list((top / cards[1:]).iterdir()), f"the folder {cards}", oct(came))
     tests.run("the driver is removed", *make, "uninstall")
-    (READER / DRIVER).unlink()
+    (reader / DRIVER).unlink()
 
 
 def test_service(tests: Tests) -> None:
@@ -60,10 +61,10 @@ def test_service(tests: Tests) -> None:
     if missing or os.geteuid() != 0:
         tests.skip("the driver in pcscd", f"{missing[0]} isn't installed" if missing else "root alone starts it")
         return
-    folder, log = tests.room / "service", tests.room / "service.log"
-    make = ["make", "-s", "-C", READER, f"LIBRARY={tests.library}", f"DRIVERS={folder}/drivers", "OPTIONS=:faults"]
+    reader, folder, log = tests.tree / "reader", tests.room / "service", tests.room / "service.log"
+    make = ["make", "-s", "-C", reader, f"LIBRARY={tests.library}", f"DRIVERS={folder}/drivers", "OPTIONS=:faults"]
     tests.run("the driver is installed", *make, f"READERS={folder}/readers", f"CARDS={folder}/cards", "install")
-    (READER / DRIVER).unlink()
+    (reader / DRIVER).unlink()
     tests.run("a client by pcscd", "unshare", "-m", "bash", "-c", SERVICE, "-", folder / "readers", ARMED, log,
               wanted=shown_session())
     told = log.read_text(encoding="utf-8")

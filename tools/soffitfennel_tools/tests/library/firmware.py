@@ -13,7 +13,7 @@ from pathlib import Path
 
 from .checks import AARCH64, EXAMPLES, TOP, Tests, library_folder
 
-SOURCE, SERIAL = TOP / "examples" / "firmware", TOP / "tools" / "serial"
+SERIAL = TOP / "tools" / "serial"
 PAGE = TOP / "docs" / "LIBRARY.md"
 # the compiler whose code has the sizes on the page
 COMPILER = "12.2.0"
@@ -64,10 +64,9 @@ def test_firmware(tests: Tests) -> None:
 
 def link(tests: Tests, library: Path, pages: int) -> Path:
     """The image with a card of so many pages."""
-    image = tests.room / f"card{pages}.elf"
-    tests.run("the firmware links", "make", "-s", "-C", SOURCE, f"LIBRARY={library}", f"PAGES={pages}")
-    shutil.move(SOURCE / "card.elf", image)
-    (SOURCE / "card.map").unlink()
+    image, source = tests.room / f"card{pages}.elf", tests.tree / "examples" / "firmware"
+    tests.run("the firmware links", "make", "-s", "-C", source, f"LIBRARY={library}", f"PAGES={pages}")
+    shutil.move(source / "card.elf", image)
     return image
 
 
