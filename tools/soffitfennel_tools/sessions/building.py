@@ -7,13 +7,17 @@ import shutil
 import subprocess
 import sys
 import tempfile
+import time
 from pathlib import Path
+
+from ..caches import by_age
 
 TOP = Path(__file__).resolve().parent.parent.parent.parent
 SOURCES = TOP / "reader" / "pcsclite"
 INSTALLED = TOP / "programs"
 NAME = "libpcsclite.so.1"
-MOST_KEPT = 4
+# how many libraries are kept, and the seconds for which each is: a session may run over it
+MOST_KEPT, IN_USE = 4, 24 * 3600
 PACKAGES = "apt-get install gcc libc6-dev make libpcsclite-dev"
 
 
@@ -104,7 +108,11 @@ def built() -> Path:
 
 
 def drop_old(kept: Path) -> None:
-    """Drops all but the libraries that were used last."""
-    folders = sorted((it for it in kept.iterdir() if len(it.name) == 32), key=lambda it: it.stat().st_mtime)
-    for it in folders[:-MOST_KEPT]:
-        shutil.rmtree(it, ignore_errors=True)
+    """Drops all but the libraries that were used last, or within a day."""
+    for it in by_age(it for it in kept.iterdir() if len(it.name) == 32)[:-MOST_KEPT]:
+        try:
+            is_old = it.stat().st_mtime < time.time() - IN_USE
+        except FileNotFoundError:
+            continue
+        if is_old:
+            shutil.rmtree(it, ignore_errors=True)

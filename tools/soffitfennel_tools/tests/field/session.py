@@ -11,12 +11,15 @@ import signal
 import stat
 import subprocess
 import tempfile
+import time
 import unittest
 from collections.abc import Callable
 from functools import reduce
 from operator import xor
 from pathlib import Path
 from typing import Any, TypeVar
+
+from ...sessions.building import IN_USE, MOST_KEPT, drop_old
 
 from .room import CARDS, TOP, Room, run
 
@@ -566,6 +569,22 @@ class Refusals(Session):
             process.terminate()
             self.assertEqual(process.wait(30), 143)
         self.assertEqual(list(place.iterdir()), [])
+
+
+class Libraries(Room):
+    """The libraries that sessions run over."""
+
+    def test_libraries_that_are_kept(self) -> None:
+        for young, old, left in ((MOST_KEPT + 2, 2, MOST_KEPT + 2), (1, MOST_KEPT, MOST_KEPT)):
+            kept = self.room / str(young)
+            ages = [IN_USE * it / 10 for it in range(young)] + [IN_USE + 60 * it for it in range(1, old + 1)]
+            for number, age in enumerate(ages):
+                (kept / f"{number:032x}").mkdir(parents=True)
+                os.utime(kept / f"{number:032x}", (time.time() - age,) * 2)
+            (kept / "another").mkdir()
+            drop_old(kept)
+            wanted = sorted([*(f"{it:032x}" for it in range(left)), "another"])
+            self.assertEqual(sorted(it.name for it in kept.iterdir()), wanted)
 
 
 def random_commands(count: int) -> list[str]:
