@@ -337,6 +337,9 @@ class Calls(Session):
         send = f"{DEBIAN_PYTHON} {PROGRAMS}/send.py 00A4000C022FE2"
         script = f"{send} & {send}; wait"
         self.assertEqual(self.output(card, "--", "sh", "-c", script).count("9000"), 2)
+        held = self.room / "held"
+        script = f"flock {card} sh -c 'touch {held}; sleep 1' & while [ ! -e {held} ]; do sleep 0.02; done; {send}"
+        self.assertEqual(self.output(card, "--", "sh", "-c", script).count("9000"), 1)
 
 
 class Views(Session):
