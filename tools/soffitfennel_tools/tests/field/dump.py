@@ -2,6 +2,7 @@
 from __future__ import annotations
 
 import fcntl
+import os
 import stat
 
 from .room import Room
@@ -143,6 +144,8 @@ class Loads(Room):
         for text, why in wrong.items():
             self.assertIn(why, self.load(text, status=1))
         self.assertIn("No such file", self.refused("load", self.room / "none", self.room / "out.card"))
+        os.truncate(self.file("", "long"), 64_000_001)
+        self.assertIn("64,000,000 bytes", self.refused("load", self.room / "long", self.room / "out.card"))
         precious = self.file("precious", "precious")
         came = self.run_tool("load", self.file(arr(), "dump"), precious)
         self.assertEqual((came.returncode, precious.read_text(encoding="ascii")), (1, "precious"))
