@@ -29,7 +29,7 @@ OWN_FOLDER = 'mkdir -p /run/pcscd && mount -t tmpfs tmpfs /run/pcscd && exec "$@
 SIOCSIFFLAGS, IFF_UP = 0x8914, 1
 # the python3 that has pyscard
 PYTHON = "/usr/bin/python3"
-PATIENCE = 20
+PATIENCE = 60
 
 
 def missing() -> str | None:

@@ -13,7 +13,7 @@ from typing import Any
 BRIDGE = Path(__file__).resolve().parent.parent / "pcsc"
 POWER_OFF, POWER_ON, RESET, ANSWER_TO_RESET = b"\0", b"\1", b"\2", b"\4"
 # seconds after which what doesn't come is missed
-PATIENCE = 20
+PATIENCE = 60
 
 
 def start(*words: object, **more: Any) -> subprocess.Popen[str]:

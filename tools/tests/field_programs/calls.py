@@ -59,12 +59,12 @@ def outside(what: str, owner: int, call: Callable[[], Any]) -> None:
     found: list[Any] = []
     thread = threading.Thread(target=lambda: found.append(call()))
     thread.start()
-    thread.join(0.5)
+    thread.join(2)
     print(what, "is told at once" if found else "waits", flush=True)
     if not found:
         for _ in range(2):
             pc.SCardEndTransaction(owner, LEAVE)
-        thread.join(5)
+        thread.join(60)
         for _ in range(2):
             pc.SCardBeginTransaction(owner)
     code_of(what, found[0])
@@ -144,7 +144,7 @@ def waiting(card: int, other: int) -> None:
     thread.start()
     time.sleep(0.5)
     show("end after a while", pc.SCardEndTransaction(card, LEAVE))
-    thread.join(5)
+    thread.join(60)
     print("waited", NAMES[found[0]], found[1] - begun > 0.4)
     show("end", pc.SCardEndTransaction(other, RESET))
     send("after a reset", card, READ)
@@ -166,7 +166,7 @@ def exclusive(first: int, second: int, card: int, other: int) -> int:
     print("reconnect exclusive", "is told at once" if found else "waits")
     show("disconnect badly", pc.SCardDisconnect(other, 9))
     show("disconnect", pc.SCardDisconnect(other, LEAVE))
-    thread.join(5)
+    thread.join(60)
     show("reconnect exclusive", found[0])
     show("disconnect twice", pc.SCardDisconnect(other, LEAVE))
     show("exclusive again", pc.SCardReconnect(card, EXCLUSIVE, T1, RESET))
@@ -194,10 +194,10 @@ def timeouts(first: int) -> None:
     """A wait that ends by time, and one that is cancelled."""
     began = time.monotonic()
     states("timeout", first, 300, (READER, IN_USE))
-    print("it took", 0.25 < time.monotonic() - began < 2.5)
+    print("it took", 0.25 < time.monotonic() - began < 60)
     timer = threading.Timer(0.3, lambda: pc.SCardCancel(first))
     timer.start()
-    states("cancelled", first, 5000, (READER, IN_USE))
+    states("cancelled", first, 60_000, (READER, IN_USE))
     timer.join()
     show("cancel nothing", pc.SCardCancel(77))
 
@@ -233,7 +233,7 @@ def faults(first: int, second: int) -> int:
     status("dark", card)
     states("seen away", first, 1500, (READER, IN_USE))
     code_of("connect away", pc.SCardConnect(second, READER, SHARED, T1))
-    states("seen back", first, 5000, (READER, EMPTY | pc.SCARD_STATE_INUSE))
+    states("seen back", first, 60_000, (READER, EMPTY | pc.SCARD_STATE_INUSE))
     send("removed", card, "00B0000004")
     show("reconnect", pc.SCardReconnect(card, SHARED, T1, RESET))
     send("select", card, SELECT)
@@ -250,7 +250,7 @@ def main() -> None:
     first = pc.SCardEstablishContext(pc.SCARD_SCOPE_SYSTEM)[1]
     second = pc.SCardEstablishContext(pc.SCARD_SCOPE_USER)[1]
     # (a service that has just started looks for its readers)
-    for _ in range(100):
+    for _ in range(600):
         if pc.SCardListReaders(first, [])[0] == 0:
             break
         time.sleep(0.1)

@@ -215,7 +215,7 @@ static void copy(const char *from, const char *to)
 
 static void wait_for_card(DWORD lun)
 {
-    for (int i = 0; i < 50 && presence(lun) != IFD_ICC_PRESENT; i++)
+    for (int i = 0; i < 600 && presence(lun) != IFD_ICC_PRESENT; i++)
         usleep(100000);
     same(presence(lun), IFD_ICC_PRESENT, "the card comes back");
 }

@@ -30,7 +30,7 @@ SCDAEMON = Path("/usr/lib/gnupg/scdaemon")
 # (a mount of its own, so that a service that runs already is let alone)
 SERVICE = """mkdir -p /run/pcscd && mount -t tmpfs tmpfs /run/pcscd || exit 1
 /usr/sbin/pcscd --foreground -c "$1" >/dev/null 2>&1 &
-for _ in $(seq 100); do [ -S /run/pcscd/pcscd.comm ] && break; sleep 0.1; done
+for _ in $(seq 600); do [ -S /run/pcscd/pcscd.comm ] && break; sleep 0.1; done
 /usr/bin/python3 "$2"; status=$?; kill $!; wait; exit $status"""
 ICCID = "981032547698103254769000"
 USIM = "A0000000871002FFFFFFFF8907090000"
@@ -222,7 +222,14 @@ class Programs(Session):
 
     @needs("pcsc_scan", "pcsc-tools")
     def test_pcsc_scan_waits(self) -> None:
-        shown = self.with_card("--fresh", "--", "timeout", "1", "pcsc_scan", "-n").stdout
+        command = [str(TOP / "tools" / "with-card"), "--fresh", "--", "timeout", "60", "pcsc_scan", "-n"]
+        shown = ""
+        with subprocess.Popen(command, stdout=subprocess.PIPE, stderr=subprocess.DEVNULL, text=True) as scan:
+            assert scan.stdout
+            while "ATR:" not in shown and (line := scan.stdout.readline()):
+                shown += line
+            self.assertIsNone(scan.poll(), shown)
+            scan.terminate()
         self.assertIn("Card inserted", shown)
         self.assertIn("ATR: 3B 80 81 31 FE 45 8B", shown)
 
@@ -570,7 +577,7 @@ class Refusals(Session):
             process.stdout.readline()
             self.assertEqual(len(list(place.iterdir())), 1)
             process.terminate()
-            self.assertEqual(process.wait(30), 143)
+            self.assertEqual(process.wait(60), 143)
         self.assertEqual(list(place.iterdir()), [])
 
 

@@ -13,7 +13,7 @@ ARMED = TOP / "examples" / "pcsc" / "armed.py"
 # (a mount of its own, so that a service that runs already is let alone)
 SERVICE = """mkdir -p /run/pcscd && mount -t tmpfs tmpfs /run/pcscd || exit 1
 /usr/sbin/pcscd --foreground -c "$1" >"$3" 2>&1 &
-for _ in $(seq 100); do [ -S /run/pcscd/pcscd.comm ] && break; sleep 0.1; done
+for _ in $(seq 600); do [ -S /run/pcscd/pcscd.comm ] && break; sleep 0.1; done
 /usr/bin/python3 "$2"; status=$?; kill $!; wait; exit $status"""
 
 
