@@ -96,7 +96,7 @@ def of_two_makers(checks: Checks, bench: Bench) -> None:
     delayed, pipe = "inject=link,linkat,rename,renameat,renameat2:delay_enter=2000000", subprocess.PIPE
     words = ["strace", "-qq", "-o", "/dev/null", "-e", delayed, *bench.words()]
     process = subprocess.Popen(words, stdin=pipe, stdout=pipe, stderr=pipe)
-    for _ in range(1_000):
+    for _ in range(12_000):
         if any(it.stat().st_size == len(other) for it in set(folder.iterdir()) - before):
             break
         time.sleep(0.005)
@@ -185,7 +185,7 @@ def of_a_removal(checks: Checks, bench: Bench) -> None:
     assert process.stdin
     process.stdin.write(f"on\n{WRONG_PIN}\n".encode())
     process.stdin.flush()
-    for _ in range(1_000):
+    for _ in range(12_000):
         if bench.image.read_bytes() != before:
             break
         time.sleep(0.005)
