@@ -8,6 +8,7 @@ import subprocess
 import sys
 import tempfile
 import time
+from contextlib import suppress
 from pathlib import Path
 
 from ..caches import by_age
@@ -87,8 +88,10 @@ def built() -> Path:
     sources = sorted(it for it in SOURCES.iterdir() if it.suffix in (".c", ".h", ".map") or it.name == "Makefile")
     kept = folder()
     place = kept / sum_of([*sources, TOP / "include" / "soffitfennel.h", *parts])
-    if (place / NAME).is_file():
+    # (what is used is young before another run may drop it)
+    with suppress(FileNotFoundError):
         os.utime(place)
+    if (place / NAME).is_file():
         return place
     need_compiler()
     print("with-card: building a libpcsclite with the card inside, some seconds ..", file=sys.stderr, flush=True)
@@ -110,9 +113,6 @@ def built() -> Path:
 def drop_old(kept: Path) -> None:
     """Drops all but the libraries that were used last, or within a day."""
     for it in by_age(it for it in kept.iterdir() if len(it.name) == 32)[:-MOST_KEPT]:
-        try:
-            is_old = it.stat().st_mtime < time.time() - IN_USE
-        except FileNotFoundError:
-            continue
-        if is_old:
-            shutil.rmtree(it, ignore_errors=True)
+        with suppress(FileNotFoundError):
+            if it.stat().st_mtime < time.time() - IN_USE:
+                shutil.rmtree(it, ignore_errors=True)
