@@ -10,7 +10,7 @@ from pathlib import Path
 
 TOP = Path(__file__).resolve().parent.parent.parent.parent.parent
 CARDS = TOP / "examples" / "cards"
-PATIENCE = 120
+PATIENCE = 300
 
 
 class Room(unittest.TestCase):
