@@ -3,6 +3,7 @@ from __future__ import annotations
 
 import os
 import re
+import stat
 import subprocess
 from collections.abc import Callable
 from functools import partial
@@ -140,4 +141,14 @@ def compare_mistakes(room: Room) -> None:
     room.checks.check(ran.returncode != 0 and "run tools/chip" in ran.stderr, "make without a library", ran.stderr)
 
 
-ALL = (compare_stack, compare_header, compare_port, compare_mistakes)
+def compare_image(room: Room) -> None:
+    """tools/chip puts the image of a card beside the library, for its owner alone."""
+    card, out = room.folder / "factory.card", room.folder / "with_image"
+    ran = tool(CHIP, "cortex-m4", out, "--port", room.port, "--card", card)
+    if room.checks.check(ran.returncode == 0, "tools/chip with a card", ran.stderr):
+        image = out / card.name
+        came = (image.read_bytes() == card.read_bytes(), stat.S_IMODE(image.stat().st_mode))
+        room.checks.same(came, (True, 0o600), "the image of a card, and its mode")
+
+
+ALL = (compare_stack, compare_header, compare_port, compare_mistakes, compare_image)
