@@ -47,6 +47,20 @@
     };
   },
 
+  // Of fragments of links: the script and the line, or why there is none.
+  async links({ parts }, fragments) {
+    const found = [];
+    for (const it of fragments) {
+      try {
+        const { script, line } = await parts.share.unpack(it);
+        found.push([script.length, script.slice(0, 9), line ?? null]);
+      } catch (why) {
+        found.push(why.message);
+      }
+    }
+    return found;
+  },
+
   // The cards in images: files, PINs, free space, as the page shows them.
   cards({ parts }, images) {
     const { cardOf, imageOf } = parts.memory, { hex } = parts.card;

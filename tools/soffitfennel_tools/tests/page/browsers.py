@@ -24,7 +24,7 @@ SIZE = (1400, 1000)
 WIDE = 1280
 # what may have a role that needs a name
 NAMED = "a, button, input, select, textarea, summary, h1, h2, h3, canvas, section, [role]"
-SECONDS = 120
+SECONDS = 300
 # (a proxy of the environment isn't asked for this machine)
 OPENER = urllib.request.build_opener(urllib.request.ProxyHandler({}))
 ELEMENT = "element-6066-11e4-a52e-4f735466cecf"
@@ -228,7 +228,7 @@ class Chromium:
         except (RuntimeError, OSError):
             pass
         self.process.terminate()
-        self.process.wait(30)
+        self.process.wait(SECONDS)
         self.room.cleanup()
 
 
@@ -359,5 +359,5 @@ class Firefox:
         except (RuntimeError, OSError, ValueError):
             self.process.terminate()
         self.line.close()
-        self.process.wait(30)
+        self.process.wait(SECONDS)
         self.room.cleanup()

@@ -6,6 +6,7 @@ import json
 import random
 import re
 import subprocess
+import zlib
 from collections.abc import Callable, Iterator
 from concurrent.futures import ThreadPoolExecutor
 from functools import cache
@@ -30,6 +31,8 @@ SWEEPS = ("update_binary", "change_pin", "delete_directory")
 # what JavaScript has no table of, and what only a file's first line has
 NOT_COMPARED = re.compile(r" \([a-z0-9 -]+\), which no order has$|^the file |^it ends with a carriage return and")
 PAGES = 1024
+# bytes of a script in a link
+MOST_SHARED = 65_536
 Ask = Callable[[str, Any], Any]
 
 
@@ -322,6 +325,28 @@ def compare_cards(ask: Ask, program: str, tally: Tally, where: str, room: Path) 
         tally.same(it, wanted_card(card), f"{where}: the card in image {number}")
 
 
+def fragment(script: str) -> str:
+    """A link's fragment of a script, as the page packs it."""
+    packer = zlib.compressobj(9, zlib.DEFLATED, -zlib.MAX_WBITS)
+    packed = packer.compress(script.encode()) + packer.flush()
+    return f"s={base64.urlsafe_b64encode(packed).decode().rstrip('=')}"
+
+
+def compare_links(ask: Ask, tally: Tally, where: str) -> None:
+    """What links hold: a script of at most 65,536 bytes, however short its packed form is, and a line from 1 on."""
+    script = "on\nfree\n"
+    cases: dict[str, object] = {
+        fragment(script): [8, script, None],
+        f"{fragment(script)}&l=2": [8, script, 1],
+        f"{fragment(script)}&l=1234567": "it has characters that no link has",
+        "s=": "it has characters that no link has",
+        fragment("#" * MOST_SHARED): [MOST_SHARED, "#" * 9, None],
+        fragment("#" * (MOST_SHARED + 1)): "it holds more than 65,536 bytes",
+    }
+    for came, (text, wanted) in zip(ask("links", list(cases)), cases.items()):
+        tally.same(came, wanted, f"{where}: the link {text[:40]} of {len(text)} characters")
+
+
 def compare_all(ask: Ask, program: str, tally: Tally, where: str, room: Path) -> None:
     """All of these. An error of the page's parts is a failure, and the others go on."""
     steps: dict[str, Callable[[], None]] = {
@@ -333,6 +358,7 @@ def compare_all(ask: Ask, program: str, tally: Tally, where: str, room: Path) ->
         "sweeps": lambda: compare_sweeps(ask, tally, where),
         "cards": lambda: compare_cards(ask, program, tally, where, room),
         "images": lambda: compare_images(ask, program, tally, where, room),
+        "links": lambda: compare_links(ask, tally, where),
     }
     for name, step in steps.items():
         try:

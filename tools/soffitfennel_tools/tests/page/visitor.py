@@ -3,15 +3,14 @@ from __future__ import annotations
 
 import base64
 import time
-import zlib
 from collections.abc import Callable
 from typing import Any
 
 from .browsers import Browser
-from .comparing import Tally
+from .comparing import Tally, fragment
 
 UP, DOWN, RIGHT, ENTER, ALT, CONTROL = "\ue013", "\ue015", "\ue014", "\ue007", "\ue00a", "\ue009"
-SECONDS = 30
+SECONDS = 120
 # of PIN 1 of the factory card, and another one
 PIN, OTHER_PIN = "31323334FFFFFFFF", "3938373635FFFFFF"
 STEP, EXAMPLE = (f"const it = document.querySelector('#{it}')" for it in ("step", "example"))
@@ -44,13 +43,6 @@ return {
 """
 # the colours of cards, as tools/sweep --picture has them
 CARDS = {"as before the command": "#0072b2", "as after the command": "#e69f00"}
-
-
-def fragment(script: str) -> str:
-    """The fragment of a link that holds a script."""
-    packer = zlib.compressobj(9, zlib.DEFLATED, -15)
-    packed = packer.compress(script.encode()) + packer.flush()
-    return "#s=" + base64.urlsafe_b64encode(packed).decode().rstrip("=")
 
 
 class Visitor:
@@ -258,14 +250,14 @@ class Visitor:
     def hostile_links(self) -> None:
         """A hostile link runs nothing, and is refused with a sentence."""
         for name, hostile in {
-            "that is damaged": "#s=AAAAAAAA",
-            "with other characters": "#s=%3Cscript%3E",
-            "that is empty": "#s=",
+            "that is damaged": "s=AAAAAAAA",
+            "with other characters": "s=%3Cscript%3E",
+            "that is empty": "s=",
             "that unpacks to 12 MB": fragment("on\n" * (1 << 22)),
             "that ends early": fragment("on\nfree\n" * 9)[:-8],
             "with a huge line": fragment("on\n") + "&l=99999999999",
         }.items():
-            self.come(hostile)
+            self.come(f"#{hostile}")
             said = self.text("#trouble")
             self.same(said.startswith("The link’s script wasn’t opened: "), True, f"a link {name}: {said}")
             lines = self.browser.run("return soffitfennel.state.run.rows.length")
