@@ -17,8 +17,9 @@ from .common import FIRST, ICCID, PLAIN_PATH, TOP, clean, one, releases, room_of
 ROOT_PACKAGES = "python3,python3-pip,gcc,libc6-dev,pkg-config,pcscd,opensc,man-db,bash-completion"
 # a client of the service that Debian starts, with the reader that the driver's package configures
 SERVICE = """mkdir -p /run/pcscd; pcscd --foreground >/tmp/pcscd.log 2>&1 & service=$!
-for i in $(seq 100); do [ -S /run/pcscd/pcscd.comm ] && break; sleep 0.1; done
-sleep 0.5; opensc-tool --reader 0 --atr; opensc-tool --reader 0 --send-apdu 00:A4:00:0C:02:2F:E2 | grep Received
+for i in $(seq 600); do [ -S /run/pcscd/pcscd.comm ] && break; sleep 0.1; done
+for i in $(seq 600); do opensc-tool --reader 0 --atr 2>/dev/null && break; sleep 0.1; done
+opensc-tool --reader 0 --send-apdu 00:A4:00:0C:02:2F:E2 | grep Received
 kill $service; wait $service 2>/dev/null; true"""
 SERVED = "3b:80:81:31:fe:45:8b\nReceived (SW1=0x90, SW2=0x00)\n"
 CUT = "on\ncut 1 0001\napdu 002000010830303030FFFFFFFF\non\napdu 00200001\n"
