@@ -44,6 +44,11 @@ pub trait Flash {
     /// All that contracts know of the flash.
     ghost state: { Self → FlashState };
 
+    /// Returns the address at which a sector begins. Sector `2 * SECTORS + 1` would begin behind the last word.
+    fn sector_at(sector: u16) -> u32
+        requires { sector ≤ 2 * SECTORS + 1 }
+        ensures { result ≡ sector_start sector };
+
     /// Returns the word at an address.
     fn read(&mut self, at: u32) -> Result<u32, DeviceErr>
         requires lit { (state self.old).dark ≡ false }
