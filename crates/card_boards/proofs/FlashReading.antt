@@ -8,7 +8,7 @@ use Rattle.flash_log.specs.Places.{OpenStopsBy}
 use Rattle.flash_log.specs.Rings.{IsRing}
 use Rattle.flash_log.specs.declared.flash_log.FlashFault.{FlashFault}
 use Rattle.flash_log.specs.declared.flash_log.FlashFault.TheVariants.{NoLog, PowerLost, Fault}
-use Rattle.flash_log.specs.laws.Words.{length-words}
+use Rattle.flash_area.specs.laws.Words.{length-words}
 use Rattle.simulated_flashes.specs.declared.garbling_flash.TheConstants.{FLASH_PAGES}
 use Rattle.card_boards.specs.FlashImages.{simulated_slots, words_on_flash}
 use Rattle.card_boards.specs.Images.{IsRefusedRightly}

@@ -3,5 +3,5 @@ pub mod FlashCalls
 pub mod FlashLogs
 pub mod PageTables
 pub mod ProgrammedRuns
-pub mod SlotParts
+pub mod PutRecords
 pub mod laws

@@ -1,7 +1,5 @@
-pub mod CopyParts
 pub mod Paces
 pub mod Places
 pub mod Renewals
 pub mod Rings
-pub mod Spares
 pub mod laws

@@ -8,7 +8,7 @@ use Rattle.flash_log.specs.Paces.{LogState}
 use Rattle.flash_device.specs.PageTables.{IsPageTable, AreFree}
 use Rattle.flash_device.specs.FlashLogs.{base_in, turn_of, words_of}
 use Rattle.flash_log.specs.Rings.{IsRing}
-use Rattle.flash_log.specs.Spares.{IsSpare}
+use Rattle.flash_area.specs.Spares.{IsSpare}
 
 -- The place is that of the flash, by the entries of its table.
 pub record IsPlaceOf {T : Type 0} (entries : T → List ℕ) (pages slots sectors : ℕ) (start : ℕ → ℕ) (m : List ℕ)

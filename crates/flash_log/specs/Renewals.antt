@@ -1,21 +1,11 @@
 -- A flash that has nothing but the pages as they are.
-use Rattle.std.specs.Prelude.{◌≡◌, ◌⊎◌, ◌<◌, ◌+◌, ◌*◌, ℕ, suc, true, List, slice_index}
+use Rattle.std.specs.Prelude.{◌≡◌, ◌⊎◌, ◌<◌, ◌*◌, ℕ, true, List}
 use Rattle.flash_device.specs.declared.flash.TheConstants.{BLANK, BLOCKS}
 use Rattle.flash_device.specs.FlashBlocks.{witness_start}
 use Rattle.flash_device.specs.FlashCalls.{AreFilled}
-use Rattle.flash_device.specs.FlashLogs.{base_in, close_b, close_of, find, is_marked, slot_of, turn_of}
-use Rattle.flash_log.specs.Spares.{spare_in}
-
--- A slot holds a page as it is: the page is found there, so in no other slot. The word that isn't used is 0.
-pub record HoldsPage (pages slots : ℕ) (m : List ℕ) (base s : ℕ) : Type 0 where
-  pub page : ℕ
-  pub below : page < pages
-  pub found : find m base slots page ≡ suc s
-  pub unused : slice_index m (slot_of base s + 17) ≡ 0
-
--- Each slot below one holds a page as it is.
-pub record HavePages (pages slots : ℕ) (m : List ℕ) (base next : ℕ) : Type 0 where
-  pub each : (s : ℕ) → s < next → HoldsPage pages slots m base s
+use Rattle.flash_device.specs.FlashLogs.{base_in, close_b, close_of, is_marked, slot_of, turn_of}
+use Rattle.flash_area.specs.HeldPages.{HoldsPage}
+use Rattle.flash_area.specs.Spares.{spare_in}
 
 -- A slot is blank, or holds a page as it is.
 abbrev pub IsCleanSlot : ℕ → ℕ → List ℕ → ℕ → ℕ → Type 0

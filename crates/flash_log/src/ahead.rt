@@ -8,25 +8,14 @@ ghost use Rattle.flash_log.specs.Paces.{HasStepped, HasMoved, IsRoomy, KeepsPace
 ghost use Rattle.flash_device.specs.PageTables.{IsPageTable};
 ghost use Rattle.flash_log.specs.Places.{IsLog};
 ghost use Rattle.flash_log.specs.Rings.{IsRing};
-ghost use Rattle.flash_log.specs.Spares.{HasCopies, spare_in, spare_sector};
+ghost use Rattle.flash_area.specs.Spares.{HasCopies, spare_in};
 ghost use Rattle.flash_device.specs.declared.layout.TheConstants.{STEP_PAGES};
 
-use crate::image::record_of;
-use crate::moving::put_in_spare;
 use crate::place::PageMap;
-use crate::record::close;
-use crate::scan::scan;
-use crate::turns::{home, pass_witness, spare};
+use crate::turns::pass_witness;
+use flash_area::{close, first_sector_of_spare, home, put_in_spare, record_of, scan, spare};
 use flash_device::{Flash, PageTable, STEP_PAGES, copy_steps};
 use nvm_board::DeviceErr;
-
-/// The number of the first sector of the area that the pages move to.
-fn first_sector_of_spare<F: Flash>(turn: u8) -> u16
-    ensures is { result ≡ spare_sector F.SECTORS turn }
-    ensures most { result ≤ F.SECTORS }
-{
-    if turn == 0 { F::SECTORS } else { 0 }
-}
 
 /// Copies a page to a free slot of the other area below `end`, and returns the first one that is free after it.
 fn copy_ahead<F: Flash>(

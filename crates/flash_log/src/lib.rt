@@ -4,12 +4,8 @@
 
 mod ahead;
 mod flash_log;
-mod image;
-mod moving;
 mod place;
-mod record;
 mod renewal;
-mod scan;
 mod steps;
 mod turns;
 mod writing;

@@ -6,15 +6,15 @@ ghost use Rattle.flash_device.specs.FlashLogs.{base_in, words_of};
 ghost use Rattle.flash_device.specs.PageTables.{IsPageTable};
 ghost use Rattle.flash_log.specs.Paces.{IsRoomy, KeepsPace, free_slots, lead_of};
 ghost use Rattle.flash_log.specs.Places.{IsLog};
-ghost use Rattle.flash_log.specs.Renewals.{AreClean, HasLastMark, HavePages, HoldsOnlyPages, HoldsPage, IsCleanSlot};
-ghost use Rattle.flash_log.specs.Spares.{spare_in};
+ghost use Rattle.flash_area.specs.HeldPages.{HavePages, HoldsPage};
+ghost use Rattle.flash_log.specs.Renewals.{AreClean, HasLastMark, HoldsOnlyPages, IsCleanSlot};
+ghost use Rattle.flash_area.specs.Spares.{spare_in};
 ghost use Rattle.flash_device.specs.declared.flash.TheConstants.{BLANK};
 
 use crate::ahead::pass_on;
 use crate::place::PageMap;
-use crate::record::is_blank;
 use crate::steps::{find_pages, make_room};
-use crate::turns::{home, spare};
+use flash_area::{home, is_blank, spare};
 use flash_device::{Flash, NUMBER_PLACE, PageTable, UNUSED_PLACE, erase_area, slot_at};
 use nvm_board::DeviceErr;
 

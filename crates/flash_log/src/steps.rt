@@ -6,15 +6,15 @@ ghost use Rattle.flash_device.specs.FlashLogs.{base_in, words_of};
 ghost use Rattle.flash_log.specs.Paces.{HasStepped, HasMoved, HasNoStepDue, IsRoomy, KeepsPace, Pauses, TakesSlot};
 ghost use Rattle.flash_log.specs.Paces.{MovesWell, RegainsSlots, free_slots, is_fresh, lead_of};
 ghost use Rattle.flash_log.specs.Places.{FindsFree, IsLog, IsPlaceOf};
-ghost use Rattle.flash_log.specs.Renewals.{HasLastMark, HavePages};
+ghost use Rattle.flash_area.specs.HeldPages.{HavePages};
+ghost use Rattle.flash_log.specs.Renewals.{HasLastMark};
 ghost use Rattle.flash_log.specs.declared.steps.TheConstants.{TRIES};
 
 use crate::ahead::take_step;
-use crate::image::read_page_word;
 use crate::place::PageMap;
-use crate::scan::scan;
-use crate::turns::{find_turn, home, move_to_a, move_to_b, pass_witness};
+use crate::turns::{find_turn, move_to_a, move_to_b, pass_witness};
 use crate::writing::{write_ahead, write_run};
+use flash_area::{home, read_page_word, scan};
 use flash_device::Flash;
 use nvm_board::DeviceErr;
 

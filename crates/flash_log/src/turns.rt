@@ -1,42 +1,18 @@
 //! Whose turn it is: the three blocks stand in a ring, and the turn is that of the open block behind a closed one.
 //! In turn 0 the pages are in area A, in turns 1 and 2 in area B. The block behind that of the turn holds anything.
-ghost use Rattle.std.specs.Prelude.{◌≡◌, ◌≢◌, ◌⊎◌, ◌<◌, ◌≤◌, ◌+◌, ◌*◌, ℕ, true, false, IfOk, OnOk, slice_index};
+ghost use Rattle.std.specs.Prelude.{◌≡◌, ◌<◌, ◌≤◌, ◌+◌, ◌*◌, ℕ, true, false, IfOk, OnOk, slice_index};
 ghost use Rattle.flash_device.specs.FlashCalls.{Costs, Lights, SameElsewhere, Tries};
 ghost use Rattle.flash_device.specs.PageTables.{IsPageTable, AreFree};
 ghost use Rattle.flash_device.specs.FlashBlocks.{area_size, witness_start};
 ghost use Rattle.flash_device.specs.FlashLogs.{base_in, close_b, close_of, page_word, turn_by, turn_of, words_of};
 ghost use Rattle.flash_device.specs.FlashLogs.{is_closed as has_closed, is_marked as has_mark};
-ghost use Rattle.flash_log.specs.Renewals.{HavePages};
+ghost use Rattle.flash_area.specs.HeldPages.{HavePages};
 ghost use Rattle.flash_log.specs.Rings.{IsRing};
-ghost use Rattle.flash_log.specs.Spares.{spare_in};
 ghost use Rattle.flash_device.specs.declared.layout.TheConstants.{SPARES};
 
-use crate::moving::copy_pages;
-use crate::record::{close, is_closed};
+use flash_area::{close, copy_pages, is_closed};
 use flash_device::{Flash, erase_area, erase_flash, erase_witness};
 use nvm_board::DeviceErr;
-
-/// The area that has the pages.
-pub fn home(turn: u8) -> u8
-    requires { turn < 3 }
-    ensures is { (slots : ℕ) → base_in slots result ≡ base_in slots turn }
-    ensures most { result < 2 }
-    ensures zero { turn ≡ 0 → result ≡ 0 }
-    ensures two { turn ≡ 2 → result ≡ 1 }
-{
-    if turn == 0 { 0 } else { 1 }
-}
-
-/// The area that the pages move to.
-pub fn spare(turn: u8) -> u8
-    requires { turn < 3 }
-    ensures is { (slots : ℕ) → base_in slots result ≡ spare_in slots turn }
-    ensures most { result < 2 }
-    ensures zero { turn ≡ 0 → result ≡ 1 }
-    ensures other { turn ≢ 0 → result ≡ 0 }
-{
-    if turn == 0 { 1 } else { 0 }
-}
 
 /// Finds the turn.
 pub fn find_turn<F: Flash>(flash: &mut F) -> Result<u8, DeviceErr>

@@ -6,14 +6,11 @@ ghost use Rattle.flash_device.specs.PageTables.{IsPageTable, AreFree};
 ghost use Rattle.flash_device.specs.FlashLogs.{base_in, turn_of, words_of};
 ghost use Rattle.flash_log.specs.Places.{IsPlaceOf};
 ghost use Rattle.flash_log.specs.Rings.{IsRing, SameMarks};
-ghost use Rattle.flash_log.specs.Spares.{IsSpare, spare_in};
+ghost use Rattle.flash_area.specs.Spares.{IsSpare, spare_in};
 ghost use Rattle.flash_device.specs.declared.layout.TheConstants.{STEP_PAGES};
 
-use crate::image::{overlay, record_of};
-use crate::moving::put_in_spare;
 use crate::place::PageMap;
-use crate::record::program_record;
-use crate::turns::{home, spare};
+use flash_area::{home, overlay, program_record, put_in_spare, record_of, spare};
 use flash_device::{Flash, PageTable, STEP_PAGES, slot_at};
 use nvm_board::DeviceErr;
 

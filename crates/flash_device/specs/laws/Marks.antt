@@ -7,7 +7,7 @@ use Rattle.flash_device.specs.declared.layout.TheConstants.{FIRST_MARK, SECOND_M
 use Rattle.flash_device.specs.FlashCalls.{SameElsewhere, IsThere, AreFilled}
 use Rattle.flash_device.specs.declared.flash.TheConstants.{BLANK}
 use Rattle.flash_device.specs.FlashLogs.{is_marked, is_closed}
-use Rattle.flash_device.specs.SlotParts.{IsPut, PutsInSlot}
+use Rattle.flash_device.specs.PutRecords.{IsPut, PutsInSlot}
 
 -- a run within a larger one
 pub elsewhere_wider : (m after : List ℕ) (at size from all : ℕ) → from ≤ at → at + size ≤ from + all

@@ -6,7 +6,7 @@ use Rattle.std.proofs.Common.{refl, sym, ◌∙◌, ap, ap₂, inl, inr, ⊎_eli
 use Rattle.std.proofs.lemmas.Bool.{cases_eq, cases_order, eq-eqb, ne_eqb}
 use Rattle.flash_device.specs.FlashCalls.{SameElsewhere}
 use Rattle.flash_device.specs.FlashLogs.{holds, find, is_marked, slot_of, word_of, page_word}
-use Rattle.flash_device.specs.SlotParts.{IsPut}
+use Rattle.flash_device.specs.PutRecords.{IsPut}
 use Rattle.flash_device.specs.laws.Marks.{mark_same}
 use Rattle.flash_device.specs.laws.Finding.{find-same, find-past, find-top, find-tells}
 

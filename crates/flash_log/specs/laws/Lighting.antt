@@ -11,7 +11,7 @@ use Rattle.flash_device.specs.FlashBlocks.{area_size, flash_size}
 use Rattle.flash_device.specs.FlashCalls.{FlashState, Lights, StaysLit, Tries}
 use Rattle.flash_device.specs.FlashLogs.{find, word_of, slot_of, base_in, turn_of, words_of}
 use Rattle.flash_device.specs.laws.Indexing.{base_most, find_most}
-use Rattle.flash_log.specs.laws.Words.{length-words, index-words}
+use Rattle.flash_area.specs.laws.Words.{length-words, index-words}
 
 -- calls that only read leave the flash as it was
 pub state_same : (old new : FlashState) → old.dark ≡ false → StaysLit old new → new.words ≡ old.words

@@ -11,10 +11,10 @@ use Rattle.flash_device.specs.PageTables.{AreFree}
 use Rattle.flash_device.specs.FlashLogs.{close_b, find, is_closed, slot_of, page_word, word_of, base_in, turn_of}
 use Rattle.flash_device.specs.FlashLogs.{words_of, close_of}
 use Rattle.flash_log.specs.Rings.{IsRing}
-use Rattle.flash_log.specs.laws.Copying.{SameArea, area_page, area_free, none_found, bases}
+use Rattle.flash_area.specs.laws.Copying.{SameArea, area_page, area_free, none_found, bases}
 use Rattle.flash_device.specs.laws.Marks.{blank_open, closed_same}
 use Rattle.flash_log.specs.laws.Turns.{turn_marks, zero_marks, one_marks, two_marks, zero_turn, one_turn, two_turn}
-use Rattle.flash_log.specs.laws.Words.{length-words, index-words}
+use Rattle.flash_area.specs.laws.Words.{length-words, index-words}
 
 -- the blocks of the two areas
 pub record IsArea (slots to : ℕ) : Type 0 where

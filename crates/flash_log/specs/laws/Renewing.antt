@@ -1,9 +1,8 @@
 -- Laws of a flash that has nothing but the pages as they are.
-use Rattle.std.specs.Prelude.{◌≡◌, ◌≢◌, ◌⊎◌, ◌<◌, ◌≤◌, ◌+◌, ◌-◌, ◌*◌, ℕ, Bool, true, false, List, length, slice_index}
+use Rattle.std.specs.Prelude.{◌≡◌, ◌≢◌, ◌⊎◌, ◌<◌, ◌≤◌, ◌+◌, ◌-◌, ◌*◌, ℕ, Bool, true, false, List, slice_index}
 use Rattle.std.specs.Prelude.{nat_eq, if◌then◌else◌}
 use Rattle.std.proofs.Common.{sym, ◌∙◌, ap, inl, inr, ⊎_elim, subst, arith, true≢false}
 use Rattle.std.proofs.lemmas.Bool.{cases_eq, cases_lt, eqb-true, ne_eqb}
-use Rattle.flash_log.specs.CopyParts.{KeepsOthers}
 use Rattle.flash_device.specs.declared.flash.TheConstants.{BLANK, BLOCKS}
 use Rattle.nvm_board.specs.declared.board.TheConstants.{LEAST_PAGES}
 use Rattle.flash_log.specs.declared.place.PageMap.{PageMap}
@@ -13,11 +12,11 @@ use Rattle.flash_device.specs.FlashLogs.{base_in, close_b, close_of, find, is_ma
 use Rattle.flash_device.specs.FlashLogs.{words_of}
 use Rattle.flash_log.specs.Paces.{KeepsPace}
 use Rattle.flash_device.specs.PageTables.{AreFree}
-use Rattle.flash_log.specs.Renewals.{AreClean, HasLastMark, HavePages, HoldsOnlyPages, HoldsPage}
+use Rattle.flash_area.specs.HeldPages.{HavePages, HoldsPage}
+use Rattle.flash_log.specs.Renewals.{AreClean, HasLastMark, HoldsOnlyPages}
 use Rattle.flash_log.specs.Rings.{IsRing}
-use Rattle.flash_device.specs.SlotParts.{IsPut}
-use Rattle.flash_log.specs.Spares.{IsSpare, spare_in}
-use Rattle.flash_log.specs.laws.Copying.{SameArea, area_found, area_word, last_found}
+use Rattle.flash_area.specs.Spares.{IsSpare, spare_in}
+use Rattle.flash_area.specs.laws.Copying.{SameArea, area_found, area_word}
 use Rattle.flash_device.specs.laws.Finding.{find-tells}
 use Rattle.flash_device.specs.laws.Indexing.{find_most}
 use Rattle.flash_device.specs.laws.Marks.{blank_part, mark_same, open_blank}
@@ -25,41 +24,9 @@ use Rattle.flash_log.specs.laws.Moving.{witness_area}
 use Rattle.flash_log.specs.laws.Pacing.{both}
 use Rattle.flash_log.specs.laws.Sparing.{copies_none, spare_leaves}
 use Rattle.flash_log.specs.laws.Turns.{two_marks, zero_marks}
-use Rattle.flash_log.specs.laws.Words.{index-page}
+use Rattle.flash_area.specs.laws.Words.{index-page}
 
 module _ (pages slots : ℕ) where
-  pub none_held : (m : List ℕ) (base : ℕ) → HavePages pages slots m base 0
-  none_held m base = record { each = λ s lt. absurd (omega (arith, lt)) }
-
-  -- a record is put into the next slot, and no other word changes
-  pub put_held : (m after : List ℕ) (base next page : ℕ) (words : List ℕ)
-      → SameElsewhere m (slot_of base next) 20 after → IsPut after (slot_of base next) words
-      → KeepsOthers slots m base page after (next + 1) → next < slots → length words ≡ 18
-      → slice_index words 16 ≡ page → slice_index words 17 ≡ 0 → page < pages → find m base slots page ≡ 0
-      → HavePages pages slots m base next → HavePages pages slots after base (next + 1)
-  put_held m after base next page words elsewhere put kept below size names unused within left have = record {
-    each = λ s lt. ⊎_elim
-        (λ (e : s ≡ next). subst (λ (t : ℕ). HoldsPage pages slots after base t) (sym e) (record {
-          page = page;
-          below = within;
-          found = last_found slots after base next page words put size names below kept.free;
-          unused = put.there.each 17 (omega (arith, size)) ∙ unused;
-        }))
-        (λ (other : s ≢ next).
-        let held = have.each s (omega (arith, lt, other)) in
-        let found = held.found in
-        let apart : held.page ≢ page = λ e.
-        let none : find m base slots held.page ≡ 0 = ap (find m base slots) e ∙ left in
-        absurd (omega (arith, none, found)) in
-        let before : slot_of base s + 17 < slot_of base next = omega (arith, lt, other) in record {
-          page = held.page;
-          below = held.below;
-          found = kept.found held.page apart ∙ found;
-          unused = elsewhere.same (slot_of base s + 17) (inl before) ∙ held.unused;
-        })
-        (cases_eq s next);
-  }
-
   -- the pages stay where the area does
   pub same_held : (m after : List ℕ) (base next : ℕ) → SameArea slots m after base
       → HavePages pages slots m base next → HavePages pages slots after base next

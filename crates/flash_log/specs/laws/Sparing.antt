@@ -3,7 +3,7 @@ use Rattle.std.specs.Prelude.{◌≡◌, ◌≢◌, ◌⊎◌, ◌<◌, ◌≤�
 use Rattle.std.specs.Prelude.{suc, nat_eq, if◌then◌else◌, slice_index}
 use Rattle.std.proofs.Common.{refl, sym, ◌∙◌, ap, inl, inr, ⊎_elim, subst, arith, true≢false}
 use Rattle.std.proofs.lemmas.Bool.{cases_eq, cases_lt}
-use Rattle.flash_log.specs.CopyParts.{KeepsOthers}
+use Rattle.flash_area.specs.PageCopies.{KeepsOthers}
 use Rattle.flash_device.specs.declared.flash.TheConstants.{BLANK}
 use Rattle.nvm_board.specs.declared.board.TheConstants.{LEAST_PAGES}
 use Rattle.flash_log.specs.declared.place.PageMap.{PageMap}
@@ -15,16 +15,16 @@ use Rattle.flash_device.specs.FlashLogs.{words_of}
 use Rattle.flash_device.specs.PageTables.{IsPageTable}
 use Rattle.flash_log.specs.Places.{IsLog}
 use Rattle.flash_log.specs.Rings.{IsRing}
-use Rattle.flash_device.specs.SlotParts.{IsPut}
-use Rattle.flash_log.specs.Spares.{HasCopies, IsSpare, spare_in, spare_sector}
-use Rattle.flash_log.specs.laws.Copying.{SameArea, area_found, area_free, area_page, last_found, none_found}
+use Rattle.flash_device.specs.PutRecords.{IsPut}
+use Rattle.flash_area.specs.Spares.{HasCopies, IsSpare, spare_in, spare_sector}
+use Rattle.flash_area.specs.laws.Copying.{SameArea, area_found, area_free, area_page, last_found, none_found}
 use Rattle.flash_device.specs.laws.Marks.{closed_by, closed_same, elsewhere_none, elsewhere_wider}
 use Rattle.flash_log.specs.laws.Moving.{Passes, Stays, zero_stays, two_stays, zero_passes, two_passes}
 use Rattle.flash_log.specs.laws.Moving.{erased_free, erased_open}
 use Rattle.flash_device.specs.laws.Rising.{rises_to, sectors_filled}
-use Rattle.flash_log.specs.laws.Sectors.{spare_first, spare_end}
+use Rattle.flash_area.specs.laws.Sectors.{spare_first, spare_end}
 use Rattle.flash_log.specs.laws.Turns.{zero_marks, two_marks}
-use Rattle.flash_log.specs.laws.Words.{index-page}
+use Rattle.flash_area.specs.laws.Words.{index-page}
 
 -- The words of an area are the same, those of its closing mark too.
 pub record SameBlock (slots : ℕ) (m after : List ℕ) (base : ℕ) : Type 0 where

@@ -9,12 +9,12 @@ use Rattle.nvm_board.specs.laws.Torn.{length-written, written-elsewhere, written
 use Rattle.flash_device.specs.FlashCalls.{SameElsewhere}
 use Rattle.flash_device.specs.PageTables.{IsPageTable, AreFree}
 use Rattle.flash_device.specs.FlashLogs.{find, is_marked, slot_of, page_word, words_of, base_in, turn_of}
-use Rattle.flash_device.specs.SlotParts.{IsPut, PutsInSlot}
+use Rattle.flash_device.specs.PutRecords.{IsPut, PutsInSlot}
 use Rattle.flash_log.specs.Rings.{SameMarks}
 use Rattle.flash_device.specs.laws.Putting.{word_kept, none_kept, find_kept, put_found, put_word, put_other}
 use Rattle.flash_device.specs.laws.Marks.{blank_slot, blank_same}
 use Rattle.flash_log.specs.laws.Turns.{slot_marks, turn_same}
-use Rattle.flash_log.specs.laws.Words.{words_same, words_written, overlaid}
+use Rattle.flash_area.specs.laws.Words.{words_same, words_written, overlaid}
 
 -- a run that is written twice
 written_twice : (m run : List ℕ) (at : ℕ) → at + length run ≤ length m

@@ -1,15 +1,15 @@
 use Rattle.std.proofs.Common.{◌≡◌, ◌<◌, ◌+◌, ◌*◌, ℕ, List, length, slice_index}
 use Rattle.std.proofs.Common.{sym, ap, subst, ◌∙◌, arith}
-use Rattle.flash_log.specs.CopyParts.{KeepsOthers}
+use Rattle.flash_area.specs.PageCopies.{KeepsOthers}
 use Rattle.flash_device.specs.FlashCalls.{SameElsewhere}
 use Rattle.flash_device.specs.FlashLogs.{base_in, find, page_word, slot_of, words_of}
 use Rattle.flash_device.specs.PageTables.{AreFree}
-use Rattle.flash_device.specs.SlotParts.{IsPut}
-use Rattle.flash_log.specs.Spares.{spare_in}
+use Rattle.flash_device.specs.PutRecords.{IsPut}
+use Rattle.flash_area.specs.Spares.{spare_in}
 use Rattle.flash_device.specs.laws.Marks.{elsewhere_wider}
 use Rattle.flash_log.specs.laws.Moving.{Stays}
 use Rattle.flash_log.specs.laws.Sparing.{copies_past, copies_put, spare_stays}
-use Rattle.flash_log.specs.laws.Words.{index-page}
+use Rattle.flash_area.specs.laws.Words.{index-page}
 use Rattle.flash_log.proofs.ahead.copy_ahead.Goals as goal
 
 pub returns-clause-copies : goal.returns-clause-copies

@@ -4,8 +4,8 @@ use Rattle.flash_device.specs.FlashBlocks.{area_size}
 use Rattle.flash_device.specs.FlashCalls.{SameElsewhere}
 use Rattle.flash_device.specs.FlashLogs.{base_in, words_of}
 use Rattle.flash_log.specs.Paces.{HasMoved}
-use Rattle.flash_log.specs.Spares.{HasCopies, spare_in}
-use Rattle.flash_log.specs.laws.Copying.{area_free}
+use Rattle.flash_area.specs.Spares.{HasCopies, spare_in}
+use Rattle.flash_area.specs.laws.Copying.{area_free}
 use Rattle.flash_device.specs.laws.Marks.{elsewhere_wider}
 use Rattle.flash_log.specs.laws.Moving.{Stays}
 use Rattle.flash_log.specs.laws.Lighting.{tries_faults}

@@ -1,7 +1,7 @@
 use Rattle.std.proofs.Common.{◌≡◌, ◌<◌, ◌+◌, ◌*◌, ℕ, refl, sym, subst, ◌∙◌, arith}
 use Rattle.flash_device.specs.FlashLogs.{base_in, words_of}
-use Rattle.flash_log.specs.Spares.{HasCopies, spare_in}
-use Rattle.flash_log.specs.laws.Copying.{area_found}
+use Rattle.flash_area.specs.Spares.{HasCopies, spare_in}
+use Rattle.flash_area.specs.laws.Copying.{area_found}
 use Rattle.flash_device.specs.laws.Marks.{elsewhere_then, elsewhere_wider}
 use Rattle.flash_log.specs.laws.Moving.{Stays}
 use Rattle.flash_log.specs.laws.Sparing.{spare_leaves, spare_stays}

@@ -2,7 +2,7 @@ use Rattle.std.proofs.Common.{◌≡◌, ◌≤◌, ◌+◌, ◌*◌, false}
 use Rattle.flash_device.specs.declared.layout.TheConstants.{STEP_PAGES}
 use Rattle.flash_device.specs.FlashCalls.{KeepsPower, SameElsewhere}
 use Rattle.flash_device.specs.FlashLogs.{words_of}
-use Rattle.flash_log.specs.Spares.{HasCopies, spare_in}
+use Rattle.flash_area.specs.Spares.{HasCopies, spare_in}
 use Rattle.flash_log.proofs.ahead.copy_step.Given as goal
 
 abbrev pub invariant-loop-k : goal.invariant-loop-k

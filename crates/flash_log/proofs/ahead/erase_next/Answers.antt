@@ -3,8 +3,8 @@ use Rattle.flash_device.specs.declared.flash.TheConstants.{BLANK}
 use Rattle.flash_device.specs.FlashBlocks.{area_size}
 use Rattle.flash_device.specs.FlashCalls.{AreFilled, SameElsewhere}
 use Rattle.flash_device.specs.FlashLogs.{base_in, words_of}
-use Rattle.flash_log.specs.Spares.{spare_in, spare_sector}
-use Rattle.flash_log.specs.laws.Copying.{area_free}
+use Rattle.flash_area.specs.Spares.{spare_in, spare_sector}
+use Rattle.flash_area.specs.laws.Copying.{area_free}
 use Rattle.flash_log.specs.laws.Moving.{Stays}
 use Rattle.flash_log.specs.laws.Sparing.{index_same, sector_within, spare_leaves, spare_more, spare_stays}
 use Rattle.flash_log.proofs.ahead.erase_next.Goals as goal

@@ -2,7 +2,7 @@ use Rattle.std.proofs.Common.{◌≡◌, ℕ, sym, ap, subst, ◌∙◌, arith}
 use Rattle.flash_device.specs.FlashBlocks.{area_size}
 use Rattle.flash_device.specs.FlashLogs.{base_in, words_of}
 use Rattle.flash_device.specs.PageTables.{AreFree, IsPageTable}
-use Rattle.flash_log.specs.laws.Copying.{SameArea, area_free}
+use Rattle.flash_area.specs.laws.Copying.{SameArea, area_free}
 use Rattle.flash_log.specs.laws.Moving.{witness_area}
 use Rattle.flash_log.specs.laws.Sparing.{index_same, spare_none}
 use Rattle.flash_log.proofs.ahead.pass_on.Goals as goal

@@ -2,8 +2,8 @@ use Rattle.std.proofs.Common.{◌≡◌, ℕ, List, sym, ap, subst, ◌∙◌, a
 use Rattle.flash_device.specs.FlashLogs.{base_in, turn_of, words_of}
 use Rattle.flash_device.specs.PageTables.{AreFree, IsPageTable}
 use Rattle.flash_log.specs.Rings.{IsRing}
-use Rattle.flash_log.specs.Spares.{spare_in}
-use Rattle.flash_log.specs.laws.Copying.{area_free}
+use Rattle.flash_area.specs.Spares.{spare_in}
+use Rattle.flash_area.specs.laws.Copying.{area_free}
 use Rattle.flash_log.specs.laws.Sparing.{pass_opened, pass_words, pass_ring, pass_turn, pass_area, spare_none}
 use Rattle.flash_log.proofs.ahead.pass_turn.Goals as goal
 

@@ -1,7 +1,8 @@
 use Rattle.std.proofs.Common.{sym, subst}
 use Rattle.flash_log.specs.declared.place.PageMap.{PageMap}
 use Rattle.flash_device.specs.FlashLogs.{base_in}
-use Rattle.flash_log.specs.Renewals.{HasLastMark, HavePages}
+use Rattle.flash_area.specs.HeldPages.{HavePages}
+use Rattle.flash_log.specs.Renewals.{HasLastMark}
 use Rattle.flash_log.specs.laws.Renewing.{held_on, last_on}
 use Rattle.flash_log.proofs.renewal.leave_turn_1.Goals as goal
 

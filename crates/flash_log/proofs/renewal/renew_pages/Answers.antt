@@ -6,8 +6,9 @@ use Rattle.flash_device.specs.FlashBlocks.{area_size, steps_of}
 use Rattle.flash_device.specs.FlashCalls.{AreFilled}
 use Rattle.flash_device.specs.FlashLogs.{base_in}
 use Rattle.flash_log.specs.Paces.{KeepsPace, free_slots}
-use Rattle.flash_log.specs.Renewals.{AreClean, HasLastMark, HavePages, HoldsOnlyPages}
-use Rattle.flash_log.specs.Spares.{spare_in}
+use Rattle.flash_area.specs.HeldPages.{HavePages}
+use Rattle.flash_log.specs.Renewals.{AreClean, HasLastMark, HoldsOnlyPages}
+use Rattle.flash_area.specs.Spares.{spare_in}
 use Rattle.flash_log.specs.laws.Renewing.{home_held, last_same, only_pages, pace_renewed}
 use Rattle.flash_log.proofs.renewal.renew_pages.Goals as goal
 

@@ -1,6 +1,6 @@
 use Rattle.std.proofs.Common.{◌≡◌, ℕ, List, refl, sym, subst, ◌∙◌, arith}
 use Rattle.flash_device.specs.PageTables.{IsPageTable}
-use Rattle.flash_log.specs.laws.Copying.{SameArea, area_found}
+use Rattle.flash_area.specs.laws.Copying.{SameArea, area_found}
 use Rattle.flash_device.specs.FlashLogs.{words_of}
 use Rattle.flash_log.specs.laws.Moving.{base_other, witness_area}
 use Rattle.flash_log.specs.laws.Sparing.{spare_none}

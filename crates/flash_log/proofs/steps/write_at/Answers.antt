@@ -5,7 +5,7 @@ use Rattle.flash_log.specs.declared.place.PageMap.{PageMap}
 use Rattle.flash_log.specs.Paces.{IsRoomy, KeepsPace, RegainsSlots, free_slots}
 use Rattle.flash_log.specs.laws.Lighting.{failed_costs, last_costs, tries_faults}
 use Rattle.flash_log.specs.laws.Pacing.{holds_since, pauses_since, takes_since}
-use Rattle.flash_log.specs.laws.Words.{length-words}
+use Rattle.flash_area.specs.laws.Words.{length-words}
 use Rattle.flash_log.specs.laws.Writing.{whole_again, done_again}
 use Rattle.flash_log.proofs.steps.write_at.Goals as goal
 

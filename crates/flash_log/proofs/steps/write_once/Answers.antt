@@ -6,8 +6,8 @@ use Rattle.flash_device.specs.FlashCalls.{FlashState, SameElsewhere}
 use Rattle.flash_device.specs.FlashLogs.{base_in, words_of}
 use Rattle.flash_device.specs.PageTables.{IsPageTable, AreFree}
 use Rattle.flash_log.specs.Paces.{HasStepped, IsBrief, lead_of}
-use Rattle.flash_log.specs.Spares.{IsSpare}
-use Rattle.flash_log.specs.laws.Copying.{area_free}
+use Rattle.flash_area.specs.Spares.{IsSpare}
+use Rattle.flash_area.specs.laws.Copying.{area_free}
 use Rattle.flash_log.specs.laws.Lighting.{lights_faults, tries_faults}
 use Rattle.flash_log.specs.laws.Pacing.{failed_not_ok, free_known, free_of, paced_put, short_then}
 use Rattle.flash_log.specs.laws.Sparing.{LeavesHome, leaves_home, index_same, home_leaves, spare_same}

@@ -1,7 +1,7 @@
 use Rattle.std.proofs.Common.{◌≡◌, ◌≤◌, ◌<◌, ◌+◌, ⊎_elim, refl, sym, ◌∙◌, inl, inr, arith}
 use Rattle.std.proofs.Common.{true≢false}
 use Rattle.flash_device.specs.FlashLogs.{turn_of}
-use Rattle.flash_log.specs.laws.Copying.{SameArea, area_found, area_free}
+use Rattle.flash_area.specs.laws.Copying.{SameArea, area_found, area_free}
 use Rattle.flash_log.specs.laws.Moving.{Passes, Stays, two_stays, two_passes}
 use Rattle.flash_log.specs.laws.Turns.{two_marks}
 use Rattle.flash_device.specs.laws.Marks.{closed_same}

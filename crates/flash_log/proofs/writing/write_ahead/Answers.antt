@@ -1,14 +1,14 @@
 use Rattle.std.proofs.Common.{◌≡◌, ◌<◌, ◌+◌, ◌*◌, ℕ, List, length, slice_index}
 use Rattle.std.proofs.Common.{refl, sym, ap, subst, ◌∙◌, inr, arith}
 use Rattle.nvm_board.specs.History.{written}
-use Rattle.flash_log.specs.CopyParts.{KeepsOthers}
+use Rattle.flash_area.specs.PageCopies.{KeepsOthers}
 use Rattle.flash_device.specs.FlashCalls.{SameElsewhere}
 use Rattle.flash_device.specs.FlashLogs.{base_in, find, slot_of, turn_of, words_of}
 use Rattle.flash_device.specs.PageTables.{AreFree}
-use Rattle.flash_device.specs.SlotParts.{IsPut}
-use Rattle.flash_log.specs.Spares.{spare_in}
+use Rattle.flash_device.specs.PutRecords.{IsPut}
+use Rattle.flash_area.specs.Spares.{spare_in}
 use Rattle.flash_log.specs.laws.Sparing.{copies_put, spare_all, spare_past, spare_put}
-use Rattle.flash_log.specs.laws.Words.{overlaid, written_other}
+use Rattle.flash_area.specs.laws.Words.{overlaid, written_other}
 use Rattle.flash_device.specs.declared.layout.TheConstants.{STEP_PAGES}
 use Rattle.flash_log.proofs.writing.write_ahead.Goals as goal
 

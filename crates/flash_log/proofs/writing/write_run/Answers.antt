@@ -2,7 +2,7 @@ use Rattle.std.proofs.Common.{◌≡◌, ◌*◌, ℕ, List, length, sym, subst}
 use Rattle.std.proofs.Common.{arith}
 use Rattle.flash_device.specs.PageTables.{IsPageTable}
 use Rattle.flash_device.specs.FlashLogs.{base_in, slot_of}
-use Rattle.flash_device.specs.SlotParts.{IsPut, PutsInSlot}
+use Rattle.flash_device.specs.PutRecords.{IsPut, PutsInSlot}
 use Rattle.flash_device.specs.laws.Marks.{elsewhere_wider}
 use Rattle.flash_log.specs.laws.Writing.{run_marks, run_done, run_whole, run_index, free_behind}
 use Rattle.flash_log.proofs.writing.write_run.Goals as goal

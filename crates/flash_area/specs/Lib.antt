@@ -1,0 +1,4 @@
+pub mod HeldPages
+pub mod PageCopies
+pub mod Spares
+pub mod laws

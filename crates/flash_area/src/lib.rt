@@ -1,0 +1,15 @@
+//! One area of the log of a flash: records in slots, the scan that finds the pages, their copies, and how far a move
+//! has come.
+#![tactic(auto)]
+
+mod image;
+mod moving;
+mod record;
+mod scanning;
+mod two_areas;
+
+pub use image::{overlay, read_page_word, record_of};
+pub use moving::{copy_pages, put_in_spare};
+pub use record::{Record, close, is_blank, is_closed, program_record};
+pub use scanning::scan;
+pub use two_areas::{first_sector_of_spare, home, spare};
