@@ -15,13 +15,14 @@ spare_in slots turn = if nat_eq turn 0 then area_size slots else 0
 abbrev pub spare_sector : ℕ → ℕ → ℕ
 spare_sector sectors turn = if nat_eq turn 0 then sectors else 0
 
--- The area is open and has the first so many pages of these words, and no others. From a slot on all are free.
+-- The area is open and has the first so many pages of these words, and no other page of the board. From a slot on all
+-- are free.
 pub record HasCopies (pages slots : ℕ) (m words : List ℕ) (base copied behind : ℕ) : Type 0 where
   pub opened : is_closed m (base + 20 * slots) ≡ false
   pub free : AreFree m base behind slots
   pub each : (p k : ℕ) → p < copied → p < pages → k < 16
       → page_word m base slots p k ≡ slice_index words (16 * p + k)
-  pub left : (p : ℕ) → copied ≤ p → find m base slots p ≡ 0
+  pub left : (p : ℕ) → copied ≤ p → p < pages → find m base slots p ≡ 0
 
 -- How far the move has come: so many sectors are erased, and if these are all, so many steps have copied pages. In
 -- turn 1 it has not begun.
