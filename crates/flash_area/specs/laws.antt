@@ -1,5 +1,6 @@
 -- Laws of the definitions, with their proofs.
 pub mod Copying
+pub mod Erased
 pub mod Holding
 pub mod Sectors
 pub mod Words

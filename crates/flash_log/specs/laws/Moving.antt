@@ -2,23 +2,19 @@
 use Rattle.std.specs.Prelude.{◌≡◌, ◌≢◌, ◌⊎◌, ◌<◌, ◌≤◌, ◌+◌, ◌*◌, ◌/◌, ◌%◌, ℕ, Bool, true, false, List}
 use Rattle.std.specs.Prelude.{slice_index, if◌then◌else◌}
 use Rattle.std.proofs.Common.{refl, sym, ◌∙◌, ap, inl, inr, ⊎_elim, arith, true≢false}
-use Rattle.std.proofs.lemmas.Bool.{cases_eq, ne_eqb}
+use Rattle.std.proofs.lemmas.Bool.{ne_eqb}
 use Rattle.std.proofs.lemmas.Grind.{same_number_lists}
 use Rattle.flash_device.specs.FlashBlocks.{area_size, flash_size, witness_start}
 use Rattle.flash_device.specs.declared.flash.TheConstants.{BLANK}
 use Rattle.flash_device.specs.FlashCalls.{SameElsewhere, AreFilled}
-use Rattle.flash_device.specs.PageTables.{AreFree}
-use Rattle.flash_device.specs.FlashLogs.{close_b, find, is_closed, slot_of, page_word, word_of, base_in, turn_of}
-use Rattle.flash_device.specs.FlashLogs.{words_of, close_of}
+use Rattle.flash_device.specs.FlashLogs.{close_b, find, is_closed, page_word, word_of, base_in, turn_of}
+use Rattle.flash_device.specs.FlashLogs.{words_of}
 use Rattle.flash_log.specs.Rings.{IsRing}
 use Rattle.flash_area.specs.laws.Copying.{SameArea, area_page, area_free, none_found, bases}
-use Rattle.flash_device.specs.laws.Marks.{blank_open, closed_same}
+use Rattle.flash_area.specs.laws.Erased.{erased_free}
+use Rattle.flash_device.specs.laws.Marks.{closed_same}
 use Rattle.flash_log.specs.laws.Turns.{turn_marks, zero_marks, one_marks, two_marks, zero_turn, one_turn, two_turn}
 use Rattle.flash_area.specs.laws.Words.{length-words, index-words}
-
--- the blocks of the two areas
-pub record IsArea (slots to : ℕ) : Type 0 where
-  pub close : close_of slots to ≡ base_in slots to + 20 * slots
 
 -- Whatever stands in the block behind that of the turn: the turn stays, and so do the words.
 pub record Stays (pages slots : ℕ) (m after : List ℕ) : Type 0 where
@@ -47,35 +43,6 @@ module _ (pages slots : ℕ) where
       index-words pages slots after i inside ∙ ap (λ (b : ℕ). page_word after b slots (i / 16) (i % 16)) (sym is)
       ∙ same (i / 16) (i % 16) p k
       ∙ sym (index-words pages slots m i inside ∙ ap (λ (b : ℕ). page_word m b slots (i / 16) (i % 16)) (sym was)))
-
-  -- an area that was erased has free slots, and is open
-  pub erased_free : (m : List ℕ) (base : ℕ) → AreFilled m base (area_size slots) BLANK → AreFree m base 0 slots
-  erased_free m base all = record {
-    within = omega arith;
-    free = λ s from lt. record {
-      each = λ k few.
-          let place : base + (20 * s + k) ≡ slot_of base s + k = omega arith in
-          ap (λ (j : ℕ). slice_index m j) (sym place) ∙ all.each (20 * s + k) (omega (arith, lt, few));
-    };
-  }
-
-  pub erased_open : (m : List ℕ) (base : ℕ) → AreFilled m base (area_size slots) BLANK
-      → is_closed m (base + 20 * slots) ≡ false
-  erased_open m base all =
-      let next : base + (20 * slots + 1) ≡ base + 20 * slots + 1 = omega arith in
-      blank_open m (base + 20 * slots) (all.each (20 * slots) (omega arith))
-      (ap (λ (k : ℕ). slice_index m k) (sym next) ∙ all.each (20 * slots + 1) (omega arith))
-
-  pub is_area : (to : ℕ) → to < 2 → IsArea slots to
-  is_area to lt = ⊎_elim
-      (λ (z : to ≡ 0). record {
-        close = let here : 20 * slots ≡ 0 + 20 * slots = omega arith in
-            ap (close_of slots) z ∙ here ∙ sym (ap (λ (t : ℕ). base_in slots t + 20 * slots) z);
-      })
-      (λ (n : to ≢ 0). let o : to ≡ 1 = omega (arith, n, lt) in record {
-        close = ap (close_of slots) o ∙ sym (ap (λ (t : ℕ). base_in slots t + 20 * slots) o);
-      })
-      (cases_eq to 0)
 
   -- a change of the other area, its closing mark too
   pub whole_area : (m after : List ℕ) (from to : ℕ) → from + to ≡ 1
@@ -305,7 +272,7 @@ module _ (pages slots : ℕ) where
     pub formatted_words : (i : ℕ) → i < 16 * pages → slice_index (words_of pages slots m) i ≡ 0
     formatted_words i lt =
         let none : find m 0 slots (i / 16) ≡ 0 =
-        none_found slots m 0 (i / 16) (area_free slots c m 0 area_a 0 (erased_free c 0 blank_a)) in
+        none_found slots m 0 (i / 16) (area_free slots c m 0 area_a 0 (erased_free pages slots c 0 blank_a)) in
         let base : base_in slots (turn_of slots m) ≡ 0 = ap (base_in slots) formatted_turn in
         index-words pages slots m i lt ∙ ap (λ (q : ℕ). page_word m q slots (i / 16) (i % 16)) base
         ∙ ap (λ (f : ℕ). word_of m 0 f (i % 16)) none

@@ -22,7 +22,8 @@ use Rattle.flash_device.specs.laws.Indexing.{find_most}
 use Rattle.flash_device.specs.laws.Marks.{blank_part, mark_same, open_blank}
 use Rattle.flash_log.specs.laws.Moving.{witness_area}
 use Rattle.flash_log.specs.laws.Pacing.{both}
-use Rattle.flash_log.specs.laws.Sparing.{copies_none, spare_leaves}
+use Rattle.flash_area.specs.laws.Erased.{copies_none}
+use Rattle.flash_log.specs.laws.Sparing.{spare_leaves}
 use Rattle.flash_log.specs.laws.Turns.{two_marks, zero_marks}
 use Rattle.flash_area.specs.laws.Words.{index-page}
 

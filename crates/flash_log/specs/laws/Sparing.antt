@@ -17,11 +17,11 @@ use Rattle.flash_log.specs.Places.{IsLog}
 use Rattle.flash_log.specs.Rings.{IsRing}
 use Rattle.flash_device.specs.PutRecords.{IsPut}
 use Rattle.flash_area.specs.Spares.{HasCopies, IsSpare, spare_in, spare_sector}
-use Rattle.flash_area.specs.laws.Copying.{SameArea, area_found, area_free, area_page, last_found, none_found}
+use Rattle.flash_area.specs.laws.Copying.{SameArea, area_found, area_free, area_page, last_found}
 use Rattle.flash_device.specs.laws.Marks.{closed_by, closed_same, elsewhere_none, elsewhere_wider}
 use Rattle.flash_log.specs.laws.Moving.{Passes, Stays, zero_stays, two_stays, zero_passes, two_passes}
-use Rattle.flash_log.specs.laws.Moving.{erased_free, erased_open}
 use Rattle.flash_device.specs.laws.Rising.{rises_to, sectors_filled}
+use Rattle.flash_area.specs.laws.Erased.{copies_none}
 use Rattle.flash_area.specs.laws.Sectors.{spare_first, spare_end}
 use Rattle.flash_log.specs.laws.Turns.{zero_marks, two_marks}
 use Rattle.flash_area.specs.laws.Words.{index-page}
@@ -130,16 +130,6 @@ module _ (pages slots : ℕ) where
         each = λ p k lt below few. area_page slots m after base area p k few ∙ has.each p k lt below few;
         left = λ p from. area_found slots m after base area p ∙ has.left p from;
       }
-
-  -- an area that was erased has no page
-  pub copies_none : (m words : List ℕ) (base : ℕ) → AreFilled m base (area_size slots) BLANK
-      → HasCopies pages slots m words base 0 0
-  copies_none m words base all = let free = erased_free pages slots m base all in record {
-    opened = erased_open pages slots m base all;
-    free = free;
-    each = λ p k lt below few. absurd (omega (arith, lt));
-    left = λ p from. none_found slots m base p free;
-  }
 
   -- a page that was never written needs no copy
   pub copies_past : (m : List ℕ) (turn page behind : ℕ) → turn ≡ turn_of slots m
@@ -373,7 +363,7 @@ module _ (pages slots : ℕ) where
               let zero_pages : 0 ≡ STEP_PAGES * copied = let z = none.0 in omega (arith, z) in
               subst (λ (n : ℕ). HasCopies pages slots after new base n behind) zero_pages
               (subst (λ (n : ℕ). HasCopies pages slots after new base 0 n) (sym none.1)
-              (copies_none after new base blank));
+              (copies_none pages slots after new base blank));
         }
 
     -- the move may begin anew

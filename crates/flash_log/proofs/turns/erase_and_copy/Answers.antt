@@ -4,7 +4,8 @@ use Rattle.flash_device.specs.FlashCalls.{AreFilled}
 use Rattle.flash_device.specs.FlashLogs.{base_in, is_closed as has_closed}
 use Rattle.flash_area.specs.laws.Copying.{SameArea, area_found, area_page}
 use Rattle.flash_device.specs.laws.Marks.{closed_same}
-use Rattle.flash_log.specs.laws.Moving.{is_area, whole_area, erased_free, erased_open}
+use Rattle.flash_area.specs.laws.Erased.{is_area, erased_free, erased_open}
+use Rattle.flash_log.specs.laws.Moving.{whole_area}
 use Rattle.flash_device.specs.FlashBlocks.{area_size}
 use Rattle.flash_log.proofs.turns.erase_and_copy.Goals as goal
 
