@@ -4,7 +4,7 @@ use Rattle.flash_device.specs.declared.flash.TheConstants.{BLANK}
 use Rattle.flash_device.specs.declared.layout.TheConstants.{STEP_PAGES}
 use Rattle.flash_device.specs.FlashBlocks.{area_size, steps_of}
 use Rattle.flash_device.specs.FlashCalls.{AreFilled}
-use Rattle.flash_device.specs.FlashLogs.{find, is_closed, page_word}
+use Rattle.flash_device.specs.FlashLogs.{find, is_closed, page_word, words_of}
 use Rattle.flash_device.specs.PageTables.{AreFree}
 
 -- where the pages move to in a turn
@@ -35,3 +35,10 @@ pub record IsSpare (pages slots sectors : ℕ) (start : ℕ → ℕ) (m words : 
   pub blank : erased < sectors
       → AreFilled m (spare_in slots turn) (start (spare_sector sectors turn + erased) - spare_in slots turn) BLANK
   pub copies : erased ≡ sectors → HasCopies pages slots m words (spare_in slots turn) (STEP_PAGES * copied) behind
+
+-- No progress that the flash shows is further than this one, in sectors or in steps. It counts only if the copies are
+-- in as few slots as those of a move in pace.
+abbrev pub IsFurthest : ℕ → ℕ → ℕ → (ℕ → ℕ) → List ℕ → ℕ → ℕ → ℕ → Type 0
+IsFurthest pages slots sectors start m turn erased copied = (e c b : ℕ)
+    → IsSpare pages slots sectors start m (words_of pages slots m) turn e c b → b ≤ (STEP_PAGES + 1) * c
+    → (e ≤ erased) × (c ≤ copied)

@@ -2,5 +2,6 @@
 pub mod Copying
 pub mod Erased
 pub mod Holding
+pub mod Progressing
 pub mod Sectors
 pub mod Words

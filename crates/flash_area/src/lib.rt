@@ -3,12 +3,14 @@
 #![tactic(auto)]
 
 mod image;
+mod move_progress;
 mod moving;
 mod record;
 mod scanning;
 mod two_areas;
 
 pub use image::{overlay, read_page_word, record_of};
+pub use move_progress::{Progress, find_progress};
 pub use moving::{copy_pages, put_in_spare};
 pub use record::{Record, close, is_blank, is_closed, program_record};
 pub use scanning::scan;

@@ -1,0 +1,15 @@
+use Rattle.std.proofs.Common.{◌≡◌, ◌≤◌, ◌-◌, false}
+use Rattle.flash_device.specs.declared.flash.TheConstants.{BLANK}
+use Rattle.flash_device.specs.FlashCalls.{AreFilled, StaysLit}
+use Rattle.flash_area.proofs.move_progress.first_used.Given as goal
+
+abbrev pub invariant-loop-at : goal.invariant-loop-at
+invariant-loop-at g l = let old = g.F.Flash.state l.initial.flash in let new = g.F.Flash.state l.flash in record {
+  words : new.words ≡ old.words;
+  work : new.operations ≡ old.operations;
+  erases : new.erases ≡ old.erases;
+  lit : new.dark ≡ false;
+  steady : StaysLit old new;
+  least : l.from ≤ l.at;
+  blank : AreFilled old.words l.from (l.at - l.from) BLANK;
+}
