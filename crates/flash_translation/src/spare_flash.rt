@@ -9,6 +9,7 @@ ghost use Rattle.flash_translation.specs.SpareMaps.{HasSpares, TakesNone, TakesS
 
 use crate::spare_calls::{SectorMap, erase_at, program_at, read_at};
 use crate::spare_device::{SpareDevice, SpareSocket};
+use crate::spare_places::start_of;
 use flash_device::{Flash, FlashSocket, PageTable};
 use nvm_board::DeviceErr;
 
@@ -74,6 +75,10 @@ impl<D: SpareDevice> Flash for SpareFlash<D> {
 
     ghost state = { λ f. without_spares D.SLOTS D.SECTORS D.SECTOR_SLOTS D.SECTOR_WORDS D.SPARES f.known.absorbed
         (D.state f.device) };
+
+    fn sector_at(sector: u16) -> u32 {
+        start_of::<D>(sector)
+    }
 
     fn read(&mut self, at: u32) -> Result<u32, DeviceErr>
         requires lit { (⟦<SpareFlash<D> as Flash>⟧.state self.old).dark ≡ false }

@@ -50,6 +50,31 @@ pub fn spot_of<D: SpareDevice>(at: u32) -> Spot
     spot_in::<D>(0, at)
 }
 
+/// The first word of a sector in its area.
+fn part_at<D: SpareDevice>(part: u16) -> u32
+    requires { part < D.SECTORS }
+    ensures is { result ≡ 20 * (D.SECTOR_SLOTS * part) }
+    ensures most { result ≤ 20 * D.SLOTS }
+{
+    SLOT_WORDS * (u32::from(D::SECTOR_SLOTS) * u32::from(part))
+}
+
+/// The first address of a sector of the log.
+pub fn start_of<D: SpareDevice>(sector: u16) -> u32
+    ensures { result ≡ part_start D.SLOTS D.SECTORS D.SECTOR_SLOTS sector }
+{
+    let area = SLOT_WORDS * u32::from(D::SLOTS) + 2;
+    if sector < D::SECTORS {
+        part_at::<D>(sector)
+    } else if sector < 2 * D::SECTORS {
+        area + part_at::<D>(sector - D::SECTORS)
+    } else if sector == 2 * D::SECTORS {
+        area + area
+    } else {
+        area + area + 2
+    }
+}
+
 /// The sector of the device that has a sector of the log, by the table.
 pub fn lies_at<D: SpareDevice>(table: &D::Map, sector: u16) -> u16
     requires sector { sector ≤ 2 * D.SECTORS }

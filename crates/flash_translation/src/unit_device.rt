@@ -47,6 +47,11 @@ pub trait UnitDevice {
     /// All that contracts know of the device.
     ghost state: { Self → UnitState };
 
+    /// Returns the first frame of a sector. Sector `2 * SECTORS + 1` would begin behind the last frame.
+    fn first_frame_at(sector: u16) -> u32
+        requires { sector ≤ 2 * SECTORS + 1 }
+        ensures { result ≡ first_frame sector };
+
     /// Returns the word at an address.
     fn read(&mut self, at: u32) -> Result<u32, DeviceErr>
         requires lit { (state self.old).flash.dark ≡ false }

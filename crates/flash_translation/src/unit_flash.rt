@@ -4,6 +4,7 @@ ghost use Rattle.flash_translation.specs.UnitWords.{HasFreshUnits};
 
 use crate::unit_calls::{are_blank, erase_sector, program_run, read_word};
 use crate::unit_device::{UnitDevice, UnitSocket};
+use crate::unit_frames::start_of;
 use flash_device::{Flash, FlashSocket};
 use nvm_board::DeviceErr;
 
@@ -57,6 +58,10 @@ impl<D: UnitDevice> Flash for UnitFlash<D> {
     ghost sector_start = { λ s. frame_start D.SLOTS (D.first_frame s) };
 
     ghost state = { λ f. translated D.UNIT D.SLOTS (D.state f.device).flash };
+
+    fn sector_at(sector: u16) -> u32 {
+        start_of::<D>(D::first_frame_at(sector))
+    }
 
     fn read(&mut self, at: u32) -> Result<u32, DeviceErr> {
         let word = read_word(&mut self.device, at)?;

@@ -2,7 +2,7 @@
 ghost use Rattle.std.specs.Prelude.{◌≡◌, ◌<◌, ◌≤◌, ◌+◌, ◌*◌, max};
 ghost use Rattle.flash_device.specs.FlashBlocks.{flash_size};
 ghost use Rattle.flash_translation.specs.UnitFrames.{KeepsMarksApart, KeepsWordsApart, device_size, frame_count};
-ghost use Rattle.flash_translation.specs.UnitFrames.{frame_in, frame_of, place_in, rank_in, rank_of};
+ghost use Rattle.flash_translation.specs.UnitFrames.{frame_in, frame_of, frame_start, place_in, rank_in, rank_of};
 ghost use Rattle.flash_translation.specs.UnitWords.{rest_at};
 
 use crate::unit_device::UnitDevice;
@@ -69,6 +69,24 @@ pub fn spot_of<D: UnitDevice>(at: u32) -> Spot
         spot_in(slots, slots + 1, at - area)
     } else {
         spot_in(slots, 0, at)
+    }
+}
+
+/// The first address of the log that lies in a frame or behind it.
+pub fn start_of<D: UnitDevice>(frame: u32) -> u32
+    ensures { result ≡ frame_start D.SLOTS frame }
+{
+    let slots = u32::from(D::SLOTS);
+    let witness = 2 * (SLOT_WORDS * slots + 2);
+    if frame <= slots {
+        SLOT_WORDS * frame
+    } else if frame <= 2 * slots + 1 {
+        // The close mark of area A is shorter than a slot.
+        SLOT_WORDS * frame - RECORD_WORDS
+    } else if frame <= 2 * slots + 2 {
+        witness
+    } else {
+        witness + 2
     }
 }
 

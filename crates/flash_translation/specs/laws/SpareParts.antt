@@ -67,13 +67,13 @@ module _ (slots sectors each size spares : ℕ) (takes : TakesLog slots sectors 
       (le-leb (witness_start slots) a ge)
 
   -- the first address of a sector, by the block
-  start_a : (s : ℕ) → s < sectors → part_start slots sectors each s ≡ 20 * (each * s)
+  pub start_a : (s : ℕ) → s < sectors → part_start slots sectors each s ≡ 20 * (each * s)
   unfolding part_start
   start_a s lt = ap (λ (b : Bool). if b then 20 * (each * s) else if nat_lt s (2 * sectors)
       then area_size slots + 20 * (each * (s - sectors)) else if nat_le s (2 * sectors) then witness_start slots
       else flash_size slots) (lt-ltb s sectors lt)
 
-  start_b : (p : ℕ) → p < sectors → part_start slots sectors each (sectors + p) ≡ area_size slots + 20 * (each * p)
+  pub start_b : (p : ℕ) → p < sectors → part_start slots sectors each (sectors + p) ≡ area_size slots + 20 * (each * p)
   unfolding part_start
   start_b p lt =
       let s = sectors + p in
@@ -100,7 +100,7 @@ module _ (slots sectors each size spares : ℕ) (takes : TakesLog slots sectors 
       else if nat_le s (2 * sectors) then witness_start slots else flash_size slots) (le-ltb s (2 * sectors) here)
       ∙ ap (λ (b : Bool). if b then witness_start slots else flash_size slots) (le-leb s (2 * sectors) here)
 
-  start_end : (s : ℕ) → 2 * sectors < s → part_start slots sectors each s ≡ flash_size slots
+  pub start_end : (s : ℕ) → 2 * sectors < s → part_start slots sectors each s ≡ flash_size slots
   unfolding part_start
   start_end s past =
       let from : sectors ≤ s = omega (arith, past) in

@@ -117,12 +117,12 @@ closes_witness slots j =
     record { frame = is.frame; rank = is.rank ∙ rank }
 
 -- where frames begin
-start_low : (slots f : ℕ) → f ≤ slots → frame_start slots f ≡ 20 * f
+pub start_low : (slots f : ℕ) → f ≤ slots → frame_start slots f ≡ 20 * f
 unfolding frame_start
 start_low slots f le = ap (λ (b : Bool). if b then 20 * f else if nat_le f (2 * slots + 1) then 20 * f - 18
     else if nat_le f (2 * slots + 2) then witness_start slots else flash_size slots) (le-leb f slots le)
 
-start_middle : (slots f : ℕ) → slots < f → f ≤ 2 * slots + 1 → frame_start slots f ≡ 20 * f - 18
+pub start_middle : (slots f : ℕ) → slots < f → f ≤ 2 * slots + 1 → frame_start slots f ≡ 20 * f - 18
 unfolding frame_start
 start_middle slots f past le =
     ap (λ (b : Bool). if b then 20 * f else if nat_le f (2 * slots + 1) then 20 * f - 18
@@ -140,13 +140,13 @@ start_past slots f past =
     ∙ ap (λ (b : Bool). if b then 20 * f - 18
     else if nat_le f (2 * slots + 2) then witness_start slots else flash_size slots) (lt-leb f (2 * slots + 1) past)
 
-start_witness : (slots f : ℕ) → f ≡ 2 * slots + 2 → frame_start slots f ≡ witness_start slots
+pub start_witness : (slots f : ℕ) → f ≡ 2 * slots + 2 → frame_start slots f ≡ witness_start slots
 start_witness slots f is =
     start_past slots f (omega (arith, is))
     ∙ ap (λ (b : Bool). if b then witness_start slots else flash_size slots)
     (le-leb f (2 * slots + 2) (omega (arith, is)))
 
-start_end : (slots f : ℕ) → 2 * slots + 2 < f → frame_start slots f ≡ flash_size slots
+pub start_end : (slots f : ℕ) → 2 * slots + 2 < f → frame_start slots f ≡ flash_size slots
 start_end slots f past =
     start_past slots f (omega (arith, past))
     ∙ ap (λ (b : Bool). if b then witness_start slots else flash_size slots) (lt-leb f (2 * slots + 2) past)
