@@ -22,8 +22,6 @@ ALL_TRIES, SEED = 3, 20_261_128
 UNBLOCK_2 = "apdu 002C000210313233343536373831323334FFFFFFFF"
 # the longest life, in seconds: power-on takes 0.1, an update 0.005, and a move, with each 64th update, 2
 SHORT, LONG, PART_OF_LONG = 0.5, 3.5, 0.4
-# lives without an answer, behind which one isn't killed
-MOST_SILENT = 40
 
 
 @dataclass

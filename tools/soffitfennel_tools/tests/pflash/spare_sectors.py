@@ -38,8 +38,8 @@ WORN_SECTOR = MAP_SECTOR + 2
 # updates within which one sector is erased again, and within which each is
 SOME, ROUND = 100, 260
 FAILED, SEED = "< 6581", 20_261_129
-# the longest life, and the time that a switch to a spare takes, in seconds
-LONG, SWITCH = 5.0, 0.6
+# the longest life, that of a card that has to take a spare first, and the time that a switch takes, in seconds
+LONG, LONG_ENOUGH, SWITCH = 5.0, 300.0, 0.6
 
 
 def wear(flash: Path, *sectors: int) -> None:
@@ -222,8 +222,9 @@ def kill_behind(process: subprocess.Popen[str], flash: Path, seconds: float, cha
 
 
 def live_worn(program: Path, flash: Path, known: Known, told: Told, chance: random.Random) -> None:
-    """A life of a card that is killed at a random moment, or where it takes a spare."""
-    seconds, told.lives = chance.uniform(0, LONG), told.lives + 1
+    """A life of a card that is killed at a random moment, or where it takes a spare: the first one does, on a machine
+    of any speed."""
+    seconds, told.lives = chance.uniform(0, LONG) if told.lives else LONG_ENOUGH, told.lives + 1
     with emulator(program, flash) as process:
         killing = threading.Thread(target=kill_behind, args=(process, flash, seconds, chance))
         try:
@@ -297,8 +298,8 @@ def compare_kills(room: Room, program: Path, kills: int) -> None:
         behind = f"card {at} over worn sectors behind {told.lives} kills"
         room.checks.check(not told.wrong, behind, "\n".join(told.wrong))
     used, torn = (sum(getattr(it, name) for _, it in tolds) for name in ("used", "torn"))
-    answered = sum(told.answers for told, _ in tolds)
-    room.checks.check(answered > 0 and used > 0, "spares are taken between the kills", f"{answered} answers, {used}")
+    answered, least = sum(told.answers for told, _ in tolds), min(found.used for _, found in tolds)
+    room.checks.check(answered > 0 and least > 0, "each card takes a spare", f"{answered} answers, {used} spares")
     seen = f"{used} spares taken, {torn} entries torn, {answered} commands answered"
     print(f"{kills} kills over worn sectors, {seen}, {time.monotonic() - begun:.0f} s", flush=True)
 
