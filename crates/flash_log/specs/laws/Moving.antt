@@ -12,7 +12,7 @@ use Rattle.flash_device.specs.FlashLogs.{words_of}
 use Rattle.flash_log.specs.Rings.{IsRing}
 use Rattle.flash_area.specs.laws.Copying.{SameArea, area_page, area_free, none_found, bases}
 use Rattle.flash_area.specs.laws.Erased.{erased_free}
-use Rattle.flash_device.specs.laws.Marks.{closed_same}
+use Rattle.flash_device.specs.laws.Marks.{blank_open, closed_same}
 use Rattle.flash_log.specs.laws.Turns.{turn_marks, zero_marks, one_marks, two_marks, zero_turn, one_turn, two_turn}
 use Rattle.flash_area.specs.laws.Words.{length-words, index-words}
 

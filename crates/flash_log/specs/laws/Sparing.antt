@@ -128,7 +128,7 @@ module _ (pages slots : ℕ) where
             (same.each (base + 20 * slots + 1) (omega arith) (omega arith)) ∙ has.opened;
         free = area_free slots m after base area behind has.free;
         each = λ p k lt below few. area_page slots m after base area p k few ∙ has.each p k lt below few;
-        left = λ p from. area_found slots m after base area p ∙ has.left p from;
+        left = λ p from below. area_found slots m after base area p ∙ has.left p from below;
       }
 
   -- a page that was never written needs no copy
@@ -141,7 +141,7 @@ module _ (pages slots : ℕ) where
     free = has.free;
     each = λ p k lt below few. ⊎_elim
         (λ (e : p ≡ page).
-        let here : find m (spare_in slots turn) slots p ≡ 0 = has.left p (omega (arith, e)) in
+        let here : find m (spare_in slots turn) slots p ≡ 0 = has.left p (omega (arith, e)) below in
         let there : find m (base_in slots (turn_of slots m)) slots p ≡ 0 =
         ap (λ (t : ℕ). find m (base_in slots t) slots p) (sym is)
         ∙ ap (λ (q : ℕ). find m (base_in slots turn) slots q) e ∙ none in
@@ -150,7 +150,7 @@ module _ (pages slots : ℕ) where
         ∙ ap (λ (f : ℕ). word_of m (base_in slots (turn_of slots m)) f k) there))
         (λ (other : p ≢ page). has.each p k (omega (arith, lt, other)) below few)
         (cases_eq p page);
-    left = λ p from. has.left p (omega (arith, from));
+    left = λ p from below. has.left p (omega (arith, from)) below;
   }
 
   -- A record is put into the area: that of the next page, or of one that was copied before.
@@ -182,7 +182,7 @@ module _ (pages slots : ℕ) where
           (λ (other : p ≢ page). kept.others p k other few ∙ has.each p k (fewer p lt other) within few
           ∙ sym (others p k other within few))
           (cases_eq p page);
-      left = λ p from. let z = later p from in kept.found p z.1 ∙ has.left p z.0;
+      left = λ p from within. let z = later p from in kept.found p z.1 ∙ has.left p z.0 within;
     }
 
   -- The mark that passes the turn to the other area, which has all pages.
