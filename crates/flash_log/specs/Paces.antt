@@ -6,6 +6,9 @@ use Rattle.flash_log.specs.declared.place.PageMap.{PageMap}
 use Rattle.flash_device.specs.declared.layout.TheConstants.{STEP_PAGES}
 use Rattle.flash_device.specs.FlashBlocks.{steps_of}
 use Rattle.flash_device.specs.FlashCalls.{FlashState}
+use Rattle.flash_device.specs.FlashLogs.{base_in, turn_of, words_of}
+use Rattle.flash_device.specs.PageTables.{AreFree}
+use Rattle.flash_area.specs.Spares.{IsSpare}
 
 -- All that contracts know of a log: its flash, with the words of the board in place of its own, whether it is in pace,
 -- whether it has yet to look for the pages since power-on, how many free slots it knows, and the flash's own words.
@@ -45,6 +48,29 @@ pub record KeepsPace {T : Type 0} (pages slots sectors : ℕ) (p : PageMap T) : 
   pub few : p.behind ≤ (STEP_PAGES + 1) * p.copied
   pub goes_on : 0 < p.copied → slots ≤ p.next + lead_of pages sectors
 
+-- By what the flash holds the log is in pace, however far the move has come: the area in use has a free slot for each
+-- step that is left.
+pub record IsInPace (pages slots sectors : ℕ) (start : ℕ → ℕ) (m : List ℕ) : Type 0 where
+  pub erased : ℕ
+  pub copied : ℕ
+  pub behind : ℕ
+  pub next : ℕ
+  pub spare : IsSpare pages slots sectors start m (words_of pages slots m) (turn_of slots m) erased copied behind
+  pub free : AreFree m (base_in slots (turn_of slots m)) next slots
+  pub room : (if nat_eq (turn_of slots m) 1 then 1 else 0) + (sectors - erased) + (steps_of pages - copied) + next
+      ≤ slots
+  pub few : behind ≤ (STEP_PAGES + 1) * copied
+
+-- The log is in pace, or will be once it has looked for the pages.
+abbrev pub StandsInPace : ℕ → ℕ → ℕ → (ℕ → ℕ) → LogState → Type 0
+StandsInPace pages slots sectors start l = (l.paced ≡ true)
+    ⊎ ((l.fresh ≡ true) × IsInPace pages slots sectors start l.raw)
+
+-- The same of the place, with the words of the flash.
+abbrev pub WillKeepPace : {T : Type 0} → ℕ → ℕ → ℕ → (ℕ → ℕ) → List ℕ → PageMap T → Type 0
+WillKeepPace pages slots sectors start m p = KeepsPace pages slots sectors p
+    ⊎ ((is_fresh p ≡ true) × IsInPace pages slots sectors start m)
+
 -- The same behind the step of a write, which has yet to put its record.
 pub record HasStepped {T : Type 0} (pages slots sectors : ℕ) (p : PageMap T) : Type 0 where
   pub ready : p.ready ≡ true
@@ -83,6 +109,10 @@ pub record Pauses {T : Type 0} (most : ℕ) (old new : FlashState) (before after
 -- step that copied one more.
 pub record MovesWell {T : Type 0} (pages : ℕ) (p q : PageMap T) : Type 0 where
   pub next : (q.next ≡ p.next) ⊎ (q.next < pages + steps_of pages)
+
+-- The same of a log that had yet to find its pages, of whose slots so many were free.
+pub record MovesFound {T : Type 0} (pages slots free : ℕ) (q : PageMap T) : Type 0 where
+  pub next : (slots ≤ q.next + free) ⊎ (q.next < pages + steps_of pages)
 
 -- With more free slots than before, the area in use is free behind one slot for each page, and one for each step that
 -- copies.

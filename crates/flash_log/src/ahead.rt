@@ -90,7 +90,7 @@ fn copy_step<F: Flash>(
 }
 
 /// The number of free slots at which the move begins: those that are written while it goes on.
-fn lead<F: Flash>() -> u16
+pub fn lead<F: Flash>() -> u16
     ensures { result ≡ lead_of F.PAGES F.SECTORS }
 {
     F::SECTORS + copy_steps::<F>() + 1

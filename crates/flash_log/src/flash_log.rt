@@ -1,5 +1,5 @@
 //! The log of a flash as one value: the words that it stands for, and its power.
-ghost use Rattle.std.specs.Prelude.{◌≡◌, ◌⊎◌, ◌<◌, ◌≤◌, ◌+◌, ◌-◌, ◌*◌, true, false, length, slice_index};
+ghost use Rattle.std.specs.Prelude.{◌≡◌, ◌⊎◌, ◌<◌, ◌≤◌, ◌+◌, ◌-◌, ◌*◌, ℕ, true, false, length, slice_index};
 ghost use Rattle.std.specs.Prelude.{IfOk, IfErr, OnOk};
 ghost use Rattle.nvm_board.specs.Facts.{AreWords, IsMemory};
 ghost use Rattle.nvm_board.specs.History.{written};
@@ -56,6 +56,7 @@ impl<F: Flash> FlashLog<F> {
     ghost use Rattle.flash_log.specs.Places.{FindsFree, OpenStopsBy, new_log, state_of};
     ghost use Rattle.flash_device.specs.FlashLogs.{base_in, turn_of};
     ghost use Rattle.flash_device.specs.PageTables.{AreFree};
+    ghost use Rattle.flash_log.specs.Paces.{IsInPace, StandsInPace};
     ghost use Rattle.flash_log.specs.Rings.{IsRing};
 
     /// The log of a flash that has one.
@@ -124,6 +125,14 @@ impl<F: Flash> FlashLog<F> {
         let _ = &self.flash;
     }
 
+    /// Proves that a log in pace will be in pace again behind any power-on: the flash holds all that it has to find.
+    pub fn stays_in_pace(&self)
+        ensures { StandsInPace F.PAGES F.SLOTS F.SECTORS F.sector_start self.now
+            → IsInPace F.PAGES F.SLOTS F.SECTORS F.sector_start self.now.raw }
+    {
+        let _ = &self.flash;
+    }
+
     /// Reads a word.
     pub fn read(&mut self, at: u16) -> Result<u32, DeviceErr>
         requires lit { self.old.flash.dark ≡ false }
@@ -143,6 +152,11 @@ impl<F: Flash> FlashLog<F> {
         // With more free slots than a move begins at, no move is under way.
         ensures in_pace { self.old.fresh ≡ true
             → lead_of F.PAGES F.SECTORS < self.new.free → self.new.paced ≡ true }
+        // Else it finds how far the move has come, as long as the flash was in pace.
+        ensures finds { OnOk result (StandsInPace F.PAGES F.SLOTS F.SECTORS F.sector_start self.old
+            → self.new.paced ≡ true) }
+        ensures stands { StandsInPace F.PAGES F.SLOTS F.SECTORS F.sector_start self.old
+            → StandsInPace F.PAGES F.SLOTS F.SECTORS F.sector_start self.new }
         ensures raw { self.new.raw ≡ self.old.raw }
     {
         read_at(&mut self.flash, &mut self.place, at)
@@ -160,9 +174,9 @@ impl<F: Flash> FlashLog<F> {
         ensures light { Tries TRIES self.old.flash self.new.flash result }
         ensures work { Costs (2 * F.PAGES + 40 + F.SECTORS) (2 * F.PAGES + 42 + F.SECTORS) self.old.flash
             self.new.flash }
-        // At most one write after each power-on, or after a Fault, takes more than 37 programs and erases.
+        // At most one write after each write that lost power, or after a Fault, takes more than 37 programs and erases.
         ensures pause { IsRoomy F.PAGES F.SLOTS F.SECTORS → Pauses 37 self.old.flash self.new.flash
-            (self.old.paced ≡ true) (self.new.paced ≡ true) result }
+            (StandsInPace F.PAGES F.SLOTS F.SECTORS F.sector_start self.old) (self.new.paced ≡ true) result }
         // While more free slots are known than a move begins at, and the flash doesn't fail, it takes one of them, and
         // erases nothing.
         ensures calm { lead_of F.PAGES F.SECTORS < self.old.free
@@ -172,6 +186,11 @@ impl<F: Flash> FlashLog<F> {
         ensures regains { OnOk result (IsRoomy F.PAGES F.SLOTS F.SECTORS
             → self.new.flash.faults ≡ self.old.flash.faults → self.old.paced ≡ true
             → RegainsSlots F.PAGES F.SLOTS self.old.free self.new.free) }
+        // Behind a power-on too: more than the slots that were free before.
+        ensures regains_found { OnOk result (IsRoomy F.PAGES F.SLOTS F.SECTORS
+            → self.new.flash.faults ≡ self.old.flash.faults
+            → StandsInPace F.PAGES F.SLOTS F.SECTORS F.sector_start self.old
+            → (n : ℕ) → FindsFree F.SLOTS self.old.raw n → RegainsSlots F.PAGES F.SLOTS n self.new.free) }
     {
         write_at(&mut self.flash, &mut self.place, page, first, words)
     }
@@ -198,14 +217,19 @@ impl<F: Flash> FlashLog<F> {
 }
 
 impl<F: FlashSocket> FlashLog<F> {
+    ghost use Rattle.flash_log.specs.Paces.{StandsInPace};
+
     /// Switches power on. The next call finds the pages again.
     pub fn light(&mut self)
-        ensures { self.new ≡ record self.old {
+        ensures log { self.new ≡ record self.old {
           flash = record self.old.flash { dark = false };
           paced = false;
           fresh = true;
           free = 0;
         } }
+        // A log in pace stays so.
+        ensures stands { StandsInPace F.PAGES F.SLOTS F.SECTORS F.sector_start self.old
+            → StandsInPace F.PAGES F.SLOTS F.SECTORS F.sector_start self.new }
     {
         self.place.ready = false;
         self.place.tried = 0;

@@ -1,20 +1,24 @@
 //! The steps of a read and a write of the log.
-ghost use Rattle.std.specs.Prelude.{◌≡◌, ◌⊎◌, ◌<◌, ◌≤◌, ◌+◌, ◌*◌, true, false, length, slice_index, IfOk, OnOk};
+ghost use Rattle.std.specs.Prelude.{◌≡◌, ◌⊎◌, ◌<◌, ◌≤◌, ◌+◌, ◌*◌, ℕ, true, false, length, slice_index, IfOk, OnOk};
 ghost use Rattle.nvm_board.specs.History.{written};
 ghost use Rattle.flash_device.specs.FlashCalls.{Costs, Lights, Tries};
-ghost use Rattle.flash_device.specs.FlashLogs.{base_in, words_of};
+ghost use Rattle.flash_device.specs.FlashLogs.{base_in, turn_of, words_of};
+ghost use Rattle.flash_device.specs.PageTables.{IsPageTable};
 ghost use Rattle.flash_log.specs.Paces.{HasStepped, HasMoved, HasNoStepDue, IsRoomy, KeepsPace, Pauses, TakesSlot};
-ghost use Rattle.flash_log.specs.Paces.{MovesWell, RegainsSlots, free_slots, is_fresh, lead_of};
+ghost use Rattle.flash_log.specs.Paces.{MovesFound, MovesWell, RegainsSlots, WillKeepPace};
+ghost use Rattle.flash_log.specs.Paces.{free_slots, is_fresh, lead_of};
 ghost use Rattle.flash_log.specs.Places.{FindsFree, IsLog, IsPlaceOf};
 ghost use Rattle.flash_area.specs.HeldPages.{HavePages};
+ghost use Rattle.flash_area.specs.Spares.{IsFurthest, IsSpare};
 ghost use Rattle.flash_log.specs.Renewals.{HasLastMark};
 ghost use Rattle.flash_log.specs.declared.steps.TheConstants.{TRIES};
+ghost use Rattle.flash_device.specs.declared.layout.TheConstants.{STEP_PAGES};
 
-use crate::ahead::take_step;
+use crate::ahead::{lead, take_step};
 use crate::place::PageMap;
 use crate::turns::{find_turn, move_to_a, move_to_b, pass_witness};
 use crate::writing::{write_ahead, write_run};
-use flash_area::{home, read_page_word, scan};
+use flash_area::{Progress, find_progress, home, read_page_word, scan};
 use flash_device::Flash;
 use nvm_board::DeviceErr;
 
@@ -35,7 +39,41 @@ fn later<F: Flash>(next: u16, tried: u16) -> u16
     }
 }
 
-/// Finds the pages, if they are not known.
+/// Finds how far the move has come. While it isn't due, that is not looked for: it has not begun.
+fn progress_at<F: Flash>(
+    flash: &mut F,
+    turn: u8,
+    table: &F::Table,
+    next: u16,
+) -> Result<Progress, DeviceErr>
+    requires lit { (F.state flash.old).dark ≡ false }
+    requires turn { (turn < 3) × (turn ≡ turn_of F.SLOTS (F.state flash.old).words) }
+    requires index { IsPageTable F.PAGES (F.state flash.old).words (base_in F.SLOTS turn) F.SLOTS
+        (F.Table.entries table.now) }
+    requires next { next ≤ F.SLOTS }
+    ensures spare { IfOk result (λ r. IsSpare F.PAGES F.SLOTS F.SECTORS F.sector_start (F.state flash.old).words
+        (words_of F.PAGES F.SLOTS (F.state flash.old).words) turn r.erased r.copied r.behind) }
+    ensures few { IfOk result (λ r. r.behind ≤ (STEP_PAGES + 1) * r.copied) }
+    ensures due { IfOk result (λ r. 0 < r.copied → F.SLOTS ≤ next + lead_of F.PAGES F.SECTORS) }
+    ensures best { IfOk result (λ r. F.SLOTS ≤ next + lead_of F.PAGES F.SECTORS
+        → IsFurthest F.PAGES F.SLOTS F.SECTORS F.sector_start (F.state flash.old).words turn r.erased r.copied) }
+    ensures words { (F.state flash.new).words ≡ (F.state flash.old).words }
+    ensures work { (F.state flash.new).operations ≡ (F.state flash.old).operations }
+    ensures erases { (F.state flash.new).erases ≡ (F.state flash.old).erases }
+    ensures light { Lights (F.state flash.old) (F.state flash.new) result }
+{
+    if F::SLOTS - next > lead::<F>() {
+        return Ok(Progress {
+            erased: 0,
+            copied: 0,
+            behind: 0,
+        });
+    }
+    let progress = find_progress(flash, turn, table)?;
+    Ok(progress)
+}
+
+/// Finds the pages and how far the move has come, if they are not known.
 pub fn find_pages<F: Flash>(flash: &mut F, place: &mut PageMap<F::Table>) -> Result<(), DeviceErr>
     requires lit { (F.state flash.old).dark ≡ false }
     requires log { IsLog F.Table.entries F.PAGES F.SLOTS F.SECTORS F.sector_start (F.state flash.old).words place.old }
@@ -51,6 +89,10 @@ pub fn find_pages<F: Flash>(flash: &mut F, place: &mut PageMap<F::Table>) -> Res
         ⊎ FindsFree F.SLOTS (F.state flash.old).words (free_slots F.SLOTS place.new) }
     ensures paced { place.old.ready ≡ false → lead_of F.PAGES F.SECTORS < free_slots F.SLOTS place.new
         → KeepsPace F.PAGES F.SLOTS F.SECTORS place.new }
+    ensures in_pace { OnOk result (WillKeepPace F.PAGES F.SLOTS F.SECTORS F.sector_start (F.state flash.old).words
+        place.old → KeepsPace F.PAGES F.SLOTS F.SECTORS place.new) }
+    ensures stands { WillKeepPace F.PAGES F.SLOTS F.SECTORS F.sector_start (F.state flash.old).words place.old
+        → WillKeepPace F.PAGES F.SLOTS F.SECTORS F.sector_start (F.state flash.new).words place.new }
     ensures light { Lights (F.state flash.old) (F.state flash.new) result }
 {
     if place.ready {
@@ -58,11 +100,12 @@ pub fn find_pages<F: Flash>(flash: &mut F, place: &mut PageMap<F::Table>) -> Res
     }
     let turn = find_turn(flash)?;
     let next = scan(flash, home(turn), &mut place.table)?;
+    let progress = progress_at(flash, turn, &place.table, next)?;
     place.turn = turn;
     place.next = later::<F>(next, place.tried);
-    place.erased = 0;
-    place.copied = 0;
-    place.behind = 0;
+    place.erased = progress.erased;
+    place.copied = progress.copied;
+    place.behind = progress.behind;
     place.ready = true;
     Ok(())
 }
@@ -130,10 +173,15 @@ fn prepare<F: Flash>(flash: &mut F, place: &mut PageMap<F::Table>) -> Result<(),
     ensures light { Tries 1 (F.state flash.old) (F.state flash.new) result }
     ensures work { Costs (2 * F.PAGES + 36 + F.SECTORS) 2 (F.state flash.old) (F.state flash.new) }
     ensures pause { IsRoomy F.PAGES F.SLOTS F.SECTORS → Pauses 33 (F.state flash.old) (F.state flash.new)
-        (KeepsPace F.PAGES F.SLOTS F.SECTORS place.old) (HasStepped F.PAGES F.SLOTS F.SECTORS place.new) result }
+        (WillKeepPace F.PAGES F.SLOTS F.SECTORS F.sector_start (F.state flash.old).words place.old)
+        (HasStepped F.PAGES F.SLOTS F.SECTORS place.new) result }
     ensures moves_well { OnOk result (IsRoomy F.PAGES F.SLOTS F.SECTORS
         → (F.state flash.new).faults ≡ (F.state flash.old).faults
         → KeepsPace F.PAGES F.SLOTS F.SECTORS place.old → MovesWell F.PAGES place.old place.new) }
+    ensures moves_found { OnOk result (IsRoomy F.PAGES F.SLOTS F.SECTORS
+        → (F.state flash.new).faults ≡ (F.state flash.old).faults
+        → WillKeepPace F.PAGES F.SLOTS F.SECTORS F.sector_start (F.state flash.old).words place.old
+        → (n : ℕ) → FindsFree F.SLOTS (F.state flash.old).words n → MovesFound F.PAGES F.SLOTS n place.new) }
     ensures idle { place.old.ready ≡ true → place.old.next + lead_of F.PAGES F.SECTORS < F.SLOTS
         → HasNoStepDue (F.state flash.old) (F.state flash.new) place.old place.new }
 {
@@ -170,6 +218,10 @@ pub fn read_at<F: Flash>(
         ⊎ FindsFree F.SLOTS (F.state flash.old).words (free_slots F.SLOTS place.new) }
     ensures paced { place.old.ready ≡ false → lead_of F.PAGES F.SECTORS < free_slots F.SLOTS place.new
         → KeepsPace F.PAGES F.SLOTS F.SECTORS place.new }
+    ensures in_pace { OnOk result (WillKeepPace F.PAGES F.SLOTS F.SECTORS F.sector_start (F.state flash.old).words
+        place.old → KeepsPace F.PAGES F.SLOTS F.SECTORS place.new) }
+    ensures stands { WillKeepPace F.PAGES F.SLOTS F.SECTORS F.sector_start (F.state flash.old).words place.old
+        → WillKeepPace F.PAGES F.SLOTS F.SECTORS F.sector_start (F.state flash.new).words place.new }
     ensures light { Lights (F.state flash.old) (F.state flash.new) result }
 {
     find_pages(flash, place)?;
@@ -199,7 +251,8 @@ fn write_once<F: Flash>(
     ensures light { Tries 1 (F.state flash.old) (F.state flash.new) result }
     ensures work { Costs (2 * F.PAGES + 40 + F.SECTORS) 2 (F.state flash.old) (F.state flash.new) }
     ensures pause { IsRoomy F.PAGES F.SLOTS F.SECTORS → Pauses 37 (F.state flash.old) (F.state flash.new)
-        (KeepsPace F.PAGES F.SLOTS F.SECTORS place.old) (KeepsPace F.PAGES F.SLOTS F.SECTORS place.new) result }
+        (WillKeepPace F.PAGES F.SLOTS F.SECTORS F.sector_start (F.state flash.old).words place.old)
+        (KeepsPace F.PAGES F.SLOTS F.SECTORS place.new) result }
     ensures calm { lead_of F.PAGES F.SECTORS < free_slots F.SLOTS place.old
         → (F.state flash.new).faults ≡ (F.state flash.old).faults
         → TakesSlot (F.state flash.old) (F.state flash.new) (place.old.copied ≡ 0) (free_slots F.SLOTS place.old)
@@ -208,6 +261,11 @@ fn write_once<F: Flash>(
         → (F.state flash.new).faults ≡ (F.state flash.old).faults
         → KeepsPace F.PAGES F.SLOTS F.SECTORS place.old
         → RegainsSlots F.PAGES F.SLOTS (free_slots F.SLOTS place.old) (free_slots F.SLOTS place.new)) }
+    ensures regains_found { OnOk result (IsRoomy F.PAGES F.SLOTS F.SECTORS
+        → (F.state flash.new).faults ≡ (F.state flash.old).faults
+        → WillKeepPace F.PAGES F.SLOTS F.SECTORS F.sector_start (F.state flash.old).words place.old
+        → (n : ℕ) → FindsFree F.SLOTS (F.state flash.old).words n
+        → RegainsSlots F.PAGES F.SLOTS n (free_slots F.SLOTS place.new)) }
 {
     prepare(flash, place)?;
     place.ready = false;
@@ -252,7 +310,8 @@ pub fn write_at<F: Flash>(
     ensures work { Costs (2 * F.PAGES + 40 + F.SECTORS) (2 * F.PAGES + 42 + F.SECTORS) (F.state flash.old)
         (F.state flash.new) }
     ensures pause { IsRoomy F.PAGES F.SLOTS F.SECTORS → Pauses 37 (F.state flash.old) (F.state flash.new)
-        (KeepsPace F.PAGES F.SLOTS F.SECTORS place.old) (KeepsPace F.PAGES F.SLOTS F.SECTORS place.new) result }
+        (WillKeepPace F.PAGES F.SLOTS F.SECTORS F.sector_start (F.state flash.old).words place.old)
+        (KeepsPace F.PAGES F.SLOTS F.SECTORS place.new) result }
     ensures calm { lead_of F.PAGES F.SECTORS < free_slots F.SLOTS place.old
         → (F.state flash.new).faults ≡ (F.state flash.old).faults
         → TakesSlot (F.state flash.old) (F.state flash.new) (place.old.copied ≡ 0) (free_slots F.SLOTS place.old)
@@ -261,6 +320,11 @@ pub fn write_at<F: Flash>(
         → (F.state flash.new).faults ≡ (F.state flash.old).faults
         → KeepsPace F.PAGES F.SLOTS F.SECTORS place.old
         → RegainsSlots F.PAGES F.SLOTS (free_slots F.SLOTS place.old) (free_slots F.SLOTS place.new)) }
+    ensures regains_found { OnOk result (IsRoomy F.PAGES F.SLOTS F.SECTORS
+        → (F.state flash.new).faults ≡ (F.state flash.old).faults
+        → WillKeepPace F.PAGES F.SLOTS F.SECTORS F.sector_start (F.state flash.old).words place.old
+        → (n : ℕ) → FindsFree F.SLOTS (F.state flash.old).words n
+        → RegainsSlots F.PAGES F.SLOTS n (free_slots F.SLOTS place.new)) }
 {
     for _ in 1..TRIES {
         match write_once(flash, place, page, first, words) {

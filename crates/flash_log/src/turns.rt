@@ -7,6 +7,7 @@ ghost use Rattle.flash_device.specs.FlashBlocks.{area_size, witness_start};
 ghost use Rattle.flash_device.specs.FlashLogs.{base_in, close_b, close_of, page_word, turn_by, turn_of, words_of};
 ghost use Rattle.flash_device.specs.FlashLogs.{is_closed as has_closed, is_marked as has_mark};
 ghost use Rattle.flash_area.specs.HeldPages.{HavePages};
+ghost use Rattle.flash_log.specs.Paces.{IsInPace, IsRoomy};
 ghost use Rattle.flash_log.specs.Rings.{IsRing};
 ghost use Rattle.flash_device.specs.declared.layout.TheConstants.{SPARES};
 
@@ -171,6 +172,8 @@ pub fn format_flash<F: Flash>(flash: &mut F) -> Result<(), DeviceErr>
     ensures ring { OnOk result (IsRing F.SLOTS (F.state flash.new).words) }
     ensures blank { OnOk result ((i : ℕ) → i < 16 * F.PAGES
         → slice_index (words_of F.PAGES F.SLOTS (F.state flash.new).words) i ≡ 0) }
+    ensures in_pace { OnOk result (IsRoomy F.PAGES F.SLOTS F.SECTORS
+        → IsInPace F.PAGES F.SLOTS F.SECTORS F.sector_start (F.state flash.new).words) }
     ensures work { (F.state flash.new).operations ≤ (F.state flash.old).operations + 2 * F.SECTORS + 2 }
     ensures light { Lights (F.state flash.old) (F.state flash.new) result }
 {

@@ -12,6 +12,7 @@ use Rattle.flash_device.specs.FlashLogs.{words_of}
 use Rattle.flash_log.specs.Rings.{IsRing}
 use Rattle.flash_area.specs.laws.Copying.{SameArea, area_page, area_free, none_found, bases}
 use Rattle.flash_area.specs.laws.Erased.{erased_free}
+use Rattle.flash_device.specs.PageTables.{AreFree}
 use Rattle.flash_device.specs.laws.Marks.{blank_open, closed_same}
 use Rattle.flash_log.specs.laws.Turns.{turn_marks, zero_marks, one_marks, two_marks, zero_turn, one_turn, two_turn}
 use Rattle.flash_area.specs.laws.Words.{length-words, index-words}
@@ -269,10 +270,13 @@ module _ (pages slots : ℕ) where
     pub formatted_ring : IsRing slots m
     formatted_ring = λ ab bc. true≢false (sym closed ∙ sym bc ∙ is_open_b)
 
+    pub formatted_free : AreFree m 0 0 slots
+    formatted_free = area_free slots c m 0 area_a 0 (erased_free pages slots c 0 blank_a)
+
     pub formatted_words : (i : ℕ) → i < 16 * pages → slice_index (words_of pages slots m) i ≡ 0
     formatted_words i lt =
         let none : find m 0 slots (i / 16) ≡ 0 =
-        none_found slots m 0 (i / 16) (area_free slots c m 0 area_a 0 (erased_free pages slots c 0 blank_a)) in
+        none_found slots m 0 (i / 16) formatted_free in
         let base : base_in slots (turn_of slots m) ≡ 0 = ap (base_in slots) formatted_turn in
         index-words pages slots m i lt ∙ ap (λ (q : ℕ). page_word m q slots (i / 16) (i % 16)) base
         ∙ ap (λ (f : ℕ). word_of m 0 f (i % 16)) none

@@ -1,17 +1,21 @@
 -- Laws of the pace of a move.
-use Rattle.std.specs.Prelude.{◌≡◌, ◌≢◌, ◌⊎◌, ◌<◌, ◌≤◌, ◌+◌, ◌-◌, ◌*◌, ℕ, Bool, true, false}
+use Rattle.std.specs.Prelude.{◌≡◌, ◌≢◌, ◌⊎◌, ◌<◌, ◌≤◌, ◌+◌, ◌-◌, ◌*◌, ℕ, Bool, true, false, List}
 use Rattle.std.specs.Prelude.{◌&&◌, ◌||◌, nat_eq, nat_le, not, if◌then◌else◌, Result, Ok, Err, IsOk, IsErr}
 use Rattle.nvm_board.specs.declared.board.DeviceErr.{DeviceErr}
 use Rattle.std.proofs.Common.{refl, sym, ◌∙◌, ap, inl, inr, ⊎_elim, subst, arith, true≢false}
 use Rattle.std.proofs.Math.Bool.{or-true}
-use Rattle.std.proofs.lemmas.Bool.{cases_eq, eq-eqb, eqb-true, le-leb, leb-true, ne_eqb}
+use Rattle.std.proofs.lemmas.Bool.{cases_eq, cases_lt, eq-eqb, eqb-true, le-leb, leb-true, ne_eqb}
 use Rattle.flash_log.specs.declared.place.PageMap.{PageMap}
 use Rattle.flash_device.specs.declared.layout.TheConstants.{STEP_PAGES}
 use Rattle.flash_device.specs.FlashBlocks.{steps_of}
 use Rattle.flash_device.specs.FlashCalls.{Costs, FlashState}
-use Rattle.flash_log.specs.Paces.{HasStepped, HasMoved, IsRoomy, IsBrief, KeepsPace, MovesWell, Pauses, is_paced}
-use Rattle.flash_log.specs.Paces.{TakesSlot, free_slots, lead_of, is_fresh, steps_left}
-use Rattle.flash_log.specs.Places.{state_of}
+use Rattle.flash_device.specs.FlashLogs.{base_in, turn_of, words_of}
+use Rattle.flash_device.specs.PageTables.{AreFree, IsFirstFreeSlot}
+use Rattle.flash_log.specs.Paces.{HasStepped, HasMoved, IsInPace, IsRoomy, IsBrief, KeepsPace, MovesFound, MovesWell}
+use Rattle.flash_log.specs.Paces.{Pauses, TakesSlot, WillKeepPace, free_slots, lead_of, is_fresh, is_paced}
+use Rattle.flash_log.specs.Paces.{steps_left}
+use Rattle.flash_log.specs.Places.{IsLog, IsPlaceOf, state_of}
+use Rattle.flash_area.specs.Spares.{IsFurthest, IsSpare}
 
 pub both : (a b : Bool) → (a && b) ≡ true → (a ≡ true) × (b ≡ true)
 both true b h = (refl, h)
@@ -202,17 +206,100 @@ module _ {T : Type 0} (pages slots sectors : ℕ) where
       → is_paced pages slots sectors q ≡ true
   paced_same p q known h = ap (is_paced pages slots sectors) (known (paced_is p h).ready) ∙ h
 
+  -- the log's value says how its place stands
+  pub stands_view : (start : ℕ → ℕ) (m : List ℕ) (p : PageMap T) → (is_paced pages slots sectors p ≡ true)
+      ⊎ ((is_fresh p ≡ true) × IsInPace pages slots sectors start m) → WillKeepPace pages slots sectors start m p
+  stands_view start m p = ⊎_elim
+      (λ (z : is_paced pages slots sectors p ≡ true). inl (paced_is p z))
+      (λ (z : (is_fresh p ≡ true) × IsInPace pages slots sectors start m). inr z)
+
+  pub view_stands : (start : ℕ → ℕ) (m : List ℕ) (p : PageMap T) → WillKeepPace pages slots sectors start m p
+      → (is_paced pages slots sectors p ≡ true) ⊎ ((is_fresh p ≡ true) × IsInPace pages slots sectors start m)
+  view_stands start m p = ⊎_elim
+      (λ (z : KeepsPace pages slots sectors p). inl (is_paced_by p z))
+      (λ (z : (is_fresh p ≡ true) × IsInPace pages slots sectors start m). inr z)
+
+  -- a place in pace says how far the move has come, so the flash does
+  pub place_in_pace : (entries : T → List ℕ) (start : ℕ → ℕ) (m : List ℕ) (p : PageMap T)
+      → IsPlaceOf entries pages slots sectors start m p → KeepsPace pages slots sectors p
+      → IsInPace pages slots sectors start m
+  place_in_pace entries start m p at pace = record {
+    erased = p.erased;
+    copied = p.copied;
+    behind = p.behind;
+    next = p.next;
+    spare = subst (λ (t : ℕ). IsSpare pages slots sectors start m (words_of pages slots m) t p.erased p.copied p.behind)
+        at.turn at.spare;
+    free = subst (λ (t : ℕ). AreFree m (base_in slots t) p.next slots) at.turn at.free;
+    room = subst (λ (t : ℕ). (if nat_eq t 1 then 1 else 0) + (sectors - p.erased) + (steps_of pages - p.copied) + p.next
+        ≤ slots) at.turn pace.room;
+    few = pace.few;
+  }
+
+  -- so the flash holds all that is to be found behind a power-on
+  pub in_pace_by : (entries : T → List ℕ) (start : ℕ → ℕ) (m : List ℕ) (p : PageMap T)
+      → IsLog entries pages slots sectors start m p
+      → (is_paced pages slots sectors p ≡ true) ⊎ ((is_fresh p ≡ true) × IsInPace pages slots sectors start m)
+      → IsInPace pages slots sectors start m
+  in_pace_by entries start m p log = ⊎_elim
+      (λ (z : is_paced pages slots sectors p ≡ true).
+      let pace = paced_is p z in place_in_pace entries start m p (log.known pace.ready) pace)
+      (λ (z : (is_fresh p ≡ true) × IsInPace pages slots sectors start m). z.1)
+
+  -- What the log finds is in pace if the flash is: the first free slot, and the most that the move can have come, or
+  -- nothing of it while it isn't due.
+  pub paced_found : (start : ℕ → ℕ) (m : List ℕ) (p : PageMap T) → p.ready ≡ true → p.turn ≡ turn_of slots m
+      → IsFirstFreeSlot m (base_in slots (turn_of slots m)) p.next slots → p.behind ≤ (STEP_PAGES + 1) * p.copied
+      → (0 < p.copied → slots ≤ p.next + lead_of pages sectors)
+      → (slots ≤ p.next + lead_of pages sectors
+      → IsFurthest pages slots sectors start m p.turn p.erased p.copied)
+      → IsInPace pages slots sectors start m → KeepsPace pages slots sectors p
+  paced_found start m p ready turn first few goes_on best is =
+      let least = first.first is.next is.free in
+      let there : steps_left pages sectors p + p.next ≤ slots = ⊎_elim
+      (λ (far : p.next + lead_of pages sectors < slots).
+      let most = steps_most p in omega (arith, far, most))
+      (λ (due : slots ≤ p.next + lead_of pages sectors).
+      let better = best due is.erased is.copied is.behind
+      (subst (λ (t : ℕ). IsSpare pages slots sectors start m (words_of pages slots m) t is.erased is.copied is.behind)
+      (sym turn) is.spare) is.few in
+      let erased = better.0 in
+      let copied = better.1 in
+      let room : (if nat_eq p.turn 1 then 1 else 0) + (sectors - is.erased) + (steps_of pages - is.copied) + is.next
+      ≤ slots = subst (λ (t : ℕ). (if nat_eq t 1 then 1 else 0) + (sectors - is.erased) + (steps_of pages - is.copied)
+      + is.next ≤ slots) (sym turn) is.room in
+      fewer_steps (if nat_eq p.turn 1 then 1 else 0) erased copied least room)
+      (cases_lt (p.next + lead_of pages sectors) slots) in
+      record { ready = ready; room = there; few = few; goes_on = goes_on }
+    where
+      fewer_steps : {e c n erased copied next : ℕ} (w : ℕ) → e ≤ erased → c ≤ copied → next ≤ n
+          → w + (sectors - e) + (steps_of pages - c) + n ≤ slots
+          → w + (sectors - erased) + (steps_of pages - copied) + next ≤ slots
+      fewer_steps w erased copied least room = omega (arith, erased, copied, least, room)
+
+  -- a look that failed can be had again
+  pub fresh_stands : (start : ℕ → ℕ) (m after : List ℕ) (p q : PageMap T) → after ≡ m → p.ready ≡ false
+      → is_fresh q ≡ is_fresh p → WillKeepPace pages slots sectors start m p
+      → WillKeepPace pages slots sectors start after q
+  fresh_stands start m after p q same unready fresh = ⊎_elim
+      (λ (z : KeepsPace pages slots sectors p). absurd (true≢false (sym z.ready ∙ unready)))
+      (λ (z : (is_fresh p ≡ true) × IsInPace pages slots sectors start m).
+      inr (fresh ∙ z.0, subst (IsInPace pages slots sectors start) (sym same) z.1))
+
   -- the pause of a write, as the log's value has it
-  pub pauses_view : {R : Type 0} (most : ℕ) (old new : FlashState) (p q : PageMap T) (r : Result R DeviceErr)
-      → Pauses most old new (KeepsPace pages slots sectors p) (KeepsPace pages slots sectors q) r
-      → Pauses most (state_of pages slots old) (state_of pages slots new) (is_paced pages slots sectors p ≡ true)
+  pub pauses_view : {R : Type 0} (start : ℕ → ℕ) (most : ℕ) (old new : FlashState) (p q : PageMap T)
+      (r : Result R DeviceErr)
+      → Pauses most old new (WillKeepPace pages slots sectors start old.words p) (KeepsPace pages slots sectors q) r
+      → Pauses most (state_of pages slots old) (state_of pages slots new)
+      ((is_paced pages slots sectors p ≡ true)
+      ⊎ ((is_fresh p ≡ true) × IsInPace pages slots sectors start old.words))
       (is_paced pages slots sectors q ≡ true) r
-  pauses_view most old new p q r h = record {
-    short = λ same pace. let z = h.short same (paced_is p pace) in record {
+  pauses_view start most old new p q r h = record {
+    short = λ same pace. let z = h.short same (stands_view start old.words p pace) in record {
       operations = z.operations;
       erases = z.erases;
     };
-    stays = λ same pace ok. is_paced_by q (h.stays same (paced_is p pace) ok);
+    stays = λ same pace ok. is_paced_by q (h.stays same (stands_view start old.words p pace) ok);
     long = λ same ok. ⊎_elim
         (λ (z : IsBrief most old new). inl (record { operations = z.operations; erases = z.erases }))
         (λ (z : KeepsPace pages slots sectors q). inr (is_paced_by q z))
@@ -220,26 +307,31 @@ module _ {T : Type 0} (pages slots sectors : ℕ) where
   }
 
   -- tries that failed before a write count only where the flash failed
-  pub pauses_since : {R : Type 0} (most : ℕ) (old mid new : FlashState) (p q : PageMap T) (after : Type 0)
+  pub pauses_since : {R : Type 0} (most : ℕ) (old mid new : FlashState) (p q : PageMap T)
+      (before : FlashState → PageMap T → Type 0) (after : Type 0)
       (r : Result R DeviceErr) → old.faults ≤ mid.faults → mid.faults ≤ new.faults
       → (mid.faults ≡ old.faults → (q ≡ p) × (mid ≡ old))
-      → Pauses most mid new (KeepsPace pages slots sectors q) after r
-      → Pauses most old new (KeepsPace pages slots sectors p) after r
-  pauses_since most old mid new p q after r less more first h = record {
+      → Pauses most mid new (before mid q) after r
+      → Pauses most old new (before old p) after r
+  pauses_since most old mid new p q before after r less more first h = record {
     short = λ same pace.
         let none : mid.faults ≡ old.faults = omega (arith, less, more, same) in
         let is = first none in
         subst (λ (s : FlashState). IsBrief most s new) is.1
-        (h.short (same ∙ sym none) (subst (KeepsPace pages slots sectors) (sym is.0) pace));
+        (h.short (same ∙ sym none) (stood none pace));
     stays = λ same pace ok.
         let none : mid.faults ≡ old.faults = omega (arith, less, more, same) in
-        let is = first none in
-        h.stays (same ∙ sym none) (subst (KeepsPace pages slots sectors) (sym is.0) pace) ok;
+        h.stays (same ∙ sym none) (stood none pace) ok;
     long = λ same ok.
         let none : mid.faults ≡ old.faults = omega (arith, less, more, same) in
         let is = first none in
         subst (λ (s : FlashState). IsBrief most s new ⊎ after) is.1 (h.long (same ∙ sym none) ok);
   }
+    where
+      stood : mid.faults ≡ old.faults → before old p → before mid q
+      stood none pace =
+          let is = first none in
+          subst (λ (s : FlashState). before s q) (sym is.1) (subst (before old) (sym is.0) pace)
 
   -- what holds of a write without a fault, if it holds since the last try
   pub holds_since : (old mid new : FlashState) (p q : PageMap T) (holds : PageMap T → Type 0) → old.faults ≤ mid.faults
@@ -262,6 +354,15 @@ module _ {T : Type 0} (pages slots sectors : ℕ) where
         ap (λ (z : FlashState). z.operations) still.1 ∙ work,
         ap (λ (z : FlashState). z.erases) still.1 ∙ erases,
       )
+
+  -- the same of what holds by the flash too
+  pub holds_still : (old mid new : FlashState) (p q : PageMap T) (holds : FlashState → PageMap T → Type 0)
+      → old.faults ≤ mid.faults → mid.faults ≤ new.faults → (mid.faults ≡ old.faults → (q ≡ p) × (mid ≡ old))
+      → (new.faults ≡ mid.faults → holds mid q) → new.faults ≡ old.faults → holds old p
+  holds_still old mid new p q holds less more first h same =
+      let none : mid.faults ≡ old.faults = omega (arith, less, more, same) in
+      let is = first none in
+      subst (λ (s : FlashState). holds s p) is.1 (subst (holds mid) is.0 (h (same ∙ sym none)))
 
   -- the log has yet to look
   pub fresh_is : (p : PageMap T) → is_fresh p ≡ true → (p.ready ≡ false) × (p.tried ≡ 0)
@@ -334,7 +435,7 @@ module _ {T : Type 0} (pages slots sectors : ℕ) where
 
   -- A write is made ready: the pages are found, a step is taken, and room is made if there is none.
   module _ (first found stepped last : FlashState) (p q s t : PageMap T) (roomy : IsRoomy pages slots sectors)
-      (known : p.ready ≡ true → q ≡ p)
+      (known : p.ready ≡ true → q ≡ p) (before : Type 0) (finds : before → KeepsPace pages slots sectors q)
       (found_faults : found.faults ≡ first.faults) (found_work : found.operations ≡ first.operations)
       (found_erases : found.erases ≡ first.erases)
       (step_faults : found.faults ≤ stepped.faults) (step_work : Costs 33 2 found stepped)
@@ -342,11 +443,8 @@ module _ {T : Type 0} (pages slots sectors : ℕ) where
       (step : KeepsPace pages slots sectors q → stepped.faults ≡ found.faults → HasStepped pages slots sectors s)
       (faults : stepped.faults ≤ last.faults)
       (room : s.next < slots → (t ≡ s) × (last ≡ stepped)) where
-    pub ready_stepped : last.faults ≡ first.faults → KeepsPace pages slots sectors p → HasStepped pages slots sectors s
-    ready_stepped same pace =
-        let here : KeepsPace pages slots sectors q =
-        subst (KeepsPace pages slots sectors) (sym (known pace.ready)) pace in
-        step here (omega (arith, same, found_faults, step_faults, faults))
+    pub ready_stepped : last.faults ≡ first.faults → before → HasStepped pages slots sectors s
+    ready_stepped same pace = step (finds pace) (omega (arith, same, found_faults, step_faults, faults))
 
     pub ready_short : last.faults ≡ first.faults → s.next < slots → IsBrief 33 first last
     ready_short same lt =
@@ -362,14 +460,28 @@ module _ {T : Type 0} (pages slots sectors : ℕ) where
     ready_moves same pace well =
         let is = known pace.ready in
         let here : KeepsPace pages slots sectors q = subst (KeepsPace pages slots sectors) (sym is) pace in
-        let still = room (stepped_room s (ready_stepped same pace)) in
-        let moves = well here (omega (arith, same, found_faults, step_faults, faults)) in
+        let none : stepped.faults ≡ found.faults = omega (arith, same, found_faults, step_faults, faults) in
+        let still = room (stepped_room s (step here none)) in
+        let moves = well here none in
         subst (MovesWell pages p) (sym still.0) (subst (λ (z : PageMap T). MovesWell pages z s) is moves)
 
-    pub ready_in_pace : last.faults ≡ first.faults → KeepsPace pages slots sectors p → IsBrief 33 first last
+    pub ready_found : last.faults ≡ first.faults → before → (n : ℕ) → slots ≤ q.next + n
+        → (KeepsPace pages slots sectors q → stepped.faults ≡ found.faults → MovesWell pages q s)
+        → MovesFound pages slots n t
+    ready_found same pace n all well =
+        let none : stepped.faults ≡ found.faults = omega (arith, same, found_faults, step_faults, faults) in
+        let still = room (stepped_room s (step (finds pace) none)) in
+        subst (MovesFound pages slots n) (sym still.0) (record {
+          next = ⊎_elim
+              (λ (e : s.next ≡ q.next). let x : slots ≤ s.next + n = omega (arith, e, all) in inl x)
+              (λ (lt : s.next < pages + steps_of pages). inr lt)
+              (well (finds pace) none).next;
+        })
+
+    pub ready_in_pace : last.faults ≡ first.faults → before → IsBrief 33 first last
     ready_in_pace same pace = ready_short same (stepped_room s (ready_stepped same pace))
 
-    pub ready_stays : last.faults ≡ first.faults → KeepsPace pages slots sectors p → HasStepped pages slots sectors t
+    pub ready_stays : last.faults ≡ first.faults → before → HasStepped pages slots sectors t
     ready_stays same pace =
         let stays = ready_stepped same pace in
         subst (HasStepped pages slots sectors) (sym (room (stepped_room s stays)).0) stays

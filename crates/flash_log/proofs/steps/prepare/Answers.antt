@@ -1,9 +1,12 @@
-use Rattle.std.proofs.Common.{◌<◌, ◌≤◌, ◌∙◌, refl, ap, inl, inr, ⊎_elim, arith}
+use Rattle.std.proofs.Common.{◌<◌, ◌≤◌, ◌∙◌, ℕ, List, refl, ap, subst, inl, inr, ⊎_elim, arith}
 use Rattle.std.proofs.lemmas.Bool.{cases_lt}
 use Rattle.flash_log.specs.laws.Lighting.{tries_faults}
 use Rattle.flash_log.specs.declared.place.PageMap.{PageMap}
 use Rattle.flash_device.specs.FlashCalls.{FlashState}
-use Rattle.flash_log.specs.laws.Pacing.{failed_not_ok, idle_ready, ready_in_pace, ready_moves, ready_short, ready_stays}
+use Rattle.flash_device.specs.FlashLogs.{base_in, turn_of}
+use Rattle.flash_device.specs.PageTables.{AreFree}
+use Rattle.flash_log.specs.laws.Pacing.{failed_not_ok, idle_ready, ready_found, ready_in_pace, ready_moves}
+use Rattle.flash_log.specs.laws.Pacing.{ready_short, ready_stays}
 use Rattle.flash_log.specs.laws.Pacing.{stepped_behind}
 use Rattle.flash_log.specs.laws.Pacing.{stepped_fresh}
 use Rattle.flash_log.specs.laws.Sparing.{log_anew}
@@ -55,7 +58,8 @@ returns-in_err-make_room-clause-pause g c = λ roomy.
       short = ready_in_pace pages slots sectors (g.F.Flash.state c.args.flash.now)
           (g.F.Flash.state c.find_pages.new.flash) (g.F.Flash.state c.take_step.new.flash)
           (g.F.Flash.state c.make_room.new.flash) c.args.place.now c.find_pages.new.place c.take_step.new.place
-          c.make_room.new.place roomy c.find_pages.ensures.known (c.in_ok-find_pages.ensures.light.ok refl).faults
+          c.make_room.new.place roomy c.find_pages.ensures.known _ c.in_ok-find_pages.ensures.in_pace
+          (c.in_ok-find_pages.ensures.light.ok refl).faults
           c.find_pages.ensures.work c.find_pages.ensures.erases (c.in_ok-take_step.ensures.light.ok refl).faults
           c.take_step.ensures.work c.take_step.ensures.erases
           (c.in_ok-take_step.ensures.pace roomy) more c.make_room.ensures.same;
@@ -76,14 +80,16 @@ returns-then-place-SLOTS-clause-pause g c = λ roomy.
       short = ready_in_pace pages slots sectors (g.F.Flash.state c.args.flash.now)
           (g.F.Flash.state c.find_pages.new.flash) (g.F.Flash.state c.take_step.new.flash)
           (g.F.Flash.state c.make_room.new.flash) c.args.place.now c.find_pages.new.place c.take_step.new.place
-          c.make_room.new.place roomy c.find_pages.ensures.known (c.in_ok-find_pages.ensures.light.ok refl).faults
+          c.make_room.new.place roomy c.find_pages.ensures.known _ c.in_ok-find_pages.ensures.in_pace
+          (c.in_ok-find_pages.ensures.light.ok refl).faults
           c.find_pages.ensures.work c.find_pages.ensures.erases (c.in_ok-take_step.ensures.light.ok refl).faults
           c.take_step.ensures.work c.take_step.ensures.erases
           (c.in_ok-take_step.ensures.pace roomy) more c.make_room.ensures.same;
       stays = λ same pace ok. ready_stays pages slots sectors (g.F.Flash.state c.args.flash.now)
           (g.F.Flash.state c.find_pages.new.flash) (g.F.Flash.state c.take_step.new.flash)
           (g.F.Flash.state c.make_room.new.flash) c.args.place.now c.find_pages.new.place c.take_step.new.place
-          c.make_room.new.place roomy c.find_pages.ensures.known (c.in_ok-find_pages.ensures.light.ok refl).faults
+          c.make_room.new.place roomy c.find_pages.ensures.known _ c.in_ok-find_pages.ensures.in_pace
+          (c.in_ok-find_pages.ensures.light.ok refl).faults
           c.find_pages.ensures.work c.find_pages.ensures.erases (c.in_ok-take_step.ensures.light.ok refl).faults
           c.take_step.ensures.work c.take_step.ensures.erases
           (c.in_ok-take_step.ensures.pace roomy) more c.make_room.ensures.same same pace;
@@ -92,7 +98,8 @@ returns-then-place-SLOTS-clause-pause g c = λ roomy.
           inl (ready_short pages slots sectors (g.F.Flash.state c.args.flash.now)
           (g.F.Flash.state c.find_pages.new.flash) (g.F.Flash.state c.take_step.new.flash)
           (g.F.Flash.state c.make_room.new.flash) c.args.place.now c.find_pages.new.place c.take_step.new.place
-          c.make_room.new.place roomy c.find_pages.ensures.known (c.in_ok-find_pages.ensures.light.ok refl).faults
+          c.make_room.new.place roomy c.find_pages.ensures.known _ c.in_ok-find_pages.ensures.in_pace
+          (c.in_ok-find_pages.ensures.light.ok refl).faults
           c.find_pages.ensures.work c.find_pages.ensures.erases (c.in_ok-take_step.ensures.light.ok refl).faults
           c.take_step.ensures.work c.take_step.ensures.erases
           (c.in_ok-take_step.ensures.pace roomy) more c.make_room.ensures.same same lt))
@@ -118,7 +125,8 @@ returns-clause-pause g c = λ roomy.
       short = ready_in_pace pages slots sectors (g.F.Flash.state c.args.flash.now)
           (g.F.Flash.state c.find_pages.new.flash) (g.F.Flash.state c.take_step.new.flash)
           (g.F.Flash.state c.make_room.new.flash) c.args.place.now c.find_pages.new.place c.take_step.new.place
-          c.make_room.new.place roomy c.find_pages.ensures.known (c.in_ok-find_pages.ensures.light.ok refl).faults
+          c.make_room.new.place roomy c.find_pages.ensures.known _ c.in_ok-find_pages.ensures.in_pace
+          (c.in_ok-find_pages.ensures.light.ok refl).faults
           c.find_pages.ensures.work c.find_pages.ensures.erases (c.in_ok-take_step.ensures.light.ok refl).faults
           c.take_step.ensures.work c.take_step.ensures.erases
           (c.in_ok-take_step.ensures.pace roomy) more c.make_room.ensures.same;
@@ -127,7 +135,8 @@ returns-clause-pause g c = λ roomy.
           let stays = ready_stays pages slots sectors (g.F.Flash.state c.args.flash.now)
           (g.F.Flash.state c.find_pages.new.flash) (g.F.Flash.state c.take_step.new.flash)
           (g.F.Flash.state c.make_room.new.flash) c.args.place.now c.find_pages.new.place c.take_step.new.place
-          c.make_room.new.place roomy c.find_pages.ensures.known (c.in_ok-find_pages.ensures.light.ok refl).faults
+          c.make_room.new.place roomy c.find_pages.ensures.known _ c.in_ok-find_pages.ensures.in_pace
+          (c.in_ok-find_pages.ensures.light.ok refl).faults
           c.find_pages.ensures.work c.find_pages.ensures.erases (c.in_ok-take_step.ensures.light.ok refl).faults
           c.take_step.ensures.work c.take_step.ensures.erases
           (c.in_ok-take_step.ensures.pace roomy) more c.make_room.ensures.same same pace in
@@ -138,7 +147,8 @@ returns-clause-pause g c = λ roomy.
           inl (ready_short pages slots sectors (g.F.Flash.state c.args.flash.now)
           (g.F.Flash.state c.find_pages.new.flash) (g.F.Flash.state c.take_step.new.flash)
           (g.F.Flash.state c.make_room.new.flash) c.args.place.now c.find_pages.new.place c.take_step.new.place
-          c.make_room.new.place roomy c.find_pages.ensures.known (c.in_ok-find_pages.ensures.light.ok refl).faults
+          c.make_room.new.place roomy c.find_pages.ensures.known _ c.in_ok-find_pages.ensures.in_pace
+          (c.in_ok-find_pages.ensures.light.ok refl).faults
           c.find_pages.ensures.work c.find_pages.ensures.erases (c.in_ok-take_step.ensures.light.ok refl).faults
           c.take_step.ensures.work c.take_step.ensures.erases
           (c.in_ok-take_step.ensures.pace roomy) more c.make_room.ensures.same same lt))
@@ -228,7 +238,8 @@ returns-then-place-SLOTS-clause-moves_well g c = λ roomy same pace.
     let moves = ready_moves pages slots sectors (g.F.Flash.state c.args.flash.now)
     (g.F.Flash.state c.find_pages.new.flash) (g.F.Flash.state c.take_step.new.flash)
     (g.F.Flash.state c.make_room.new.flash) c.args.place.now c.find_pages.new.place c.take_step.new.place
-    c.make_room.new.place roomy c.find_pages.ensures.known (c.in_ok-find_pages.ensures.light.ok refl).faults
+    c.make_room.new.place roomy c.find_pages.ensures.known _ c.in_ok-find_pages.ensures.in_pace
+    (c.in_ok-find_pages.ensures.light.ok refl).faults
     c.find_pages.ensures.work c.find_pages.ensures.erases (c.in_ok-take_step.ensures.light.ok refl).faults
     c.take_step.ensures.work c.take_step.ensures.erases
     (c.in_ok-take_step.ensures.pace roomy) more c.make_room.ensures.same same pace
@@ -245,9 +256,60 @@ returns-clause-moves_well g c = λ roomy same pace.
     let moves = ready_moves pages slots sectors (g.F.Flash.state c.args.flash.now)
     (g.F.Flash.state c.find_pages.new.flash) (g.F.Flash.state c.take_step.new.flash)
     (g.F.Flash.state c.make_room.new.flash) c.args.place.now c.find_pages.new.place c.take_step.new.place
-    c.make_room.new.place roomy c.find_pages.ensures.known (c.in_ok-find_pages.ensures.light.ok refl).faults
+    c.make_room.new.place roomy c.find_pages.ensures.known _ c.in_ok-find_pages.ensures.in_pace
+    (c.in_ok-find_pages.ensures.light.ok refl).faults
     c.find_pages.ensures.work c.find_pages.ensures.erases (c.in_ok-take_step.ensures.light.ok refl).faults
     c.take_step.ensures.work c.take_step.ensures.erases
     (c.in_ok-take_step.ensures.pace roomy) more c.make_room.ensures.same same pace
+    (c.in_ok-take_step.ensures.moves_well roomy) in
+    record { next = moves.next }
+
+pub returns-then-place-SLOTS-clause-moves_found : goal.returns-then-place-SLOTS-clause-moves_found
+returns-then-place-SLOTS-clause-moves_found g c = λ roomy same stands n finds.
+    let slots = g.F.Flash.SLOTS in
+    let pages = g.F.Flash.PAGES in
+    let sectors = g.F.Flash.SECTORS in
+    let m = (g.F.Flash.state c.args.flash.now).words in
+    let mid = (g.F.Flash.state c.find_pages.new.flash).words in
+    let q = c.find_pages.new.place in
+    let known = c.find_pages.ensures.log.known c.in_ok-find_pages.ensures.ready in
+    let free : AreFree m (base_in slots (turn_of slots m)) q.next slots =
+    subst (λ (l : List ℕ). AreFree l (base_in slots (turn_of slots l)) q.next slots) c.find_pages.ensures.words
+    (subst (λ (t : ℕ). AreFree mid (base_in slots t) q.next slots) known.turn known.free) in
+    let more = tries_faults 1 (g.F.Flash.state c.take_step.new.flash) (g.F.Flash.state c.make_room.new.flash)
+    c.make_room.result c.make_room.ensures.light in
+    let moves = ready_found pages slots sectors (g.F.Flash.state c.args.flash.now)
+    (g.F.Flash.state c.find_pages.new.flash) (g.F.Flash.state c.take_step.new.flash)
+    (g.F.Flash.state c.make_room.new.flash) c.args.place.now c.find_pages.new.place c.take_step.new.place
+    c.make_room.new.place roomy c.find_pages.ensures.known _ c.in_ok-find_pages.ensures.in_pace
+    (c.in_ok-find_pages.ensures.light.ok refl).faults
+    c.find_pages.ensures.work c.find_pages.ensures.erases (c.in_ok-take_step.ensures.light.ok refl).faults
+    c.take_step.ensures.work c.take_step.ensures.erases
+    (c.in_ok-take_step.ensures.pace roomy) more c.make_room.ensures.same same stands n (finds.all q.next free)
+    (c.in_ok-take_step.ensures.moves_well roomy) in
+    record { next = moves.next }
+
+pub returns-clause-moves_found : goal.returns-clause-moves_found
+returns-clause-moves_found g c = λ roomy same stands n finds.
+    let slots = g.F.Flash.SLOTS in
+    let pages = g.F.Flash.PAGES in
+    let sectors = g.F.Flash.SECTORS in
+    let m = (g.F.Flash.state c.args.flash.now).words in
+    let mid = (g.F.Flash.state c.find_pages.new.flash).words in
+    let q = c.find_pages.new.place in
+    let known = c.find_pages.ensures.log.known c.in_ok-find_pages.ensures.ready in
+    let free : AreFree m (base_in slots (turn_of slots m)) q.next slots =
+    subst (λ (l : List ℕ). AreFree l (base_in slots (turn_of slots l)) q.next slots) c.find_pages.ensures.words
+    (subst (λ (t : ℕ). AreFree mid (base_in slots t) q.next slots) known.turn known.free) in
+    let more = tries_faults 1 (g.F.Flash.state c.take_step.new.flash) (g.F.Flash.state c.make_room.new.flash)
+    c.make_room.result c.make_room.ensures.light in
+    let moves = ready_found pages slots sectors (g.F.Flash.state c.args.flash.now)
+    (g.F.Flash.state c.find_pages.new.flash) (g.F.Flash.state c.take_step.new.flash)
+    (g.F.Flash.state c.make_room.new.flash) c.args.place.now c.find_pages.new.place c.take_step.new.place
+    c.make_room.new.place roomy c.find_pages.ensures.known _ c.in_ok-find_pages.ensures.in_pace
+    (c.in_ok-find_pages.ensures.light.ok refl).faults
+    c.find_pages.ensures.work c.find_pages.ensures.erases (c.in_ok-take_step.ensures.light.ok refl).faults
+    c.take_step.ensures.work c.take_step.ensures.erases
+    (c.in_ok-take_step.ensures.pace roomy) more c.make_room.ensures.same same stands n (finds.all q.next free)
     (c.in_ok-take_step.ensures.moves_well roomy) in
     record { next = moves.next }

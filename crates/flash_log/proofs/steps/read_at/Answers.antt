@@ -1,4 +1,4 @@
-use Rattle.std.proofs.Common.{◌/◌, ◌%◌, ℕ, List, slice_index, sym, ap, inr, ◌∙◌}
+use Rattle.std.proofs.Common.{◌/◌, ◌%◌, ℕ, List, slice_index, sym, ap, inl, inr, ◌∙◌}
 use Rattle.flash_device.specs.FlashLogs.{base_in, page_word, words_of}
 use Rattle.flash_log.specs.laws.Pacing.{fresh_is}
 use Rattle.flash_area.specs.laws.Words.{index-words}
@@ -25,3 +25,9 @@ pub returns-clause-looks : goal.returns-clause-looks
 returns-clause-looks g c = λ fresh.
     let is = fresh_is g.F.Flash.PAGES g.F.Flash.SLOTS g.F.Flash.SECTORS c.args.place.now fresh in
     inr (c.in_ok-find_pages.ensures.found is.0 is.1)
+
+pub returns-in_err-word-clause-stands : goal.returns-in_err-word-clause-stands
+returns-in_err-word-clause-stands g c = λ stands. inl (c.in_ok-find_pages.ensures.in_pace stands)
+
+pub returns-clause-stands : goal.returns-clause-stands
+returns-clause-stands g c = λ stands. inl (c.in_ok-find_pages.ensures.in_pace stands)

@@ -1,10 +1,12 @@
-use Rattle.std.proofs.Common.{◌≡◌, ◌≤◌, ◌+◌, ◌*◌, length, Err, refl, sym, ap, inl, ◌∙◌, true≢false, arith}
+use Rattle.std.proofs.Common.{◌≡◌, ◌≤◌, ◌+◌, ◌*◌, ℕ, length, Err, refl, sym, ap, inl, ◌∙◌, true≢false, arith}
 use Rattle.std.proofs.lemmas.Result.{on_ok_weaker}
 use Rattle.flash_device.specs.FlashLogs.{words_of}
 use Rattle.flash_log.specs.declared.place.PageMap.{PageMap}
-use Rattle.flash_log.specs.Paces.{IsRoomy, KeepsPace, RegainsSlots, free_slots}
+use Rattle.flash_device.specs.FlashCalls.{FlashState}
+use Rattle.flash_log.specs.Paces.{IsRoomy, KeepsPace, RegainsSlots, WillKeepPace, free_slots}
+use Rattle.flash_log.specs.Places.{FindsFree}
 use Rattle.flash_log.specs.laws.Lighting.{failed_costs, last_costs, tries_faults}
-use Rattle.flash_log.specs.laws.Pacing.{holds_since, pauses_since, takes_since}
+use Rattle.flash_log.specs.laws.Pacing.{holds_since, holds_still, pauses_since, takes_since}
 use Rattle.flash_area.specs.laws.Words.{length-words}
 use Rattle.flash_log.specs.laws.Writing.{whole_again, done_again}
 use Rattle.flash_log.proofs.steps.write_at.Goals as goal
@@ -153,7 +155,7 @@ returns-clause-pause g c = λ roomy.
     let new = g.F.Flash.state c.write_once-2.new.flash in
     let more = tries_faults 1 mid new c.write_once-2.result c.write_once-2.ensures.light in
     pauses_since pages slots sectors 37 (g.F.Flash.state c.args.flash.now) mid new c.args.place.now
-    c.loop.place
+    c.loop.place (λ (s : FlashState). WillKeepPace pages slots sectors g.F.Flash.sector_start s.words)
     (KeepsPace pages slots sectors c.write_once-2.new.place) _ c.loop.invariant.steady.faults more
     c.loop.invariant.first
     (c.write_once-2.ensures.pause roomy)
@@ -167,7 +169,7 @@ returns-in-Ok-clause-pause g c = λ roomy.
     let new = g.F.Flash.state c.write_once.new.flash in
     let more = tries_faults 1 mid new c.write_once.result c.write_once.ensures.light in
     pauses_since pages slots sectors 37 (g.F.Flash.state c.args.flash.now) mid new c.args.place.now
-    c.loop.place
+    c.loop.place (λ (s : FlashState). WillKeepPace pages slots sectors g.F.Flash.sector_start s.words)
     (KeepsPace pages slots sectors c.write_once.new.place) _ c.loop.invariant.steady.faults more
     c.loop.invariant.first
     (c.in-Ok.ensures.pause roomy)
@@ -181,7 +183,7 @@ returns-in-Err-PowerLost-clause-pause g c = λ roomy.
     let new = g.F.Flash.state c.write_once.new.flash in
     let more = tries_faults 1 mid new c.write_once.result c.write_once.ensures.light in
     let pause = pauses_since pages slots sectors 37 (g.F.Flash.state c.args.flash.now) mid new c.args.place.now
-    c.loop.place
+    c.loop.place (λ (s : FlashState). WillKeepPace pages slots sectors g.F.Flash.sector_start s.words)
     (KeepsPace pages slots sectors c.write_once.new.place) _ c.loop.invariant.steady.faults more
     c.loop.invariant.first
     (c.in-Err-PowerLost.ensures.pause roomy) in
@@ -261,3 +263,37 @@ returns-clause-regains g c =
     (λ (z : PageMap _). KeepsPace pages slots sectors z → RegainsSlots pages slots (free_slots slots z) after)
     c.loop.invariant.steady.faults more c.loop.invariant.first (regains roomy))
     c.write_once-2.ensures.regains
+
+pub returns-in-Ok-clause-regains_found : goal.returns-in-Ok-clause-regains_found
+returns-in-Ok-clause-regains_found g c = λ roomy.
+    let slots = g.F.Flash.SLOTS in
+    let pages = g.F.Flash.PAGES in
+    let sectors = g.F.Flash.SECTORS in
+    let mid = g.F.Flash.state c.loop.flash in
+    let new = g.F.Flash.state c.write_once.new.flash in
+    let after = free_slots slots c.write_once.new.place in
+    let more = tries_faults 1 mid new c.write_once.result c.write_once.ensures.light in
+    holds_still pages slots sectors (g.F.Flash.state c.args.flash.now) mid new c.args.place.now c.loop.place
+    (λ (s : FlashState). λ (z : PageMap _). WillKeepPace pages slots sectors g.F.Flash.sector_start s.words z
+    → (n : ℕ) → FindsFree slots s.words n → RegainsSlots pages slots n after)
+    c.loop.invariant.steady.faults more c.loop.invariant.first (c.in-Ok.ensures.regains_found roomy)
+
+pub returns-clause-regains_found : goal.returns-clause-regains_found
+returns-clause-regains_found g c =
+    let slots = g.F.Flash.SLOTS in
+    let pages = g.F.Flash.PAGES in
+    let sectors = g.F.Flash.SECTORS in
+    let start = g.F.Flash.sector_start in
+    let mid = g.F.Flash.state c.loop.flash in
+    let new = g.F.Flash.state c.write_once-2.new.flash in
+    let after = free_slots slots c.write_once-2.new.place in
+    let more = tries_faults 1 mid new c.write_once-2.result c.write_once-2.ensures.light in
+    on_ok_weaker c.write_once-2.result
+    (λ (regains : IsRoomy pages slots sectors → new.faults ≡ mid.faults
+    → WillKeepPace pages slots sectors start mid.words c.loop.place
+    → (n : ℕ) → FindsFree slots mid.words n → RegainsSlots pages slots n after). λ roomy.
+    holds_still pages slots sectors (g.F.Flash.state c.args.flash.now) mid new c.args.place.now c.loop.place
+    (λ (s : FlashState). λ (z : PageMap _). WillKeepPace pages slots sectors start s.words z
+    → (n : ℕ) → FindsFree slots s.words n → RegainsSlots pages slots n after)
+    c.loop.invariant.steady.faults more c.loop.invariant.first (regains roomy))
+    c.write_once-2.ensures.regains_found

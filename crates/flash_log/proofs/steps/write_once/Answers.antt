@@ -1,5 +1,5 @@
-use Rattle.std.proofs.Common.{◌≡◌, ◌⊎◌, ◌<◌, ◌+◌, ◌*◌, ℕ, List, refl, sym, ap, subst, inl, inr, ⊎_elim, ◌∙◌, true≢false}
-use Rattle.std.proofs.Common.{arith}
+use Rattle.std.proofs.Common.{◌≡◌, ◌⊎◌, ◌<◌, ◌≤◌, ◌+◌, ◌*◌, ℕ, List, refl, sym, ap, subst, inl, inr, ⊎_elim, ◌∙◌}
+use Rattle.std.proofs.Common.{arith, true≢false}
 use Rattle.nvm_board.specs.History.{written}
 use Rattle.flash_device.specs.FlashBlocks.{steps_of}
 use Rattle.flash_device.specs.FlashCalls.{FlashState, SameElsewhere}
@@ -383,5 +383,18 @@ returns-clause-regains g c = λ roomy same pace grown.
     let before = free_of pages slots g.F.Flash.SECTORS c.args.place.now pace.ready in
     ⊎_elim
     (λ (e : c.prepare.new.place.next ≡ c.args.place.now.next). absurd (omega (arith, grown, before, e)))
+    (λ (lt : c.prepare.new.place.next < pages + steps_of pages). omega (arith, lt))
+    moves.next
+
+pub returns-clause-regains_found : goal.returns-clause-regains_found
+returns-clause-regains_found g c = λ roomy same stands n finds grown.
+    let slots = g.F.Flash.SLOTS in
+    let pages = g.F.Flash.PAGES in
+    let less = (c.in_ok-prepare.ensures.light.ok refl).faults in
+    let more = (c.in_ok-behind.ensures.light.ok refl).faults in
+    let most = (c.in_ok-write_run.ensures.light.ok refl).faults in
+    let moves = c.in_ok-prepare.ensures.moves_found roomy (omega (arith, same, less, more, most)) stands n finds in
+    ⊎_elim
+    (λ (all : slots ≤ c.prepare.new.place.next + n). absurd (omega (arith, grown, all)))
     (λ (lt : c.prepare.new.place.next < pages + steps_of pages). omega (arith, lt))
     moves.next

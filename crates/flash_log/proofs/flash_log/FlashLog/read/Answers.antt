@@ -1,8 +1,9 @@
 use Rattle.std.proofs.Common.{◌≡◌, ◌⊎◌, ◌<◌, ◌≤◌, true, false, sym, subst}
 use Rattle.std.proofs.lemmas.Result.{on_ok_weaker}
 use Rattle.flash_log.specs.Places.{FindsFree}
-use Rattle.flash_log.specs.Paces.{LogState, free_slots, is_fresh, is_paced, lead_of}
-use Rattle.flash_log.specs.laws.Pacing.{free_same, fresh_is, is_paced_by, paced_same}
+use Rattle.flash_log.specs.Paces.{IsInPace, KeepsPace, LogState, StandsInPace, WillKeepPace, free_slots, is_fresh}
+use Rattle.flash_log.specs.Paces.{is_paced, lead_of}
+use Rattle.flash_log.specs.laws.Pacing.{free_same, fresh_is, is_paced_by, paced_same, stands_view, view_stands}
 use Rattle.flash_log.proofs.flash_log.FlashLog.read.Goals as goal
 
 pub returns-clause-paced : goal.returns-clause-paced
@@ -48,3 +49,34 @@ returns-clause-in_pace g c =
     (λ fresh far.
     let is = fresh_is pages slots sectors c.self.inside.place fresh in
     is_paced_by pages slots sectors place (c.read_at.ensures.paced is.0 far))
+
+pub returns-clause-finds : goal.returns-clause-finds
+returns-clause-finds g c =
+    let pages = g.F.Flash.PAGES in
+    let slots = g.F.Flash.SLOTS in
+    let sectors = g.F.Flash.SECTORS in
+    let start = g.F.Flash.sector_start in
+    let m = (g.F.Flash.state c.self.inside.flash).words in
+    let place = c.read_at.new.place in
+    on_ok_weaker c.read_at.result
+    (λ (finds : WillKeepPace pages slots sectors start m c.self.inside.place → KeepsPace pages slots sectors place).
+    subst (λ (l : LogState). StandsInPace pages slots sectors start l → is_paced pages slots sectors place ≡ true)
+    c.self.view_is
+    (λ stands. is_paced_by pages slots sectors place
+    (finds (stands_view pages slots sectors start m c.self.inside.place stands))))
+    c.read_at.ensures.in_pace
+
+pub returns-clause-stands : goal.returns-clause-stands
+returns-clause-stands g c =
+    let pages = g.F.Flash.PAGES in
+    let slots = g.F.Flash.SLOTS in
+    let sectors = g.F.Flash.SECTORS in
+    let start = g.F.Flash.sector_start in
+    let m = (g.F.Flash.state c.self.inside.flash).words in
+    let after = (g.F.Flash.state c.read_at.new.flash).words in
+    let place = c.read_at.new.place in
+    subst (λ (l : LogState). StandsInPace pages slots sectors start l → (is_paced pages slots sectors place ≡ true)
+    ⊎ ((is_fresh place ≡ true) × IsInPace pages slots sectors start after))
+    c.self.view_is
+    (λ stands. view_stands pages slots sectors start after place
+    (c.read_at.ensures.stands (stands_view pages slots sectors start m c.self.inside.place stands)))
