@@ -3,7 +3,7 @@ ghost use Rattle.std.specs.Prelude.{◌≡◌, ◌+◌, ◌≤◌, length, is_so
 ghost use Rattle.nvm_board.specs.Facts.{AreWords};
 ghost use Rattle.flash_device.specs.FlashCalls.{SameElsewhere, IsThere, AreFilled};
 ghost use Rattle.flash_device.specs.declared.flash.TheConstants.{BLANK};
-ghost use Rattle.simulated_flashes.specs.Complements.{AreComplements, IsFirstRandom};
+ghost use Rattle.simulated_flashes.specs.Complements.{AreComplements, IsFirstRandom, random_after};
 
 use flash_device::BLANK;
 
@@ -37,7 +37,9 @@ pub(crate) fn blank_run(words: &mut Vec<u32>, at: usize, size: usize)
 }
 
 /// Returns the next random number.
-pub(crate) fn next_random(random: u64) -> u64 {
+pub(crate) fn next_random(random: u64) -> u64
+    ensures { result ≡ random_after random }
+{
     random
         .wrapping_mul(6_364_136_223_846_793_005)
         .wrapping_add(1_442_695_040_888_963_407)

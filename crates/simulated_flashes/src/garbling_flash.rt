@@ -83,6 +83,13 @@ impl GarblingFlash {
         &self.words
     }
 
+    /// Returns the words, with power on or off, and no flash.
+    pub fn into_words(self) -> Vec<u32>
+        ensures { result.items ≡ (garbling_state self).words }
+    {
+        self.words
+    }
+
     /// Begins an operation. Returns true if power is to be lost in it.
     fn begin(&mut self) -> bool
         ensures words { self.new.words ≡ self.old.words }
