@@ -1,6 +1,7 @@
 //! The card of a flash's image.
 ghost use Rattle.std.specs.Prelude.{◌≡◌, ◌*◌, false, length, IfErr, IfOk, OnOk};
 ghost use Rattle.nvm_board.specs.Facts.{AreWords};
+ghost use Rattle.simulated_flashes.specs.Complements.{IsFirstRandom};
 ghost use Rattle.simulated_flashes.specs.GarblingStates.{garbling_state, given_garbling_state};
 ghost use Rattle.simulated_flashes.specs.declared.garbling_flash.TheConstants.{FLASH_WORDS};
 ghost use Rattle.card_boards.specs.FlashImages.{HasCardOnFlash, IsFlashRefusal};
@@ -36,6 +37,7 @@ pub fn flash_of_words(
 ) -> Result<GarblingFlash, NoFlashCard>
     requires { AreWords words.items }
     ensures flash { IfOk result (λ flash. garbling_state flash ≡ given_garbling_state words.items) }
+    ensures random { IfOk result (λ flash. IsFirstRandom seed flash.random) }
     ensures card { IfOk result (λ flash. HasCardOnFlash (garbling_state flash).words) }
     ensures none { IfErr result (λ why. IsFlashRefusal why words.items) }
 {
