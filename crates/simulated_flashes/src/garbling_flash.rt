@@ -141,6 +141,14 @@ impl Flash for GarblingFlash {
 
     ghost state = { garbling_state };
 
+    fn sector_at(sector: u16) -> u32 {
+        if sector <= 2 * SECTORS {
+            502 * u32::from(sector)
+        } else {
+            FLASH_WORDS
+        }
+    }
+
     fn read(&mut self, at: u32) -> Result<u32, DeviceErr>
         requires lit { (garbling_state self.old).dark ≡ false }
         requires within { at < flash_size 1280 }
@@ -268,13 +276,10 @@ impl CutFlash for GarblingFlash {
 
 /// Returns the address of a sector.
 pub(crate) fn start(sector: u16) -> usize
+    requires { sector ≤ 2 * SECTORS + 1 }
     ensures { result ≡ garbling_sector sector }
 {
-    if sector <= 2 * SECTORS {
-        502 * usize::from(sector)
-    } else {
-        FLASH_WORDS as usize
-    }
+    GarblingFlash::sector_at(sector) as usize
 }
 
 /// Returns the number of words of a sector.

@@ -82,6 +82,10 @@ impl<F: FlashFollower> Flash for KeptFlash<F> {
 
     ghost state = { kept_flash_state };
 
+    fn sector_at(sector: u16) -> u32 {
+        GarblingFlash::sector_at(sector)
+    }
+
     fn read(&mut self, at: u32) -> Result<u32, DeviceErr>
         requires lit { (kept_flash_state self.old).dark ≡ false }
         requires within { at < flash_size 1280 }
