@@ -1,6 +1,6 @@
 -- How the run of a script ends, and what it has written by then.
-use Rattle.std.specs.Prelude.{◌≡◌, ◌≢◌, ◌⊎◌, ◌≤◌, ℕ, List, [], ◌∷◌, ◌++◌, length, take}
-use Rattle.std.specs.Prelude.{Option, Some, IfSome}
+use Rattle.std.specs.Prelude.{◌≡◌, ◌≢◌, ◌⊎◌, ◌≤◌, ℕ, Bool, false, List, [], ◌∷◌, ◌++◌, length, take}
+use Rattle.std.specs.Prelude.{Option, Some, IfSome, Result, Err, IfErr, OnOk}
 use Rattle.std.specs.Io.KnownBytes.{Appends}
 use Rattle.std.specs.Str.Lines.{lines}
 use Rattle.nvm_board.specs.Facts.{Facts}
@@ -9,7 +9,7 @@ use Rattle.bench_lines.specs.declared.fault.RunFault.{RunFault}
 use Rattle.bench_lines.specs.declared.fault.RunFault.TheVariants.{BadLine, Read, Write, Memory, Unkept}
 use Rattle.bench_lines.specs.declared.reading.TheConstants.{SCRIPT_LIMIT}
 use Rattle.card_bench.specs.Exchanges.{Desk}
-use Rattle.card_bench.specs.Prints.{LinesPrint, PrintsLines}
+use Rattle.card_bench.specs.Prints.{LacksNoWrite, LinesPrint, PrintsLines, desk_of}
 use Rattle.bench_lines.specs.Orders.{Order, order_of}
 use Rattle.card_bench.specs.Charges.{AnyFacts, IsUncharged, MayCompare}
 use Rattle.bench_lines.specs.Scripts.{EndsLine, FailsAtLine, IsInLine, IsScript, IsTooLong, WhereKnown}
@@ -127,3 +127,17 @@ RunStopsBy Keeps first Memory script left old new = Unit {0}
 RunStopsBy Keeps first Unkept script left old new =
     WhereKnown script left (λ bytes rest.
     IsRunUnkept Keeps first bytes rest old new ⊎ IsRunBefore Keeps first bytes rest old new)
+
+-- The run of a script on the card in a board's memory, by its result. At its end the output of all lines is written. A
+-- fault ends it as `RunStopsBy` says. If the follower failed, it is that of a board in the state of the last line. With
+-- too little memory nothing was read or written.
+pub record IsCardRun {T B : Type 0} (facts : B → Facts) (has_kept : B → Bool) (board : B) (result : Result T RunFault)
+    (script left old new : Option (List ℕ)) : Type 0 where
+  pub done : OnOk result (IfSome script
+      (λ bytes. IsRunToEnd (LacksNoWrite B facts has_kept) (desk_of (facts board)) bytes old new))
+  pub stopped : IfErr result
+      (λ fault. RunStopsBy (LacksNoWrite B facts has_kept) (desk_of (facts board)) fault script left old new)
+  pub behind : result ≡ Err Unkept → (last : B) × (has_kept last ≡ false)
+      × StopsBehind (LacksNoWrite B facts has_kept) (desk_of (facts board)) (facts last) script left old new
+  pub unread : result ≡ Err Memory → left ≡ script
+  pub unwritten : result ≡ Err Memory → new ≡ old

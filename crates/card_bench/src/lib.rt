@@ -19,5 +19,5 @@ pub use desk::Desk;
 pub use line::Line;
 pub use line_result::LineResult;
 pub use reader_turns::{Blocks, Ending, LINE_BLOCKS, Toward, begin, hear, wait};
-pub use script::{run, run_on};
+pub use script::{run, run_card, run_on};
 pub use script_board::ScriptBoard;

@@ -1,6 +1,6 @@
 //! Runs a script, from its first line to its last.
-ghost use Rattle.std.specs.Prelude.{◌≡◌, ◌≢◌, Err, IfSome, IfErr, OnOk, false};
-ghost use Rattle.card_bench.specs.ScriptEndings.{IsRunToEnd, RunStopsBy, StopsBehind};
+ghost use Rattle.std.specs.Prelude.{◌≡◌, ◌≢◌, Err, IfSome, IfErr, OnOk, true, false};
+ghost use Rattle.card_bench.specs.ScriptEndings.{IsRunToEnd, RunStopsBy, IsCardRun, StopsBehind};
 ghost use Rattle.bench_turns.specs.BenchStates.{bench_facts};
 ghost use Rattle.card_bench.specs.Charges.{HasSecond};
 ghost use Rattle.card_bench.specs.Exchanges.{Desk as DeskValue};
@@ -58,6 +58,30 @@ pub fn run<P: Twinned<Board = CutBoard> + Drop, R: BufRead, W: Write>(
     // (nothing follows this board, so this asks for no memory)
     let board = ScriptBoard::new(board).unwrap();
     run_on::<P, _, _>(board, reader, writer)
+}
+
+/// Runs a script on the card in a board's memory, as `run_on`. It takes all memory before it reads the first byte, and
+/// none on a board without a follower.
+///
+/// # Errors
+///
+/// Those of `run_on`, and `Memory` before anything is read.
+pub fn run_card<P: Twinned + Drop, R: BufRead, W: Write>(
+    board: P::Board,
+    reader: &mut R,
+    writer: &mut W,
+) -> Result<(), RunFault>
+where
+    P::Board: Followed + Drop,
+    requires { HasCard (P.Board.facts board).words }
+    ensures run { IsCardRun P.Board.facts P.Board.has_kept board result (R.remaining reader.old)
+        (R.remaining reader.new) (W.contents writer.old) (W.contents writer.new) }
+    ensures memory { result ≡ Err RunFault.Memory → P.Board.has_follower board ≡ true }
+{
+    match ScriptBoard::new(board) {
+        Ok(board) => run_on::<P, _, _>(board, reader, writer),
+        Err(_) => Err(RunFault::Memory),
+    }
 }
 
 /// Runs a script on the card in a board's memory.
