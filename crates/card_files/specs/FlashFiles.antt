@@ -5,10 +5,11 @@ use Rattle.std.specs.declared.fs.File.{File}
 use Rattle.nvm_board.specs.Facts.{AreWords}
 use Rattle.command_base.specs.Finding.{HasCard}
 use Rattle.flash_log.specs.Rings.{IsRing}
+use Rattle.simulated_flashes.specs.Complements.{IsFirstRandom}
 use Rattle.simulated_flashes.specs.KeptFlashes.{kept_flash_state}
 use Rattle.simulated_flashes.specs.declared.garbling_flash.TheConstants.{FLASH_WORDS}
 use Rattle.simulated_flashes.specs.declared.kept_flash.KeptFlash.{KeptFlash}
-use Rattle.card_boards.specs.FlashImages.{IsFactoryFlash, simulated_slots, words_on_flash}
+use Rattle.card_boards.specs.FlashImages.{IsFactoryFlash, IsFlashReady, simulated_slots, words_on_flash}
 use Rattle.card_boards.specs.Images.{image_bytes}
 use Rattle.card_files.specs.CommandLines.{pages_number}
 use Rattle.card_files.specs.FileRefusals.{IsShorter}
@@ -39,6 +40,11 @@ IsFlashOf asked.Factory flash = (flash.follower ≡ None) × IsFactoryFlash (kep
 IsFlashOf (asked.Card options) flash =
     (flash_syncs flash ≡ Some options.sync) × (pages_number options.pages ≡ None)
 IsFlashOf asked.Unknown flash = ⊥
+
+-- The flash is ready for a run, and its seed chose the first random number of its garbage.
+pub record IsSeededFlash (seed : ℕ) (flash : KeptFlash KeptFile) : Type 0 where
+  pub ready : IsFlashReady (kept_flash_state flash)
+  pub random : IsFirstRandom seed flash.flash.random
 
 -- The first bytes of a reader are those of a flash without a log, if the bytes are known.
 abbrev pub HoldsNoLog : Option (List ℕ) → ℕ → Type 0

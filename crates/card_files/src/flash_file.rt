@@ -1,10 +1,11 @@
 //! The card on a simulated flash, in a file: opens the file, or makes it with the factory card.
 ghost use Rattle.std.specs.Prelude.{◌≡◌, None, Some, IfErr, IfOk};
-ghost use Rattle.card_boards.specs.FlashImages.{HasCardOnFlash, IsFactoryFlash, IsFlashReady};
+ghost use Rattle.card_boards.specs.FlashImages.{HasCardOnFlash, IsFactoryFlash};
 ghost use Rattle.card_files.specs.CommandLines.{pages_number};
 ghost use Rattle.card_files.specs.FlashFiles.{IsFlashFaultOf, IsFlashOf, IsFlashReadFault, IsFlashRefusedAs};
-ghost use Rattle.card_files.specs.FlashFiles.{flash_follower_file, flash_syncs};
+ghost use Rattle.card_files.specs.FlashFiles.{IsSeededFlash, flash_follower_file, flash_syncs};
 ghost use Rattle.card_files.specs.ImageParts.{AreWordsIn};
+ghost use Rattle.simulated_flashes.specs.Complements.{IsFirstRandom};
 ghost use Rattle.simulated_flashes.specs.GarblingStates.{garbling_state, given_garbling_state};
 ghost use Rattle.simulated_flashes.specs.KeptFlashes.{kept_flash_state};
 
@@ -50,7 +51,7 @@ pub enum NoFlash {
 pub fn open_flash(rt: &HostRuntime, seed: u64, asked: Asked) -> Result<CardFlash, NoFlash>
     ensures card { IfOk result (λ flash. HasCardOnFlash (kept_flash_state flash).words) }
     ensures flash { IfOk result (IsFlashOf asked) }
-    ensures ready { IfOk result (λ flash. IsFlashReady (kept_flash_state flash)) }
+    ensures seeded { IfOk result (IsSeededFlash seed) }
     ensures refused { IfErr result (IsFlashRefusedAs asked) }
 {
     match asked {
@@ -75,7 +76,7 @@ fn open_card_flash(
 ) -> Result<CardFlash, FlashCardFault>
     ensures card { IfOk result (λ flash. HasCardOnFlash (kept_flash_state flash).words) }
     ensures kept { IfOk result (λ flash. flash_syncs flash ≡ Some options.now.sync) }
-    ensures ready { IfOk result (λ flash. IsFlashReady (kept_flash_state flash)) }
+    ensures seeded { IfOk result (IsSeededFlash seed) }
     ensures pages { IfOk result (λ flash. pages_number options.now.pages ≡ None) }
     ensures refused { IfErr result (IsFlashFaultOf options.now) }
 {
@@ -102,7 +103,7 @@ fn read_flash(
     ensures file { IfOk result (λ flash. flash_follower_file flash ≡ Some file) }
     ensures card { IfOk result (λ flash. HasCardOnFlash (kept_flash_state flash).words) }
     ensures kept { IfOk result (λ flash. flash_syncs flash ≡ Some options.now.sync) }
-    ensures ready { IfOk result (λ flash. IsFlashReady (kept_flash_state flash)) }
+    ensures seeded { IfOk result (IsSeededFlash seed) }
     ensures refused { IfErr result (IsFlashFaultOf options.now) }
 {
     let (size, stamp) = lock_and_size(&file)?;
@@ -133,6 +134,7 @@ pub fn flash_in<R: Read>(
 ) -> Result<GarblingFlash, FlashCardFault>
     ensures card { IfOk result (λ flash. HasCardOnFlash (garbling_state flash).words) }
     ensures flash { IfOk result (λ flash. garbling_state flash ≡ given_garbling_state (garbling_state flash).words) }
+    ensures random { IfOk result (λ flash. IsFirstRandom seed flash.random) }
     ensures words { IfOk result (λ flash. AreWordsIn (R.remaining reader.old) size (garbling_state flash).words) }
     ensures refused { IfErr result (IsFlashReadFault size (R.remaining reader.old)) }
 {
@@ -164,7 +166,7 @@ fn make_flash(
     requires { pages_number options.now.pages ≡ None }
     ensures factory { IfOk result (λ flash. IsFactoryFlash (kept_flash_state flash).words) }
     ensures kept { IfOk result (λ flash. flash_syncs flash ≡ Some options.now.sync) }
-    ensures ready { IfOk result (λ flash. IsFlashReady (kept_flash_state flash)) }
+    ensures seeded { IfOk result (IsSeededFlash seed) }
     ensures refused { IfErr result (IsFlashFaultOf options.now) }
 {
     let Ok(flash) = factory_flash(rt.alloc(), seed) else {
