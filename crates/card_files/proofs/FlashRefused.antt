@@ -11,9 +11,11 @@ use Rattle.card_boards.specs.FlashImages.{IsFlashRefusal, simulated_slots, words
 use Rattle.card_boards.specs.Images.{image_bytes}
 use Rattle.card_boards.specs.declared.flash_image.NoFlashCard.{NoFlashCard}
 use Rattle.card_files.specs.CommandLines.{pages_number}
-use Rattle.card_files.specs.FileRefusals.{IsShorter}
+use Rattle.card_files.specs.FileRefusals.{IsFileFault, IsShorter}
 use Rattle.card_files.specs.FlashFiles.{HoldsNoFlashCard, HoldsNoLog, IsFlashFaultOf, IsFlashReadFault}
 use Rattle.card_files.specs.ImageParts.{AreWordsIn}
+use Rattle.card_files.specs.declared.opening.CardFault.{CardFault}
+use Rattle.card_files.specs.declared.opening.CardFault.TheVariants as fault
 use Rattle.card_files.specs.declared.flash_file.FlashCardFault.{FlashCardFault}
 use Rattle.card_files.specs.declared.flash_file.FlashCardFault.TheVariants as flash_fault
 use Rattle.card_files.specs.declared.image_words.TheConstants.{WORD_BYTES}
@@ -63,10 +65,25 @@ pub some_number : (pages : Option PageCount) → is_some pages ≡ true → page
 some_number None is = absurd (true≢false (sym is))
 some_number (Some count) is = λ none. true≢false (ap is_some none)
 
+-- a failing reader and too little memory are faults of a file
+is_file_fault : (options : CardOptions) (size : ℕ) (known : Option (List ℕ)) (why : CardFault)
+    → IsFlashReadFault size known (flash_fault.File why) → IsFileFault options why
+is_file_fault options size known fault.Usage read = absurd read
+is_file_fault options size known (fault.Open error) read = tt
+is_file_fault options size known (fault.Read error) read = tt
+is_file_fault options size known (fault.Make error) read = tt
+is_file_fault options size known fault.NotAFile read = tt
+is_file_fault options size known fault.InUse read = tt
+is_file_fault options size known (fault.Lock error) read = tt
+is_file_fault options size known (fault.Size bytes) read = tt
+is_file_fault options size known (fault.OtherPages pages) read = absurd read
+is_file_fault options size known fault.NoCard read = tt
+is_file_fault options size known fault.Memory read = tt
+
 -- a reader's bytes are not refused by the usage
 pub is_own_fault : (options : CardOptions) (size : ℕ) (known : Option (List ℕ)) (why : FlashCardFault)
     → pages_number options.pages ≡ None → IsFlashReadFault size known why → IsFlashFaultOf options why
-is_own_fault options size known (flash_fault.File fault) none read = none
+is_own_fault options size known (flash_fault.File why) none read = (none, is_file_fault options size known why read)
 is_own_fault options size known flash_fault.Usage none read = absurd read
 is_own_fault options size known (flash_fault.Size bytes) none read = none
 is_own_fault options size known flash_fault.Log none read = none

@@ -1,7 +1,7 @@
 -- Why the bytes of a reader are refused.
-use Rattle.std.specs.Prelude.{◌≢◌, ◌%◌, ◌/◌, IfErr, IfSome, Err, Result}
+use Rattle.std.specs.Prelude.{◌≢◌, ◌%◌, ◌/◌, IfErr, IfSome, IsErrAnd, Ok, Err, Result}
 use Rattle.std.proofs.Common.{◌≡◌, ◌≤◌, ◌<◌, ◌*◌, ℕ, List, [], ◌∷◌, Option, None, Some, length, take}
-use Rattle.std.proofs.Common.{ap, arith, refl, subst, take_all, length-take, ⊎_elim, ◌∙◌}
+use Rattle.std.proofs.Common.{ap, arith, refl, subst, sym, take_all, length-take, ⊎_elim, ◌∙◌}
 use Rattle.std.proofs.lemmas.Bool.{cases_lt}
 use Rattle.nvm_board.specs.Facts.{AreWords, IsMemory, pages_of}
 use Rattle.card_boards.specs.declared.image.NoCard.{NoCard}
@@ -9,13 +9,37 @@ use Rattle.card_boards.specs.Images.{IsRefusedRightly}
 use Rattle.command_base.specs.Finding.{HasCard}
 use Rattle.card_boards.specs.Images.{image_bytes}
 use Rattle.card_files.specs.ImageParts.{AreAllWordsIn, AreWordsIn, IsImageSize}
-use Rattle.card_files.specs.FileRefusals.{HoldsNoCard, IsShorter}
+use Rattle.card_files.specs.FileRefusals.{HoldsNoCard, IsFileFault, IsReadFault, IsShorter}
+use Rattle.card_files.specs.declared.opening.CardFault.{CardFault}
+use Rattle.card_files.specs.declared.opening.CardFault.TheVariants as fault
+use Rattle.card_files.specs.declared.options.CardOptions.{CardOptions}
 use Rattle.card_files.specs.declared.image_words.TheConstants.{PAGE_BYTES, WORD_BYTES}
 
 -- four bytes for each word
 pub length-image : (words : List ℕ) → length (image_bytes words) ≡ 4 * length words
 length-image [] = refl
 length-image (word ∷ words) = let rest = length-image words in omega (arith, rest)
+
+-- the faults of a reader's bytes are faults of their file
+pub reads_own_fault : (options : CardOptions) (size : ℕ) (known : Option (List ℕ)) (why : CardFault)
+    → IsReadFault options size known why → IsFileFault options why
+reads_own_fault options size known fault.Usage read = absurd read
+reads_own_fault options size known (fault.Open error) read = absurd read
+reads_own_fault options size known (fault.Read error) read = tt
+reads_own_fault options size known (fault.Make error) read = absurd read
+reads_own_fault options size known fault.NotAFile read = absurd read
+reads_own_fault options size known fault.InUse read = absurd read
+reads_own_fault options size known (fault.Lock error) read = absurd read
+reads_own_fault options size known (fault.Size bytes) read = tt
+reads_own_fault options size known (fault.OtherPages pages) read = read.2
+reads_own_fault options size known fault.NoCard read = tt
+reads_own_fault options size known fault.Memory read = tt
+
+-- the fault of a file is passed on as it is
+pub hands_fault : {T : Type 0} (r : Result T CardFault) (options : CardOptions) (why : CardFault)
+    → IsErrAnd r (λ told. told ≡ why) → IsFileFault options why → IfErr r (IsFileFault options)
+hands_fault {T} (Ok x) options why is fault = tt
+hands_fault {T} (Err told) options why is fault = subst (IsFileFault options) (sym is) fault
 
 -- words of so many bytes are a memory
 pub memory_of_image : (words : List ℕ) (size : ℕ) → 4 * length words ≡ size → IsImageSize size

@@ -57,10 +57,17 @@ IsSizeFault options size (fault.OtherPages pages) =
     IsImageSize size × (pages ≡ size / PAGE_BYTES) × ¬ AreAskedPages options pages
 IsSizeFault options size other = ⊥
 
+-- Why the file of a card that options ask for is refused. It is never by the usage, and by a number of pages only if
+-- the options give another one.
+abbrev pub IsFileFault : CardOptions → CardFault → Type 0
+IsFileFault options fault.Usage = ⊥
+IsFileFault options (fault.OtherPages pages) = ¬ AreAskedPages options pages
+IsFileFault options other = Unit {0}
+
 -- Why there is no board. The factory card needs memory alone, unknown words are told by the usage, and a card in a file
 -- by a reason of its own.
 abbrev pub IsRefusedAs : Asked → NoBoard → Type 0
 IsRefusedAs asked.Factory why = why ≡ no_board.Memory
 IsRefusedAs asked.Unknown why = why ≡ no_board.Card fault.Usage
 IsRefusedAs (asked.Card options) no_board.Memory = ⊥
-IsRefusedAs (asked.Card options) (no_board.Card why) = Unit {0}
+IsRefusedAs (asked.Card options) (no_board.Card why) = IsFileFault options why

@@ -12,7 +12,7 @@ use Rattle.simulated_flashes.specs.declared.kept_flash.KeptFlash.{KeptFlash}
 use Rattle.card_boards.specs.FlashImages.{IsFactoryFlash, IsFlashReady, simulated_slots, words_on_flash}
 use Rattle.card_boards.specs.Images.{image_bytes}
 use Rattle.card_files.specs.CommandLines.{pages_number}
-use Rattle.card_files.specs.FileRefusals.{IsShorter}
+use Rattle.card_files.specs.FileRefusals.{IsFileFault, IsShorter}
 use Rattle.card_files.specs.declared.flash_file.FlashCardFault.{FlashCardFault}
 use Rattle.card_files.specs.declared.flash_file.FlashCardFault.TheVariants as flash_fault
 use Rattle.card_files.specs.declared.flash_file.NoFlash.{NoFlash}
@@ -71,6 +71,7 @@ IsFlashReadFault size known flash_fault.Usage = ⊥
 -- A card in a file is refused by the usage exactly if the options give a number of pages.
 abbrev pub IsFlashFaultOf : CardOptions → FlashCardFault → Type 0
 IsFlashFaultOf options flash_fault.Usage = pages_number options.pages ≢ None
+IsFlashFaultOf options (flash_fault.File why) = (pages_number options.pages ≡ None) × IsFileFault options why
 IsFlashFaultOf options other = pages_number options.pages ≡ None
 
 -- Why there is no flash. The factory card needs memory alone, unknown words are told by the usage, and a card in a file

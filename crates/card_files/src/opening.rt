@@ -3,7 +3,9 @@ ghost use Rattle.std.specs.Prelude.{◌≡◌, None, Some, IfErr, IfOk, false};
 ghost use Rattle.card_boards.specs.FactoryBoards.{IsFactoryBoard};
 ghost use Rattle.card_files.specs.AskedBoards.{IsBoardOf, facts_of, followed_file, syncs};
 ghost use Rattle.card_files.specs.CommandLines.{new_card_pages, pages_number};
-ghost use Rattle.card_files.specs.FileRefusals.{HasPagesOf, IsRefusedAs};
+ghost use Rattle.card_files.specs.FileRefusals.{HasPagesOf, IsFileFault, IsRefusedAs};
+ghost use Rattle.card_files.specs.declared.options.Asked.TheVariants as asked;
+ghost use Rattle.card_files.specs.declared.options.CardOptions.{CardOptions};
 ghost use Rattle.command_base.specs.Finding.{HasCard};
 ghost use Rattle.simulated_boards.specs.Kept.{kept_words};
 
@@ -83,6 +85,7 @@ fn open_card(rt: &HostRuntime, options: &CardOptions) -> Result<CardBoard, CardF
     ensures kept { IfOk result (λ board. syncs board ≡ Some options.now.sync) }
     ensures pages { IfOk result (λ board. HasPagesOf options.now (kept_words board)) }
     ensures uncut { IfOk result (λ board. (facts_of board).pending ≡ None) }
+    ensures refused { IfErr result (IsFileFault options.now) }
 {
     let path = options.path.as_str();
     match OpenOptions::new().read(true).write(true).open(rt, path) {
@@ -93,12 +96,13 @@ fn open_card(rt: &HostRuntime, options: &CardOptions) -> Result<CardBoard, CardF
 }
 
 /// Returns the card in an open file.
+#[tactic(auto, using(crate::proofs::Refused::reads_own_fault))]
 fn read_card(alloc: Global, file: File, options: &CardOptions) -> Result<CardBoard, CardFault>
     ensures file { IfOk result (λ board. followed_file board ≡ Some file) }
     ensures card { IfOk result (λ board. HasCard (kept_words board)) }
-    ensures kept { IfOk result (λ board. syncs board ≡ Some options.now.sync) }
-    ensures pages { IfOk result (λ board. HasPagesOf options.now (kept_words board)) }
+    ensures board { IfOk result (IsBoardOf (asked.Card options.now)) }
     ensures uncut { IfOk result (λ board. (facts_of board).pending ≡ None) }
+    ensures refused { IfErr result (IsFileFault options.now) }
 {
     lock(&file)?;
     let (size, stamp) = size_and_stamp(&file)?;
@@ -108,7 +112,9 @@ fn read_card(alloc: Global, file: File, options: &CardOptions) -> Result<CardBoa
 }
 
 /// Returns the size of a regular file in bytes, and its stamp.
-pub(crate) fn size_and_stamp(file: &File) -> Result<(u64, Stamp), CardFault> {
+pub(crate) fn size_and_stamp(file: &File) -> Result<(u64, Stamp), CardFault>
+    ensures { (options : CardOptions) → IfErr result (IsFileFault options) }
+{
     let read = file.metadata().and_then(|it| Ok((it, Stamp::of(file)?)));
     match read {
         Ok((it, stamp)) if it.is_file() => Ok((it.len(), stamp)),
@@ -124,6 +130,7 @@ fn make_card(rt: &HostRuntime, options: &CardOptions) -> Result<CardBoard, CardF
         (facts_of board)) }
     ensures kept { IfOk result (λ board. syncs board ≡ Some options.now.sync) }
     ensures pages { IfOk result (λ board. HasPagesOf options.now (kept_words board)) }
+    ensures refused { IfErr result (IsFileFault options.now) }
 {
     let pages = options.new_pages();
     let Ok(board) = factory_board_of(rt.alloc(), pages) else {
@@ -218,7 +225,9 @@ fn folder_of(path: &str) -> &str {
 }
 
 /// Locks the file, so that no other bench uses it while it is open.
-pub(crate) fn lock(file: &File) -> Result<(), CardFault> {
+pub(crate) fn lock(file: &File) -> Result<(), CardFault>
+    ensures { (options : CardOptions) → IfErr result (IsFileFault options) }
+{
     match file.try_lock() {
         Ok(()) => Ok(()),
         Err(TryLockError::WouldBlock) => Err(CardFault::InUse),
