@@ -1,6 +1,6 @@
 //! The board on a flash.
-ghost use Rattle.std.specs.Prelude.{◌≡◌, ◌+◌, ◌*◌, ◌<◌, ◌≤◌, ◌↔◌, ◌⊎◌, if◌then◌else◌, true, false, length, IsTrue};
-ghost use Rattle.std.specs.Prelude.{All, Contains, IfOk, IsErr, OnErr, OnOk, slice_index};
+ghost use Rattle.std.specs.Prelude.{◌≡◌, ◌+◌, ◌*◌, ◌<◌, ◌≤◌, ◌↔◌, ◌⊎◌, ℕ, if◌then◌else◌, true, false, length};
+ghost use Rattle.std.specs.Prelude.{All, Contains, IfOk, IsErr, IsTrue, OnErr, OnOk, slice_index};
 ghost use Rattle.nvm_board.specs.declared.board.TheConstants.{SECRETS, COUNT_END};
 ghost use Rattle.nvm_board.specs.Facts.{AreWords, IsMemory};
 
@@ -39,7 +39,7 @@ impl<F: Flash> FlashBoard<F> {
     ghost use Rattle.flash_device.specs.FlashCalls.{Costs};
     ghost use Rattle.flash_board.specs.FlashFacts.{flash_facts, log_state, made_of};
     ghost use Rattle.flash_board.specs.FlashFollowers.{board_is_kept};
-    ghost use Rattle.flash_log.specs.Paces.{IsRoomy, lead_of};
+    ghost use Rattle.flash_log.specs.Paces.{IsInPace, IsRoomy, StandsInPace, lead_of};
     ghost use Rattle.flash_log.specs.Renewals.{HoldsOnlyPages};
 
     /// The board of a log that has power. Its counts are 0.
@@ -72,6 +72,14 @@ impl<F: Flash> FlashBoard<F> {
         ensures faults { (flash_facts self).faults ≤ result.flash.faults }
     {
         self.log
+    }
+
+    /// Proves that a board in pace will be in pace again behind any power-on: the flash holds all that it has to find.
+    pub fn stays_in_pace(&self)
+        ensures { StandsInPace F.PAGES F.SLOTS F.SECTORS F.sector_start (log_state self.now)
+            → IsInPace F.PAGES F.SLOTS F.SECTORS F.sector_start (log_state self.now).raw }
+    {
+        self.log.stays_in_pace();
     }
 
     /// Leaves nothing in the flash but the pages as they are: no old words of a page, in no slot. It changes no word of
@@ -177,7 +185,7 @@ impl<F: Flash> FlashBoard<F> {
 
 impl<F: Flash> Board for FlashBoard<F> {
     ghost use Rattle.flash_board.specs.FlashFacts.{flash_facts, log_state};
-    ghost use Rattle.flash_log.specs.Paces.{IsRoomy, Pauses, RegainsSlots, TakesSlot, lead_of};
+    ghost use Rattle.flash_log.specs.Paces.{IsRoomy, Pauses, RegainsSlots, StandsInPace, TakesSlot, lead_of};
     ghost use Rattle.flash_log.specs.Places.{FindsFree};
     ghost use Rattle.flash_board.specs.laws.Boards.{flash_is_board};
     ghost use Rattle.nvm_board.specs.BoardCalls.{Compares, FitsPage, TellsWord, Writes};
@@ -204,6 +212,11 @@ impl<F: Flash> Board for FlashBoard<F> {
         // With more free slots than a move begins at, no move is under way.
         ensures in_pace { OnOk result ((log_state self.old).fresh ≡ true
             → lead_of F.PAGES F.SECTORS < (log_state self.new).free → (log_state self.new).paced ≡ true) }
+        // Else it finds how far the move has come, as long as the flash was in pace.
+        ensures finds { OnOk result (StandsInPace F.PAGES F.SLOTS F.SECTORS F.sector_start (log_state self.old)
+            → (log_state self.new).paced ≡ true) }
+        ensures stands { StandsInPace F.PAGES F.SLOTS F.SECTORS F.sector_start (log_state self.old)
+            → StandsInPace F.PAGES F.SLOTS F.SECTORS F.sector_start (log_state self.new) }
         // It programs and erases nothing.
         ensures work { (log_state self.new).flash.operations ≡ (log_state self.old).flash.operations }
         ensures erases { (log_state self.new).flash.erases ≡ (log_state self.old).flash.erases }
@@ -237,7 +250,8 @@ impl<F: Flash> Board for FlashBoard<F> {
         // A write that meets no fault of the flash is short, or its log is in pace behind it.
         ensures pause { IsRoomy F.PAGES F.SLOTS F.SECTORS
             → Pauses 37 (log_state self.old).flash (log_state self.new).flash
-            ((log_state self.old).paced ≡ true) ((log_state self.new).paced ≡ true) result }
+            (StandsInPace F.PAGES F.SLOTS F.SECTORS F.sector_start (log_state self.old))
+            ((log_state self.new).paced ≡ true) result }
         // While more free slots are known than a move begins at, and the flash doesn't fail, it takes one of them, and
         // erases nothing.
         ensures calm { lead_of F.PAGES F.SECTORS < (log_state self.old).free
@@ -249,6 +263,12 @@ impl<F: Flash> Board for FlashBoard<F> {
             → (log_state self.new).flash.faults ≡ (log_state self.old).flash.faults
             → (log_state self.old).paced ≡ true
             → RegainsSlots F.PAGES F.SLOTS (log_state self.old).free (log_state self.new).free) }
+        // Behind a power-on too: more than the slots that were free before.
+        ensures regains_found { OnOk result (IsRoomy F.PAGES F.SLOTS F.SECTORS
+            → (log_state self.new).flash.faults ≡ (log_state self.old).flash.faults
+            → StandsInPace F.PAGES F.SLOTS F.SECTORS F.sector_start (log_state self.old)
+            → (n : ℕ) → FindsFree F.SLOTS (log_state self.old).raw n
+            → RegainsSlots F.PAGES F.SLOTS n (log_state self.new).free) }
     {
         if self.dark {
             return Err(DeviceErr::PowerLost);
@@ -307,6 +327,7 @@ impl<F: Flash> Board for FlashBoard<F> {
 impl<F: FlashSocket> Socket for FlashBoard<F> {
     ghost use Rattle.nvm_board.specs.Facts.{IsWornOut};
     ghost use Rattle.flash_board.specs.FlashFacts.{flash_facts, log_state};
+    ghost use Rattle.flash_log.specs.Paces.{StandsInPace};
 
     fn light(&mut self) -> Result<(), WornOut>
         ensures worn { IsErr result ↔ IsWornOut (flash_facts self.old) }
@@ -319,6 +340,9 @@ impl<F: FlashSocket> Socket for FlashBoard<F> {
           fresh = true;
           free = 0;
         }) }
+        // A board in pace stays so.
+        ensures stands { StandsInPace F.PAGES F.SLOTS F.SECTORS F.sector_start (log_state self.old)
+            → StandsInPace F.PAGES F.SLOTS F.SECTORS F.sector_start (log_state self.new) }
     {
         if self.is_worn_out() {
             return Err(WornOut);
