@@ -14,9 +14,9 @@ from ..chip.proving import checked
 from .building import Room
 
 BELOW = ("nvm_board", "flash_device", "flash_translation")
-WANTED = f"logic=proved functions=13 foreign={FLASH}::"
+WANTED = f"logic=proved functions=15 foreign={FLASH}::"
 LAYERS_WANTED = {
-    "units": ({"unit": 4}, f"logic=proved functions=15 foreign={FLASH}::"),
+    "units": ({"unit": 4}, f"logic=proved functions=17 foreign={FLASH}::"),
     "spare sectors": ({"spares": 3, "sector_words": 4096}, f"logic=proved functions=19 foreign={FLASH}::"),
 }
 
