@@ -3,10 +3,13 @@ from __future__ import annotations
 
 import subprocess
 import tempfile
+from collections.abc import Callable
+from concurrent.futures import ProcessPoolExecutor
 from dataclasses import dataclass
+from functools import partial
 from pathlib import Path
 
-from ...chips.building import build
+from ...chips.building import build, text_of
 from ...chips.stack import Bound
 from ...chips.targets import TARGETS
 from ...narrowing.building import TOP
@@ -23,6 +26,13 @@ CHIP, HOST = TARGETS["riscv32"], TARGETS["x86-64"]
 DRIVER = "pflash.c bank_virt.c"
 INCLUDED = tuple(f"-I{it}" for it in (PROGRAMS, FLASH_EXAMPLE, EXAMPLE))
 CHECKED = ("-fsanitize=address,undefined", "-fno-sanitize-recover=all")
+# the ports that the tests build cards of, by what writes them: words of a unit, and spare sectors
+UNIT_WORDS, SPARES = 4, 6
+FILLS: dict[str, Callable[[Path], None]] = {
+    "flash": over_flash.fill,
+    "units": partial(over_flash.fill, unit=UNIT_WORDS),
+    "spares": partial(over_flash.fill, spares=SPARES),
+}
 
 
 @dataclass
@@ -50,6 +60,20 @@ def room_of(folder: Path) -> Room:
     write_port(folder / "port", over_flash.fill)
     subprocess.run([bench, "--card", folder / "factory.card"], stdin=subprocess.DEVNULL, check=True)
     return Room(folder, Checks(), bench)
+
+
+def build_module(folder: Path, name: str) -> None:
+    """Builds the module of a port. It is kept by its sources."""
+    write_port(folder / f"module-{name}", FILLS[name])
+    with tempfile.TemporaryDirectory(dir=folder) as place:
+        text_of(folder / f"module-{name}", False, Path(place))
+
+
+def build_modules(folder: Path, names: set[str]) -> None:
+    """Builds the modules of ports side by side, in processes: each has an environment of its own."""
+    with ProcessPoolExecutor() as pool:
+        for it in [pool.submit(build_module, folder, name) for name in sorted(names)]:
+            it.result()
 
 
 def library(room: Room, name: str) -> tuple[Path, dict[str, Bound]]:

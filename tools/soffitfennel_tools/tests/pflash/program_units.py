@@ -5,25 +5,23 @@ import os
 import shutil
 import subprocess
 from concurrent.futures import ThreadPoolExecutor
-from functools import partial
 
-from ...porting.over_flash import fill
 from ...porting.slots import PAGES, SECTOR_WORDS, SLOTS, UNIT
 from ...porting.writing import write_port
 from ..chip.building import lacks
 from ..chip.units import PORT, tool
-from .building import HOST, PROGRAMS, Room, library, made
+from .building import FILLS, HOST, PROGRAMS, Room, library, made
 from .scripts import by_bench, on_card, uncut
 
 # a flash that traps at a unit that isn't blank, or was programmed since its erase
-DRIVER, UNIT_WORDS = "unit_flash.c", 4
+DRIVER = "unit_flash.c"
 
 
 def room_of_units(room: Room) -> Room:
     """A room whose port is over such a flash."""
     folder = room.folder / "program-units"
     folder.mkdir()
-    write_port(folder / "port", partial(fill, unit=UNIT_WORDS))
+    write_port(folder / "port", FILLS["units"])
     shutil.copyfile(PROGRAMS / DRIVER, folder / "port/device" / DRIVER)
     shutil.copyfile(room.folder / "factory.card", folder / "factory.card")
     return Room(folder, room.checks, room.bench)

@@ -3,6 +3,7 @@ from __future__ import annotations
 
 import os
 import shutil
+from concurrent.futures import ThreadPoolExecutor
 from functools import partial
 from pathlib import Path
 
@@ -14,10 +15,11 @@ from ..chip.proving import checked
 from .building import Room
 
 BELOW = ("nvm_board", "flash_device", "flash_translation")
-WANTED = f"logic=proved functions=15 foreign={FLASH}::"
-LAYERS_WANTED = {
-    "units": ({"unit": 4}, f"logic=proved functions=17 foreign={FLASH}::"),
-    "spare sectors": ({"spares": 3, "sector_words": 4096}, f"logic=proved functions=19 foreign={FLASH}::"),
+# what is asked of tools/port, and how many functions are proved then
+FLASHES: dict[str, tuple[dict[str, int], int]] = {
+    "the flash of a port": ({}, 15),
+    "one that programs whole units": ({"unit": 4}, 17),
+    "one with spare sectors": ({"spares": 3, "sector_words": 4096}, 19),
 }
 
 
@@ -30,19 +32,21 @@ def take_libraries(port: Path) -> Path:
     return port / "crates" / FLASH
 
 
+def crate_of(folder: Path, sizes: dict[str, int]) -> Path:
+    """The crate of the flash of a new port."""
+    write_port(folder, partial(fill, **sizes))
+    return take_libraries(folder)
+
+
 def compare(room: Room) -> None:
-    """Proves the flash, one that programs whole units, and one with spare sectors."""
-    for layer, (sizes, wanted) in LAYERS_WANTED.items():
-        port = room.folder / f"proved-{layer.split()[0]}"
-        write_port(port, partial(fill, **sizes))
-        ran = checked(take_libraries(port), {**os.environ, ALLOWED: FLASH})
-        last = (ran.stdout.splitlines() or [""])[-1]
-        is_so = ran.returncode == 0 and last.startswith(wanted)
-        room.checks.check(is_so, f"the flash of a port with {layer} is proved", ran.stdout + ran.stderr)
-    crate = take_libraries(room.port)
-    refused = checked(crate, {key: it for key, it in os.environ.items() if key != ALLOWED})
+    """Proves the flashes side by side."""
+    crates = [crate_of(room.folder / f"proved-{at}", sizes) for at, (sizes, _) in enumerate(FLASHES.values())]
+    refused = checked(crates[0], {key: it for key, it in os.environ.items() if key != ALLOWED})
     room.checks.check(refused.returncode != 0, f"without {ALLOWED} the flash is refused", refused.stdout)
-    ran = checked(crate, {**os.environ, ALLOWED: FLASH})
-    last = (ran.stdout.splitlines() or [""])[-1]
-    is_so = ran.returncode == 0 and last.startswith(WANTED)
-    room.checks.check(is_so, "the flash of a port is proved", ran.stdout + ran.stderr)
+    environment = {**os.environ, ALLOWED: FLASH}
+    with ThreadPoolExecutor(len(crates)) as pool:
+        all_ran = list(pool.map(lambda it: checked(it, environment), crates))
+    for (what, (_, functions)), ran in zip(FLASHES.items(), all_ran):
+        last = (ran.stdout.splitlines() or [""])[-1]
+        is_so = ran.returncode == 0 and last.startswith(f"logic=proved functions={functions} foreign={FLASH}::")
+        room.checks.check(is_so, f"{what} is proved", ran.stdout + ran.stderr)

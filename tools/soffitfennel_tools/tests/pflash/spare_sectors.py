@@ -12,17 +12,15 @@ from array import array
 from collections.abc import Iterable
 from concurrent.futures import ThreadPoolExecutor
 from dataclasses import dataclass
-from functools import partial
 from pathlib import Path
 
-from ...porting.over_flash import fill
 from ...porting.slots import PAGES, SECTOR_WORDS, SLOTS, SPARE_SECTORS, set_size
 from ...porting.writing import write_port
 from ..chip.building import WARNINGS, lacks
 from ..chip.kills import DONE, READ, RIGHT, SELECT, update
 from ..chip.playing import Script, serial
 from ..chip.units import PORT, tool
-from .building import CHIP, HOST, PROGRAMS, Room, by_host, library, made
+from .building import CHIP, FILLS, HOST, PROGRAMS, SPARES, Room, by_host, library, made
 from .emulating import BLANK, MARK, emulator, new_flash, port_of
 from .kills import Known, Life, Told, life_ended
 from .scripts import by_bench, on_card, uncut
@@ -31,8 +29,8 @@ from .scripts import by_bench, on_card, uncut
 DRIVER, DEVICE, WORDS = "worn_flash.c", "worn_flash.c bank_virt.c", 0x10000
 # programs that print the sizes of a header, what the factory calls, and the words that are blank when the map is
 SHOWN, OWN_MAP, BLANKED = "spare_sizes.c", "own_map.c", "blank_map.c"
-# the sectors of the log, the spare ones, and the sectors of the bank that have their map, and what is worn
-OWN, SPARES, ENTRY_WORDS = 3, 6, 20
+# the sectors of the log, the words of an entry, and the sectors of the bank that have the map, and what is worn
+OWN, ENTRY_WORDS = 3, 20
 MAP_SECTOR = OWN + SPARES
 WORN_SECTOR = MAP_SECTOR + 2
 # updates within which one sector is erased again, and within which each is
@@ -77,7 +75,7 @@ def room_of_spares(room: Room) -> Room:
     """A room whose port is over such a flash."""
     folder = room.folder / "spares"
     folder.mkdir()
-    write_port(folder / "port", partial(fill, spares=SPARES))
+    write_port(folder / "port", FILLS["spares"])
     shutil.copyfile(PROGRAMS / DRIVER, folder / "port/device" / DRIVER)
     shutil.copyfile(room.folder / "factory.card", folder / "factory.card")
     return Room(folder, room.checks, room.bench)
