@@ -123,13 +123,10 @@ pub(crate) fn after_one(fails: bool, left: u32) -> u32
 
 /// The first word of a sector.
 fn start(sector: u16) -> usize
-    ensures is { result ≡ sim_sector sector }
+    requires { sector ≤ 5 }
+    ensures { result ≡ sim_sector sector }
 {
-    if sector <= 2 * SECTORS {
-        12801 * usize::from(sector)
-    } else {
-        FLASH_WORDS as usize
-    }
+    SimFlash::sector_at(sector) as usize
 }
 
 /// The number of words of a sector.
@@ -225,6 +222,14 @@ impl Flash for SimFlash {
     ghost sector_start = { sim_sector };
 
     ghost state = { sim_state };
+
+    fn sector_at(sector: u16) -> u32 {
+        if sector <= 2 * SECTORS {
+            12801 * u32::from(sector)
+        } else {
+            FLASH_WORDS
+        }
+    }
 
     fn read(&mut self, at: u32) -> Result<u32, DeviceErr> {
         Ok(self.words[at as usize])

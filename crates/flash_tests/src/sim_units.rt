@@ -71,15 +71,23 @@ fn used_words(words: &[u32], programs: &[u32], at: usize, size: usize) -> u32
     used
 }
 
+/// The first frame of a sector.
+fn frame(sector: u16) -> u32
+    ensures is { result ≡ sim_frame sector }
+    ensures most { 32 * result ≤ DEVICE_WORDS }
+{
+    if sector <= 2 * SECTORS {
+        427 * u32::from(sector)
+    } else {
+        DEVICE_WORDS / 32
+    }
+}
+
 /// Where a sector begins.
 fn start(sector: u16) -> usize
     ensures { result ≡ 32 * sim_frame sector }
 {
-    if sector <= 2 * SECTORS {
-        32 * (427 * usize::from(sector))
-    } else {
-        DEVICE_WORDS as usize
-    }
+    (32 * frame(sector)) as usize
 }
 
 /// The number of words of a sector.
@@ -161,6 +169,10 @@ impl<S: UnitSize + Drop> UnitDevice for SimUnits<S> {
     ghost first_frame = { sim_frame };
 
     ghost state = { sim_units_state };
+
+    fn first_frame_at(sector: u16) -> u32 {
+        frame(sector)
+    }
 
     fn read(&mut self, at: u32) -> Result<u32, DeviceErr> {
         Ok(self.words[at as usize])

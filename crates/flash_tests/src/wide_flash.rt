@@ -116,6 +116,14 @@ impl Flash for WideFlash {
 
     ghost state = { wide_state };
 
+    fn sector_at(sector: u16) -> u32 {
+        if sector <= 2 {
+            AREA_WORDS * u32::from(sector)
+        } else {
+            ALL_WORDS
+        }
+    }
+
     fn read(&mut self, at: u32) -> Result<u32, DeviceErr> {
         Ok(self.words[at as usize])
     }
@@ -171,12 +179,9 @@ impl FlashSocket for WideFlash {
 
 /// Returns the address of a sector.
 fn start_of(sector: u16) -> usize
+    requires { sector ≤ 3 }
     ensures is { result ≡ wide_sector sector }
     ensures most { result ≤ ALL_WORDS }
 {
-    if sector <= 2 {
-        AREA_WORDS as usize * usize::from(sector)
-    } else {
-        ALL_WORDS as usize
-    }
+    WideFlash::sector_at(sector) as usize
 }
