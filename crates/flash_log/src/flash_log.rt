@@ -174,7 +174,8 @@ impl<F: Flash> FlashLog<F> {
         ensures light { Tries TRIES self.old.flash self.new.flash result }
         ensures work { Costs (2 * F.PAGES + 40 + F.SECTORS) (2 * F.PAGES + 42 + F.SECTORS) self.old.flash
             self.new.flash }
-        // At most one write after each write that lost power, or after a Fault, takes more than 37 programs and erases.
+        // At most one write after each write or renewal that lost power, or after a Fault, begins more than 37 programs
+        // and erases.
         ensures pause { IsRoomy F.PAGES F.SLOTS F.SECTORS → Pauses 37 self.old.flash self.new.flash
             (StandsInPace F.PAGES F.SLOTS F.SECTORS F.sector_start self.old) (self.new.paced ≡ true) result }
         // While more free slots are known than a move begins at, and the flash doesn't fail, it takes one of them, and
