@@ -40,8 +40,13 @@ pub record Writes {T : Type 0} (at : ℕ) (run : List ℕ) (old new : Facts) (re
   pub compares : new.compares ≡ old.compares
   pub matches : new.matches ≡ old.matches
 
+-- The presented bytes equal the stored ones, and both the comparison and the match are counted.
+abbrev pub CountsMatch : ℕ → List ℕ → List ℕ → Facts → Facts → Type 0
+CountsMatch secret kept shown old new = (kept ≡ shown) × (new.compares ≡ raised old.compares secret)
+    × (new.matches ≡ raised old.matches secret)
+
 -- A comparison returns true if the presented bytes equal the stored ones of a secret. It is counted, and so is a
--- match. No other call raises these counts.
+-- match. A call that fails counts a match only of equal bytes. No other call raises these counts.
 pub record Compares (secret : ℕ) (kept shown : List ℕ) (old new : Facts) (result : Result Bool DeviceErr)
     : Type 0 where
   pub equal : IfOk result (λ e. IsTrue e ↔ (kept ≡ shown))
@@ -53,7 +58,7 @@ pub record Compares (secret : ℕ) (kept shown : List ℕ) (old new : Facts) (re
   pub compared : OnOk result (new.compares ≡ raised old.compares secret)
   pub compared_err : OnErr result (RisesAt old.compares secret new.compares)
   pub matched : IfOk result (λ e. new.matches ≡ (if e then raised old.matches secret else old.matches))
-  pub matched_err : OnErr result (RisesAt old.matches secret new.matches)
+  pub matched_err : OnErr result ((new.matches ≡ old.matches) ⊎ CountsMatch secret kept shown old new)
 
 -- Sets a cut or a fault at write `k` with this mask. It replaces what was set before. Nothing else changes, but that
 -- a cut may be due.
