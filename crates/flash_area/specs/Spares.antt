@@ -1,10 +1,10 @@
 -- The other area, to which the pages move step by step.
-use Rattle.std.specs.Prelude.{◌≡◌, ◌<◌, ◌≤◌, ◌+◌, ◌-◌, ◌*◌, ℕ, false, List, slice_index, nat_eq, if◌then◌else◌}
+use Rattle.std.specs.Prelude.{◌≡◌, ◌≢◌, ◌<◌, ◌≤◌, ◌+◌, ◌-◌, ◌*◌, ℕ, false, List, slice_index, nat_eq, if◌then◌else◌}
 use Rattle.flash_device.specs.declared.flash.TheConstants.{BLANK}
 use Rattle.flash_device.specs.declared.layout.TheConstants.{STEP_PAGES}
 use Rattle.flash_device.specs.FlashBlocks.{area_size, steps_of}
 use Rattle.flash_device.specs.FlashCalls.{AreFilled}
-use Rattle.flash_device.specs.FlashLogs.{find, is_closed, page_word, words_of}
+use Rattle.flash_device.specs.FlashLogs.{base_in, find, is_closed, page_word, words_of}
 use Rattle.flash_device.specs.PageTables.{AreFree}
 
 -- where the pages move to in a turn
@@ -15,30 +15,48 @@ spare_in slots turn = if nat_eq turn 0 then area_size slots else 0
 abbrev pub spare_sector : ℕ → ℕ → ℕ
 spare_sector sectors turn = if nat_eq turn 0 then sectors else 0
 
--- The area is open and has the first so many pages of these words, and no other page of the board. From a slot on all
--- are free.
-pub record HasCopies (pages slots : ℕ) (m words : List ℕ) (base copied behind : ℕ) : Type 0 where
+-- The area is open. It has the first so many pages of these words, but for one page at most, whose copy may be older:
+-- its number and 1, or 0. It has no later page that the area in use lacks. From a slot on all are free.
+pub record HasCopies (pages slots : ℕ) (m words : List ℕ) (home base copied behind older : ℕ) : Type 0 where
   pub opened : is_closed m (base + 20 * slots) ≡ false
   pub free : AreFree m base behind slots
-  pub each : (p k : ℕ) → p < copied → p < pages → k < 16
+  pub each : (p k : ℕ) → p < copied → p < pages → p + 1 ≢ older → k < 16
       → page_word m base slots p k ≡ slice_index words (16 * p + k)
-  pub left : (p : ℕ) → copied ≤ p → p < pages → find m base slots p ≡ 0
+  pub left : (p : ℕ) → copied ≤ p → p < pages → find m home slots p ≡ 0 → find m base slots p ≡ 0
+
+-- The slots that the copies of so many steps take at most in a move that is in pace: one for each page, one for each
+-- write between two steps, and those that steps took which lost power.
+abbrev pub copies_most : ℕ → ℕ → ℕ
+copies_most copied extra = STEP_PAGES * copied + (copied - 1) + extra
 
 -- How far the move has come: so many sectors are erased, and if these are all, so many steps have copied pages. In
 -- turn 1 it has not begun.
-pub record IsSpare (pages slots sectors : ℕ) (start : ℕ → ℕ) (m words : List ℕ) (turn erased copied behind : ℕ)
-    : Type 0 where
+pub record IsSpare (pages slots sectors : ℕ) (start : ℕ → ℕ) (m words : List ℕ)
+    (turn erased copied behind older : ℕ) : Type 0 where
   pub within : erased ≤ sectors
   pub most : copied < steps_of pages
   pub idle : turn ≡ 1 → erased ≡ 0
   pub fresh : erased < sectors → (copied ≡ 0) × (behind ≡ 0)
   pub blank : erased < sectors
       → AreFilled m (spare_in slots turn) (start (spare_sector sectors turn + erased) - spare_in slots turn) BLANK
-  pub copies : erased ≡ sectors → HasCopies pages slots m words (spare_in slots turn) (STEP_PAGES * copied) behind
+  pub few : older ≤ STEP_PAGES * copied
+  pub copies : erased ≡ sectors → HasCopies pages slots m words (base_in slots turn) (spare_in slots turn)
+      (STEP_PAGES * copied) behind older
 
--- No progress that the flash shows is further than this one, in sectors or in steps. It counts only if the copies are
--- in as few slots as those of a move in pace.
-abbrev pub IsFurthest : ℕ → ℕ → ℕ → (ℕ → ℕ) → List ℕ → ℕ → ℕ → ℕ → Type 0
-IsFurthest pages slots sectors start m turn erased copied = (e c b : ℕ)
-    → IsSpare pages slots sectors start m (words_of pages slots m) turn e c b → b ≤ (STEP_PAGES + 1) * c
-    → (e ≤ erased) × (c ≤ copied)
+-- The area in use has a free slot for each step that is left. From turn 1 the first one passes the turn to the witness.
+abbrev pub StepsFit : ℕ → ℕ → ℕ → ℕ → ℕ → ℕ → ℕ → Type 0
+StepsFit pages slots sectors turn erased copied next =
+    (if nat_eq turn 1 then 1 else 0) + (sectors - erased) + (steps_of pages - copied) + next ≤ slots
+
+-- How far a move has come keeps its pace if any progress does that the flash shows: its steps fit, and its copies are
+-- in as few slots.
+abbrev pub KeepsSteps : ℕ → ℕ → ℕ → (ℕ → ℕ) → List ℕ → ℕ → ℕ → ℕ → ℕ → ℕ → ℕ → Type 0
+KeepsSteps pages slots sectors start m turn next most erased copied behind = (extra e c b o : ℕ) → extra ≤ most
+    → IsSpare pages slots sectors start m (words_of pages slots m) turn e c b o → b ≤ copies_most c extra
+    → StepsFit pages slots sectors turn e c next
+    → (behind ≤ copies_most copied extra) × StepsFit pages slots sectors turn erased copied next
+
+-- No progress that the flash shows has more sectors erased, but for one that has them all.
+abbrev pub KeepsSectors : ℕ → ℕ → ℕ → (ℕ → ℕ) → List ℕ → ℕ → ℕ → Type 0
+KeepsSectors pages slots sectors start m turn erased = (e c b o : ℕ) → e < sectors
+    → IsSpare pages slots sectors start m (words_of pages slots m) turn e c b o → e ≤ erased

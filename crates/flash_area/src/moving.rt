@@ -35,6 +35,10 @@ pub fn put_in_spare<F: Flash>(
     ensures passes { IfOk result (λ n. n + (F.state flash.old).faults ≤ next + (F.state flash.new).faults) }
     ensures alone { IfOk result (λ s. (F.state flash.new).faults ≡ (F.state flash.old).faults → (s ≡ next)
         × SameElsewhere (F.state flash.old).words (slot_of (base_in F.SLOTS area) next) 20 (F.state flash.new).words) }
+    // At every exit it took one slot at most, and one more for each Fault, and left all other pages.
+    ensures torn { next + 1 + ((F.state flash.new).faults - (F.state flash.old).faults) ≤ F.SLOTS
+        → KeepsOthers F.SLOTS (F.state flash.old).words (base_in F.SLOTS area) (slice_index words.now 16)
+        (F.state flash.new).words (next + 1 + ((F.state flash.new).faults - (F.state flash.old).faults)) }
     ensures light { Tries (end - next) (F.state flash.old) (F.state flash.new) result }
     ensures work { Costs 2 2 (F.state flash.old) (F.state flash.new) }
     ensures erases { (F.state flash.new).erases ≡ (F.state flash.old).erases }

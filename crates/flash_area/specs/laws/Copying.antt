@@ -125,6 +125,15 @@ module _ (slots : ℕ) where
     free = h.free;
   }
 
+  -- in more slots than it took
+  pub others_wider : (m after : List ℕ) (base page s t : ℕ) → s ≤ t → t ≤ slots → KeepsOthers slots m base page after s
+      → KeepsOthers slots m base page after t
+  others_wider m after base page s t more within h = record {
+    others = h.others;
+    found = h.found;
+    free = record { within = within; free = λ k from lt. h.free.free k (omega (arith, more, from)) lt };
+  }
+
   -- a record in the last slot that isn't free is that of its page
   pub last_found : (m : List ℕ) (base s page : ℕ) (words : List ℕ) → IsPut m (slot_of base s) words → length words ≡ 18
       → slice_index words 16 ≡ page → s < slots → AreFree m base (s + 1) slots → find m base slots page ≡ suc s

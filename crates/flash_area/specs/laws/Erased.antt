@@ -46,11 +46,11 @@ module _ (pages slots : ℕ) where
       (cases_eq to 0)
 
   -- an area that was erased has no page
-  pub copies_none : (m words : List ℕ) (base : ℕ) → AreFilled m base (area_size slots) BLANK
-      → HasCopies pages slots m words base 0 0
-  copies_none m words base all = let free = erased_free m base all in record {
+  pub copies_none : (m words : List ℕ) (home base : ℕ) → AreFilled m base (area_size slots) BLANK
+      → HasCopies pages slots m words home base 0 0 0
+  copies_none m words home base all = let free = erased_free m base all in record {
     opened = erased_open m base all;
     free = free;
-    each = λ p k lt below few. absurd (omega (arith, lt));
-    left = λ p from below. none_found slots m base p free;
+    each = λ p k lt below other few. absurd (omega (arith, lt));
+    left = λ p from below none. none_found slots m base p free;
   }

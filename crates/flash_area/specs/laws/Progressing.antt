@@ -1,7 +1,8 @@
 -- Laws of how far a move has come, by what the flash holds.
-use Rattle.std.specs.Prelude.{◌≡◌, ◌≢◌, ◌⊎◌, ◌<◌, ◌≤◌, ◌+◌, ◌-◌, ◌*◌, ℕ, true, false, List, slice_index}
+use Rattle.std.specs.Prelude.{◌≡◌, ◌≢◌, ◌⊎◌, ◌<◌, ◌≤◌, ◌+◌, ◌-◌, ◌*◌, ℕ, Bool, true, false, List, slice_index}
+use Rattle.std.specs.Prelude.{nat_eq, if◌then◌else◌}
 use Rattle.std.proofs.Common.{refl, sym, ◌∙◌, ap, ⊎_elim, subst, arith, true≢false}
-use Rattle.std.proofs.lemmas.Bool.{cases_lt}
+use Rattle.std.proofs.lemmas.Bool.{cases_eq, cases_lt, ne_eqb}
 use Rattle.nvm_board.specs.declared.board.TheConstants.{LEAST_PAGES}
 use Rattle.flash_device.specs.declared.flash.TheConstants.{BLANK}
 use Rattle.flash_device.specs.declared.layout.TheConstants.{STEP_PAGES}
@@ -10,9 +11,9 @@ use Rattle.flash_device.specs.FlashCalls.{AreFilled}
 use Rattle.flash_device.specs.FlashLogs.{base_in, find, is_closed, page_word, turn_of, words_of}
 use Rattle.flash_device.specs.PageTables.{AreFree, IsFirstFreeSlot, IsPageTable}
 use Rattle.flash_device.specs.laws.Rising.{rises_to}
-use Rattle.flash_area.specs.ProgressParts.{HasNoCopies, IsBestProgress, IsBlankCount, IsFirstUsed, IsPagesEnd}
-use Rattle.flash_area.specs.ProgressParts.{IsSameCount}
-use Rattle.flash_area.specs.Spares.{HasCopies, IsSpare, spare_in, spare_sector}
+use Rattle.flash_area.specs.ProgressParts.{HasNoCopies, IsBestCopies, IsBlankCount, IsCopyCount, IsFirstUsed}
+use Rattle.flash_area.specs.ProgressParts.{IsPagesEnd, IsSameCount}
+use Rattle.flash_area.specs.Spares.{HasCopies, IsSpare, KeepsSteps, copies_most, spare_in, spare_sector}
 use Rattle.flash_area.specs.laws.Erased.{copies_none}
 use Rattle.flash_area.specs.laws.Sectors.{spare_end, spare_first}
 use Rattle.flash_area.specs.laws.Words.{index-page}
@@ -42,6 +43,57 @@ module _ (start : ℕ → ℕ) (rise : (s : ℕ) → start s ≤ start (s + 1)) 
       (λ (most : j ≤ n). most)
       (cases_lt n j)
 
+-- Steps are counted by the pages that read the same.
+module _ (pages slots : ℕ) (m : List ℕ) (from to : ℕ) where
+  -- all pages read the same
+  pub all_counted : (n copied : ℕ) → pages ≡ STEP_PAGES * steps_of pages → IsSameCount pages slots m from to 0 n
+      → n ≡ pages → copied < steps_of pages → STEP_PAGES * copied ≤ n
+      → ((c : ℕ) → c < steps_of pages → STEP_PAGES * c ≤ n → c ≤ copied) → IsCopyCount pages slots m from to copied 0
+  all_counted n copied whole count is most within all = record {
+    most = most;
+    few = omega arith;
+    same = λ p lt other. count.same p (omega arith) (omega (arith, lt, within));
+    all = λ c o lt but. all c lt (omega (arith, lt, is, whole));
+  }
+
+  -- one page differs, and then the next
+  pub one_counted : (first n copied older : ℕ) → pages ≡ STEP_PAGES * steps_of pages
+      → IsSameCount pages slots m from to 0 first → IsSameCount pages slots m from to (first + 1) n
+      → first < pages → copied < steps_of pages → STEP_PAGES * copied ≤ n
+      → ((c : ℕ) → c < steps_of pages → STEP_PAGES * c ≤ n → c ≤ copied)
+      → (first < STEP_PAGES * copied → older ≡ first + 1) → (STEP_PAGES * copied ≤ first → older ≡ 0)
+      → IsCopyCount pages slots m from to copied older
+  one_counted first n copied older whole before after differs most within all one none = record {
+    most = most;
+    few = ⊎_elim
+        (λ (lt : first < STEP_PAGES * copied). let is = one lt in omega (arith, is, lt))
+        (λ (ge : STEP_PAGES * copied ≤ first). let is = none ge in omega (arith, is))
+        (cases_lt first (STEP_PAGES * copied));
+    same = λ p lt other. ⊎_elim
+        (λ (early : p < first). before.same p (omega arith) early)
+        (λ (late : first ≤ p).
+        let is = one (omega (arith, late, lt)) in
+        let past : first + 1 ≤ p = ⊎_elim
+        (λ (e : p ≡ first). absurd (other (omega (arith, e, is))))
+        (λ (n : p ≢ first). omega (arith, n, late))
+        (cases_eq p first) in
+        after.same p past (omega (arith, lt, within)))
+        (cases_lt p first);
+    all = λ c o lt but. all c lt (⊎_elim
+        (λ (more : n < STEP_PAGES * c).
+        let least = after.least in
+        let below : n < pages = omega (arith, more, lt, whole) in
+        let x : first + 1 ≢ o → ⊥ = λ (other : first + 1 ≢ o).
+        before.differs differs (but first (omega (arith, more, least)) other) in
+        let y : n + 1 ≢ o → ⊥ = λ (other : n + 1 ≢ o). after.differs below (but n more other) in
+        ⊎_elim
+        (λ (e : first + 1 ≡ o). absurd (y (λ f. absurd (omega (arith, e, f, least)))))
+        (λ (n : first + 1 ≢ o). absurd (x n))
+        (cases_eq (first + 1) o))
+        (λ (fits : STEP_PAGES * c ≤ n). fits)
+        (cases_lt n (STEP_PAGES * c)));
+  }
+
 module _ (pages slots sectors : ℕ) (start : ℕ → ℕ) (m : List ℕ) (turn : ℕ) where
   module _ (is : turn ≡ turn_of slots m) where
     -- a word of the board is one of a page in the area in use
@@ -51,80 +103,69 @@ module _ (pages slots sectors : ℕ) (start : ℕ → ℕ) (m : List ℕ) (turn 
         ∙ ap (λ (t : ℕ). page_word m (base_in slots t) slots p k) (sym is)
 
     -- pages that read the same are copies
-    pub copies_are : (n copied behind : ℕ) → IsSameCount pages slots m (base_in slots turn) (spare_in slots turn) n
-        → copied ≤ n → is_closed m (spare_in slots turn + 20 * slots) ≡ false
-        → AreFree m (spare_in slots turn) behind slots
-        → ((p : ℕ) → copied ≤ p → p < pages → find m (spare_in slots turn) slots p ≡ 0)
-        → HasCopies pages slots m (words_of pages slots m) (spare_in slots turn) copied behind
-    copies_are n copied behind count fits opened free none = record {
+    pub copies_are : (copied behind older : ℕ)
+        → IsCopyCount pages slots m (base_in slots turn) (spare_in slots turn) copied older
+        → is_closed m (spare_in slots turn + 20 * slots) ≡ false → AreFree m (spare_in slots turn) behind slots
+        → ((p : ℕ) → STEP_PAGES * copied ≤ p → p < pages → find m (base_in slots turn) slots p ≡ 0
+        → find m (spare_in slots turn) slots p ≡ 0)
+        → HasCopies pages slots m (words_of pages slots m) (base_in slots turn) (spare_in slots turn)
+        (STEP_PAGES * copied) behind older
+    copies_are copied behind older count opened free left = record {
       opened = opened;
       free = free;
-      each = λ p k lt below few. (count.same p (omega (arith, lt, fits))).each k few ∙ sym (word_is p k below few);
-      left = none;
+      each = λ p k lt below other few. (count.same p lt other).each k few ∙ sym (word_is p k below few);
+      left = left;
     }
 
-    -- and copies read the same
-    pub copies_same_count : (n copied behind : ℕ)
-        → IsSameCount pages slots m (base_in slots turn) (spare_in slots turn) n → copied ≤ pages
-        → HasCopies pages slots m (words_of pages slots m) (spare_in slots turn) copied behind → copied ≤ n
-    copies_same_count n copied behind count within has = count.all copied within (λ p lt. record {
-      each = λ k few. let below : p < pages = omega (arith, lt, within) in
-          has.each p k lt below few ∙ word_is p k below few;
-    })
-
-    module _ (whole : pages ≡ STEP_PAGES * steps_of pages) (n copied end behind : ℕ) (table : List ℕ)
-        (count : IsSameCount pages slots m (base_in slots turn) (spare_in slots turn) n)
-        (all : (c : ℕ) → c < steps_of pages → STEP_PAGES * c ≤ n → c ≤ copied)
-        (index : IsPageTable pages m (spare_in slots turn) slots table) (ends : IsPagesEnd pages table end)
+    module _ (whole : pages ≡ STEP_PAGES * steps_of pages) (copied older end behind : ℕ) (table other : List ℕ)
+        (count : IsCopyCount pages slots m (base_in slots turn) (spare_in slots turn) copied older)
+        (home : IsPageTable pages m (base_in slots turn) slots table)
+        (index : IsPageTable pages m (spare_in slots turn) slots other) (ends : IsPagesEnd pages table other end)
         (first : IsFirstFreeSlot m (spare_in slots turn) behind slots) where
       -- no more steps have copied than there are pages that read the same
-      most_copied : (c b : ℕ) → IsSpare pages slots sectors start m (words_of pages slots m) turn sectors c b
+      most_copied : (c b o : ℕ) → IsSpare pages slots sectors start m (words_of pages slots m) turn sectors c b o
           → c ≤ copied
-      most_copied c b spare =
+      most_copied c b o spare =
           let most = spare.most in
-          let within : STEP_PAGES * c ≤ pages = omega (arith, most, whole) in
-          all c most (copies_same_count n (STEP_PAGES * c) b count within (spare.copies refl))
+          let has = spare.copies refl in
+          count.all c o most (λ p lt but.
+          let below : p < pages = omega (arith, lt, most, whole) in
+          record { each = λ k few. has.each p k lt below but few ∙ word_is p k below few })
 
-      pub found_best : turn ≢ 1 → copied < steps_of pages → STEP_PAGES * copied ≤ n
-          → is_closed m (spare_in slots turn + 20 * slots) ≡ false → end ≤ STEP_PAGES * copied
-          → AreFree m (spare_in slots turn) behind slots → behind ≤ (STEP_PAGES + 1) * copied
-          → IsBestProgress pages slots sectors start m turn sectors copied behind
-      found_best moves most fits opened ended free few = record {
+      pub found_best : (extra : ℕ) → turn ≢ 1 → is_closed m (spare_in slots turn + 20 * slots) ≡ false
+          → end ≤ STEP_PAGES * copied → AreFree m (spare_in slots turn) behind slots
+          → behind ≤ copies_most copied extra
+          → IsBestCopies pages slots sectors start m turn extra copied behind older
+      found_best extra moves opened ended free few = record {
         spare = record {
           within = omega arith;
-          most = most;
+          most = count.most;
           idle = λ e. absurd (moves e);
           fresh = λ lt. absurd (omega (arith, lt));
           blank = λ lt. absurd (omega (arith, lt));
-          copies = λ e. copies_are n (STEP_PAGES * copied) behind count fits opened free
-              (λ p from below. sym (index.each p below) ∙ ends.none p (omega (arith, from, ended)) below);
+          few = count.few;
+          copies = λ e. copies_are copied behind older count opened free
+              (λ p from below none. sym (index.each p below)
+              ∙ ends.none p (omega (arith, from, ended)) below (home.each p below ∙ none));
         };
         few = few;
-        best = λ e c b spare slim. let within = spare.within in ⊎_elim
-            (λ (lt : e < sectors). let none = (spare.fresh lt).0 in (within, omega (arith, none)))
-            (λ (ge : sectors ≤ e). let same : e ≡ sectors = omega (arith, within, ge) in (
-              within,
-              most_copied c b
-                  (subst (λ (s : ℕ). IsSpare pages slots sectors start m (words_of pages slots m) turn s c b) same
-                  spare),
-            ))
-            (cases_lt e sectors);
-        least = λ b spare. first.first b (spare.copies refl).free;
+        best = λ c b o spare. (most_copied c b o spare, first.first b (spare.copies refl).free);
       }
 
-      pub found_none : (is_closed m (spare_in slots turn + 20 * slots) ≡ true)
-          ⊎ ((STEP_PAGES * copied < end) ⊎ ((STEP_PAGES + 1) * copied < behind))
-          → HasNoCopies pages slots sectors start m turn
-      found_none why c b spare slim =
+      pub found_none : (extra : ℕ) → (is_closed m (spare_in slots turn + 20 * slots) ≡ true)
+          ⊎ ((STEP_PAGES * copied < end) ⊎ (copies_most copied extra < behind))
+          → HasNoCopies pages slots sectors start m turn extra
+      found_none extra why c b o spare slim =
           let has = spare.copies refl in
-          let most = most_copied c b spare in
+          let most = most_copied c b o spare in
           ⊎_elim
           (λ (closed : is_closed m (spare_in slots turn + 20 * slots) ≡ true). true≢false (sym closed ∙ has.opened))
-          (λ (w : (STEP_PAGES * copied < end) ⊎ ((STEP_PAGES + 1) * copied < behind)). ⊎_elim
+          (λ (w : (STEP_PAGES * copied < end) ⊎ (copies_most copied extra < behind)). ⊎_elim
           (λ (later : STEP_PAGES * copied < end).
-          let early = ends.all (STEP_PAGES * c) (λ p from below. index.each p below ∙ has.left p from below) in
+          let early = ends.all (STEP_PAGES * c) (λ p from below none. index.each p below
+          ∙ has.left p from below (sym (home.each p below) ∙ none)) in
           omega (arith, later, early, most))
-          (λ (more : (STEP_PAGES + 1) * copied < behind).
+          (λ (more : copies_most copied extra < behind).
           let early = first.first b has.free in
           omega (arith, more, early, slim, most))
           w)
@@ -135,41 +176,86 @@ module _ (pages slots sectors : ℕ) (start : ℕ → ℕ) (m : List ℕ) (turn 
     begins : start (spare_sector sectors turn) ≡ spare_in slots turn
     begins = spare_first start slots sectors first second third turn
 
-    -- without copies, the sectors that are blank are erased
-    pub blank_best : turn ≢ 1 → (n : ℕ) → IsBlankCount sectors start m (spare_sector sectors turn) n
-        → HasNoCopies pages slots sectors start m turn
-        → IsBestProgress pages slots sectors start m turn n 0 0
-    blank_best moves n count none =
+    -- the sectors that are blank are erased
+    pub blank_spare : turn ≢ 1 → (n : ℕ) → IsBlankCount sectors start m (spare_sector sectors turn) n
+        → IsSpare pages slots sectors start m (words_of pages slots m) turn n 0 0 0
+    blank_spare moves n count =
         let end = start (spare_sector sectors turn + n) in
         let blank : AreFilled m (spare_in slots turn) (end - spare_in slots turn) BLANK =
         subst (λ (b : ℕ). AreFilled m b (end - b) BLANK) begins count.blank in
         record {
-          spare = record {
-            within = count.within;
-            most = omega (arith, least);
-            idle = λ e. absurd (moves e);
-            fresh = λ lt. (refl, refl);
-            blank = λ lt. blank;
-            copies = λ e.
-                let ends = spare_end start slots sectors first second third turn in
-                let all : start (spare_sector sectors turn + n) ≡ start (spare_sector sectors turn + sectors) =
-                ap (λ (k : ℕ). start (spare_sector sectors turn + k)) e in
-                let size : start (spare_sector sectors turn + n) - spare_in slots turn ≡ area_size slots =
-                omega (arith, all, ends) in
-                copies_none pages slots m (words_of pages slots m) (spare_in slots turn)
-                (subst (λ (k : ℕ). AreFilled m (spare_in slots turn) k BLANK) size blank);
-          };
+          within = count.within;
+          most = omega (arith, least);
+          idle = λ e. absurd (moves e);
+          fresh = λ lt. (refl, refl);
+          blank = λ lt. blank;
           few = omega arith;
-          best = λ e c b spare slim. let within = spare.within in ⊎_elim
-              (λ (lt : e < sectors). let zero = (spare.fresh lt).0 in (
-                count.all e within (subst (λ (b : ℕ). AreFilled m b (start (spare_sector sectors turn + e) - b) BLANK)
-                    (sym begins) (spare.blank lt)),
-                omega (arith, zero),
-              ))
-              (λ (ge : sectors ≤ e). let same : e ≡ sectors = omega (arith, within, ge) in
-              absurd (none c b
-              (subst (λ (s : ℕ). IsSpare pages slots sectors start m (words_of pages slots m) turn s c b) same spare)
-              slim))
-              (cases_lt e sectors);
-          least = λ b spare. omega arith;
+          copies = λ e.
+              let ends = spare_end start slots sectors first second third turn in
+              let all : start (spare_sector sectors turn + n) ≡ start (spare_sector sectors turn + sectors) =
+              ap (λ (k : ℕ). start (spare_sector sectors turn + k)) e in
+              let size : start (spare_sector sectors turn + n) - spare_in slots turn ≡ area_size slots =
+              omega (arith, all, ends) in
+              copies_none pages slots m (words_of pages slots m) (base_in slots turn) (spare_in slots turn)
+              (subst (λ (k : ℕ). AreFilled m (spare_in slots turn) k BLANK) size blank);
         }
+
+    -- a progress without copies has no more sectors than are blank
+    pub few_blank : (n e c b o : ℕ) → IsBlankCount sectors start m (spare_sector sectors turn) n → e < sectors
+        → IsSpare pages slots sectors start m (words_of pages slots m) turn e c b o → (e ≤ n) × (c ≡ 0)
+    few_blank n e c b o count lt spare = (
+      count.all e spare.within (subst (λ (b : ℕ). AreFilled m b (start (spare_sector sectors turn + e) - b) BLANK)
+          (sym begins) (spare.blank lt)),
+      (spare.fresh lt).0,
+    )
+
+    no_turn : turn ≢ 1 → ◌≡◌ {A = ℕ} (if nat_eq turn 1 then 1 else 0) 0
+    no_turn moves = ap (λ (b : Bool). if b then 1 else 0) (ne_eqb turn 1 moves)
+
+    -- copies keep the pace if no step lost power, or the move can't begin anew
+    pub copies_keep : turn ≢ 1 → (n next most copied behind older : ℕ)
+        → IsBlankCount sectors start m (spare_sector sectors turn) n
+        → IsBestCopies pages slots sectors start m turn most copied behind older
+        → (behind ≤ copies_most copied 0) ⊎ (slots < (sectors - n) + steps_of pages + next)
+        → KeepsSteps pages slots sectors start m turn next most sectors copied behind
+    copies_keep moves n next most copied behind older count best why extra e c b o le spare slim fit =
+        let z = no_turn moves in ⊎_elim
+        (λ (lt : e < sectors).
+        let few = few_blank n e c b o count lt spare in
+        let less = few.0 in
+        let none = few.1 in
+        ⊎_elim
+        (λ (lean : behind ≤ copies_most copied 0). (omega (arith, lean), omega (arith, fit, none)))
+        (λ (full : slots < (sectors - n) + steps_of pages + next). absurd (omega (arith, full, fit, none, less, z)))
+        why)
+        (λ (ge : sectors ≤ e).
+        let within = spare.within in
+        let same : e ≡ sectors = omega (arith, within, ge) in
+        let far = best.best c b o
+        (subst (λ (s : ℕ). IsSpare pages slots sectors start m (words_of pages slots m) turn s c b o) same spare) in
+        let more = far.0 in
+        let early = far.1 in
+        (omega (arith, early, slim, more), omega (arith, fit, more, within)))
+        (cases_lt e sectors)
+
+    -- blank sectors keep it if there are no copies, or the move can begin anew
+    pub blank_keep : turn ≢ 1 → (n next most : ℕ) → IsBlankCount sectors start m (spare_sector sectors turn) n
+        → HasNoCopies pages slots sectors start m turn most ⊎ ((sectors - n) + steps_of pages + next ≤ slots)
+        → KeepsSteps pages slots sectors start m turn next most n 0 0
+    blank_keep moves n next most count why extra e c b o le spare slim fit =
+        let z = no_turn moves in ⊎_elim
+        (λ (none : HasNoCopies pages slots sectors start m turn most). ⊎_elim
+        (λ (lt : e < sectors).
+        let few = few_blank n e c b o count lt spare in
+        let less = few.0 in
+        let zero_steps = few.1 in
+        (omega arith, omega (arith, fit, less, zero_steps)))
+        (λ (ge : sectors ≤ e).
+        let within = spare.within in
+        let same : e ≡ sectors = omega (arith, within, ge) in
+        absurd (none c b o
+        (subst (λ (s : ℕ). IsSpare pages slots sectors start m (words_of pages slots m) turn s c b o) same spare)
+        (omega (arith, slim, le))))
+        (cases_lt e sectors))
+        (λ (room : (sectors - n) + steps_of pages + next ≤ slots). (omega arith, omega (arith, room, z)))
+        why

@@ -23,8 +23,9 @@ loop-page-preserved g c =
       erases = looked.erases ∙ was.erases;
       lit = lit.lit;
       steady = record { lit = lit.lit; due = lit.due ∙ was.steady.due; faults = lit.faults ∙ was.steady.faults };
-      same = λ p lt. ⊎_elim
-          (λ (before : p < c.loop-page.page). was.same p before)
+      least = omega (arith, was.least);
+      same = λ p late lt. ⊎_elim
+          (λ (before : p < c.loop-page.page). was.same p late before)
           (λ (ge : c.loop-page.page ≤ p). let e : p ≡ c.loop-page.page = omega (arith, lt, ge) in
           subst (λ (q : ℕ). ReadsSame slots m from to q) (sym e) here)
           (cases_lt p c.loop-page.page);

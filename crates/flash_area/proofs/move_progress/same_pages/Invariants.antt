@@ -1,4 +1,4 @@
-use Rattle.std.proofs.Common.{◌≡◌, ◌<◌, ℕ, false}
+use Rattle.std.proofs.Common.{◌≡◌, ◌<◌, ◌≤◌, ℕ, false}
 use Rattle.flash_device.specs.FlashCalls.{StaysLit}
 use Rattle.flash_device.specs.FlashLogs.{base_in}
 use Rattle.flash_area.specs.ProgressParts.{ReadsSame}
@@ -15,5 +15,7 @@ invariant-loop-page g l =
       erases : new.erases ≡ old.erases;
       lit : new.dark ≡ false;
       steady : StaysLit old new;
-      same : (p : ℕ) → p < l.page → ReadsSame slots old.words (base_in slots l.turn) (spare_in slots l.turn) p;
+      least : l.first ≤ l.page;
+      same : (p : ℕ) → l.first ≤ p → p < l.page → ReadsSame slots old.words (base_in slots l.turn)
+          (spare_in slots l.turn) p;
     }
